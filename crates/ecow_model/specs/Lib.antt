@@ -1,0 +1,13 @@
+pub mod State
+pub mod Inline
+pub mod Utf8
+pub mod Replaced
+pub mod Access
+pub mod Loans
+pub mod VecStep
+pub mod BytesStep
+pub mod TextStep
+pub mod Run
+pub mod Names
+pub mod Costs
+pub mod CountedRun
