@@ -1,2 +1,3 @@
+pub mod Capacity
 pub mod Clones
 pub mod Range

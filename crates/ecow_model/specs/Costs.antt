@@ -1,8 +1,9 @@
 -- What each accepted command on shared blocks costs, and the capacity after it.
 -- `n` is the length of the name's list and `capacity` that of its block, 0 without one. `shared` says whether another name holds the block
-use Rattle.std.specs.Prelude.{ℕ, ◌+◌, ◌-◌, ◌*◌, Bool, true, false, cond, not, ◌&&◌, ◌||◌, ◌==◌, length, min, max, nat_lt, nat_le}
+use Rattle.std.specs.Prelude.{ℕ, ◌+◌, ◌-◌, Bool, true, false, cond, not, ◌&&◌, ◌||◌, ◌==◌, length, nat_lt, nat_le}
+use Rattle.ecow_base.specs.Capacity.{fresh, room}
 use Rattle.ecow_base.specs.Range.{items_in_range}
-use Rattle.ecow_model.specs.Names.{Held, MAX, is_shared}
+use Rattle.ecow_model.specs.Names.{Held, is_shared}
 use Rattle.ecow_model.specs.declared.command.VecCommand.{VecCommand}
 use Rattle.ecow_model.specs.declared.command.VecCommand.TheVariants.{New, WithCapacity, FromList, FromElem, Drop, Push, Pop, Insert, Remove, Truncate, Clear, Retain, Drain, Splice, Extend, Reserve, Write, Len, Capacity, Unique}
 
@@ -27,18 +28,6 @@ abbrev pub copies : {T : Type 0} → VecCommand T → ℕ → ℕ
 copies (Truncate x target) n = target
 copies (Clear x) n = 0
 copies _ n = n
-
--- the capacity of a new block with room for this many items: none for none, and at least 4
-abbrev pub fresh : ℕ → ℕ
-fresh n = cond (nat_lt 0 n) (max n 4) 0
-
--- what a block grows to
-abbrev pub grown : ℕ → ℕ → ℕ → ℕ
-grown len k capacity = min (max (max (len + k) (2 * capacity)) 4) MAX
-
--- the capacity with which k more items go in
-abbrev pub room : ℕ → ℕ → ℕ → ℕ
-room len k capacity = cond (nat_le (len + k) capacity) capacity (grown len k capacity)
 
 -- the capacity after the command
 abbrev pub capacity_after : {T : Type 0} → VecCommand T → Bool → ℕ → ℕ → ℕ

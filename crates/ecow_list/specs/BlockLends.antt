@@ -1,0 +1,10 @@
+-- What a block ends as, once a borrow of its elements has ended.
+use Rattle.std.specs.Prelude.{List, length}
+use Rattle.std.specs.Borrow.{Fml, RattleType, MutBor, Array, Lends}
+use Rattle.std.specs.List.{refill}
+use Rattle.ecow_list.specs.Contents.{Contents, contents}
+use Rattle.ecow_list.specs.contracts.block.Block.{the_row}
+
+-- the elements are those that were written last through r, and the capacity stays
+abbrev pub lends_items : (R : RattleType) → MutBor (Contents R.Denot) → MutBor (List R.Denot) → Fml
+lends_items R b r = Lends (the_row R) (Array R 0) b r (λ ws. contents (refill (length b.now.items) b.now.items ws) b.now.capacity)

@@ -1,0 +1,3 @@
+pub mod BlockLends
+pub mod Contents
+pub mod Lends

@@ -1,0 +1,44 @@
+//! Why a call was refused.
+ghost use Rattle.std.specs.Prelude.{◌≡◌};
+ghost use Rattle.ecow_list.specs.declared.error.EcoError.TheVariants.{Memory};
+
+use std::alloc::{AllocError, AllocFailed};
+use std::fmt::Debug;
+use thiserror::Error;
+
+/// Why a call was refused. Every value that the call could have changed is as it was before.
+#[derive(Clone, Copy, Debug, PartialEq, Eq, Error)]
+pub enum EcoError {
+    /// The asked capacity or the new length passes 2^63 - 1.
+    #[error("capacity overflow")]
+    Capacity,
+    /// There was no memory, or the clone of an element was refused.
+    #[error("out of memory")]
+    Memory,
+}
+
+impl From<AllocError> for EcoError {
+    ghost from_gives = { λ _ error. error ≡ Memory };
+
+    fn from(_refused: AllocError) -> Self {
+        EcoError::Memory
+    }
+}
+
+impl<V: Drop> From<AllocFailed<V>> for EcoError {
+    ghost from_gives = { λ _ error. error ≡ Memory };
+
+    fn from(_refused: AllocFailed<V>) -> Self {
+        EcoError::Memory
+    }
+}
+
+/// A refused call, with the value that was handed in.
+#[derive(Debug, Drop, Error)]
+#[error("{error}")]
+pub struct Rejected<V> {
+    /// Why the call was refused.
+    pub error: EcoError,
+    /// What was handed in.
+    pub value: V,
+}

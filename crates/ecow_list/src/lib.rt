@@ -1,0 +1,10 @@
+//! A vector whose clones share their elements until one of them is written to.
+#![tactic(auto)]
+
+pub mod block;
+pub mod error;
+pub mod vec;
+
+pub use ecow_base::{range_in, resolve};
+pub use error::{EcoError, Rejected};
+pub use vec::EcoVec;

@@ -1,0 +1,184 @@
+//! `EcoVec`.
+ghost use Rattle.std.specs.Prelude.{◌≡◌, ◌+◌, ◌-◌, ◌<◌, ◌≤◌, ◌==◌, ◌↔◌, [], length, take, IfOk, IfSome, IsErrOf, IsOk};
+ghost use Rattle.std.specs.Borrow.{sem};
+ghost use Rattle.std.specs.Slice.Iter.{iter_rest};
+ghost use Rattle.std.specs.Iterator.Adapters.{IterYieldsInOrder};
+ghost use Rattle.ecow_base.specs.Clones.{ClonesAreEqual};
+
+mod edits;
+
+use crate::block::Block;
+use crate::error::EcoError;
+use ecow_base::MAX_LEN;
+use std::alloc::{AllocError, Global};
+use std::marker::Model;
+use std::rc::Rc;
+use std::slice;
+
+/// A vector whose clones share its elements until one of them is written to.
+///
+/// A clone takes no memory and clones no element. A write to a vector that shares its block copies
+/// the elements that stay into a block of its own first; no other vector sees the change.
+#[derive(Drop)]
+pub struct EcoVec<T> {
+    block: Option<Rc<Block<T>>>,
+    alloc: Global,
+}
+
+impl<T> Model for EcoVec<T> {
+    ghost use Rattle.std.specs.Prelude.{List, []};
+    ghost use Rattle.std.specs.Option.{option_map_or};
+
+    ghost Value = { List T };
+
+    ghost view = { λ v. option_map_or (λ shared. shared.value.items) v.block [] };
+}
+
+impl<T> EcoVec<T> {
+    ghost use Rattle.ecow_list.specs.Lends.{lends_block};
+
+    /// An empty vector, which has no block. Takes no memory.
+    pub fn new(alloc: Global) -> Self
+        ensures { result ≡ [] }
+    {
+        EcoVec { block: None, alloc }
+    }
+
+    /// The elements, in order.
+    pub fn as_slice(&self) -> &[T]
+        ensures { result.now ≡ self.now }
+    {
+        match &self.block {
+            Some(shared) => shared.as_slice(),
+            None => &[],
+        }
+    }
+
+    /// The number of elements.
+    pub fn len(&self) -> usize
+        ensures len { result ≡ length self.now }
+        ensures bounded { result ≤ MAX_LEN }
+    {
+        match &self.block {
+            Some(shared) => shared.len(),
+            None => 0,
+        }
+    }
+
+    /// Whether there is no element.
+    pub fn is_empty(&self) -> bool
+        ensures { result ≡ (length self.now == 0) }
+    {
+        self.len() == 0
+    }
+
+    /// For how many elements the block has room: 0 without a block.
+    pub fn capacity(&self) -> usize
+        ensures room { length self.now ≤ result }
+        ensures bounded { result ≤ MAX_LEN }
+    {
+        match &self.block {
+            Some(shared) => {
+                let _len = shared.len();
+                shared.capacity()
+            }
+            None => 0,
+        }
+    }
+
+    /// Goes over the elements by reference, in order.
+    pub fn iter(&self) -> slice::Iter<'_, T>
+        ensures rest { iter_rest result ≡ self.now }
+        ensures runs { IterYieldsInOrder T }
+    {
+        self.as_slice().iter()
+    }
+
+    /// Whether no other vector shares the block; a vector without a block shares none.
+    pub fn is_unique(&mut self) -> bool
+        ensures { self.new ≡ self.old }
+    {
+        match self.sole_block() {
+            Some(_) => true,
+            None => self.block.is_none(),
+        }
+    }
+
+    /// The block, if there is one and no other vector shares it.
+    fn sole_block(&mut self) -> Option<&mut Block<T>>
+        ensures* writes_back { sem 𝓛 (lends_block T.row self.entry result) }
+        ensures items { IfSome result (λ b. b.now.items ≡ self.old) }
+    {
+        match &mut self.block {
+            Some(shared) => Rc::get_mut(shared),
+            None => None,
+        }
+    }
+}
+
+impl<T: Drop> EcoVec<T> {
+    /// An empty vector with room for exactly `capacity` elements: without a block, and taking no
+    /// memory, for none.
+    pub fn with_capacity(alloc: Global, capacity: usize) -> Result<Self, EcoError>
+        ensures ok { IfOk result (λ v. v ≡ []) }
+        ensures capacity { IsErrOf result EcoError.Capacity ↔ (MAX_LEN < capacity) }
+        ensures nothing { capacity ≡ 0 → IsOk result }
+    {
+        if capacity > MAX_LEN {
+            return Err(EcoError::Capacity);
+        }
+        if capacity == 0 {
+            return Ok(EcoVec::new(alloc));
+        }
+        let block = Block::with_capacity(alloc, capacity)?;
+        Ok(EcoVec {
+            block: Some(Rc::new(alloc, block)?),
+            alloc,
+        })
+    }
+
+    /// Drops the elements. A shared block is given up and a sole one is kept; an empty vector
+    /// stays as it is, shared or not. Never refused.
+    pub fn clear(&mut self)
+        ensures { self.new ≡ [] }
+    {
+        if self.is_empty() {
+            return;
+        }
+        match self.sole_block() {
+            Some(block) => block.truncate(0),
+            None => self.block = None,
+        }
+    }
+}
+
+impl<T: Clone> EcoVec<T> {
+    /// A block that no vector shares, with clones of the first `len` elements and room for
+    /// `capacity`.
+    fn copied(&self, len: usize, capacity: usize) -> Result<Rc<Block<T>>, AllocError>
+        requires in_bounds { len ≤ length self.now }
+        requires room { len ≤ capacity }
+        requires bounded { capacity ≤ MAX_LEN }
+        ensures items { ClonesAreEqual T.is_clone → IfOk result (λ shared. shared.value.items ≡ take len self.now) }
+        ensures len { IfOk result (λ shared. length shared.value.items ≡ len) }
+        ensures capacity { IfOk result (λ shared. shared.value.capacity ≡ capacity) }
+    {
+        let block = Block::from_clones(self.alloc, &self.as_slice()[..len], capacity)?;
+        Ok(Rc::new(self.alloc, block)?)
+    }
+}
+
+impl<T: Drop> Clone for EcoVec<T> {
+    ghost is_clone = { λ v w. w ≡ v };
+
+    fn clone(&self) -> Result<Self, AllocError> {
+        let block = match &self.block {
+            Some(shared) => Some(shared.clone()?),
+            None => None,
+        };
+        Ok(EcoVec {
+            block,
+            alloc: self.alloc,
+        })
+    }
+}
