@@ -1,3 +1,5 @@
 pub mod BlockLends
 pub mod Contents
+pub mod IntoArray
 pub mod Lends
+pub mod Vectors

@@ -5,10 +5,12 @@ ghost use Rattle.std.specs.Slice.Iter.{iter_rest};
 ghost use Rattle.std.specs.Iterator.Adapters.{IterYieldsInOrder};
 ghost use Rattle.ecow_base.specs.Clones.{ClonesAreEqual};
 
+mod conversions;
 mod edits;
 
 use crate::block::Block;
 use crate::error::EcoError;
+pub use conversions::IntoArray;
 use ecow_base::MAX_LEN;
 use std::alloc::{AllocError, Global};
 use std::marker::Model;

@@ -1,7 +1,7 @@
 //! The calls that change a vector in place. Each has two paths: a sole block is changed where it
 //! is, and the elements of a shared one are copied into a new block, which is changed and then
 //! takes the old one's place; so a refusal leaves all as it was.
-ghost use Rattle.std.specs.Prelude.{◌≡◌, ◌+◌, ◌-◌, ◌<◌, ◌≤◌, ◌↔◌, [], ◌∷◌, ◌++◌, length, take, IsOk, IfOk, IfErr, OnOk, OnErr, IsErrAnd, IsErrOf, IsSome, Some, insert, remove, slice_get, slice_set, min};
+ghost use Rattle.std.specs.Prelude.{◌≡◌, ◌+◌, ◌-◌, ◌<◌, ◌≤◌, ◌↔◌, [], ◌∷◌, ◌++◌, length, take, IsOk, IfOk, IfErr, OnOk, OnErr, IsErrAnd, IsErrOf, IsSome, Some, None, Ok, IsTrue, is_some, insert, remove, slice_get, slice_set, min};
 ghost use Rattle.std.specs.Fn.{CalledAtMut};
 ghost use Rattle.std.specs.List.Retain.{RetainsInTurn};
 ghost use Rattle.ecow_base.specs.Clones.{ClonesAreEqual};
@@ -94,6 +94,217 @@ impl<T: Clone> EcoVec<T> {
             return Ok(());
         }
         self.block = Some(self.copied(len, fresh_capacity(len))?);
+        Ok(())
+    }
+
+    /// Takes the last element. Never refused where there is none, which changes nothing.
+    #[inline]
+    pub fn pop(&mut self) -> Result<Option<T>, EcoError>
+        ensures value { ClonesAreEqual T.is_clone → IfOk result (λ last. last ≡ slice_get self.old (length self.old - 1)) }
+        ensures ok { ClonesAreEqual T.is_clone → OnOk result (self.new ≡ take (length self.old - 1) self.old) }
+        ensures some { IfOk result (λ last. IsSome last ↔ (0 < length self.old)) }
+        ensures len { OnOk result (length self.new ≡ length self.old - 1) }
+        ensures err { IfErr result (λ error. error ≡ EcoError.Memory) }
+        ensures unchanged { OnErr result (self.new ≡ self.old) }
+        ensures empty { self.old ≡ [] → (result ≡ Ok None) × (self.new ≡ []) }
+    {
+        if self.is_empty() {
+            return Ok(None);
+        }
+        if let Some(block) = self.sole_block() {
+            return Ok(block.pop());
+        }
+        self.pop_shared()
+    }
+
+    /// The same where the block is shared and has an element.
+    #[cold]
+    #[inline(never)]
+    fn pop_shared(&mut self) -> Result<Option<T>, EcoError>
+        requires { 0 < length self.old }
+        ensures value { ClonesAreEqual T.is_clone → IfOk result (λ last. last ≡ slice_get self.old (length self.old - 1)) }
+        ensures ok { ClonesAreEqual T.is_clone → OnOk result (self.new ≡ take (length self.old - 1) self.old) }
+        ensures some { IfOk result (λ last. IsTrue (is_some last)) }
+        ensures len { OnOk result (length self.new ≡ length self.old - 1) }
+        ensures err { IfErr result (λ error. error ≡ EcoError.Memory) }
+        ensures unchanged { OnErr result (self.new ≡ self.old) }
+    {
+        let len = self.len();
+        let mut fresh = self.copied(len, fresh_capacity(len))?;
+        let Some(block) = Rc::get_mut(&mut fresh) else {
+            return Err(EcoError::Memory);
+        };
+        let last = block.pop();
+        self.block = Some(fresh);
+        Ok(last)
+    }
+
+    /// Puts `value` in at `index`, before the element that stands there.
+    pub fn insert(&mut self, index: usize, value: T) -> Result<(), Rejected<T>>
+        requires { index ≤ length self.old }
+        ensures ok { ClonesAreEqual T.is_clone → OnOk result (self.new ≡ insert self.old index value) }
+        ensures len { OnOk result (length self.new ≡ length self.old + 1) }
+        ensures err { OnErr result (self.new ≡ self.old) }
+        ensures value_returned { IfErr result (λ rejected. rejected.value ≡ value) }
+        ensures capacity { IsErrAnd result (λ rejected. rejected.error ≡ EcoError.Capacity) ↔ (MAX_LEN ≤ length self.old) }
+    {
+        let len = self.len();
+        if len >= MAX_LEN {
+            return Err(Rejected {
+                error: EcoError::Capacity,
+                value,
+            });
+        }
+        let room = room_for(len, 1, self.capacity());
+        if let Some(block) = self.sole_block() {
+            if block.grow(room_for(len, 1, block.capacity())).is_err() {
+                return Err(Rejected {
+                    error: EcoError::Memory,
+                    value,
+                });
+            }
+            block.insert_within(index, value);
+            return Ok(());
+        }
+        if let Ok(mut fresh) = self.copied(len, room)
+            && let Some(block) = Rc::get_mut(&mut fresh)
+        {
+            block.insert_within(index, value);
+            self.block = Some(fresh);
+            return Ok(());
+        }
+        Err(Rejected {
+            error: EcoError::Memory,
+            value,
+        })
+    }
+
+    /// Takes the element at `index`.
+    pub fn remove(&mut self, index: usize) -> Result<T, EcoError>
+        requires { index < length self.old }
+        ensures value { ClonesAreEqual T.is_clone → IfOk result (λ value. slice_get self.old index ≡ Some value) }
+        ensures ok { ClonesAreEqual T.is_clone → OnOk result (self.new ≡ remove self.old index) }
+        ensures len { OnOk result (length self.new + 1 ≡ length self.old) }
+        ensures err { IfErr result (λ error. error ≡ EcoError.Memory) }
+        ensures unchanged { OnErr result (self.new ≡ self.old) }
+    {
+        let len = self.len();
+        if let Some(block) = self.sole_block() {
+            return Ok(block.remove(index));
+        }
+        let mut fresh = self.copied(len, fresh_capacity(len))?;
+        let Some(block) = Rc::get_mut(&mut fresh) else {
+            return Err(EcoError::Memory);
+        };
+        let value = block.remove(index);
+        self.block = Some(fresh);
+        Ok(value)
+    }
+
+    /// Puts `value` in place of the element at `index`.
+    ///
+    /// This project's own: the original writes through `make_mut`, which is proved here as well,
+    /// but of whose borrow a proved caller learns less.
+    pub fn set(&mut self, index: usize, value: T) -> Result<(), Rejected<T>>
+        requires { index < length self.old }
+        ensures ok { ClonesAreEqual T.is_clone → OnOk result (self.new ≡ slice_set self.old index value) }
+        ensures len { OnOk result (length self.new ≡ length self.old) }
+        ensures err { OnErr result (self.new ≡ self.old) }
+        ensures value_returned { IfErr result (λ rejected. rejected.value ≡ value) }
+        ensures memory { IfErr result (λ rejected. rejected.error ≡ EcoError.Memory) }
+    {
+        let len = self.len();
+        if let Some(block) = self.sole_block() {
+            block.as_mut_slice()[index] = value;
+            return Ok(());
+        }
+        if let Ok(mut fresh) = self.copied(len, fresh_capacity(len))
+            && let Some(block) = Rc::get_mut(&mut fresh)
+        {
+            block.as_mut_slice()[index] = value;
+            self.block = Some(fresh);
+            return Ok(());
+        }
+        Err(Rejected {
+            error: EcoError::Memory,
+            value,
+        })
+    }
+
+    /// Makes room for `additional` more elements. A shared vector gets a block of its own, also
+    /// for none; a vector without a block stays without one for none.
+    pub fn reserve(&mut self, additional: usize) -> Result<(), EcoError>
+        ensures ok { ClonesAreEqual T.is_clone → OnOk result (self.new ≡ self.old) }
+        ensures len { OnOk result (length self.new ≡ length self.old) }
+        ensures err { OnErr result (self.new ≡ self.old) }
+        ensures capacity { IsErrOf result EcoError.Capacity ↔ (MAX_LEN < length self.old + additional) }
+    {
+        let len = self.len();
+        if additional > MAX_LEN - len {
+            return Err(EcoError::Capacity);
+        }
+        let room = room_for(len, additional, self.capacity());
+        if let Some(block) = self.sole_block() {
+            return Ok(block.grow(room_for(len, additional, block.capacity()))?);
+        }
+        if room > 0 {
+            self.block = Some(self.copied(len, room)?);
+        }
+        Ok(())
+    }
+
+    /// Appends clones of `elements`. Never refused for none, which changes nothing.
+    pub fn extend_from_slice(&mut self, elements: &[T]) -> Result<(), EcoError>
+        ensures ok { ClonesAreEqual T.is_clone → OnOk result (self.new ≡ self.old ++ elements.now) }
+        ensures len { OnOk result (length self.new ≡ length self.old + length elements.now) }
+        ensures err { OnErr result (self.new ≡ self.old) }
+        ensures capacity { IsErrOf result EcoError.Capacity ↔ (MAX_LEN < length self.old + length elements.now) }
+        ensures nothing { elements.now ≡ [] → IsOk result × (self.new ≡ self.old) }
+    {
+        let (len, added) = (self.len(), elements.len());
+        if added == 0 {
+            return Ok(());
+        }
+        if added > MAX_LEN - len {
+            return Err(EcoError::Capacity);
+        }
+        let room = room_for(len, added, self.capacity());
+        if let Some(block) = self.sole_block() {
+            block.grow(room_for(len, added, block.capacity()))?;
+            return Ok(block.extend_within(elements)?);
+        }
+        let mut fresh = self.copied(len, room)?;
+        let Some(block) = Rc::get_mut(&mut fresh) else {
+            return Err(EcoError::Memory);
+        };
+        block.extend_within(elements)?;
+        self.block = Some(fresh);
+        Ok(())
+    }
+
+    /// Gives each element to `f` for writing, once and in order, and keeps those, as `f` left
+    /// them, at which it answered `true`. Where it is refused, `f` was given none.
+    pub fn retain<F: FnMut(&mut T) -> bool>(&mut self, f: F) -> Result<(), EcoError>
+        requires { F.IsAlwaysCallable f }
+        ensures ok { ClonesAreEqual T.is_clone → OnOk result (RetainsInTurn (CalledAtMut F.FnMut) f self.old self.new) }
+        ensures err { IfErr result (λ error. error ≡ EcoError.Memory) }
+        ensures unchanged { OnErr result (self.new ≡ self.old) }
+    {
+        let len = self.len();
+        if let Some(block) = self.sole_block() {
+            block.retain(f);
+            return Ok(());
+        }
+        if len == 0 {
+            self.block = None;
+            return Ok(());
+        }
+        let mut fresh = self.copied(len, fresh_capacity(len))?;
+        let Some(block) = Rc::get_mut(&mut fresh) else {
+            return Err(EcoError::Memory);
+        };
+        block.retain(f);
+        self.block = Some(fresh);
         Ok(())
     }
 }

@@ -1,0 +1,11 @@
+use Rattle.std.proofs.Common.{◌≡◌, ◌-◌, length, replicate}
+use Rattle.ecow_base.specs.Clones.{ClonesAreEqual}
+use Rattle.ecow_list.proofs.vec.EcoVec.repeated.Given as goal
+
+abbrev pub invariant-loop-block : goal.invariant-loop-block
+invariant-loop-block g l =
+    (l.block.capacity ≡ l.n)
+    × (ClonesAreEqual g.T.Clone.is_clone → l.block.items ≡ replicate (length l.block.items) l.value)
+
+abbrev pub decreases-loop-block : goal.decreases-loop-block
+decreases-loop-block g l = l.n - length l.block.items

@@ -1,0 +1,223 @@
+//! The calls that make a vector of other collections, or other collections of a vector.
+ghost use Rattle.std.specs.Prelude.{◌≡◌, ◌≢◌, ◌+◌, ◌<◌, ◌≤◌, ◌↔◌, [], length, replicate, vec_len, IsOk, IfOk, IfErr, OnErr, IsErrAnd, IsErrOf};
+ghost use Rattle.std.specs.Iterator.{IsFinite, ExtendsWithItems};
+ghost use Rattle.ecow_base.specs.Clones.{ClonesAreEqual};
+ghost use Rattle.ecow_list.specs.Vectors.{Appends, GivesItems};
+
+use crate::block::Block;
+use crate::error::{EcoError, Rejected};
+use crate::vec::EcoVec;
+use ecow_base::{MAX_LEN, fresh_capacity};
+use std::alloc::{AllocError, Global};
+use std::rc::Rc;
+
+/// Why a vector was not made an array. The vector comes back.
+#[derive(Drop)]
+pub enum IntoArray<T> {
+    /// It has another length.
+    Length(EcoVec<T>),
+    /// The call was refused.
+    Refused(EcoError, EcoVec<T>),
+}
+
+impl<T: Drop> EcoVec<T> {
+    /// The elements of a `Vec`, none of them cloned; without a block where there are none.
+    pub fn from_vec(alloc: Global, elements: Vec<T>) -> Result<Self, Rejected<Vec<T>>>
+        ensures ok { IfOk result (λ v. v ≡ elements.items) }
+        ensures value_returned { IfErr result (λ rejected. rejected.value.items ≡ elements.items) }
+        ensures capacity { IsErrAnd result (λ rejected. rejected.error ≡ EcoError.Capacity) ↔ (MAX_LEN < vec_len elements) }
+    {
+        let len = elements.len();
+        if len > MAX_LEN {
+            return Err(Rejected {
+                error: EcoError::Capacity,
+                value: elements,
+            });
+        }
+        if len == 0 {
+            return Ok(EcoVec::new(alloc));
+        }
+        if let Ok(block) = Block::with_capacity(alloc, fresh_capacity(len))
+            && let Ok(mut shared) = Rc::new(alloc, block)
+            && let Some(block) = Rc::get_mut(&mut shared)
+        {
+            block.append_within(elements);
+            return Ok(EcoVec {
+                block: Some(shared),
+                alloc,
+            });
+        }
+        Err(Rejected {
+            error: EcoError::Memory,
+            value: elements,
+        })
+    }
+
+    /// The elements of an array, none of them cloned.
+    pub fn from_array<const N: usize>(
+        alloc: Global,
+        elements: [T; N],
+    ) -> Result<Self, Rejected<[T; N]>>
+        ensures ok { IfOk result (λ v. v ≡ elements) }
+        ensures value_returned { IfErr result (λ rejected. rejected.value ≡ elements) }
+        ensures capacity { IsErrAnd result (λ rejected. rejected.error ≡ EcoError.Capacity) ↔ (MAX_LEN < N) }
+    {
+        if N > MAX_LEN {
+            return Err(Rejected {
+                error: EcoError::Capacity,
+                value: elements,
+            });
+        }
+        match Vec::from_array(alloc, elements) {
+            Ok(elements) => match EcoVec::from_vec(alloc, elements) {
+                Ok(vec) => Ok(vec),
+                Err(rejected) => Err(Rejected {
+                    error: rejected.error,
+                    value: rejected.value.try_into().unwrap(),
+                }),
+            },
+            Err(failed) => Err(Rejected {
+                error: EcoError::Memory,
+                value: failed.value,
+            }),
+        }
+    }
+}
+
+impl<T: Clone> EcoVec<T> {
+    ghost use Rattle.ecow_list.specs.IntoArray.{IsLength, HandsBack};
+
+    /// Clones of the elements of a slice; without a block where there are none.
+    pub fn from_slice(alloc: Global, elements: &[T]) -> Result<Self, EcoError>
+        ensures ok { ClonesAreEqual T.is_clone → IfOk result (λ v. v ≡ elements.now) }
+        ensures len { IfOk result (λ v. length v ≡ length elements.now) }
+        ensures capacity { IsErrOf result EcoError.Capacity ↔ (MAX_LEN < length elements.now) }
+        ensures nothing { elements.now ≡ [] → IsOk result }
+    {
+        let len = elements.len();
+        if len > MAX_LEN {
+            return Err(EcoError::Capacity);
+        }
+        if len == 0 {
+            return Ok(EcoVec::new(alloc));
+        }
+        let block = Block::from_clones(alloc, elements, fresh_capacity(len))?;
+        Ok(EcoVec {
+            block: Some(Rc::new(alloc, block)?),
+            alloc,
+        })
+    }
+
+    /// `n` clones of `value`, with room for no more; without a block for none. `value` is dropped
+    /// in the end.
+    pub fn from_elem(alloc: Global, value: T, n: usize) -> Result<Self, Rejected<T>>
+        ensures ok { ClonesAreEqual T.is_clone → IfOk result (λ v. v ≡ replicate n value) }
+        ensures len { IfOk result (λ v. length v ≡ n) }
+        ensures value_returned { IfErr result (λ rejected. rejected.value ≡ value) }
+        ensures capacity { IsErrAnd result (λ rejected. rejected.error ≡ EcoError.Capacity) ↔ (MAX_LEN < n) }
+        ensures nothing { n ≡ 0 → IsOk result }
+    {
+        if n > MAX_LEN {
+            return Err(Rejected {
+                error: EcoError::Capacity,
+                value,
+            });
+        }
+        match Self::repeated(alloc, &value, n) {
+            Ok(vec) => Ok(vec),
+            Err(_) => Err(Rejected {
+                error: EcoError::Memory,
+                value,
+            }),
+        }
+    }
+
+    fn repeated(alloc: Global, value: &T, n: usize) -> Result<Self, AllocError>
+        requires { n ≤ MAX_LEN }
+        ensures ok { ClonesAreEqual T.is_clone → IfOk result (λ v. v ≡ replicate n value.now) }
+        ensures len { IfOk result (λ v. length v ≡ n) }
+        ensures nothing { n ≡ 0 → IsOk result }
+    {
+        if n == 0 {
+            return Ok(EcoVec::new(alloc));
+        }
+        let mut block = Block::with_capacity(alloc, n)?;
+        while block.len() < n {
+            block.push_within(value.clone()?);
+        }
+        Ok(EcoVec {
+            block: Some(Rc::new(alloc, block)?),
+            alloc,
+        })
+    }
+
+    /// Appends the items of `iter`, one after another; its size hint isn't asked. Where an item is
+    /// refused it is dropped, those before it stay, and no further one is asked for.
+    pub fn extend<I: IntoIterator<Item = T>>(&mut self, iter: I) -> Result<(), EcoError>
+        requires { (it : I.IntoIter) → I.into_iter_gives iter it → I.IntoIter.can_next it × IsFinite (I.IntoIter.remaining it) }
+        ensures ok { ClonesAreEqual T.is_clone → ExtendsWithItems I.into_iter_gives I.IntoIter.next_gives Appends iter self.old self.new result }
+        ensures capacity { IsErrOf result EcoError.Capacity → MAX_LEN ≤ length self.new }
+    {
+        for item in iter {
+            if let Err(rejected) = self.push(item) {
+                return Err(rejected.error);
+            }
+        }
+        Ok(())
+    }
+
+    /// The items of `iter`; its size hint isn't asked. Where an item is refused nothing is made.
+    pub fn from_iter<I: IntoIterator<Item = T>>(alloc: Global, iter: I) -> Result<Self, EcoError>
+        requires { (it : I.IntoIter) → I.into_iter_gives iter it → I.IntoIter.can_next it × IsFinite (I.IntoIter.remaining it) }
+        ensures ok { ClonesAreEqual T.is_clone → IfOk result (λ v. GivesItems I.into_iter_gives I.IntoIter.next_gives iter v) }
+    {
+        let mut vec = EcoVec::new(alloc);
+        vec.extend(iter)?;
+        Ok(vec)
+    }
+
+    /// The elements as a `Vec`. A sole vector moves them, and a shared one clones them. Where it
+    /// is refused the vector comes back.
+    pub fn into_vec(self) -> Result<Vec<T>, Rejected<Self>>
+        ensures ok { ClonesAreEqual T.is_clone → IfOk result (λ elements. elements.items ≡ self) }
+        ensures len { IfOk result (λ elements. vec_len elements ≡ length self) }
+        ensures value_returned { IfErr result (λ rejected. rejected.value ≡ self) }
+        ensures memory { IfErr result (λ rejected. rejected.error ≡ EcoError.Memory) }
+    {
+        let EcoVec { block, alloc } = self;
+        let Some(mut shared) = block else {
+            return Ok(Vec::new(alloc));
+        };
+        let taken = match Rc::get_mut(&mut shared) {
+            Some(block) => block.take_vec(alloc),
+            None => Vec::from_clones(alloc, shared.as_slice()),
+        };
+        match taken {
+            Ok(elements) => Ok(elements),
+            Err(_) => Err(Rejected {
+                error: EcoError::Memory,
+                value: EcoVec {
+                    block: Some(shared),
+                    alloc,
+                },
+            }),
+        }
+    }
+
+    /// The elements as an array of `N`. A sole vector moves them, and a shared one clones them.
+    /// Answers `Length` where there is another number of them; the vector comes back with either
+    /// error.
+    pub fn into_array<const N: usize>(self) -> Result<[T; N], IntoArray<T>>
+        ensures ok { ClonesAreEqual T.is_clone → IfOk result (λ elements. elements ≡ self) }
+        ensures length { IsErrAnd result IsLength ↔ (length self ≢ N) }
+        ensures value_returned { IfErr result (λ error. HandsBack error self) }
+    {
+        if self.len() != N {
+            return Err(IntoArray::Length(self));
+        }
+        match self.into_vec() {
+            Ok(elements) => Ok(elements.try_into().unwrap()),
+            Err(rejected) => Err(IntoArray::Refused(rejected.error, rejected.value)),
+        }
+    }
+}
