@@ -2,4 +2,5 @@ pub mod BlockLends
 pub mod Contents
 pub mod IntoArray
 pub mod Lends
+pub mod Ranges
 pub mod Vectors

@@ -1,12 +1,13 @@
 //! A list of elements in one block, with a number of elements for which there is room.
-ghost use Rattle.std.specs.Prelude.{◌≡◌, ◌+◌, ◌-◌, ◌<◌, ◌≤◌, [], ◌∷◌, ◌++◌, length, take, IsOk, IfOk, IfErr, OnOk, OnErr, Some, vec_len, insert, remove, slice_get, if◌then◌else◌, is_ok};
-ghost use Rattle.std.specs.List.{AllZip};
+ghost use Rattle.std.specs.Prelude.{◌≡◌, ◌+◌, ◌-◌, ◌<◌, ◌≤◌, [], ◌∷◌, ◌++◌, length, take, IsOk, IfOk, IfErr, OnOk, OnErr, Some, vec_len, vec_capacity, insert, remove, slice_get, slice_range, if◌then◌else◌, is_ok};
+ghost use Rattle.std.specs.List.{AllZip, remove_range, splice};
 ghost use Rattle.std.specs.Borrow.{sem};
 ghost use Rattle.std.specs.Fn.{CalledAtMut};
 ghost use Rattle.std.specs.List.Retain.{RetainsInTurn};
 ghost use Rattle.ecow_base.specs.Clones.{ClonesAreEqual};
 ghost use Rattle.ecow_list.specs.Contents.{contents};
 
+use crate::rest::Rest;
 use ecow_base::MAX_LEN;
 use std::alloc::{AllocError, Global};
 use std::marker::Model;
@@ -73,6 +74,17 @@ impl<T> Block<T> {
         Ok(replace(&mut self.elements, Vec::new(alloc)))
     }
 
+    /// The elements, to be given away one by one. Takes no memory and clones none.
+    pub fn into_rest(self) -> Rest<T>
+        ensures { result ≡ self.items }
+    {
+        let Block {
+            elements,
+            capacity: _,
+        } = self;
+        Rest::new(elements)
+    }
+
     /// The number of elements.
     pub fn len(&self) -> usize
         ensures len { result ≡ length self.now.items }
@@ -129,12 +141,17 @@ impl<T> Block<T> {
         self.elements.remove(index)
     }
 
-    /// Makes room for exactly `capacity` elements. Where there is no memory nothing changes.
+    /// Makes room for exactly `capacity` elements. Where there is no memory nothing changes; never
+    /// refused where there is that much room already.
     pub fn grow(&mut self, capacity: usize) -> Result<(), AllocError>
         requires grows { self.old.capacity ≤ capacity }
         requires bounded { capacity ≤ MAX_LEN }
-        ensures { self.new ≡ contents self.old.items (if is_ok result then capacity else self.old.capacity) }
+        ensures enough { capacity ≡ self.old.capacity → IsOk result }
+        ensures block { self.new ≡ contents self.old.items (if is_ok result then capacity else self.old.capacity) }
     {
+        if capacity == self.capacity {
+            return Ok(());
+        }
         let additional = capacity - self.elements.len();
         self.elements.reserve_exact(additional)?;
         self.capacity = capacity;
@@ -159,6 +176,39 @@ impl<T: Drop> Block<T> {
     {
         let mut elements = elements;
         let _room_was_there = self.elements.append(&mut elements);
+    }
+
+    /// Takes out the elements from `start` up to `end`. Takes memory for those alone; where there
+    /// is none, nothing changes.
+    pub fn drain(&mut self, alloc: Global, start: usize, end: usize) -> Result<Rest<T>, AllocError>
+        requires ordered { start ≤ end }
+        requires in_bounds { end ≤ length self.old.items }
+        ensures removed { IfOk result (λ removed. removed ≡ slice_range self.old.items start end) }
+        ensures ok { OnOk result (self.new ≡ contents (remove_range self.old.items start end) self.old.capacity) }
+        ensures err { OnErr result (self.new ≡ self.old) }
+    {
+        let removed = splice_vec(&mut self.elements, start, end, Vec::new(alloc))?;
+        Ok(Rest::new(removed))
+    }
+
+    /// Puts the elements of `replacement` in place of those from `start` up to `end`, and gives
+    /// these. There is room for them; memory is taken for what is given alone, and where there is
+    /// none, nothing changes.
+    pub fn splice_within(
+        &mut self,
+        start: usize,
+        end: usize,
+        replacement: Vec<T>,
+    ) -> Result<Rest<T>, AllocError>
+        requires ordered { start ≤ end }
+        requires in_bounds { end ≤ length self.old.items }
+        requires room { length self.old.items - (end - start) + vec_len replacement ≤ self.old.capacity }
+        ensures removed { IfOk result (λ removed. removed ≡ slice_range self.old.items start end) }
+        ensures ok { OnOk result (self.new ≡ contents (splice self.old.items start end replacement.items) self.old.capacity) }
+        ensures err { OnErr result (self.new ≡ self.old) }
+    {
+        let removed = splice_vec(&mut self.elements, start, end, replacement)?;
+        Ok(Rest::new(removed))
     }
 
     /// Drops the elements after the first `len`.
@@ -208,4 +258,32 @@ impl<T: Clone> Block<T> {
             capacity,
         })
     }
+}
+
+/// Puts `replacement` in place of the elements from `start` up to `end`, and gives those.
+fn splice_vec<T: Drop>(
+    elements: &mut Vec<T>,
+    start: usize,
+    end: usize,
+    replacement: Vec<T>,
+) -> Result<Vec<T>, AllocError>
+    requires ordered { start ≤ end }
+    requires in_bounds { end ≤ vec_len elements.old }
+    requires room { vec_len elements.old - (end - start) + vec_len replacement ≤ vec_capacity elements.old }
+    ensures items { OnOk result (elements.new.items ≡ splice elements.old.items start end replacement.items) }
+    ensures removed { IfOk result (λ removed. removed.items ≡ slice_range elements.old.items start end) }
+    ensures err { OnErr result (elements.new.items ≡ elements.old.items) }
+    ensures capacity { vec_capacity elements.old ≤ vec_capacity elements.new }
+{
+    let len = elements.len();
+    let mut replacement = replacement;
+    // The tail stands in front while the elements before it are exchanged.
+    elements.rotate_left(end);
+    let Ok(removed) = elements.split_off(len - (end - start)) else {
+        elements.rotate_left(len - end);
+        return Err(AllocError);
+    };
+    let _room_was_there = elements.append(&mut replacement);
+    elements.rotate_left(len - end);
+    Ok(removed)
 }

@@ -3,8 +3,11 @@
 
 pub mod block;
 pub mod error;
+pub mod iter;
+pub mod rest;
 pub mod vec;
 
 pub use ecow_base::{range_in, resolve};
 pub use error::{EcoError, Rejected};
-pub use vec::EcoVec;
+pub use iter::{Drain, IntoIter, Splice};
+pub use vec::{EcoVec, IntoArray};

@@ -6,6 +6,7 @@ ghost use Rattle.ecow_list.specs.Vectors.{Appends, GivesItems};
 
 use crate::block::Block;
 use crate::error::{EcoError, Rejected};
+use crate::iter::IntoIter;
 use crate::vec::EcoVec;
 use ecow_base::{MAX_LEN, fresh_capacity};
 use std::alloc::{AllocError, Global};
@@ -201,6 +202,33 @@ impl<T: Clone> EcoVec<T> {
                     alloc,
                 },
             }),
+        }
+    }
+
+    /// The elements by value, in order, from both ends. A sole vector moves them, and a shared one
+    /// clones them first. Where it is refused the vector comes back.
+    pub fn into_iter(self) -> Result<IntoIter<T>, Rejected<Self>>
+        ensures ok { ClonesAreEqual T.is_clone → IfOk result (λ rest. rest ≡ self) }
+        ensures len { IfOk result (λ rest. length rest ≡ length self) }
+        ensures value_returned { IfErr result (λ rejected. rejected.value ≡ self) }
+        ensures memory { IfErr result (λ rejected. rejected.error ≡ EcoError.Memory) }
+    {
+        let EcoVec { block, alloc } = self;
+        let Some(shared) = block else {
+            return Ok(IntoIter::new(Block::new(alloc).into_rest()));
+        };
+        match Rc::try_unwrap(shared) {
+            Ok(block) => Ok(IntoIter::new(block.into_rest())),
+            Err(shared) => match Block::from_clones(alloc, shared.as_slice(), shared.len()) {
+                Ok(copy) => Ok(IntoIter::new(copy.into_rest())),
+                Err(_) => Err(Rejected {
+                    error: EcoError::Memory,
+                    value: EcoVec {
+                        block: Some(shared),
+                        alloc,
+                    },
+                }),
+            },
         }
     }
 

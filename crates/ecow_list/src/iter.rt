@@ -1,0 +1,170 @@
+//! The iterators that own their elements. What is left is dropped with them; the vector that they
+//! were taken from is final when they are made.
+ghost use Rattle.std.specs.Prelude.{◌≡◌};
+ghost use Rattle.std.specs.Iterator.{YieldsFirst, YieldsLast, item_count};
+
+use crate::rest::Rest;
+use std::iter::FusedIterator;
+use std::marker::Model;
+
+/// The elements that `drain` took out, in order, from both ends.
+#[derive(Drop)]
+pub struct Drain<T> {
+    rest: Rest<T>,
+}
+
+impl<T> Model for Drain<T> {
+    ghost use Rattle.std.specs.Prelude.{List};
+
+    ghost Value = { List T };
+
+    ghost view = { λ it. it.rest };
+}
+
+impl<T> Drain<T> {
+    pub(crate) fn new(rest: Rest<T>) -> Self
+        ensures { result ≡ rest }
+    {
+        Drain { rest }
+    }
+}
+
+impl<T: Drop> Iterator for Drain<T> {
+    type Item = T;
+
+    ghost next_gives = { YieldsFirst (λ rest. rest) };
+
+    ghost remaining = { item_count (λ rest. rest) };
+
+    fn next(&mut self) -> Option<T> {
+        self.rest.next()
+    }
+
+    fn size_hint(&self) -> (usize, Option<usize>) {
+        self.rest.size_hint()
+    }
+}
+
+impl<T: Drop> DoubleEndedIterator for Drain<T> {
+    ghost next_back_gives = { YieldsLast (λ rest. rest) };
+
+    fn next_back(&mut self) -> Option<T> {
+        self.rest.next_back()
+    }
+}
+
+impl<T: Drop> ExactSizeIterator for Drain<T> {
+    fn len(&self) -> usize {
+        self.rest.len()
+    }
+}
+
+impl<T: Drop> FusedIterator for Drain<T> {}
+
+/// The elements that `splice` took out, in order, from both ends.
+#[derive(Drop)]
+pub struct Splice<T> {
+    rest: Rest<T>,
+}
+
+impl<T> Model for Splice<T> {
+    ghost use Rattle.std.specs.Prelude.{List};
+
+    ghost Value = { List T };
+
+    ghost view = { λ it. it.rest };
+}
+
+impl<T> Splice<T> {
+    pub(crate) fn new(rest: Rest<T>) -> Self
+        ensures { result ≡ rest }
+    {
+        Splice { rest }
+    }
+}
+
+impl<T: Drop> Iterator for Splice<T> {
+    type Item = T;
+
+    ghost next_gives = { YieldsFirst (λ rest. rest) };
+
+    ghost remaining = { item_count (λ rest. rest) };
+
+    fn next(&mut self) -> Option<T> {
+        self.rest.next()
+    }
+
+    fn size_hint(&self) -> (usize, Option<usize>) {
+        self.rest.size_hint()
+    }
+}
+
+impl<T: Drop> DoubleEndedIterator for Splice<T> {
+    ghost next_back_gives = { YieldsLast (λ rest. rest) };
+
+    fn next_back(&mut self) -> Option<T> {
+        self.rest.next_back()
+    }
+}
+
+impl<T: Drop> ExactSizeIterator for Splice<T> {
+    fn len(&self) -> usize {
+        self.rest.len()
+    }
+}
+
+impl<T: Drop> FusedIterator for Splice<T> {}
+
+/// The elements of a vector by value, in order, from both ends.
+#[derive(Drop)]
+pub struct IntoIter<T> {
+    rest: Rest<T>,
+}
+
+impl<T> Model for IntoIter<T> {
+    ghost use Rattle.std.specs.Prelude.{List};
+
+    ghost Value = { List T };
+
+    ghost view = { λ it. it.rest };
+}
+
+impl<T> IntoIter<T> {
+    pub(crate) fn new(rest: Rest<T>) -> Self
+        ensures { result ≡ rest }
+    {
+        IntoIter { rest }
+    }
+}
+
+impl<T: Drop> Iterator for IntoIter<T> {
+    type Item = T;
+
+    ghost next_gives = { YieldsFirst (λ rest. rest) };
+
+    ghost remaining = { item_count (λ rest. rest) };
+
+    fn next(&mut self) -> Option<T> {
+        self.rest.next()
+    }
+
+    fn size_hint(&self) -> (usize, Option<usize>) {
+        self.rest.size_hint()
+    }
+}
+
+impl<T: Drop> DoubleEndedIterator for IntoIter<T> {
+    ghost next_back_gives = { YieldsLast (λ rest. rest) };
+
+    fn next_back(&mut self) -> Option<T> {
+        self.rest.next_back()
+    }
+}
+
+impl<T: Drop> ExactSizeIterator for IntoIter<T> {
+    fn len(&self) -> usize {
+        self.rest.len()
+    }
+}
+
+impl<T: Drop> FusedIterator for IntoIter<T> {}

@@ -1,0 +1,108 @@
+//! The calls on a range of elements.
+ghost use Rattle.std.specs.Prelude.{◌≡◌, ◌+◌, ◌-◌, ◌<◌, ◌≤◌, ◌↔◌, length, vec_len, IfOk, IfErr, OnOk, OnErr, IsErrOf, IsSome, slice_range, List};
+ghost use Rattle.std.specs.List.{remove_range, splice};
+ghost use Rattle.std.specs.Iterator.{IsFinite};
+ghost use Rattle.ecow_base.specs.Clones.{ClonesAreEqual};
+ghost use Rattle.ecow_base.specs.Range.{range_of};
+ghost use Rattle.ecow_list.specs.Ranges.{AtRange};
+ghost use Rattle.ecow_list.specs.Vectors.{GivesItems};
+
+use crate::block::Block;
+use crate::error::EcoError;
+use crate::iter::{Drain, Splice};
+use crate::rest::Rest;
+use crate::vec::EcoVec;
+use ecow_base::{MAX_LEN, fresh_capacity, resolve, room_for};
+use std::alloc::{AllocError, Global};
+use std::ops::RangeBounds;
+use std::rc::Rc;
+
+impl<T: Clone> EcoVec<T> {
+    /// Takes out the elements of `range`, which `range_in` tests. A shared vector gets a block of
+    /// its own, also where nothing is taken out.
+    pub fn drain<R: RangeBounds<usize>>(&mut self, range: R) -> Result<Drain<T>, EcoError>
+        requires known { R.has_bounds range }
+        requires in_range { IsSome (range_of (R.start_bound range, R.end_bound range) (length self.old)) }
+        ensures ok { ClonesAreEqual T.is_clone → OnOk result (AtRange (R.start_bound range, R.end_bound range) (length self.old) (λ start end. self.new ≡ remove_range self.old start end)) }
+        ensures removed { ClonesAreEqual T.is_clone → IfOk result (λ removed. AtRange (R.start_bound range, R.end_bound range) (length self.old) (λ start end. removed ≡ slice_range self.old start end)) }
+        ensures err { IfErr result (λ error. error ≡ EcoError.Memory) }
+        ensures unchanged { OnErr result (self.new ≡ self.old) }
+    {
+        let (start, end) = resolve(&range, self.len()).unwrap();
+        let removed = self.replaced(start, end, Vec::new(self.alloc))?;
+        Ok(Drain::new(removed))
+    }
+
+    /// Puts the items of `replace_with` in place of the elements of `range`, which `range_in`
+    /// tests, and gives these. All items are collected first, whatever the size hint says; a
+    /// refusal there leaves the vector as it was.
+    pub fn splice<R: RangeBounds<usize>, I: IntoIterator<Item = T>>(
+        &mut self,
+        range: R,
+        replace_with: I,
+    ) -> Result<Splice<T>, EcoError>
+        requires known { R.has_bounds range }
+        requires in_range { IsSome (range_of (R.start_bound range, R.end_bound range) (length self.old)) }
+        requires ends { (it : I.IntoIter) → I.into_iter_gives replace_with it → I.IntoIter.can_next it × IsFinite (I.IntoIter.remaining it) }
+        ensures ok { ClonesAreEqual T.is_clone → OnOk result ((items : List T) × GivesItems I.into_iter_gives I.IntoIter.next_gives replace_with items × AtRange (R.start_bound range, R.end_bound range) (length self.old) (λ start end. self.new ≡ splice self.old start end items)) }
+        ensures removed { ClonesAreEqual T.is_clone → IfOk result (λ removed. AtRange (R.start_bound range, R.end_bound range) (length self.old) (λ start end. removed ≡ slice_range self.old start end)) }
+        ensures unchanged { OnErr result (self.new ≡ self.old) }
+    {
+        let (start, end) = resolve(&range, self.len()).unwrap();
+        let replacement = collected(self.alloc, replace_with)?;
+        let removed = self.replaced(start, end, replacement)?;
+        Ok(Splice::new(removed))
+    }
+
+    /// Puts `replacement` in place of the elements from `start` up to `end`, and gives these.
+    fn replaced(
+        &mut self,
+        start: usize,
+        end: usize,
+        replacement: Vec<T>,
+    ) -> Result<Rest<T>, EcoError>
+        requires ordered { start ≤ end }
+        requires in_bounds { end ≤ length self.old }
+        ensures ok { ClonesAreEqual T.is_clone → OnOk result (self.new ≡ splice self.old start end replacement.items) }
+        ensures removed { ClonesAreEqual T.is_clone → IfOk result (λ removed. removed ≡ slice_range self.old start end) }
+        ensures capacity { IsErrOf result EcoError.Capacity ↔ (MAX_LEN < length self.old - (end - start) + vec_len replacement) }
+        ensures unchanged { OnErr result (self.new ≡ self.old) }
+    {
+        let len = self.len();
+        let (left, added) = (len - (end - start), replacement.len());
+        if added > MAX_LEN - left {
+            return Err(EcoError::Capacity);
+        }
+        if let Some(block) = self.sole_block() {
+            block.grow(room_for(left, added, block.capacity()))?;
+            return Ok(block.splice_within(start, end, replacement)?);
+        }
+        let room = room_for(left, added, fresh_capacity(len));
+        if room == 0 {
+            self.block = None;
+            return Ok(Block::new(self.alloc).into_rest());
+        }
+        let mut fresh = self.copied(len, room)?;
+        let Some(block) = Rc::get_mut(&mut fresh) else {
+            return Err(EcoError::Memory);
+        };
+        let removed = block.splice_within(start, end, replacement)?;
+        self.block = Some(fresh);
+        Ok(removed)
+    }
+}
+
+/// The items of `iter`, in order.
+fn collected<T: Drop, I: IntoIterator<Item = T>>(
+    alloc: Global,
+    iter: I,
+) -> Result<Vec<T>, AllocError>
+    requires { (it : I.IntoIter) → I.into_iter_gives iter it → I.IntoIter.can_next it × IsFinite (I.IntoIter.remaining it) }
+    ensures { IfOk result (λ items. GivesItems I.into_iter_gives I.IntoIter.next_gives iter items.items) }
+{
+    let mut items = Vec::new(alloc);
+    for item in iter {
+        items.push(item)?;
+    }
+    Ok(items)
+}
