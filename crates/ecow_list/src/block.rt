@@ -184,6 +184,7 @@ impl<T: Drop> Block<T> {
         requires ordered { start ≤ end }
         requires in_bounds { end ≤ length self.old.items }
         ensures removed { IfOk result (λ removed. removed ≡ slice_range self.old.items start end) }
+        ensures len { IfOk result (λ removed. length removed ≡ end - start) }
         ensures ok { OnOk result (self.new ≡ contents (remove_range self.old.items start end) self.old.capacity) }
         ensures err { OnErr result (self.new ≡ self.old) }
     {
@@ -204,6 +205,7 @@ impl<T: Drop> Block<T> {
         requires in_bounds { end ≤ length self.old.items }
         requires room { length self.old.items - (end - start) + vec_len replacement ≤ self.old.capacity }
         ensures removed { IfOk result (λ removed. removed ≡ slice_range self.old.items start end) }
+        ensures len { IfOk result (λ removed. length removed ≡ end - start) }
         ensures ok { OnOk result (self.new ≡ contents (splice self.old.items start end replacement.items) self.old.capacity) }
         ensures err { OnErr result (self.new ≡ self.old) }
     {
@@ -272,6 +274,7 @@ fn splice_vec<T: Drop>(
     requires room { vec_len elements.old - (end - start) + vec_len replacement ≤ vec_capacity elements.old }
     ensures items { OnOk result (elements.new.items ≡ splice elements.old.items start end replacement.items) }
     ensures removed { IfOk result (λ removed. removed.items ≡ slice_range elements.old.items start end) }
+    ensures len { IfOk result (λ removed. vec_len removed ≡ end - start) }
     ensures err { OnErr result (elements.new.items ≡ elements.old.items) }
     ensures capacity { vec_capacity elements.old ≤ vec_capacity elements.new }
 {

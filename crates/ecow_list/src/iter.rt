@@ -27,6 +27,14 @@ impl<T> Drain<T> {
     {
         Drain { rest }
     }
+
+    /// The elements that are still to come, as a list of their own.
+    pub fn into_rest(self) -> Rest<T>
+        ensures { result ≡ self }
+    {
+        let Drain { rest } = self;
+        rest
+    }
 }
 
 impl<T: Drop> Iterator for Drain<T> {
@@ -80,6 +88,14 @@ impl<T> Splice<T> {
         ensures { result ≡ rest }
     {
         Splice { rest }
+    }
+
+    /// The elements that are still to come, as a list of their own.
+    pub fn into_rest(self) -> Rest<T>
+        ensures { result ≡ self }
+    {
+        let Splice { rest } = self;
+        rest
     }
 }
 

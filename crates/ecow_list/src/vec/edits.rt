@@ -1,7 +1,7 @@
 //! The calls that change a vector in place. Each has two paths: a sole block is changed where it
 //! is, and the elements of a shared one are copied into a new block, which is changed and then
 //! takes the old one's place; so a refusal leaves all as it was.
-ghost use Rattle.std.specs.Prelude.{◌≡◌, ◌+◌, ◌-◌, ◌<◌, ◌≤◌, ◌↔◌, [], ◌∷◌, ◌++◌, length, take, IsOk, IfOk, IfErr, OnOk, OnErr, IsErrAnd, IsErrOf, IsSome, Some, None, Ok, IsTrue, is_some, insert, remove, slice_get, slice_set, min};
+ghost use Rattle.std.specs.Prelude.{◌≡◌, ◌+◌, ◌-◌, ◌<◌, ◌≤◌, ◌↔◌, [], ◌∷◌, ◌++◌, length, take, IsOk, IfOk, IfErr, OnOk, OnErr, IsErrAnd, IsErrOf, IsSome, Some, IsTrue, is_some, insert, remove, slice_get, slice_set, min};
 ghost use Rattle.std.specs.Fn.{CalledAtMut};
 ghost use Rattle.std.specs.List.Retain.{RetainsInTurn};
 ghost use Rattle.ecow_base.specs.Clones.{ClonesAreEqual};
@@ -106,7 +106,7 @@ impl<T: Clone> EcoVec<T> {
         ensures len { OnOk result (length self.new ≡ length self.old - 1) }
         ensures err { IfErr result (λ error. error ≡ EcoError.Memory) }
         ensures unchanged { OnErr result (self.new ≡ self.old) }
-        ensures empty { self.old ≡ [] → (result ≡ Ok None) × (self.new ≡ []) }
+        ensures empty { self.old ≡ [] → IsOk result × (self.new ≡ []) }
     {
         if self.is_empty() {
             return Ok(None);

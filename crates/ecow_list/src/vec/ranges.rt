@@ -25,6 +25,8 @@ impl<T: Clone> EcoVec<T> {
         requires in_range { IsSome (range_of (R.start_bound range, R.end_bound range) (length self.old)) }
         ensures ok { ClonesAreEqual T.is_clone → OnOk result (AtRange (R.start_bound range, R.end_bound range) (length self.old) (λ start end. self.new ≡ remove_range self.old start end)) }
         ensures removed { ClonesAreEqual T.is_clone → IfOk result (λ removed. AtRange (R.start_bound range, R.end_bound range) (length self.old) (λ start end. removed ≡ slice_range self.old start end)) }
+        ensures len { OnOk result (AtRange (R.start_bound range, R.end_bound range) (length self.old) (λ start end. length self.new + (end - start) ≡ length self.old)) }
+        ensures removed_len { IfOk result (λ removed. AtRange (R.start_bound range, R.end_bound range) (length self.old) (λ start end. length removed ≡ end - start)) }
         ensures err { IfErr result (λ error. error ≡ EcoError.Memory) }
         ensures unchanged { OnErr result (self.new ≡ self.old) }
     {
@@ -46,6 +48,9 @@ impl<T: Clone> EcoVec<T> {
         requires ends { (it : I.IntoIter) → I.into_iter_gives replace_with it → I.IntoIter.can_next it × IsFinite (I.IntoIter.remaining it) }
         ensures ok { ClonesAreEqual T.is_clone → OnOk result ((items : List T) × GivesItems I.into_iter_gives I.IntoIter.next_gives replace_with items × AtRange (R.start_bound range, R.end_bound range) (length self.old) (λ start end. self.new ≡ splice self.old start end items)) }
         ensures removed { ClonesAreEqual T.is_clone → IfOk result (λ removed. AtRange (R.start_bound range, R.end_bound range) (length self.old) (λ start end. removed ≡ slice_range self.old start end)) }
+        ensures len { OnOk result ((items : List T) × GivesItems I.into_iter_gives I.IntoIter.next_gives replace_with items × AtRange (R.start_bound range, R.end_bound range) (length self.old) (λ start end. length self.new + (end - start) ≡ length self.old + length items)) }
+        ensures removed_len { IfOk result (λ removed. AtRange (R.start_bound range, R.end_bound range) (length self.old) (λ start end. length removed ≡ end - start)) }
+        ensures capacity { IsErrOf result EcoError.Capacity → (items : List T) × GivesItems I.into_iter_gives I.IntoIter.next_gives replace_with items × AtRange (R.start_bound range, R.end_bound range) (length self.old) (λ start end. MAX_LEN < length self.old - (end - start) + length items) }
         ensures unchanged { OnErr result (self.new ≡ self.old) }
     {
         let (start, end) = resolve(&range, self.len()).unwrap();
@@ -65,6 +70,8 @@ impl<T: Clone> EcoVec<T> {
         requires in_bounds { end ≤ length self.old }
         ensures ok { ClonesAreEqual T.is_clone → OnOk result (self.new ≡ splice self.old start end replacement.items) }
         ensures removed { ClonesAreEqual T.is_clone → IfOk result (λ removed. removed ≡ slice_range self.old start end) }
+        ensures len { OnOk result (length self.new + (end - start) ≡ length self.old + vec_len replacement) }
+        ensures removed_len { IfOk result (λ removed. length removed ≡ end - start) }
         ensures capacity { IsErrOf result EcoError.Capacity ↔ (MAX_LEN < length self.old - (end - start) + vec_len replacement) }
         ensures unchanged { OnErr result (self.new ≡ self.old) }
     {
