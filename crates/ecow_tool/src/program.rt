@@ -1,0 +1,152 @@
+//! The program over any reader and writer.
+ghost use Rattle.std.specs.Prelude.{◌<◌, length, IfSome};
+
+use crate::answer::write_answer;
+use crate::run::Store;
+use crate::script::{Fault, Reason, read_script};
+use ecow_model::VecCommand;
+use std::alloc::{AllocError, Global};
+use std::fmt;
+use std::io::{ErrorKind, Read, Write};
+
+/// The most bytes that a script has.
+pub const SIZE_LIMIT: usize = 16777216;
+
+/// How many bytes are asked for at once.
+const PIECE: usize = 65536;
+
+/// How the program ends once its arguments are read. Its `Display` is the message on standard
+/// error, without the program's name.
+#[derive(Clone, Copy, Debug, PartialEq, Eq)]
+pub enum End {
+    /// The script was run to its end, and all answer lines are written.
+    Done,
+    /// A line, counted from 1, doesn't fit; nothing was run.
+    Unreadable(usize, Reason),
+    /// The script isn't UTF-8; nothing was run.
+    NotUtf8,
+    /// The script can't be read.
+    File,
+    /// The script has more than `SIZE_LIMIT` bytes.
+    TooLarge,
+    /// There is no memory for the arguments, the script, the outcomes or the answer lines.
+    Memory,
+    /// The answer lines can't be written.
+    Output,
+}
+
+impl From<AllocError> for End {
+    fn from(_: AllocError) -> End {
+        End::Memory
+    }
+}
+
+impl From<Fault> for End {
+    fn from(fault: Fault) -> End {
+        match fault {
+            Fault::Unreadable(line, reason) => End::Unreadable(line, reason),
+            Fault::Memory => End::Memory,
+        }
+    }
+}
+
+/// Whether the counted keeping is asked for, and the place of the file's name among the words
+/// after the program's name. `None` where they are no use of the program.
+pub fn read_arguments(words: &[String]) -> Option<(bool, usize)>
+    ensures { IfSome result (λ found. found.1 < length words.now) }
+{
+    match words {
+        [file] if file.as_str() != "--counted" => Some((false, 0)),
+        _ => None,
+    }
+}
+
+/// Reads a script, carries its commands out on a new `Store`, and writes an answer line for each.
+/// Nothing is written before all lines are made.
+pub fn run_store<R: Read + Drop, W: Write + Drop>(alloc: Global, reader: R, writer: W) -> End {
+    let (mut reader, mut writer) = (reader, writer);
+    match answers(alloc, &mut reader) {
+        Ok(answers) => write_out(&mut writer, answers.as_str()),
+        Err(end) => end,
+    }
+}
+
+/// The answer lines of a script.
+fn answers<R: Read>(alloc: Global, reader: &mut R) -> Result<String, End> {
+    let script = read_limited(alloc, reader)?;
+    if str::from_utf8(script.as_slice()).is_err() {
+        return Err(End::NotUtf8);
+    }
+    let commands = read_script(alloc, script.as_slice())?;
+    answers_of(alloc, commands)
+}
+
+/// The answer lines of commands on a new store.
+fn answers_of(alloc: Global, commands: Vec<VecCommand<i64>>) -> Result<String, End> {
+    let mut store = Store::new(alloc);
+    let Ok(outcomes) = store.run(commands) else {
+        return Err(End::Memory);
+    };
+    let mut answers = String::new(alloc);
+    for outcome in &outcomes {
+        write_answer(&mut answers, outcome)?;
+    }
+    Ok(answers)
+}
+
+fn write_out<W: Write>(writer: &mut W, answers: &str) -> End {
+    if writer.write_all(answers.as_bytes()).is_err() || writer.flush().is_err() {
+        return End::Output;
+    }
+    End::Done
+}
+
+/// All that the reader gives, if it is within `SIZE_LIMIT`.
+fn read_limited<R: Read>(alloc: Global, reader: &mut R) -> Result<Vec<u8>, End> {
+    let mut script = Vec::new(alloc);
+    let mut piece = [0u8; PIECE];
+    for _ in 0..u64::MAX {
+        match reader.read(&mut piece) {
+            Ok(0) => return Ok(script),
+            Ok(count) => {
+                script.extend_from_slice(&piece[..count])?;
+                if script.len() > SIZE_LIMIT {
+                    return Err(End::TooLarge);
+                }
+            }
+            Err(error) if error.kind() == ErrorKind::Interrupted => {}
+            Err(_) => return Err(End::File),
+        }
+    }
+    Err(End::File)
+}
+
+impl fmt::Display for End {
+    fn fmt<W: fmt::Write>(&self, f: &mut fmt::Formatter<W>) -> fmt::Result {
+        match self {
+            End::Done => Ok(()),
+            End::Unreadable(line, reason) => write!(f, "line {line}: {reason}"),
+            End::NotUtf8 => f.write_str("not UTF-8"),
+            End::File => f.write_str("file"),
+            End::TooLarge => f.write_str("too large"),
+            End::Memory => f.write_str("memory"),
+            End::Output => f.write_str("output"),
+        }
+    }
+}
+
+impl fmt::Display for Reason {
+    fn fmt<W: fmt::Write>(&self, f: &mut fmt::Formatter<W>) -> fmt::Result {
+        f.write_str(match self {
+            Reason::Kind => "kind",
+            Reason::Command => "command",
+            Reason::Name => "name",
+            Reason::Number => "number",
+            Reason::List => "list",
+            Reason::Marks => "marks",
+            Reason::Bounds => "bounds",
+            Reason::Text => "text",
+            Reason::Arguments => "arguments",
+        })
+    }
+}
