@@ -1,5 +1,5 @@
 //! A list of elements in one block, with a number of elements for which there is room.
-ghost use Rattle.std.specs.Prelude.{◌≡◌, ◌+◌, ◌-◌, ◌<◌, ◌≤◌, [], ◌∷◌, ◌++◌, length, take, IsOk, IfOk, IfErr, OnOk, OnErr, Some, vec_len, vec_capacity, insert, remove, slice_get, slice_range, if◌then◌else◌, is_ok};
+ghost use Rattle.std.specs.Prelude.{◌≡◌, ◌+◌, ◌-◌, ◌<◌, ◌≤◌, [], ◌∷◌, ◌++◌, length, take, IsOk, IfOk, IfErr, OnOk, OnErr, Some, vec_len, vec_capacity, insert, remove, slice_get, slice_range, slice_set, if◌then◌else◌, is_ok};
 ghost use Rattle.std.specs.List.{AllZip, remove_range, splice};
 ghost use Rattle.std.specs.Borrow.{sem};
 ghost use Rattle.std.specs.Fn.{CalledAtMut};
@@ -160,6 +160,14 @@ impl<T> Block<T> {
 }
 
 impl<T: Drop> Block<T> {
+    /// Puts `value` in place of the element at `index`, which is dropped.
+    pub fn set(&mut self, index: usize, value: T)
+        requires { index < length self.old.items }
+        ensures { self.new ≡ contents (slice_set self.old.items index value) self.old.capacity }
+    {
+        self.as_mut_slice()[index] = value;
+    }
+
     /// Puts `value` in at `index`; there is room for it.
     pub fn insert_within(&mut self, index: usize, value: T)
         requires in_bounds { index ≤ length self.old.items }

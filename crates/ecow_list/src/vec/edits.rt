@@ -12,66 +12,6 @@ use ecow_base::{MAX_LEN, fresh_capacity, room_for};
 use std::rc::Rc;
 
 impl<T: Clone> EcoVec<T> {
-    /// Appends `value`.
-    #[inline]
-    pub fn push(&mut self, value: T) -> Result<(), Rejected<T>>
-        ensures ok { ClonesAreEqual T.is_clone → OnOk result (self.new ≡ self.old ++ value ∷ []) }
-        ensures len { OnOk result (length self.new ≡ length self.old + 1) }
-        ensures err { OnErr result (self.new ≡ self.old) }
-        ensures value_returned { IfErr result (λ rejected. rejected.value ≡ value) }
-        ensures capacity { IsErrAnd result (λ rejected. rejected.error ≡ EcoError.Capacity) ↔ (MAX_LEN ≤ length self.old) }
-    {
-        if let Some(block) = self.sole_block()
-            && block.len() < block.capacity()
-        {
-            block.push_within(value);
-            return Ok(());
-        }
-        self.push_growing(value)
-    }
-
-    /// The same where the block is full, shared or not there; out of line, so that the other case
-    /// is short.
-    #[cold]
-    #[inline(never)]
-    fn push_growing(&mut self, value: T) -> Result<(), Rejected<T>>
-        ensures ok { ClonesAreEqual T.is_clone → OnOk result (self.new ≡ self.old ++ value ∷ []) }
-        ensures len { OnOk result (length self.new ≡ length self.old + 1) }
-        ensures err { OnErr result (self.new ≡ self.old) }
-        ensures value_returned { IfErr result (λ rejected. rejected.value ≡ value) }
-        ensures capacity { IsErrAnd result (λ rejected. rejected.error ≡ EcoError.Capacity) ↔ (MAX_LEN ≤ length self.old) }
-    {
-        let len = self.len();
-        if len >= MAX_LEN {
-            return Err(Rejected {
-                error: EcoError::Capacity,
-                value,
-            });
-        }
-        let room = room_for(len, 1, self.capacity());
-        if let Some(block) = self.sole_block() {
-            if block.grow(room_for(len, 1, block.capacity())).is_err() {
-                return Err(Rejected {
-                    error: EcoError::Memory,
-                    value,
-                });
-            }
-            block.push_within(value);
-            return Ok(());
-        }
-        if let Ok(mut fresh) = self.copied(len, room)
-            && let Some(block) = Rc::get_mut(&mut fresh)
-        {
-            block.push_within(value);
-            self.block = Some(fresh);
-            return Ok(());
-        }
-        Err(Rejected {
-            error: EcoError::Memory,
-            value,
-        })
-    }
-
     /// Keeps the first `len` elements, or all where there are fewer. A shared vector copies only
     /// those that stay. Never refused where it keeps all, which changes nothing, or none.
     pub fn truncate(&mut self, len: usize) -> Result<(), EcoError>
@@ -215,13 +155,13 @@ impl<T: Clone> EcoVec<T> {
     {
         let len = self.len();
         if let Some(block) = self.sole_block() {
-            block.as_mut_slice()[index] = value;
+            block.set(index, value);
             return Ok(());
         }
         if let Ok(mut fresh) = self.copied(len, fresh_capacity(len))
             && let Some(block) = Rc::get_mut(&mut fresh)
         {
-            block.as_mut_slice()[index] = value;
+            block.set(index, value);
             self.block = Some(fresh);
             return Ok(());
         }

@@ -371,11 +371,11 @@ fn len<T>(values: &Values<T>, name: Name) -> Outcome<T>
 fn contents<T: Clone>(alloc: Global, values: &Values<T>, name: Name) -> Outcome<T>
     ensures { ClonesAreEqual T.is_clone → IsVecStep values.now (VecCommand.Contents name) result values.now }
 {
-    let list = match list(values, name) {
-        Ok(list) => list,
+    let whole = match list(values, name) {
+        Ok(whole) => whole,
         Err(refusal) => return Outcome::Refused(refusal),
     };
-    match Items::from_slice(alloc, list.as_slice()) {
+    match Items::from_slice(alloc, whole.as_slice()) {
         Ok(elements) => Outcome::Elements(elements),
         Err(_) => Outcome::Refused(Refusal::Memory),
     }
