@@ -2,6 +2,12 @@
 //! Slow and obvious, for tests to compare with.
 #![tactic(auto)]
 
+mod edits;
 pub mod list;
+mod makes;
+mod parts;
+mod reads;
+pub mod store;
 
 pub use list::PlainList;
+pub use store::PlainStore;

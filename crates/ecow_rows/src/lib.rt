@@ -1,0 +1,2 @@
+//! The definitions, worked out on examples.
+#![tactic(auto)]
