@@ -11,3 +11,6 @@ pub mod store;
 
 pub use list::PlainList;
 pub use store::PlainStore;
+
+#[cfg(test)]
+mod tests;

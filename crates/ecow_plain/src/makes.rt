@@ -30,11 +30,7 @@ fn put<T: Drop>(values: &mut Values<T>, name: Name, items: PlainList<T>) -> Outc
     }
 }
 
-pub(crate) fn from_list<T: Drop>(
-    values: &mut Values<T>,
-    name: Name,
-    items: Items<T>,
-) -> Outcome<T>
+pub(crate) fn from_list<T: Drop>(values: &mut Values<T>, name: Name, items: Items<T>) -> Outcome<T>
     ensures step { IsVecStep values.old (VecCommand.FromList name items) result values.new }
     ensures refused { (why : Refusal) → result ≡ Outcome.Refused why → values.new ≡ values.old }
 {

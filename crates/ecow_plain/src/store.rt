@@ -8,10 +8,9 @@ ghost use Rattle.ecow_model.specs.declared.command.Refusal.{Refusal};
 
 use crate::list::PlainList;
 use crate::{edits, makes, parts, reads};
-use ecow_model::loans;
 use ecow_model::table::Table;
 use ecow_model::value::{PlainBytes, PlainText, Value};
-use ecow_model::{Name, Outcome, Refusal, VecCommand};
+use ecow_model::{Name, Outcome, Refusal, VecCommand, loans};
 use std::alloc::{AllocError, Global};
 use std::marker::Model;
 

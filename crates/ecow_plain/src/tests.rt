@@ -45,23 +45,59 @@ fn items_are_put_in_and_taken_out(rt: HostRuntime) -> Result<(), Fail> {
     let marks = Items::from_slice(alloc, &[false, true, true])?;
     let added = list(alloc, &[5, 6])?;
     let commands = vec![in alloc;
-        VecCommand::FromElem { name: 0, value: 7, n: 3 },
-        VecCommand::Insert { name: 0, index: 3, value: 8 },
-        VecCommand::Insert { name: 0, index: 5, value: 1 },
+        VecCommand::FromElem {
+            name: 0,
+            value: 7,
+            n: 3
+        },
+        VecCommand::Insert {
+            name: 0,
+            index: 3,
+            value: 8
+        },
+        VecCommand::Insert {
+            name: 0,
+            index: 5,
+            value: 1
+        },
         VecCommand::Remove { name: 0, index: 0 },
         VecCommand::Retain { name: 0, marks },
-        VecCommand::Write { name: 0, index: 1, value: -4 },
+        VecCommand::Write {
+            name: 0,
+            index: 1,
+            value: -4
+        },
         VecCommand::Read { name: 0, index: 1 },
-        VecCommand::Extend { name: 0, items: added },
+        VecCommand::Extend {
+            name: 0,
+            items: added
+        },
         VecCommand::Contents { name: 0 },
         VecCommand::Clone { from: 1, to: 0 },
         VecCommand::Clone { from: 0, to: 0 },
-        VecCommand::Reserve { name: 0, additional: 9223372036854775804 },
-        VecCommand::Reserve { name: 0, additional: 4 },
+        VecCommand::Reserve {
+            name: 0,
+            additional: 9223372036854775804
+        },
+        VecCommand::Reserve {
+            name: 0,
+            additional: 4
+        },
     ]?;
     let wanted = [
-        "ok", "ok", "refused Index", "7", "ok", "ok", "-4", "ok", "[7, -4, 5, 6]", "refused NoName",
-        "refused Taken", "refused Capacity", "ok",
+        "ok",
+        "ok",
+        "refused Index",
+        "7",
+        "ok",
+        "ok",
+        "-4",
+        "ok",
+        "[7, -4, 5, 6]",
+        "refused NoName",
+        "refused Taken",
+        "refused Capacity",
+        "ok",
     ];
     answers(&rt, alloc, commands, &wanted)
 }
@@ -76,14 +112,28 @@ fn names_are_made_and_dropped(rt: HostRuntime) -> Result<(), Fail> {
         VecCommand::Len { name: 0 },
         VecCommand::Drop { name: 0 },
         VecCommand::Len { name: 0 },
-        VecCommand::WithCapacity { name: 1, capacity: 9223372036854775808 },
+        VecCommand::WithCapacity {
+            name: 1,
+            capacity: 9223372036854775808
+        },
         VecCommand::Len { name: 1 },
-        VecCommand::WithCapacity { name: 1, capacity: 3 },
+        VecCommand::WithCapacity {
+            name: 1,
+            capacity: 3
+        },
         VecCommand::Unique { name: 1 },
     ]?;
     let wanted = [
-        "ok", "None", "refused Taken", "0", "ok", "refused NoName", "refused Capacity",
-        "refused NoName", "ok", "true",
+        "ok",
+        "None",
+        "refused Taken",
+        "0",
+        "ok",
+        "refused NoName",
+        "refused Capacity",
+        "refused NoName",
+        "ok",
+        "true",
     ];
     answers(&rt, alloc, commands, &wanted)
 }
@@ -96,15 +146,35 @@ fn parts_are_exchanged(rt: HostRuntime) -> Result<(), Fail> {
     let nothing = list(alloc, &[])?;
     let commands = vec![in alloc;
         VecCommand::FromList { name: 0, items },
-        VecCommand::Splice { name: 0, bounds: (Bound::Included(1), Bound::Included(2)), items: replacement },
+        VecCommand::Splice {
+            name: 0,
+            bounds: (Bound::Included(1), Bound::Included(2)),
+            items: replacement
+        },
         VecCommand::Contents { name: 0 },
-        VecCommand::Drain { name: 0, bounds: (Bound::Excluded(2), Bound::Unbounded) },
-        VecCommand::Drain { name: 0, bounds: (Bound::Included(2), Bound::Excluded(1)) },
-        VecCommand::Splice { name: 0, bounds: (Bound::Unbounded, Bound::Unbounded), items: nothing },
+        VecCommand::Drain {
+            name: 0,
+            bounds: (Bound::Excluded(2), Bound::Unbounded)
+        },
+        VecCommand::Drain {
+            name: 0,
+            bounds: (Bound::Included(2), Bound::Excluded(1))
+        },
+        VecCommand::Splice {
+            name: 0,
+            bounds: (Bound::Unbounded, Bound::Unbounded),
+            items: nothing
+        },
         VecCommand::Len { name: 0 },
     ]?;
     let wanted = [
-        "ok", "[2, 3]", "[1, 9, 4]", "[]", "refused Range", "[1, 9, 4]", "0",
+        "ok",
+        "[2, 3]",
+        "[1, 9, 4]",
+        "[]",
+        "refused Range",
+        "[1, 9, 4]",
+        "0",
     ];
     answers(&rt, alloc, commands, &wanted)
 }
@@ -127,7 +197,17 @@ fn clones_are_changed_apart(rt: HostRuntime) -> Result<(), Fail> {
         VecCommand::Pop { name: 1 },
     ]?;
     let wanted = [
-        "ok", "ok", "ok", "ok", "ok", "ok", "[]", "[1, 2, 3, 4]", "[1]", "1", "Some(4)",
+        "ok",
+        "ok",
+        "ok",
+        "ok",
+        "ok",
+        "ok",
+        "[]",
+        "[1, 2, 3, 4]",
+        "[1]",
+        "1",
+        "Some(4)",
     ];
     answers(&rt, alloc, commands, &wanted)
 }
