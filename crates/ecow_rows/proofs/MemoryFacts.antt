@@ -1,12 +1,12 @@
 -- What a step is that lacks memory.
-use Rattle.std.proofs.Common.{◌≡◌, ℕ, Bool, true, false, Result, Ok, Err, inl, inr, refl, ap}
+use Rattle.std.proofs.Common.{◌≡◌, ℕ, Bool, true, false, Result, Ok, Err, [], ◌∷◌, inl, inr, refl, ap}
 use Rattle.ecow_model.specs.State.{State}
 use Rattle.ecow_model.specs.Names.{Names}
 use Rattle.ecow_model.specs.Run.{StepBy, IsVecStep, VecReadingFits, vec_free_at}
 use Rattle.ecow_model.specs.VecStep.{vec_step}
 use Rattle.ecow_model.specs.CountedRun.{counted_step, counted_is_free, CountedStep}
 use Rattle.ecow_model.specs.declared.command.VecCommand.{VecCommand}
-use Rattle.ecow_model.specs.declared.command.VecCommand.TheVariants.{Push, Clear}
+use Rattle.ecow_model.specs.declared.command.VecCommand.TheVariants.{Push, Truncate, Clear, Extend}
 use Rattle.ecow_model.specs.declared.command.Outcome.{Outcome}
 use Rattle.ecow_model.specs.declared.command.Outcome.TheVariants.{Done, Refused}
 use Rattle.ecow_model.specs.declared.command.Refusal.{Refusal}
@@ -62,6 +62,12 @@ a_push_into_a_full_block_then_changes_nothing new step = (counted_lacking four_o
 
 pub a_push_by_a_shared_name_may_lack_memory : CountedStep shared_block (Push 1 4) (Refused Memory) shared_block
 a_push_by_a_shared_name_may_lack_memory = lacked (counted_step shared_block (Push 1 4)) (Unit {0}) (counted_is_free shared_block (Push 1 4)) shared_block (simp table_rules refl) (simp table_rules refl)
+
+pub an_extend_past_the_capacity_may_lack_memory : CountedStep three_of_four (Extend 0 (4 ∷ 5 ∷ 6 ∷ [])) (Refused Memory) three_of_four
+an_extend_past_the_capacity_may_lack_memory = lacked (counted_step three_of_four (Extend 0 (4 ∷ 5 ∷ 6 ∷ []))) (Unit {0}) (counted_is_free three_of_four (Extend 0 (4 ∷ 5 ∷ 6 ∷ []))) three_of_four (simp table_rules refl) (simp table_rules refl)
+
+pub a_truncate_by_a_shared_name_may_lack_memory : CountedStep shared_block (Truncate 1 2) (Refused Memory) shared_block
+a_truncate_by_a_shared_name_may_lack_memory = lacked (counted_step shared_block (Truncate 1 2)) (Unit {0}) (counted_is_free shared_block (Truncate 1 2)) shared_block (simp table_rules refl) (simp table_rules refl)
 
 pub a_push_within_the_capacity_never_lacks_memory : (new : Names ℕ) → ¬ (CountedStep three_of_four (Push 0 4) (Refused Memory) new)
 a_push_within_the_capacity_never_lacks_memory new step =

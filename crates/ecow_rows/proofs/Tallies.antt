@@ -1,5 +1,5 @@
 -- The sums of a script on shared blocks, computed over the entries of its names.
-use Rattle.std.proofs.Common.{◌≡◌, ℕ, ◌+◌, ◌*◌, not, is_some, List, [], ◌∷◌, map, length, sum_by, Bool, true, ◌&&◌, Option, Some, None, Result, Ok, Err, if◌then◌else◌, cond, nat_lt, false, refl, ap, ◌∙◌}
+use Rattle.std.proofs.Common.{◌≡◌, ℕ, ◌+◌, ◌*◌, not, is_some, List, [], ◌∷◌, map, length, sum_by, true, ◌&&◌, Option, Some, None, Result, Ok, Err, if◌then◌else◌, cond, nat_lt, false, refl, ap, ◌∙◌}
 use Rattle.std.specs.Option.{unwrap_or}
 use Rattle.std.specs.Ordering.{nat_cmp, eq_by_cmp}
 use Rattle.std.specs.FinMap as finite

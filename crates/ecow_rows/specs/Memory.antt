@@ -1,5 +1,5 @@
 -- Values on which memory may be wanting.
-use Rattle.std.specs.Prelude.{ℕ, Bool, List, [], ◌∷◌, replicate}
+use Rattle.std.specs.Prelude.{ℕ, Bool, [], ◌∷◌, replicate}
 use Rattle.std.specs.FinMap.{empty, insert}
 use Rattle.ecow_model.specs.State.{State}
 use Rattle.ecow_model.specs.Names.{Names}

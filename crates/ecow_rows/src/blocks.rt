@@ -4,13 +4,13 @@ ghost use Rattle.ecow_model.specs.CountedRun.{CountedStep, counted_is_free};
 ghost use Rattle.ecow_model.specs.Names.{Names};
 ghost use Rattle.ecow_model.specs.declared.command.Outcome.TheVariants.{Refused};
 ghost use Rattle.ecow_model.specs.declared.command.Refusal.TheVariants.{Memory};
-ghost use Rattle.ecow_model.specs.declared.command.VecCommand.TheVariants.{Clear, Pop, Push, Reserve, Retain, Write};
+ghost use Rattle.ecow_model.specs.declared.command.VecCommand.TheVariants.{Clear, Extend, Pop, Push, Reserve, Retain, Truncate, Write};
 ghost use Rattle.ecow_rows.specs.Memory.{four_of_four, shared_block, three_of_four};
 ghost use Rattle.ecow_rows.specs.Tables.{pushed};
 ghost use Rattle.ecow_rows.specs.BlockScripts.{ANewTableIsEmpty, AMissingNameIsNotShared, WithoutABlockNothingIsShared, ThreeNamesEndInThreeBlocks, ACloneOfACloneSharesOneBlock, BlocksGoWithTheirLastName, PopCopiesTheWholeSharedList, TruncateCopiesWhatStays, DrainOfNothingUnshares, ExtendByNothingStaysShared, ReserveOfNothingUnshares, AnEmptyBlockIsShared, AnEmptyBlockStaysShared, RetainGivesUpAnEmptyBlock, ReserveGivesAnEmptyBlockOfItsOwn, FourPushesMoveNothing, TheFifthPushMovesFour, TheThirdPushOutgrowsRoomForTwo, AnInsertWithinTheCapacityMovesNothing, AnInsertPastTheCapacityMovesAll, APushAfterAnExtendDoublesTheCapacity, SpliceMakesItsBlockAtOnce, SpliceMovesWhatIsLeft, APushByACloneTakesRoomForFour, PushesAfterAPop, ReserveGrowsUpToTheGreatest, TakenAndDroppedNamesAreRefused, DrainedAndRetainedAlone, EachWrittenCloneIsCopiedOnce, UnwrittenClonesAreOwed, DroppedClonesCostNothing, PushesAfterAPopArePaid, ElevenPushesCopyTenTimes, APushAfterTheClonesAreDroppedCopiesNothing};
 
 /// No names, and names without a block.
-pub fn nothing()
+pub fn no_blocks()
     ensures a_new_table_is_empty { ANewTableIsEmpty }
     ensures a_missing_name_is_not_shared { AMissingNameIsNotShared }
     ensures without_a_block_nothing_is_shared { WithoutABlockNothingIsShared }
@@ -51,7 +51,7 @@ pub fn growing()
 {}
 
 /// Growing and leaving a shared block in one.
-pub fn both()
+pub fn growing_and_copying()
     ensures splice_makes_its_block_at_once { SpliceMakesItsBlockAtOnce }
     ensures splice_moves_what_is_left { SpliceMovesWhatIsLeft }
     ensures a_push_by_a_clone_takes_room_for_four { APushByACloneTakesRoomForFour }
@@ -66,7 +66,7 @@ pub fn refusals()
 {}
 
 /// Copied elements, what copying at each clone would copy, and what is still owed.
-pub fn owed()
+pub fn what_is_owed()
     ensures each_written_clone_is_copied_once { EachWrittenCloneIsCopiedOnce }
     ensures unwritten_clones_are_owed { UnwrittenClonesAreOwed }
     ensures dropped_clones_cost_nothing { DroppedClonesCostNothing }
@@ -74,7 +74,7 @@ pub fn owed()
 {}
 
 /// A list of a hundred items and its ten clones.
-pub fn hundred()
+pub fn a_hundred_items()
     ensures eleven_pushes_copy_ten_times { ElevenPushesCopyTenTimes }
     ensures a_push_after_the_clones_are_dropped_copies_nothing { APushAfterTheClonesAreDroppedCopiesNothing }
 {}
@@ -91,6 +91,8 @@ pub fn filling()
 pub fn wanting_memory()
     ensures a_push_into_a_full_block_may_lack_memory { CountedStep four_of_four (Push 0 5) (Refused Memory) four_of_four }
     ensures it_then_changes_nothing { (new : Names ℕ) → CountedStep four_of_four (Push 0 5) (Refused Memory) new → new ≡ four_of_four }
+    ensures an_extend_past_the_capacity_may_lack_memory { CountedStep three_of_four (Extend 0 (4 ∷ 5 ∷ 6 ∷ [])) (Refused Memory) three_of_four }
+    ensures a_truncate_by_a_shared_name_may_lack_memory { CountedStep shared_block (Truncate 1 2) (Refused Memory) shared_block }
     ensures a_push_by_a_shared_name_may_lack_memory { CountedStep shared_block (Push 1 4) (Refused Memory) shared_block }
 {}
 

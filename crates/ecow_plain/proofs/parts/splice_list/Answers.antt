@@ -1,4 +1,4 @@
-use Rattle.std.proofs.Common.{◌≡◌, ◌+◌, ◌-◌, ◌≤◌, ◌^◌, true, length, Some, arith, nat_lt, inl, refl}
+use Rattle.std.proofs.Common.{◌≡◌, ◌≤◌, ◌^◌, true, length, Some, arith, nat_lt, inl, refl}
 use Rattle.std.specs.List.{splice}
 use Rattle.std.proofs.lemmas.Bool.{lt-ltb}
 use Rattle.std.proofs.lemmas.Grind.{common_steps}
