@@ -1,0 +1,17 @@
+use Rattle.std.proofs.Common.{◌≡◌, [], ◌∷◌, refl, arith, append_assoc, append-nil, subst}
+use Rattle.std.specs.Vec.Iter.{into_iter_items}
+use Rattle.std.proofs.lemmas.List.{nil_from_length}
+use Rattle.ecow_model.specs.Run.{IsVecStep, RunBy}
+use Rattle.ecow_plain.proofs.store.PlainStore.run.Goals as goal
+
+pub loop-command-preserved : goal.loop-command-preserved
+loop-command-preserved g c = record {
+  room = omega (arith, c.in-Some.ensures.len, c.push_reserved.ensures.len, c.push_reserved.ensures.capacity, c.loop-command.invariant.room);
+  goes_on = λ clones more new run. rw (c.push_reserved.ensures.items, append_assoc) (c.loop-command.invariant.goes_on clones (c.step-outcome.result ∷ more) new (rw c.in-Some.ensures.items (c.step-outcome.new.self, c.step-outcome.ensures.step clones, run)));
+}
+
+pub returns-clause-run : goal.returns-clause-run
+returns-clause-run g c = λ clones.
+    let rest = c.loop-command.rest in
+    let ended : into_iter_items rest ≡ [] = nil_from_length (into_iter_items rest) (omega (arith, rest.rest.ok.0, c.in_default.ensures.cases.0)) in
+    subst (λ outcomes. RunBy IsVecStep c.args.self.now c.args.commands.items outcomes c.loop-command.self) (append-nil c.loop-command.outcomes.items) (c.loop-command.invariant.goes_on clones [] c.loop-command.self (rw ended refl))

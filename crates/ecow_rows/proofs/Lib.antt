@@ -1,0 +1,8 @@
+pub mod Scripts
+pub mod ListFacts
+pub mod ByteFacts
+pub mod TextFacts
+pub mod Tables
+pub mod Tallies
+pub mod BlockFacts
+pub mod MemoryFacts
