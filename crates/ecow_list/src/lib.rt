@@ -4,8 +4,11 @@
 pub mod block;
 pub mod error;
 pub mod iter;
+pub mod laws;
+mod macros;
 pub mod rest;
 pub mod vec;
+pub mod write;
 
 pub use ecow_base::{range_in, resolve};
 pub use error::{EcoError, Rejected};
