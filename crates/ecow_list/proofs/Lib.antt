@@ -1,2 +1,4 @@
 pub mod Items
+mod Loans
+mod ResultTyped
 mod Rotations

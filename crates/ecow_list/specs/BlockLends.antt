@@ -5,6 +5,10 @@ use Rattle.std.specs.List.{refill}
 use Rattle.ecow_list.specs.Contents.{Contents, contents}
 use Rattle.ecow_list.specs.contracts.block.Block.{the_row}
 
+-- the block with these elements in place of its own, as many as it has
+abbrev pub with_items : {X : Type 0} → Contents X → List X → Contents X
+with_items b ws = contents (refill (length b.items) b.items ws) b.capacity
+
 -- the elements are those that were written last through r, and the capacity stays
 abbrev pub lends_items : (R : RattleType) → MutBor (Contents R.Denot) → MutBor (List R.Denot) → Fml
-lends_items R b r = Lends (the_row R) (Array R 0) b r (λ ws. contents (refill (length b.now.items) b.now.items ws) b.now.capacity)
+lends_items R b r = Lends (the_row R) (Array R 0) b r (with_items b.now)

@@ -7,6 +7,7 @@ ghost use Rattle.ecow_base.specs.Clones.{ClonesAreEqual};
 
 mod conversions;
 mod edits;
+mod make_mut;
 mod push;
 mod ranges;
 

@@ -1,0 +1,82 @@
+//! The elements of a vector, borrowed for writing.
+ghost use Rattle.std.specs.Prelude.{◌≡◌, ◌<◌, [], length, IfOk, IfErr, IsOk, OnOk, OnErr, MatchOption};
+ghost use Rattle.std.specs.Borrow.{sem};
+ghost use Rattle.ecow_base.specs.Clones.{ClonesAreEqual};
+
+use crate::block::Block;
+use crate::error::EcoError;
+use crate::vec::EcoVec;
+use ecow_base::fresh_capacity;
+
+impl<T: Clone> EcoVec<T> {
+    ghost use Rattle.ecow_list.specs.Lends.{lends_own_block, lends_slice};
+
+    /// The elements, for writing. A shared vector copies them first; one without elements gives
+    /// its block up. Never refused where there are none.
+    pub fn make_mut(&mut self) -> Result<&mut [T], EcoError>
+        ensures* writes_back { sem 𝓛 (lends_slice T.row T.is_clone self.entry result) }
+        ensures value { ClonesAreEqual T.is_clone → IfOk result (λ slice. slice.now ≡ self.old) }
+        ensures len { IfOk result (λ slice. length slice.now ≡ length self.old) }
+        ensures err { IfErr result (λ error. error ≡ EcoError.Memory) }
+        ensures empty { self.old ≡ [] → IsOk result }
+    {
+        match self.own_mut() {
+            Ok(block) => Ok(block.as_mut_slice()),
+            Err(None) => Ok(&mut []),
+            Err(Some(error)) => Err(error),
+        }
+    }
+
+    /// The block, which no vector shares any more; `Err(None)` where there is no element.
+    #[inline]
+    pub(crate) fn own_mut(&mut self) -> Result<&mut Block<T>, Option<EcoError>>
+        ensures* writes_back { sem 𝓛 (lends_own_block T.row T.is_clone self.entry result) }
+        ensures items { ClonesAreEqual T.is_clone → IfOk result (λ block. block.now.items ≡ self.old) }
+        ensures len { IfOk result (λ block. length block.now.items ≡ length self.old) }
+        ensures some { OnOk result (0 < length self.old) }
+        ensures err { IfErr result (λ refused. MatchOption refused (self.old ≡ []) (λ error. (error ≡ EcoError.Memory) × (0 < length self.old))) }
+    {
+        if self.is_empty() {
+            if !self.is_unique() {
+                self.block = None;
+            }
+            return Err(None);
+        }
+        match self.unshare() {
+            Ok(()) => {}
+            Err(error) => return Err(Some(error)),
+        }
+        match self.sole_block() {
+            Some(block) => Ok(block),
+            None => Err(Some(EcoError::Memory)),
+        }
+    }
+
+    /// Gives a vector of some elements a block that no other shares.
+    fn unshare(&mut self) -> Result<(), EcoError>
+        requires { 0 < length self.old }
+        ensures ok { ClonesAreEqual T.is_clone → OnOk result (self.new ≡ self.old) }
+        ensures len { OnOk result (length self.new ≡ length self.old) }
+        ensures err { IfErr result (λ error. error ≡ EcoError.Memory) }
+        ensures unchanged { OnErr result (self.new ≡ self.old) }
+    {
+        if self.is_unique() {
+            return Ok(());
+        }
+        self.unshare_shared()
+    }
+
+    /// The same where the block is shared.
+    #[cold]
+    #[inline(never)]
+    fn unshare_shared(&mut self) -> Result<(), EcoError>
+        ensures ok { ClonesAreEqual T.is_clone → OnOk result (self.new ≡ self.old) }
+        ensures len { OnOk result (length self.new ≡ length self.old) }
+        ensures err { IfErr result (λ error. error ≡ EcoError.Memory) }
+        ensures unchanged { OnErr result (self.new ≡ self.old) }
+    {
+        let len = self.len();
+        self.block = Some(self.copied(len, fresh_capacity(len))?);
+        Ok(())
+    }
+}
