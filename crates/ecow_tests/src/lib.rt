@@ -1,0 +1,21 @@
+//! Tests of what no contract says, over all crates: that calls succeed with ample memory, what is
+//! cloned and dropped, who shares a block, and what is printed. Expected values are those of the
+//! original or of its documentation.
+#![tactic(auto)]
+
+#[cfg(test)]
+mod elements;
+#[cfg(test)]
+mod iterators;
+#[cfg(test)]
+mod laws;
+#[cfg(test)]
+mod program;
+#[cfg(test)]
+mod refusals;
+#[cfg(test)]
+mod scripts;
+#[cfg(test)]
+mod sharing;
+#[cfg(test)]
+mod vectors;

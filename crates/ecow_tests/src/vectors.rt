@@ -1,0 +1,173 @@
+//! The calls of `EcoVec` at concrete types, with the values of the original's own tests.
+use ecow_list::{EcoError, EcoVec, IntoArray, eco_vec, range_in};
+use std::alloc::{AllocError, Global};
+use std::io::Write;
+use std::test::Fail;
+
+#[test]
+fn inserts_into_a_clone_stay_apart(rt: HostRuntime) -> Result<(), Fail> {
+    let mut first = EcoVec::new(rt.alloc());
+    put(&mut first, 0, "okay")?;
+    put(&mut first, 0, "reverse")?;
+    let mut second = first.clone()?;
+    put(&mut first, 2, "a")?;
+    put(&mut first, 1, "b")?;
+    put(&mut second, 2, "last")?;
+    assert!(rt; first.iter().eq(["reverse", "b", "okay", "a"].iter()));
+    assert!(rt; second.iter().eq(["reverse", "okay", "last"].iter()));
+    Ok(())
+}
+
+fn put<T: Clone>(list: &mut EcoVec<T>, index: usize, value: T) -> Result<(), EcoError> {
+    if index > list.len() {
+        return Err(EcoError::Capacity);
+    }
+    list.insert(index, value).map_err(|rejected| rejected.error)
+}
+
+fn spliced(
+    list: &mut EcoVec<char>,
+    start: usize,
+    end: usize,
+    by: EcoVec<char>,
+) -> Result<usize, EcoError> {
+    if !range_in(&(start..end), list.len()) {
+        return Err(EcoError::Capacity);
+    }
+    let items = by.into_vec().map_err(|rejected| rejected.error)?;
+    Ok(list.splice(start..end, items)?.len())
+}
+
+#[test]
+fn splices_grow_and_shrink(rt: HostRuntime) -> Result<(), Fail> {
+    let alloc = rt.alloc();
+    let mut first = eco_vec![in alloc; 'a'; 6]?;
+    assert_eq!(rt; spliced(&mut first, 2, 4, eco_vec![in alloc; 'b']?)?, 2);
+    assert_eq!(rt; first.as_slice(), ['a', 'a', 'b', 'a', 'a'].as_slice());
+    let mut second = first.clone()?;
+    assert_eq!(rt; spliced(&mut second, 3, 4, eco_vec![in alloc; 'c'; 3]?)?, 1);
+    assert_eq!(rt;
+        second.as_slice(),
+        ['a', 'a', 'b', 'c', 'c', 'c', 'a'].as_slice()
+    );
+    assert_eq!(rt; spliced(&mut second, 2, 6, eco_vec![in alloc; 'd'; 4]?)?, 4);
+    assert_eq!(rt; spliced(&mut second, 1, 6, eco_vec![in alloc; 'e'; 3]?)?, 5);
+    assert_eq!(rt; second.as_slice(), ['a', 'e', 'e', 'e', 'a'].as_slice());
+    assert_eq!(rt; first.as_slice(), ['a', 'a', 'b', 'a', 'a'].as_slice());
+    Ok(())
+}
+
+#[test]
+fn drains_may_be_dropped_early(rt: HostRuntime) -> Result<(), Fail> {
+    let mut list = eco_vec![in rt.alloc(); 'a'; 10]?;
+    assert_eq!(rt; list.len(), 10);
+    assert_eq!(rt; list.drain(3..6)?.len(), 3);
+    assert_eq!(rt; list.len(), 7);
+    let mut tail = list.drain(5..)?;
+    assert_eq!(rt; tail.next(), Some('a'));
+    drop(tail);
+    assert_eq!(rt; list.len(), 5);
+    Ok(())
+}
+
+#[test]
+fn owned_iterators_go_from_both_ends(rt: HostRuntime) -> Result<(), Fail> {
+    let Ok(mut rest) = eco_vec![in rt.alloc(); 2, 4, 5]?.into_iter() else {
+        return Err("no memory".into());
+    };
+    assert_eq!(rt; rest.len(), 3);
+    assert_eq!(rt; rest.next(), Some(2));
+    assert_eq!(rt; rest.next_back(), Some(5));
+    assert_eq!(rt;
+        (rest.next(), rest.next(), rest.next_back()),
+        (Some(4), None, None)
+    );
+    Ok(())
+}
+
+#[test]
+fn retain_keeps_the_changed_elements(rt: HostRuntime) -> Result<(), Fail> {
+    let mut list = eco_vec![in rt.alloc(); 1u8, 2, 3, 4]?;
+    let clone = list.clone()?;
+    let mut seen = Vec::new(rt.alloc());
+    list.retain(|element| {
+        let _room = seen.push(*element);
+        *element = element.wrapping_mul(2);
+        *element > 4
+    })?;
+    assert_eq!(rt; list.as_slice(), [6u8, 8].as_slice());
+    assert_eq!(rt; seen.as_slice(), [1u8, 2, 3, 4].as_slice());
+    assert_eq!(rt; clone.as_slice(), [1u8, 2, 3, 4].as_slice());
+    Ok(())
+}
+
+#[test]
+fn arrays_come_back_or_tell_their_length(rt: HostRuntime) -> Result<(), Fail> {
+    let list = eco_vec![in rt.alloc(); "foo", "bar"]?;
+    let copy = list.clone()?;
+    let Ok(array) = copy.into_array::<2>() else {
+        return Err("no array".into());
+    };
+    assert_eq!(rt; array, ["foo", "bar"]);
+    match list.into_array::<3>() {
+        Err(IntoArray::Length(list)) => assert_eq!(rt; list.len(), 2),
+        _ => return Err("an array of three".into()),
+    }
+    Ok(())
+}
+
+#[test]
+fn all_forms_of_eco_vec(rt: HostRuntime) -> Result<(), Fail> {
+    let alloc = rt.alloc();
+    assert_eq!(rt;
+        eco_vec![in alloc; 1; 4]?.as_slice(),
+        [1, 1, 1, 1].as_slice()
+    );
+    assert_eq!(rt;
+        eco_vec![in alloc; 1, 2, 3]?.as_slice(),
+        [1, 2, 3].as_slice()
+    );
+    let none: EcoVec<u8> = eco_vec![in alloc]?;
+    assert!(rt; none.is_empty());
+    Ok(())
+}
+
+#[test]
+fn a_piece_is_written_whole(rt: HostRuntime) -> Result<(), Fail> {
+    let mut bytes = EcoVec::new(rt.alloc());
+    assert_eq!(rt; bytes.write(b"Hello, ")?, 7);
+    let copy = bytes.clone()?;
+    bytes.write_all(b"world!")?;
+    bytes.flush()?;
+    assert_eq!(rt; bytes.as_slice(), b"Hello, world!".as_slice());
+    assert_eq!(rt; copy.as_slice(), b"Hello, ".as_slice());
+    Ok(())
+}
+
+#[test]
+fn elements_of_no_bytes(rt: HostRuntime) -> Result<(), Fail> {
+    let mut list = EcoVec::new(rt.alloc());
+    for _ in 0..1000 {
+        list.push(()).map_err(|rejected| rejected.error)?;
+    }
+    assert_eq!(rt; list.len(), 1000);
+    list.insert(7, ()).map_err(|rejected| rejected.error)?;
+    drop(list.drain(..500)?);
+    assert_eq!(rt; list.len(), 501);
+    let many = EcoVec::from_elem(rt.alloc(), (), 9223372036854775808);
+    assert!(rt; matches!(&many, Err(rejected) if rejected.error == EcoError::Capacity));
+    Ok(())
+}
+
+fn hundred(alloc: Global) -> Result<Vec<()>, AllocError> {
+    vec![in alloc; (); 100]
+}
+
+#[test]
+fn a_vec_of_no_bytes_is_taken_over(rt: HostRuntime) -> Result<(), Fail> {
+    let Ok(list) = EcoVec::from_vec(rt.alloc(), hundred(rt.alloc())?) else {
+        return Err("no memory".into());
+    };
+    assert_eq!(rt; list.len(), 100);
+    Ok(())
+}
