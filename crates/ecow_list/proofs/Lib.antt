@@ -1,4 +1,3 @@
 pub mod Items
 mod Loans
 mod ResultTyped
-mod Rotations

@@ -4,8 +4,8 @@ use Rattle.std.specs.Prelude.{◌≡◌, List, [], ◌∷◌, length, Option, Re
 use Rattle.std.specs.declared.result.Result.TheVariants.{Ok, Err}
 use Rattle.std.specs.Borrow.{LendsIf, LendsSoOk, follows_so, GName, Fml, RattleType, MutBor, Array}
 use Rattle.ecow_base.specs.Clones.{ClonesAreEqual}
-use Rattle.ecow_list.specs.Contents.{Contents}
-use Rattle.ecow_list.specs.contracts.block.Block.{the_row as block_row}
+use Rattle.ecow_block.specs.Contents.{Contents}
+use Rattle.ecow_block.specs.contracts.block.Block.{the_row as block_row}
 use Rattle.ecow_list.specs.contracts.vec.EcoVec.{the_row as vec_row}
 
 -- the name of a borrowed slice; one of no elements needs none

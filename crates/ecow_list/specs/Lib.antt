@@ -1,5 +1,3 @@
-pub mod BlockLends
-pub mod Contents
 pub mod IntoArray
 pub mod Lends
 pub mod Ranges

@@ -3,7 +3,7 @@
 ghost use Rattle.std.specs.Prelude.{◌≡◌};
 ghost use Rattle.std.specs.Iterator.{YieldsFirst, YieldsLast, item_count};
 
-use crate::rest::Rest;
+use ecow_block::Rest;
 use std::iter::FusedIterator;
 use std::marker::Model;
 
@@ -26,6 +26,13 @@ impl<T> Drain<T> {
         ensures { result ≡ rest }
     {
         Drain { rest }
+    }
+
+    /// The elements that are still to come, in order.
+    pub fn as_slice(&self) -> &[T]
+        ensures { result.now ≡ self.now }
+    {
+        self.rest.as_slice()
     }
 
     /// The elements that are still to come, as a list of their own.
@@ -90,6 +97,13 @@ impl<T> Splice<T> {
         Splice { rest }
     }
 
+    /// The elements that are still to come, in order.
+    pub fn as_slice(&self) -> &[T]
+        ensures { result.now ≡ self.now }
+    {
+        self.rest.as_slice()
+    }
+
     /// The elements that are still to come, as a list of their own.
     pub fn into_rest(self) -> Rest<T>
         ensures { result ≡ self }
@@ -150,6 +164,13 @@ impl<T> IntoIter<T> {
         ensures { result ≡ rest }
     {
         IntoIter { rest }
+    }
+
+    /// The elements that are still to come, in order.
+    pub fn as_slice(&self) -> &[T]
+        ensures { result.now ≡ self.now }
+    {
+        self.rest.as_slice()
     }
 }
 

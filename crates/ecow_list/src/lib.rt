@@ -1,12 +1,10 @@
 //! A vector whose clones share their elements until one of them is written to.
 #![tactic(auto)]
 
-pub mod block;
 pub mod error;
 pub mod iter;
 pub mod laws;
 mod macros;
-pub mod rest;
 pub mod vec;
 pub mod write;
 

@@ -11,10 +11,10 @@ mod make_mut;
 mod push;
 mod ranges;
 
-use crate::block::Block;
 use crate::error::EcoError;
 pub use conversions::IntoArray;
 use ecow_base::MAX_LEN;
+use ecow_block::Block;
 use std::alloc::{AllocError, Global};
 use std::marker::Model;
 use std::rc::Rc;

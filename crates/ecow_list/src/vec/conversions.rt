@@ -4,11 +4,11 @@ ghost use Rattle.std.specs.Iterator.{IsFinite, ExtendsWithItems};
 ghost use Rattle.ecow_base.specs.Clones.{ClonesAreEqual};
 ghost use Rattle.ecow_list.specs.Vectors.{Appends, GivesItems};
 
-use crate::block::Block;
 use crate::error::{EcoError, Rejected};
 use crate::iter::IntoIter;
 use crate::vec::EcoVec;
 use ecow_base::{MAX_LEN, fresh_capacity};
+use ecow_block::Block;
 use std::alloc::{AllocError, Global};
 use std::rc::Rc;
 
@@ -42,7 +42,7 @@ impl<T: Drop> EcoVec<T> {
             && let Ok(mut shared) = Rc::new(alloc, block)
             && let Some(block) = Rc::get_mut(&mut shared)
         {
-            block.append_within(elements);
+            block.fill_within(elements);
             return Ok(EcoVec {
                 block: Some(shared),
                 alloc,
@@ -190,7 +190,7 @@ impl<T: Clone> EcoVec<T> {
             return Ok(Vec::new(alloc));
         };
         let taken = match Rc::get_mut(&mut shared) {
-            Some(block) => block.take_vec(alloc),
+            Some(block) => block.take_vec(),
             None => Vec::from_clones(alloc, shared.as_slice()),
         };
         match taken {

@@ -3,10 +3,10 @@ ghost use Rattle.std.specs.Prelude.{◌≡◌, ◌<◌, [], length, IfOk, IfErr,
 ghost use Rattle.std.specs.Borrow.{sem};
 ghost use Rattle.ecow_base.specs.Clones.{ClonesAreEqual};
 
-use crate::block::Block;
 use crate::error::EcoError;
 use crate::vec::EcoVec;
 use ecow_base::fresh_capacity;
+use ecow_block::Block;
 
 impl<T: Clone> EcoVec<T> {
     ghost use Rattle.ecow_list.specs.Lends.{lends_own_block, lends_slice};

@@ -7,12 +7,11 @@ ghost use Rattle.ecow_base.specs.Range.{range_of};
 ghost use Rattle.ecow_list.specs.Ranges.{AtRange};
 ghost use Rattle.ecow_list.specs.Vectors.{GivesItems};
 
-use crate::block::Block;
 use crate::error::EcoError;
 use crate::iter::{Drain, Splice};
-use crate::rest::Rest;
 use crate::vec::EcoVec;
 use ecow_base::{MAX_LEN, fresh_capacity, resolve, room_for};
+use ecow_block::{Block, Rest};
 use std::alloc::{AllocError, Global};
 use std::ops::RangeBounds;
 use std::rc::Rc;
@@ -31,7 +30,7 @@ impl<T: Clone> EcoVec<T> {
         ensures unchanged { OnErr result (self.new ≡ self.old) }
     {
         let (start, end) = resolve(&range, self.len()).unwrap();
-        let removed = self.replaced(start, end, Vec::new(self.alloc))?;
+        let removed = self.replaced(start, end, Block::new(self.alloc))?;
         Ok(Drain::new(removed))
     }
 
@@ -64,15 +63,15 @@ impl<T: Clone> EcoVec<T> {
         &mut self,
         start: usize,
         end: usize,
-        replacement: Vec<T>,
+        replacement: Block<T>,
     ) -> Result<Rest<T>, EcoError>
         requires ordered { start ≤ end }
         requires in_bounds { end ≤ length self.old }
         ensures ok { ClonesAreEqual T.is_clone → OnOk result (self.new ≡ splice self.old start end replacement.items) }
         ensures removed { ClonesAreEqual T.is_clone → IfOk result (λ removed. removed ≡ slice_range self.old start end) }
-        ensures len { OnOk result (length self.new + (end - start) ≡ length self.old + vec_len replacement) }
+        ensures len { OnOk result (length self.new + (end - start) ≡ length self.old + length replacement.items) }
         ensures removed_len { IfOk result (λ removed. length removed ≡ end - start) }
-        ensures capacity { IsErrOf result EcoError.Capacity ↔ (MAX_LEN < length self.old - (end - start) + vec_len replacement) }
+        ensures capacity { IsErrOf result EcoError.Capacity ↔ (MAX_LEN < length self.old - (end - start) + length replacement.items) }
         ensures unchanged { OnErr result (self.new ≡ self.old) }
     {
         let len = self.len();
@@ -103,13 +102,20 @@ impl<T: Clone> EcoVec<T> {
 fn collected<T: Drop, I: IntoIterator<Item = T>>(
     alloc: Global,
     iter: I,
-) -> Result<Vec<T>, AllocError>
+) -> Result<Block<T>, AllocError>
     requires { (it : I.IntoIter) → I.into_iter_gives iter it → I.IntoIter.can_next it × IsFinite (I.IntoIter.remaining it) }
     ensures { IfOk result (λ items. GivesItems I.into_iter_gives I.IntoIter.next_gives iter items.items) }
 {
-    let mut items = Vec::new(alloc);
+    let mut items = Block::new(alloc);
     for item in iter {
-        items.push(item)?;
+        let (len, capacity) = (items.len(), items.capacity());
+        if len == capacity {
+            if len == MAX_LEN {
+                return Err(AllocError);
+            }
+            items.grow(room_for(len, 1, capacity))?;
+        }
+        items.push_within(item);
     }
     Ok(items)
 }

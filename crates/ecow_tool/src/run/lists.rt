@@ -10,7 +10,7 @@ ghost use Rattle.ecow_tool.specs.Refusals.{refusal_for};
 
 use crate::run::Values;
 use ecow_base::{MAX_LEN, resolve};
-use ecow_list::rest::Rest;
+use ecow_block::Rest;
 use ecow_list::{EcoError, EcoVec};
 use ecow_model::loans::{list, list_mut};
 use ecow_model::value::Value;

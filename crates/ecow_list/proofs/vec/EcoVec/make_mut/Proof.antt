@@ -57,21 +57,21 @@ use Rattle.std.specs.Borrow.{name_if_ok}
 use Rattle.std_alloc.proofs.ResultValues.{ok_of, err_of}
 use Rattle.std_alloc.proofs.VecSteps.Gaps.{all_new}
 use Rattle.std_alloc.proofs.VecSteps.Shapes.{after, head, arm_body}
-use Rattle.ecow_list.specs.Contents.{Contents, contents}
-use Rattle.ecow_list.specs.BlockLends.{with_items}
+use Rattle.ecow_block.specs.Contents.{Contents, contents}
+use Rattle.ecow_block.specs.BlockLends.{with_elements}
 use Rattle.ecow_base.specs.Clones.{ClonesAreEqual}
 use Rattle.ecow_list.specs.declared.error.EcoError.{EcoError}
 use Rattle.ecow_list.specs.declared.error.EcoError.TheVariants.{Capacity, Memory as NoMemory}
 use Rattle.ecow_list.specs.contracts.error.EcoError.{the_row as error_row}
-use Rattle.ecow_list.specs.contracts.block.Block.{the_row as block_row}
+use Rattle.ecow_block.specs.contracts.block.Block.{the_row as block_row}
 use Rattle.ecow_list.specs.contracts.vec.EcoVec.{the_row as vec_row}
-use Rattle.ecow_list.specs.contracts.block.Block.as_mut_slice as S
-use Rattle.ecow_list.specs.contracts.block.Block.as_mut_slice.Key.{name as #slice}
+use Rattle.ecow_block.specs.contracts.block.Block.as_mut_slice as S
+use Rattle.ecow_block.specs.contracts.block.Block.as_mut_slice.Key.{name as #slice}
 use Rattle.ecow_list.specs.contracts.vec.EcoVec.own_mut as O
 use Rattle.ecow_list.specs.contracts.vec.EcoVec.own_mut.Key.{name as #own}
 use Rattle.ecow_list.specs.contracts.vec.EcoVec.make_mut as F
 use Rattle.ecow_list.specs.contracts.vec.EcoVec.make_mut.Key.{name as #self}
-use Rattle.ecow_list.proofs.block.Block.as_mut_slice.Met as slice_thm
+use Rattle.ecow_block.proofs.block.Block.as_mut_slice.Met as slice_thm
 use Rattle.ecow_list.proofs.vec.EcoVec.own_mut.Met as own_thm
 use Rattle.ecow_list.proofs.vec.EcoVec.make_mut.Statement as stated
 use Rattle.ecow_list.proofs.vec.EcoVec.make_mut.Code as code
@@ -208,14 +208,14 @@ module _ (X : RattleType) (g : Ghosts X.Denot) (dc dd : Dict) where
 
       exits_ok : (x : MutBor (Contents X.Denot)) (s : MutBor (List X.Denot)) (u : Val) → HasItems (Ok x) → HasLength (Ok x) → HasSome (Ok x) → s.now ≡ x.now.items
           → ent 𝓤 (sep 𝓤 (sem 𝓛 (Items.own_val s (u ∷ []))) (sep 𝓤 (A.lft κ q) (sep 𝓤 (A.lft κT qT) (sep 𝓤 (sem 𝓛 (follows_so V B γ (some x.ghost_name) (BlockIs (Ok x)) (BlockStays (Ok x))))
-          (sem 𝓛 (follows B (Array R 0) x.ghost_name s.ghost_name (with_items x.now))))))) (Ends (live 0 (of_list (u ∷ []))))
+          (sem 𝓛 (follows B (Array R 0) x.ghost_name s.ghost_name (with_elements x.now))))))) (Ends (live 0 (of_list (u ∷ []))))
       exits_ok x s u items long nonempty same =
           let len : length s.now ≡ length d = ap length same ∙ long in
           let has : 0 < length s.now = omega (arith, len, nonempty) in
-          qed 𝓛 (‵ (Items.own_val s (u ∷ [])) ∷ ‵ (flft κ q) ∷ ‵ (flft κT qT) ∷ ‵ (follows_so V B γ (some x.ghost_name) (BlockIs (Ok x)) (BlockStays (Ok x))) ∷ ‵ (follows B (Array R 0) x.ghost_name s.ghost_name (with_items x.now)) ∷ []) ∵
+          qed 𝓛 (‵ (Items.own_val s (u ∷ [])) ∷ ‵ (flft κ q) ∷ ‵ (flft κT qT) ∷ ‵ (follows_so V B γ (some x.ghost_name) (BlockIs (Ok x)) (BlockStays (Ok x))) ∷ ‵ (follows B (Array R 0) x.ghost_name s.ghost_name (with_elements x.now)) ∷ []) ∵
           use1 𝓛 (‵ ((result_row Items error_row).own_val (Ok s) (live 0 (of_list (u ∷ [])) ∷ []))) (ok_of 𝓛 Items error_row s u) $ move ! (3 ∷ 4 ∷ []) $
           use2 𝓛 (‵ (follows_so V (Array R 0) γ (some s.ghost_name) (SliceIs (Ok s)) (SliceStays (Ok s))))
-          (so_then 𝓛 V B (Array R 0) γ x.ghost_name s.ghost_name (BlockIs (Ok x)) (BlockStays (Ok x)) (with_items x.now) (SliceIs (Ok s)) (SliceStays (Ok s))
+          (so_then 𝓛 V B (Array R 0) γ x.ghost_name s.ghost_name (BlockIs (Ok x)) (BlockStays (Ok x)) (with_elements x.now) (SliceIs (Ok s)) (SliceStays (Ok s))
           (λ w n is ok fits. is ok ∙ all_new (length x.now.items) x.now.items w (fits ∙ sym long)) (λ n is. (tt, λ none'. absurd (empty_has none' nonempty)))) $
           rewrite ! 0 (λ (m : Option' GName). ‵ (follows_so V (Array R 0) γ m (SliceIs (Ok s)) (SliceStays (Ok s)))) (has_name s.ghost_name s.now has) refl $
           by ! (exits (Ok s) (live 0 (of_list (u ∷ []))) ((λ equal. same ∙ items equal), (len, (tt, λ none'. refl))))
@@ -247,7 +247,7 @@ module _ (X : RattleType) (g : Ghosts X.Denot) (dc dd : Dict) where
             nothing ! $ use0 𝓛 (raw (fact 𝓤 (κT ⊑ X.lives))) (fact_i 𝓤 (κT ⊑ X.lives) (emp 𝓤) alive) $ move ! (2 ∷ 0 ∷ 1 ∷ []) $ use3 𝓛 (raw (Slice.pre z)) (id⊢ 𝓤 _) $
             calls_at ! (fm_of 𝓤 H 𝓛.laws 𝓣) Slice slice z (and_then ! (get ! refl) (no_more !)) (λ w.
             use1 𝓛 (later (some' (λ (s : MutBor (List X.Denot)). ((‵ (flft κ q) ⊛ ‵ (flft κT qT) ⊛ ‵ ftrue) ⊛ ‵ (Items.own_val s (w ∷ []))) ⊛
-            some' (λ (ws : Unit {0} × Unit {0}). ‵ (lasts (S.ended Y) z.0.0 z.0.3 ws) ⊛ ‵ (follows B (Array R 0) x.ghost_name s.ghost_name (with_items x.now)) ⊛ raw (fact 𝓤 (s.now ≡ x.now.items)))))) (id⊢ 𝓤 _) $
+            some' (λ (ws : Unit {0} × Unit {0}). ‵ (lasts (S.ended Y) z.0.0 z.0.3 ws) ⊛ ‵ (follows B (Array R 0) x.ghost_name s.ghost_name (with_elements x.now)) ⊛ raw (fact 𝓤 (s.now ≡ x.now.items)))))) (id⊢ 𝓤 _) $
             await ! tt $ pick ! (λ s. split ! $ split ! $ split3 ! $ move ! (4 ∷ []) $ pick ! (λ ws. split3 ! $ drop ! $ move ! (1 ∷ []) $ heard ! _ (λ same.
             -- [the clause of `as_mut_slice`; both tokens; nothing; the slice; the clause of `own_mut`]
             move ! (4 ∷ []) $ peeks ! Items _ (shows 𝓛 Items) s (w ∷ []) (λ fits.
@@ -331,4 +331,4 @@ make_mut_spec 𝓤 𝓛 𝓜 𝓡 wired X L g dc dd clones drops =
     (code.unfolded 𝓤 𝓛.H 𝓜 𝓡 wired (X, tt) dc dd)
     (meets X g dc dd 𝓛 𝓜.mem 𝓡.returns 𝓣
     (own_thm.met 𝓤 𝓛 𝓜 𝓡 (code.calls-ecow_list::vec::EcoVec::own_mut 𝓡.env wired) (Y X g dc dd) LY g dc dd (record { clone = clones.clone }) drops)
-    (slice_thm.met 𝓤 𝓛 𝓜 𝓡 (code.calls-ecow_list::block::Block::as_mut_slice 𝓡.env wired) (Y X g dc dd) LY))
+    (slice_thm.met 𝓤 𝓛 𝓜 𝓡 (code.calls-ecow_block::block::Block::as_mut_slice 𝓡.env wired) (Y X g dc dd) LY))

@@ -1,0 +1,17 @@
+-- Clones that are appended one at a time.
+use Rattle.std.proofs.Common.{◌≡◌, List, [], ◌∷◌, ◌++◌, sym, ap, ◌∙◌, subst, append_assoc}
+use Rattle.std.proofs.lemmas.List.Elements.{AllZip-push, same_from_all_zip}
+use Rattle.std.specs.List.{AllZip}
+use Rattle.ecow_base.specs.Clones.{ClonesAreEqual}
+use Rattle.ecow_block.specs.Clones.{AppendsClones}
+
+module _ {T : Type 0} (R : T → T → Type 0) (old : List T) where
+  pub one_more : (xs more now new : List T) (x y : T) → AppendsClones R old xs now → more ≡ xs ++ x ∷ [] → R x y → new ≡ now ++ y ∷ [] → AppendsClones R old more new
+  one_more xs more now new x y h e r f = record {
+    copies = h.copies ++ y ∷ [];
+    items = f ∙ ap (λ l. l ++ y ∷ []) h.items ∙ append_assoc old h.copies (y ∷ []);
+    each = subst (λ l. AllZip R l (h.copies ++ y ∷ [])) (sym e) (AllZip-push R xs h.copies x y h.each r);
+  }
+
+  pub equal_clones : (xs now : List T) → AppendsClones R old xs now → ClonesAreEqual R → now ≡ old ++ xs
+  equal_clones xs now h equal = h.items ∙ ap (λ l. old ++ l) (same_from_all_zip R xs h.copies h.each equal)

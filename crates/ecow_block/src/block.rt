@@ -1,0 +1,439 @@
+//! A list of elements with a capacity number, over raw memory. Nothing here touches a pointer.
+ghost use Rattle.std.specs.Prelude.{◌≡◌, ◌+◌, ◌*◌, ◌-◌, ◌^◌, ◌<◌, ◌≤◌, ◌==◌, List, [], ◌∷◌, ◌++◌, length, take, drop, slice_get, Some, IfOk, IfErr, OnOk, OnErr, IsOk, insert, remove, slice_range, slice_set, if◌then◌else◌, is_ok, vec_len};
+ghost use Rattle.std.specs.Borrow.{sem};
+ghost use Rattle.std.specs.Fn.{CalledAtMut};
+ghost use Rattle.std.specs.List.{AllZip, insert_slice, remove_range, splice};
+ghost use Rattle.std.specs.List.Retain.{RetainsInTurn};
+ghost use Rattle.std.specs.Vec.Ownership.{FitsInBlock};
+ghost use Rattle.ecow_base.specs.Clones.{ClonesAreEqual};
+ghost use Rattle.ecow_block.specs.Clones.{AppendsClones};
+ghost use Rattle.ecow_block.specs.Contents.{contents};
+ghost use Rattle.ecow_block.specs.Ownership.{has_bytes};
+
+use crate::rest::Rest;
+use crate::room::{Base, Deed, Room, free, grow, make, nowhere};
+use ecow_base::MAX_LEN;
+use std::alloc::{AllocError, Global};
+use std::marker::Model;
+use std::mem::{replace, size_of};
+use std_alloc::room::{AllocFailed, may_hold};
+
+/// A list of elements, and the number of elements that it has room for.
+pub struct Block<T> {
+    base: Base<T>,
+    len: usize,
+    capacity: usize,
+    room: Room<T>,
+    deed: Deed<T, Global>,
+    alloc: Global,
+}
+
+impl<T> Model for Block<T> {
+    ghost use Rattle.ecow_block.specs.Contents.{Contents, contents, contents_code};
+    ghost use Rattle.ecow_block.specs.Fields.{IsBlock};
+
+    ghost Value = { Contents T };
+
+    ghost coded = { contents_code T.code };
+
+    ghost view = { λ b. contents b.room.items b.capacity };
+
+    ghost invariant = { λ b. IsBlock b };
+}
+
+/// Whether `count` places take any bytes.
+fn takes_bytes<T>(count: usize) -> bool
+    requires { FitsInBlock T.row count }
+    ensures { result ≡ has_bytes T.row count }
+{
+    count * size_of::<T>() != 0
+}
+
+impl<T> Block<T> {
+    ghost use Rattle.ecow_block.specs.BlockLends.{lends_elements};
+
+    /// An empty block with room for nothing. Asks for no memory.
+    pub fn new(alloc: Global) -> Self
+        ensures { result ≡ contents [] 0 }
+    {
+        let (base, room, deed) = nowhere(&alloc, 0);
+        Block {
+            base,
+            len: 0,
+            capacity: 0,
+            room,
+            deed,
+            alloc,
+        }
+    }
+
+    /// An empty block with room for `capacity` elements. Asks for no memory where they take no bytes.
+    pub fn with_capacity(alloc: Global, capacity: usize) -> Result<Self, AllocError>
+        ensures block { IfOk result (λ b. b ≡ contents [] capacity) }
+        ensures free { capacity ≡ 0 → IsOk result }
+    {
+        if capacity == 0 {
+            return Ok(Block::new(alloc));
+        }
+        if !may_hold::<T>(capacity) {
+            return Err(AllocError);
+        }
+        let (base, room, deed) = if takes_bytes::<T>(capacity) {
+            make(&alloc, capacity)?
+        } else {
+            nowhere(&alloc, capacity)
+        };
+        Ok(Block {
+            base,
+            len: 0,
+            capacity,
+            room,
+            deed,
+            alloc,
+        })
+    }
+
+    /// The number of elements.
+    pub fn len(&self) -> usize
+        ensures len { result ≡ length self.now.items }
+        ensures within { (result ≤ self.now.capacity) × (self.now.capacity ≤ MAX_LEN) }
+    {
+        self.len
+    }
+
+    /// The number of elements that there is room for.
+    pub fn capacity(&self) -> usize
+        ensures capacity { result ≡ self.now.capacity }
+        ensures within { (length self.now.items ≤ result) × (result ≤ MAX_LEN) }
+    {
+        self.capacity
+    }
+
+    /// The elements.
+    pub fn as_slice(&self) -> &[T]
+        ensures { result.now ≡ self.now.items }
+    {
+        self.room.as_slice(self.base, 0, self.len)
+    }
+
+    /// The elements, for writing.
+    pub fn as_mut_slice(&mut self) -> &mut [T]
+        ensures* writes_back { sem 𝓛 (lends_elements T.row self.entry result) }
+        ensures value { result.now ≡ self.old.items }
+    {
+        let (base, len) = (self.base, self.len);
+        self.room.as_mut_slice(base, 0, len)
+    }
+
+    /// Appends an element, for which there is room.
+    pub fn push_within(&mut self, item: T)
+        requires { length self.old.items < self.old.capacity }
+        ensures { self.new ≡ contents (self.old.items ++ item ∷ []) self.old.capacity }
+    {
+        self.room.put(self.base, self.len, item);
+        self.len += 1;
+    }
+
+    /// Takes the last element.
+    pub fn pop(&mut self) -> Option<T>
+        ensures value { result ≡ slice_get self.old.items (length self.old.items - 1) }
+        ensures block { self.new ≡ contents (take (length self.old.items - 1) self.old.items) self.old.capacity }
+    {
+        if self.len == 0 {
+            return None;
+        }
+        self.len -= 1;
+        Some(self.room.take_last(self.base, self.len))
+    }
+
+    /// Inserts an element, for which there is room.
+    pub fn insert_within(&mut self, index: usize, item: T)
+        requires in_bounds { index ≤ length self.old.items }
+        requires room { length self.old.items < self.old.capacity }
+        ensures { self.new ≡ contents (insert self.old.items index item) self.old.capacity }
+    {
+        let mut tail = self.room.split_off(index);
+        let behind = tail.open_gap(self.base, index, self.len - index, 1);
+        tail.put(self.base, index, item);
+        tail.append(behind);
+        self.room.append(tail);
+        self.len += 1;
+    }
+
+    /// Takes the element at `index` out.
+    pub fn remove(&mut self, index: usize) -> T
+        requires { index < length self.old.items }
+        ensures value { slice_get self.old.items index ≡ Some result }
+        ensures block { self.new ≡ contents (remove self.old.items index) self.old.capacity }
+    {
+        let mut tail = self.room.split_off(index);
+        let (item, place) = tail.take_first(self.base, index);
+        let behind = self.len - index - 1;
+        self.room
+            .append(place.close_gap(self.base, index, 1, behind, tail));
+        self.len -= 1;
+        item
+    }
+
+    /// Drops the elements from `len` on.
+    pub fn truncate(&mut self, len: usize)
+    where
+        T: Drop,
+        ensures { self.new ≡ contents (take len self.old.items) self.old.capacity }
+    {
+        while self.len() > len {
+            drop(self.pop());
+        }
+    }
+
+    /// The elements by value. Asks for no memory.
+    pub fn into_rest(self) -> Rest<T>
+        ensures { result ≡ self.items }
+    {
+        let Block {
+            base,
+            len,
+            capacity,
+            room,
+            deed,
+            alloc,
+        } = self;
+        Rest::of_room(base, len, capacity, room, deed, alloc)
+    }
+
+    /// Moves all elements of `other` behind those of this block, which has room for them.
+    pub fn append_within(&mut self, other: &mut Block<T>)
+        requires { length self.old.items + length other.old.items ≤ self.old.capacity }
+        ensures block { self.new ≡ contents (self.old.items ++ other.old.items) self.old.capacity }
+        ensures emptied { other.new ≡ contents [] other.old.capacity }
+    {
+        let all = other.room.split_off(0);
+        let places = all.pour(
+            other.base,
+            0,
+            other.len,
+            &mut self.room,
+            self.base,
+            self.len,
+        );
+        other.room.widen(places);
+        self.len += other.len;
+        other.len = 0;
+    }
+
+    /// Makes room for exactly `capacity` elements. If it is refused, nothing changes; it never is where there is that much
+    /// room already.
+    pub fn grow(&mut self, capacity: usize) -> Result<(), AllocError>
+        requires { self.old.capacity ≤ capacity }
+        ensures enough { capacity ≡ self.old.capacity → IsOk result }
+        ensures block { self.new ≡ contents self.old.items (if is_ok result then capacity else self.old.capacity) }
+    {
+        if capacity == self.capacity {
+            return Ok(());
+        }
+        if !may_hold::<T>(capacity) {
+            return Err(AllocError);
+        }
+        if self.capacity != 0 && takes_bytes::<T>(capacity) {
+            self.base = grow(
+                &self.alloc,
+                self.base,
+                self.len,
+                self.capacity,
+                capacity,
+                &mut self.room,
+                &mut self.deed,
+            )?;
+            self.capacity = capacity;
+            return Ok(());
+        }
+        let mut larger = Block::with_capacity(self.alloc, capacity)?;
+        larger.append_within(self);
+        replace(self, larger).destroy_empty();
+        Ok(())
+    }
+
+    /// Takes the elements from `start` up to `end` out. Memory is asked for these alone; if it is refused, nothing changes.
+    pub fn drain(&mut self, start: usize, end: usize) -> Result<Rest<T>, AllocError>
+        requires ordered { start ≤ end }
+        requires in_bounds { end ≤ length self.old.items }
+        ensures removed { IfOk result (λ removed. removed ≡ slice_range self.old.items start end) }
+        ensures len { IfOk result (λ removed. length removed ≡ end - start) }
+        ensures ok { OnOk result (self.new ≡ contents (remove_range self.old.items start end) self.old.capacity) }
+        ensures err { OnErr result (self.new ≡ self.old) }
+        ensures free { start ≡ end → IsOk result }
+    {
+        let count = end - start;
+        let mut removed = Block::with_capacity(self.alloc, count)?;
+        let mut middle = self.room.split_off(start);
+        let tail = middle.split_off(count);
+        let gap = middle.pour(self.base, start, count, &mut removed.room, removed.base, 0);
+        removed.len = count;
+        let behind = self.len - end;
+        self.room
+            .append(gap.close_gap(self.base, start, count, behind, tail));
+        self.len -= count;
+        Ok(removed.into_rest())
+    }
+
+    /// Puts all elements of `other` before the one at `index`. There is room for them.
+    pub fn insert_all_within(&mut self, index: usize, other: Block<T>)
+        requires in_bounds { index ≤ length self.old.items }
+        requires room { length self.old.items + length other.items ≤ self.old.capacity }
+        ensures { self.new ≡ contents (insert_slice self.old.items index other.items) self.old.capacity }
+    {
+        let Block {
+            base,
+            len,
+            capacity,
+            room,
+            deed,
+            alloc,
+        } = other;
+        let mut gap = self.room.split_off(index);
+        let behind = gap.open_gap(self.base, index, self.len - index, len);
+        let places = room.pour(base, 0, len, &mut gap, self.base, index);
+        gap.append(behind);
+        self.room.append(gap);
+        self.len += len;
+        free(&alloc, base, capacity, places, deed);
+    }
+
+    /// Moves the elements of a `Vec` into this block, which has none and has room for them.
+    pub fn fill_within(&mut self, elements: Vec<T>)
+        requires empty { self.old.items ≡ [] }
+        requires room { vec_len elements ≤ self.old.capacity }
+        ensures { self.new ≡ contents elements.items self.old.capacity }
+    {
+        let mut elements = elements;
+        self.len = elements.len();
+        self.room.fill(self.base, 0, &mut elements);
+        elements.destroy_empty();
+    }
+
+    /// Moves all elements out into a `Vec`. Memory is asked for it; if it is refused, nothing changes.
+    pub fn take_vec(&mut self) -> Result<Vec<T>, AllocError>
+        ensures taken { IfOk result (λ elements. elements.items ≡ self.old.items) }
+        ensures left { OnOk result (self.new.items ≡ []) }
+        ensures err { OnErr result (self.new ≡ self.old) }
+    {
+        let mut elements = Vec::with_capacity(self.alloc, self.len)?;
+        let mut rest = replace(self, Block::new(self.alloc)).into_rest();
+        while let Some(item) = rest.next() {
+            elements.push_reserved(item);
+        }
+        rest.destroy_empty();
+        Ok(elements)
+    }
+
+    /// Gives the memory of an empty block back.
+    pub(crate) fn destroy_empty(self)
+        requires { self.items ≡ [] }
+    {
+        let Block {
+            base,
+            len: _,
+            capacity,
+            room,
+            deed,
+            alloc,
+        } = self;
+        free(&alloc, base, capacity, room, deed);
+    }
+}
+
+impl<T: Clone> Block<T> {
+    /// Appends clones of `elements`, for which there is room. If a clone is refused, nothing changes.
+    pub fn extend_within(&mut self, elements: &[T]) -> Result<(), AllocError>
+        requires { length self.old.items + length elements.now ≤ self.old.capacity }
+        ensures clones { OnOk result (AppendsClones T.is_clone self.old.items elements.now self.new.items) }
+        ensures ok { ClonesAreEqual T.is_clone → OnOk result (self.new.items ≡ self.old.items ++ elements.now) }
+        ensures len { OnOk result (length self.new.items ≡ length self.old.items + length elements.now) }
+        ensures capacity { self.new.capacity ≡ self.old.capacity }
+        ensures err { OnErr result (self.new ≡ self.old) }
+    {
+        self.room.append_clones(self.base, self.len, elements)?;
+        self.len += elements.len();
+        Ok(())
+    }
+
+    /// A block with room for `capacity` elements, and clones of `elements` in it.
+    pub fn from_clones(alloc: Global, elements: &[T], capacity: usize) -> Result<Self, AllocError>
+        requires room { length elements.now ≤ capacity }
+        requires bounded { capacity ≤ MAX_LEN }
+        ensures clones { IfOk result (λ block. AllZip T.is_clone elements.now block.items) }
+        ensures items { ClonesAreEqual T.is_clone → IfOk result (λ block. block.items ≡ elements.now) }
+        ensures len { IfOk result (λ block. length block.items ≡ length elements.now) }
+        ensures capacity { IfOk result (λ block. block.capacity ≡ capacity) }
+    {
+        let mut block = Block::with_capacity(alloc, capacity)?;
+        block.extend_within(elements)?;
+        Ok(block)
+    }
+}
+
+impl<T: Drop> Block<T> {
+    /// Puts `value` in place of the element at `index`, which is dropped.
+    pub fn set(&mut self, index: usize, value: T)
+        requires { index < length self.old.items }
+        ensures { self.new ≡ contents (slice_set self.old.items index value) self.old.capacity }
+    {
+        self.as_mut_slice()[index] = value;
+    }
+
+    /// Keeps the elements, as `f` leaves them, at which it answers `true`, and drops the others.
+    pub fn retain<F: FnMut(&mut T) -> bool>(&mut self, f: F)
+        requires { F.IsAlwaysCallable f }
+        ensures items { RetainsInTurn (CalledAtMut F.FnMut) f self.old.items self.new.items }
+        ensures capacity { self.new.capacity ≡ self.old.capacity }
+    {
+        self.len = self.room.retain(self.base, 0, self.len, f);
+    }
+
+    /// Puts the elements of `replacement` in place of those from `start` up to `end`, and gives those. There is room for them.
+    /// Memory is asked for what is taken out alone; if it is refused, nothing changes, and `replacement` is dropped.
+    pub fn splice_within(
+        &mut self,
+        start: usize,
+        end: usize,
+        replacement: Block<T>,
+    ) -> Result<Rest<T>, AllocError>
+        requires ordered { start ≤ end }
+        requires in_bounds { end ≤ length self.old.items }
+        requires room { length self.old.items - (end - start) + length replacement.items ≤ self.old.capacity }
+        ensures removed { IfOk result (λ removed. removed ≡ slice_range self.old.items start end) }
+        ensures len { IfOk result (λ removed. length removed ≡ end - start) }
+        ensures ok { OnOk result (self.new ≡ contents (splice self.old.items start end replacement.items) self.old.capacity) }
+        ensures err { OnErr result (self.new ≡ self.old) }
+        ensures free { start ≡ end → IsOk result }
+    {
+        let count = end - start;
+        let mut removed = Block::with_capacity(self.alloc, count)?;
+        let Block {
+            base,
+            len,
+            capacity,
+            room,
+            deed,
+            alloc,
+        } = replacement;
+        let mut middle = self.room.split_off(start);
+        let tail = middle.split_off(count);
+        let gap = middle.pour(self.base, start, count, &mut removed.room, removed.base, 0);
+        removed.len = count;
+        let (mut gap, tail) = gap.set_gap(self.base, start, count, len, self.len - end, tail);
+        let places = room.pour(base, 0, len, &mut gap, self.base, start);
+        gap.append(tail);
+        self.room.append(gap);
+        self.len = self.len - count + len;
+        free(&alloc, base, capacity, places, deed);
+        Ok(removed.into_rest())
+    }
+}
+
+impl<T: Drop> Drop for Block<T> {
+    fn drop(mut self) {
+        self.truncate(0);
+        self.destroy_empty();
+    }
+}

@@ -1,0 +1,14 @@
+//! A list of elements in one block of memory, with a number of elements for which there is room; and
+//! the same list given away from both ends.
+#![tactic(auto)]
+
+pub mod block;
+mod moves;
+pub mod rest;
+mod room;
+
+pub use block::Block;
+pub use rest::Rest;
+
+#[cfg(test)]
+mod tests;

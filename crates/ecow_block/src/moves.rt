@@ -1,0 +1,238 @@
+//! Moves of items between rooms, one at a time, with no pointer in sight. What is cut and glued here is gone when the
+//! program runs: each loop is a loop over reads and writes, which the compiler knows as a move of memory.
+ghost use Rattle.std.specs.Prelude.{◌≡◌, ◌+◌, ◌-◌, ◌^◌, ◌<◌, ◌≤◌, [], ◌∷◌, ◌++◌, length, take, vec_len, OnOk, OnErr};
+ghost use Rattle.std.specs.Fn.{CalledAtMut};
+ghost use Rattle.std.specs.List.Retain.{RetainsInTurn};
+ghost use Rattle.ecow_base.specs.Clones.{ClonesAreEqual};
+ghost use Rattle.ecow_block.specs.Clones.{AppendsClones};
+ghost use Rattle.ecow_block.specs.Rooms.{SamePlaces, Follows};
+
+use crate::room::{Base, Room};
+use std::alloc::AllocError;
+use std::mem::replace;
+
+impl<T> Room<T> {
+    /// Takes the first item, from the place numbered `at`. That place comes back too.
+    pub(crate) fn take_first(&mut self, base: Base<T>, at: usize) -> (T, Room<T>)
+        requires { (base.ptr ≡ self.old.at) × (at ≡ self.old.start) × (0 < length self.old.items) }
+        ensures items { self.old.items ≡ result.0 ∷ self.new.items }
+        ensures rest { (self.new.at ≡ self.old.at) × (self.new.start ≡ self.old.start + 1) × (self.new.capacity + 1 ≡ self.old.capacity) }
+        ensures place { (result.1.at ≡ self.old.at) × (result.1.start ≡ self.old.start) × (result.1.capacity ≡ 1) × (result.1.items ≡ []) }
+    {
+        let rest = self.split_off(1);
+        let item = self.take_last(base, at);
+        (item, replace(self, rest))
+    }
+
+    /// Puts an item into an empty place, numbered `at`, and that place before the others.
+    pub(crate) fn put_first(&mut self, base: Base<T>, at: usize, mut place: Room<T>, item: T)
+        requires { (base.ptr ≡ place.at) × (at ≡ place.start) × (place.capacity ≡ 1) × (place.items ≡ []) × Follows place self.old }
+        ensures items { self.new.items ≡ item ∷ self.old.items }
+        ensures places { (self.new.at ≡ self.old.at) × (self.new.start + 1 ≡ self.old.start) × (self.new.capacity ≡ self.old.capacity + 1) }
+    {
+        place.put(base, at, item);
+        let others = replace(self, place);
+        self.append(others);
+    }
+
+    /// Moves all items, of which there are `len`, behind those of `other`, whose first empty place is numbered `to`.
+    /// The emptied places come back.
+    pub(crate) fn pour(
+        mut self,
+        base: Base<T>,
+        from: usize,
+        len: usize,
+        other: &mut Room<T>,
+        other_base: Base<T>,
+        to: usize,
+    ) -> Room<T>
+        requires source { (base.ptr ≡ self.at) × (from ≡ self.start) × (len ≡ length self.items) × (from + len < 2 ^ 64) }
+        requires target { (other_base.ptr ≡ other.old.at) × (to ≡ other.old.start + length other.old.items) × (length other.old.items + len ≤ other.old.capacity) × (to + len < 2 ^ 64) }
+        ensures items { other.new.items ≡ other.old.items ++ self.items }
+        ensures target { SamePlaces other.old other.new }
+        ensures emptied { SamePlaces self result × (result.items ≡ []) }
+    {
+        let mut rest = self.split_off(0);
+        let mut moved = 0;
+        while moved < len {
+            let (item, place) = rest.take_first(base, from + moved);
+            self.widen(place);
+            other.put(other_base, to + moved, item);
+            moved += 1;
+        }
+        self.widen(rest);
+        self
+    }
+
+    /// Moves the items down over the `gap` empty places before them. The first of all the places is numbered `start`.
+    pub(crate) fn close_gap(
+        mut self,
+        base: Base<T>,
+        start: usize,
+        gap: usize,
+        len: usize,
+        mut rest: Room<T>,
+    ) -> Room<T>
+        requires gap { (base.ptr ≡ self.at) × (start ≡ self.start) × (gap ≡ self.capacity) × (self.items ≡ []) }
+        requires rest { Follows self rest × (len ≡ length rest.items) × (start + gap + len < 2 ^ 64) }
+        ensures items { result.items ≡ rest.items }
+        ensures places { (result.at ≡ self.at) × (result.start ≡ self.start) × (result.capacity ≡ self.capacity + rest.capacity) }
+    {
+        let mut moved = 0;
+        while moved < len {
+            let (item, place) = rest.take_first(base, start + gap + moved);
+            self.widen(place);
+            self.put(base, start + moved, item);
+            moved += 1;
+        }
+        self.widen(rest);
+        self
+    }
+
+    /// Moves the items, of which there are `len`, up by `gap` places. The empty places before them stay; they come back as a
+    /// room of their own.
+    pub(crate) fn open_gap(
+        &mut self,
+        base: Base<T>,
+        start: usize,
+        len: usize,
+        gap: usize,
+    ) -> Room<T>
+        requires { (base.ptr ≡ self.old.at) × (start ≡ self.old.start) × (len ≡ length self.old.items) × (len + gap ≤ self.old.capacity) × (start + len + gap < 2 ^ 64) }
+        ensures left { (self.new.at ≡ self.old.at) × (self.new.start ≡ self.old.start) × (self.new.capacity ≡ gap) × (self.new.items ≡ []) }
+        ensures items { result.items ≡ self.old.items }
+        ensures places { Follows self.new result × (result.capacity + gap ≡ self.old.capacity) }
+    {
+        let mut moved = self.split_off(len + gap);
+        let mut done = 0;
+        while done < len {
+            let left = len - 1 - done;
+            let item = self.take_last(base, start + left);
+            let place = self.split_off(left + gap);
+            moved.put_first(base, start + left + gap, place, item);
+            done += 1;
+        }
+        moved
+    }
+
+    /// Moves the items behind the `gap` empty places, of which there are `len`, so that the empty places become `wanted`. The
+    /// first of all the places is numbered `start`. The empty places come back, and behind them the items.
+    pub(crate) fn set_gap(
+        mut self,
+        base: Base<T>,
+        start: usize,
+        gap: usize,
+        wanted: usize,
+        len: usize,
+        mut items: Room<T>,
+    ) -> (Room<T>, Room<T>)
+        requires gap { (base.ptr ≡ self.at) × (start ≡ self.start) × (gap ≡ self.capacity) × (self.items ≡ []) }
+        requires items { Follows self items × (len ≡ length items.items) × (wanted + len ≤ gap + items.capacity) × (start + gap + wanted + len < 2 ^ 64) }
+        ensures gap { (result.0.at ≡ self.at) × (result.0.start ≡ self.start) × (result.0.capacity ≡ wanted) × (result.0.items ≡ []) }
+        ensures items { Follows result.0 result.1 × (result.1.items ≡ items.items) × (wanted + result.1.capacity ≡ self.capacity + items.capacity) }
+    {
+        if wanted <= gap {
+            let over = self.split_off(wanted);
+            let moved = over.close_gap(base, start + wanted, gap - wanted, len, items);
+            (self, moved)
+        } else {
+            let moved = items.open_gap(base, start + gap, len, wanted - gap);
+            self.widen(items);
+            (self, moved)
+        }
+    }
+
+    /// Moves all of `elements` into this room, which is empty. Its first place is numbered `start`.
+    pub(crate) fn fill(&mut self, base: Base<T>, start: usize, elements: &mut Vec<T>)
+        requires { (base.ptr ≡ self.old.at) × (start ≡ self.old.start) × (self.old.items ≡ []) × (vec_len elements.old ≤ self.old.capacity) × (start + vec_len elements.old < 2 ^ 64) }
+        ensures items { self.new.items ≡ elements.old.items }
+        ensures places { SamePlaces self.old self.new }
+        ensures left { elements.new.items ≡ [] }
+    {
+        let mut moved = self.split_off(elements.len());
+        while let Some(item) = elements.pop() {
+            let place = self.split_off(elements.len());
+            moved.put_first(base, start + elements.len(), place, item);
+        }
+        self.append(moved);
+    }
+
+    /// Drops the last `count` items, the first of which lies in the place numbered `at`.
+    pub(crate) fn drop_last(&mut self, base: Base<T>, at: usize, count: usize)
+    where
+        T: Drop,
+        requires { (base.ptr ≡ self.old.at) × (at + count ≡ self.old.start + length self.old.items) × (count ≤ length self.old.items) × (at + count < 2 ^ 64) }
+        ensures items { self.new.items ≡ take (length self.old.items - count) self.old.items }
+        ensures places { SamePlaces self.old self.new }
+    {
+        let mut left = count;
+        while left > 0 {
+            left -= 1;
+            drop(self.take_last(base, at + left));
+        }
+    }
+
+    /// Appends clones of `elements`, the first of them in the place numbered `at`. If a clone is refused, those before it are
+    /// dropped again.
+    pub(crate) fn append_clones(
+        &mut self,
+        base: Base<T>,
+        at: usize,
+        elements: &[T],
+    ) -> Result<(), AllocError>
+    where
+        T: Clone,
+        requires { (base.ptr ≡ self.old.at) × (at ≡ self.old.start + length self.old.items) × (length self.old.items + length elements.now ≤ self.old.capacity) × (at + length elements.now < 2 ^ 64) }
+        ensures clones { OnOk result (AppendsClones T.is_clone self.old.items elements.now self.new.items) }
+        ensures items { ClonesAreEqual T.is_clone → OnOk result (self.new.items ≡ self.old.items ++ elements.now) }
+        ensures len { OnOk result (length self.new.items ≡ length self.old.items + length elements.now) }
+        ensures places { SamePlaces self.old self.new }
+        ensures err { OnErr result (self.new.items ≡ self.old.items) }
+    {
+        let mut done = 0;
+        while done < elements.len() {
+            match elements[done].clone() {
+                Ok(copy) => self.put(base, at + done, copy),
+                Err(error) => {
+                    self.drop_last(base, at, done);
+                    return Err(error);
+                }
+            }
+            done += 1;
+        }
+        Ok(())
+    }
+
+    /// Keeps the items, as `f` leaves them, at which it answers `true`, and returns how many these are. The others are dropped.
+    /// Before the call there are `len` items, the first in the place numbered `start`.
+    pub(crate) fn retain<F: FnMut(&mut T) -> bool>(
+        &mut self,
+        base: Base<T>,
+        start: usize,
+        len: usize,
+        mut f: F,
+    ) -> usize
+    where
+        T: Drop,
+        requires here { (base.ptr ≡ self.old.at) × (start ≡ self.old.start) × (len ≡ length self.old.items) × (start + len < 2 ^ 64) }
+        requires callable { F.IsAlwaysCallable f }
+        ensures items { RetainsInTurn (CalledAtMut F.FnMut) f self.old.items self.new.items }
+        ensures len { result ≡ length self.new.items }
+        ensures places { SamePlaces self.old self.new }
+    {
+        let mut rest = self.split_off(0);
+        let mut seen = 0;
+        let mut kept = 0;
+        while seen < len {
+            let (mut item, place) = rest.take_first(base, start + seen);
+            self.widen(place);
+            seen += 1;
+            if f(&mut item) {
+                self.put(base, start + kept, item);
+                kept += 1;
+            }
+        }
+        self.widen(rest);
+        kept
+    }
+}

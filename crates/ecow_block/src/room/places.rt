@@ -1,0 +1,76 @@
+//! What is done with the places.
+ghost use Rattle.std.specs.Prelude.{◌≡◌, ◌+◌, ◌<◌, ◌≤◌, [], ◌∷◌, ◌++◌, length, take, drop};
+ghost use Rattle.std.specs.Borrow.{sem};
+ghost use Rattle.ecow_block.specs.Rooms.{SamePlaces, Follows};
+
+use super::{Base, Room};
+use std::marker::PhantomData;
+use std::slice;
+
+impl<T> Room<T> {
+    ghost use Rattle.ecow_block.specs.Lends.{lends_items};
+
+    /// Puts an item into the first empty place, numbered `at`.
+    pub(crate) fn put(&mut self, base: Base<T>, at: usize, item: T)
+        requires { (base.ptr ≡ self.old.at) × (at ≡ self.old.start + length self.old.items) × (length self.old.items < self.old.capacity) }
+        ensures items { self.new.items ≡ self.old.items ++ item ∷ [] }
+        ensures places { SamePlaces self.old self.new }
+    {
+        unsafe { base.ptr.add(at).write(item) }
+    }
+
+    /// Takes the last item, from the place numbered `at`.
+    pub(crate) fn take_last(&mut self, base: Base<T>, at: usize) -> T
+        requires { (base.ptr ≡ self.old.at) × (at + 1 ≡ self.old.start + length self.old.items) × (0 < length self.old.items) }
+        ensures items { self.old.items ≡ self.new.items ++ result ∷ [] }
+        ensures places { SamePlaces self.old self.new }
+    {
+        unsafe { base.ptr.add(at).read() }
+    }
+
+    /// The items, of which there are `len`, from the place numbered `start` on.
+    pub(crate) fn as_slice(&self, base: Base<T>, start: usize, len: usize) -> &[T]
+        requires { (base.ptr ≡ self.now.at) × (start ≡ self.now.start) × (len ≡ length self.now.items) }
+        ensures { result.now ≡ self.now.items }
+    {
+        unsafe { slice::from_raw_parts(base.ptr.add(start), len) }
+    }
+
+    /// The same, for writing.
+    pub(crate) fn as_mut_slice(&mut self, base: Base<T>, start: usize, len: usize) -> &mut [T]
+        requires { (base.ptr ≡ self.old.at) × (start ≡ self.old.start) × (len ≡ length self.old.items) }
+        ensures* writes_back { sem 𝓛 (lends_items T.row self.entry result) }
+        ensures value { result.now ≡ self.old.items }
+    {
+        unsafe { slice::from_raw_parts_mut(base.ptr.add(start), len) }
+    }
+
+    /// Cuts off all places but the first `count`.
+    pub(crate) fn split_off(&mut self, _count: usize) -> Room<T>
+        requires { _count ≤ self.old.capacity }
+        ensures places { (self.new.at ≡ self.old.at) × (self.new.start ≡ self.old.start) × (self.new.capacity ≡ _count) }
+        ensures items { self.new.items ≡ take _count self.old.items }
+        ensures rest { (result.at ≡ self.old.at) × (result.start ≡ self.old.start + _count) × (result.capacity + _count ≡ self.old.capacity) }
+        ensures rest_items { result.items ≡ drop _count self.old.items }
+    {
+        Room { mark: PhantomData }
+    }
+
+    /// Puts back what was cut off behind places that all hold items.
+    pub(crate) fn append(&mut self, rest: Room<T>)
+        requires { Follows self.old rest × (length self.old.items ≡ self.old.capacity) }
+        ensures items { self.new.items ≡ self.old.items ++ rest.items }
+        ensures places { (self.new.at ≡ self.old.at) × (self.new.start ≡ self.old.start) × (self.new.capacity ≡ self.old.capacity + rest.capacity) }
+    {
+        let Room { mark: _ } = rest;
+    }
+
+    /// Puts back empty places.
+    pub(crate) fn widen(&mut self, spare: Room<T>)
+        requires { Follows self.old spare × (spare.items ≡ []) }
+        ensures items { self.new.items ≡ self.old.items }
+        ensures places { (self.new.at ≡ self.old.at) × (self.new.start ≡ self.old.start) × (self.new.capacity ≡ self.old.capacity + spare.capacity) }
+    {
+        let Room { mark: _ } = spare;
+    }
+}
