@@ -4,11 +4,15 @@
 #![tactic(auto)]
 
 #[cfg(test)]
+mod blocks;
+#[cfg(test)]
 mod elements;
 #[cfg(test)]
 mod iterators;
 #[cfg(test)]
 mod laws;
+#[cfg(test)]
+mod numbers;
 #[cfg(test)]
 mod program;
 #[cfg(test)]

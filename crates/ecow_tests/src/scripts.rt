@@ -1,4 +1,5 @@
 //! The store beside the plain program, on lists of commands that a seed decides.
+use crate::numbers::Numbers;
 use ecow_model::{Items, Outcome, VecCommand};
 use ecow_plain::PlainStore;
 use ecow_tool::Store;
@@ -7,29 +8,9 @@ use std::ops::Bound;
 use std::process::Abort;
 use std::test::Fail;
 
-/// A row of numbers that a seed decides.
-#[derive(Drop)]
-struct Numbers(u64);
-
 impl Numbers {
-    fn below(&mut self, limit: u64) -> u64 {
-        self.0 = self
-            .0
-            .wrapping_mul(6364136223846793005)
-            .wrapping_add(1442695040888963407);
-        (self.0 >> 33).checked_rem(limit).unwrap_or(0)
-    }
-
     fn name(&mut self) -> u32 {
         u32::try_from(self.below(4)).unwrap_or(0)
-    }
-
-    fn index(&mut self) -> usize {
-        usize::try_from(self.below(7)).unwrap_or(0)
-    }
-
-    fn value(&mut self) -> i64 {
-        i64::try_from(self.below(100)).unwrap_or(0)
     }
 
     fn items(&mut self, alloc: Global) -> Result<Items<i64>, AllocError> {
@@ -159,8 +140,8 @@ fn same(one: &Outcome<i64>, other: &Outcome<i64>) -> bool {
 
 /// Runs the same commands through both.
 fn compared(rt: &impl Abort, alloc: Global, seed: u64, n: usize) -> Result<(), Fail> {
-    let commands = Numbers(seed).commands(alloc, n)?;
-    let again = Numbers(seed).commands(alloc, n)?;
+    let commands = Numbers::new(seed).commands(alloc, n)?;
+    let again = Numbers::new(seed).commands(alloc, n)?;
     let mut store = Store::new(alloc);
     let Ok(outcomes) = store.run(commands) else {
         return Err("no room for the outcomes".into());
