@@ -16,7 +16,7 @@ use ecow_base::MAX_LEN;
 use std::alloc::{AllocError, Global};
 use std::marker::Model;
 use std::mem::{replace, size_of};
-use std_alloc::room::{AllocFailed, may_hold};
+use std_alloc::room::may_hold;
 
 /// A list of elements, and the number of elements that it has room for.
 pub struct Block<T> {

@@ -5,14 +5,14 @@
 
 #[cfg(test)]
 mod blocks;
+pub mod commands;
 #[cfg(test)]
 mod elements;
 #[cfg(test)]
 mod iterators;
 #[cfg(test)]
 mod laws;
-#[cfg(test)]
-mod numbers;
+pub mod numbers;
 #[cfg(test)]
 mod program;
 #[cfg(test)]

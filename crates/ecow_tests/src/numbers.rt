@@ -2,15 +2,15 @@
 
 /// A row of numbers that a seed decides.
 #[derive(Drop)]
-pub(crate) struct Numbers(u64);
+pub struct Numbers(u64);
 
 impl Numbers {
-    pub(crate) fn new(seed: u64) -> Self {
+    pub fn new(seed: u64) -> Self {
         Numbers(seed)
     }
 
     /// A number below `limit`, or 0 where that is 0.
-    pub(crate) fn below(&mut self, limit: u64) -> u64 {
+    pub fn below(&mut self, limit: u64) -> u64 {
         self.0 = self
             .0
             .wrapping_mul(6364136223846793005)
@@ -19,12 +19,12 @@ impl Numbers {
     }
 
     /// An index or a count below 7.
-    pub(crate) fn index(&mut self) -> usize {
+    pub fn index(&mut self) -> usize {
         usize::try_from(self.below(7)).unwrap_or(0)
     }
 
     /// An element below 100.
-    pub(crate) fn value(&mut self) -> i64 {
+    pub fn value(&mut self) -> i64 {
         i64::try_from(self.below(100)).unwrap_or(0)
     }
 }

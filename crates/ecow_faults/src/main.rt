@@ -1,0 +1,28 @@
+//! What is left where a request for memory is refused. Run with one request refused in turn
+//! (`make faults`), the program must print the same each time: every call either does its work, or
+//! hands its value back and leaves all as it was.
+#![tactic(auto)]
+
+mod stores;
+mod vectors;
+
+use std::io;
+
+fn main(rt: HostRuntime) -> io::Result<()> {
+    let alloc = rt.alloc();
+    for (name, holds) in [
+        ("edits", vectors::edits_hold(alloc)),
+        ("ranges", vectors::ranges_hold(alloc)),
+        ("conversions", vectors::conversions_hold(alloc)),
+        ("growth", vectors::growth_holds(alloc)),
+        ("commands", stores::commands_hold(alloc)),
+        ("runs", stores::runs_hold(alloc)),
+    ] {
+        if holds {
+            println!(rt; "{name}: as before or done")?;
+        } else {
+            println!(rt; "{name}: wrong")?;
+        }
+    }
+    Ok(())
+}
