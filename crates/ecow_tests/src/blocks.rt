@@ -77,7 +77,9 @@ impl Twins {
         let mut removed = self.raw.drain(start, end)?;
         let mut same = removed.as_slice() == &self.plain[start..end];
         for _ in start..end {
-            same = same && removed.next() == Some(self.plain.remove(start));
+            if start < self.plain.len() {
+                same = same && removed.next() == Some(self.plain.remove(start));
+            }
         }
         Ok(same)
     }
