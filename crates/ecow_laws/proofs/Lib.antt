@@ -1,0 +1,5 @@
+pub mod Costs
+pub mod Groups
+pub mod Joined
+pub mod Kept
+pub mod Totals
