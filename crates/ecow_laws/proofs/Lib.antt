@@ -3,3 +3,4 @@ pub mod Groups
 pub mod Joined
 pub mod Kept
 pub mod Totals
+pub mod Settled

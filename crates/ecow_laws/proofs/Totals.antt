@@ -51,7 +51,7 @@ module _ {X : Type 0} where
   sum_congr w w' [] h agree = refl
   sum_congr w w' (e ∷ es) h agree =
       let here = agree e.0 e.1 (found_first e es) in
-      let later = sum_congr w w' es (second _ _ h) (λ q v is. agree q v (found_later q e es v h is)) in
+      let later : sum_by (λ (e : ℕ × X). w e.0 e.1) es ≡ sum_by (λ (e : ℕ × X). w' e.0 e.1) es = sum_congr w w' es (second _ _ h) (λ q v is. agree q v (found_later q e es v h is)) in
       rw (sum_by-cons (λ (e : ℕ × X). w e.0 e.1) e es, sum_by-cons (λ (e : ℕ × X). w' e.0 e.1) e es) (omega (arith, here, later))
 
   sum_none : (f : ℕ × X → ℕ) (es : List (ℕ × X)) → length es ≡ 0 → sum_by f es ≡ 0
