@@ -76,10 +76,10 @@ module _ {X : Type 0} (places after : Places) (table left : Slab (Entry X)) (is 
   before : IsSharing (names_of places table)
   before = sharing-table places table is
 
-  left_blocks : blocks (names_of places table) ≡ blocks (forget x (names_of places table)) + own_blocks (finite.get (names_of places table) x)
+  pub left_blocks : blocks (names_of places table) ≡ blocks (forget x (names_of places table)) + own_blocks (finite.get (names_of places table) x)
   left_blocks = blocks_left (names_of places table) x before
 
-  settled_blocks : (items : List X) (capacity : ℕ) → length items ≤ capacity → capacity ≤ MAX → blocks (settle x items capacity (names_of places table)) ≡ blocks (forget x (names_of places table)) + cond (ltb 0 capacity) 1 0
+  pub settled_blocks : (items : List X) (capacity : ℕ) → length items ≤ capacity → capacity ≤ MAX → blocks (settle x items capacity (names_of places table)) ≡ blocks (forget x (names_of places table)) + cond (ltb 0 capacity) 1 0
   settled_blocks items capacity fits small = blocks-settle (names_of places table) x before items capacity fits small (λ items capacity. 1)
 
   module _ (bare : (other : ℕ) → found_at other (finite.get places x) ≡ false) where

@@ -1,2 +1,5 @@
 pub mod Changes
+pub mod Joining
+pub mod Leaving
 pub mod Placing
+pub mod Updates

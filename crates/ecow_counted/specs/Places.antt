@@ -35,6 +35,12 @@ module _ {T : Type 0} where
   held_in places table None = nothing
   held_in places table (Some place) = held_together (names_at place places) (get table place)
 
+  -- the entry at a name's place, if it has one
+  abbrev pub entry_in : Slab (Entry T) → Option (Option ℕ) → Option (Entry T)
+  entry_in table None = None
+  entry_in table (Some None) = None
+  entry_in table (Some (Some place)) = get table place
+
   -- what each name holds
   abbrev pub names_of : Places → Slab (Entry T) → Names T
   names_of places table = map_values (held_in places table) places

@@ -7,6 +7,7 @@ ghost use Rattle.slab.specs.Slab.{ContainsKey, HasRoomFor, get, slab_len};
 ghost use Rattle.ecow_model.specs.CountedRun.{held_at, nothing};
 ghost use Rattle.ecow_model.specs.Names.{IsSharing, blocks, forget, join, settle};
 ghost use Rattle.ecow_counted.specs.declared.blocks.Entry.{Entry};
+ghost use Rattle.ecow_counted.specs.Places.{entry_in};
 ghost use Rattle.ecow_counted.specs.Sizes.{size_of, block_of, sole_block};
 
 use ecow_list::block::Block;
@@ -83,27 +84,34 @@ impl<T> Blocks<T> {
     pub fn size(&self, name: Name) -> Option<Size>
         ensures size { result ≡ option_map size_of (finite.get self.now.names name) }
         ensures bounds { IfSome result (λ size. (size.len ≤ size.capacity) × (size.capacity ≤ 9223372036854775807)) }
+        ensures backed { IfSome result (λ size. 0 < size.owners → 0 < size.capacity) }
         ensures sharing { IsSharing self.now.names }
     {
-        let place = match *self.places.get(name)? {
-            Some(place) => place,
-            None => return Some(Size { len: 0, capacity: 0, owners: 0 }),
-        };
-        let entry = self.table.get(place)?;
-        Some(Size {
-            len: entry.block.len(),
-            capacity: entry.block.capacity(),
-            owners: entry.owners,
-        })
+        if !self.places.contains(name) {
+            return None;
+        }
+        match entry_of(&self.places, &self.table, name) {
+            Some(entry) => Some(Size {
+                len: entry.block.len(),
+                capacity: entry.block.capacity(),
+                owners: entry.owners,
+            }),
+            None => Some(Size {
+                len: 0,
+                capacity: 0,
+                owners: 0,
+            }),
+        }
     }
 
     /// The block of a name, if it is there and has one.
     pub fn block(&self, name: Name) -> Option<&Block<T>>
         ensures { option_copied result ≡ block_of (finite.get self.now.names name) }
     {
-        let place = (*self.places.get(name)?)?;
-        let entry = self.table.get(place)?;
-        Some(&entry.block)
+        match entry_of(&self.places, &self.table, name) {
+            Some(entry) => Some(&entry.block),
+            None => None,
+        }
     }
 
     /// Makes room for one more block. Never refused where there is room.
@@ -122,7 +130,8 @@ impl<T> Blocks<T> {
         ensures err { OnErr result (self.new.names ≡ self.old.names) }
         ensures room { self.new.has_room ≡ self.old.has_room }
     {
-        self.places.insert(name, None)
+        self.places.insert(name, None)?;
+        Ok(())
     }
 
     /// Takes out a name that has no block. Takes no memory.
@@ -142,9 +151,7 @@ impl<T> Blocks<T> {
     {
         let _len = block.len();
         let place = self.table.insert_reserved(Entry { block, owners: 1 });
-        if let Some(own) = self.places.get_mut(name) {
-            *own = Some(place);
-        }
+        set_place(&mut self.places, name, Some(place));
     }
 
     /// Takes a name out of its group: it has an empty list and no block from now on. The block is
@@ -156,11 +163,14 @@ impl<T> Blocks<T> {
         ensures room { IsSome result → self.new.has_room ≡ true }
         ensures room_kept { self.old.has_room ≡ true → self.new.has_room ≡ true }
     {
-        let place = (*self.places.get(name)?)?;
-        if let Some(own) = self.places.get_mut(name) {
-            *own = None;
+        match place_of(&self.places, name) {
+            Some(Some(place)) => {
+                set_place(&mut self.places, name, None);
+                drop_owner(&mut self.table, place)
+            }
+            Some(None) => None,
+            None => None,
         }
-        drop_owner(&mut self.table, place)
     }
 
     /// Puts a free name in the group of another, with its list and its block. Where there is no
@@ -171,9 +181,8 @@ impl<T> Blocks<T> {
         ensures ok { OnOk result (self.new.names ≡ join from to (held_at self.old.names from) self.old.names) }
         ensures err { OnErr result (self.new.names ≡ self.old.names) }
     {
-        let place = match self.places.get(from) {
-            Some(place) => *place,
-            None => None,
+        let Some(place) = place_of(&self.places, from) else {
+            return Err(AllocError);
         };
         let _names = self.places.len();
         self.places.insert(to, place)?;
@@ -181,6 +190,40 @@ impl<T> Blocks<T> {
             add_owner(&mut self.table, place);
         }
         Ok(())
+    }
+}
+
+/// The place of a name, if it is there.
+fn place_of(places: &Table<Option<usize>>, name: Name) -> Option<Option<usize>>
+    ensures { result ≡ finite.get places.now name }
+{
+    match places.get(name) {
+        Some(place) => Some(*place),
+        None => None,
+    }
+}
+
+/// Gives a name that is there another place.
+fn set_place(places: &mut Table<Option<usize>>, name: Name, place: Option<usize>)
+    requires { IsSome (finite.get places.old name) }
+    ensures { places.new ≡ finite.insert places.old name place }
+{
+    if let Some(own) = places.get_mut(name) {
+        *own = place;
+    }
+}
+
+/// The entry of a name, if it is there and has a block.
+fn entry_of<'a, T>(
+    places: &Table<Option<usize>>,
+    table: &'a Slab<Entry<T>>,
+    name: Name,
+) -> Option<&'a Entry<T>>
+    ensures { option_copied result ≡ entry_in table.now (finite.get places.now name) }
+{
+    match place_of(places, name) {
+        Some(Some(place)) => table.get(place),
+        _ => None,
     }
 }
 
