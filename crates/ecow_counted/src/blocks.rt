@@ -193,6 +193,46 @@ impl<T> Blocks<T> {
     }
 }
 
+impl<T: Drop> Blocks<T> {
+    /// Makes a name with this block, or without one where the block has no room. Where there is no
+    /// memory nothing changes.
+    pub fn make(&mut self, name: Name, block: Block<T>) -> Result<(), AllocError>
+        requires free { finite.get self.old.names name ≡ None }
+        ensures ok { OnOk result (self.new.names ≡ settle name block.items block.capacity self.old.names) }
+        ensures err { OnErr result (self.new.names ≡ self.old.names) }
+    {
+        if block.capacity() == 0 {
+            return self.begin(name);
+        }
+        self.reserve()?;
+        self.begin(name)?;
+        self.place(name, block);
+        Ok(())
+    }
+
+    /// Gives a name this block in place of what it had, or none where the block has no room; there
+    /// is room for the block. Takes no memory.
+    pub fn settle(&mut self, name: Name, block: Block<T>)
+        requires there { IsSome (finite.get self.old.names name) }
+        requires room { 0 < block.capacity → self.old.has_room ≡ true }
+        ensures names { self.new.names ≡ settle name block.items block.capacity self.old.names }
+    {
+        let _old = self.take(name);
+        if block.capacity() > 0 {
+            self.place(name, block);
+        }
+    }
+
+    /// Takes out a name, and drops its block where no other name holds it. Takes no memory.
+    pub fn drop_name(&mut self, name: Name)
+        requires there { IsSome (finite.get self.old.names name) }
+        ensures names { self.new.names ≡ forget name self.old.names }
+    {
+        let _last = self.take(name);
+        self.remove(name);
+    }
+}
+
 /// The place of a name, if it is there.
 fn place_of(places: &Table<Option<usize>>, name: Name) -> Option<Option<usize>>
     ensures { result ≡ finite.get places.now name }
