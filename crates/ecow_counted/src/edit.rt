@@ -1,7 +1,8 @@
 //! The commands that change the list of a name, as edits of a block: what they ask for, and what
 //! they do.
 ghost use Rattle.std.specs.Prelude.{◌≡◌, ℕ, ◌+◌, ◌-◌, ◌<◌, ◌≤◌, ◌++◌, ◌∷◌, [], true, false, nat_lt, length, IsOk, IfOk, Ok, vec_len, vec_capacity, slice_range, drop, take};
-ghost use Rattle.std.specs.List.{reverse, splice, items_where_true};
+ghost use Rattle.std.specs.Prelude.{reverse};
+ghost use Rattle.std.specs.List.{splice, items_where_true};
 ghost use Rattle.ecow_base.specs.Clones.{ClonesAreEqual};
 ghost use Rattle.ecow_model.specs.Access.{Reading, allowed as is_allowed};
 ghost use Rattle.ecow_model.specs.Costs.{capacity_after, copies, unshares};
