@@ -3,3 +3,5 @@ pub mod Joining
 pub mod Leaving
 pub mod Placing
 pub mod Updates
+pub mod Splits
+pub mod Rotations

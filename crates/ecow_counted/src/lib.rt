@@ -3,4 +3,5 @@
 #![tactic(auto)]
 
 mod blocks;
+mod apply;
 mod edit;
