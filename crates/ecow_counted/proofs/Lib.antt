@@ -5,3 +5,4 @@ pub mod Placing
 pub mod Updates
 pub mod Splits
 pub mod Rotations
+pub mod Opening

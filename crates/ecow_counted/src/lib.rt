@@ -5,3 +5,4 @@
 mod blocks;
 mod apply;
 mod edit;
+mod own;
