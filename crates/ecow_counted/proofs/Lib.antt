@@ -6,3 +6,5 @@ pub mod Updates
 pub mod Splits
 pub mod Rotations
 pub mod Opening
+pub mod Editing
+pub mod Stepping

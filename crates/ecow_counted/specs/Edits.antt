@@ -1,9 +1,11 @@
 -- The changes of one list: the commands that they stand for, and what they ask of its length.
-use Rattle.std.specs.Prelude.{◌≡◌, ℕ, ◌+◌, ◌-◌, ◌≤◌, Bool, true, false, ◌==◌, nat_lt, nat_le, List, [], length, Result, Ok}
+use Rattle.std.specs.Prelude.{◌≡◌, ℕ, ◌+◌, ◌-◌, ◌≤◌, Bool, true, false, ◌==◌, nat_lt, nat_le, List, [], length, Result, Ok, None}
 use Rattle.ecow_base.specs.Range.{range_of, items_in_range}
 use Rattle.ecow_model.specs.Access.{◌>>=◌, allowed, check, found}
 use Rattle.ecow_model.specs.declared.command.VecCommand.{VecCommand}
 use Rattle.ecow_model.specs.declared.command.VecCommand.TheVariants as command
+use Rattle.ecow_model.specs.declared.command.Outcome.{Outcome}
+use Rattle.ecow_model.specs.declared.command.Outcome.TheVariants.{Done, Popped}
 use Rattle.ecow_model.specs.declared.command.Refusal.{Refusal}
 use Rattle.ecow_model.specs.declared.command.Refusal.TheVariants.{Index, Range, Marks}
 use Rattle.ecow_counted.specs.declared.edit.Edit.{Edit}
@@ -78,3 +80,8 @@ module _ {T : Type 0} where
   takes_spare (Splice bounds items) = true
   takes_spare (Extend items) = nat_lt 0 (length items)
   takes_spare _ = false
+
+  -- what an edit answers that changes nothing and leaves a shared block where it is
+  abbrev pub unchanged : Edit T → Outcome T
+  unchanged Pop = Popped None
+  unchanged _ = Done

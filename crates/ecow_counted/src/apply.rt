@@ -4,7 +4,7 @@ ghost use Rattle.std.specs.Prelude.{◌≡◌, ℕ, IsSome, IfSome, ◌+◌, ◌
 ghost use Rattle.std.specs.List.{splice, items_where_true};
 ghost use Rattle.ecow_base.specs.Clones.{ClonesAreEqual};
 ghost use Rattle.ecow_base.specs.Range.{range_of, items_in_range};
-ghost use Rattle.ecow_model.specs.Access.{Reading};
+ghost use Rattle.ecow_model.specs.Access.{OnRefused, Reading};
 ghost use Rattle.ecow_model.specs.VecStep.{list_change};
 ghost use Rattle.ecow_list.specs.Contents.{contents};
 ghost use Rattle.ecow_counted.specs.Edits.{edit_of, asks, length_after, brought, taken_out, takes_spare};
@@ -175,6 +175,7 @@ pub(crate) fn apply<T: Drop>(
     requires spare_room { taken_out edit (length block.old.items) ≤ vec_capacity spare }
     ensures change { spare.items ≡ brought edit → (name : ℕ) (seen : Reading) → list_change seen (edit_of name edit) block.old.items ≡ Ok (result, block.new.items) }
     ensures capacity { block.new.capacity ≡ block.old.capacity }
+    ensures accepted { OnRefused result ⊥ }
 {
     match edit {
         Edit::Push(value) => {

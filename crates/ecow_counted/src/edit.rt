@@ -1,14 +1,14 @@
 //! The commands that change the list of a name, as edits of a block: what they ask for, and what
 //! they do.
-ghost use Rattle.std.specs.Prelude.{◌≡◌, ℕ, ◌+◌, ◌-◌, ◌<◌, ◌≤◌, ◌++◌, ◌∷◌, [], true, false, nat_lt, length, IsOk, IfOk, Ok, vec_len, vec_capacity, slice_range, drop, take};
+ghost use Rattle.std.specs.Prelude.{◌≡◌, ℕ, ◌+◌, ◌-◌, ◌<◌, ◌≤◌, ◌++◌, ◌∷◌, [], true, false, cond, nat_lt, length, IsOk, IfOk, Ok, vec_len, vec_capacity, slice_range, drop, take};
 ghost use Rattle.std.specs.Prelude.{reverse};
 ghost use Rattle.std.specs.List.{splice, items_where_true};
 ghost use Rattle.ecow_base.specs.Clones.{ClonesAreEqual};
-ghost use Rattle.ecow_model.specs.Access.{Reading, allowed as is_allowed};
+ghost use Rattle.ecow_model.specs.Access.{OnRefused, allowed as is_allowed};
 ghost use Rattle.ecow_model.specs.Costs.{capacity_after, copies, unshares};
 ghost use Rattle.ecow_model.specs.VecStep.{list_change};
 ghost use Rattle.ecow_list.specs.Contents.{contents};
-ghost use Rattle.ecow_counted.specs.Edits.{edit_of, asks, is_in_list, staying, length_after, brought, taken_out, takes_spare};
+ghost use Rattle.ecow_counted.specs.Edits.{edit_of, asks, is_in_list, staying, length_after, unchanged};
 
 use crate::blocks::Size;
 use ecow_base::{MAX_LEN, fresh_capacity, resolve, room_for};
@@ -97,7 +97,8 @@ impl<T> Edit<T> {
 
     /// How many elements a name copies that leaves its block for the edit.
     pub fn copies(&self, len: usize) -> usize
-        ensures { (name : ℕ) → result ≡ copies (edit_of name self.now) len }
+        ensures copies { (name : ℕ) → result ≡ copies (edit_of name self.now) len }
+        ensures within { unshares (edit_of 0 self.now) len ≡ true → result ≤ len }
     {
         match self {
             Edit::Truncate(target) => *target,
@@ -127,6 +128,10 @@ impl<T> Edit<T> {
         requires asked { asks self.now size.len ≡ Ok tt }
         requires leaves { nat_lt 1 size.owners ≡ true → unshares (edit_of 0 self.now) size.len ≡ true }
         ensures capacity { (name : ℕ) → result ≡ capacity_after (edit_of name self.now) (nat_lt 1 size.owners) size.len size.capacity }
+        ensures bounded { result ≤ MAX_LEN }
+        ensures grows { nat_lt 1 size.owners ≡ false → size.capacity ≤ result }
+        ensures holds { nat_lt 1 size.owners ≡ true → copies (edit_of 0 self.now) size.len ≤ result }
+        ensures room { length_after self.now (cond (nat_lt 1 size.owners) (copies (edit_of 0 self.now) size.len) size.len) ≤ result }
     {
         let shared = size.owners > 1;
         match self {
@@ -141,6 +146,19 @@ impl<T> Edit<T> {
             Edit::Clear => if shared { 0 } else { size.capacity },
             Edit::Truncate(target) => if shared { fresh_capacity(*target) } else { size.capacity },
             _ => if shared { fresh_capacity(size.len) } else { size.capacity },
+        }
+    }
+}
+
+impl<T: Drop> Edit<T> {
+    /// What the edit answers where it changes nothing and leaves a shared block where it is.
+    pub fn unchanged(self) -> Outcome<T>
+        ensures outcome { result ≡ unchanged self }
+        ensures accepted { OnRefused result ⊥ }
+    {
+        match self {
+            Edit::Pop => Outcome::Popped(None),
+            _ => Outcome::Done,
         }
     }
 }

@@ -2,7 +2,10 @@
 //! copied and moved.
 #![tactic(auto)]
 
-mod blocks;
 mod apply;
+mod blocks;
+pub mod counted;
 mod edit;
 mod own;
+
+pub use counted::Counted;

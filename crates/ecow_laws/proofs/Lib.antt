@@ -4,3 +4,4 @@ pub mod Joined
 pub mod Kept
 pub mod Totals
 pub mod Settled
+pub mod Ranges

@@ -1,0 +1,154 @@
+//! Commands on named lists whose clones share a block until one of them changes.
+ghost use Rattle.std.specs.Prelude.{◌≡◌, ℕ, ◌<◌, ◌^◌, [], true, false, not, Some, None, OnErr, IfOk, IfErr};
+ghost use Rattle.std.specs.FinMap as finite;
+ghost use Rattle.std.specs.Option.{option_map};
+ghost use Rattle.ecow_base.specs.Clones.{ClonesAreEqual};
+ghost use Rattle.ecow_model.specs.Access.{OnRefused};
+ghost use Rattle.ecow_model.specs.CountedRun.{CountedStep, copied, if_accepted, moved, saturating};
+ghost use Rattle.ecow_model.specs.Names.{IsSharing, blocks, is_shared, owners_of};
+ghost use Rattle.ecow_model.specs.declared.command.VecCommand.{VecCommand};
+ghost use Rattle.ecow_counted.specs.Edits.{edit_of};
+ghost use Rattle.ecow_counted.specs.Keeping.{IsStep};
+
+use crate::apply::{apply, spare};
+use crate::blocks::Blocks;
+use crate::edit::Edit;
+use crate::own::{Owned, Want};
+use ecow_base::{MAX_LEN, fresh_capacity};
+use ecow_list::block::Block;
+use ecow_model::{Items, Name, Outcome, Refusal, VecCommand};
+use std::alloc::Global;
+use std::marker::Model;
+
+/// Named lists whose clones share a block until one of them changes, and how many elements were
+/// copied and moved. The totals stop at the greatest `u64`.
+#[derive(Drop)]
+pub struct Counted<T> {
+    alloc: Global,
+    blocks: Blocks<T>,
+    copied: u64,
+    moved: u64,
+}
+
+impl<T> Model for Counted<T> {
+    ghost use Rattle.ecow_counted.specs.Keeping.{Keeping, keeping_code};
+
+    ghost Value = { Keeping T };
+
+    ghost coded = { keeping_code T.code };
+
+    ghost view = { λ a. record { names = a.blocks.names; copied = a.copied; moved = a.moved } };
+}
+
+/// A total that stops at the greatest `u64`.
+fn added(total: u64, count: usize) -> u64
+    ensures { result ≡ saturating total count }
+{
+    total.saturating_add(count as u64)
+}
+
+impl<T> Counted<T> {
+    /// No name is there, and nothing was copied or moved. Takes no memory.
+    pub fn new(alloc: Global) -> Self
+        ensures names { result.names ≡ finite.empty }
+        ensures copied { result.copied ≡ 0 }
+        ensures moved { result.moved ≡ 0 }
+    {
+        Counted {
+            alloc,
+            blocks: Blocks::new(alloc),
+            copied: 0,
+            moved: 0,
+        }
+    }
+
+    /// How many names hold the block of a name; `None` where the name is not there or has no block.
+    pub fn owners(&self, name: Name) -> Option<usize>
+        ensures { result ≡ owners_of (finite.get self.now.names name) }
+    {
+        let size = self.blocks.size(name)?;
+        if size.owners > 0 {
+            Some(size.owners)
+        } else {
+            None
+        }
+    }
+
+    /// For how many elements a name has room: 0 without a block, `None` where it is not there.
+    pub fn capacity(&self, name: Name) -> Option<usize>
+        ensures { result ≡ option_map (λ h. h.capacity) (finite.get self.now.names name) }
+    {
+        let size = self.blocks.size(name)?;
+        Some(size.capacity)
+    }
+
+    /// Whether no other name holds the block of a name, as where it has none; `None` where it is not
+    /// there.
+    pub fn is_unique(&self, name: Name) -> Option<bool>
+        ensures { result ≡ option_map (λ h. not (is_shared h)) (finite.get self.now.names name) }
+    {
+        let size = self.blocks.size(name)?;
+        Some(size.owners <= 1)
+    }
+
+    /// The number of blocks; none stays without a name.
+    pub fn blocks(&self) -> usize
+        ensures count { result ≡ blocks self.now.names }
+        ensures sharing { IsSharing self.now.names }
+    {
+        self.blocks.count()
+    }
+
+    /// How many elements the accepted commands copied.
+    pub fn copied(&self) -> u64
+        ensures { result ≡ self.now.copied }
+    {
+        self.copied
+    }
+
+    /// How many elements the accepted commands moved because a block had to grow.
+    pub fn moved(&self) -> u64
+        ensures { result ≡ self.now.moved }
+    {
+        self.moved
+    }
+}
+
+impl<T: Clone> Counted<T> {
+    /// Makes an edit of the list of a name, in a block of its own.
+    fn edit(&mut self, name: Name, edit: Edit<T>) -> Outcome<T>
+        ensures { IsStep (ClonesAreEqual T.is_clone) self.old (edit_of name edit) result self.new }
+    {
+        let Some(size) = self.blocks.size(name) else {
+            return Outcome::Refused(Refusal::NoName);
+        };
+        if let Err(refusal) = edit.check(size.len) {
+            return Outcome::Refused(refusal);
+        }
+        if size.owners > 1 && !edit.unshares(size.len) {
+            return edit.unchanged();
+        }
+        let want = Want {
+            copies: edit.copies(size.len),
+            staying: edit.staying(size.len),
+            capacity: edit.capacity(size),
+        };
+        let Ok(spare) = spare(self.alloc, &edit, size.len) else {
+            return Outcome::Refused(Refusal::Memory);
+        };
+        let Ok(own) = self.blocks.own(self.alloc, name, want) else {
+            return Outcome::Refused(Refusal::Memory);
+        };
+        let Owned {
+            block,
+            copied,
+            moved,
+        } = own;
+        let mut block = block;
+        let outcome = apply(self.alloc, &mut block, edit, spare);
+        self.blocks.settle(name, block);
+        self.copied = added(self.copied, copied);
+        self.moved = added(self.moved, moved);
+        outcome
+    }
+}
