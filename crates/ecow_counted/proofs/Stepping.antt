@@ -1,6 +1,6 @@
 -- The steps of the counted keeping, by how they end.
 use Rattle.std.proofs.Common.{◌≡◌, ℕ, ◌+◌, ◌-◌, ◌^◌, ◌<◌, ◌≤◌, Bool, true, false, cond, not, ◌&&◌, List, length, take, Option, Some, None, Result, Ok, Err, refl, sym, ◌∙◌, ap, subst, arith, inl, inr, min}
-use Rattle.std.specs.Prelude.{nat_lt, nat_le}
+use Rattle.std.specs.Prelude.{nat_lt, nat_le, IsOk}
 use Rattle.std.specs.FinMap as finite
 use Rattle.std.specs.Option.{unwrap_or, option_map}
 use Rattle.std.proofs.lemmas.Bool.{true≢false}
@@ -15,9 +15,11 @@ use Rattle.ecow_model.specs.declared.command.Outcome.{Outcome}
 use Rattle.ecow_model.specs.declared.command.Outcome.TheVariants.{Refused}
 use Rattle.ecow_model.specs.declared.command.Refusal.{Refusal}
 use Rattle.ecow_model.specs.declared.command.Refusal.TheVariants.{NoName, Memory}
+use Rattle.ecow_counted.specs.declared.blocks.Size.{Size}
+use Rattle.ecow_counted.specs.Sizes.{size_of}
 use Rattle.ecow_counted.specs.declared.edit.Edit.{Edit}
 use Rattle.ecow_counted.specs.Edits.{edit_of, asks, staying, unchanged}
-use Rattle.ecow_counted.specs.Keeping.{Keeping, IsStep}
+use Rattle.ecow_counted.specs.Keeping.{Keeping, IsSmall, IsStep}
 use Rattle.ecow_counted.proofs.Editing.{access_of, accepts, refuses, enough, moves_are, stays_as}
 
 pub saturating_none : (n : ℕ) → n < 2 ^ 64 → n ≡ saturating n 0
@@ -31,11 +33,6 @@ module _ {T : Type 0} where
   pub no_refusal : (P : Type 0) (outcome : Outcome T) → OnRefused outcome ⊥ → OnRefused outcome P
   no_refusal P (Refused refusal) h = absurd h
   no_refusal P _ h = tt
-
-  -- the totals fit their words
-  pub record IsSmall (k : Keeping T) : Type 0 where
-    pub copied : k.copied < 2 ^ 64
-    pub moved : k.moved < 2 ^ 64
 
   module _ (lawful : Type 0) (old : Keeping T) (small : IsSmall old) (c : VecCommand T) where
     pub refused_step : (refusal : Refusal) → counted_step old.names c ≡ Err refusal → IsStep lawful old c (Refused refusal) old
@@ -135,3 +132,20 @@ module _ {T : Type 0} where
               (moves_count ∙ ap (saturating old.moved) (steps_are ∙ ap (λ k. cond (is_shared h) 0 (cond (nat_le k h.capacity) 0 (staying e (length h.items)))) capacity_is
                 ∙ elim (is_shared h) as (λ b. cond b 0 (cond (nat_le (capacity_after (edit_of x e) b (length h.items) h.capacity) h.capacity) 0 (staying e (length h.items))) ≡ cond b 0 (moves (edit_of x e) (length h.items) h.capacity)) [ true ↦ refl | false ↦ moves_are x (length h.items) h.capacity e asked ]
                 ∙ sym moved_is))
+
+  pub no_size_at : (o : Option (Held T)) → None ≡ option_map size_of o → o ≡ None
+  no_size_at None e = refl
+  no_size_at (Some h) e = absurd (none-some (size_of h) e)
+
+  pub found_size : (names : Names T) (x : ℕ) (size : Size) → Some size ≡ option_map size_of (finite.get names x) → (finite.get names x ≡ Some (held_at names x)) × (size ≡ size_of (held_at names x))
+  found_size names x size e = elim (finite.get names x) as (λ o. Some size ≡ option_map size_of o → (o ≡ Some (unwrap_or o nothing)) × (size ≡ size_of (unwrap_or o nothing))) [
+      | None ↦ λ e. absurd (none-some size (sym e))
+      | Some h ↦ λ e. (refl, same_Some size (size_of h) e)
+    ] e
+
+pub found_fits : {T : Type 0} {size : Size} (h : Held T) → size ≡ size_of h → size.len ≤ size.capacity → length h.items ≤ h.capacity
+found_fits h same fits = subst (λ (s : Size). s.len ≤ s.capacity) same fits
+
+pub refused_is : {A E : Type 0} (r : Result A E) (e : E) → r ≡ Err e → IsOk r → ⊥
+refused_is (Ok a) e same ok = cc
+refused_is (Err f) e same ok = true≢false (sym ok)

@@ -8,7 +8,7 @@ ghost use Rattle.ecow_model.specs.CountedRun.{CountedStep, copied, if_accepted, 
 ghost use Rattle.ecow_model.specs.Names.{IsSharing, blocks, is_shared, owners_of};
 ghost use Rattle.ecow_model.specs.declared.command.VecCommand.{VecCommand};
 ghost use Rattle.ecow_counted.specs.Edits.{edit_of};
-ghost use Rattle.ecow_counted.specs.Keeping.{IsStep};
+ghost use Rattle.ecow_counted.specs.Keeping.{IsSmall, IsStep};
 
 use crate::apply::{apply, spare};
 use crate::blocks::Blocks;
@@ -99,6 +99,15 @@ impl<T> Counted<T> {
         self.blocks.count()
     }
 
+    /// Both totals.
+    fn totals(&self) -> (u64, u64)
+        ensures { IsSmall self.now }
+    {
+        let copied = self.copied();
+        let moved = self.moved();
+        (copied, moved)
+    }
+
     /// How many elements the accepted commands copied.
     pub fn copied(&self) -> u64
         ensures { result ≡ self.now.copied }
@@ -114,11 +123,134 @@ impl<T> Counted<T> {
     }
 }
 
+impl<T> Counted<T> {
+    /// Puts under `to` the list of `from`, in the block of `from`. Refused as the command Clone is; takes
+    /// memory for the name alone, and clones nothing.
+    pub fn share(&mut self, from: Name, to: Name) -> Outcome<T>
+        ensures step { CountedStep self.old.names (VecCommand.Clone from to) result self.new.names }
+        ensures refused { OnRefused result (self.new ≡ self.old) }
+        ensures copied { self.new.copied ≡ self.old.copied }
+        ensures moved { self.new.moved ≡ self.old.moved }
+    {
+        if !self.blocks.contains(from) {
+            return Outcome::Refused(Refusal::NoName);
+        }
+        if self.blocks.contains(to) {
+            return Outcome::Refused(Refusal::Taken);
+        }
+        match self.blocks.share(from, to) {
+            Ok(()) => Outcome::Done,
+            Err(_) => Outcome::Refused(Refusal::Memory),
+        }
+    }
+
+    fn len(&self, name: Name) -> Outcome<T>
+        ensures { CountedStep self.now.names (VecCommand.Len name) result self.now.names }
+    {
+        match self.blocks.size(name) {
+            Some(size) => Outcome::Count(size.len),
+            None => Outcome::Refused(Refusal::NoName),
+        }
+    }
+
+    fn read_capacity(&self, name: Name) -> Outcome<T>
+        ensures { CountedStep self.now.names (VecCommand.Capacity name) result self.now.names }
+    {
+        match self.blocks.size(name) {
+            Some(size) => Outcome::Count(size.capacity),
+            None => Outcome::Refused(Refusal::NoName),
+        }
+    }
+
+    fn read_unique(&self, name: Name) -> Outcome<T>
+        ensures { CountedStep self.now.names (VecCommand.Unique name) result self.now.names }
+    {
+        match self.blocks.size(name) {
+            Some(size) => Outcome::Flag(size.owners <= 1),
+            None => Outcome::Refused(Refusal::NoName),
+        }
+    }
+}
+
+impl<T: Drop> Counted<T> {
+    fn new_list(&mut self, name: Name) -> Outcome<T>
+        ensures step { CountedStep self.old.names (VecCommand.New name) result self.new.names }
+        ensures refused { OnRefused result (self.new ≡ self.old) }
+        ensures copied { self.new.copied ≡ self.old.copied }
+        ensures moved { self.new.moved ≡ self.old.moved }
+    {
+        if self.blocks.contains(name) {
+            return Outcome::Refused(Refusal::Taken);
+        }
+        match self.blocks.make(name, Block::new(self.alloc)) {
+            Ok(()) => Outcome::Done,
+            Err(_) => Outcome::Refused(Refusal::Memory),
+        }
+    }
+
+    fn with_capacity(&mut self, name: Name, capacity: usize) -> Outcome<T>
+        ensures step { CountedStep self.old.names (VecCommand.WithCapacity name capacity) result self.new.names }
+        ensures refused { OnRefused result (self.new ≡ self.old) }
+        ensures copied { self.new.copied ≡ self.old.copied }
+        ensures moved { self.new.moved ≡ self.old.moved }
+    {
+        if self.blocks.contains(name) {
+            return Outcome::Refused(Refusal::Taken);
+        }
+        if capacity > MAX_LEN {
+            return Outcome::Refused(Refusal::Capacity);
+        }
+        let Ok(block) = Block::with_capacity(self.alloc, capacity) else {
+            return Outcome::Refused(Refusal::Memory);
+        };
+        match self.blocks.make(name, block) {
+            Ok(()) => Outcome::Done,
+            Err(_) => Outcome::Refused(Refusal::Memory),
+        }
+    }
+
+    fn from_list(&mut self, name: Name, items: Items<T>) -> Outcome<T>
+        ensures step { CountedStep self.old.names (VecCommand.FromList name items) result self.new.names }
+        ensures refused { OnRefused result (self.new ≡ self.old) }
+        ensures copied { self.new.copied ≡ self.old.copied }
+        ensures moved { self.new.moved ≡ self.old.moved }
+    {
+        if self.blocks.contains(name) {
+            return Outcome::Refused(Refusal::Taken);
+        }
+        if items.len() > MAX_LEN {
+            return Outcome::Refused(Refusal::Capacity);
+        }
+        let Ok(mut block) = Block::with_capacity(self.alloc, fresh_capacity(items.len())) else {
+            return Outcome::Refused(Refusal::Memory);
+        };
+        block.append_within(items.into_vec());
+        match self.blocks.make(name, block) {
+            Ok(()) => Outcome::Done,
+            Err(_) => Outcome::Refused(Refusal::Memory),
+        }
+    }
+
+    fn drop_list(&mut self, name: Name) -> Outcome<T>
+        ensures step { CountedStep self.old.names (VecCommand.Drop name) result self.new.names }
+        ensures refused { OnRefused result (self.new ≡ self.old) }
+        ensures copied { self.new.copied ≡ self.old.copied }
+        ensures moved { self.new.moved ≡ self.old.moved }
+    {
+        if !self.blocks.contains(name) {
+            return Outcome::Refused(Refusal::NoName);
+        }
+        self.blocks.drop_name(name);
+        Outcome::Done
+    }
+}
+
 impl<T: Clone> Counted<T> {
     /// Makes an edit of the list of a name, in a block of its own.
     fn edit(&mut self, name: Name, edit: Edit<T>) -> Outcome<T>
         ensures { IsStep (ClonesAreEqual T.is_clone) self.old (edit_of name edit) result self.new }
     {
+        let _totals = self.totals();
         let Some(size) = self.blocks.size(name) else {
             return Outcome::Refused(Refusal::NoName);
         };
