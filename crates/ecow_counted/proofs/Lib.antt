@@ -8,3 +8,4 @@ pub mod Rotations
 pub mod Opening
 pub mod Editing
 pub mod Stepping
+pub mod Reading

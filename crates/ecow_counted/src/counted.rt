@@ -1,11 +1,13 @@
 //! Commands on named lists whose clones share a block until one of them changes.
-ghost use Rattle.std.specs.Prelude.{◌≡◌, ℕ, ◌<◌, ◌^◌, [], true, false, not, Some, None, OnErr, IfOk, IfErr};
+ghost use Rattle.std.specs.Prelude.{◌≡◌, ℕ, ◌<◌, ◌^◌, [], true, false, not, Some, None, OnErr, IfOk, IfErr, ◌≤◌, length, replicate, slice_get};
 ghost use Rattle.std.specs.FinMap as finite;
 ghost use Rattle.std.specs.Option.{option_map};
 ghost use Rattle.ecow_base.specs.Clones.{ClonesAreEqual};
 ghost use Rattle.ecow_model.specs.Access.{OnRefused};
-ghost use Rattle.ecow_model.specs.CountedRun.{CountedStep, copied, if_accepted, moved, saturating};
+ghost use Rattle.ecow_model.specs.CountedRun.{ContentsStep, CountedRun, CountedStep, copied, if_accepted, moved, saturating};
 ghost use Rattle.ecow_model.specs.Names.{IsSharing, blocks, is_shared, owners_of};
+ghost use Rattle.ecow_model.specs.Run.{RunBy};
+ghost use Rattle.ecow_list.specs.declared.error.EcoError.{EcoError};
 ghost use Rattle.ecow_model.specs.declared.command.VecCommand.{VecCommand};
 ghost use Rattle.ecow_counted.specs.Edits.{edit_of};
 ghost use Rattle.ecow_counted.specs.Keeping.{IsSmall, IsStep};
@@ -16,8 +18,9 @@ use crate::edit::Edit;
 use crate::own::{Owned, Want};
 use ecow_base::{MAX_LEN, fresh_capacity};
 use ecow_list::block::Block;
+use ecow_list::{EcoError, Rejected};
 use ecow_model::{Items, Name, Outcome, Refusal, VecCommand};
-use std::alloc::Global;
+use std::alloc::{AllocError, Global};
 use std::marker::Model;
 
 /// Named lists whose clones share a block until one of them changes, and how many elements were
@@ -283,4 +286,163 @@ impl<T: Clone> Counted<T> {
         self.moved = added(self.moved, moved);
         outcome
     }
+
+    fn from_elem(&mut self, name: Name, value: T, n: usize) -> Outcome<T>
+        ensures step { ClonesAreEqual T.is_clone → CountedStep self.old.names (VecCommand.FromElem name value n) result self.new.names }
+        ensures refused { OnRefused result (self.new ≡ self.old) }
+        ensures copied { self.new.copied ≡ self.old.copied }
+        ensures moved { self.new.moved ≡ self.old.moved }
+    {
+        if self.blocks.contains(name) {
+            return Outcome::Refused(Refusal::Taken);
+        }
+        if n > MAX_LEN {
+            return Outcome::Refused(Refusal::Capacity);
+        }
+        let Ok(block) = repeated(self.alloc, value, n) else {
+            return Outcome::Refused(Refusal::Memory);
+        };
+        match self.blocks.make(name, block) {
+            Ok(()) => Outcome::Done,
+            Err(_) => Outcome::Refused(Refusal::Memory),
+        }
+    }
+
+    fn read(&self, name: Name, index: usize) -> Outcome<T>
+        ensures { ClonesAreEqual T.is_clone → CountedStep self.now.names (VecCommand.Read name index) result self.now.names }
+    {
+        let Some(size) = self.blocks.size(name) else {
+            return Outcome::Refused(Refusal::NoName);
+        };
+        if index >= size.len {
+            return Outcome::Refused(Refusal::Index);
+        }
+        let Some(block) = self.blocks.block(name) else {
+            return Outcome::Refused(Refusal::Memory);
+        };
+        match item(block.as_slice(), index) {
+            Ok(copy) => Outcome::Element(copy),
+            Err(_) => Outcome::Refused(Refusal::Memory),
+        }
+    }
+
+    fn contents(&self, name: Name) -> Outcome<T>
+        ensures { ClonesAreEqual T.is_clone → CountedStep self.now.names (VecCommand.Contents name) result self.now.names }
+    {
+        let Some(size) = self.blocks.size(name) else {
+            return Outcome::Refused(Refusal::NoName);
+        };
+        if size.len == 0 {
+            return Outcome::Elements(Items::new(Vec::new(self.alloc)));
+        }
+        let Some(block) = self.blocks.block(name) else {
+            return Outcome::Refused(Refusal::Memory);
+        };
+        match Items::from_slice(self.alloc, block.as_slice()) {
+            Ok(elements) => Outcome::Elements(elements),
+            Err(_) => Outcome::Refused(Refusal::Memory),
+        }
+    }
+
+    /// Carries out one command. A refused command changes nothing; what it carried is dropped.
+    pub fn step(&mut self, command: VecCommand<T>) -> Outcome<T>
+        ensures step { ClonesAreEqual T.is_clone → CountedStep self.old.names command result self.new.names }
+        ensures refused { OnRefused result (self.new ≡ self.old) }
+        ensures copied { self.new.copied ≡ saturating self.old.copied (if_accepted result (copied command self.old.names)) }
+        ensures moved { self.new.moved ≡ saturating self.old.moved (if_accepted result (moved command self.old.names)) }
+        ensures sharing { IsSharing self.new.names }
+    {
+        let outcome = self.carry_out(command);
+        let _blocks = self.blocks();
+        outcome
+    }
+
+    fn carry_out(&mut self, command: VecCommand<T>) -> Outcome<T>
+        ensures step { ClonesAreEqual T.is_clone → CountedStep self.old.names command result self.new.names }
+        ensures refused { OnRefused result (self.new ≡ self.old) }
+        ensures copied { self.new.copied ≡ saturating self.old.copied (if_accepted result (copied command self.old.names)) }
+        ensures moved { self.new.moved ≡ saturating self.old.moved (if_accepted result (moved command self.old.names)) }
+    {
+        let _totals = self.totals();
+        match command {
+            VecCommand::New { name } => self.new_list(name),
+            VecCommand::WithCapacity { name, capacity } => self.with_capacity(name, capacity),
+            VecCommand::FromList { name, items } => self.from_list(name, items),
+            VecCommand::FromElem { name, value, n } => self.from_elem(name, value, n),
+            VecCommand::Clone { from, to } => self.share(from, to),
+            VecCommand::Drop { name } => self.drop_list(name),
+            VecCommand::Push { name, value } => self.edit(name, Edit::Push(value)),
+            VecCommand::Pop { name } => self.edit(name, Edit::Pop),
+            VecCommand::Insert { name, index, value } => {
+                self.edit(name, Edit::Insert(index, value))
+            }
+            VecCommand::Remove { name, index } => self.edit(name, Edit::Remove(index)),
+            VecCommand::Truncate { name, target } => self.edit(name, Edit::Truncate(target)),
+            VecCommand::Clear { name } => self.edit(name, Edit::Clear),
+            VecCommand::Retain { name, marks } => self.edit(name, Edit::Retain(marks)),
+            VecCommand::Drain { name, bounds } => self.edit(name, Edit::Drain(bounds)),
+            VecCommand::Splice {
+                name,
+                bounds,
+                items,
+            } => self.edit(name, Edit::Splice(bounds, items)),
+            VecCommand::Extend { name, items } => self.edit(name, Edit::Extend(items)),
+            VecCommand::Reserve { name, additional } => self.edit(name, Edit::Reserve(additional)),
+            VecCommand::Write { name, index, value } => self.edit(name, Edit::Write(index, value)),
+            VecCommand::Read { name, index } => self.read(name, index),
+            VecCommand::Len { name } => self.len(name),
+            VecCommand::Contents { name } => self.contents(name),
+            VecCommand::Capacity { name } => self.read_capacity(name),
+            VecCommand::Unique { name } => self.read_unique(name),
+        }
+    }
+
+    /// Carries out commands in order and answers the outcome of each. Room for the outcomes is
+    /// taken first: where it is refused nothing is carried out, and the commands come back.
+    pub fn run(
+        &mut self,
+        commands: Vec<VecCommand<T>>,
+    ) -> Result<Vec<Outcome<T>>, Rejected<Vec<VecCommand<T>>>>
+        ensures run { ClonesAreEqual T.is_clone → IfOk result (λ outcomes. CountedRun self.old.names commands.items outcomes.items self.new.names) }
+        ensures contents { ClonesAreEqual T.is_clone → IfOk result (λ outcomes. RunBy ContentsStep self.old.names commands.items outcomes.items self.new.names) }
+        ensures err { OnErr result (self.new ≡ self.old) }
+        ensures value_returned { IfErr result (λ rejected. rejected.value ≡ commands) }
+        ensures memory { IfErr result (λ rejected. rejected.error ≡ EcoError.Memory) }
+    {
+        let Ok(mut outcomes) = Vec::with_capacity(self.alloc, commands.len()) else {
+            return Err(Rejected {
+                error: EcoError::Memory,
+                value: commands,
+            });
+        };
+        let mut rest = commands.into_iter();
+        while let Some(command) = rest.next() {
+            let outcome = self.step(command);
+            outcomes.push_reserved(outcome);
+        }
+        Ok(outcomes)
+    }
+}
+
+/// A clone of an element of a list.
+fn item<T: Clone>(items: &[T], index: usize) -> Result<T, AllocError>
+    requires { index < length items.now }
+    ensures copy { ClonesAreEqual T.is_clone → IfOk result (λ copy. slice_get items.now index ≡ Some copy) }
+    ensures within { index < length items.now }
+{
+    items[index].clone()
+}
+
+/// A block of `n` clones of a value, with room for these alone.
+fn repeated<T: Clone>(alloc: Global, value: T, n: usize) -> Result<Block<T>, AllocError>
+    requires { n ≤ MAX_LEN }
+    ensures items { ClonesAreEqual T.is_clone → IfOk result (λ block. block.items ≡ replicate n value) }
+    ensures capacity { IfOk result (λ block. block.capacity ≡ n) }
+{
+    let mut block = Block::with_capacity(alloc, n)?;
+    for _more in 0..n {
+        let copy = value.clone()?;
+        block.push_within(copy);
+    }
+    Ok(block)
 }
