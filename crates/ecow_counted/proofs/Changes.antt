@@ -31,38 +31,38 @@ module _ {X : Type 0} (places : Places) (table : Slab (Entry X)) (x : ℕ) where
 
   pub absent_place : finite.get (names_of places table) x ≡ None → finite.get places x ≡ None
   absent_place none = elim (finite.get places x) as (λ o. option_map (held_in places table) o ≡ None → o ≡ None) [
-      | None ↦ λ _. refl
-      | Some w ↦ λ e. absurd (none-some (held_in places table w) (sym e))
-    ] (sym (get_names_of places table x) ∙ none)
+    | None ↦ λ _. refl
+    | Some w ↦ λ e. absurd (none-some (held_in places table w) (sym e))
+  ] (sym (get_names_of places table x) ∙ none)
 
   pub some_place : IsSome (finite.get (names_of places table) x) → IsSome (finite.get places x)
   some_place some = elim (finite.get places x) as (λ o. finite.get places x ≡ o → IsSome o) [
-      | None ↦ λ f. absurd (true≢false (sym some ∙ ap is_some (shown_none f)))
-      | Some w ↦ λ _. refl
-    ] refl
+    | None ↦ λ f. absurd (true≢false (sym some ∙ ap is_some (shown_none f)))
+    | Some w ↦ λ _. refl
+  ] refl
 
   module _ (is : IsTable places table) where
     pub entry_at : (p : ℕ) → finite.get places x ≡ Some (Some p) → (entry : Entry X) × (get table p ≡ Some entry)
     entry_at p source = elim (get table p) as (λ s. get table p ≡ s → IsSome s → (entry : Entry X) × (get table p ≡ Some entry)) [
-        | None ↦ λ _ some. absurd (true≢false (sym some))
-        | Some entry ↦ λ at _. (entry, at)
-      ] refl (is.placed x p source)
+      | None ↦ λ _ some. absurd (true≢false (sym some))
+      | Some entry ↦ λ at _. (entry, at)
+    ] refl (is.placed x p source)
 
     pub some_owners : (p : ℕ) (entry : Entry X) → get table p ≡ Some entry → 0 < length (names_at p places)
     some_owners p entry e = let own = is.owned p entry e in omega (arith, own.counted, own.some)
 
     pub bare_place : finite.get (names_of places table) x ≡ Some nothing → finite.get places x ≡ Some None
     bare_place bare = elim (finite.get places x) as (λ o. finite.get places x ≡ o → o ≡ Some None) [
-        | None ↦ λ f. absurd (none-some nothing (sym (shown_none f) ∙ bare))
-        | Some w ↦ elim w as (λ w. finite.get places x ≡ Some w → Some w ≡ Some None) [
-          | None ↦ λ f. refl
-          | Some p ↦ λ f.
-              let there = entry_at p f in
-              let same = same_Some _ _ (sym (shown_entry p there.0 f there.1) ∙ bare) in
-              let few : length (names_at p places) ≡ 0 = ap (λ (h : Held X). length h.group) same in
-              absurd (omega (arith, some_owners p there.0 there.1, few))
-        ]
-      ] refl
+      | None ↦ λ f. absurd (none-some nothing (sym (shown_none f) ∙ bare))
+      | Some w ↦ elim w as (λ w. finite.get places x ≡ Some w → Some w ≡ Some None) [
+        | None ↦ λ f. refl
+        | Some p ↦ λ f.
+            let there = entry_at p f in
+            let same = same_Some _ _ (sym (shown_entry p there.0 f there.1) ∙ bare) in
+            let few : length (names_at p places) ≡ 0 = ap (λ (h : Held X). length h.group) same in
+            absurd (omega (arith, some_owners p there.0 there.1, few))
+      ]
+    ] refl
 
 -- a name without a block goes from one place to another
 module _ {X : Type 0} (places after : Places) (table left : Slab (Entry X)) (is : IsTable places table) (x : ℕ) (v : Option (Option ℕ))
@@ -85,12 +85,12 @@ module _ {X : Type 0} (places after : Places) (table left : Slab (Entry X)) (is 
   module _ (bare : (other : ℕ) → found_at other (finite.get places x) ≡ false) where
     no_block : own_blocks (finite.get (names_of places table) x) ≡ 0
     no_block = ap own_blocks (get_names_of places table x) ∙ elim (finite.get places x) as (λ o. ((other : ℕ) → found_at other o ≡ false) → own_blocks (option_map (held_in places table) o) ≡ 0) [
+      | None ↦ λ _. refl
+      | Some w ↦ elim w as (λ w. ((other : ℕ) → found_at other (Some w) ≡ false) → own_blocks (option_map (held_in places table) (Some w)) ≡ 0) [
         | None ↦ λ _. refl
-        | Some w ↦ elim w as (λ w. ((other : ℕ) → found_at other (Some w) ≡ false) → own_blocks (option_map (held_in places table) (Some w)) ≡ 0) [
-          | None ↦ λ _. refl
-          | Some p ↦ λ none. absurd (true≢false (sym (eq-eqb p p refl) ∙ none p))
-        ]
-      ] bare
+        | Some p ↦ λ none. absurd (true≢false (sym (eq-eqb p p refl) ∙ none p))
+      ]
+    ] bare
 
     unmoved : (other : ℕ) → without x (names_at other places) ≡ names_at other places
     unmoved other = without_absent x (names_at other places) (member-names_at other x places ∙ bare other)
@@ -102,13 +102,13 @@ module _ {X : Type 0} (places after : Places) (table left : Slab (Entry X)) (is 
 
       still_table : blocks (names_of after table) ≡ blocks (names_of places table) → IsTable after table
       still_table same = record {
-          placed = λ q other f. ⊎_elim
+        placed = λ q other f. ⊎_elim
             (λ (e : q ≡ x). absurd (true≢false (sym (eq-eqb other other refl) ∙ ap (found_at other) (sym f ∙ found_here q e) ∙ bare_after other)))
             (λ (ne : q ≢ x). is.placed q other (sym (found_other q ne) ∙ f))
             (cases_eq q x);
-          owned = λ other e at. subst (λ g. IsOwned e g) (sym (same_group other)) (is.owned other e at);
-          blocks_are = is.blocks_are ∙ sym same;
-        }
+        owned = λ other e at. subst (λ g. IsOwned e g) (sym (same_group other)) (is.owned other e at);
+        blocks_are = is.blocks_are ∙ sym same;
+      }
 
       pub removed_names : v ≡ None → names_of after table ≡ forget x (names_of places table)
       removed_names gone = names_of-forget places after table table x v found (λ q p ne f. bare_after p) (λ q p ne f group. refl) gone
@@ -159,17 +159,17 @@ module _ {X : Type 0} (places after : Places) (table left : Slab (Entry X)) (is 
 
       pub placed_table : IsTable after left
       placed_table = record {
-          placed = λ q other f. ⊎_elim
+        placed = λ q other f. ⊎_elim
             (λ (e : q ≡ x). subst (λ z. IsSome (get left z)) (same_Some p other (same_Some (Some p) (Some other) (sym goes ∙ sym (found_here q e) ∙ f))) (ap is_some here))
             (λ (ne : q ≢ x). let there : finite.get places q ≡ Some (Some other) = sym (found_other q ne) ∙ f in
-              ap is_some (others other (apart q other there)) ∙ is.placed q other there)
+            ap is_some (others other (apart q other there)) ∙ is.placed q other there)
             (cases_eq q x);
-          owned = λ other e at. ⊎_elim
+        owned = λ other e at. ⊎_elim
             (λ (same : other ≡ p).
-              let entry_is : entry ≡ e = same_Some entry e (sym here ∙ ap (get left) (sym same) ∙ at) in
-              subst (λ g. IsOwned e g) (sym own_is ∙ ap (λ z. names_at z after) (sym same)) (subst (λ e. IsOwned e (x ∷ [])) entry_is (record { counted = one; some = rw one (omega arith); fits = fits; small = small; backed = backed; })))
+            let entry_is : entry ≡ e = same_Some entry e (sym here ∙ ap (get left) (sym same) ∙ at) in
+            subst (λ g. IsOwned e g) (sym own_is ∙ ap (λ z. names_at z after) (sym same)) (subst (λ e. IsOwned e (x ∷ [])) entry_is (record { counted = one; some = rw one (omega arith); fits = fits; small = small; backed = backed })))
             (λ (ne : other ≢ p).
-              subst (λ g. IsOwned e g) (sym (group_is other (λ e. ne (sym e)))) (is.owned other e (sym (others other ne) ∙ at)))
+            subst (λ g. IsOwned e g) (sym (group_is other (λ e. ne (sym e)))) (is.owned other e (sym (others other ne) ∙ at)))
             (cases_eq other p);
-          blocks_are = len ∙ ap (λ n. n + 1) is.blocks_are ∙ sym (ap blocks placed_names ∙ one_more);
-        }
+        blocks_are = len ∙ ap (λ n. n + 1) is.blocks_are ∙ sym (ap blocks placed_names ∙ one_more);
+      }

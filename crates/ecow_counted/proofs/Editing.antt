@@ -35,18 +35,18 @@ take_twice (suc n) (x ∷ xs) = ap (λ ys. x ∷ ys) (take_twice n xs)
 
 in_room : (capacity k stays : ℕ) → stays + k ≤ MAX → cond (nat_le (room stays k capacity) capacity) 0 stays ≡ cond (nat_le (stays + k) capacity) 0 stays
 in_room capacity k stays fits = elim (nat_le (stays + k) capacity) as (λ b. nat_le (stays + k) capacity ≡ b → cond (nat_le (cond b capacity (grown stays k capacity)) capacity) 0 stays ≡ cond b 0 stays) [
-    | true ↦ λ t. ap (λ b. cond b 0 stays) (le-leb capacity capacity (omega arith))
-    | false ↦ λ t. let more : capacity < stays + k = leb-false (stays + k) capacity t in ap (λ b. cond b 0 stays) (lt-leb (grown stays k capacity) capacity (omega arith))
-  ] refl
+  | true ↦ λ t. ap (λ b. cond b 0 stays) (le-leb capacity capacity (omega arith))
+  | false ↦ λ t. let more : capacity < stays + k = leb-false (stays + k) capacity t in ap (λ b. cond b 0 stays) (lt-leb (grown stays k capacity) capacity (omega arith))
+] refl
 
 in_place : (n capacity : ℕ) → cond (nat_le capacity capacity) 0 n ≡ 0
 in_place n capacity = ap (λ b. cond b 0 n) (le-leb capacity capacity (omega arith))
 
 within_limit : (m : ℕ) → allowed m ≡ Ok tt → m ≤ MAX
 within_limit m e = elim (nat_lt m (2 ^ 63)) as (λ b. nat_lt m (2 ^ 63) ≡ b → check b TooMuch ≡ Ok tt → m ≤ MAX) [
-    | true ↦ λ t _. let lt : m < 2 ^ 63 = ltb-true m (2 ^ 63) t in omega arith
-    | false ↦ λ t e. cc
-  ] refl e
+  | true ↦ λ t _. let lt : m < 2 ^ 63 = ltb-true m (2 ^ 63) t in omega arith
+  | false ↦ λ t e. cc
+] refl e
 
 past : (b : Bool) (r : Refusal) (m : ℕ) → (check b r >>= (λ _. allowed m)) ≡ Ok tt → allowed m ≡ Ok tt
 past true r m e = e
@@ -77,9 +77,9 @@ module _ {T : Type 0} where
 
   growing : (xs : List T) (n : ℕ) → length xs ≡ n → refusal_in (grows xs) ≡ allowed n
   growing xs n e = elim (nat_lt (length xs) (2 ^ 63)) as (λ b. nat_lt (length xs) (2 ^ 63) ≡ b → refusal_in (check b TooMuch >>= (λ _. becomes xs)) ≡ allowed n) [
-      | true ↦ λ t. sym (ap (λ b. check b TooMuch) (ap (λ k. nat_lt k (2 ^ 63)) (sym e) ∙ t))
-      | false ↦ λ t. sym (ap (λ b. check b TooMuch) (ap (λ k. nat_lt k (2 ^ 63)) (sym e) ∙ t))
-    ] refl
+    | true ↦ λ t. sym (ap (λ b. check b TooMuch) (ap (λ k. nat_lt k (2 ^ 63)) (sym e) ∙ t))
+    | false ↦ λ t. sym (ap (λ b. check b TooMuch) (ap (λ k. nat_lt k (2 ^ 63)) (sym e) ∙ t))
+  ] refl
 
   -- an item at an index
   item_there : (xs : List T) (index : ℕ) (then : T → Change T (List T)) → ((x : T) → refusal_in (then x) ≡ Ok tt) → refusal_in (found (slice_get xs index) Index >>= then) ≡ is_in_list index (length xs)
@@ -96,21 +96,21 @@ module _ {T : Type 0} where
   agrees (Push value) x seen xs = growing (xs ++ value ∷ []) (length xs + 1) (length-append xs (value ∷ []))
   agrees Pop x seen xs = refl
   agrees (Insert index value) x seen xs = elim (nat_le index (length xs)) as (λ b. nat_le index (length xs) ≡ b → refusal_in (check b Index >>= (λ _. grows (insert_at xs index value))) ≡ (check b Index >>= (λ _. allowed (length xs + 1)))) [
-      | true ↦ λ t. growing (insert_at xs index value) (length xs + 1) (length-inserted xs index value (leb-true index (length xs) t))
-      | false ↦ λ t. refl
-    ] refl
+    | true ↦ λ t. growing (insert_at xs index value) (length xs + 1) (length-inserted xs index value (leb-true index (length xs) t))
+    | false ↦ λ t. refl
+  ] refl
   agrees (Remove index) x seen xs = item_there xs index (λ y. Ok (Element y, remove_at xs index)) (λ y. refl)
   agrees (Truncate target) x seen xs = refl
   agrees Clear x seen xs = refl
   agrees (Retain marks) x seen xs = elim (length marks == length xs) as (λ b. refusal_in (check b Marks >>= (λ _. becomes (items_where_true marks xs))) ≡ check b Marks) [ true ↦ refl | false ↦ refl ]
   agrees (Drain bounds) x seen xs = elim (range_of bounds (length xs)) as (λ o. refusal_in (found o NoRange >>= (λ range. Ok (Elements (slice_range xs range.0 range.1), remove_range xs range.0 range.1))) ≡ (found o NoRange >>= (λ range. Ok tt))) [ None ↦ refl | Some range ↦ refl ]
   agrees (Splice bounds items) x seen xs = elim (range_of bounds (length xs)) as (λ o. range_of bounds (length xs) ≡ o → refusal_in (found o NoRange >>= (λ range. grows (splice xs range.0 range.1 items) >>= (λ spliced. Ok (Elements (slice_range xs range.0 range.1), spliced.1)))) ≡ (found o NoRange >>= (λ range. allowed (length xs - (range.1 - range.0) + length items)))) [
-      | None ↦ λ _. refl
-      | Some range ↦ λ r.
-          let fits = range_fits bounds (length xs) range r in
-          growing_then (splice xs range.0 range.1 items) (λ spliced. (Elements (slice_range xs range.0 range.1), spliced.1))
-          ∙ growing (splice xs range.0 range.1 items) (length xs - (range.1 - range.0) + length items) (length-spliced xs range.0 range.1 items fits.0 fits.1)
-    ] refl
+    | None ↦ λ _. refl
+    | Some range ↦ λ r.
+        let fits = range_fits bounds (length xs) range r in
+        growing_then (splice xs range.0 range.1 items) (λ spliced. (Elements (slice_range xs range.0 range.1), spliced.1))
+        ∙ growing (splice xs range.0 range.1 items) (length xs - (range.1 - range.0) + length items) (length-spliced xs range.0 range.1 items fits.0 fits.1)
+  ] refl
   agrees (Extend items) x seen xs = growing (xs ++ items) (length xs + length items) (length-append xs items)
   agrees (Reserve additional) x seen xs = elim (nat_lt (length xs + additional) (2 ^ 63)) as (λ b. refusal_in (check b TooMuch >>= (λ _. becomes xs)) ≡ check b TooMuch) [ true ↦ refl | false ↦ refl ]
   agrees (Write index value) x seen xs = item_there xs index (λ y. becomes (slice_set xs index value)) (λ y. refl)
@@ -194,9 +194,9 @@ module _ {T : Type 0} where
     moves_are (Retain marks) asked = in_place n capacity
     moves_are (Drain bounds) asked = in_place n capacity
     moves_are (Splice bounds items) asked = elim (range_of bounds n) as (λ o. range_of bounds n ≡ o → (found o NoRange >>= (λ range. allowed (n - (range.1 - range.0) + length items))) ≡ Ok tt → MovesAre (Splice bounds items)) [
-        | None ↦ λ _ e. cc
-        | Some range ↦ λ r e. in_room capacity (length items) (n - items_in_range bounds n) (let m = within_limit (n - (range.1 - range.0) + length items) e in omega (arith, m, staying_range n bounds range r))
-      ] refl asked
+      | None ↦ λ _ e. cc
+      | Some range ↦ λ r e. in_room capacity (length items) (n - items_in_range bounds n) (let m = within_limit (n - (range.1 - range.0) + length items) e in omega (arith, m, staying_range n bounds range r))
+    ] refl asked
     moves_are (Extend items) asked = in_room capacity (length items) n (within_limit (n + length items) asked)
     moves_are (Reserve additional) asked = in_room capacity additional n (within_limit (n + additional) asked)
     moves_are (Write index value) asked = in_place n capacity
@@ -214,9 +214,9 @@ module _ {T : Type 0} where
 
     room_keeps : (k : ℕ) → (not (is_shared h) && nat_le (length h.items + k) h.capacity) ≡ true → room (length h.items) k h.capacity ≡ kept
     room_keeps k free = elim (is_shared h) as (λ b. (not b && nat_le (length h.items + k) h.capacity) ≡ true → room (length h.items) k h.capacity ≡ cond b 0 h.capacity) [
-        | true ↦ λ e. absurd (true≢false (sym e))
-        | false ↦ λ e. ap (λ b. cond b h.capacity (grown (length h.items) k h.capacity)) e
-      ] free
+      | true ↦ λ e. absurd (true≢false (sym e))
+      | false ↦ λ e. ap (λ b. cond b h.capacity (grown (length h.items) k h.capacity)) e
+    ] free
 
     pub free_keeps : (e : Edit T) → (is_shared h ≡ true → unshares (edit_of x e) (length h.items) ≡ true) → held_is_free (edit_of x e) h ≡ true → wanted e ≡ kept
     free_keeps (Push value) leaves free = room_keeps 1 free
@@ -229,13 +229,13 @@ module _ {T : Type 0} where
     free_keeps (Splice bounds items) leaves free = absurd (true≢false (sym free))
     free_keeps Clear leaves free = refl
     free_keeps Pop leaves free = elim (is_shared h) as (λ b. (b ≡ true → ltb 0 (length h.items) ≡ true) → (not b || eqb (length h.items) 0) ≡ true → cond b (fresh (length h.items)) h.capacity ≡ cond b 0 h.capacity) [
-        | true ↦ λ l e. let some : 0 < length h.items = ltb-true 0 (length h.items) (l refl) in let none : length h.items ≡ 0 = eqb-true (length h.items) 0 e in absurd (omega (arith, some, none))
-        | false ↦ λ l e. refl
-      ] leaves free
+      | true ↦ λ l e. let some : 0 < length h.items = ltb-true 0 (length h.items) (l refl) in let none : length h.items ≡ 0 = eqb-true (length h.items) 0 e in absurd (omega (arith, some, none))
+      | false ↦ λ l e. refl
+    ] leaves free
     free_keeps (Truncate target) leaves free = elim (is_shared h) as (λ b. (b ≡ true → ltb target (length h.items) ≡ true) → eqb (cond (b && ltb target (length h.items)) target 0) 0 ≡ true → cond b (fresh target) h.capacity ≡ cond b 0 h.capacity) [
-        | true ↦ λ l e. let none : target ≡ 0 = ap (λ t. cond t target 0) (sym (l refl)) ∙ eqb-true (cond (ltb target (length h.items)) target 0) 0 e in ap fresh none
-        | false ↦ λ l e. refl
-      ] leaves free
+      | true ↦ λ l e. let none : target ≡ 0 = ap (λ t. cond t target 0) (sym (l refl)) ∙ eqb-true (cond (ltb target (length h.items)) target 0) 0 e in ap fresh none
+      | false ↦ λ l e. refl
+    ] leaves free
     free_keeps (Extend items) leaves free =
         let none : length items ≡ 0 = eqb-true (length items) 0 free in
         elim (is_shared h) as (λ b. (b ≡ true → ltb 0 (length items) ≡ true) → room (length h.items) (length items) h.capacity ≡ cond b 0 h.capacity) [

@@ -18,9 +18,9 @@ use Rattle.ecow_counted.proofs.Placing.{found_at, member-names_at, rising-names_
 names_in_few : (p : ℕ) (es : List (ℕ × Option ℕ)) → length (names_in p es) ≤ length es
 names_in_few p [] = omega arith
 names_in_few p (e ∷ es) = elim (is_at p e.1) as (λ b. length (map (λ (e : ℕ × Option ℕ). e.0) (cond b (e ∷ filter (λ e. is_at p e.1) es) (filter (λ e. is_at p e.1) es))) ≤ length (e ∷ es)) [
-    | true ↦ let later : length (names_in p es) ≤ length es = names_in_few p es in omega arith
-    | false ↦ let later : length (names_in p es) ≤ length es = names_in_few p es in omega arith
-  ]
+  | true ↦ let later : length (names_in p es) ≤ length es = names_in_few p es in omega arith
+  | false ↦ let later : length (names_in p es) ≤ length es = names_in_few p es in omega arith
+]
 
 pub length-names_at : (p : ℕ) (places : Places) → length (names_at p places) ≤ finite.len places
 length-names_at p places = rw (finite.len-entries places) (names_in_few p (finite.entries places))
@@ -54,15 +54,15 @@ module _ {X : Type 0} (places after : Places) (table left : Slab (Entry X)) (is 
         | false ↦ rising-names_at other places
       ])
       (λ q. member-names_at other q after ∙ ⊎_elim
-        (λ (e : q ≡ y). ap (found_at other) (share_here q e) ∙ elim (is_at other w) as (λ b. b ≡ is_member q (cond b (with_name y (names_at other places)) (names_at other places))) [
-          | true ↦ sym (is_member-with_name q y (names_at other places) ∙ ap (λ b. b || is_member q (names_at other places)) (eq-eqb y q (sym e)))
-          | false ↦ sym (member-names_at other q places ∙ ap (found_at other) (ap (λ z. finite.get places z) e ∙ free))
-        ])
-        (λ (ne : q ≢ y). ap (found_at other) (share_other q ne) ∙ sym (member-names_at other q places) ∙ elim (is_at other w) as (λ b. is_member q (names_at other places) ≡ is_member q (cond b (with_name y (names_at other places)) (names_at other places))) [
-          | true ↦ sym (is_member-with_name q y (names_at other places) ∙ ap (λ b. b || is_member q (names_at other places)) (ne_eqb y q (λ e. ne (sym e))))
-          | false ↦ refl
-        ])
-        (cases_eq q y))
+      (λ (e : q ≡ y). ap (found_at other) (share_here q e) ∙ elim (is_at other w) as (λ b. b ≡ is_member q (cond b (with_name y (names_at other places)) (names_at other places))) [
+        | true ↦ sym (is_member-with_name q y (names_at other places) ∙ ap (λ b. b || is_member q (names_at other places)) (eq-eqb y q (sym e)))
+        | false ↦ sym (member-names_at other q places ∙ ap (found_at other) (ap (λ z. finite.get places z) e ∙ free))
+      ])
+      (λ (ne : q ≢ y). ap (found_at other) (share_other q ne) ∙ sym (member-names_at other q places) ∙ elim (is_at other w) as (λ b. is_member q (names_at other places) ≡ is_member q (cond b (with_name y (names_at other places)) (names_at other places))) [
+        | true ↦ sym (is_member-with_name q y (names_at other places) ∙ ap (λ b. b || is_member q (names_at other places)) (ne_eqb y q (λ e. ne (sym e))))
+        | false ↦ refl
+      ])
+      (cases_eq q y))
 
   -- what a place shows after it is what was shown, entered
   shows : (v : Option ℕ) → held_in after left v ≡ enter x y (held_in places table v)
@@ -88,17 +88,17 @@ module _ {X : Type 0} (places after : Places) (table left : Slab (Entry X)) (is 
   shared_names = same_nat _ _ (λ q. get_names_of after left q ∙ ⊎_elim
       (λ (e : q ≡ y). ap (option_map (held_in after left)) (share_here q e) ∙ ap Some (shows w) ∙ sym (get_join (names_of places table) (sharing-table places table is) x y h source_is target_free q ∙ ap (λ b. cond b (Some (enter x y h)) (option_map (enter x y) (finite.get (names_of places table) q))) (eq-eqb q y e)))
       (λ (ne : q ≢ y). ap (option_map (held_in after left)) (share_other q ne) ∙ elim (finite.get places q) as (λ o. option_map (held_in after left) o ≡ option_map (enter x y) (option_map (held_in places table) o)) [ None ↦ refl | Some v ↦ ap Some (shows v) ]
-        ∙ ap (option_map (enter x y)) (sym (get_names_of places table q))
-        ∙ sym (get_join (names_of places table) (sharing-table places table is) x y h source_is target_free q ∙ ap (λ b. cond b (Some (enter x y h)) (option_map (enter x y) (finite.get (names_of places table) q))) (ne_eqb q y ne)))
+      ∙ ap (option_map (enter x y)) (sym (get_names_of places table q))
+      ∙ sym (get_join (names_of places table) (sharing-table places table is) x y h source_is target_free q ∙ ap (λ b. cond b (Some (enter x y h)) (option_map (enter x y) (finite.get (names_of places table) q))) (ne_eqb q y ne)))
       (cases_eq q y))
 
   pub shared_table : IsTable after left
   shared_table = record {
-      placed = λ q p f. stays p ∙ ⊎_elim
+    placed = λ q p f. stays p ∙ ⊎_elim
         (λ (e : q ≡ y). is.placed x p (source ∙ sym (share_here q e) ∙ f))
         (λ (ne : q ≢ y). is.placed q p (sym (share_other q ne) ∙ f))
         (cases_eq q y);
-      owned = λ p e at.
+    owned = λ p e at.
         let old = was p e at in
         let own = is.owned p old.0 old.1 in
         record {
@@ -108,8 +108,8 @@ module _ {X : Type 0} (places after : Places) (table left : Slab (Entry X)) (is 
           small = rw old.2 own.small;
           backed = rw old.2 own.backed;
         };
-      blocks_are = len ∙ is.blocks_are ∙ sym (ap blocks shared_names ∙ blocks-join (names_of places table) (sharing-table places table is) x y h source_is target_free (λ items capacity. 1));
-    }
+    blocks_are = len ∙ is.blocks_are ∙ sym (ap blocks shared_names ∙ blocks-join (names_of places table) (sharing-table places table is) x y h source_is target_free (λ items capacity. 1));
+  }
 
 -- the same where x has no block, and where the entry at x's place counts one owner more
 module _ {X : Type 0} (places after : Places) (table : Slab (Entry X)) (is : IsTable places table) (x y : ℕ) (free : finite.get places y ≡ None) where
@@ -128,9 +128,9 @@ module _ {X : Type 0} (places after : Places) (table : Slab (Entry X)) (is : IsT
       (others : (other : ℕ) → other ≢ p → get left other ≡ get table other) (len : slab_len left ≡ slab_len table) where
     entry_there : (entry : Entry X) × (get table p ≡ Some entry)
     entry_there = elim (get table p) as (λ s. get table p ≡ s → IsSome s → (entry : Entry X) × (get table p ≡ Some entry)) [
-        | None ↦ λ _ some. absurd (true≢false (sym some))
-        | Some entry ↦ λ at _. (entry, at)
-      ] refl (is.placed x p source)
+      | None ↦ λ _ some. absurd (true≢false (sym some))
+      | Some entry ↦ λ at _. (entry, at)
+    ] refl (is.placed x p source)
 
     now_there : get left p ≡ Some (record { block = entry_there.0.block; owners = entry_there.0.owners + 1 })
     now_there = counted entry_there.0 entry_there.1
@@ -143,8 +143,8 @@ module _ {X : Type 0} (places after : Places) (table : Slab (Entry X)) (is : IsT
     was_one_less : (other : ℕ) (e : Entry X) → get left other ≡ Some e → (old : Entry X) × (get table other ≡ Some old) × (e.block ≡ old.block) × (e.owners ≡ old.owners + cond (is_at other (Some p)) 1 0)
     was_one_less other e at = ⊎_elim
         (λ (same : other ≡ p).
-          let now : e ≡ record { block = entry_there.0.block; owners = entry_there.0.owners + 1 } = same_Some e _ (sym at ∙ ap (get left) same ∙ now_there) in
-          (entry_there.0, ap (get table) same ∙ entry_there.1, ap (λ (e : Entry X). e.block) now, ap (λ (e : Entry X). e.owners) now ∙ ap (λ b. entry_there.0.owners + cond b 1 0) (sym (eq-eqb p other (sym same)))))
+        let now : e ≡ record { block = entry_there.0.block; owners = entry_there.0.owners + 1 } = same_Some e _ (sym at ∙ ap (get left) same ∙ now_there) in
+        (entry_there.0, ap (get table) same ∙ entry_there.1, ap (λ (e : Entry X). e.block) now, ap (λ (e : Entry X). e.owners) now ∙ ap (λ b. entry_there.0.owners + cond b 1 0) (sym (eq-eqb p other (sym same)))))
         (λ (ne : other ≢ p). (e, sym (others other ne) ∙ at, refl, sym (ap (λ b. e.owners + cond b 1 0) (ne_eqb p other (λ i. ne (sym i))) ∙ add-zero e.owners)))
         (cases_eq other p)
 
@@ -158,4 +158,3 @@ module _ {X : Type 0} (places after : Places) (table : Slab (Entry X)) (is : IsT
 
     pub block_shared_table : IsTable after left
     block_shared_table = shared_table places after table left is x y (Some p) source free found same_block was_one_less still_there len
-

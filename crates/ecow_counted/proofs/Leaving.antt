@@ -18,12 +18,12 @@ use Rattle.ecow_counted.proofs.Changes.{shown_entry, left_blocks, settled_blocks
 pub length-without : (x : ℕ) (group : List ℕ) → IsRising group → is_member x group ≡ true → length (without x group) + 1 ≡ length group
 length-without x [] h m = absurd (true≢false (sym m))
 length-without x (y ∷ group) h m = elim (eqb y x) as (λ b. eqb y x ≡ b → length (cond (not b) (y ∷ without x group) (without x group)) + 1 ≡ length (y ∷ group)) [
-    | true ↦ λ t.
-        let gone : without x group ≡ group = without_absent x group (ap (λ z. is_member z group) (sym (eqb-true y x t)) ∙ above_absent y group h.0) in
-        let same : length (without x group) ≡ length group = ap length gone in omega arith
-    | false ↦ λ t.
-        let later : length (without x group) + 1 ≡ length group = length-without x group h.1 (ap (λ b. b || is_member x group) (sym t) ∙ m) in omega arith
-  ] refl
+  | true ↦ λ t.
+      let gone : without x group ≡ group = without_absent x group (ap (λ z. is_member z group) (sym (eqb-true y x t)) ∙ above_absent y group h.0) in
+      let same : length (without x group) ≡ length group = ap length gone in omega arith
+  | false ↦ λ t.
+      let later : length (without x group) + 1 ≡ length group = length-without x group h.1 (ap (λ b. b || is_member x group) (sym t) ∙ m) in omega arith
+] refl
 
 one_at_least : (q : ℕ) (group : List ℕ) → is_member q group ≡ true → 1 ≤ length group
 one_at_least q [] m = absurd (true≢false (sym m))
@@ -71,38 +71,38 @@ module _ {X : Type 0} (places after : Places) (table left : Slab (Entry X)) (is 
       let now = settled_blocks places after table left is x (Some None) found [] 0 (omega arith) (omega arith) in
       let before : slab_len table ≡ blocks (names_of places table) = is.blocks_are in
       ⊎_elim
-        (λ (e : entry.owners ≡ 1).
-          let one : ◌≡◌ {A = ℕ} (own_blocks (finite.get (names_of places table) x)) 1 = sole ∙ ap (λ b. cond {A = ℕ} b 1 0) (eq-eqb entry.owners 1 e) in
-          omega (arith, split, now, before, one, (last e).1))
-        (λ (ne : entry.owners ≢ 1).
-          let none : ◌≡◌ {A = ℕ} (own_blocks (finite.get (names_of places table) x)) 0 = sole ∙ ap (λ b. cond {A = ℕ} b 1 0) (ne_eqb entry.owners 1 ne) in
-          omega (arith, split, now, before, none, (counted (omega (arith, own.some, ne))).1))
-        (cases_eq entry.owners 1)
+      (λ (e : entry.owners ≡ 1).
+      let one : ◌≡◌ {A = ℕ} (own_blocks (finite.get (names_of places table) x)) 1 = sole ∙ ap (λ b. cond {A = ℕ} b 1 0) (eq-eqb entry.owners 1 e) in
+      omega (arith, split, now, before, one, (last e).1))
+      (λ (ne : entry.owners ≢ 1).
+      let none : ◌≡◌ {A = ℕ} (own_blocks (finite.get (names_of places table) x)) 0 = sole ∙ ap (λ b. cond {A = ℕ} b 1 0) (ne_eqb entry.owners 1 ne) in
+      omega (arith, split, now, before, none, (counted (omega (arith, own.some, ne))).1))
+      (cases_eq entry.owners 1)
 
   not_here : (q other : ℕ) → finite.get after q ≡ Some (Some other) → q ≢ x
   not_here q other f e = none-some other (same_Some None (Some other) (sym (found q ∙ ap (λ b. cond b (Some None) (finite.get places q)) (eq-eqb q x e)) ∙ f))
 
   pub left_table : IsTable after left
   left_table = record {
-      placed = λ q other f.
+    placed = λ q other f.
         let ne : q ≢ x = not_here q other f in
         let was : finite.get places q ≡ Some (Some other) = sym (found q ∙ ap (λ b. cond b (Some None) (finite.get places q)) (ne_eqb q x ne)) ∙ f in
         ⊎_elim
-          (λ (e : other ≡ p). ap (λ o. is_some (get left o)) e ∙ ap is_some (counted (two q ne (was ∙ ap (λ o. Some (Some o)) e))).0)
-          (λ (no_p : other ≢ p). ap is_some (others other no_p) ∙ is.placed q other was)
-          (cases_eq other p);
-      owned = λ other e at. ⊎_elim
-        (λ (same : other ≡ p). ⊎_elim
-          (λ (one : entry.owners ≡ 1). absurd (none-some e (sym (last one).0 ∙ ap (get left) (sym same) ∙ at)))
-          (λ (ne : entry.owners ≢ 1).
-            let more : 1 < entry.owners = omega (arith, own.some, ne) in
-            let e_is : record { block = entry.block; owners = entry.owners - 1 } ≡ e = same_Some _ e (sym (counted more).0 ∙ ap (get left) (sym same) ∙ at) in
-            let left_over : length (names_at other after) + 1 ≡ entry.owners = ap (λ n. n + 1) (ap length (group_after other) ∙ ap (λ o. length (without x (names_at o places))) same) ∙ fewer ∙ sym own.counted in
-            subst (λ (e : Entry X). IsOwned e (names_at other after)) e_is (record { counted = omega (arith, left_over); some = omega (arith, more); fits = own.fits; small = own.small; backed = own.backed; }))
-          (cases_eq entry.owners 1))
-        (λ (no_p : other ≢ p).
-          let old = is.owned other e (sym (others other no_p) ∙ at) in
-          subst (λ g. IsOwned e g) (sym (group_after other ∙ without_absent x (names_at other places) (member-names_at other x places ∙ ap (found_at other) source ∙ ne_eqb p other (λ e. no_p (sym e))))) old)
+        (λ (e : other ≡ p). ap (λ o. is_some (get left o)) e ∙ ap is_some (counted (two q ne (was ∙ ap (λ o. Some (Some o)) e))).0)
+        (λ (no_p : other ≢ p). ap is_some (others other no_p) ∙ is.placed q other was)
         (cases_eq other p);
-      blocks_are = block_count ∙ sym (ap blocks left_names);
-    }
+    owned = λ other e at. ⊎_elim
+        (λ (same : other ≡ p). ⊎_elim
+        (λ (one : entry.owners ≡ 1). absurd (none-some e (sym (last one).0 ∙ ap (get left) (sym same) ∙ at)))
+        (λ (ne : entry.owners ≢ 1).
+        let more : 1 < entry.owners = omega (arith, own.some, ne) in
+        let e_is : record { block = entry.block; owners = entry.owners - 1 } ≡ e = same_Some _ e (sym (counted more).0 ∙ ap (get left) (sym same) ∙ at) in
+        let left_over : length (names_at other after) + 1 ≡ entry.owners = ap (λ n. n + 1) (ap length (group_after other) ∙ ap (λ o. length (without x (names_at o places))) same) ∙ fewer ∙ sym own.counted in
+        subst (λ (e : Entry X). IsOwned e (names_at other after)) e_is (record { counted = omega (arith, left_over); some = omega (arith, more); fits = own.fits; small = own.small; backed = own.backed }))
+        (cases_eq entry.owners 1))
+        (λ (no_p : other ≢ p).
+        let old = is.owned other e (sym (others other no_p) ∙ at) in
+        subst (λ g. IsOwned e g) (sym (group_after other ∙ without_absent x (names_at other places) (member-names_at other x places ∙ ap (found_at other) source ∙ ne_eqb p other (λ e. no_p (sym e))))) old)
+        (cases_eq other p);
+    blocks_are = block_count ∙ sym (ap blocks left_names);
+  }

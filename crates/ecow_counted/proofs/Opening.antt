@@ -36,9 +36,9 @@ module _ {T : Type 0} (names : Names T) (x : ℕ) where
 
     block_is : (block : Contents T) → Some block ≡ sole_block (finite.get names x) → contents (held_at names x).items (held_at names x).capacity ≡ block
     block_is block e = elim (eqb (length (held_at names x).group) 1) as (λ b. cond b (Some (contents (held_at names x).items (held_at names x).capacity)) None ≡ Some block → contents (held_at names x).items (held_at names x).capacity ≡ block) [
-        | true ↦ λ is. same_Some _ block is
-        | false ↦ λ is. absurd (none-some block is)
-      ] (sym (ap sole_block (held_there there)) ∙ sym e)
+      | true ↦ λ is. same_Some _ block is
+      | false ↦ λ is. absurd (none-some block is)
+    ] (sym (ap sole_block (held_there there)) ∙ sym e)
 
     -- the block that was taken is put back
     pub put_back : (block : Contents T) → Some block ≡ sole_block (finite.get names x) → (mid after : Names T) → mid ≡ settle x [] 0 names → after ≡ settle x block.items block.capacity mid → after ≡ names

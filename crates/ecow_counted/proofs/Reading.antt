@@ -16,9 +16,9 @@ module _ {T : Type 0} (names : Names T) (x : ℕ) where
   held_by_block : (o : Option (Held T)) (b : Contents T) → Some b ≡ block_of o → (h : Held T) × (o ≡ Some h) × (b.items ≡ h.items)
   held_by_block None b e = absurd (none-some b (sym e))
   held_by_block (Some h) b e = elim (ltb 0 (length h.group)) as (λ t. Some b ≡ cond t (Some (contents h.items h.capacity)) None → (k : Held T) × (Some h ≡ Some k) × (b.items ≡ k.items)) [
-      | true ↦ λ e. (h, refl, ap (λ (b : Contents T). b.items) (same_Some b (contents h.items h.capacity) e))
-      | false ↦ λ e. absurd (none-some b (sym e))
-    ] e
+    | true ↦ λ e. (h, refl, ap (λ (b : Contents T). b.items) (same_Some b (contents h.items h.capacity) e))
+    | false ↦ λ e. absurd (none-some b (sym e))
+  ] e
 
   module _ (b : Contents T) (shows : Some b ≡ block_of (finite.get names x)) where
     abbrev held : (h : Held T) × (finite.get names x ≡ Some h) × (b.items ≡ h.items)

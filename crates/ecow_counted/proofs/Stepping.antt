@@ -37,19 +37,19 @@ module _ {T : Type 0} where
   module _ (lawful : Type 0) (old : Keeping T) (small : IsSmall old) (c : VecCommand T) where
     pub refused_step : (refusal : Refusal) → counted_step old.names c ≡ Err refusal → IsStep lawful old c (Refused refusal) old
     refused_step refusal e = record {
-        step = λ _. rw e (refl, refl);
-        refused = refl;
-        copied = saturating_none old.copied small.copied;
-        moved = saturating_none old.moved small.moved;
-      }
+      step = λ _. rw e (refl, refl);
+      refused = refl;
+      copied = saturating_none old.copied small.copied;
+      moved = saturating_none old.moved small.moved;
+    }
 
     pub memory_step : (answer : Outcome T × Names T) → counted_step old.names c ≡ Ok answer → counted_is_free old.names c ≡ false → IsStep lawful old c (Refused Memory) old
     memory_step answer e takes = record {
-        step = λ _. rw e (inr (refl, refl, takes));
-        refused = refl;
-        copied = saturating_none old.copied small.copied;
-        moved = saturating_none old.moved small.moved;
-      }
+      step = λ _. rw e (inr (refl, refl, takes));
+      refused = refl;
+      copied = saturating_none old.copied small.copied;
+      moved = saturating_none old.moved small.moved;
+    }
 
     pub same_step : (outcome : Outcome T) (new : Keeping T) → new ≡ old → IsStep lawful old c outcome old → IsStep lawful old c outcome new
     same_step outcome new e h = subst (IsStep lawful old c outcome) (sym e) h
@@ -57,11 +57,11 @@ module _ {T : Type 0} where
     -- an accepted command
     pub done_step : (outcome : Outcome T) (new : Keeping T) → OnRefused outcome ⊥ → (lawful → counted_step old.names c ≡ Ok (outcome, new.names)) → new.copied ≡ saturating old.copied (copied c old.names) → new.moved ≡ saturating old.moved (moved c old.names) → IsStep lawful old c outcome new
     done_step outcome new accepted given copies_are moves_are = record {
-        step = λ ok. rw (given ok) (inl (refl, tt));
-        refused = no_refusal _ outcome accepted;
-        copied = copies_are ∙ ap (saturating old.copied) (sym (not_refused outcome (copied c old.names) accepted));
-        moved = moves_are ∙ ap (saturating old.moved) (sym (not_refused outcome (moved c old.names) accepted));
-      }
+      step = λ ok. rw (given ok) (inl (refl, tt));
+      refused = no_refusal _ outcome accepted;
+      copied = copies_are ∙ ap (saturating old.copied) (sym (not_refused outcome (copied c old.names) accepted));
+      moved = moves_are ∙ ap (saturating old.moved) (sym (not_refused outcome (moved c old.names) accepted));
+    }
 
   -- an edit
   module _ (lawful : Type 0) (old : Keeping T) (small : IsSmall old) (x : ℕ) (e : Edit T) where
@@ -97,10 +97,10 @@ module _ {T : Type 0} where
         edit_stays shared none accepted =
             let same = stays_as x (reading_of h) h.items e none asked in
             done_step lawful old small (edit_of x e) (unchanged e) old accepted
-              (λ _. given_at ∙ ap (λ r. r >>= (λ after. Ok (after.0, change (edit_of x e) x h after.1 old.names))) same.1
-                ∙ (λ i. Ok (unchanged e, cond (shared i && not (none i)) old.names (settle x same.0 (capacity_after (edit_of x e) (is_shared h) (length h.items) h.capacity) old.names))))
-              (saturating_none old.copied small.copied ∙ ap (saturating old.copied) (sym (name_is ∙ (λ i. cond (shared i && none i) (copies (edit_of x e) (length h.items)) 0))))
-              (saturating_none old.moved small.moved ∙ ap (saturating old.moved) (sym (moved_is ∙ ap (λ b. cond b 0 (moves (edit_of x e) (length h.items) h.capacity)) shared)))
+            (λ _. given_at ∙ ap (λ r. r >>= (λ after. Ok (after.0, change (edit_of x e) x h after.1 old.names))) same.1
+            ∙ (λ i. Ok (unchanged e, cond (shared i && not (none i)) old.names (settle x same.0 (capacity_after (edit_of x e) (is_shared h) (length h.items) h.capacity) old.names))))
+            (saturating_none old.copied small.copied ∙ ap (saturating old.copied) (sym (name_is ∙ (λ i. cond (shared i && none i) (copies (edit_of x e) (length h.items)) 0))))
+            (saturating_none old.moved small.moved ∙ ap (saturating old.moved) (sym (moved_is ∙ ap (λ b. cond b 0 (moves (edit_of x e) (length h.items) h.capacity)) shared)))
 
         leaves_it : (b u : Bool) {A : Type 0} (m n : A) → (b ≡ true → u ≡ true) → cond (b && not u) m n ≡ n
         leaves_it true u m n leaves = ap (λ u. cond (not u) m n) (leaves refl)
@@ -123,15 +123,15 @@ module _ {T : Type 0} where
             → IsStep lawful old (edit_of x e) outcome new
         edit_done leaves from to capacity ticks steps outcome new from_is changed accepted capacity_is names_are ticks_are steps_are copies_are moves_count =
             done_step lawful old small (edit_of x e) outcome new accepted
-              (λ ok. given_at ∙ ap (λ r. r >>= (λ after. Ok (after.0, change (edit_of x e) x h after.1 old.names)))
-                (sym (elim (is_shared h) as (λ b. list_change (reading_of h) (edit_of x e) (cond b (take (copies (edit_of x e) (length h.items)) h.items) h.items) ≡ list_change (reading_of h) (edit_of x e) h.items) [ true ↦ enough e x (reading_of h) h.items | false ↦ refl ])
-                  ∙ ap (list_change (reading_of h) (edit_of x e)) (sym (from_is ok)) ∙ changed ok x (reading_of h))
-                ∙ ap (λ n. Ok (outcome, n)) (leaves_it (is_shared h) (unshares (edit_of x e) (length h.items)) old.names (settle x to (capacity_after (edit_of x e) (is_shared h) (length h.items) h.capacity) old.names) leaves
-                  ∙ sym (names_are ∙ ap (λ k. settle x to k old.names) capacity_is)))
-              (copies_are ∙ ap (saturating old.copied) (ticks_are ∙ copied_all (is_shared h) (unshares (edit_of x e) (length h.items)) (copies (edit_of x e) (length h.items)) leaves ∙ sym name_is))
-              (moves_count ∙ ap (saturating old.moved) (steps_are ∙ ap (λ k. cond (is_shared h) 0 (cond (nat_le k h.capacity) 0 (staying e (length h.items)))) capacity_is
-                ∙ elim (is_shared h) as (λ b. cond b 0 (cond (nat_le (capacity_after (edit_of x e) b (length h.items) h.capacity) h.capacity) 0 (staying e (length h.items))) ≡ cond b 0 (moves (edit_of x e) (length h.items) h.capacity)) [ true ↦ refl | false ↦ moves_are x (length h.items) h.capacity e asked ]
-                ∙ sym moved_is))
+            (λ ok. given_at ∙ ap (λ r. r >>= (λ after. Ok (after.0, change (edit_of x e) x h after.1 old.names)))
+            (sym (elim (is_shared h) as (λ b. list_change (reading_of h) (edit_of x e) (cond b (take (copies (edit_of x e) (length h.items)) h.items) h.items) ≡ list_change (reading_of h) (edit_of x e) h.items) [ true ↦ enough e x (reading_of h) h.items | false ↦ refl ])
+            ∙ ap (list_change (reading_of h) (edit_of x e)) (sym (from_is ok)) ∙ changed ok x (reading_of h))
+            ∙ ap (λ n. Ok (outcome, n)) (leaves_it (is_shared h) (unshares (edit_of x e) (length h.items)) old.names (settle x to (capacity_after (edit_of x e) (is_shared h) (length h.items) h.capacity) old.names) leaves
+            ∙ sym (names_are ∙ ap (λ k. settle x to k old.names) capacity_is)))
+            (copies_are ∙ ap (saturating old.copied) (ticks_are ∙ copied_all (is_shared h) (unshares (edit_of x e) (length h.items)) (copies (edit_of x e) (length h.items)) leaves ∙ sym name_is))
+            (moves_count ∙ ap (saturating old.moved) (steps_are ∙ ap (λ k. cond (is_shared h) 0 (cond (nat_le k h.capacity) 0 (staying e (length h.items)))) capacity_is
+            ∙ elim (is_shared h) as (λ b. cond b 0 (cond (nat_le (capacity_after (edit_of x e) b (length h.items) h.capacity) h.capacity) 0 (staying e (length h.items))) ≡ cond b 0 (moves (edit_of x e) (length h.items) h.capacity)) [ true ↦ refl | false ↦ moves_are x (length h.items) h.capacity e asked ]
+            ∙ sym moved_is))
 
   pub no_size_at : (o : Option (Held T)) → None ≡ option_map size_of o → o ≡ None
   no_size_at None e = refl
@@ -139,9 +139,9 @@ module _ {T : Type 0} where
 
   pub found_size : (names : Names T) (x : ℕ) (size : Size) → Some size ≡ option_map size_of (finite.get names x) → (finite.get names x ≡ Some (held_at names x)) × (size ≡ size_of (held_at names x))
   found_size names x size e = elim (finite.get names x) as (λ o. Some size ≡ option_map size_of o → (o ≡ Some (unwrap_or o nothing)) × (size ≡ size_of (unwrap_or o nothing))) [
-      | None ↦ λ e. absurd (none-some size (sym e))
-      | Some h ↦ λ e. (refl, same_Some size (size_of h) e)
-    ] e
+    | None ↦ λ e. absurd (none-some size (sym e))
+    | Some h ↦ λ e. (refl, same_Some size (size_of h) e)
+  ] e
 
 pub found_fits : {T : Type 0} {size : Size} (h : Held T) → size ≡ size_of h → size.len ≤ size.capacity → length h.items ≤ h.capacity
 found_fits h same fits = subst (λ (s : Size). s.len ≤ s.capacity) same fits

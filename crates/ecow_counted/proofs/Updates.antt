@@ -57,12 +57,12 @@ module _ {X : Type 0} (places : Places) (table : Slab (Entry X)) (is : IsTable p
 
     held_bare : entry_in table (finite.get places x) ≡ None → IsSome (finite.get places x) → finite.get names x ≡ Some nothing
     held_bare none some = elim (finite.get places x) as (λ o. finite.get places x ≡ o → entry_in table o ≡ None → IsSome o → finite.get names x ≡ Some nothing) [
-        | None ↦ λ f none some. absurd (true≢false (sym some))
-        | Some w ↦ elim w as (λ w. finite.get places x ≡ Some w → entry_in table (Some w) ≡ None → IsSome (Some w) → finite.get names x ≡ Some nothing) [
-          | None ↦ λ f none some. sym (ap (λ n. finite.get n x) shown) ∙ shown_at places table x None f
-          | Some p ↦ λ f none some. let there = entry_at places table x is p f in absurd (none-some there.0 (sym none ∙ there.1))
-        ]
-      ] refl none some
+      | None ↦ λ f none some. absurd (true≢false (sym some))
+      | Some w ↦ elim w as (λ w. finite.get places x ≡ Some w → entry_in table (Some w) ≡ None → IsSome (Some w) → finite.get names x ≡ Some nothing) [
+        | None ↦ λ f none some. sym (ap (λ n. finite.get n x) shown) ∙ shown_at places table x None f
+        | Some p ↦ λ f none some. let there = entry_at places table x is p f in absurd (none-some there.0 (sym none ∙ there.1))
+      ]
+    ] refl none some
 
     absent : finite.get places x ≡ None → finite.get names x ≡ None
     absent f = sym (ap (λ n. finite.get n x) shown) ∙ shown_none places table x f
@@ -75,9 +75,9 @@ module _ {X : Type 0} (places : Places) (table : Slab (Entry X)) (is : IsTable p
 
     pub no_block_shown : entry_in table (finite.get places x) ≡ None → None ≡ block_of (finite.get names x)
     no_block_shown none = elim (finite.get places x) as (λ o. finite.get places x ≡ o → None ≡ block_of (finite.get names x)) [
-        | None ↦ λ f. sym (ap block_of (absent f))
-        | Some w ↦ λ f. sym (ap block_of (held_bare none (ap is_some f)))
-      ] refl
+      | None ↦ λ f. sym (ap block_of (absent f))
+      | Some w ↦ λ f. sym (ap block_of (held_bare none (ap is_some f)))
+    ] refl
 
     pub size_shown : (entry : Entry X) → entry_in table (finite.get places x) ≡ Some entry → Some (record { len = length entry.block.items; capacity = entry.block.capacity; owners = entry.owners }) ≡ option_map size_of (finite.get names x)
     size_shown entry e =
@@ -160,9 +160,9 @@ module _ {X : Type 0} (places : Places) (table : Slab (Entry X)) (is : IsTable p
     taken_block entry e given last kept =
         let some : 0 < entry.owners = (held_entry entry e).2.some in
         ⊎_elim
-          (λ (one : entry.owners ≡ 1). last one ∙ sym (sole_shown entry e ∙ ap (λ b. cond b (Some entry.block) None) (eq-eqb entry.owners 1 one)))
-          (λ (ne : entry.owners ≢ 1). kept (omega (arith, some, ne)) ∙ sym (sole_shown entry e ∙ ap (λ b. cond b (Some entry.block) None) (ne_eqb entry.owners 1 ne)))
-          (cases_eq entry.owners 1)
+        (λ (one : entry.owners ≡ 1). last one ∙ sym (sole_shown entry e ∙ ap (λ b. cond b (Some entry.block) None) (eq-eqb entry.owners 1 one)))
+        (λ (ne : entry.owners ≢ 1). kept (omega (arith, some, ne)) ∙ sym (sole_shown entry e ∙ ap (λ b. cond b (Some entry.block) None) (ne_eqb entry.owners 1 ne)))
+        (cases_eq entry.owners 1)
 
   -- y is put in x's group
   module _ (x y : ℕ) (free : finite.get names y ≡ None) (after : Places) where
@@ -201,7 +201,7 @@ module _ {X : Type 0} (table : Slab (Entry X)) (none : table.slots ≡ []) where
 
   pub empty_table : IsTable finite.empty table
   empty_table = record {
-      placed = λ x p f. absurd (none-some (Some p) (sym (finite.get-empty nat_cmp x) ∙ f));
-      owned = λ p entry e. absurd (none-some entry (sym (ap (λ (s : List (Option (Entry X))). slice_index_or s p None) none) ∙ e));
-      blocks_are = ap (λ (s : List (Option (Entry X))). count_by is_some s) none ∙ sym (ap blocks no_names ∙ total-empty {X = Held X} one_block);
-    }
+    placed = λ x p f. absurd (none-some (Some p) (sym (finite.get-empty nat_cmp x) ∙ f));
+    owned = λ p entry e. absurd (none-some entry (sym (ap (λ (s : List (Option (Entry X))). slice_index_or s p None) none) ∙ e));
+    blocks_are = ap (λ (s : List (Option (Entry X))). count_by is_some s) none ∙ sym (ap blocks no_names ∙ total-empty {X = Held X} one_block);
+  }

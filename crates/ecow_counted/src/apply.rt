@@ -17,7 +17,11 @@ use std::alloc::{AllocError, Global};
 
 /// What is taken before an edit is made: clones of the items that it appends, or room for the
 /// elements that it answers.
-pub(crate) fn spare<T: Clone>(alloc: Global, edit: &Edit<T>, len: usize) -> Result<Vec<T>, AllocError>
+pub(crate) fn spare<T: Clone>(
+    alloc: Global,
+    edit: &Edit<T>,
+    len: usize,
+) -> Result<Vec<T>, AllocError>
     ensures items { ClonesAreEqual T.is_clone → IfOk result (λ spare. spare.items ≡ brought edit.now) }
     ensures len { IfOk result (λ spare. vec_len spare ≡ length (brought edit.now)) }
     ensures room { IfOk result (λ spare. taken_out edit.now len ≤ vec_capacity spare) }
@@ -120,12 +124,7 @@ fn exchange<T: Drop>(
 
 /// Puts items in place of the elements within bounds of a block with room for them, and gives those in
 /// `taken`, which is empty and has room.
-fn replaced<T: Drop>(
-    block: &mut Block<T>,
-    bounds: Bounds,
-    items: Vec<T>,
-    taken: Vec<T>,
-) -> Items<T>
+fn replaced<T: Drop>(block: &mut Block<T>, bounds: Bounds, items: Vec<T>, taken: Vec<T>) -> Items<T>
     requires found { IsSome (range_of bounds (length block.old.items)) }
     requires room { length block.old.items - items_in_range bounds (length block.old.items) + vec_len items ≤ block.old.capacity }
     requires empty { taken.items ≡ [] }

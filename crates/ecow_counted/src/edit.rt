@@ -140,12 +140,24 @@ impl<T> Edit<T> {
             Edit::Extend(items) => room_for(size.len, items.len(), size.capacity),
             Edit::Reserve(additional) => room_for(size.len, *additional, size.capacity),
             Edit::Splice(_, items) => {
-                let held = if shared { fresh_capacity(size.len) } else { size.capacity };
+                let held = if shared {
+                    fresh_capacity(size.len)
+                } else {
+                    size.capacity
+                };
                 room_for(self.staying(size.len), items.len(), held)
             }
             Edit::Clear => if shared { 0 } else { size.capacity },
-            Edit::Truncate(target) => if shared { fresh_capacity(*target) } else { size.capacity },
-            _ => if shared { fresh_capacity(size.len) } else { size.capacity },
+            Edit::Truncate(target) => if shared {
+                fresh_capacity(*target)
+            } else {
+                size.capacity
+            },
+            _ => if shared {
+                fresh_capacity(size.len)
+            } else {
+                size.capacity
+            },
         }
     }
 }

@@ -9,3 +9,6 @@ mod edit;
 mod own;
 
 pub use counted::Counted;
+
+#[cfg(test)]
+mod tests;

@@ -46,7 +46,11 @@ impl<T: Drop> Blocks<T> {
         ensures free { want.capacity ≡ block.capacity → IsOk result }
     {
         let mut block = block;
-        let moved = if want.capacity <= block.capacity() { 0 } else { want.staying };
+        let moved = if want.capacity <= block.capacity() {
+            0
+        } else {
+            want.staying
+        };
         match block.grow(want.capacity) {
             Ok(()) => Ok(Owned {
                 block,

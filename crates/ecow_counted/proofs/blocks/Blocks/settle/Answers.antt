@@ -9,7 +9,7 @@ place-requires-clause-bare g c = ap (λ n. finite.get n c.args.name) c.take-old.
 
 pub returns-then-capacity-gt0 : goal.returns-then-capacity-gt0
 returns-then-capacity-gt0 g c = record {
-    names = c.place.ensures.names
-    ∙ ap (settle c.args.name c.args.block.items c.args.block.capacity) c.take-old.ensures.names
-    ∙ settle-settle c.args.self.now.names c.args.name [] c.args.block.items 0 c.args.block.capacity;
-  }
+  names = c.place.ensures.names
+      ∙ ap (settle c.args.name c.args.block.items c.args.block.capacity) c.take-old.ensures.names
+      ∙ settle-settle c.args.self.now.names c.args.name [] c.args.block.items 0 c.args.block.capacity;
+}

@@ -9,14 +9,14 @@ pub drop_owner-requires-clause-some : goal.drop_owner-requires-clause-some
 drop_owner-requires-clause-some g c = λ entry at. (c.self.invariant.owned c.in-Some-Some.place entry at).some
 
 pub invariant_of-self : goal.invariant_of-self
-invariant_of-self g c = 
+invariant_of-self g c =
     let source = (sym c.place_of.ensures ∙ c.in-Some-Some.is ∙ ap Some c.in-Some-Some.field-0-is) in
     let there = entry_at c.self.inside.places c.self.inside.table c.args.name c.self.invariant c.in-Some-Some.place source in
     taken_table c.self.inside.places c.self.inside.table c.self.invariant c.args.self.now.names (ap (λ s. s.names) c.self.view_is) c.args.name c.in-Some-Some.place source c.set_place.new.places c.drop_owner.new.table c.set_place.ensures there.0 there.1
     (λ one. let h = c.drop_owner.ensures.last there.0 there.1 one in (h.1, h.2)) (λ more. let h = c.drop_owner.ensures.counted there.0 there.1 more in (h.1, h.2)) c.drop_owner.ensures.others
 
 pub returns-in-Some-Some-clause-names : goal.returns-in-Some-Some-clause-names
-returns-in-Some-Some-clause-names g c = 
+returns-in-Some-Some-clause-names g c =
     let source = (sym c.place_of.ensures ∙ c.in-Some-Some.is ∙ ap Some c.in-Some-Some.field-0-is) in
     let there = entry_at c.self.inside.places c.self.inside.table c.args.name c.self.invariant c.in-Some-Some.place source in
     taken_names c.self.inside.places c.self.inside.table c.self.invariant c.args.self.now.names (ap (λ s. s.names) c.self.view_is) c.args.name c.in-Some-Some.place source c.set_place.new.places c.drop_owner.new.table c.set_place.ensures there.0 there.1

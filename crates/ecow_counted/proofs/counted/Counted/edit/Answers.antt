@@ -49,7 +49,7 @@ returns-in_default-spare g c =
     let len = ap (λ s. s.len) found.1 in
     let asked = ap (asks c.args.edit) (sym len) ∙ sym c.check.ensures ∙ c.in_default-check.is in
     edit_memory (ClonesAreEqual g.T.Clone.is_clone) c.args.self.now c.totals-totals.ensures c.args.name c.args.edit h at asked (spare_not_free c.args.name h (found_fits h found.1 c.in-Some.ensures.bounds.0) c.args.edit
-      (⊎_elim (λ t. t) (λ f. absurd (refused_is c.spare.result c.in_default-spare.field-0 c.in_default-spare.is (c.spare.ensures.free f))) (cases_Bool (takes_spare c.args.edit))))
+    (⊎_elim (λ t. t) (λ f. absurd (refused_is c.spare.result c.in_default-spare.field-0 c.in_default-spare.is (c.spare.ensures.free f))) (cases_Bool (takes_spare c.args.edit))))
 
 pub returns-in_default-own : goal.returns-in_default-own
 returns-in_default-own g c =
@@ -68,9 +68,9 @@ returns-in_default-own g c =
       | else-size-gt1-via-else-size-gt1 w ↦ absurd (true≢false (sym shared ∙ ap (nat_lt 1) (sym owners) ∙ le-ltb 1 c.in-Some.size.owners w.if-size-gt1.false))
     ] in
     same_step (ClonesAreEqual g.T.Clone.is_clone) c.args.self.now c.totals-totals.ensures (edit_of c.args.name c.args.edit) _ _
-      (ap (λ n. record { names = n; copied = c.self.inside.copied; moved = c.self.inside.moved }) c.in_default-own.ensures.err ∙ c.self.view_is)
-      (edit_memory (ClonesAreEqual g.T.Clone.is_clone) c.args.self.now c.totals-totals.ensures c.args.name c.args.edit h at asked
-        (⊎_elim (λ t. absurd (refused_is c.own.result c.in_default-own.field-0 c.in_default-own.is (c.own.ensures.free (wanted ∙ free_keeps c.args.name h (found_fits h found.1 c.in-Some.ensures.bounds.0) c.args.edit leaves t)))) (λ f. f) (cases_Bool (held_is_free (edit_of c.args.name c.args.edit) h))))
+    (ap (λ n. record { names = n; copied = c.self.inside.copied; moved = c.self.inside.moved }) c.in_default-own.ensures.err ∙ c.self.view_is)
+    (edit_memory (ClonesAreEqual g.T.Clone.is_clone) c.args.self.now c.totals-totals.ensures c.args.name c.args.edit h at asked
+    (⊎_elim (λ t. absurd (refused_is c.own.result c.in_default-own.field-0 c.in_default-own.is (c.own.ensures.free (wanted ∙ free_keeps c.args.name h (found_fits h found.1 c.in-Some.ensures.bounds.0) c.args.edit leaves t)))) (λ f. f) (cases_Bool (held_is_free (edit_of c.args.name c.args.edit) h))))
 
 pub apply-outcome-requires-clause-asked : goal.apply-outcome-requires-clause-asked
 apply-outcome-requires-clause-asked g c =
@@ -117,12 +117,12 @@ returns g c =
     let end = c.apply-outcome.new.block in
     let at_end = c.apply-outcome.ensures.capacity ∙ c.in-Ok-own.ensures.capacity in
     edit_done (ClonesAreEqual g.T.Clone.is_clone) c.args.self.now c.totals-totals.ensures c.args.name c.args.edit h at asked leaves c.in-Ok-own.own.block.items end.items end.capacity c.in-Ok-own.own.copied c.in-Ok-own.own.moved c.apply-outcome.result _
-      (λ ok. c.in-Ok-own.ensures.items ok ∙ (λ i. cond (is_shared h) (take (copied i) h.items) h.items))
-      (λ ok. c.apply-outcome.ensures.change (c.in-Ok.ensures.items ok))
-      c.apply-outcome.ensures.accepted
-      (at_end ∙ wanted)
-      (c.settle.ensures.names ∙ c.in-Ok-own.ensures.opened.settles end.items end.capacity ∙ ap (λ k. settle c.args.name end.items end.capacity k.names) c.self.view_is)
-      (c.in-Ok-own.ensures.copied ∙ (λ i. cond (is_shared h) (copied i) 0))
-      (c.in-Ok-own.ensures.moved ∙ (λ i. cond (is_shared h) 0 (cond (nat_le (sym at_end i) h.capacity) 0 ((c.staying.ensures.staying ∙ ap (staying c.args.edit) len) i))))
-      (c.added-self-inside.ensures ∙ ap (λ k. saturating k.copied c.in-Ok-own.own.copied) c.self.view_is)
-      (c.added-self-inside-2.ensures ∙ ap (λ k. saturating k.moved c.in-Ok-own.own.moved) c.self.view_is)
+    (λ ok. c.in-Ok-own.ensures.items ok ∙ (λ i. cond (is_shared h) (take (copied i) h.items) h.items))
+    (λ ok. c.apply-outcome.ensures.change (c.in-Ok.ensures.items ok))
+    c.apply-outcome.ensures.accepted
+    (at_end ∙ wanted)
+    (c.settle.ensures.names ∙ c.in-Ok-own.ensures.opened.settles end.items end.capacity ∙ ap (λ k. settle c.args.name end.items end.capacity k.names) c.self.view_is)
+    (c.in-Ok-own.ensures.copied ∙ (λ i. cond (is_shared h) (copied i) 0))
+    (c.in-Ok-own.ensures.moved ∙ (λ i. cond (is_shared h) 0 (cond (nat_le (sym at_end i) h.capacity) 0 ((c.staying.ensures.staying ∙ ap (staying c.args.edit) len) i))))
+    (c.added-self-inside.ensures ∙ ap (λ k. saturating k.copied c.in-Ok-own.own.copied) c.self.view_is)
+    (c.added-self-inside-2.ensures ∙ ap (λ k. saturating k.moved c.in-Ok-own.own.moved) c.self.view_is)
