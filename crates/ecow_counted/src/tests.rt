@@ -1,7 +1,6 @@
 use crate::Counted;
 use ecow_model::{Items, Name, Outcome, Refusal, VecCommand};
 use std::alloc::{AllocError, Global};
-use std::cell::Cell;
 use std::ops::Bound;
 use std::process::Abort;
 use std::test::Fail;
@@ -159,57 +158,52 @@ fn sharing_asks_no_clone(rt: HostRuntime) -> Result<(), Fail> {
     Ok(())
 }
 
-/// An element that counts its clones and its drops.
-struct Tick<'a> {
-    clones: &'a Cell<u64>,
-    drops: &'a Cell<u64>,
+/// An element that knows how often it was cloned.
+#[derive(Drop)]
+struct Cloned {
+    times: u64,
 }
 
-impl Clone for Tick<'_> {
+impl Clone for Cloned {
     fn clone(&self) -> Result<Self, AllocError> {
-        self.clones.set(self.clones.get().saturating_add(1));
-        Ok(Tick {
-            clones: self.clones,
-            drops: self.drops,
+        Ok(Cloned {
+            times: self.times.saturating_add(1),
         })
     }
 }
 
-impl Drop for Tick<'_> {
-    fn drop(self) {
-        let Tick { clones: _, drops } = self;
-        drops.set(drops.get().saturating_add(1));
+/// How often the elements of a name were cloned, the clone that is read counted in.
+fn times(rt: &impl Abort, table: &mut Counted<Cloned>, name: Name, wanted: u64) {
+    for index in 0..3 {
+        match table.step(VecCommand::Read { name, index }) {
+            Outcome::Element(element) => assert_eq!(rt; element.times, wanted),
+            _ => assert!(rt; false, "no element"),
+        }
     }
 }
 
 #[test]
 fn each_copied_element_is_one_clone(rt: HostRuntime) -> Result<(), Fail> {
     let alloc = rt.alloc();
-    let (clones, drops) = (Cell::new(0), Cell::new(0));
     let mut table = Counted::new(alloc);
     let mut items = Vec::with_capacity(alloc, 3)?;
     for _element in 0..3 {
-        items.push(Tick {
-            clones: &clones,
-            drops: &drops,
-        })?;
+        items.push(Cloned { times: 0 })?;
     }
-    let made = table.step(VecCommand::FromList {
-        name: 0,
-        items: Items::new(items),
-    });
+    let items = Items::new(items);
+    let made = table.step(VecCommand::FromList { name: 0, items });
     assert!(rt; matches!(made, Outcome::Done));
-    let shared = table.step(VecCommand::Clone { from: 0, to: 1 });
+    let shared = table.share(0, 1);
     assert!(rt; matches!(shared, Outcome::Done));
-    assert_eq!(rt; clones.get(), 0);
+    times(&rt, &mut table, 1, 1);
+    let additional = 1;
     let reserved = table.step(VecCommand::Reserve {
         name: 1,
-        additional: 1,
+        additional,
     });
     assert!(rt; matches!(reserved, Outcome::Done));
-    assert_eq!(rt; (clones.get(), table.copied(), drops.get()), (3, 3, 0));
-    let dropped = table.step(VecCommand::Drop { name: 0 });
-    assert!(rt; matches!(dropped, Outcome::Done));
-    assert_eq!(rt; (clones.get(), drops.get(), table.blocks()), (3, 3, 1));
+    times(&rt, &mut table, 0, 1);
+    times(&rt, &mut table, 1, 2);
+    assert_eq!(rt; (table.copied(), table.blocks()), (3, 2));
     Ok(())
 }
