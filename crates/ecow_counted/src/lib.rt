@@ -9,6 +9,3 @@ mod edit;
 mod own;
 
 pub use counted::Counted;
-
-#[cfg(test)]
-mod tests;

@@ -34,9 +34,9 @@ strain_fresh l n le =
 
 pub le-room : (left k capacity : ℕ) → left + k ≤ MAX → left + k ≤ room left k capacity
 le-room left k capacity fit = elim (leb (left + k) capacity) as (λ b. leb (left + k) capacity ≡ b → left + k ≤ cond b capacity (grown left k capacity)) [
-    | true ↦ λ e. leb-true (left + k) capacity e
-    | false ↦ λ e. omega arith
-  ] refl
+  | true ↦ λ e. leb-true (left + k) capacity e
+  | false ↦ λ e. omega arith
+] refl
 
 pub room-le : (left k capacity : ℕ) → capacity ≤ MAX → room left k capacity ≤ MAX
 room-le left k capacity small = elim (leb (left + k) capacity) as (λ b. cond b capacity (grown left k capacity) ≤ MAX) [ true ↦ small | false ↦ omega arith ]
@@ -46,26 +46,26 @@ strain_grown : (l left k capacity : ℕ) → l ≤ left + k → left ≤ capacit
 strain_grown l left k capacity short small fit more = ⊎_elim
     (λ (top : grown left k capacity ≡ MAX). let none : strain_at l (grown left k capacity) ≡ 0 = ap (strain_at l) top in omega arith)
     (λ (ne : grown left k capacity ≡ MAX → ⊥). let bound : strain_at l (grown left k capacity) ≤ 2 * l - grown left k capacity = strain_le l (grown left k capacity) in
-      omega arith)
+    omega arith)
     (cases_eq (grown left k capacity) MAX)
 
 -- within a sole name's block or by its growth
 pub paid_by_room : (n l left k capacity : ℕ) → left ≤ n → n ≤ capacity → capacity ≤ MAX → l ≤ left + k → left + k ≤ MAX → cond (leb (left + k) capacity) 0 left + strain_at l (room left k capacity) ≤ strain_at n capacity + 2 * k
 paid_by_room n l left k capacity part fits small short fit = elim (leb (left + k) capacity) as (λ b. leb (left + k) capacity ≡ b → cond b 0 left + strain_at l (cond b capacity (grown left k capacity)) ≤ strain_at n capacity + 2 * k) [
-    | true ↦ λ e. let within : strain_at l capacity ≤ strain_at n capacity + 2 * k = strain_more l n k capacity (omega arith) in omega arith
-    | false ↦ λ e.
-        let more : capacity < left + k = leb-false (left + k) capacity e in
-        let bound : strain_at l (grown left k capacity) + capacity ≤ left + 2 * k = strain_grown l left k capacity short (omega arith) fit more in
-        let had : strain_at n capacity ≡ 2 * n - capacity = strain_below n capacity (omega arith) in
-        omega (arith, bound, had, more)
-  ] refl
+  | true ↦ λ e. let within : strain_at l capacity ≤ strain_at n capacity + 2 * k = strain_more l n k capacity (omega arith) in omega arith
+  | false ↦ λ e.
+      let more : capacity < left + k = leb-false (left + k) capacity e in
+      let bound : strain_at l (grown left k capacity) + capacity ≤ left + 2 * k = strain_grown l left k capacity short (omega arith) fit more in
+      let had : strain_at n capacity ≡ 2 * n - capacity = strain_below n capacity (omega arith) in
+      omega (arith, bound, had, more)
+] refl
 
 -- in the new block of a name that leaves its own
 pub paid_by_copy : (n l left k capacity : ℕ) → left ≤ n → n ≤ capacity → l ≤ left + k → left + k ≤ MAX → strain_at l (room left k capacity) ≤ n + 2 * k
 paid_by_copy n l left k capacity part fits short fit = elim (leb (left + k) capacity) as (λ b. leb (left + k) capacity ≡ b → strain_at l (cond b capacity (grown left k capacity)) ≤ n + 2 * k) [
-    | true ↦ λ e. let bound : strain_at l capacity ≤ 2 * l - capacity = strain_le l capacity in let enough : left + k ≤ capacity = leb-true (left + k) capacity e in omega arith
-    | false ↦ λ e.
-        let more : capacity < left + k = leb-false (left + k) capacity e in
-        let bound : strain_at l (grown left k capacity) + capacity ≤ left + 2 * k = strain_grown l left k capacity short (omega arith) fit more in
-        omega arith
-  ] refl
+  | true ↦ λ e. let bound : strain_at l capacity ≤ 2 * l - capacity = strain_le l capacity in let enough : left + k ≤ capacity = leb-true (left + k) capacity e in omega arith
+  | false ↦ λ e.
+      let more : capacity < left + k = leb-false (left + k) capacity e in
+      let bound : strain_at l (grown left k capacity) + capacity ≤ left + 2 * k = strain_grown l left k capacity short (omega arith) fit more in
+      omega arith
+] refl

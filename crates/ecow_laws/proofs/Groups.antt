@@ -16,16 +16,16 @@ is_sole_owner h = length h.group == 1
 pub without_absent : (x : ℕ) (group : List ℕ) → is_member x group ≡ false → without x group ≡ group
 without_absent x [] h = refl
 without_absent x (y ∷ group) h = elim (eqb y x) as (λ b. (b || is_member x group) ≡ false → cond (not b) (y ∷ without x group) (without x group) ≡ y ∷ group) [
-    | true ↦ λ h. absurd (true≢false h)
-    | false ↦ λ h. ap (λ g. y ∷ g) (without_absent x group h)
-  ] h
+  | true ↦ λ h. absurd (true≢false h)
+  | false ↦ λ h. ap (λ g. y ∷ g) (without_absent x group h)
+] h
 
 -- below a rising group no name is its member
 pub above_absent : (x : ℕ) (group : List ℕ) → ((y : ℕ) → is_member y group ≡ true → x < y) → is_member x group ≡ false
 above_absent x group h = elim (is_member x group) as (λ b. is_member x group ≡ b → b ≡ false) [
-    | true ↦ λ t. let lt : x < x = h x t in absurd (omega arith)
-    | false ↦ λ t. refl
-  ] refl
+  | true ↦ λ t. let lt : x < x = h x t in absurd (omega arith)
+  | false ↦ λ t. refl
+] refl
 
 -- the head leaves
 pub without_head : (x : ℕ) (group : List ℕ) → IsRising (x ∷ group) → without x (x ∷ group) ≡ group
@@ -49,9 +49,9 @@ or_true false = refl
 -- what is still there once x is gone
 pub kept_by_remove : {T : Type 0} (names : Names T) (x q : ℕ) (k : Held T) → finite.get (finite.remove names x) q ≡ Some k → (q ≢ x) × (finite.get names q ≡ Some k)
 kept_by_remove names x q k is = elim (eqb q x) as (λ b. eqb q x ≡ b → cond b None (finite.get names q) ≡ Some k → (q ≢ x) × (finite.get names q ≡ Some k)) [
-    | true ↦ λ t e. absurd (none-some k e)
-    | false ↦ λ t e. (eqb-false q x t, e)
-  ] refl (sym (get-remove_nat names x q) ∙ is)
+  | true ↦ λ t e. absurd (none-some k e)
+  | false ↦ λ t e. (eqb-false q x t, e)
+] refl (sym (get-remove_nat names x q) ∙ is)
 
 module _ {T : Type 0} (names : Names T) (sharing : IsSharing names) (x : ℕ) (h : Held T) (at : finite.get names x ≡ Some h) (f : ℕ → Option ℕ → List T → ℕ → ℕ) where
   abbrev weight : ℕ → Held T → ℕ
@@ -67,13 +67,13 @@ module _ {T : Type 0} (names : Names T) (sharing : IsSharing names) (x : ℕ) (h
   -- x is no head: the heads of the others stay
   same_heads : ((group : List ℕ) → h.group ≡ x ∷ group → ⊥) → (q : ℕ) (k : Held T) → finite.get names q ≡ Some k → head_of (without x k.group) ≡ head_of k.group
   same_heads no_head q k is = elim k.group as (λ g. k.group ≡ g → head_of (without x g) ≡ head_of g) [
-      | [] ↦ λ e. refl
-      | y ∷ g ↦ λ e. ⊎_elim
-          (λ (is_x : y ≡ x).
-            let has : is_member x k.group ≡ true = ap (is_member x) e ∙ subst (λ z. is_member z (y ∷ g) ≡ true) is_x (is_member_head y g) in
-            absurd (no_head g (ap (λ k. k.group) (held_with q k is has) ∙ e ∙ ap (λ z. z ∷ g) is_x)))
-          (λ ne. head_of-without x y g ne) (cases_eq y x)
-    ] refl
+    | [] ↦ λ e. refl
+    | y ∷ g ↦ λ e. ⊎_elim
+        (λ (is_x : y ≡ x).
+        let has : is_member x k.group ≡ true = ap (is_member x) e ∙ subst (λ z. is_member z (y ∷ g) ≡ true) is_x (is_member_head y g) in
+        absurd (no_head g (ap (λ k. k.group) (held_with q k is has) ∙ e ∙ ap (λ z. z ∷ g) is_x)))
+        (λ ne. head_of-without x y g ne) (cases_eq y x)
+  ] refl
 
   pub total-forget_follower : ((group : List ℕ) → h.group ≡ x ∷ group → ⊥) → total weight names ≡ total weight (forget x names) + weight x h
   total-forget_follower no_head =
@@ -85,16 +85,16 @@ module _ {T : Type 0} (names : Names T) (sharing : IsSharing names) (x : ℕ) (h
   -- the others' groups where x is alone in its own
   alone_others : h.group ≡ x ∷ [] → (q : ℕ) (k : Held T) → finite.get (finite.remove names x) q ≡ Some k → is_member x k.group ≡ false
   alone_others alone q k is = elim (is_member x k.group) as (λ b. is_member x k.group ≡ b → b ≡ false) [
-      | true ↦ λ t.
-          let there = kept q k is in
-          let same : h ≡ k = held_with q k there.1 t in
-          let group : k.group ≡ x ∷ [] = ap (λ k. k.group) (sym same) ∙ alone in
-          ⊎_elim
-            (λ (none : k.group ≡ []). absurd (true≢false (sym t ∙ ap (is_member x) none)))
-            (λ (has : is_member q k.group ≡ true). absurd (there.0 (sym (only x q (ap (is_member q) (sym group) ∙ has)))))
-            (sharing.itself q k there.1)
-      | false ↦ λ t. refl
-    ] refl
+    | true ↦ λ t.
+        let there = kept q k is in
+        let same : h ≡ k = held_with q k there.1 t in
+        let group : k.group ≡ x ∷ [] = ap (λ k. k.group) (sym same) ∙ alone in
+        ⊎_elim
+        (λ (none : k.group ≡ []). absurd (true≢false (sym t ∙ ap (is_member x) none)))
+        (λ (has : is_member q k.group ≡ true). absurd (there.0 (sym (only x q (ap (is_member q) (sym group) ∙ has)))))
+        (sharing.itself q k there.1)
+    | false ↦ λ t. refl
+  ] refl
 
   pub total-forget_alone : h.group ≡ x ∷ [] → total weight names ≡ total weight (forget x names) + weight x h
   total-forget_alone alone =
@@ -152,20 +152,20 @@ module _ {T : Type 0} (names : Names T) (sharing : IsSharing names) (x : ℕ) (h
       → ((z y : ℕ) (rest : List ℕ) → z ≢ x → h.group ≡ z ∷ y ∷ rest → P)
       → P
   group_cases P none alone head follower = elim h.group as (λ g. h.group ≡ g → P) [
-      | [] ↦ λ e. none e
-      | z ∷ g ↦ λ e. ⊎_elim
-          (λ (is_x : z ≡ x). elim g as (λ t. h.group ≡ z ∷ t → P) [
-            | [] ↦ λ e. alone (e ∙ ap (λ v. v ∷ []) is_x)
-            | y ∷ rest ↦ λ e. head y rest (e ∙ ap (λ v. v ∷ y ∷ rest) is_x)
-          ] e)
-          (λ (ne : z ≢ x). elim g as (λ t. h.group ≡ z ∷ t → P) [
-            | [] ↦ λ e. ⊎_elim
-                (λ (no : h.group ≡ []). absurd (let one : length (z ∷ []) ≡ 0 = ap length (sym e ∙ no) in omega arith))
-                (λ (has : is_member x h.group ≡ true). absurd (ne (only z x (ap (is_member x) (sym e) ∙ has))))
-                (sharing.itself x h at)
-            | y ∷ rest ↦ λ e. follower z y rest ne e
-          ] e) (cases_eq z x)
-    ] refl
+    | [] ↦ λ e. none e
+    | z ∷ g ↦ λ e. ⊎_elim
+        (λ (is_x : z ≡ x). elim g as (λ t. h.group ≡ z ∷ t → P) [
+          | [] ↦ λ e. alone (e ∙ ap (λ v. v ∷ []) is_x)
+          | y ∷ rest ↦ λ e. head y rest (e ∙ ap (λ v. v ∷ y ∷ rest) is_x)
+        ] e)
+        (λ (ne : z ≢ x). elim g as (λ t. h.group ≡ z ∷ t → P) [
+          | [] ↦ λ e. ⊎_elim
+              (λ (no : h.group ≡ []). absurd (let one : length (z ∷ []) ≡ 0 = ap length (sym e ∙ no) in omega arith))
+              (λ (has : is_member x h.group ≡ true). absurd (ne (only z x (ap (is_member x) (sym e) ∙ has))))
+              (sharing.itself x h at)
+          | y ∷ rest ↦ λ e. follower z y rest ne e
+        ] e) (cases_eq z x)
+  ] refl
 
   no_head : (z : ℕ) (g : List ℕ) → z ≢ x → h.group ≡ z ∷ g → (group : List ℕ) → h.group ≡ x ∷ group → ⊥
   no_head z g ne e group is = ne (same_Some z x (ap head_of (sym e ∙ is)))
@@ -186,27 +186,27 @@ module _ {T : Type 0} (names : Names T) (sharing : IsSharing names) (x : ℕ) (h
   pub debt-forget : debt names ≡ debt (forget x names) + cond (is_shared h) (length h.items) 0
   debt-forget = group_cases _
       (λ none.
-        let left : debt names ≡ debt (forget x names) + debt_of x h = total-forget_follower names sharing x h at by_past_head (λ g is. absurd (none-some x (ap head_of (sym none ∙ is)))) in
-        let mine : debt_of x h ≡ 0 = ap (λ g. cond (past_head x (head_of g)) (length h.items) 0) none in
-        let paid : cond (is_shared h) (length h.items) 0 ≡ 0 = ap (λ (g : List ℕ). cond (ltb 1 (length g)) (length h.items) 0) none in
-        omega (arith, left, mine, paid))
+      let left : debt names ≡ debt (forget x names) + debt_of x h = total-forget_follower names sharing x h at by_past_head (λ g is. absurd (none-some x (ap head_of (sym none ∙ is)))) in
+      let mine : debt_of x h ≡ 0 = ap (λ g. cond (past_head x (head_of g)) (length h.items) 0) none in
+      let paid : cond (is_shared h) (length h.items) 0 ≡ 0 = ap (λ (g : List ℕ). cond (ltb 1 (length g)) (length h.items) 0) none in
+      omega (arith, left, mine, paid))
       (λ alone.
-        let left : debt names ≡ debt (forget x names) + debt_of x h = total-forget_alone names sharing x h at by_past_head alone in
-        let mine : debt_of x h ≡ 0 = ap (λ g. cond (past_head x (head_of g)) (length h.items) 0) alone ∙ ap (λ b. cond (not b) (length h.items) 0) (eq-eqb x x refl) in
-        let paid : cond (is_shared h) (length h.items) 0 ≡ 0 = ap (λ (g : List ℕ). cond (ltb 1 (length g)) (length h.items) 0) alone in
-        omega (arith, left, mine, paid))
+      let left : debt names ≡ debt (forget x names) + debt_of x h = total-forget_alone names sharing x h at by_past_head alone in
+      let mine : debt_of x h ≡ 0 = ap (λ g. cond (past_head x (head_of g)) (length h.items) 0) alone ∙ ap (λ b. cond (not b) (length h.items) 0) (eq-eqb x x refl) in
+      let paid : cond (is_shared h) (length h.items) 0 ≡ 0 = ap (λ (g : List ℕ). cond (ltb 1 (length g)) (length h.items) 0) alone in
+      omega (arith, left, mine, paid))
       (λ y rest e.
-        let left : debt names + by_past_head y (Some y) h.items h.capacity ≡ debt (forget x names) + by_past_head x (Some x) h.items h.capacity + by_past_head y (Some x) h.items h.capacity = total-forget_head names sharing x h at by_past_head y rest e past_agree in
-        let head_x : by_past_head x (Some x) h.items h.capacity ≡ 0 = ap (λ b. cond (not b) (length h.items) 0) (eq-eqb x x refl) in
-        let head_y : by_past_head y (Some y) h.items h.capacity ≡ 0 = ap (λ b. cond (not b) (length h.items) 0) (eq-eqb y y refl) in
-        let was : by_past_head y (Some x) h.items h.capacity ≡ length h.items = ap (λ b. cond (not b) (length h.items) 0) (ne_eqb x y (λ is. next_apart names sharing x h at by_past_head y rest e past_agree (sym is))) in
-        let paid : cond (is_shared h) (length h.items) 0 ≡ length h.items = ap (λ b. cond b (length h.items) 0) (shared_at x y rest e) in
-        omega (arith, left, head_x, head_y, was, paid))
+      let left : debt names + by_past_head y (Some y) h.items h.capacity ≡ debt (forget x names) + by_past_head x (Some x) h.items h.capacity + by_past_head y (Some x) h.items h.capacity = total-forget_head names sharing x h at by_past_head y rest e past_agree in
+      let head_x : by_past_head x (Some x) h.items h.capacity ≡ 0 = ap (λ b. cond (not b) (length h.items) 0) (eq-eqb x x refl) in
+      let head_y : by_past_head y (Some y) h.items h.capacity ≡ 0 = ap (λ b. cond (not b) (length h.items) 0) (eq-eqb y y refl) in
+      let was : by_past_head y (Some x) h.items h.capacity ≡ length h.items = ap (λ b. cond (not b) (length h.items) 0) (ne_eqb x y (λ is. next_apart names sharing x h at by_past_head y rest e past_agree (sym is))) in
+      let paid : cond (is_shared h) (length h.items) 0 ≡ length h.items = ap (λ b. cond b (length h.items) 0) (shared_at x y rest e) in
+      omega (arith, left, head_x, head_y, was, paid))
       (λ z y rest ne e.
-        let left : debt names ≡ debt (forget x names) + debt_of x h = total-forget_follower names sharing x h at by_past_head (no_head z (y ∷ rest) ne e) in
-        let mine : debt_of x h ≡ length h.items = ap (λ g. cond (past_head x (head_of g)) (length h.items) 0) e ∙ ap (λ b. cond (not b) (length h.items) 0) (ne_eqb z x ne) in
-        let paid : cond (is_shared h) (length h.items) 0 ≡ length h.items = ap (λ b. cond b (length h.items) 0) (shared_at z y rest e) in
-        omega (arith, left, mine, paid))
+      let left : debt names ≡ debt (forget x names) + debt_of x h = total-forget_follower names sharing x h at by_past_head (no_head z (y ∷ rest) ne e) in
+      let mine : debt_of x h ≡ length h.items = ap (λ g. cond (past_head x (head_of g)) (length h.items) 0) e ∙ ap (λ b. cond (not b) (length h.items) 0) (ne_eqb z x ne) in
+      let paid : cond (is_shared h) (length h.items) 0 ≡ length h.items = ap (λ b. cond b (length h.items) 0) (shared_at z y rest e) in
+      omega (arith, left, mine, paid))
 
   module _ (number : List T → ℕ → ℕ) where
     abbrev by_head : ℕ → Option ℕ → List T → ℕ → ℕ
@@ -219,24 +219,24 @@ module _ {T : Type 0} (names : Names T) (sharing : IsSharing names) (x : ℕ) (h
     pub blocks-forget : total (block_number number) names ≡ total (block_number number) (forget x names) + cond (is_sole_owner h) (number h.items h.capacity) 0
     blocks-forget = group_cases _
         (λ none.
-          let left : total (block_number number) names ≡ total (block_number number) (forget x names) + block_number number x h = total-forget_follower names sharing x h at by_head (λ g is. absurd (none-some x (ap head_of (sym none ∙ is)))) in
-          let mine : block_number number x h ≡ 0 = ap (λ g. cond (at_head x (head_of g)) (number h.items h.capacity) 0) none in
-          let gone : cond (is_sole_owner h) (number h.items h.capacity) 0 ≡ 0 = ap (λ (g : List ℕ). cond (eqb (length g) 1) (number h.items h.capacity) 0) none in
-          omega (arith, left, mine, gone))
+        let left : total (block_number number) names ≡ total (block_number number) (forget x names) + block_number number x h = total-forget_follower names sharing x h at by_head (λ g is. absurd (none-some x (ap head_of (sym none ∙ is)))) in
+        let mine : block_number number x h ≡ 0 = ap (λ g. cond (at_head x (head_of g)) (number h.items h.capacity) 0) none in
+        let gone : cond (is_sole_owner h) (number h.items h.capacity) 0 ≡ 0 = ap (λ (g : List ℕ). cond (eqb (length g) 1) (number h.items h.capacity) 0) none in
+        omega (arith, left, mine, gone))
         (λ alone.
-          let left : total (block_number number) names ≡ total (block_number number) (forget x names) + block_number number x h = total-forget_alone names sharing x h at by_head alone in
-          let mine : block_number number x h ≡ number h.items h.capacity = ap (λ g. cond (at_head x (head_of g)) (number h.items h.capacity) 0) alone ∙ ap (λ b. cond b (number h.items h.capacity) 0) (eq-eqb x x refl) in
-          let gone : cond (is_sole_owner h) (number h.items h.capacity) 0 ≡ number h.items h.capacity = ap (λ (g : List ℕ). cond (eqb (length g) 1) (number h.items h.capacity) 0) alone in
-          omega (arith, left, mine, gone))
+        let left : total (block_number number) names ≡ total (block_number number) (forget x names) + block_number number x h = total-forget_alone names sharing x h at by_head alone in
+        let mine : block_number number x h ≡ number h.items h.capacity = ap (λ g. cond (at_head x (head_of g)) (number h.items h.capacity) 0) alone ∙ ap (λ b. cond b (number h.items h.capacity) 0) (eq-eqb x x refl) in
+        let gone : cond (is_sole_owner h) (number h.items h.capacity) 0 ≡ number h.items h.capacity = ap (λ (g : List ℕ). cond (eqb (length g) 1) (number h.items h.capacity) 0) alone in
+        omega (arith, left, mine, gone))
         (λ y rest e.
-          let left : total (block_number number) names + by_head y (Some y) h.items h.capacity ≡ total (block_number number) (forget x names) + by_head x (Some x) h.items h.capacity + by_head y (Some x) h.items h.capacity = total-forget_head names sharing x h at by_head y rest e head_agree in
-          let head_x : by_head x (Some x) h.items h.capacity ≡ number h.items h.capacity = ap (λ b. cond b (number h.items h.capacity) 0) (eq-eqb x x refl) in
-          let head_y : by_head y (Some y) h.items h.capacity ≡ number h.items h.capacity = ap (λ b. cond b (number h.items h.capacity) 0) (eq-eqb y y refl) in
-          let was : by_head y (Some x) h.items h.capacity ≡ 0 = ap (λ b. cond b (number h.items h.capacity) 0) (ne_eqb x y (λ is. next_apart names sharing x h at by_head y rest e head_agree (sym is))) in
-          let gone : cond (is_sole_owner h) (number h.items h.capacity) 0 ≡ 0 = ap (λ b. cond b (number h.items h.capacity) 0) (sole_at x y rest e) in
-          omega (arith, left, head_x, head_y, was, gone))
+        let left : total (block_number number) names + by_head y (Some y) h.items h.capacity ≡ total (block_number number) (forget x names) + by_head x (Some x) h.items h.capacity + by_head y (Some x) h.items h.capacity = total-forget_head names sharing x h at by_head y rest e head_agree in
+        let head_x : by_head x (Some x) h.items h.capacity ≡ number h.items h.capacity = ap (λ b. cond b (number h.items h.capacity) 0) (eq-eqb x x refl) in
+        let head_y : by_head y (Some y) h.items h.capacity ≡ number h.items h.capacity = ap (λ b. cond b (number h.items h.capacity) 0) (eq-eqb y y refl) in
+        let was : by_head y (Some x) h.items h.capacity ≡ 0 = ap (λ b. cond b (number h.items h.capacity) 0) (ne_eqb x y (λ is. next_apart names sharing x h at by_head y rest e head_agree (sym is))) in
+        let gone : cond (is_sole_owner h) (number h.items h.capacity) 0 ≡ 0 = ap (λ b. cond b (number h.items h.capacity) 0) (sole_at x y rest e) in
+        omega (arith, left, head_x, head_y, was, gone))
         (λ z y rest ne e.
-          let left : total (block_number number) names ≡ total (block_number number) (forget x names) + block_number number x h = total-forget_follower names sharing x h at by_head (no_head z (y ∷ rest) ne e) in
-          let mine : block_number number x h ≡ 0 = ap (λ g. cond (at_head x (head_of g)) (number h.items h.capacity) 0) e ∙ ap (λ b. cond b (number h.items h.capacity) 0) (ne_eqb z x ne) in
-          let gone : cond (is_sole_owner h) (number h.items h.capacity) 0 ≡ 0 = ap (λ b. cond b (number h.items h.capacity) 0) (sole_at z y rest e) in
-          omega (arith, left, mine, gone))
+        let left : total (block_number number) names ≡ total (block_number number) (forget x names) + block_number number x h = total-forget_follower names sharing x h at by_head (no_head z (y ∷ rest) ne e) in
+        let mine : block_number number x h ≡ 0 = ap (λ g. cond (at_head x (head_of g)) (number h.items h.capacity) 0) e ∙ ap (λ b. cond b (number h.items h.capacity) 0) (ne_eqb z x ne) in
+        let gone : cond (is_sole_owner h) (number h.items h.capacity) 0 ≡ 0 = ap (λ b. cond b (number h.items h.capacity) 0) (sole_at z y rest e) in
+        omega (arith, left, mine, gone))

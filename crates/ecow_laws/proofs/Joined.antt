@@ -45,8 +45,8 @@ module _ {T : Type 0} (names : Names T) (sharing : IsSharing names) (x y : ℕ) 
   from_join q k is = ⊎_elim
       (λ (e : q ≡ y). (x, h, at, same_Some (enter x y h) k (sym get_join_new ∙ ap (finite.get (join x y h names)) (sym e) ∙ is), inl (e, refl, refl)))
       (λ (ne : q ≢ y).
-        let there : (v : Held T) × (finite.get names q ≡ Some v) × (enter x y v ≡ k) = mapped (enter x y) (finite.get names q) k (sym (get_join q ∙ ap (λ b. cond b (Some (enter x y h)) (option_map (enter x y) (finite.get names q))) (ne_eqb q y ne)) ∙ is) in
-        (q, there.0, there.1, there.2, inr refl))
+      let there : (v : Held T) × (finite.get names q ≡ Some v) × (enter x y v ≡ k) = mapped (enter x y) (finite.get names q) k (sym (get_join q ∙ ap (λ b. cond b (Some (enter x y h)) (option_map (enter x y) (finite.get names q))) (ne_eqb q y ne)) ∙ is) in
+      (q, there.0, there.1, there.2, inr refl))
       (cases_eq q y)
 
   entered : (v : Held T) → is_member x v.group ≡ true → enter x y v ≡ record { items = v.items; group = with_name y v.group; capacity = v.capacity }
@@ -62,44 +62,44 @@ module _ {T : Type 0} (names : Names T) (sharing : IsSharing names) (x y : ℕ) 
   common_entry : (q p z : ℕ) (v : Held T) → finite.get names p ≡ Some v → (((q ≡ y) × (p ≡ x) × (v ≡ h)) ⊎ (q ≡ p)) → is_member z (enter x y v).group ≡ true → finite.get (join x y h names) z ≡ Some (enter x y v)
   common_entry q p z v is place = by_entry (λ k. is_member z k.group ≡ true → finite.get (join x y h names) z ≡ Some (enter x y v)) v
       (λ has m. ⊎_elim
-        (λ (e : eqb y z ≡ true). ap (finite.get (join x y h names)) (sym (eqb-true y z e)) ∙ get_join_new ∙ ap (λ k. Some (enter x y k)) (held_with p v is has))
-        (λ (old : is_member z v.group ≡ true). get_join_other z v (sharing.common p z v is old))
-        (or_cases (eqb y z) (is_member z v.group) (sym (is_member-with_name z y v.group) ∙ m)))
+      (λ (e : eqb y z ≡ true). ap (finite.get (join x y h names)) (sym (eqb-true y z e)) ∙ get_join_new ∙ ap (λ k. Some (enter x y k)) (held_with p v is has))
+      (λ (old : is_member z v.group ≡ true). get_join_other z v (sharing.common p z v is old))
+      (or_cases (eqb y z) (is_member z v.group) (sym (is_member-with_name z y v.group) ∙ m)))
       (λ hasnt m. get_join_other z v (sharing.common p z v is m))
 
   pub sharing-join : IsSharing (join x y h names)
   sharing-join = record {
     common = λ q z k is m.
-      let there = from_join q k is in
-      common_entry q there.0 z there.1 there.2 there.4 (ap (λ (k : Held T). is_member z k.group) there.3 ∙ m) ∙ ap Some there.3;
+        let there = from_join q k is in
+        common_entry q there.0 z there.1 there.2 there.4 (ap (λ (k : Held T). is_member z k.group) there.3 ∙ m) ∙ ap Some there.3;
     itself = λ q k is.
-      let there = from_join q k is in
-      subst (λ (k : Held T). (k.group ≡ []) ⊎ (is_member q k.group ≡ true)) there.3
+        let there = from_join q k is in
+        subst (λ (k : Held T). (k.group ≡ []) ⊎ (is_member q k.group ≡ true)) there.3
         (by_entry (λ k. (k.group ≡ []) ⊎ (is_member q k.group ≡ true)) there.1
-          (λ has. inr (is_member-with_name q y there.1.group ∙ ⊎_elim
-            (λ (w : (q ≡ y) × (there.0 ≡ x) × (there.1 ≡ h)). ap (λ b. b || is_member q there.1.group) (eq-eqb y q (sym w.0)))
-            (λ (e : q ≡ there.0). ⊎_elim
-              (λ (none : there.1.group ≡ []). absurd (true≢false (sym has ∙ ap (is_member x) none)))
-              (λ (m : is_member there.0 there.1.group ≡ true). ap (λ b. eqb y q || b) (ap (λ z. is_member z there.1.group) e ∙ m) ∙ or_true (eqb y q))
-              (sharing.itself there.0 there.1 there.2))
-            there.4))
-          (λ hasnt. ⊎_elim
-            (λ (w : (q ≡ y) × (there.0 ≡ x) × (there.1 ≡ h)). ⊎_elim
-              (λ (none : there.1.group ≡ []). inl none)
-              (λ (m : is_member there.0 there.1.group ≡ true). absurd (true≢false (sym m ∙ ap (λ z. is_member z there.1.group) w.1 ∙ hasnt)))
-              (sharing.itself there.0 there.1 there.2))
-            (λ (e : q ≡ there.0). subst (λ z. (there.1.group ≡ []) ⊎ (is_member z there.1.group ≡ true)) (sym e) (sharing.itself there.0 there.1 there.2))
-            there.4));
+        (λ has. inr (is_member-with_name q y there.1.group ∙ ⊎_elim
+        (λ (w : (q ≡ y) × (there.0 ≡ x) × (there.1 ≡ h)). ap (λ b. b || is_member q there.1.group) (eq-eqb y q (sym w.0)))
+        (λ (e : q ≡ there.0). ⊎_elim
+        (λ (none : there.1.group ≡ []). absurd (true≢false (sym has ∙ ap (is_member x) none)))
+        (λ (m : is_member there.0 there.1.group ≡ true). ap (λ b. eqb y q || b) (ap (λ z. is_member z there.1.group) e ∙ m) ∙ or_true (eqb y q))
+        (sharing.itself there.0 there.1 there.2))
+        there.4))
+        (λ hasnt. ⊎_elim
+        (λ (w : (q ≡ y) × (there.0 ≡ x) × (there.1 ≡ h)). ⊎_elim
+        (λ (none : there.1.group ≡ []). inl none)
+        (λ (m : is_member there.0 there.1.group ≡ true). absurd (true≢false (sym m ∙ ap (λ z. is_member z there.1.group) w.1 ∙ hasnt)))
+        (sharing.itself there.0 there.1 there.2))
+        (λ (e : q ≡ there.0). subst (λ z. (there.1.group ≡ []) ⊎ (is_member z there.1.group ≡ true)) (sym e) (sharing.itself there.0 there.1 there.2))
+        there.4));
     rising = λ q k is.
-      let there = from_join q k is in
-      subst (λ (k : Held T). IsRising k.group) there.3 (by_entry (λ k. IsRising k.group) there.1 (λ has. rising-with_name y there.1.group (absent there.0 there.1 there.2) (sharing.rising there.0 there.1 there.2)) (λ hasnt. sharing.rising there.0 there.1 there.2));
+        let there = from_join q k is in
+        subst (λ (k : Held T). IsRising k.group) there.3 (by_entry (λ k. IsRising k.group) there.1 (λ has. rising-with_name y there.1.group (absent there.0 there.1 there.2) (sharing.rising there.0 there.1 there.2)) (λ hasnt. sharing.rising there.0 there.1 there.2));
     fits = λ q k is.
-      let there = from_join q k is in
-      let old = sharing.fits there.0 there.1 there.2 in
-      subst (λ (k : Held T). (length k.items ≤ k.capacity) × (k.capacity ≤ MAX)) there.3 (by_entry (λ k. (length k.items ≤ k.capacity) × (k.capacity ≤ MAX)) there.1 (λ has. old) (λ hasnt. old));
+        let there = from_join q k is in
+        let old = sharing.fits there.0 there.1 there.2 in
+        subst (λ (k : Held T). (length k.items ≤ k.capacity) × (k.capacity ≤ MAX)) there.3 (by_entry (λ k. (length k.items ≤ k.capacity) × (k.capacity ≤ MAX)) there.1 (λ has. old) (λ hasnt. old));
     bare = λ q k is.
-      let there = from_join q k is in
-      subst (λ (k : Held T). k.group ≡ [] → k.capacity ≡ 0) there.3 (by_entry (λ k. k.group ≡ [] → k.capacity ≡ 0) there.1
+        let there = from_join q k is in
+        subst (λ (k : Held T). k.group ≡ [] → k.capacity ≡ 0) there.3 (by_entry (λ k. k.group ≡ [] → k.capacity ≡ 0) there.1
         (λ has e. absurd (let count : length (with_name y there.1.group) ≡ 0 = ap length e in let more : length (with_name y there.1.group) ≡ length there.1.group + 1 = length-with_name y there.1.group in omega arith))
         (λ hasnt. sharing.bare there.0 there.1 there.2));
   }
@@ -122,12 +122,12 @@ module _ {T : Type 0} (names : Names T) (sharing : IsSharing names) (x y : ℕ) 
   never_sole : is_sole_owner (enter x y h) ≡ false
   never_sole = by_entry (λ k. is_sole_owner k ≡ false) h
       (λ has. ne_eqb (length (with_name y h.group)) 1 (λ one.
-        let more : length (with_name y h.group) ≡ length h.group + 1 = length-with_name y h.group in
-        true≢false (sym has ∙ ap (is_member x) (empty_at h.group (omega arith)))))
+      let more : length (with_name y h.group) ≡ length h.group + 1 = length-with_name y h.group in
+      true≢false (sym has ∙ ap (is_member x) (empty_at h.group (omega arith)))))
       (λ hasnt. ⊎_elim
-        (λ (none : h.group ≡ []). ap (λ (g : List ℕ). eqb (length g) 1) none)
-        (λ (m : is_member x h.group ≡ true). absurd (true≢false (sym m ∙ hasnt)))
-        (sharing.itself x h at))
+      (λ (none : h.group ≡ []). ap (λ (g : List ℕ). eqb (length g) 1) none)
+      (λ (m : is_member x h.group ≡ true). absurd (true≢false (sym m ∙ hasnt)))
+      (sharing.itself x h at))
 
   -- a clone puts the length of its list into the debt
   pub debt-join : debt (join x y h names) ≤ debt names + length h.items

@@ -31,27 +31,27 @@ is_member-without y x [] = elim (eqb y x) as (λ b. false ≡ cond b false false
 is_member-without y x (z ∷ group) =
     elim (eqb z x) as (λ b. eqb z x ≡ b → is_member y (cond (not b) (z ∷ without x group) (without x group)) ≡ cond (eqb y x) false (eqb z y || is_member y group)) [
       | true ↦ λ t. is_member-without y x group ∙ elim (eqb y x) as (λ c. eqb y x ≡ c → cond c false (is_member y group) ≡ cond c false (eqb z y || is_member y group)) [
-          | true ↦ λ _. refl
-          | false ↦ λ c. ap (λ b. b || is_member y group) (sym (ne_eqb z y (λ e. eqb-false y x c (sym e ∙ eqb-true z x t))))
-        ] refl
+        | true ↦ λ _. refl
+        | false ↦ λ c. ap (λ b. b || is_member y group) (sym (ne_eqb z y (λ e. eqb-false y x c (sym e ∙ eqb-true z x t))))
+      ] refl
       | false ↦ λ t. ap (λ b. eqb z y || b) (is_member-without y x group) ∙ elim (eqb y x) as (λ c. eqb y x ≡ c → (eqb z y || cond c false (is_member y group)) ≡ cond c false (eqb z y || is_member y group)) [
-          | true ↦ λ c. ap (λ b. b || false) (ne_eqb z y (λ e. eqb-false z x t (e ∙ eqb-true y x c)))
-          | false ↦ λ _. refl
-        ] refl
+        | true ↦ λ c. ap (λ b. b || false) (ne_eqb z y (λ e. eqb-false z x t (e ∙ eqb-true y x c)))
+        | false ↦ λ _. refl
+      ] refl
     ] refl
 
 member_of_without : (y x : ℕ) (group : List ℕ) → is_member y (without x group) ≡ true → is_member y group ≡ true
 member_of_without y x group m = elim (eqb y x) as (λ b. cond b false (is_member y group) ≡ true → is_member y group ≡ true) [
-    | true ↦ λ e. absurd (true≢false (sym e))
-    | false ↦ λ e. e
-  ] (sym (is_member-without y x group) ∙ m)
+  | true ↦ λ e. absurd (true≢false (sym e))
+  | false ↦ λ e. e
+] (sym (is_member-without y x group) ∙ m)
 
 pub rising-without : (x : ℕ) (group : List ℕ) → IsRising group → IsRising (without x group)
 rising-without x [] h = tt
 rising-without x (z ∷ group) h = elim (eqb z x) as (λ b. IsRising (cond (not b) (z ∷ without x group) (without x group))) [
-    | true ↦ rising-without x group h.1
-    | false ↦ (λ y m. h.0 y (member_of_without y x group m), rising-without x group h.1)
-  ]
+  | true ↦ rising-without x group h.1
+  | false ↦ (λ y m. h.0 y (member_of_without y x group m), rising-without x group h.1)
+]
 
 pub is_member-with_name : (y x : ℕ) (group : List ℕ) → is_member y (with_name x group) ≡ (eqb x y || is_member y group)
 is_member-with_name y x [] = refl
@@ -70,9 +70,10 @@ rising-with_name x (z ∷ group) absent h =
           (λ y m. ⊎_elim (λ (e : eqb z y ≡ true). let is : z ≡ y = eqb-true z y e in omega arith) (λ (e : is_member y group ≡ true). let past : z < y = h.0 y e in omega arith) (or_cases (eqb z y) (is_member y group) m), h)
       | false ↦ λ t.
           let le : z ≤ x = ltb-false x z t in
-          let apart : z ≢ x = eqb-false z x (or_first (eqb z x) (is_member x group) absent) in
-          (λ y m. ⊎_elim (λ (e : eqb x y ≡ true). let is : x ≡ y = eqb-true x y e in strictly z x y le apart is) (λ (e : is_member y group ≡ true). h.0 y e) (or_cases (eqb x y) (is_member y group) (sym (is_member-with_name y x group) ∙ m)),
-           rising-with_name x group (or_second (eqb z x) (is_member x group) absent) h.1)
+          let apart : z ≢ x = eqb-false z x (or_first (eqb z x) (is_member x group) absent) in (
+            λ y m. ⊎_elim (λ (e : eqb x y ≡ true). let is : x ≡ y = eqb-true x y e in strictly z x y le apart is) (λ (e : is_member y group ≡ true). h.0 y e) (or_cases (eqb x y) (is_member y group) (sym (is_member-with_name y x group) ∙ m)),
+            rising-with_name x group (or_second (eqb z x) (is_member x group) absent) h.1,
+          )
     ] refl
 
 pub without-with_name : (x : ℕ) (group : List ℕ) → is_member x group ≡ false → without x (with_name x group) ≡ group
@@ -86,9 +87,9 @@ without-with_name x (z ∷ group) absent =
 pub length-with_name : (x : ℕ) (group : List ℕ) → length (with_name x group) ≡ length group + 1
 length-with_name x [] = omega arith
 length-with_name x (z ∷ group) = elim (ltb x z) as (λ b. length (cond b (x ∷ z ∷ group) (z ∷ with_name x group)) ≡ length (z ∷ group) + 1) [
-    | true ↦ omega arith
-    | false ↦ let later : length (with_name x group) ≡ length group + 1 = length-with_name x group in omega arith
-  ]
+  | true ↦ omega arith
+  | false ↦ let later : length (with_name x group) ≡ length group + 1 = length-with_name x group in omega arith
+]
 
 pub mapped : {A : Type 0} (f : A → A) (o : Option A) (k : A) → option_map f o ≡ Some k → (v : A) × (o ≡ Some v) × (f v ≡ k)
 mapped f None k e = absurd (none-some k e)
@@ -120,25 +121,25 @@ module _ {T : Type 0} (names : Names T) (x : ℕ) where
     pub sharing-forget : IsSharing (forget x names)
     sharing-forget = record {
       common = λ q y k is m.
-        let there = from_forget q k is in
-        let has : is_member y (without x there.0.group) ≡ true = ap (λ (h : Held T). is_member y h.group) there.3 ∙ m in
-        let apart : y ≢ x = λ e. true≢false (sym has ∙ is_member-without y x there.0.group ∙ ap (λ b. cond b false (is_member y there.0.group)) (eq-eqb y x e)) in
-        get_forget_other y there.0 apart (sharing.common q y there.0 there.2 (member_of_without y x there.0.group has)) ∙ ap Some there.3;
+          let there = from_forget q k is in
+          let has : is_member y (without x there.0.group) ≡ true = ap (λ (h : Held T). is_member y h.group) there.3 ∙ m in
+          let apart : y ≢ x = λ e. true≢false (sym has ∙ is_member-without y x there.0.group ∙ ap (λ b. cond b false (is_member y there.0.group)) (eq-eqb y x e)) in
+          get_forget_other y there.0 apart (sharing.common q y there.0 there.2 (member_of_without y x there.0.group has)) ∙ ap Some there.3;
       itself = λ q k is.
-        let there = from_forget q k is in
-        ⊎_elim (λ (e : there.0.group ≡ []). inl (ap (λ (h : Held T). h.group) (sym there.3) ∙ ap (without x) e))
+          let there = from_forget q k is in
+          ⊎_elim (λ (e : there.0.group ≡ []). inl (ap (λ (h : Held T). h.group) (sym there.3) ∙ ap (without x) e))
           (λ (m : is_member q there.0.group ≡ true). inr (ap (λ (h : Held T). is_member q h.group) (sym there.3) ∙ still_member q there.0 there.1 m))
           (sharing.itself q there.0 there.2);
       rising = λ q k is.
-        let there = from_forget q k is in
-        subst (λ (h : Held T). IsRising h.group) there.3 (rising-without x there.0.group (sharing.rising q there.0 there.2));
+          let there = from_forget q k is in
+          subst (λ (h : Held T). IsRising h.group) there.3 (rising-without x there.0.group (sharing.rising q there.0 there.2));
       fits = λ q k is.
-        let there = from_forget q k is in
-        subst (λ (h : Held T). (length h.items ≤ h.capacity) × (h.capacity ≤ MAX)) there.3 (sharing.fits q there.0 there.2);
+          let there = from_forget q k is in
+          subst (λ (h : Held T). (length h.items ≤ h.capacity) × (h.capacity ≤ MAX)) there.3 (sharing.fits q there.0 there.2);
       bare = λ q k is e.
-        let there = from_forget q k is in
-        let empty : without x there.0.group ≡ [] = ap (λ (h : Held T). h.group) there.3 ∙ e in
-        ap (λ (h : Held T). h.capacity) (sym there.3) ∙ ⊎_elim
+          let there = from_forget q k is in
+          let empty : without x there.0.group ≡ [] = ap (λ (h : Held T). h.group) there.3 ∙ e in
+          ap (λ (h : Held T). h.capacity) (sym there.3) ∙ ⊎_elim
           (λ (none : there.0.group ≡ []). sharing.bare q there.0 there.2 none)
           (λ (m : is_member q there.0.group ≡ true). absurd (true≢false (sym (still_member q there.0 there.1 m) ∙ ap (is_member q) empty)))
           (sharing.itself q there.0 there.2);
@@ -165,44 +166,44 @@ module _ {T : Type 0} (names : Names T) (x : ℕ) where
 
       own_member : (y : ℕ) → is_member y own.group ≡ true → y ≡ x
       own_member y m = elim (ltb 0 capacity) as (λ b. is_member y (cond b (x ∷ []) []) ≡ true → y ≡ x) [
-          | true ↦ λ e. ⊎_elim (λ (t : eqb x y ≡ true). sym (eqb-true x y t)) (λ (f : false ≡ true). absurd (true≢false (sym f))) (or_cases (eqb x y) false e)
-          | false ↦ λ e. absurd (true≢false (sym e))
-        ] m
+        | true ↦ λ e. ⊎_elim (λ (t : eqb x y ≡ true). sym (eqb-true x y t)) (λ (f : false ≡ true). absurd (true≢false (sym f))) (or_cases (eqb x y) false e)
+        | false ↦ λ e. absurd (true≢false (sym e))
+      ] m
 
       own_bare : own.group ≡ [] → own.capacity ≡ 0
       own_bare e = elim (ltb 0 capacity) as (λ b. ltb 0 capacity ≡ b → cond b (x ∷ []) [] ≡ [] → capacity ≡ 0) [
-          | true ↦ λ t e. absurd (let one : length (x ∷ []) ≡ 0 = ap length e in omega arith)
-          | false ↦ λ t e. let le : capacity ≤ 0 = ltb-false 0 capacity t in omega arith
-        ] refl e
+        | true ↦ λ t e. absurd (let one : length (x ∷ []) ≡ 0 = ap length e in omega arith)
+        | false ↦ λ t e. let le : capacity ≤ 0 = ltb-false 0 capacity t in omega arith
+      ] refl e
 
       pub sharing-settle : IsSharing (settle x items capacity names)
       sharing-settle = record {
         common = λ q y k is m. ⊎_elim
-          (λ (w : (q ≡ x) × (own ≡ k)).
+            (λ (w : (q ≡ x) × (own ≡ k)).
             let itself : y ≡ x = own_member y (ap (λ (h : Held T). is_member y h.group) w.1 ∙ m) in
             ap (finite.get (settle x items capacity names)) itself ∙ get_settle_itself ∙ ap Some w.1)
-          (λ (w : (q ≢ x) × (finite.get (forget x names) q ≡ Some k)).
+            (λ (w : (q ≢ x) × (finite.get (forget x names) q ≡ Some k)).
             let there : finite.get (forget x names) y ≡ Some k = sharing-forget.common q y k w.1 m in
             get_settle_other y (λ e. none-some k (sym (get_forget_itself) ∙ ap (finite.get (forget x names)) (sym e) ∙ there)) ∙ there)
-          (from_settle q k is);
+            (from_settle q k is);
         itself = λ q k is. ⊎_elim
-          (λ (w : (q ≡ x) × (own ≡ k)). subst (λ (h : Held T). (h.group ≡ []) ⊎ (is_member q h.group ≡ true)) w.1
+            (λ (w : (q ≡ x) × (own ≡ k)). subst (λ (h : Held T). (h.group ≡ []) ⊎ (is_member q h.group ≡ true)) w.1
             (elim (ltb 0 capacity) as (λ b. (cond b (x ∷ []) [] ≡ []) ⊎ (is_member q (cond b (x ∷ []) []) ≡ true)) [ true ↦ inr (ap (λ b. b || false) (eq-eqb x q (sym w.0))) | false ↦ inl refl ]))
-          (λ (w : (q ≢ x) × (finite.get (forget x names) q ≡ Some k)). sharing-forget.itself q k w.1)
-          (from_settle q k is);
+            (λ (w : (q ≢ x) × (finite.get (forget x names) q ≡ Some k)). sharing-forget.itself q k w.1)
+            (from_settle q k is);
         rising = λ q k is. ⊎_elim
-          (λ (w : (q ≡ x) × (own ≡ k)). subst (λ (h : Held T). IsRising h.group) w.1
+            (λ (w : (q ≡ x) × (own ≡ k)). subst (λ (h : Held T). IsRising h.group) w.1
             (elim (ltb 0 capacity) as (λ b. IsRising (cond b (x ∷ []) [])) [ true ↦ (λ y m. absurd (true≢false (sym m)), tt) | false ↦ tt ]))
-          (λ (w : (q ≢ x) × (finite.get (forget x names) q ≡ Some k)). sharing-forget.rising q k w.1)
-          (from_settle q k is);
+            (λ (w : (q ≢ x) × (finite.get (forget x names) q ≡ Some k)). sharing-forget.rising q k w.1)
+            (from_settle q k is);
         fits = λ q k is. ⊎_elim
-          (λ (w : (q ≡ x) × (own ≡ k)). subst (λ (h : Held T). (length h.items ≤ h.capacity) × (h.capacity ≤ MAX)) w.1 (fit, small))
-          (λ (w : (q ≢ x) × (finite.get (forget x names) q ≡ Some k)). sharing-forget.fits q k w.1)
-          (from_settle q k is);
+            (λ (w : (q ≡ x) × (own ≡ k)). subst (λ (h : Held T). (length h.items ≤ h.capacity) × (h.capacity ≤ MAX)) w.1 (fit, small))
+            (λ (w : (q ≢ x) × (finite.get (forget x names) q ≡ Some k)). sharing-forget.fits q k w.1)
+            (from_settle q k is);
         bare = λ q k is e. ⊎_elim
-          (λ (w : (q ≡ x) × (own ≡ k)). ap (λ (h : Held T). h.capacity) (sym w.1) ∙ own_bare (ap (λ (h : Held T). h.group) w.1 ∙ e))
-          (λ (w : (q ≢ x) × (finite.get (forget x names) q ≡ Some k)). sharing-forget.bare q k w.1 e)
-          (from_settle q k is);
+            (λ (w : (q ≡ x) × (own ≡ k)). ap (λ (h : Held T). h.capacity) (sym w.1) ∙ own_bare (ap (λ (h : Held T). h.group) w.1 ∙ e))
+            (λ (w : (q ≢ x) × (finite.get (forget x names) q ≡ Some k)). sharing-forget.bare q k w.1 e)
+            (from_settle q k is);
       }
 
       -- x owes nothing, and its block has its own number
@@ -216,4 +217,4 @@ module _ {T : Type 0} (names : Names T) (x : ℕ) where
       blocks-settle number =
           total-insert (block_number number) (forget x names) x own get_forget_itself
           ∙ ap (λ n. total (block_number number) (forget x names) + n)
-            (elim (ltb 0 capacity) as (λ b. cond (at_head x (head_of (cond b (x ∷ []) []))) (number items capacity) 0 ≡ cond b (number items capacity) 0) [ true ↦ ap (λ b. cond b (number items capacity) 0) (eq-eqb x x refl) | false ↦ refl ])
+          (elim (ltb 0 capacity) as (λ b. cond (at_head x (head_of (cond b (x ∷ []) []))) (number items capacity) 0 ≡ cond b (number items capacity) 0) [ true ↦ ap (λ b. cond b (number items capacity) 0) (eq-eqb x x refl) | false ↦ refl ])

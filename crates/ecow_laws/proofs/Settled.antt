@@ -19,9 +19,9 @@ without_twice x group = without_absent x (without x group) (is_member-without x 
 pub alone_of : (x : ℕ) (group : List ℕ) → is_member x group ≡ true → length group ≡ 1 → group ≡ x ∷ []
 alone_of x [] m one = absurd (true≢false (sym m))
 alone_of x (y ∷ []) m one = elim (eqb y x) as (λ b. eqb y x ≡ b → (b || false) ≡ true → y ∷ [] ≡ x ∷ []) [
-    | true ↦ λ e _. ap (λ z. z ∷ []) (eqb-true y x e)
-    | false ↦ λ _ e. absurd (true≢false (sym e))
-  ] refl m
+  | true ↦ λ e _. ap (λ z. z ∷ []) (eqb-true y x e)
+  | false ↦ λ _ e. absurd (true≢false (sym e))
+] refl m
 alone_of x (y ∷ z ∷ group) m one = absurd (omega arith)
 
 empty_of : (group : List ℕ) → length group ≡ 0 → group ≡ []
@@ -64,25 +64,25 @@ module _ {T : Type 0} (names : Names T) (x : ℕ) where
     -- a name that isn't there is forgotten already
     pub forget_absent : finite.get names x ≡ None → forget x names ≡ names
     forget_absent none = same_nat _ _ (λ q. elim (finite.get names q) as (λ o. finite.get names q ≡ o → finite.get (forget x names) q ≡ o) [
-        | None ↦ λ is. get_forget_none names x q is
-        | Some k ↦ λ is. get_forget_other names x q k (λ e. none-some k (sym none ∙ ap (finite.get names) (sym e) ∙ is)) is
-            ∙ ap (λ g. Some (record { items = k.items; group = g; capacity = k.capacity })) (without_absent x k.group (false_from_ne_true (is_member x k.group) (λ m. none-some k (sym none ∙ groups.common q x k is m))))
-      ] refl)
+      | None ↦ λ is. get_forget_none names x q is
+      | Some k ↦ λ is. get_forget_other names x q k (λ e. none-some k (sym none ∙ ap (finite.get names) (sym e) ∙ is)) is
+          ∙ ap (λ g. Some (record { items = k.items; group = g; capacity = k.capacity })) (without_absent x k.group (false_from_ne_true (is_member x k.group) (λ m. none-some k (sym none ∙ groups.common q x k is m))))
+    ] refl)
 
     pub blocks_left : blocks names ≡ blocks (forget x names) + own_blocks (finite.get names x)
     blocks_left = elim (finite.get names x) as (λ o. finite.get names x ≡ o → blocks names ≡ blocks (forget x names) + own_blocks o) [
-        | None ↦ λ none. sym (ap blocks (forget_absent none)) ∙ sym (add-zero _)
-        | Some h ↦ λ is. blocks-forget names groups x h is (λ items capacity. 1)
-      ] refl
+      | None ↦ λ none. sym (ap blocks (forget_absent none)) ∙ sym (add-zero _)
+      | Some h ↦ λ is. blocks-forget names groups x h is (λ items capacity. 1)
+    ] refl
 
     module _ (h : Held T) (at : finite.get names x ≡ Some h) (few : length h.group ≤ 1) (backed : 0 < length h.group → 0 < h.capacity) where
       group_is : h.group ≡ cond (ltb 0 h.capacity) (x ∷ []) []
       group_is = ⊎_elim
           (λ (none : h.group ≡ []). none ∙ sym (ap (λ c. cond (ltb 0 c) (x ∷ []) []) (groups.bare x h at none)))
           (λ (has : is_member x h.group ≡ true).
-            let some : 0 < length h.group = elim h.group as (λ g. is_member x g ≡ true → 0 < length g) [ [] ↦ λ m. absurd (true≢false (sym m)) | y ∷ g ↦ λ m. omega arith ] has in
-            let room : 0 < h.capacity = backed some in
-            alone_of x h.group has (omega (arith, some, few)) ∙ sym (ap (λ b. cond b (x ∷ []) []) (lt-ltb 0 h.capacity room)))
+          let some : 0 < length h.group = elim h.group as (λ g. is_member x g ≡ true → 0 < length g) [ [] ↦ λ m. absurd (true≢false (sym m)) | y ∷ g ↦ λ m. omega arith ] has in
+          let room : 0 < h.capacity = backed some in
+          alone_of x h.group has (omega (arith, some, few)) ∙ sym (ap (λ b. cond b (x ∷ []) []) (lt-ltb 0 h.capacity room)))
           (groups.itself x h at)
 
       stays : (q : ℕ) (k : Held T) → q ≢ x → finite.get names q ≡ Some k → is_member x k.group ≡ false
@@ -90,20 +90,20 @@ module _ {T : Type 0} (names : Names T) (x : ℕ) where
           let same : h ≡ k = same_Some h k (sym at ∙ groups.common q x k is m) in
           let one : length k.group ≡ 1 = elim k.group as (λ g. is_member x g ≡ true → length g ≤ 1 → length g ≡ 1) [ [] ↦ λ m _. absurd (true≢false (sym m)) | y ∷ g ↦ λ m few. omega arith ] m (rw (sym same) few) in
           ⊎_elim
-            (λ (none : k.group ≡ []). absurd (true≢false (sym m ∙ ap (is_member x) none)))
-            (λ (has : is_member q k.group ≡ true). let both : x ∷ [] ≡ q ∷ [] = sym (alone_of x k.group m one) ∙ alone_of q k.group has one in ne (cc))
-            (groups.itself q k is))
+          (λ (none : k.group ≡ []). absurd (true≢false (sym m ∙ ap (is_member x) none)))
+          (λ (has : is_member q k.group ≡ true). let both : x ∷ [] ≡ q ∷ [] = sym (alone_of x k.group m one) ∙ alone_of q k.group has one in ne (cc))
+          (groups.itself q k is))
 
       -- a sole name that settles with what it had
       pub settle_same : settle x h.items h.capacity names ≡ names
       settle_same = same_nat _ _ (λ q. get-insert_nat (forget x names) x _ q ∙ ⊎_elim
           (λ (e : q ≡ x). ap (λ b. cond b (Some (record { items = h.items; group = cond (ltb 0 h.capacity) (x ∷ []) []; capacity = h.capacity })) (finite.get (forget x names) q)) (eq-eqb q x e)
-            ∙ ap (λ g. Some (record { items = h.items; group = g; capacity = h.capacity })) (sym group_is) ∙ sym at ∙ ap (finite.get names) (sym e))
+          ∙ ap (λ g. Some (record { items = h.items; group = g; capacity = h.capacity })) (sym group_is) ∙ sym at ∙ ap (finite.get names) (sym e))
           (λ (ne : q ≢ x). ap (λ b. cond b (Some (record { items = h.items; group = cond (ltb 0 h.capacity) (x ∷ []) []; capacity = h.capacity })) (finite.get (forget x names) q)) (ne_eqb q x ne)
-            ∙ elim (finite.get names q) as (λ o. finite.get names q ≡ o → finite.get (forget x names) q ≡ o) [
-              | None ↦ λ is. get_forget_none names x q is
-              | Some k ↦ λ is. get_forget_other names x q k ne is ∙ ap (λ g. Some (record { items = k.items; group = g; capacity = k.capacity })) (without_absent x k.group (stays q k ne is))
-            ] refl)
+          ∙ elim (finite.get names q) as (λ o. finite.get names q ≡ o → finite.get (forget x names) q ≡ o) [
+            | None ↦ λ is. get_forget_none names x q is
+            | Some k ↦ λ is. get_forget_other names x q k ne is ∙ ap (λ g. Some (record { items = k.items; group = g; capacity = k.capacity })) (without_absent x k.group (stays q k ne is))
+          ] refl)
           (cases_eq q x))
 
     -- a name without a block that settles without one

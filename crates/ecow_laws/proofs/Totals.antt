@@ -65,7 +65,7 @@ module _ {X : Type 0} where
       elim (nat_cmp k e.0) as (λ r. nat_cmp k e.0 ≡ r → sum_by f (by_order r ((k, v) ∷ e ∷ es) ((e.0, v) ∷ es) (e ∷ put nat_cmp k v es)) ≡ sum_by f (e ∷ es) + w k v) [
         | Less ↦ λ t. sum_by-cons f (k, v) (e ∷ es) ∙ add_comm (w k v) (sum_by f (e ∷ es))
         | Equal ↦ λ t. absurd (none-some e.1 (sym h ∙ ap (λ r. cond (is_eq r) (Some e.1) (find nat_cmp k es)) t))
-        | Greater ↦ λ t. 
+        | Greater ↦ λ t.
             let later : sum_by f (put nat_cmp k v es) ≡ sum_by f es + w k v = sum_put w k v es (sym (ap (λ r. cond (is_eq r) (Some e.1) (find nat_cmp k es)) t) ∙ h) in
             rw (sum_by-cons f e (put nat_cmp k v es), sum_by-cons f e es) (omega (arith, later))
       ] refl
