@@ -1,5 +1,5 @@
 //! A finite map from names to values.
-ghost use Rattle.std.specs.Prelude.{◌≡◌, OnOk, OnErr, is_some};
+ghost use Rattle.std.specs.Prelude.{◌≡◌, ◌<◌, ◌^◌, OnOk, OnErr, is_some};
 ghost use Rattle.std.specs.Borrow.{sem};
 ghost use Rattle.std.specs.FinMap as map;
 ghost use Rattle.std.specs.Option.{option_copied, option_copied_mut};
@@ -36,6 +36,14 @@ impl<V> Table<V> {
         Table {
             values: BTreeMap::new(alloc),
         }
+    }
+
+    /// The number of names.
+    pub fn len(&self) -> usize
+        ensures len { result ≡ map.len self.now }
+        ensures small { result < 2 ^ 63 }
+    {
+        self.values.len()
     }
 
     /// Whether the name is there.

@@ -1,0 +1,11 @@
+pub mod Changes
+pub mod Joining
+pub mod Leaving
+pub mod Placing
+pub mod Updates
+pub mod Splits
+pub mod Rotations
+pub mod Opening
+pub mod Editing
+pub mod Stepping
+pub mod Reading

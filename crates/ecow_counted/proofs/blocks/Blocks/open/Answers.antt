@@ -1,0 +1,22 @@
+use Rattle.std.proofs.Common.{ap, sym, ◌∙◌}
+use Rattle.ecow_counted.specs.Opened.{IsOpened}
+use Rattle.ecow_counted.proofs.Opening.{taken_opened, opened_as, put_back, none_taken, where_ok, where_err, always_ok, always_err}
+use Rattle.ecow_counted.proofs.blocks.Blocks.open.Goals as goal
+
+pub grow-requires-clause-there : goal.grow-requires-clause-there
+grow-requires-clause-there g c = (opened_as c.args.self.now.names c.args.name c.take.new.self.names c.take.ensures.names).there
+
+pub returns-in-Some-clause-opened : goal.returns-in-Some-clause-opened
+returns-in-Some-clause-opened g c = where_ok c.grow.result (λ same. opened_as c.args.self.now.names c.args.name c.grow.new.self.names (same ∙ c.take.ensures.names)) c.grow.ensures.names
+
+pub returns-in-Some-clause-err : goal.returns-in-Some-clause-err
+returns-in-Some-clause-err g c = where_err c.grow.result
+    (λ put. put_back c.args.self.now.names c.args.name c.requires.there c.requires.sole c.requires.sharing c.requires.backed c.in-Some.block (sym c.in-Some.is ∙ c.take.ensures.block) c.take.new.self.names c.grow.new.self.names c.take.ensures.names put)
+    c.grow.ensures.err
+
+pub returns-in-None-clause-opened : goal.returns-in-None-clause-opened
+returns-in-None-clause-opened g c = always_ok c.fresh.result (opened_as c.args.self.now.names c.args.name c.fresh.new.self.names (c.fresh.ensures.names ∙ c.take.ensures.names))
+
+pub returns-in-None-clause-err : goal.returns-in-None-clause-err
+returns-in-None-clause-err g c = always_err c.fresh.result
+    (none_taken c.args.self.now.names c.args.name c.requires.there c.requires.sole c.requires.sharing c.requires.backed (sym c.in-None.is ∙ c.take.ensures.block) c.fresh.new.self.names (c.fresh.ensures.names ∙ c.take.ensures.names))

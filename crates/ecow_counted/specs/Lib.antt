@@ -1,0 +1,6 @@
+pub mod Edits
+pub mod Keeping
+pub mod Opened
+pub mod Places
+pub mod Sizes
+pub mod Standing

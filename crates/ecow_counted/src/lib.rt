@@ -1,0 +1,11 @@
+//! `Counted`: commands on named lists in a table of blocks, with exact counts of what is shared,
+//! copied and moved.
+#![tactic(auto)]
+
+mod apply;
+mod blocks;
+pub mod counted;
+mod edit;
+mod own;
+
+pub use counted::Counted;

@@ -1,0 +1,185 @@
+//! A block that one name alone is about to have: its own, or a copy of one that it shares.
+ghost use Rattle.std.specs.Prelude.{◌≡◌, ℕ, ◌<◌, ◌≤◌, [], true, false, cond, nat_le, length, take, IsSome, IsOk, IfOk, OnOk, OnErr};
+ghost use Rattle.std.specs.FinMap as finite;
+ghost use Rattle.ecow_base.specs.Clones.{ClonesAreEqual};
+ghost use Rattle.ecow_model.specs.CountedRun.{held_at, nothing};
+ghost use Rattle.ecow_model.specs.Names.{IsSharing, is_shared, settle};
+ghost use Rattle.ecow_counted.specs.Opened.{IsOpened};
+
+use crate::blocks::Blocks;
+use ecow_base::MAX_LEN;
+use ecow_block::Block;
+use ecow_model::Name;
+use std::alloc::{AllocError, Global};
+
+/// A block for one name, and how many elements were copied into it or moved with it.
+#[derive(Drop)]
+pub(crate) struct Owned<T> {
+    pub block: Block<T>,
+    pub copied: usize,
+    pub moved: usize,
+}
+
+/// What a name wants: to copy the first `copies` elements of a block that it shares, or to keep its
+/// own, in either case with room for `capacity`. `staying` elements count as moved where its own grows.
+#[derive(Clone, Copy)]
+pub(crate) struct Want {
+    pub copies: usize,
+    pub staying: usize,
+    pub capacity: usize,
+}
+
+impl<T: Drop> Blocks<T> {
+    /// Grows a block that was taken from a name. Where there is no memory the name has it again.
+    fn grow(&mut self, name: Name, block: Block<T>, want: Want) -> Result<Owned<T>, AllocError>
+        requires there { IsSome (finite.get self.old.names name) }
+        requires room { self.old.has_room ≡ true }
+        requires grows { block.capacity ≤ want.capacity }
+        requires bounded { want.capacity ≤ MAX_LEN }
+        ensures names { OnOk result (self.new.names ≡ self.old.names) }
+        ensures room { OnOk result (self.new.has_room ≡ true) }
+        ensures err { OnErr result (self.new.names ≡ settle name block.items block.capacity self.old.names) }
+        ensures items { IfOk result (λ own. own.block.items ≡ block.items) }
+        ensures capacity { IfOk result (λ own. own.block.capacity ≡ want.capacity) }
+        ensures copied { IfOk result (λ own. own.copied ≡ 0) }
+        ensures moved { IfOk result (λ own. own.moved ≡ cond (nat_le want.capacity block.capacity) 0 want.staying) }
+        ensures free { want.capacity ≡ block.capacity → IsOk result }
+    {
+        let mut block = block;
+        let moved = if want.capacity <= block.capacity() {
+            0
+        } else {
+            want.staying
+        };
+        match block.grow(want.capacity) {
+            Ok(()) => Ok(Owned {
+                block,
+                copied: 0,
+                moved,
+            }),
+            Err(refused) => {
+                self.settle(name, block);
+                Err(refused)
+            }
+        }
+    }
+
+    /// A block for a name without one.
+    fn fresh(&mut self, alloc: Global, want: Want) -> Result<Owned<T>, AllocError>
+        requires bounded { want.capacity ≤ MAX_LEN }
+        ensures names { self.new.names ≡ self.old.names }
+        ensures room { OnOk result (0 < want.capacity → self.new.has_room ≡ true) }
+        ensures items { IfOk result (λ own. own.block.items ≡ []) }
+        ensures capacity { IfOk result (λ own. own.block.capacity ≡ want.capacity) }
+        ensures copied { IfOk result (λ own. own.copied ≡ 0) }
+        ensures moved { IfOk result (λ own. own.moved ≡ 0) }
+        ensures free { want.capacity ≡ 0 → IsOk result }
+    {
+        if want.capacity == 0 {
+            let block = Block::new(alloc);
+            return Ok(Owned {
+                block,
+                copied: 0,
+                moved: 0,
+            });
+        }
+        self.reserve()?;
+        let block = Block::with_capacity(alloc, want.capacity)?;
+        Ok(Owned {
+            block,
+            copied: 0,
+            moved: 0,
+        })
+    }
+
+    /// The block of a name that shares it with none, which has none until it settles.
+    fn open(&mut self, alloc: Global, name: Name, want: Want) -> Result<Owned<T>, AllocError>
+        requires there { IsSome (finite.get self.old.names name) }
+        requires sole { is_shared (held_at self.old.names name) ≡ false }
+        requires sharing { IsSharing self.old.names }
+        requires backed { 0 < length (held_at self.old.names name).group → 0 < (held_at self.old.names name).capacity }
+        requires grows { (held_at self.old.names name).capacity ≤ want.capacity }
+        requires staying { want.staying ≤ length (held_at self.old.names name).items }
+        requires bounded { want.capacity ≤ MAX_LEN }
+        ensures opened { OnOk result (IsOpened name self.old.names self.new.names) }
+        ensures room { OnOk result (0 < want.capacity → self.new.has_room ≡ true) }
+        ensures err { OnErr result (self.new.names ≡ self.old.names) }
+        ensures items { IfOk result (λ own. own.block.items ≡ (held_at self.old.names name).items) }
+        ensures capacity { IfOk result (λ own. own.block.capacity ≡ want.capacity) }
+        ensures copied { IfOk result (λ own. own.copied ≡ 0) }
+        ensures moved { IfOk result (λ own. own.moved ≡ cond (nat_le want.capacity (held_at self.old.names name).capacity) 0 want.staying) }
+        ensures free { want.capacity ≡ (held_at self.old.names name).capacity → IsOk result }
+    {
+        match self.take(name) {
+            Some(block) => self.grow(name, block, want),
+            None => self.fresh(alloc, want),
+        }
+    }
+}
+
+impl<T: Clone> Blocks<T> {
+    /// A copy of the first elements of a block that a name shares, one clone for each that is
+    /// counted. The name stays where it is until it settles.
+    fn copy(&mut self, alloc: Global, name: Name, want: Want) -> Result<Owned<T>, AllocError>
+        requires shared { is_shared (held_at self.old.names name) ≡ true }
+        requires whole { want.copies ≤ length (held_at self.old.names name).items }
+        requires fits { want.copies ≤ want.capacity }
+        requires bounded { want.capacity ≤ MAX_LEN }
+        ensures names { self.new.names ≡ self.old.names }
+        ensures room { OnOk result (0 < want.capacity → self.new.has_room ≡ true) }
+        ensures items { ClonesAreEqual T.is_clone → IfOk result (λ own. own.block.items ≡ take want.copies (held_at self.old.names name).items) }
+        ensures len { IfOk result (λ own. length own.block.items ≡ want.copies) }
+        ensures capacity { IfOk result (λ own. own.block.capacity ≡ want.capacity) }
+        ensures copied { IfOk result (λ own. own.copied ≡ want.copies) }
+        ensures moved { IfOk result (λ own. own.moved ≡ 0) }
+        ensures free { want.capacity ≡ 0 → IsOk result }
+    {
+        if want.capacity == 0 {
+            let block = Block::new(alloc);
+            return Ok(Owned {
+                block,
+                copied: 0,
+                moved: 0,
+            });
+        }
+        self.reserve()?;
+        let Some(source) = self.block(name) else {
+            return Err(AllocError);
+        };
+        let block = Block::from_clones(alloc, &source.as_slice()[..want.copies], want.capacity)?;
+        let copied = block.len();
+        Ok(Owned {
+            block,
+            copied,
+            moved: 0,
+        })
+    }
+
+    /// A block for a name alone, with exactly the capacity that it wants: its own, or a copy of one
+    /// that it shares. Where there is no memory, or a clone is refused, nothing changes.
+    pub fn own(&mut self, alloc: Global, name: Name, want: Want) -> Result<Owned<T>, AllocError>
+        requires there { IsSome (finite.get self.old.names name) }
+        requires whole { is_shared (held_at self.old.names name) ≡ true → (want.copies ≤ length (held_at self.old.names name).items) × (want.copies ≤ want.capacity) }
+        requires grows { is_shared (held_at self.old.names name) ≡ false → (held_at self.old.names name).capacity ≤ want.capacity }
+        requires staying { want.staying ≤ length (held_at self.old.names name).items }
+        requires bounded { want.capacity ≤ MAX_LEN }
+        ensures opened { OnOk result (IsOpened name self.old.names self.new.names) }
+        ensures room { OnOk result (0 < want.capacity → self.new.has_room ≡ true) }
+        ensures err { OnErr result (self.new.names ≡ self.old.names) }
+        ensures items { ClonesAreEqual T.is_clone → IfOk result (λ own. own.block.items ≡ cond (is_shared (held_at self.old.names name)) (take want.copies (held_at self.old.names name).items) (held_at self.old.names name).items) }
+        ensures len { IfOk result (λ own. length own.block.items ≡ cond (is_shared (held_at self.old.names name)) want.copies (length (held_at self.old.names name).items)) }
+        ensures capacity { IfOk result (λ own. own.block.capacity ≡ want.capacity) }
+        ensures copied { IfOk result (λ own. own.copied ≡ cond (is_shared (held_at self.old.names name)) want.copies 0) }
+        ensures moved { IfOk result (λ own. own.moved ≡ cond (is_shared (held_at self.old.names name)) 0 (cond (nat_le want.capacity (held_at self.old.names name).capacity) 0 want.staying)) }
+        ensures free { (want.capacity ≡ cond (is_shared (held_at self.old.names name)) 0 (held_at self.old.names name).capacity) → IsOk result }
+    {
+        let Some(size) = self.size(name) else {
+            return Err(AllocError);
+        };
+        if size.owners > 1 {
+            self.copy(alloc, name, want)
+        } else {
+            self.open(alloc, name, want)
+        }
+    }
+}

@@ -1,0 +1,2 @@
+//! The laws of the counted keeping: what sharing copies and what growing moves, over every run.
+#![tactic(auto)]
