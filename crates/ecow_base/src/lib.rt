@@ -7,6 +7,3 @@ pub mod range;
 
 pub use capacity::{MAX_LEN, fresh_capacity, room_for};
 pub use range::{range_in, resolve};
-
-#[cfg(test)]
-mod tests;

@@ -7,13 +7,13 @@ ghost use Rattle.ecow_model.specs.Loans.{LendsValue};
 
 use crate::command::Name;
 use std::alloc::{AllocError, Global};
-use std::collections::BTreeMap;
+use std::collections::HashMap;
 use std::marker::Model;
 
-/// A finite map from names: a `BTreeMap` of which contracts see what stands under each name.
+/// A finite map from names: a `HashMap` of which contracts see what stands under each name.
 #[derive(Drop)]
 pub struct Table<V> {
-    values: BTreeMap<Name, V>,
+    values: HashMap<Name, V>,
 }
 
 impl<V> Model for Table<V> {
@@ -34,7 +34,7 @@ impl<V> Table<V> {
         ensures { result ≡ map.empty }
     {
         Table {
-            values: BTreeMap::new(alloc),
+            values: HashMap::new(alloc),
         }
     }
 

@@ -1,130 +1,224 @@
-//! The block over raw memory beside one over a `Vec`, on edits that a seed decides.
-use crate::numbers::Numbers;
-use ecow_block::Block;
-use std::alloc::{AllocError, Global};
-use std::process::Abort;
-use std::test::Fail;
+use crate::Block;
+use ecow_base::MAX_LEN;
+use std::alloc::AllocError;
+use std::cell::Cell;
 
-/// The same block twice: `raw` is the library's, and `plain` a `Vec`.
+/// What happened to the elements of a test. The clone with this number is refused.
 #[derive(Drop)]
-struct Twins {
-    raw: Block<i64>,
-    plain: Vec<i64>,
+struct Counts {
+    drops: Cell<u32>,
+    clones: Cell<u32>,
+    refused: u32,
 }
 
-impl Twins {
-    fn new(alloc: Global) -> Self {
-        Twins {
-            raw: Block::new(alloc),
-            plain: Vec::new(alloc),
+impl Counts {
+    fn new(refused: u32) -> Counts {
+        Counts {
+            drops: Cell::new(0),
+            clones: Cell::new(0),
+            refused,
         }
-    }
-
-    fn is_same(&self) -> bool {
-        self.raw.as_slice() == self.plain.as_slice()
-    }
-
-    fn grow(&mut self, n: usize) -> Result<(), AllocError> {
-        let capacity = self.raw.capacity().saturating_add(n);
-        self.raw.grow(capacity)
-    }
-
-    fn push(&mut self, value: i64) -> Result<(), AllocError> {
-        if self.raw.len() < self.raw.capacity() {
-            self.raw.push_within(value);
-            self.plain.push(value)?;
-        }
-        Ok(())
-    }
-
-    fn insert(&mut self, index: usize, value: i64) -> Result<(), AllocError> {
-        if self.raw.len() < self.raw.capacity()
-            && index <= self.raw.len()
-            && index <= self.plain.len()
-        {
-            self.raw.insert_within(index, value);
-            self.plain.insert(index, value)?;
-        }
-        Ok(())
-    }
-
-    fn remove(&mut self, index: usize) -> bool {
-        if index < self.raw.len() && index < self.plain.len() {
-            return self.raw.remove(index) == self.plain.remove(index);
-        }
-        true
-    }
-
-    fn set(&mut self, index: usize, value: i64) {
-        if index < self.raw.len() && index < self.plain.len() {
-            self.raw.set(index, value);
-            self.plain[index] = value;
-        }
-    }
-
-    fn extend(&mut self, values: &[i64]) -> Result<(), AllocError> {
-        if values.len() <= self.raw.capacity() - self.raw.len() {
-            self.raw.extend_within(values)?;
-            self.plain.extend_from_slice(values)?;
-        }
-        Ok(())
-    }
-
-    fn drain(&mut self, start: usize, end: usize) -> Result<bool, AllocError> {
-        if start > end || end > self.raw.len() || end > self.plain.len() {
-            return Ok(true);
-        }
-        let mut removed = self.raw.drain(start, end)?;
-        let mut same = removed.as_slice() == &self.plain[start..end];
-        for _ in start..end {
-            if start < self.plain.len() {
-                same = same && removed.next() == Some(self.plain.remove(start));
-            }
-        }
-        Ok(same)
-    }
-
-    fn retain(&mut self) {
-        self.raw.retain(|value| *value % 3 != 0);
-        self.plain.retain(|value| *value % 3 != 0);
     }
 }
 
-/// Makes one edit on both. Whether what they gave was the same.
-fn edit(twins: &mut Twins, numbers: &mut Numbers) -> Result<bool, AllocError> {
-    let (index, value) = (numbers.index(), numbers.value());
-    match numbers.below(12) {
-        0 => twins.grow(index)?,
-        1 | 2 | 3 => twins.push(value)?,
-        4 | 5 => twins.insert(index, value)?,
-        6 => return Ok(twins.remove(index)),
-        7 => twins.set(index, value),
-        8 => twins.extend(&[value, 1, 2])?,
-        9 => return twins.drain(numbers.index().min(index), index),
-        10 => twins.retain(),
-        _ => {
-            let len = twins.raw.len().saturating_sub(1);
-            twins.raw.truncate(len);
-            twins.plain.truncate(len);
-        }
-    }
-    Ok(true)
+/// An element that counts its drops and its clones.
+struct Counted<'a> {
+    counts: &'a Counts,
 }
 
-fn compared(rt: &impl Abort, alloc: Global, seed: u64) -> Result<(), Fail> {
-    let mut numbers = Numbers::new(seed);
-    let mut twins = Twins::new(alloc);
-    for _ in 0..300 {
-        assert!(rt; edit(&mut twins, &mut numbers)?, "{seed}");
-        assert!(rt; twins.is_same(), "{seed}");
+impl Drop for Counted<'_> {
+    fn drop(self) {
+        let Counted { counts } = self;
+        counts.drops.set(counts.drops.get().wrapping_add(1));
     }
+}
+
+impl<'a> Clone for Counted<'a> {
+    fn clone(&self) -> Result<Counted<'a>, AllocError> {
+        let clones = self.counts.clones.get().wrapping_add(1);
+        self.counts.clones.set(clones);
+        if clones == self.counts.refused {
+            return Err(AllocError);
+        }
+        Ok(Counted {
+            counts: self.counts,
+        })
+    }
+}
+
+/// A block of 1,000 such elements, which grew as they came.
+fn thousand(alloc: std::alloc::Global, counts: &Counts) -> Result<Block<Counted<'_>>, AllocError> {
+    let mut block = Block::new(alloc);
+    for _ in 0..1000 {
+        if block.len() == block.capacity() {
+            let more = block.capacity() / 2 + 10;
+            let capacity = block.capacity().saturating_add(more);
+            block.grow(capacity)?;
+        }
+        if block.len() < block.capacity() {
+            block.push_within(Counted { counts });
+        }
+    }
+    Ok(block)
+}
+
+#[test]
+fn elements_come_and_go(rt: HostRuntime) -> Result<(), AllocError> {
+    let mut block = Block::with_capacity(rt.alloc(), 5)?;
+    block.push_within(7u64);
+    block.push_within(8);
+    block.insert_within(1, 9);
+    block.insert_within(0, 6);
+    block.insert_within(4, 5);
+    assert_eq!(rt; block.as_slice(), [6, 7, 9, 8, 5].as_slice());
+    assert_eq!(rt; block.remove(0), 6);
+    assert_eq!(rt; block.remove(2), 8);
+    assert_eq!(rt; block.as_slice(), [7, 9, 5].as_slice());
+    block.grow(9)?;
+    assert_eq!(rt; (block.len(), block.capacity()), (3, 9));
+    assert_eq!(rt; block.pop(), Some(5));
+    block.as_mut_slice()[0] = 4;
+    assert_eq!(rt; block.as_slice(), [4, 9].as_slice());
     Ok(())
 }
 
 #[test]
-fn raw_memory_holds_what_a_vec_does(rt: HostRuntime) -> Result<(), Fail> {
-    for seed in 0..60 {
-        compared(&rt, rt.alloc(), seed)?;
+fn three_places_take_three_elements(rt: HostRuntime) -> Result<(), AllocError> {
+    let mut block = Block::with_capacity(rt.alloc(), 3)?;
+    for n in 0..3u32 {
+        if block.len() < block.capacity() {
+            block.push_within(n);
+        }
     }
+    assert_eq!(rt; block.as_slice(), [0, 1, 2].as_slice());
+    assert!(rt; block.capacity() == 3);
     Ok(())
+}
+
+#[test]
+fn each_element_is_dropped_once(rt: HostRuntime) -> Result<(), AllocError> {
+    let counts = Counts::new(0);
+    let mut block = thousand(rt.alloc(), &counts)?;
+    assert!(rt; block.len() == 1000);
+    assert_eq!(rt; counts.drops.get(), 0);
+    block.truncate(600);
+    assert_eq!(rt; counts.drops.get(), 400);
+    drop(block);
+    assert_eq!(rt; counts.drops.get(), 1000);
+    assert_eq!(rt; counts.clones.get(), 0);
+    Ok(())
+}
+
+#[test]
+fn what_is_left_is_dropped_with_the_rest(rt: HostRuntime) -> Result<(), AllocError> {
+    let counts = Counts::new(0);
+    let mut rest = thousand(rt.alloc(), &counts)?.into_rest();
+    for _ in 0..400 {
+        drop(rest.next());
+    }
+    assert!(rt; rest.len() == 600 && rest.as_slice().len() == 600);
+    assert_eq!(rt; counts.drops.get(), 400);
+    drop(rest);
+    assert_eq!(rt; counts.drops.get(), 1000);
+    let mut rest = thousand(rt.alloc(), &counts)?.into_rest();
+    for _ in 0..400 {
+        drop(rest.next_back());
+    }
+    assert_eq!(rt; counts.drops.get(), 1400);
+    drop(rest);
+    assert_eq!(rt; counts.drops.get(), 2000);
+    Ok(())
+}
+
+#[test]
+fn the_rest_is_taken_from_both_ends(rt: HostRuntime) -> Result<(), AllocError> {
+    let mut rest = Block::from_clones(rt.alloc(), &[1u8, 2, 3, 4], 6)?.into_rest();
+    assert_eq!(rt; rest.next(), Some(1));
+    assert_eq!(rt; rest.next_back(), Some(4));
+    assert_eq!(rt; rest.as_slice(), [2, 3].as_slice());
+    assert_eq!(rt;
+        (rest.next(), rest.next(), rest.next_back()),
+        (Some(2), Some(3), None)
+    );
+    Ok(())
+}
+
+#[test]
+fn moves_clone_nothing(rt: HostRuntime) -> Result<(), AllocError> {
+    let counts = Counts::new(0);
+    let mut elements = Vec::new(rt.alloc());
+    for _ in 0..10 {
+        elements.push(Counted { counts: &counts })?;
+    }
+    let capacity = elements.len();
+    let mut block = Block::with_capacity(rt.alloc(), capacity)?;
+    block.fill_within(elements);
+    let elements = block.take_vec()?;
+    assert!(rt; elements.len() == 10 && block.len() == 0);
+    drop(elements);
+    assert_eq!(rt; (counts.drops.get(), counts.clones.get()), (10, 0));
+    Ok(())
+}
+
+#[test]
+fn a_refused_clone_leaves_the_block(rt: HostRuntime) -> Result<(), AllocError> {
+    let counts = Counts::new(3);
+    let elements = [
+        Counted { counts: &counts },
+        Counted { counts: &counts },
+        Counted { counts: &counts },
+    ];
+    let mut block = Block::with_capacity(rt.alloc(), 3)?;
+    assert!(rt; block.extend_within(&elements).is_err());
+    assert!(rt; block.len() == 0 && block.capacity() == 3);
+    assert_eq!(rt; counts.drops.get(), 2);
+    assert!(rt; block.extend_within(&elements).is_ok());
+    assert!(rt; block.len() == 3);
+    Ok(())
+}
+
+#[test]
+fn ranges_are_drained_and_spliced(rt: HostRuntime) -> Result<(), AllocError> {
+    let mut block = Block::from_clones(rt.alloc(), &[0u64, 1, 2, 3, 4, 5], 8)?;
+    let removed = block.drain(1, 3)?;
+    assert_eq!(rt; removed.as_slice(), [1, 2].as_slice());
+    assert_eq!(rt; block.as_slice(), [0, 3, 4, 5].as_slice());
+    let longer = Block::from_clones(rt.alloc(), &[7u64, 8, 9], 3)?;
+    let removed = block.splice_within(1, 2, longer)?;
+    assert_eq!(rt; removed.as_slice(), [3].as_slice());
+    assert_eq!(rt; block.as_slice(), [0, 7, 8, 9, 4, 5].as_slice());
+    let removed = block.splice_within(0, 4, Block::from_clones(rt.alloc(), &[6], 1)?)?;
+    assert_eq!(rt; removed.as_slice(), [0, 7, 8, 9].as_slice());
+    assert_eq!(rt; block.as_slice(), [6, 4, 5].as_slice());
+    assert!(rt; block.capacity() == 8);
+    Ok(())
+}
+
+#[test]
+fn some_elements_are_kept(rt: HostRuntime) -> Result<(), AllocError> {
+    let mut block = Block::from_clones(rt.alloc(), &[1u32, 2, 3, 4, 5], 5)?;
+    block.retain(|n| *n % 2 == 1);
+    assert_eq!(rt; block.as_slice(), [1, 3, 5].as_slice());
+    Ok(())
+}
+
+#[test]
+fn elements_of_no_bytes_take_no_memory(rt: HostRuntime) -> Result<(), AllocError> {
+    let mut block = Block::with_capacity(rt.alloc(), MAX_LEN)?;
+    for _ in 0..1000 {
+        if block.len() < block.capacity() {
+            block.push_within(());
+        }
+    }
+    assert!(rt; block.len() == 1000 && block.capacity() == MAX_LEN);
+    assert!(rt; block.as_slice().len() == 1000);
+    Ok(())
+}
+
+#[test]
+fn more_than_memory_is_refused(rt: HostRuntime) {
+    assert!(rt; Block::<u64>::with_capacity(rt.alloc(), 0x1000_0000_0000_0000).is_err());
+    let mut block = Block::<u64>::new(rt.alloc());
+    assert!(rt; block.grow(0x1000_0000_0000_0000).is_err());
+    assert!(rt; block.capacity() == 0 && block.grow(2).is_ok());
 }
