@@ -9,6 +9,3 @@ mod room;
 
 pub use block::Block;
 pub use rest::Rest;
-
-#[cfg(test)]
-mod tests;

@@ -11,6 +11,3 @@ pub mod store;
 
 pub use list::PlainList;
 pub use store::PlainStore;
-
-#[cfg(test)]
-mod tests;

@@ -1,4 +1,5 @@
-use crate::Block;
+//! A block over raw memory: its edits, and what is dropped and cloned.
+use ecow_block::Block;
 use ecow_base::MAX_LEN;
 use std::alloc::AllocError;
 use std::cell::Cell;

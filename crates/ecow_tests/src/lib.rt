@@ -14,12 +14,20 @@ mod iterators;
 mod laws;
 pub mod numbers;
 #[cfg(test)]
+mod plain;
+#[cfg(test)]
 mod program;
+#[cfg(test)]
+mod ranges;
 #[cfg(test)]
 mod refusals;
 #[cfg(test)]
 mod scripts;
 #[cfg(test)]
 mod sharing;
+#[cfg(test)]
+mod twins;
+#[cfg(test)]
+mod vec_block;
 #[cfg(test)]
 mod vectors;

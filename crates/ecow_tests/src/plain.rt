@@ -1,4 +1,5 @@
-use crate::store::PlainStore;
+//! The plain program on commands whose answers are known.
+use ecow_plain::PlainStore;
 use ecow_model::{Items, Outcome, VecCommand};
 use std::alloc::{AllocError, Global};
 use std::ops::Bound;

@@ -1,6 +1,6 @@
 //! The program over readers and writers in memory: what it prints, how it ends, and which words
 //! it takes.
-use ecow_tool::{End, Reason, read_arguments, run_store};
+use ecow_tool::{End, Reason, read_arguments, run_counted, run_store};
 use std::alloc::Global;
 use std::io;
 use std::io::{ErrorKind, Read, Write};
@@ -71,6 +71,43 @@ fn ranges_are_taken_out(rt: HostRuntime) {
         "vec from_list a [1,2,3]\nvec drain a >0..=1\nvec retain a [+]\nvec retain a [-+]\n\
          vec contents a\nvec drop a\nvec drop a\n",
         "ok\n[2]\nrefused marks\nok\n[3]\nok\nrefused no-name\n",
+    );
+}
+
+/// Runs a script on a table of blocks and compares what it writes.
+fn counted_answers(rt: &impl Abort, alloc: Global, script: &str, want: &str) {
+    let mut written = Vec::new(alloc);
+    let end = run_counted(alloc, script.as_bytes(), &mut written);
+    assert_eq!(rt; end, End::Done, "{script}");
+    assert_eq!(rt; str::from_utf8(written.as_slice()), Ok(want), "{script}");
+}
+
+#[test]
+fn totals_are_told_last(rt: HostRuntime) {
+    counted_answers(&rt, rt.alloc(), "", "blocks 0 copied 0 moved 0\n");
+    counted_answers(
+        &rt,
+        rt.alloc(),
+        "vec from_list a [1,2,3]\nvec clone a b\nvec push b 4\nvec clone a c\nvec truncate c 1\n\
+         vec clear a\nvec contents a\nvec contents b\nvec contents c\n",
+        "ok\nok\nok\nok\nok\nok\n[]\n[1,2,3,4]\n[1]\nblocks 3 copied 4 moved 0\n",
+    );
+    counted_answers(
+        &rt,
+        rt.alloc(),
+        "vec from_list x [1,2,3]\nvec clone x y\nvec reserve x 0\nvec drop y",
+        "ok\nok\nok\nok\nblocks 1 copied 3 moved 0\n",
+    );
+}
+
+#[test]
+fn totals_of_one_owner(rt: HostRuntime) {
+    counted_answers(
+        &rt,
+        rt.alloc(),
+        "vec from_list a [1,2,3]\nvec drain a >0..=1\nvec retain a [+]\nvec retain a [-+]\n\
+         vec contents a\nvec drop a\nvec drop a\n",
+        "ok\n[2]\nrefused marks\nok\n[3]\nok\nrefused no-name\nblocks 0 copied 0 moved 0\n",
     );
 }
 
@@ -167,8 +204,12 @@ fn arguments_name_one_file(rt: HostRuntime) -> Result<(), Fail> {
     let file = "file".to_string(rt.alloc())?;
     let flag = "--counted".to_string(rt.alloc())?;
     assert_eq!(rt; read_arguments(&[]), None);
-    assert_eq!(rt; read_arguments(&[file]), Some((false, 0)));
-    assert_eq!(rt; read_arguments(&[flag]), None);
+    assert_eq!(rt; read_arguments(&[file.clone()?]), Some((false, 0)));
+    assert_eq!(rt; read_arguments(&[flag.clone()?]), None);
+    let words = [flag, file];
+    assert_eq!(rt; read_arguments(&words), Some((true, 1)));
+    let [flag, file] = words;
+    assert_eq!(rt; read_arguments(&[file, flag]), None);
     Ok(())
 }
 

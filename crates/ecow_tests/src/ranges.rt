@@ -1,4 +1,5 @@
-use crate::range::{range_in, resolve};
+//! Which ranges lie within a list.
+use ecow_base::{range_in, resolve};
 use std::ops::Bound;
 
 #[test]

@@ -1,86 +1,150 @@
 //! The block over raw memory beside one over a `Vec`, on edits that a seed decides.
 use crate::numbers::Numbers;
-use ecow_block::Block;
+use crate::vec_block::VecBlock;
+use ecow_block::{Block, Rest};
 use std::alloc::{AllocError, Global};
 use std::process::Abort;
 use std::test::Fail;
 
-/// The same block twice: `raw` is the library's, and `plain` a `Vec`.
+/// The same block twice: `raw` is the library's, and `plain` stands over a `Vec`.
 #[derive(Drop)]
 struct Twins {
     raw: Block<i64>,
-    plain: Vec<i64>,
+    plain: VecBlock<i64>,
+    alloc: Global,
+}
+
+/// Whether the elements by value are those of a list: the first from the front, the others from the back.
+fn is_rest(rest: Rest<i64>, items: Vec<i64>) -> bool {
+    let (mut rest, mut items) = (rest, items);
+    if rest.as_slice() != items.as_slice() {
+        return false;
+    }
+    let first = if items.len() > 0 {
+        Some(items.remove(0))
+    } else {
+        None
+    };
+    let mut same = rest.next() == first;
+    while let Some(item) = items.pop() {
+        same = same && rest.next_back() == Some(item);
+    }
+    same && rest.next().is_none() && rest.len() == 0
 }
 
 impl Twins {
     fn new(alloc: Global) -> Self {
         Twins {
             raw: Block::new(alloc),
-            plain: Vec::new(alloc),
+            plain: VecBlock::new(alloc),
+            alloc,
         }
     }
 
     fn is_same(&self) -> bool {
-        self.raw.as_slice() == self.plain.as_slice()
+        self.raw.as_slice() == self.plain.as_slice() && self.raw.capacity() == self.plain.capacity()
+    }
+
+    fn room(&self) -> usize {
+        self.raw.capacity() - self.raw.len()
     }
 
     fn grow(&mut self, n: usize) -> Result<(), AllocError> {
         let capacity = self.raw.capacity().saturating_add(n);
-        self.raw.grow(capacity)
+        self.raw.grow(capacity)?;
+        self.plain.grow(capacity);
+        Ok(())
     }
 
     fn push(&mut self, value: i64) -> Result<(), AllocError> {
         if self.raw.len() < self.raw.capacity() {
             self.raw.push_within(value);
-            self.plain.push(value)?;
+            self.plain.push_within(value)?;
         }
         Ok(())
     }
 
     fn insert(&mut self, index: usize, value: i64) -> Result<(), AllocError> {
-        if self.raw.len() < self.raw.capacity()
-            && index <= self.raw.len()
-            && index <= self.plain.len()
-        {
+        if self.raw.len() < self.raw.capacity() && index <= self.raw.len() {
             self.raw.insert_within(index, value);
-            self.plain.insert(index, value)?;
+            self.plain.insert_within(index, value)?;
         }
         Ok(())
     }
 
     fn remove(&mut self, index: usize) -> bool {
-        if index < self.raw.len() && index < self.plain.len() {
-            return self.raw.remove(index) == self.plain.remove(index);
+        if index < self.raw.len() {
+            return Some(self.raw.remove(index)) == self.plain.remove(index);
         }
         true
     }
 
     fn set(&mut self, index: usize, value: i64) {
-        if index < self.raw.len() && index < self.plain.len() {
+        if index < self.raw.len() {
             self.raw.set(index, value);
-            self.plain[index] = value;
+            self.plain.set(index, value);
         }
     }
 
     fn extend(&mut self, values: &[i64]) -> Result<(), AllocError> {
-        if values.len() <= self.raw.capacity() - self.raw.len() {
+        if values.len() <= self.room() {
             self.raw.extend_within(values)?;
-            self.plain.extend_from_slice(values)?;
+            self.plain.extend_within(values)?;
         }
         Ok(())
     }
 
     fn drain(&mut self, start: usize, end: usize) -> Result<bool, AllocError> {
-        if start > end || end > self.raw.len() || end > self.plain.len() {
+        if start > end || end > self.raw.len() {
             return Ok(true);
         }
-        let mut removed = self.raw.drain(start, end)?;
-        let mut same = removed.as_slice() == &self.plain[start..end];
-        for _ in start..end {
-            if start < self.plain.len() {
-                same = same && removed.next() == Some(self.plain.remove(start));
-            }
+        let removed = self.raw.drain(start, end)?;
+        Ok(is_rest(removed, self.plain.drain(self.alloc, start, end)?))
+    }
+
+    fn splice(&mut self, start: usize, end: usize, values: &[i64]) -> Result<bool, AllocError> {
+        if start > end || end > self.raw.len() {
+            return Ok(true);
         }
+        if values.len() > self.raw.capacity() - (self.raw.len() - (end - start)) {
+            return Ok(true);
+        }
+        let replacement = Block::from_clones(self.alloc, values, values.len())?;
+        let removed = self.raw.splice_within(start, end, replacement)?;
+        let replacement = VecBlock::from_clones(self.alloc, values, values.len())?;
+        let plain = self
+            .plain
+            .splice_within(self.alloc, start, end, replacement)?;
+        Ok(is_rest(removed, plain))
+    }
+
+    /// Two blocks become one.
+    fn join(&mut self, index: usize, values: &[i64]) -> Result<(), AllocError> {
+        if values.len() > self.room() || index > self.raw.len() {
+            return Ok(());
+        }
+        let mut raw = Block::from_clones(self.alloc, values, values.len())?;
+        let mut plain = VecBlock::from_clones(self.alloc, values, values.len())?;
+        if index == 0 {
+            self.raw.append_within(&mut raw);
+            self.plain.append_within(&mut plain)
+        } else {
+            self.raw.insert_all_within(index, raw);
+            self.plain.insert_all_within(index, plain)
+        }
+    }
+
+    /// All elements go to a `Vec` and come back into a block with room for more.
+    fn through_a_vec(&mut self, more: usize) -> Result<bool, AllocError> {
+        let (raw, plain) = (self.raw.take_vec()?, self.plain.take_vec(self.alloc));
+        let same = raw.as_slice() == plain.as_slice() && self.raw.len() == 0;
+        let capacity = raw.len().saturating_add(more);
+        self.raw = Block::with_capacity(self.alloc, capacity)?;
+        if raw.len() <= self.raw.capacity() {
+            self.raw.fill_within(raw);
+        }
+        self.plain.grow(capacity);
+        self.plain.fill_within(plain);
         Ok(same)
     }
 
@@ -88,12 +152,18 @@ impl Twins {
         self.raw.retain(|value| *value % 3 != 0);
         self.plain.retain(|value| *value % 3 != 0);
     }
+
+    fn shorten(&mut self, by: usize) {
+        let len = self.raw.len().saturating_sub(by);
+        self.raw.truncate(len);
+        self.plain.truncate(len);
+    }
 }
 
 /// Makes one edit on both. Whether what they gave was the same.
 fn edit(twins: &mut Twins, numbers: &mut Numbers) -> Result<bool, AllocError> {
     let (index, value) = (numbers.index(), numbers.value());
-    match numbers.below(12) {
+    match numbers.below(16) {
         0 => twins.grow(index)?,
         1 | 2 | 3 => twins.push(value)?,
         4 | 5 => twins.insert(index, value)?,
@@ -101,12 +171,12 @@ fn edit(twins: &mut Twins, numbers: &mut Numbers) -> Result<bool, AllocError> {
         7 => twins.set(index, value),
         8 => twins.extend(&[value, 1, 2])?,
         9 => return twins.drain(numbers.index().min(index), index),
-        10 => twins.retain(),
-        _ => {
-            let len = twins.raw.len().saturating_sub(1);
-            twins.raw.truncate(len);
-            twins.plain.truncate(len);
-        }
+        10 => return twins.splice(numbers.index().min(index), index, &[value, 3]),
+        11 => return twins.splice(index, index, &[4, value, 5]),
+        12 => twins.join(index, &[value, 6])?,
+        13 => return twins.through_a_vec(index),
+        14 => twins.retain(),
+        _ => twins.shorten(index),
     }
     Ok(true)
 }
