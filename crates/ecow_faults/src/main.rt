@@ -3,9 +3,11 @@
 //! hands its value back and leaves all as it was.
 #![tactic(auto)]
 
-mod stores;
+mod keepings;
 mod vectors;
 
+use ecow_counted::Counted;
+use ecow_tool::Store;
 use std::io;
 
 fn main(rt: HostRuntime) -> io::Result<()> {
@@ -15,8 +17,13 @@ fn main(rt: HostRuntime) -> io::Result<()> {
         ("ranges", vectors::ranges_hold(alloc)),
         ("conversions", vectors::conversions_hold(alloc)),
         ("growth", vectors::growth_holds(alloc)),
-        ("commands", stores::commands_hold(alloc)),
-        ("runs", stores::runs_hold(alloc)),
+        ("commands", keepings::commands_hold(alloc, Store::new(alloc))),
+        ("runs", keepings::runs_hold(alloc)),
+        (
+            "counted commands",
+            keepings::commands_hold(alloc, Counted::new(alloc)),
+        ),
+        ("counted runs", keepings::counted_runs_hold(alloc)),
     ] {
         if holds {
             println!(rt; "{name}: as before or done")?;

@@ -1,7 +1,7 @@
 //! `ecow-run [--counted] FILE`: runs a script of commands on named values.
 #![tactic(auto)]
 
-use ecow_tool::{End, read_arguments, run_store};
+use ecow_tool::{End, read_arguments, run_counted, run_store};
 use std::env::Env;
 use std::fs::File;
 use std::io::ErrorKind;
@@ -14,14 +14,12 @@ fn main(rt: HostRuntime) -> ExitCode {
         Err(error) if error.kind() == ErrorKind::OutOfMemory => return ended(&rt, End::Memory),
         Err(_) => return usage(&rt),
     };
-    let Some((_, place)) = read_arguments(words.as_slice()) else {
+    let Some((counted, place)) = read_arguments(words.as_slice()) else {
         return usage(&rt);
     };
     match File::open(&rt, &words[place]) {
-        Ok(file) => {
-            let end = run_store(rt.alloc(), file, io::writer(&rt));
-            ended(&rt, end)
-        }
+        Ok(file) if counted => ended(&rt, run_counted(rt.alloc(), file, io::writer(&rt))),
+        Ok(file) => ended(&rt, run_store(rt.alloc(), file, io::writer(&rt))),
         Err(_) => ended(&rt, End::File),
     }
 }

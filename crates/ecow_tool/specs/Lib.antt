@@ -1,2 +1,4 @@
+pub mod Arguments
+pub mod Ends
 pub mod Puts
 pub mod Refusals

@@ -1,4 +1,5 @@
 //! The answer lines of outcomes.
+use ecow_counted::Counted;
 use ecow_model::{Outcome, Refusal};
 use itoa::{Buffer, Integer};
 use std::alloc::AllocError;
@@ -23,6 +24,17 @@ pub(crate) fn write_answer(answers: &mut String, outcome: &Outcome<i64>) -> Resu
         Outcome::Flag(flag) => answers.push_str(if *flag { "true" } else { "false" })?,
         Outcome::Refused(refusal) => write_refusal(answers, *refusal)?,
     }
+    answers.push('\n')
+}
+
+/// Appends the line of what a table of blocks holds and did.
+pub(crate) fn write_totals(answers: &mut String, counted: &Counted<i64>) -> Result<(), AllocError> {
+    answers.push_str("blocks ")?;
+    write_number(answers, counted.blocks())?;
+    answers.push_str(" copied ")?;
+    write_number(answers, counted.copied())?;
+    answers.push_str(" moved ")?;
+    write_number(answers, counted.moved())?;
     answers.push('\n')
 }
 

@@ -1,4 +1,5 @@
-//! Commands on named values: the keeping over handles, the script and the program over them.
+//! Commands on named values: the keeping over handles, the script, and the program over both
+//! keepings.
 #![tactic(auto)]
 
 mod answer;
@@ -6,6 +7,6 @@ pub mod program;
 pub mod run;
 pub mod script;
 
-pub use program::{End, read_arguments, run_store};
+pub use program::{End, read_arguments, run_counted, run_store};
 pub use run::Store;
 pub use script::Reason;

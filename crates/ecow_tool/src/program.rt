@@ -1,10 +1,12 @@
 //! The program over any reader and writer.
-ghost use Rattle.std.specs.Prelude.{◌<◌, length, IfSome};
+ghost use Rattle.std.specs.Prelude.{◌≡◌, ◌<◌, length, IfSome};
+ghost use Rattle.ecow_tool.specs.Arguments.{asked, is_flag};
 
-use crate::answer::write_answer;
+use crate::answer::{write_answer, write_totals};
 use crate::run::Store;
 use crate::script::{Fault, Reason, read_script};
-use ecow_model::VecCommand;
+use ecow_counted::Counted;
+use ecow_model::{Outcome, VecCommand};
 use std::alloc::{AllocError, Global};
 use std::fmt;
 use std::io::{ErrorKind, Read, Write};
@@ -36,12 +38,22 @@ pub enum End {
 }
 
 impl From<AllocError> for End {
+    ghost use Rattle.std.specs.Prelude.{◌≡◌};
+    ghost use Rattle.ecow_tool.specs.declared.program.End.{End};
+
+    ghost from_gives = { λ _ end. end ≡ End.Memory };
+
     fn from(_: AllocError) -> End {
         End::Memory
     }
 }
 
 impl From<Fault> for End {
+    ghost use Rattle.std.specs.Prelude.{◌≡◌};
+    ghost use Rattle.ecow_tool.specs.Ends.{end_for};
+
+    ghost from_gives = { λ fault end. end ≡ end_for fault };
+
     fn from(fault: Fault) -> End {
         match fault {
             Fault::Unreadable(line, reason) => End::Unreadable(line, reason),
@@ -53,42 +65,76 @@ impl From<Fault> for End {
 /// Whether the counted keeping is asked for, and the place of the file's name among the words
 /// after the program's name. `None` where they are no use of the program.
 pub fn read_arguments(words: &[String]) -> Option<(bool, usize)>
-    ensures { IfSome result (λ found. found.1 < length words.now) }
+    ensures asked { result ≡ asked words.now }
+    ensures place { IfSome result (λ found. found.1 < length words.now) }
 {
     match words {
-        [file] if file.as_str() != "--counted" => Some((false, 0)),
+        [file] if !is_flag(file) => Some((false, 0)),
+        [flag, _] if is_flag(flag) => Some((true, 1)),
         _ => None,
     }
+}
+
+/// Whether a word asks for the counted keeping.
+fn is_flag(word: &String) -> bool
+    ensures { result ≡ is_flag word.now }
+{
+    word.as_str() == "--counted"
 }
 
 /// Reads a script, carries its commands out on a new `Store`, and writes an answer line for each.
 /// Nothing is written before all lines are made.
 pub fn run_store<R: Read + Drop, W: Write + Drop>(alloc: Global, reader: R, writer: W) -> End {
     let (mut reader, mut writer) = (reader, writer);
-    match answers(alloc, &mut reader) {
+    match store_answers(alloc, &mut reader) {
         Ok(answers) => write_out(&mut writer, answers.as_str()),
         Err(end) => end,
     }
 }
 
-/// The answer lines of a script.
-fn answers<R: Read>(alloc: Global, reader: &mut R) -> Result<String, End> {
-    let script = read_limited(alloc, reader)?;
-    if str::from_utf8(script.as_slice()).is_err() {
-        return Err(End::NotUtf8);
+/// Does the same on a new `Counted`, and writes a last line: the number of blocks, and how many
+/// elements were copied and moved.
+pub fn run_counted<R: Read + Drop, W: Write + Drop>(alloc: Global, reader: R, writer: W) -> End {
+    let (mut reader, mut writer) = (reader, writer);
+    match counted_answers(alloc, &mut reader) {
+        Ok(answers) => write_out(&mut writer, answers.as_str()),
+        Err(end) => end,
     }
-    let commands = read_script(alloc, script.as_slice())?;
-    answers_of(alloc, commands)
 }
 
-/// The answer lines of commands on a new store.
-fn answers_of(alloc: Global, commands: Vec<VecCommand<i64>>) -> Result<String, End> {
+fn store_answers<R: Read>(alloc: Global, reader: &mut R) -> Result<String, End> {
+    let commands = read_commands(alloc, reader)?;
     let mut store = Store::new(alloc);
     let Ok(outcomes) = store.run(commands) else {
         return Err(End::Memory);
     };
+    answers_of(alloc, outcomes.as_slice())
+}
+
+fn counted_answers<R: Read>(alloc: Global, reader: &mut R) -> Result<String, End> {
+    let commands = read_commands(alloc, reader)?;
+    let mut counted = Counted::new(alloc);
+    let Ok(outcomes) = counted.run(commands) else {
+        return Err(End::Memory);
+    };
+    let mut answers = answers_of(alloc, outcomes.as_slice())?;
+    write_totals(&mut answers, &counted)?;
+    Ok(answers)
+}
+
+/// The commands of a script.
+fn read_commands<R: Read>(alloc: Global, reader: &mut R) -> Result<Vec<VecCommand<i64>>, End> {
+    let script = read_limited(alloc, reader)?;
+    if str::from_utf8(script.as_slice()).is_err() {
+        return Err(End::NotUtf8);
+    }
+    Ok(read_script(alloc, script.as_slice())?)
+}
+
+/// The answer lines of outcomes.
+fn answers_of(alloc: Global, outcomes: &[Outcome<i64>]) -> Result<String, End> {
     let mut answers = String::new(alloc);
-    for outcome in &outcomes {
+    for outcome in outcomes {
         write_answer(&mut answers, outcome)?;
     }
     Ok(answers)

@@ -106,11 +106,9 @@ fn clone<T: Drop>(values: &mut Values<T>, from: Name, to: Name) -> Outcome<T>
     ensures step { IsVecStep values.old (VecCommand.Clone from to) result values.new }
     ensures refused { OnRefused result (values.new ≡ values.old) }
 {
-    if !values.contains(from) {
-        return Outcome::Refused(Refusal::NoName);
-    }
     if values.contains(to) {
-        return Outcome::Refused(Refusal::Taken);
+        let there = values.contains(from);
+        return Outcome::Refused(if there { Refusal::Taken } else { Refusal::NoName });
     }
     let source = match list(values, from) {
         Ok(source) => source,

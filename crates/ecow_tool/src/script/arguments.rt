@@ -12,10 +12,13 @@ impl<'a> Reader<'a> {
     /// NAME: the number of a name.
     pub(super) fn name(&mut self) -> Result<Name, Misfit> {
         let word = self.argument()?;
+        if let Some(number) = self.number_of(word) {
+            return Ok(number);
+        }
         if !is_name(word) {
             return Err(Misfit::Expected(Reason::Name));
         }
-        self.number_of(word)
+        self.add_name(word)
     }
 
     /// COUNT: a number of 64 bits.

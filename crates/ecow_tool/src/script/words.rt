@@ -16,6 +16,11 @@ pub(super) enum Misfit {
 }
 
 impl<T: Drop> From<AllocFailed<T>> for Misfit {
+    ghost use Rattle.std.specs.Prelude.{◌≡◌};
+    ghost use Rattle.ecow_tool.specs.declared.script.words.Misfit.{Misfit};
+
+    ghost from_gives = { λ _ misfit. misfit ≡ Misfit.Memory };
+
     fn from(_: AllocFailed<T>) -> Misfit {
         Misfit::Memory
     }
@@ -68,11 +73,13 @@ impl<'a> Reader<'a> {
         self.next_word().ok_or(Misfit::Expected(Reason::Arguments))
     }
 
-    /// The number of a name: that which it has, or the next one.
-    pub(super) fn number_of(&mut self, word: &'a [u8]) -> Result<Name, Misfit> {
-        if let Some(number) = self.names.get(&word) {
-            return Ok(*number);
-        }
+    /// The number of a name that was read before.
+    pub(super) fn number_of(&self, word: &'a [u8]) -> Option<Name> {
+        self.names.get(&word).copied()
+    }
+
+    /// Gives a new name the next number.
+    pub(super) fn add_name(&mut self, word: &'a [u8]) -> Result<Name, Misfit> {
         let Ok(number) = Name::try_from(self.names.len()) else {
             return Err(Misfit::Memory);
         };
