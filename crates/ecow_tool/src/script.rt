@@ -4,6 +4,7 @@ mod lists;
 mod words;
 
 use crate::script::words::{Misfit, Reader};
+use bstr::ByteSlice;
 use ecow_model::VecCommand;
 use std::alloc::Global;
 
@@ -45,10 +46,9 @@ pub(crate) fn read_script(alloc: Global, text: &[u8]) -> Result<Vec<VecCommand<i
     let mut reader = Reader::new(alloc);
     let mut commands = Vec::new(alloc);
     let mut number: usize = 0;
-    for line in text.split(|byte| *byte == b'\n') {
+    for line in text.lines_with_terminator() {
         number = number.saturating_add(1);
-        let line = line.strip_suffix(b"\r").unwrap_or(line);
-        match reader.read_line(line) {
+        match reader.read_line(without_end(line)) {
             Ok(None) => {}
             Ok(Some(command)) => {
                 if commands.push(command).is_err() {
@@ -60,6 +60,12 @@ pub(crate) fn read_script(alloc: Global, text: &[u8]) -> Result<Vec<VecCommand<i
         }
     }
     Ok(commands)
+}
+
+/// A line without its line feed, and without a carriage return right before that.
+fn without_end(line: &[u8]) -> &[u8] {
+    let line = line.strip_suffix(b"\n").unwrap_or(line);
+    line.strip_suffix(b"\r").unwrap_or(line)
 }
 
 impl<'a> Reader<'a> {
