@@ -1,6 +1,6 @@
 //! A block over raw memory: its edits, and what is dropped and cloned.
-use ecow_block::Block;
 use ecow_base::MAX_LEN;
+use ecow_block::Block;
 use std::alloc::AllocError;
 use std::cell::Cell;
 

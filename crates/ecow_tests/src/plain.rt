@@ -1,6 +1,6 @@
 //! The plain program on commands whose answers are known.
-use ecow_plain::PlainStore;
 use ecow_model::{Items, Outcome, VecCommand};
+use ecow_plain::PlainStore;
 use std::alloc::{AllocError, Global};
 use std::ops::Bound;
 use std::process::Abort;

@@ -16,17 +16,13 @@ struct Twins {
 
 /// Whether the elements by value are those of a list: the first from the front, the others from the back.
 fn is_rest(rest: Rest<i64>, items: Vec<i64>) -> bool {
-    let (mut rest, mut items) = (rest, items);
+    let mut rest = rest;
     if rest.as_slice() != items.as_slice() {
         return false;
     }
-    let first = if items.len() > 0 {
-        Some(items.remove(0))
-    } else {
-        None
-    };
-    let mut same = rest.next() == first;
-    while let Some(item) = items.pop() {
+    let mut items = items.into_iter();
+    let mut same = rest.next() == items.next();
+    for item in items.rev() {
         same = same && rest.next_back() == Some(item);
     }
     same && rest.next().is_none() && rest.len() == 0
@@ -43,10 +39,6 @@ impl Twins {
 
     fn is_same(&self) -> bool {
         self.raw.as_slice() == self.plain.as_slice() && self.raw.capacity() == self.plain.capacity()
-    }
-
-    fn room(&self) -> usize {
-        self.raw.capacity() - self.raw.len()
     }
 
     fn grow(&mut self, n: usize) -> Result<(), AllocError> {
@@ -87,7 +79,7 @@ impl Twins {
     }
 
     fn extend(&mut self, values: &[i64]) -> Result<(), AllocError> {
-        if values.len() <= self.room() {
+        if values.len() <= self.raw.capacity() - self.raw.len() {
             self.raw.extend_within(values)?;
             self.plain.extend_within(values)?;
         }
@@ -120,7 +112,7 @@ impl Twins {
 
     /// Two blocks become one.
     fn join(&mut self, index: usize, values: &[i64]) -> Result<(), AllocError> {
-        if values.len() > self.room() || index > self.raw.len() {
+        if values.len() > self.raw.capacity() - self.raw.len() || index > self.raw.len() {
             return Ok(());
         }
         let mut raw = Block::from_clones(self.alloc, values, values.len())?;

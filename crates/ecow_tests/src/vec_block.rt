@@ -33,10 +33,6 @@ impl<T: Drop> VecBlock<T> {
         Ok(self.elements.push(item)?)
     }
 
-    pub(crate) fn pop(&mut self) -> Option<T> {
-        self.elements.pop()
-    }
-
     /// Nothing where the list is shorter.
     pub(crate) fn insert_within(&mut self, index: usize, item: T) -> Result<(), AllocError> {
         if index <= self.elements.len() {
@@ -77,9 +73,14 @@ impl<T: Drop> VecBlock<T> {
         index: usize,
         other: VecBlock<T>,
     ) -> Result<(), AllocError> {
-        let mut other = other;
-        while let Some(item) = other.pop() {
+        let VecBlock {
+            elements,
+            capacity: _,
+        } = other;
+        let mut index = index;
+        for item in elements {
             self.insert_within(index, item)?;
+            index = index.saturating_add(1);
         }
         Ok(())
     }
