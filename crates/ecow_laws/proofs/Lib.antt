@@ -5,3 +5,5 @@ pub mod Kept
 pub mod Totals
 pub mod Settled
 pub mod Ranges
+pub mod Lengths
+pub mod Steps
