@@ -7,3 +7,4 @@ pub mod Settled
 pub mod Ranges
 pub mod Lengths
 pub mod Steps
+pub mod Bounds

@@ -24,7 +24,7 @@ alone_of x (y ∷ []) m one = elim (eqb y x) as (λ b. eqb y x ≡ b → (b || f
 ] refl m
 alone_of x (y ∷ z ∷ group) m one = absurd (omega arith)
 
-empty_of : (group : List ℕ) → length group ≡ 0 → group ≡ []
+pub empty_of : (group : List ℕ) → length group ≡ 0 → group ≡ []
 empty_of [] e = refl
 empty_of (y ∷ group) e = absurd (omega arith)
 
