@@ -9,3 +9,4 @@ pub mod Opening
 pub mod Editing
 pub mod Stepping
 pub mod Reading
+pub mod Totals

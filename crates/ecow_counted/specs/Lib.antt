@@ -4,3 +4,4 @@ pub mod Opened
 pub mod Places
 pub mod Sizes
 pub mod Standing
+pub mod Totals
