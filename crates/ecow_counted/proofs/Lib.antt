@@ -10,3 +10,4 @@ pub mod Editing
 pub mod Stepping
 pub mod Reading
 pub mod Totals
+pub mod Filling

@@ -1,4 +1,5 @@
 pub mod Edits
+pub mod Filling
 pub mod Keeping
 pub mod Opened
 pub mod Places

@@ -32,11 +32,11 @@ settled : (b : Bool) (m : ℕ) → cond b m 0 ≤ m
 settled true m = omega arith
 settled false m = omega arith
 
-bound : {A B : Type 0} (r : Result A Refusal) (next : A → Result B Refusal) (b : B) → (r >>= next) ≡ Ok b → (a : A) × (r ≡ Ok a) × (next a ≡ Ok b)
+pub bound : {A B : Type 0} (r : Result A Refusal) (next : A → Result B Refusal) (b : B) → (r >>= next) ≡ Ok b → (a : A) × (r ≡ Ok a) × (next a ≡ Ok b)
 bound (Ok a) next b e = (a, refl, e)
 bound (Err refusal) next b e = cc
 
-same_answer : {A : Type 0} (a b : A) → ◌≡◌ {A = Result A Refusal} (Ok a) (Ok b) → a ≡ b
+pub same_answer : {A : Type 0} (a b : A) → ◌≡◌ {A = Result A Refusal} (Ok a) (Ok b) → a ≡ b
 same_answer a b e = cc
 
 absent : {V : Type 0} (o : Option V) (u : Unit {0}) → ◌≡◌ {A = Result (Unit {0}) Refusal} (if is_some o then Err Taken else Ok tt) (Ok u) → o ≡ None
