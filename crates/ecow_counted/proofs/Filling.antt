@@ -115,14 +115,16 @@ module _ {T : Type 0} where
     begins step moves =
         let is = begun step in
         let none : moved (New name) old.names ≡ 0 = elim (is_shared (held_at old.names name)) as (λ b. ◌≡◌ {A = ℕ} (cond b 0 0) 0) [ true ↦ refl | false ↦ refl ] in
-        let count : if_accepted outcome (moved (New name) old.names) ≡ 0 = ap (λ o. if_accepted o (moved (New name) old.names)) is.0 ∙ none in
-        (is.0, record {
-          held = record { items = []; group = []; capacity = 0 };
-          at = ap (λ names. finite.get names name) is.1 ∙ get-settle old.names name [] 0;
-          sole = refl;
-          count = refl;
-          paid = omega (arith, moves, count);
-        })
+        let count : if_accepted outcome (moved (New name) old.names) ≡ 0 = ap (λ o. if_accepted o (moved (New name) old.names)) is.0 ∙ none in (
+          is.0,
+          record {
+            held = record { items = []; group = []; capacity = 0 };
+            at = ap (λ names. finite.get names name) is.1 ∙ get-settle old.names name [] 0;
+            sole = refl;
+            count = refl;
+            paid = omega (arith, moves, count);
+          },
+        )
 
     -- a push was accepted
     module _ (value : T) (before n : ℕ) (groups : IsSharing old.names) (so_far : IsFilling before name n old) where
@@ -158,14 +160,16 @@ module _ {T : Type 0} where
           let growth : moved (Push name value) old.names ≡ moves (Push name value) (length so_far.held.items) so_far.held.capacity = ap (moved_by (Push name value)) holds ∙ ap (λ b. cond b 0 (moves (Push name value) (length so_far.held.items) so_far.held.capacity)) so_far.sole in
           let count : if_accepted outcome (moved (Push name value) old.names) ≡ moves (Push name value) (length so_far.held.items) so_far.held.capacity = ap (λ o. if_accepted o (moved (Push name value) old.names)) is.0 ∙ growth in
           let had : strain_at n so_far.held.capacity ≡ strain_at (length so_far.held.items) so_far.held.capacity = ap (λ k. strain_at k so_far.held.capacity) (sym so_far.count) in
-          let has : strain_at (n + 1) capacity ≡ strain_at (length after) capacity = ap (λ k. strain_at k capacity) (sym (long ∙ ap (λ k. k + 1) so_far.count)) in
-          (is.0, record {
-            held = record { items = after; group = cond (nat_lt 0 capacity) (name ∷ []) []; capacity = capacity };
-            at = ap (λ names. finite.get names name) (is.2 ∙ goes) ∙ get-settle old.names name after capacity;
-            sole = sole_group name capacity;
-            count = long ∙ ap (λ k. k + 1) so_far.count;
-            paid = omega (arith, moves_are, count, so_far.paid, cost.moved, had, has);
-          })
+          let has : strain_at (n + 1) capacity ≡ strain_at (length after) capacity = ap (λ k. strain_at k capacity) (sym (long ∙ ap (λ k. k + 1) so_far.count)) in (
+            is.0,
+            record {
+              held = record { items = after; group = cond (nat_lt 0 capacity) (name ∷ []) []; capacity = capacity };
+              at = ap (λ names. finite.get names name) (is.2 ∙ goes) ∙ get-settle old.names name after capacity;
+              sole = sole_group name capacity;
+              count = long ∙ ap (λ k. k + 1) so_far.count;
+              paid = omega (arith, moves_are, count, so_far.paid, cost.moved, had, has);
+            },
+          )
 
 pub not_refused_by : {T : Type 0} (outcome : Outcome T) → ((refusal : Refusal) → outcome ≡ Refused refusal → ⊥) → OnRefused outcome ⊥
 not_refused_by (Refused refusal) h = h refusal refl

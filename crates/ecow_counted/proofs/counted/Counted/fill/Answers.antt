@@ -32,9 +32,11 @@ returns-in-Refused-step g c =
     let is = c.in-Refused-step.ensures in
     let next = next_of c.loop-value.accepted c.args.items.items c.in-Some.value _ (sym so_far.left ∙ c.in-Some.ensures.items) in
     record {
-      run = λ clones. inr (next.within,
-          subst (λ cs. IsRunOf c.args.self.now cs (accepted c.loop-value.accepted ++ Refused c.in-Refused-step.refusal ∷ []) c.step-in-Some.new.self) (sym (filling_more c.args.name c.loop-value.accepted c.args.items.items c.in-Some.value _ next))
-          (runs_more c.args.self.now (filling c.args.name (take c.loop-value.accepted c.args.items.items)) (accepted c.loop-value.accepted) c.loop-value.self c.step-in-Some.new.self (Push c.args.name c.in-Some.value) (Refused c.in-Refused-step.refusal) c.blocks-blocks.ensures.sharing (so_far.run clones) (is.step clones) is.copied is.moved));
+      run = λ clones. inr (
+        next.within,
+        subst (λ cs. IsRunOf c.args.self.now cs (accepted c.loop-value.accepted ++ Refused c.in-Refused-step.refusal ∷ []) c.step-in-Some.new.self) (sym (filling_more c.args.name c.loop-value.accepted c.args.items.items c.in-Some.value _ next))
+            (runs_more c.args.self.now (filling c.args.name (take c.loop-value.accepted c.args.items.items)) (accepted c.loop-value.accepted) c.loop-value.self c.step-in-Some.new.self (Push c.args.name c.in-Some.value) (Refused c.in-Refused-step.refusal) c.blocks-blocks.ensures.sharing (so_far.run clones) (is.step clones) is.copied is.moved),
+      );
       moves = λ clones. subst (λ (k : Keeping g.row.T.Denot). k.moved ≤ c.args.self.now.moved + 2 * c.loop-value.accepted) (sym is.refused) (moves_at_most c.args.self.now.moved c.args.name c.loop-value.accepted c.loop-value.self (so_far.moves clones));
     }
 
