@@ -1,24 +1,24 @@
 -- Over every run, sharing never copies more than copying at each clone, and moves are paid by copies and twice the input.
-use Rattle.std.proofs.Common.{◌≡◌, ◌≢◌, ℕ, ◌+◌, ◌-◌, ◌*◌, ◌<◌, ◌≤◌, Bool, true, false, cond, not, ◌&&◌, eqb, ltb, List, [], ◌∷◌, length, Option, Some, None, Result, Ok, Err, refl, sym, ◌∙◌, ap, subst, arith, ◌⊎◌, inl, inr, ⊎_elim, if◌then◌else◌}
+use Rattle.std.proofs.Common.{◌≡◌, ℕ, ◌+◌, ◌*◌, ◌≤◌, Bool, true, false, cond, not, ◌&&◌, ltb, List, [], ◌∷◌, length, Option, Some, None, Result, Ok, Err, refl, sym, ◌∙◌, ap, subst, arith, ⊎_elim, if◌then◌else◌}
 use Rattle.std.specs.Prelude.{is_some}
 use Rattle.std.specs.FinMap as finite
 use Rattle.std.specs.Option.{unwrap_or}
-use Rattle.std.proofs.lemmas.Bool.{cases_Bool, true≢false, ltb-false, eqb-false}
+use Rattle.std.proofs.lemmas.Bool.{cases_Bool, ltb-false, eqb-false}
 use Rattle.std.specs.Ordering.{nat_cmp}
 use Rattle.std.proofs.lemmas.Option.{none-some}
 use Rattle.ecow_base.specs.Capacity.{MAX}
-use Rattle.ecow_model.specs.Access.{◌>>=◌, Access, makes, copies as copies_from, drops, changes, reads, OnRefused, there, free, found, name_in, Reading, Change}
+use Rattle.ecow_model.specs.Access.{◌>>=◌, makes, copies as copies_from, drops, changes, reads, OnRefused, there, free, name_in}
 use Rattle.ecow_model.specs.Costs.{unshares, copies, capacity_after, moves, input, copied_by, moved_by}
-use Rattle.ecow_model.specs.CountedRun.{nothing, held_at, reading_of, change, counted_act, counted_step, counted_is_free, CountedStep, CountedRun, if_accepted, names_given, names_after, copied, moved, eager, sum_in_run, copied_in_run, moved_in_run, eager_in_run, input_in_run, CopiesAtMostEagerly, MovesArePaid}
+use Rattle.ecow_model.specs.CountedRun.{nothing, held_at, reading_of, change, counted_act, counted_step, counted_is_free, CountedStep, CountedRun, if_accepted, names_given, names_after, copied, moved, eager, copied_in_run, moved_in_run, eager_in_run, input_in_run, CopiesAtMostEagerly, MovesArePaid}
 use Rattle.ecow_model.specs.Names.{Names, Held, IsSharing, is_shared, forget, settle, join, debt, debt_of, strain, strain_of, strain_at}
 use Rattle.ecow_model.specs.Run.{StepBy}
 use Rattle.ecow_model.specs.VecStep.{vec_access, list_change}
 use Rattle.ecow_model.specs.declared.command.VecCommand.{VecCommand}
 use Rattle.ecow_model.specs.declared.command.VecCommand.TheVariants.{New, WithCapacity, FromList, FromElem, Clone, Drop, Push, Pop, Insert, Remove, Truncate, Clear, Retain, Drain, Splice, Extend, Reserve, Write, Read, Len, Contents, Capacity, Unique}
 use Rattle.ecow_model.specs.declared.command.Outcome.{Outcome}
-use Rattle.ecow_model.specs.declared.command.Outcome.TheVariants.{Done, Refused}
+use Rattle.ecow_model.specs.declared.command.Outcome.TheVariants.{Refused}
 use Rattle.ecow_model.specs.declared.command.Refusal.{Refusal}
-use Rattle.ecow_model.specs.declared.command.Refusal.TheVariants.{NoName, Taken, Memory}
+use Rattle.ecow_model.specs.declared.command.Refusal.TheVariants.{Taken, Memory}
 use Rattle.ecow_model.proofs.Lists.{found_value}
 use Rattle.ecow_laws.proofs.Groups.{is_sole_owner, debt-forget, blocks-forget}
 use Rattle.ecow_laws.proofs.Totals.{total-empty}
@@ -141,7 +141,7 @@ module _ {T : Type 0} where
         let growth : moved_by c nothing ≡ moves c 0 0 = refl in
         let free : debt (settle x items capacity names) ≡ debt names = debt-settle names x groups items capacity paid.fits paid.small ∙ ap debt same in
         let strained : strain (settle x items capacity names) ≡ strain names + cond (ltb 0 capacity) (strain_at (length items) capacity) 0 =
-            blocks-settle names x groups items capacity paid.fits paid.small (λ items capacity. strain_at (length items) capacity) ∙ ap (λ n. strain n + cond (ltb 0 capacity) (strain_at (length items) capacity) 0) same in
+        blocks-settle names x groups items capacity paid.fits paid.small (λ items capacity. strain_at (length items) capacity) ∙ ap (λ n. strain n + cond (ltb 0 capacity) (strain_at (length items) capacity) 0) same in
         let bound : cond (ltb 0 capacity) (strain_at (length items) capacity) 0 ≤ strain_at (length items) capacity = settled (ltb 0 capacity) (strain_at (length items) capacity) in
         record {
           sharing = sharing-settle names x groups items capacity paid.fits paid.small;
@@ -279,14 +279,14 @@ module _ {T : Type 0} where
 
   module _ (c : VecCommand T) (old : Names T) (groups : IsSharing old) where
     refused_paid : (refusal : Refusal) → IsPaidStep c old (Refused refusal) old
-    refused_paid refusal = record { sharing = groups; after = refl; copies_paid = omega arith; moves_paid = omega arith; }
+    refused_paid refusal = record { sharing = groups; after = refl; copies_paid = omega arith; moves_paid = omega arith }
 
     refused_as : (refusal : Refusal) (outcome : Outcome T) (new : Names T) → outcome ≡ Refused refusal → new ≡ old → IsPaidStep c old outcome new
     refused_as refusal outcome new is same = subst (λ (a : Outcome T × Names T). IsPaidStep c old a.0 a.1) (λ i. (sym is i, sym same i)) (refused_paid refusal)
 
     accepted_paid : (outcome : Outcome T) (new : Names T) → counted_step old c ≡ Ok (outcome, new) → OnRefused outcome ⊥ → IsPaid c (held_at old (name_in (vec_access c))) (eager c old) old new → IsPaidStep c old outcome new
     accepted_paid (Refused refusal) new is accepted paid = absurd accepted
-    accepted_paid _ new is accepted paid = record { sharing = paid.sharing; after = ap (λ r. names_given r old) is; copies_paid = paid.copies_paid; moves_paid = paid.moves_paid; }
+    accepted_paid _ new is accepted paid = record { sharing = paid.sharing; after = ap (λ r. names_given r old) is; copies_paid = paid.copies_paid; moves_paid = paid.moves_paid }
 
     -- a step is paid, and the names after it are those that the sums of a run go on from
     pub step_paid : (outcome : Outcome T) (new : Names T) → CountedStep old c outcome new → IsPaidStep c old outcome new

@@ -1,5 +1,5 @@
 -- What each command costs is paid: by the debt for copies, by strain, copies and input for moves.
-use Rattle.std.proofs.Common.{◌≡◌, ℕ, ◌+◌, ◌-◌, ◌*◌, ◌<◌, ◌≤◌, Bool, true, false, cond, leb, length, refl, sym, ap, arith}
+use Rattle.std.proofs.Common.{◌≡◌, ℕ, ◌+◌, ◌-◌, ◌*◌, ◌<◌, ◌≤◌, true, false, cond, leb, length, refl, sym, ap, arith}
 use Rattle.std.proofs.lemmas.Bool.{ltb-true, true≢false}
 use Rattle.ecow_base.specs.Capacity.{MAX, fresh, room}
 use Rattle.ecow_base.specs.Range.{items_in_range}
@@ -29,7 +29,7 @@ module _ {T : Type 0} (n m capacity : ℕ) (within : n ≤ capacity) (small : ca
   stays c short same none =
       let less : strain_at m capacity ≤ strain_at n capacity = strain_keep m n capacity short in
       let at : strain_at m (capacity_after c false n capacity) ≡ strain_at m capacity = ap (strain_at m) same in
-      record { fits = omega arith; small = omega arith; moved = omega arith; }
+      record { fits = omega arith; small = omega arith; moved = omega arith }
 
   -- a sole name into whose block k items go, where left of its own stay
   goes_in : (c : VecCommand T) (left : ℕ) → left ≤ n → left + input c ≤ MAX → m ≤ left + input c → capacity_after c false n capacity ≡ room left (input c) capacity → moves c n capacity ≡ cond (leb (left + input c) capacity) 0 left → IsPaidSole c n m capacity
@@ -37,11 +37,11 @@ module _ {T : Type 0} (n m capacity : ℕ) (within : n ≤ capacity) (small : ca
       let enough : left + input c ≤ room left (input c) capacity = le-room left (input c) capacity fit in
       let top : room left (input c) capacity ≤ MAX = room-le left (input c) capacity small in
       let paid : cond (leb (left + input c) capacity) 0 left + strain_at m (room left (input c) capacity) ≤ strain_at n capacity + 2 * input c = paid_by_room n m left (input c) capacity part within small short fit in
-      record { fits = rw same (omega (arith, short, enough)); small = rw same top; moved = rw (moved, same) paid; }
+      record { fits = rw same (omega (arith, short, enough)); small = rw same top; moved = rw (moved, same) paid }
 
   -- a new name
   starts : (c : VecCommand T) → m ≤ capacity_after c false n capacity → capacity_after c false n capacity ≤ MAX → moves c n capacity ≡ 0 → strain_at m (capacity_after c false n capacity) ≤ 2 * input c → IsPaidSole c n m capacity
-  starts c fit top none paid = record { fits = fit; small = top; moved = omega (arith, none, paid); }
+  starts c fit top none paid = record { fits = fit; small = top; moved = omega (arith, none, paid) }
 
   pub paid_sole : (c : VecCommand T) → LengthIs c n m → IsPaidSole c n m capacity
   paid_sole (New x) ok = starts (New x) (omega arith) (omega arith) refl (let bound : strain_at m 0 ≤ 2 * m - 0 = strain_le m 0 in omega arith)
@@ -77,7 +77,7 @@ module _ {T : Type 0} (n m capacity : ℕ) (within : n ≤ capacity) (small : ca
       let bound : strain_at m (fresh t) ≤ t = strain_fresh m t short in
       let wide : t ≤ fresh t = le-fresh t in
       let top : fresh t ≤ MAX = fresh-le t (omega arith) in
-      record { fits = rw same (omega (arith, short, wide)); small = rw same top; copied = omega arith; moved = rw (same, copied) (omega (arith, bound)); }
+      record { fits = rw same (omega (arith, short, wide)); small = rw same top; copied = omega arith; moved = rw (same, copied) (omega (arith, bound)) }
 
   -- a name that leaves its block for one with room for k items more
   copied_in : (c : VecCommand T) (left wide : ℕ) → copies c n ≡ n → left ≤ n → n ≤ wide → wide ≤ MAX → left + input c ≤ MAX → m ≤ left + input c → capacity_after c true n capacity ≡ room left (input c) wide → IsPaidShared c n m capacity
@@ -85,7 +85,7 @@ module _ {T : Type 0} (n m capacity : ℕ) (within : n ≤ capacity) (small : ca
       let inside : left + input c ≤ room left (input c) wide = le-room left (input c) wide fit in
       let most : room left (input c) wide ≤ MAX = room-le left (input c) wide top in
       let paid : strain_at m (room left (input c) wide) ≤ n + 2 * input c = paid_by_copy n m left (input c) wide part enough short fit in
-      record { fits = rw same (omega (arith, short, inside)); small = rw same most; copied = omega arith; moved = rw (same, copied) paid; }
+      record { fits = rw same (omega (arith, short, inside)); small = rw same most; copied = omega arith; moved = rw (same, copied) paid }
 
   pub paid_shared : (c : VecCommand T) → LengthIs c n m → unshares c n ≡ true → IsPaidShared c n m capacity
   paid_shared (Push x v) ok leaves = copied_in (Push x v) n capacity refl (omega arith) within small (omega arith) (omega arith) refl
