@@ -1,29 +1,26 @@
 -- A new list that is filled item by item: its run, and what it moves.
-use Rattle.std.proofs.Common.{zero, suc, ◌≡◌, ℕ, ◌+◌, ◌-◌, ◌*◌, ◌^◌, ◌<◌, ◌≤◌, Bool, true, false, cond, not, ◌&&◌, List, [], ◌∷◌, ◌++◌, map, length, take, drop, Option, Some, None, Result, Ok, Err, refl, sym, ◌∙◌, ap, subst, arith, inl, inr, min, length-append}
-use Rattle.std.specs.Prelude.{nat_lt, replicate, is_some, if◌then◌else◌}
+use Rattle.std.proofs.Common.{zero, suc, ◌≡◌, ℕ, ◌+◌, ◌*◌, ◌<◌, ◌≤◌, Bool, true, false, cond, not, ◌&&◌, List, [], ◌∷◌, ◌++◌, map, length, take, drop, Some, Result, Ok, Err, refl, sym, ◌∙◌, ap, subst, arith, inl, inr, length-append}
+use Rattle.std.specs.Prelude.{nat_lt, replicate}
 use Rattle.std.specs.FinMap as finite
 use Rattle.std.specs.Option.{unwrap_or}
-use Rattle.std.proofs.lemmas.Bool.{ltb-true}
 use Rattle.ecow_base.specs.Capacity.{MAX}
 use Rattle.ecow_model.specs.Access.{◌>>=◌, OnRefused, allowed, free}
-use Rattle.ecow_model.specs.Costs.{unshares, capacity_after, moves, moved_by}
+use Rattle.ecow_model.specs.Costs.{capacity_after, moves, moved_by}
 use Rattle.ecow_model.specs.CountedRun.{nothing, held_at, reading_of, change, counted_step, counted_is_free, CountedStep, CountedRun, saturating, if_accepted, copied, moved, sum_in_run}
 use Rattle.ecow_model.specs.Names.{Names, Held, IsSharing, is_shared, settle, strain_at}
 use Rattle.ecow_model.specs.Run.{StepBy}
-use Rattle.ecow_model.specs.VecStep.{list_change, grows}
+use Rattle.ecow_model.specs.VecStep.{grows}
 use Rattle.ecow_model.specs.declared.command.VecCommand.{VecCommand}
 use Rattle.ecow_model.specs.declared.command.VecCommand.TheVariants.{New, Push}
 use Rattle.ecow_model.specs.declared.command.Outcome.{Outcome}
 use Rattle.ecow_model.specs.declared.command.Outcome.TheVariants.{Done, Refused}
 use Rattle.ecow_model.specs.declared.command.Refusal.{Refusal}
-use Rattle.ecow_model.specs.declared.command.Refusal.TheVariants.{Taken, Memory, Capacity as TooMuch}
 use Rattle.ecow_laws.proofs.Bounds.{bound, same_answer, step_paid}
 use Rattle.ecow_laws.proofs.Lengths.{is_answer}
 use Rattle.ecow_laws.proofs.Settled.{get-settle}
 use Rattle.ecow_laws.proofs.Steps.{IsPaidSole, paid_sole}
 use Rattle.ecow_counted.specs.Filling.{IsRunOf, filling, accepted}
 use Rattle.ecow_counted.specs.Keeping.{Keeping}
-use Rattle.ecow_counted.specs.Totals.{CopiesAreCounted, MovesAreCounted}
 
 -- the item at an index and those after it
 pub record IsNext {X : Type 0} (k : ℕ) (items : List X) (item : X) (rest : List X) : Type 0 where

@@ -1,11 +1,11 @@
 -- The totals over a run.
-use Rattle.std.proofs.Common.{◌≡◌, ℕ, ◌+◌, ◌-◌, ◌*◌, ◌^◌, ◌<◌, ◌≤◌, List, [], ◌∷◌, ◌++◌, refl, sym, ◌∙◌, ap, arith, min}
-use Rattle.ecow_model.specs.CountedRun.{CountedStep, CountedRun, saturating, if_accepted, names_after, copied, moved, sum_in_run, copied_in_run, moved_in_run, eager_in_run, input_in_run}
+use Rattle.std.proofs.Common.{◌≡◌, ℕ, ◌+◌, ◌*◌, ◌^◌, ◌<◌, ◌≤◌, List, ◌∷◌, sym, ◌∙◌, ap, arith}
+use Rattle.ecow_model.specs.CountedRun.{CountedStep, CountedRun, saturating, if_accepted, sum_in_run, copied_in_run, moved_in_run, eager_in_run, input_in_run}
 use Rattle.ecow_model.specs.Names.{Names, IsSharing, debt, strain}
 use Rattle.ecow_model.specs.declared.command.Outcome.{Outcome}
 use Rattle.ecow_model.specs.declared.command.VecCommand.{VecCommand}
 use Rattle.ecow_laws.proofs.Bounds.{step_paid, copies_at_most_eagerly, moves_are_paid}
-use Rattle.ecow_counted.specs.Keeping.{Keeping, IsSmall}
+use Rattle.ecow_counted.specs.Keeping.{Keeping}
 use Rattle.ecow_counted.specs.Totals.{CopiesAreCounted, MovesAreCounted, CopiesArePaid, MovesArePaid}
 
 pub saturating_twice : (n a b : ℕ) → saturating (saturating n a) b ≡ saturating n (a + b)

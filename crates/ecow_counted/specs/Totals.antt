@@ -1,5 +1,5 @@
 -- What a run adds to the totals, and what pays for it.
-use Rattle.std.specs.Prelude.{◌≡◌, ℕ, ◌+◌, ◌-◌, ◌*◌, ◌<◌, ◌≤◌, ◌^◌, List}
+use Rattle.std.specs.Prelude.{◌≡◌, ◌+◌, ◌-◌, ◌*◌, ◌<◌, ◌≤◌, ◌^◌, List}
 use Rattle.ecow_model.specs.CountedRun.{saturating, copied_in_run, moved_in_run, eager_in_run, input_in_run}
 use Rattle.ecow_model.specs.Names.{debt, strain}
 use Rattle.ecow_model.specs.declared.command.Outcome.{Outcome}

@@ -1,13 +1,13 @@
-use Rattle.std.proofs.Common.{◌≡◌, ℕ, ◌+◌, ◌*◌, ◌≤◌, length, drop, take, [], ◌∷◌, ◌++◌, refl, sym, ◌∙◌, ap, subst, arith, inl, inr, length-drop}
+use Rattle.std.proofs.Common.{◌≡◌, ◌+◌, ◌*◌, ◌≤◌, length, drop, take, [], ◌∷◌, ◌++◌, refl, sym, ◌∙◌, ap, subst, arith, inl, inr, length-drop}
 use Rattle.std.specs.Vec.Iter.{into_iter_items}
 use Rattle.std.proofs.lemmas.List.{nil_from_length, take_all}
 use Rattle.ecow_base.specs.Clones.{ClonesAreEqual}
 use Rattle.ecow_model.specs.Access.{OnRefused}
-use Rattle.ecow_model.specs.declared.command.Outcome.TheVariants.{Done, Refused}
+use Rattle.ecow_model.specs.declared.command.Outcome.TheVariants.{Refused}
 use Rattle.ecow_model.specs.declared.command.VecCommand.TheVariants.{New, Push}
 use Rattle.ecow_counted.specs.Filling.{IsRunOf, filling, accepted}
 use Rattle.ecow_counted.specs.Keeping.{Keeping}
-use Rattle.ecow_counted.proofs.Filling.{IsFilling, IsNext, next_of, accepted_more, filling_more, runs_one, runs_more, begins, pushes, moves_at_most, not_refused_by}
+use Rattle.ecow_counted.proofs.Filling.{next_of, accepted_more, filling_more, runs_one, runs_more, begins, pushes, moves_at_most, not_refused_by}
 use Rattle.ecow_counted.proofs.counted.Counted.fill.Goals as goal
 
 pub returns-in-Refused-clause-run : goal.returns-in-Refused-clause-run

@@ -3,8 +3,6 @@ use Rattle.std.specs.Vec.Iter.{into_iter_items}
 use Rattle.std.proofs.lemmas.List.{nil_from_length}
 use Rattle.ecow_model.specs.CountedRun.{CountedRun, saturating, copied, moved, copied_in_run, moved_in_run}
 use Rattle.ecow_model.proofs.Contents.{run_of_contents}
-use Rattle.ecow_counted.specs.Keeping.{IsSmall}
-use Rattle.ecow_counted.specs.Totals.{CopiesAreCounted, MovesAreCounted}
 use Rattle.ecow_counted.proofs.Stepping.{saturating_none}
 use Rattle.ecow_counted.proofs.Totals.{total_goes_on, saturating_small, copies_paid, moves_paid}
 use Rattle.ecow_counted.proofs.counted.Counted.run.Goals as goal
