@@ -6,7 +6,7 @@ use Rattle.ecow_model.specs.declared.command.Outcome.{Outcome}
 use Rattle.ecow_model.specs.declared.command.VecCommand.{VecCommand}
 use Rattle.ecow_laws.proofs.Bounds.{step_paid, copies_at_most_eagerly, moves_are_paid}
 use Rattle.ecow_counted.specs.Keeping.{Keeping}
-use Rattle.ecow_counted.specs.Totals.{CopiesAreCounted, MovesAreCounted, CopiesArePaid, MovesArePaid}
+use Rattle.ecow_counted.specs.Totals.{CopiedIsSum, MovedIsSum, CopiedIsPaid, MovedIsPaid}
 
 pub saturating_twice : (n a b : ℕ) → saturating (saturating n a) b ≡ saturating n (a + b)
 saturating_twice n a b = omega arith
@@ -23,11 +23,11 @@ module _ {T : Type 0} (cost : VecCommand T → Names T → ℕ) (before : ℕ) (
       ∙ saturating_twice before (if_accepted outcome (cost c old)) (sum_in_run cost mid cs outcomes)
       ∙ ap (λ names. saturating before (if_accepted outcome (cost c old) + sum_in_run cost names cs outcomes)) (sym (step_paid c old groups outcome mid step).after)
 
-module _ {T : Type 0} (old : Keeping T) (cs : List (VecCommand T)) (outcomes : List (Outcome T)) (new : Keeping T) (groups : IsSharing old.names) (run : CountedRun old.names cs outcomes new.names) (copies : CopiesAreCounted old cs outcomes new) (moves : MovesAreCounted old cs outcomes new) where
-  pub copies_paid : CopiesArePaid old cs outcomes new
+module _ {T : Type 0} (old : Keeping T) (cs : List (VecCommand T)) (outcomes : List (Outcome T)) (new : Keeping T) (groups : IsSharing old.names) (run : CountedRun old.names cs outcomes new.names) (copies : CopiedIsSum old cs outcomes new) (moves : MovedIsSum old cs outcomes new) where
+  pub copies_paid : CopiedIsPaid old cs outcomes new
   copies_paid = let paid : copied_in_run old.names cs outcomes + debt new.names ≤ debt old.names + eager_in_run old.names cs outcomes = copies_at_most_eagerly cs outcomes old.names new.names groups run in
       omega (arith, paid, copies)
 
-  pub moves_paid : MovesArePaid old cs outcomes new
+  pub moves_paid : MovedIsPaid old cs outcomes new
   moves_paid fits = let paid : moved_in_run old.names cs outcomes + strain new.names ≤ strain old.names + copied_in_run old.names cs outcomes + 2 * input_in_run old.names cs outcomes = moves_are_paid cs outcomes old.names new.names groups run in
       omega (arith, paid, copies, moves, fits)

@@ -8,14 +8,14 @@ use Rattle.ecow_model.specs.declared.command.VecCommand.{VecCommand}
 use Rattle.ecow_model.specs.declared.command.VecCommand.TheVariants.{New, Push}
 use Rattle.ecow_counted.specs.declared.fill.Filled.{Filled}
 use Rattle.ecow_counted.specs.Keeping.{Keeping}
-use Rattle.ecow_counted.specs.Totals.{CopiesAreCounted, MovesAreCounted}
+use Rattle.ecow_counted.specs.Totals.{CopiedIsSum, MovedIsSum}
 
 module _ {T : Type 0} where
   -- the commands have these outcomes, and the totals rise by their sums
   pub record IsRunOf (old : Keeping T) (cs : List (VecCommand T)) (outcomes : List (Outcome T)) (new : Keeping T) : Type 0 where
     pub run : CountedRun old.names cs outcomes new.names
-    pub copied : CopiesAreCounted old cs outcomes new
-    pub moved : MovesAreCounted old cs outcomes new
+    pub copied : CopiedIsSum old cs outcomes new
+    pub moved : MovedIsSum old cs outcomes new
 
   -- New, and a Push of each item
   abbrev pub filling : ℕ → List T → List (VecCommand T)
