@@ -1,5 +1,5 @@
 -- What a table stands for after a name is made, placed, taken from its group, put in one or taken out.
-use Rattle.std.proofs.Common.{◌≡◌, ◌≢◌, ℕ, ◌+◌, ◌-◌, ◌<◌, ◌≤◌, Bool, true, false, cond, eqb, ltb, List, [], ◌∷◌, length, Option, Some, None, IsSome, refl, sym, ◌∙◌, ap, subst, arith, add-zero, ⊎_elim}
+use Rattle.std.proofs.Common.{◌≡◌, ◌≢◌, ℕ, ◌+◌, ◌<◌, ◌≤◌, false, cond, eqb, ltb, List, [], ◌∷◌, length, Option, Some, None, IsSome, refl, sym, ◌∙◌, ap, subst, arith, ⊎_elim}
 use Rattle.std.specs.Prelude.{is_some}
 use Rattle.std.specs.FinMap as finite
 use Rattle.std.specs.Option.{option_map}
@@ -8,15 +8,13 @@ use Rattle.std.proofs.lemmas.Option.{none-some, same_Some}
 use Rattle.slab.specs.Slab.{Slab, get, slab_len}
 use Rattle.ecow_base.specs.Capacity.{MAX}
 use Rattle.ecow_model.specs.CountedRun.{nothing}
-use Rattle.ecow_model.specs.Names.{Names, Held, IsSharing, IsRising, is_member, without, with_name, enter, forget, settle, join, blocks}
-use Rattle.ecow_laws.proofs.Totals.{same_nat, get-insert_nat, get-remove_nat}
-use Rattle.ecow_laws.proofs.Groups.{is_sole_owner, above_absent, without_absent}
-use Rattle.ecow_laws.proofs.Kept.{is_member-without, is_member-with_name, rising-with_name, length-with_name, blocks-settle}
-use Rattle.ecow_laws.proofs.Joined.{get_join, blocks-join}
+use Rattle.ecow_model.specs.Names.{Held, IsSharing, without, forget, settle, blocks}
+use Rattle.ecow_laws.proofs.Groups.{without_absent}
+use Rattle.ecow_laws.proofs.Kept.{blocks-settle}
 use Rattle.ecow_laws.proofs.Settled.{own_blocks, blocks_left}
 use Rattle.ecow_counted.specs.declared.blocks.Entry.{Entry}
-use Rattle.ecow_counted.specs.Places.{Places, is_at, names_at, held_together, held_in, names_of, IsOwned, IsTable}
-use Rattle.ecow_counted.proofs.Placing.{found_at, member-names_at, rising-names_at, rising_same, found_from, get_names_of, sharing-table, names_of-forget, names_of-bare, names_of-settle, own_group, group_of_others}
+use Rattle.ecow_counted.specs.Places.{Places, names_at, held_together, held_in, names_of, IsOwned, IsTable}
+use Rattle.ecow_counted.proofs.Placing.{found_at, member-names_at, get_names_of, sharing-table, names_of-forget, names_of-bare, names_of-settle, own_group, group_of_others}
 
 -- what a name shows, by its place
 module _ {X : Type 0} (places : Places) (table : Slab (Entry X)) (x : ℕ) where

@@ -1,20 +1,17 @@
 -- What an edit asks is what its command is refused for, and what it takes is what its command costs.
-use Rattle.std.proofs.Common.{get_or, zero, suc, ◌≡◌, ◌≢◌, ℕ, ◌+◌, ◌-◌, ◌*◌, ◌^◌, ◌<◌, ◌≤◌, Bool, true, false, cond, not, ◌&&◌, ◌||◌, eqb, ltb, leb, min, max, List, [], ◌∷◌, ◌++◌, length, take, drop, Option, Some, None, Result, Ok, Err, refl, sym, ◌∙◌, ap, subst, arith, length-append, append-nil, inl, inr, ⊎_elim}
+use Rattle.std.proofs.Common.{get_or, zero, suc, ◌≡◌, ℕ, ◌+◌, ◌-◌, ◌^◌, ◌<◌, ◌≤◌, Bool, true, false, cond, not, ◌&&◌, ◌||◌, eqb, ltb, List, [], ◌∷◌, ◌++◌, length, take, Some, None, Result, Ok, Err, refl, sym, ◌∙◌, ap, arith, length-append, ⊎_elim}
 use Rattle.std.specs.Prelude.{nat_lt, nat_le, ◌==◌, slice_get, slice_set, slice_range}
 use Rattle.std.specs.List.{insert as insert_at, remove as remove_at, remove_range, splice, items_where_true}
-use Rattle.std.proofs.lemmas.Bool.{true≢false, ltb-true, ltb-false, le-ltb, leb-true, leb-false, le-leb, lt-leb, lt-ltb, eqb-true, eqb-false, eq-eqb, ne_eqb, cases_Bool, false_from_ne_true}
-use Rattle.std.proofs.lemmas.Bool.Decides.{nat_tests}
+use Rattle.std.proofs.lemmas.Bool.{true≢false, ltb-true, ltb-false, le-ltb, leb-true, leb-false, le-leb, lt-leb, lt-ltb, eqb-true, ne_eqb}
 use Rattle.std.proofs.Math.Seq.{take-length}
-use Rattle.std.proofs.lemmas.List.{take_all, nil_from_length}
-use Rattle.std.proofs.lemmas.Grind.{common_steps}
-use Rattle.std.proofs.lemmas.Option.{none-some, same_Some, slice_get_cases}
+use Rattle.std.proofs.lemmas.List.{nil_from_length}
+use Rattle.std.proofs.lemmas.Option.{slice_get_cases}
 use Rattle.ecow_base.specs.Capacity.{MAX, fresh, grown, room}
-use Rattle.ecow_base.specs.Range.{range_of, end_of, start_of, items_in_range}
-use Rattle.ecow_model.specs.Access.{◌>>=◌, Access, changes, Reading, Change, allowed, check, found, becomes}
+use Rattle.ecow_base.specs.Range.{range_of, items_in_range}
+use Rattle.ecow_model.specs.Access.{◌>>=◌, changes, Reading, Change, allowed, check, found, becomes}
 use Rattle.ecow_model.specs.Costs.{unshares, copies, capacity_after, moves, held_is_free}
 use Rattle.ecow_model.specs.Names.{Held, is_shared}
 use Rattle.ecow_model.specs.VecStep.{vec_access, list_change, grows}
-use Rattle.ecow_model.specs.declared.command.VecCommand.{VecCommand}
 use Rattle.ecow_model.specs.declared.command.VecCommand.TheVariants as command
 use Rattle.ecow_model.specs.declared.command.Outcome.{Outcome}
 use Rattle.ecow_model.specs.declared.command.Outcome.TheVariants.{Done, Popped, Elements, Element}

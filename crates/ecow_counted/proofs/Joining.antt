@@ -1,17 +1,17 @@
 -- A name is put in the group of another: its entry, if there is one, counts one owner more.
-use Rattle.std.proofs.Common.{◌≡◌, ◌≢◌, ℕ, ◌+◌, ◌<◌, ◌≤◌, Bool, true, false, cond, ◌||◌, eqb, List, [], ◌∷◌, map, length, Option, Some, None, IsSome, refl, sym, ◌∙◌, ap, subst, arith, add-zero, ⊎_elim}
+use Rattle.std.proofs.Common.{◌≡◌, ◌≢◌, ℕ, ◌+◌, ◌≤◌, Bool, true, false, cond, ◌||◌, eqb, List, [], ◌∷◌, map, length, Option, Some, None, IsSome, refl, sym, ◌∙◌, ap, arith, add-zero, ⊎_elim}
 use Rattle.std.specs.Prelude.{filter, is_some}
 use Rattle.std.specs.FinMap as finite
 use Rattle.std.specs.Option.{option_map}
 use Rattle.std.proofs.lemmas.Bool.{ne_eqb, eq-eqb, true≢false, cases_eq}
-use Rattle.std.proofs.lemmas.Option.{none-some, same_Some}
+use Rattle.std.proofs.lemmas.Option.{same_Some}
 use Rattle.slab.specs.Slab.{Slab, get, slab_len}
-use Rattle.ecow_model.specs.Names.{Names, Held, IsRising, is_member, with_name, enter, join, blocks}
+use Rattle.ecow_model.specs.Names.{Held, IsRising, is_member, with_name, enter, join, blocks}
 use Rattle.ecow_laws.proofs.Totals.{same_nat}
 use Rattle.ecow_laws.proofs.Kept.{is_member-with_name, rising-with_name, length-with_name}
 use Rattle.ecow_laws.proofs.Joined.{get_join, blocks-join}
 use Rattle.ecow_counted.specs.declared.blocks.Entry.{Entry}
-use Rattle.ecow_counted.specs.Places.{Places, is_at, names_in, names_at, held_together, held_in, names_of, IsOwned, IsTable}
+use Rattle.ecow_counted.specs.Places.{Places, is_at, names_in, names_at, held_together, held_in, names_of, IsTable}
 use Rattle.ecow_counted.proofs.Placing.{found_at, member-names_at, rising-names_at, rising_same, get_names_of, sharing-table}
 
 -- no place has more names than there are

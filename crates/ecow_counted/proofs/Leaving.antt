@@ -1,16 +1,16 @@
 -- A name leaves its group: its entry counts one owner less, or is gone with the last.
-use Rattle.std.proofs.Common.{◌≡◌, ◌≢◌, ℕ, ◌+◌, ◌-◌, ◌<◌, ◌≤◌, Bool, true, false, cond, not, ◌||◌, eqb, List, [], ◌∷◌, length, Option, Some, None, IsSome, refl, sym, ◌∙◌, ap, subst, arith, ⊎_elim}
+use Rattle.std.proofs.Common.{◌≡◌, ◌≢◌, ℕ, ◌+◌, ◌-◌, ◌<◌, ◌≤◌, true, false, cond, not, ◌||◌, eqb, List, [], ◌∷◌, length, Some, None, refl, sym, ◌∙◌, ap, subst, arith, ⊎_elim}
 use Rattle.std.specs.Prelude.{is_some}
 use Rattle.std.specs.FinMap as finite
 use Rattle.std.proofs.lemmas.Bool.{eqb-true, ne_eqb, eq-eqb, true≢false, cases_eq}
 use Rattle.std.proofs.lemmas.Option.{none-some, same_Some}
 use Rattle.slab.specs.Slab.{Slab, get, slab_len}
-use Rattle.ecow_model.specs.Names.{Names, Held, IsRising, is_member, without, settle, blocks}
-use Rattle.ecow_laws.proofs.Groups.{is_sole_owner, above_absent, without_absent}
+use Rattle.ecow_model.specs.Names.{IsRising, is_member, without, settle, blocks}
+use Rattle.ecow_laws.proofs.Groups.{above_absent, without_absent}
 use Rattle.ecow_laws.proofs.Kept.{is_member-without}
 use Rattle.ecow_laws.proofs.Settled.{own_blocks}
 use Rattle.ecow_counted.specs.declared.blocks.Entry.{Entry}
-use Rattle.ecow_counted.specs.Places.{Places, is_at, names_at, held_together, held_in, names_of, IsOwned, IsTable}
+use Rattle.ecow_counted.specs.Places.{Places, names_at, held_together, names_of, IsOwned, IsTable}
 use Rattle.ecow_counted.proofs.Placing.{found_at, member-names_at, rising-names_at, names_of-bare, group_of_others}
 use Rattle.ecow_counted.proofs.Changes.{shown_entry, left_blocks, settled_blocks}
 

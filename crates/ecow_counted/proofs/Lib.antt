@@ -9,3 +9,5 @@ pub mod Opening
 pub mod Editing
 pub mod Stepping
 pub mod Reading
+pub mod Totals
+pub mod Filling

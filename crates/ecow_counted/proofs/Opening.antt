@@ -1,14 +1,14 @@
 -- A name gives up its block for a while, and has it again.
-use Rattle.std.proofs.Common.{◌≡◌, ◌≢◌, ℕ, ◌<◌, ◌≤◌, Bool, true, false, cond, eqb, List, [], ◌∷◌, length, Option, Some, None, IsSome, Result, Ok, Err, refl, sym, ◌∙◌, ap, arith, subst, ⊎_elim}
+use Rattle.std.proofs.Common.{◌≡◌, ◌≢◌, ℕ, ◌<◌, ◌≤◌, true, false, cond, eqb, [], length, Some, None, IsSome, Result, Ok, Err, refl, sym, ◌∙◌, ap, arith, subst}
 use Rattle.std.specs.Prelude.{is_some, OnOk, OnErr}
 use Rattle.std.specs.FinMap as finite
 use Rattle.std.specs.Option.{unwrap_or}
-use Rattle.std.proofs.lemmas.Bool.{true≢false, ltb-false, eqb-false, eqb-true, cases_eq, ne_eqb, eq-eqb}
+use Rattle.std.proofs.lemmas.Bool.{true≢false, ltb-false, eq-eqb}
 use Rattle.std.proofs.lemmas.Option.{none-some, same_Some}
 use Rattle.std.proofs.lemmas.List.{nil_from_length}
 use Rattle.ecow_block.specs.Contents.{Contents, contents}
 use Rattle.ecow_model.specs.CountedRun.{held_at, nothing}
-use Rattle.ecow_model.specs.Names.{Names, Held, IsSharing, is_shared, settle}
+use Rattle.ecow_model.specs.Names.{Names, IsSharing, is_shared, settle}
 use Rattle.ecow_laws.proofs.Settled.{get-settle, settle-settle, settle_same}
 use Rattle.ecow_counted.specs.Opened.{IsOpened}
 use Rattle.ecow_counted.specs.Sizes.{sole_block}

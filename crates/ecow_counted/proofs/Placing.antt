@@ -1,5 +1,5 @@
 -- The names at a place, and what a table stands for after one name has gone to another place.
-use Rattle.std.proofs.Common.{◌≡◌, ◌≢◌, ℕ, ◌+◌, ◌<◌, ◌≤◌, Bool, true, false, cond, not, ◌||◌, ◌&&◌, T, eqb, ltb, List, [], ◌∷◌, map, length, Option, Some, None, IsSome, refl, sym, ◌∙◌, ap, subst, arith, add-zero, ◌⊎◌, inl, inr, ⊎_elim}
+use Rattle.std.proofs.Common.{◌≡◌, ◌≢◌, ℕ, ◌<◌, ◌≤◌, Bool, true, false, cond, ◌||◌, T, eqb, ltb, List, [], ◌∷◌, map, length, Option, Some, None, IsSome, refl, sym, ◌∙◌, ap, subst, arith, ◌⊎◌, inl, inr, ⊎_elim}
 use Rattle.std.specs.Prelude.{filter, slice_index_or, count_by, is_some}
 use Rattle.std.specs.FinMap as finite
 use Rattle.std.specs.FinMap.Entries.{find, is_sorted, below_all}
@@ -7,10 +7,10 @@ use Rattle.std.specs.Option.{option_map}
 use Rattle.std.specs.Ordering.{nat_cmp, eq_by_cmp}
 use Rattle.std.proofs.lemmas.Bool.{eqb-true, eqb-false, ne_eqb, eq-eqb, true≢false, cases_eq, lt-ltb, or_cases, false_from_ne_true}
 use Rattle.std.proofs.lemmas.Option.{none-some, same_Some}
-use Rattle.slab.specs.Slab.{Slab, get, slab_len}
+use Rattle.slab.specs.Slab.{Slab, get}
 use Rattle.ecow_base.specs.Capacity.{MAX}
 use Rattle.ecow_model.specs.CountedRun.{nothing}
-use Rattle.ecow_model.specs.Names.{Names, Held, IsSharing, IsRising, is_member, without, leave, forget, settle, blocks}
+use Rattle.ecow_model.specs.Names.{Held, IsSharing, IsRising, is_member, without, leave, forget, settle, blocks}
 use Rattle.ecow_model.proofs.Contents.{get-map_values}
 use Rattle.ecow_laws.proofs.Totals.{ties, first, second, below, missed, same_nat, get-insert_nat}
 use Rattle.ecow_laws.proofs.Groups.{above_absent}

@@ -1,15 +1,14 @@
 -- What is read of a name with a block.
-use Rattle.std.proofs.Common.{arith, get_or, ◌≤◌, ⊎_elim, ◌≡◌, ℕ, ◌<◌, Bool, true, false, cond, List, [], length, Option, Some, None, IsSome, refl, sym, ◌∙◌, ap, inl, inr, subst, ltb}
-use Rattle.std.specs.Prelude.{slice_get, nat_lt}
+use Rattle.std.proofs.Common.{arith, get_or, ◌≤◌, ⊎_elim, ◌≡◌, ℕ, ◌<◌, true, false, cond, length, Option, Some, None, refl, sym, ◌∙◌, ap, inl, inr, ltb}
+use Rattle.std.specs.Prelude.{slice_get}
 use Rattle.std.specs.FinMap as finite
-use Rattle.std.specs.Option.{unwrap_or}
 use Rattle.std.proofs.lemmas.Option.{none-some, same_Some, slice_get_cases}
 use Rattle.ecow_block.specs.Contents.{Contents, contents}
-use Rattle.ecow_model.specs.CountedRun.{nothing, held_at, CountedStep}
+use Rattle.ecow_model.specs.CountedRun.{CountedStep}
 use Rattle.ecow_model.specs.Names.{Names, Held}
-use Rattle.ecow_model.specs.declared.command.VecCommand.TheVariants.{Read, Contents as Show}
-use Rattle.ecow_model.specs.declared.command.Outcome.TheVariants.{Element, Elements, Refused}
-use Rattle.ecow_model.specs.declared.command.Refusal.TheVariants.{Index, Memory}
+use Rattle.ecow_model.specs.declared.command.VecCommand.TheVariants.{Read}
+use Rattle.ecow_model.specs.declared.command.Outcome.TheVariants.{Element, Refused}
+use Rattle.ecow_model.specs.declared.command.Refusal.TheVariants.{Memory}
 use Rattle.ecow_counted.specs.Sizes.{block_of}
 
 module _ {T : Type 0} (names : Names T) (x : ℕ) where

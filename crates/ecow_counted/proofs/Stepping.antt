@@ -1,15 +1,15 @@
 -- The steps of the counted keeping, by how they end.
-use Rattle.std.proofs.Common.{◌≡◌, ℕ, ◌+◌, ◌-◌, ◌^◌, ◌<◌, ◌≤◌, Bool, true, false, cond, not, ◌&&◌, List, length, take, Option, Some, None, Result, Ok, Err, refl, sym, ◌∙◌, ap, subst, arith, inl, inr, min}
-use Rattle.std.specs.Prelude.{nat_lt, nat_le, IsOk}
+use Rattle.std.proofs.Common.{◌≡◌, ℕ, ◌^◌, ◌<◌, ◌≤◌, Bool, true, false, cond, not, ◌&&◌, List, length, take, Option, Some, None, Result, Ok, Err, refl, sym, ◌∙◌, ap, subst, arith, inl, inr}
+use Rattle.std.specs.Prelude.{nat_le, IsOk}
 use Rattle.std.specs.FinMap as finite
 use Rattle.std.specs.Option.{unwrap_or, option_map}
 use Rattle.std.proofs.lemmas.Bool.{true≢false}
 use Rattle.std.proofs.lemmas.Option.{none-some, same_Some}
-use Rattle.ecow_model.specs.Access.{◌>>=◌, Access, changes, OnRefused, Reading, there}
+use Rattle.ecow_model.specs.Access.{◌>>=◌, OnRefused, Reading}
 use Rattle.ecow_model.specs.Costs.{unshares, copies, capacity_after, moves, copied_by, moved_by, held_is_free}
-use Rattle.ecow_model.specs.CountedRun.{nothing, held_at, reading_of, change, counted_act, counted_step, counted_is_free, CountedStep, saturating, if_accepted, copied, moved}
+use Rattle.ecow_model.specs.CountedRun.{nothing, held_at, reading_of, change, counted_step, counted_is_free, saturating, if_accepted, copied, moved}
 use Rattle.ecow_model.specs.Names.{Names, Held, is_shared, settle}
-use Rattle.ecow_model.specs.VecStep.{vec_access, list_change}
+use Rattle.ecow_model.specs.VecStep.{list_change}
 use Rattle.ecow_model.specs.declared.command.VecCommand.{VecCommand}
 use Rattle.ecow_model.specs.declared.command.Outcome.{Outcome}
 use Rattle.ecow_model.specs.declared.command.Outcome.TheVariants.{Refused}

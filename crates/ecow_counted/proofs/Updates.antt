@@ -1,11 +1,11 @@
 -- The changes of a table, by what they write, where its names are seen as `names`.
-use Rattle.std.proofs.Common.{◌≡◌, ◌≢◌, ℕ, ◌+◌, ◌-◌, ◌<◌, ◌≤◌, ◌^◌, Bool, true, false, cond, eqb, ltb, [], ◌∷◌, length, Option, Some, None, IsSome, refl, sym, ◌∙◌, ap, subst, arith, ⊎_elim}
+use Rattle.std.proofs.Common.{◌≡◌, ◌≢◌, ℕ, ◌+◌, ◌-◌, ◌<◌, ◌≤◌, ◌^◌, true, false, cond, eqb, [], length, Option, Some, None, IsSome, refl, sym, ◌∙◌, ap, subst, arith, ⊎_elim}
 use Rattle.std.specs.Prelude.{is_some, List, slice_index_or, count_by}
 use Rattle.std.specs.Ordering.{nat_cmp}
 use Rattle.std.specs.FinMap as finite
 use Rattle.std.specs.Option.{option_map, unwrap_or}
 use Rattle.std.proofs.lemmas.Bool.{ne_eqb, eq-eqb, true≢false, lt-ltb, cases_eq}
-use Rattle.std.proofs.lemmas.Option.{none-some, same_Some}
+use Rattle.std.proofs.lemmas.Option.{none-some}
 use Rattle.slab.specs.Slab.{Slab, get, slab_len, HasRoomFor}
 use Rattle.ecow_base.specs.Capacity.{MAX}
 use Rattle.ecow_block.specs.Contents.{Contents, contents}
@@ -14,11 +14,10 @@ use Rattle.ecow_model.specs.Names.{Names, Held, IsSharing, forget, settle, join,
 use Rattle.ecow_laws.proofs.Totals.{same_nat, total-empty, get-insert_nat, get-remove_nat}
 use Rattle.ecow_laws.proofs.Settled.{settle_bare}
 use Rattle.ecow_counted.specs.declared.blocks.Entry.{Entry}
-use Rattle.ecow_counted.specs.declared.blocks.Size.{Size}
 use Rattle.ecow_counted.specs.Sizes.{size_of, block_of, sole_block}
 use Rattle.ecow_counted.specs.Places.{Places, names_at, held_in, names_of, entry_in, has_room, IsOwned, IsTable}
 use Rattle.ecow_counted.proofs.Placing.{found_at, get_names_of, sharing-table}
-use Rattle.ecow_counted.proofs.Changes.{shown_at, shown_entry, shown_none, absent_place, some_place, entry_at, some_owners, bare_place, removed_names, removed_table, made_names, made_table, placed_names, placed_table}
+use Rattle.ecow_counted.proofs.Changes.{shown_at, shown_entry, shown_none, absent_place, some_place, entry_at, bare_place, removed_names, removed_table, made_names, made_table, placed_names, placed_table}
 use Rattle.ecow_counted.proofs.Leaving.{left_names, left_table}
 use Rattle.ecow_counted.proofs.Joining.{length-names_at, bare_shared_names, bare_shared_table, block_shared_names, block_shared_table}
 

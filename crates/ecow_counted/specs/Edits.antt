@@ -1,5 +1,5 @@
 -- The changes of one list: the commands that they stand for, and what they ask of its length.
-use Rattle.std.specs.Prelude.{◌≡◌, ℕ, ◌+◌, ◌-◌, ◌≤◌, Bool, true, false, ◌==◌, nat_lt, nat_le, List, [], length, Result, Ok, None}
+use Rattle.std.specs.Prelude.{ℕ, ◌+◌, ◌-◌, Bool, true, false, ◌==◌, nat_lt, nat_le, List, [], length, Result, Ok, None}
 use Rattle.ecow_base.specs.Range.{range_of, items_in_range}
 use Rattle.ecow_model.specs.Access.{◌>>=◌, allowed, check, found}
 use Rattle.ecow_model.specs.declared.command.VecCommand.{VecCommand}

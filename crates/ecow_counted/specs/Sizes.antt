@@ -1,5 +1,5 @@
 -- What is read of what a name holds.
-use Rattle.std.specs.Prelude.{ℕ, cond, length, nat_lt, ◌==◌, Option, Some, None}
+use Rattle.std.specs.Prelude.{cond, length, nat_lt, ◌==◌, Option, Some, None}
 use Rattle.ecow_block.specs.Contents.{Contents, contents}
 use Rattle.ecow_model.specs.Names.{Held}
 use Rattle.ecow_counted.specs.declared.blocks.Size.{Size}

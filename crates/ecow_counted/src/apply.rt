@@ -188,40 +188,22 @@ pub(crate) fn apply<T: Drop>(
     ensures accepted { OnRefused result ⊥ }
 {
     match edit {
-        Edit::Push(value) => {
-            block.push_within(value);
-            Outcome::Done
+        Edit::Pop => return Outcome::Popped(block.pop()),
+        Edit::Remove(index) => return Outcome::Element(block.remove(index)),
+        Edit::Drain(bounds) => {
+            return Outcome::Elements(replaced(block, bounds, Vec::new(alloc), spare));
         }
-        Edit::Pop => Outcome::Popped(block.pop()),
-        Edit::Insert(index, value) => {
-            block.insert_within(index, value);
-            Outcome::Done
-        }
-        Edit::Remove(index) => Outcome::Element(block.remove(index)),
-        Edit::Truncate(target) => {
-            block.truncate(target);
-            Outcome::Done
-        }
-        Edit::Clear => {
-            block.truncate(0);
-            Outcome::Done
-        }
-        Edit::Retain(marks) => {
-            retain(block, marks);
-            Outcome::Done
-        }
-        Edit::Drain(bounds) => Outcome::Elements(replaced(block, bounds, Vec::new(alloc), spare)),
         Edit::Splice(bounds, items) => {
-            Outcome::Elements(replaced(block, bounds, items.into_vec(), spare))
+            return Outcome::Elements(replaced(block, bounds, items.into_vec(), spare));
         }
-        Edit::Extend(_) => {
-            append_within(block, spare);
-            Outcome::Done
-        }
-        Edit::Reserve(_) => Outcome::Done,
-        Edit::Write(index, value) => {
-            block.set(index, value);
-            Outcome::Done
-        }
+        Edit::Push(value) => block.push_within(value),
+        Edit::Insert(index, value) => block.insert_within(index, value),
+        Edit::Write(index, value) => block.set(index, value),
+        Edit::Truncate(target) => block.truncate(target),
+        Edit::Clear => block.truncate(0),
+        Edit::Retain(marks) => retain(block, marks),
+        Edit::Extend(_items) => append_within(block, spare),
+        Edit::Reserve(_) => {}
     }
+    Outcome::Done
 }

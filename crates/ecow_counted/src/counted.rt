@@ -11,6 +11,7 @@ ghost use Rattle.ecow_list.specs.declared.error.EcoError.{EcoError};
 ghost use Rattle.ecow_model.specs.declared.command.VecCommand.{VecCommand};
 ghost use Rattle.ecow_counted.specs.Edits.{edit_of};
 ghost use Rattle.ecow_counted.specs.Keeping.{IsSmall, IsStep};
+ghost use Rattle.ecow_counted.specs.Totals.{CopiedIsSum, CopiedIsPaid, MovedIsSum, MovedIsPaid};
 
 use crate::apply::{append_within, apply, spare};
 use crate::blocks::Blocks;
@@ -405,6 +406,10 @@ impl<T: Clone> Counted<T> {
     ) -> Result<Vec<Outcome<T>>, Rejected<Vec<VecCommand<T>>>>
         ensures run { ClonesAreEqual T.is_clone → IfOk result (λ outcomes. CountedRun self.old.names commands.items outcomes.items self.new.names) }
         ensures contents { ClonesAreEqual T.is_clone → IfOk result (λ outcomes. RunBy ContentsStep self.old.names commands.items outcomes.items self.new.names) }
+        ensures copied { ClonesAreEqual T.is_clone → IfOk result (λ outcomes. CopiedIsSum self.old commands.items outcomes.items self.new) }
+        ensures moved { ClonesAreEqual T.is_clone → IfOk result (λ outcomes. MovedIsSum self.old commands.items outcomes.items self.new) }
+        ensures copies_paid { ClonesAreEqual T.is_clone → IfOk result (λ outcomes. CopiedIsPaid self.old commands.items outcomes.items self.new) }
+        ensures moves_paid { ClonesAreEqual T.is_clone → IfOk result (λ outcomes. MovedIsPaid self.old commands.items outcomes.items self.new) }
         ensures err { OnErr result (self.new ≡ self.old) }
         ensures value_returned { IfErr result (λ rejected. rejected.value ≡ commands) }
         ensures memory { IfErr result (λ rejected. rejected.error ≡ EcoError.Memory) }
@@ -415,6 +420,8 @@ impl<T: Clone> Counted<T> {
                 value: commands,
             });
         };
+        let _totals = self.totals();
+        let _blocks = self.blocks();
         let mut rest = commands.into_iter();
         while let Some(command) = rest.next() {
             let outcome = self.step(command);

@@ -6,6 +6,8 @@ mod apply;
 mod blocks;
 pub mod counted;
 mod edit;
+pub mod fill;
 mod own;
 
 pub use counted::Counted;
+pub use fill::Filled;

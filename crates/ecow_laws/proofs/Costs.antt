@@ -1,6 +1,6 @@
 -- The arithmetic of capacities: each growth is paid by the strain, the copied elements and the input.
-use Rattle.std.proofs.Common.{◌≡◌, ℕ, ◌+◌, ◌-◌, ◌*◌, ◌<◌, ◌≤◌, Bool, true, false, cond, not, ◌&&◌, eqb, ltb, leb, min, max, refl, sym, ◌∙◌, ap, arith, ◌⊎◌, inl, inr, ⊎_elim}
-use Rattle.std.proofs.lemmas.Bool.{eqb-true, eqb-false, ne_eqb, eq-eqb, cases_eq, cases_lt, leb-true, leb-false, ltb-true, ltb-false}
+use Rattle.std.proofs.Common.{◌≡◌, ℕ, ◌+◌, ◌-◌, ◌*◌, ◌<◌, ◌≤◌, true, false, cond, eqb, ltb, leb, max, refl, ap, arith, ⊎_elim}
+use Rattle.std.proofs.lemmas.Bool.{ne_eqb, cases_eq, leb-true, leb-false, ltb-false}
 use Rattle.ecow_base.specs.Capacity.{MAX, fresh, grown, room}
 use Rattle.ecow_model.specs.Names.{strain_at}
 

@@ -1,11 +1,11 @@
 -- A clone: y joins x, and forgetting y undoes it.
-use Rattle.std.proofs.Common.{◌≡◌, ◌≢◌, ℕ, ◌+◌, ◌<◌, ◌≤◌, Bool, true, false, cond, not, ◌||◌, eqb, ltb, List, [], ◌∷◌, length, Option, Some, None, refl, sym, ◌∙◌, ap, subst, arith, ◌⊎◌, inl, inr, ⊎_elim}
+use Rattle.std.proofs.Common.{◌≡◌, ◌≢◌, ℕ, ◌+◌, ◌≤◌, Bool, true, false, cond, ◌||◌, eqb, List, [], ◌∷◌, length, Some, None, refl, sym, ◌∙◌, ap, subst, arith, ◌⊎◌, inl, inr, ⊎_elim}
 use Rattle.std.specs.FinMap as finite
 use Rattle.std.specs.Option.{option_map}
-use Rattle.std.proofs.lemmas.Bool.{eqb-true, eqb-false, ne_eqb, eq-eqb, true≢false, cases_eq, lt-ltb, cases_Bool, or_cases, false_from_ne_true}
+use Rattle.std.proofs.lemmas.Bool.{eqb-true, ne_eqb, eq-eqb, true≢false, cases_eq, cases_Bool, or_cases, false_from_ne_true}
 use Rattle.std.proofs.lemmas.Option.{none-some, same_Some}
 use Rattle.ecow_base.specs.Capacity.{MAX}
-use Rattle.ecow_model.specs.Names.{Names, Held, IsSharing, IsRising, is_member, without, with_name, leave, forget, enter, join, total, debt, block_number, is_shared}
+use Rattle.ecow_model.specs.Names.{Names, Held, IsSharing, IsRising, is_member, with_name, leave, forget, enter, join, total, debt, block_number, is_shared}
 use Rattle.ecow_laws.proofs.Totals.{get-insert_nat, same_nat}
 use Rattle.ecow_model.proofs.Contents.{get-map_values}
 use Rattle.ecow_laws.proofs.Groups.{is_sole_owner, without_absent, or_true, debt-forget, blocks-forget}

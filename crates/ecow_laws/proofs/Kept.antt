@@ -1,14 +1,14 @@
 -- Leaving, settling and joining keep what groups are.
-use Rattle.std.proofs.Common.{◌≡◌, ◌≢◌, ℕ, ◌+◌, ◌<◌, ◌≤◌, Bool, true, false, cond, not, ◌||◌, ◌&&◌, eqb, ltb, List, [], ◌∷◌, length, Option, Some, None, refl, sym, ◌∙◌, ap, subst, arith, ◌⊎◌, inl, inr, ⊎_elim}
+use Rattle.std.proofs.Common.{◌≡◌, ◌≢◌, ℕ, ◌+◌, ◌<◌, ◌≤◌, Bool, true, false, cond, not, ◌||◌, eqb, ltb, List, [], ◌∷◌, length, Option, Some, None, refl, sym, ◌∙◌, ap, subst, arith, ◌⊎◌, inl, inr, ⊎_elim}
 use Rattle.std.specs.FinMap as finite
 use Rattle.std.specs.Option.{option_map}
-use Rattle.std.proofs.lemmas.Bool.{eqb-true, eqb-false, ne_eqb, eq-eqb, true≢false, cases_eq, lt-ltb, le-ltb, ltb-true, ltb-false, or_cases, cases_Bool}
+use Rattle.std.proofs.lemmas.Bool.{eqb-true, eqb-false, ne_eqb, eq-eqb, true≢false, cases_eq, ltb-true, ltb-false, or_cases}
 use Rattle.std.proofs.lemmas.Option.{none-some, same_Some}
 use Rattle.ecow_base.specs.Capacity.{MAX}
-use Rattle.ecow_model.specs.Names.{Names, Held, IsSharing, IsRising, is_member, without, with_name, head_of, leave, forget, settle, enter, join, total, debt, debt_of, past_head, at_head, block_number, is_shared}
-use Rattle.ecow_laws.proofs.Totals.{total-map_values, total_congr, total-remove, total-insert, get-remove_nat, get-insert_nat, same_nat}
+use Rattle.ecow_model.specs.Names.{Names, Held, IsSharing, IsRising, is_member, without, with_name, head_of, leave, forget, settle, total, debt, debt_of, past_head, at_head, block_number}
+use Rattle.ecow_laws.proofs.Totals.{total-insert, get-remove_nat, get-insert_nat}
 use Rattle.ecow_model.proofs.Contents.{get-map_values}
-use Rattle.ecow_laws.proofs.Groups.{is_sole_owner, without_absent, above_absent, is_member_head, kept_by_remove, debt-forget, blocks-forget}
+use Rattle.ecow_laws.proofs.Groups.{without_absent, kept_by_remove}
 
 or_swap : (a b c : Bool) → (a || (b || c)) ≡ (b || (a || c))
 or_swap true true c = refl

@@ -5,3 +5,6 @@ pub mod Kept
 pub mod Totals
 pub mod Settled
 pub mod Ranges
+pub mod Lengths
+pub mod Steps
+pub mod Bounds

@@ -1,11 +1,11 @@
 -- A range of a list starts and ends within it.
-use Rattle.std.proofs.Common.{◌≡◌, ℕ, ◌+◌, ◌-◌, ◌<◌, ◌≤◌, Bool, true, false, Option, Some, None, refl, sym, ◌∙◌, ap, arith, if◌then◌else◌}
+use Rattle.std.proofs.Common.{◌≡◌, ℕ, ◌+◌, ◌<◌, ◌≤◌, Bool, true, false, Option, Some, None, refl, ap, arith, if◌then◌else◌}
 use Rattle.std.specs.Prelude.{nat_lt, nat_le, option_and_then}
 use Rattle.std.proofs.lemmas.Bool.{ltb-true, leb-true}
 use Rattle.std.proofs.lemmas.Option.{none-some, same_Some}
 use Rattle.std.specs.declared.ops.Bound.{Bound}
 use Rattle.std.specs.declared.ops.Bound.TheVariants.{Included, Excluded, Unbounded}
-use Rattle.ecow_base.specs.Range.{range_of, end_of, start_of, items_in_range}
+use Rattle.ecow_base.specs.Range.{range_of, end_of, start_of}
 
 pick : (b : Bool) (k v : ℕ) → (if b then Some k else None) ≡ Some v → (b ≡ true) × (k ≡ v)
 pick true k v e = (refl, same_Some k v e)

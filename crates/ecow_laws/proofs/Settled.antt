@@ -1,15 +1,13 @@
 -- Names that settle, leave or come back: what follows one another, and what changes nothing.
-use Rattle.std.proofs.Common.{◌≡◌, ◌≢◌, ℕ, ◌+◌, ◌<◌, ◌≤◌, Bool, true, false, cond, not, ◌||◌, eqb, ltb, List, [], ◌∷◌, length, Option, Some, None, refl, sym, ◌∙◌, ap, arith, add-zero, ⊎_elim}
+use Rattle.std.proofs.Common.{◌≡◌, ◌≢◌, ℕ, ◌+◌, ◌<◌, ◌≤◌, true, false, cond, ◌||◌, eqb, ltb, List, [], ◌∷◌, length, Option, Some, None, refl, sym, ◌∙◌, ap, arith, add-zero, ⊎_elim}
 use Rattle.std.specs.FinMap as finite
-use Rattle.std.specs.Option.{option_map}
 use Rattle.std.proofs.lemmas.Bool.{eqb-true, ne_eqb, eq-eqb, true≢false, cases_eq, lt-ltb, false_from_ne_true}
 use Rattle.std.proofs.lemmas.Option.{none-some, same_Some}
-use Rattle.ecow_base.specs.Capacity.{MAX}
 use Rattle.ecow_model.specs.CountedRun.{nothing}
-use Rattle.ecow_model.specs.Names.{Names, Held, IsSharing, is_member, without, leave, forget, settle, total, blocks, block_number}
+use Rattle.ecow_model.specs.Names.{Names, Held, IsSharing, is_member, without, leave, forget, settle, blocks}
 use Rattle.ecow_laws.proofs.Totals.{same_nat, get-insert_nat}
 use Rattle.ecow_laws.proofs.Groups.{is_sole_owner, without_absent, blocks-forget}
-use Rattle.ecow_laws.proofs.Kept.{get_forget_none, get_forget_other, get_forget_itself, is_member-without, blocks-settle}
+use Rattle.ecow_laws.proofs.Kept.{get_forget_none, get_forget_other, get_forget_itself, is_member-without}
 
 -- to leave a group twice is to leave it once
 pub without_twice : (x : ℕ) (group : List ℕ) → without x (without x group) ≡ without x group
@@ -24,7 +22,7 @@ alone_of x (y ∷ []) m one = elim (eqb y x) as (λ b. eqb y x ≡ b → (b || f
 ] refl m
 alone_of x (y ∷ z ∷ group) m one = absurd (omega arith)
 
-empty_of : (group : List ℕ) → length group ≡ 0 → group ≡ []
+pub empty_of : (group : List ℕ) → length group ≡ 0 → group ≡ []
 empty_of [] e = refl
 empty_of (y ∷ group) e = absurd (omega arith)
 

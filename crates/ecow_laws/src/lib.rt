@@ -1,2 +1,4 @@
 //! The laws of the counted keeping: what sharing copies and what growing moves, over every run.
 #![tactic(auto)]
+
+pub mod laws;

@@ -7,6 +7,10 @@
 mod blocks;
 pub mod commands;
 #[cfg(test)]
+mod counted;
+#[cfg(test)]
+mod counted_refusals;
+#[cfg(test)]
 mod elements;
 #[cfg(test)]
 mod iterators;

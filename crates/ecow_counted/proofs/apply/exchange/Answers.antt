@@ -1,5 +1,4 @@
-use Rattle.std.proofs.Common.{◌≡◌, ◌-◌, ◌≤◌, ◌++◌, ◌∙◌, ap, take, drop, sym, arith, length}
-use Rattle.std.proofs.lemmas.Grind.{common_steps}
+use Rattle.std.proofs.Common.{◌-◌, ◌++◌, ◌∙◌, ap, take, drop}
 use Rattle.ecow_block.specs.Contents.{Contents, contents}
 use Rattle.ecow_counted.proofs.Rotations.{exchanged, taken_out}
 use Rattle.ecow_counted.proofs.apply.exchange.Goals as goal

@@ -1,8 +1,5 @@
-use Rattle.std.proofs.Common.{◌≡◌, ◌<◌, length, ap, ◌∙◌, ◌++◌, ◌∷◌, [], sym, None, arith}
+use Rattle.std.proofs.Common.{◌∙◌, ◌++◌, sym}
 use Rattle.std.specs.Prelude.{reverse}
-use Rattle.std.proofs.lemmas.Option.{none-some}
-use Rattle.std.proofs.lemmas.Option.{slice_get_within}
-use Rattle.ecow_block.specs.Contents.{Contents}
 use Rattle.ecow_counted.proofs.Splits.{moved_last, last_there}
 use Rattle.ecow_counted.proofs.apply.move_last.Goals as goal
 

@@ -1,6 +1,5 @@
-use Rattle.std.proofs.Common.{ap, sym, ◌∙◌}
-use Rattle.ecow_counted.specs.Opened.{IsOpened}
-use Rattle.ecow_counted.proofs.Opening.{taken_opened, opened_as, put_back, none_taken, where_ok, where_err, always_ok, always_err}
+use Rattle.std.proofs.Common.{sym, ◌∙◌}
+use Rattle.ecow_counted.proofs.Opening.{opened_as, put_back, none_taken, where_ok, where_err, always_ok, always_err}
 use Rattle.ecow_counted.proofs.blocks.Blocks.open.Goals as goal
 
 pub grow-requires-clause-there : goal.grow-requires-clause-there

@@ -1,6 +1,6 @@
-use Rattle.std.proofs.Common.{ap, sym, ◌∙◌, false, Some}
+use Rattle.std.proofs.Common.{ap, sym, ◌∙◌, Some}
 use Rattle.std.specs.Option.{option_copied}
-use Rattle.ecow_counted.proofs.Updates.{shared_names_are, size_shown, backed_shown, bare_shown, no_size, is_there}
+use Rattle.ecow_counted.proofs.Updates.{shared_names_are, size_shown, backed_shown, bare_shown, no_size}
 use Rattle.ecow_counted.proofs.blocks.Blocks.size.Goals as goal
 
 pub returns-then-not-contains-clause-size : goal.returns-then-not-contains-clause-size

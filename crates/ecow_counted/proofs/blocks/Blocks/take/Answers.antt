@@ -1,8 +1,7 @@
-use Rattle.std.proofs.Common.{ap, sym, ◌∙◌, Some, None, arith, ◌≡◌, ◌≢◌, ◌<◌, ⊎_elim, cond, eqb}
-use Rattle.std.proofs.lemmas.Bool.{cases_eq, eq-eqb, ne_eqb}
+use Rattle.std.proofs.Common.{ap, sym, ◌∙◌, Some}
 use Rattle.ecow_counted.specs.Places.{entry_in}
 use Rattle.ecow_counted.proofs.Changes.{entry_at}
-use Rattle.ecow_counted.proofs.Updates.{room_for_one, taken_names, taken_table, bare_taken, sole_shown, taken_block, taken_room}
+use Rattle.ecow_counted.proofs.Updates.{room_for_one, taken_names, taken_table, bare_taken, taken_block, taken_room}
 use Rattle.ecow_counted.proofs.blocks.Blocks.take.Goals as goal
 
 pub drop_owner-requires-clause-some : goal.drop_owner-requires-clause-some

@@ -1,4 +1,4 @@
-use Rattle.std.proofs.Common.{◌≡◌, ℕ, ◌≤◌, Bool, true, false, cond, List, length, take, Some, None, Ok, Err, refl, sym, ap, ◌∙◌, subst, ⊎_elim}
+use Rattle.std.proofs.Common.{◌≡◌, ℕ, ◌≤◌, true, cond, length, take, sym, ap, ◌∙◌, subst, ⊎_elim}
 use Rattle.std.specs.Prelude.{nat_lt, nat_le}
 use Rattle.std.specs.FinMap as finite
 use Rattle.std.proofs.lemmas.Bool.{true≢false, le-ltb, lt-ltb, cases_Bool}
@@ -7,7 +7,7 @@ use Rattle.ecow_model.specs.Access.{OnRefused}
 use Rattle.ecow_model.specs.Costs.{unshares, copies, capacity_after, held_is_free}
 use Rattle.ecow_model.specs.CountedRun.{held_at, saturating}
 use Rattle.ecow_model.specs.Names.{is_shared, settle}
-use Rattle.ecow_counted.specs.Edits.{edit_of, asks, staying, length_after, takes_spare, unchanged}
+use Rattle.ecow_counted.specs.Edits.{edit_of, asks, staying, length_after, takes_spare}
 use Rattle.ecow_counted.specs.Keeping.{IsStep}
 use Rattle.ecow_counted.proofs.Editing.{asks_same, free_keeps, spare_not_free}
 use Rattle.ecow_counted.proofs.Stepping.{edit_noname, edit_refused, edit_memory, edit_stays, edit_done, same_step, no_size_at, found_size, refused_is, found_fits}

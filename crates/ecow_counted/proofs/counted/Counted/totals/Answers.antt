@@ -1,4 +1,4 @@
-use Rattle.std.proofs.Common.{arith, subst, ℕ, ◌<◌, ◌^◌}
+use Rattle.std.proofs.Common.{subst, ℕ, ◌<◌, ◌^◌}
 use Rattle.ecow_counted.proofs.counted.Counted.totals.Goals as goal
 
 pub returns : goal.returns

@@ -1,0 +1,33 @@
+-- The totals over a run.
+use Rattle.std.proofs.Common.{◌≡◌, ℕ, ◌+◌, ◌*◌, ◌^◌, ◌<◌, ◌≤◌, List, ◌∷◌, sym, ◌∙◌, ap, arith}
+use Rattle.ecow_model.specs.CountedRun.{CountedStep, CountedRun, saturating, if_accepted, sum_in_run, copied_in_run, moved_in_run, eager_in_run, input_in_run}
+use Rattle.ecow_model.specs.Names.{Names, IsSharing, debt, strain}
+use Rattle.ecow_model.specs.declared.command.Outcome.{Outcome}
+use Rattle.ecow_model.specs.declared.command.VecCommand.{VecCommand}
+use Rattle.ecow_laws.proofs.Bounds.{step_paid, copies_at_most_eagerly, moves_are_paid}
+use Rattle.ecow_counted.specs.Keeping.{Keeping}
+use Rattle.ecow_counted.specs.Totals.{CopiedIsSum, MovedIsSum, CopiedIsPaid, MovedIsPaid}
+
+pub saturating_twice : (n a b : ℕ) → saturating (saturating n a) b ≡ saturating n (a + b)
+saturating_twice n a b = omega arith
+
+pub saturating_small : (n a : ℕ) → saturating n a < 2 ^ 64
+saturating_small n a = omega arith
+
+module _ {T : Type 0} (cost : VecCommand T → Names T → ℕ) (before : ℕ) (c : VecCommand T) (old : Names T) (groups : IsSharing old) (outcome : Outcome T) (mid : Names T) (step : CountedStep old c outcome mid) where
+  -- the first command's share of a total, and that of the others
+  pub total_goes_on : (after : ℕ) → after ≡ saturating before (if_accepted outcome (cost c old)) → (cs : List (VecCommand T)) (outcomes : List (Outcome T))
+      → saturating after (sum_in_run cost mid cs outcomes) ≡ saturating before (sum_in_run cost old (c ∷ cs) (outcome ∷ outcomes))
+  total_goes_on after rises cs outcomes =
+      ap (λ n. saturating n (sum_in_run cost mid cs outcomes)) rises
+      ∙ saturating_twice before (if_accepted outcome (cost c old)) (sum_in_run cost mid cs outcomes)
+      ∙ ap (λ names. saturating before (if_accepted outcome (cost c old) + sum_in_run cost names cs outcomes)) (sym (step_paid c old groups outcome mid step).after)
+
+module _ {T : Type 0} (old : Keeping T) (cs : List (VecCommand T)) (outcomes : List (Outcome T)) (new : Keeping T) (groups : IsSharing old.names) (run : CountedRun old.names cs outcomes new.names) (copies : CopiedIsSum old cs outcomes new) (moves : MovedIsSum old cs outcomes new) where
+  pub copies_paid : CopiedIsPaid old cs outcomes new
+  copies_paid = let paid : copied_in_run old.names cs outcomes + debt new.names ≤ debt old.names + eager_in_run old.names cs outcomes = copies_at_most_eagerly cs outcomes old.names new.names groups run in
+      omega (arith, paid, copies)
+
+  pub moves_paid : MovedIsPaid old cs outcomes new
+  moves_paid fits = let paid : moved_in_run old.names cs outcomes + strain new.names ≤ strain old.names + copied_in_run old.names cs outcomes + 2 * input_in_run old.names cs outcomes = moves_are_paid cs outcomes old.names new.names groups run in
+      omega (arith, paid, copies, moves, fits)

@@ -1,0 +1,71 @@
+use Rattle.std.proofs.Common.{◌≡◌, ◌+◌, ◌*◌, ◌≤◌, length, drop, take, [], ◌∷◌, ◌++◌, refl, sym, ◌∙◌, ap, subst, arith, inl, inr, length-drop}
+use Rattle.std.specs.Vec.Iter.{into_iter_items}
+use Rattle.std.proofs.lemmas.List.{nil_from_length, take_all}
+use Rattle.ecow_base.specs.Clones.{ClonesAreEqual}
+use Rattle.ecow_model.specs.Access.{OnRefused}
+use Rattle.ecow_model.specs.declared.command.Outcome.TheVariants.{Refused}
+use Rattle.ecow_model.specs.declared.command.VecCommand.TheVariants.{New, Push}
+use Rattle.ecow_counted.specs.Filling.{IsRunOf, filling, accepted}
+use Rattle.ecow_counted.specs.Keeping.{Keeping}
+use Rattle.ecow_counted.proofs.Filling.{next_of, accepted_more, filling_more, runs_one, runs_more, begins, pushes, moves_at_most, not_refused_by}
+use Rattle.ecow_counted.proofs.counted.Counted.fill.Goals as goal
+
+pub returns-in-Refused-clause-run : goal.returns-in-Refused-clause-run
+returns-in-Refused-clause-run g c = λ clones. inl (refl, runs_one c.args.self.now (New c.args.name) (Refused c.in-Refused.refusal) c.step.new.self (c.in-Refused.ensures.step clones) c.in-Refused.ensures.copied c.in-Refused.ensures.moved)
+
+pub loop-value-init : goal.loop-value-init
+loop-value-init g c =
+    let is = c.step.ensures in
+    let ok : OnRefused c.step.result ⊥ = not_refused_by c.step.result c.in_default.not-Refused in
+    let begun = λ (clones : ClonesAreEqual g.T.Clone.is_clone). begins c.args.self.now c.step.new.self c.args.name c.step.result ok (is.step clones) is.moved in
+    record {
+      within = omega arith;
+      left = c.into_iter-rest.ensures.rest;
+      sharing = is.sharing;
+      run = λ clones. subst (λ outcome. IsRunOf c.args.self.now (New c.args.name ∷ []) (outcome ∷ []) c.step.new.self) (begun clones).0 (runs_one c.args.self.now (New c.args.name) c.step.result c.step.new.self (is.step clones) is.copied is.moved);
+      moves = λ clones. (begun clones).1;
+    }
+
+pub returns-in-Refused-step : goal.returns-in-Refused-step
+returns-in-Refused-step g c =
+    let so_far = c.loop-value.invariant in
+    let is = c.in-Refused-step.ensures in
+    let next = next_of c.loop-value.accepted c.args.items.items c.in-Some.value _ (sym so_far.left ∙ c.in-Some.ensures.items) in
+    record {
+      run = λ clones. inr (
+        next.within,
+        subst (λ cs. IsRunOf c.args.self.now cs (accepted c.loop-value.accepted ++ Refused c.in-Refused-step.refusal ∷ []) c.step-in-Some.new.self) (sym (filling_more c.args.name c.loop-value.accepted c.args.items.items c.in-Some.value _ next))
+            (runs_more c.args.self.now (filling c.args.name (take c.loop-value.accepted c.args.items.items)) (accepted c.loop-value.accepted) c.loop-value.self c.step-in-Some.new.self (Push c.args.name c.in-Some.value) (Refused c.in-Refused-step.refusal) c.blocks-blocks.ensures.sharing (so_far.run clones) (is.step clones) is.copied is.moved),
+      );
+      moves = λ clones. subst (λ (k : Keeping g.row.T.Denot). k.moved ≤ c.args.self.now.moved + 2 * c.loop-value.accepted) (sym is.refused) (moves_at_most c.args.self.now.moved c.args.name c.loop-value.accepted c.loop-value.self (so_far.moves clones));
+    }
+
+pub loop-value-preserved : goal.loop-value-preserved
+loop-value-preserved g c =
+    let so_far = c.loop-value.invariant in
+    let is = c.step-in-Some.ensures in
+    let ok : OnRefused c.step-in-Some.result ⊥ = not_refused_by c.step-in-Some.result c.in_default-step.not-Refused in
+    let next = next_of c.loop-value.accepted c.args.items.items c.in-Some.value _ (sym so_far.left ∙ c.in-Some.ensures.items) in
+    let pushed = λ (clones : ClonesAreEqual g.T.Clone.is_clone). pushes c.loop-value.self c.step-in-Some.new.self c.args.name c.step-in-Some.result ok c.in-Some.value c.args.self.now.moved c.loop-value.accepted so_far.sharing (so_far.moves clones) (is.step clones) is.moved in
+    record {
+      within = omega (arith, next.within);
+      left = sym next.left;
+      sharing = is.sharing;
+      run = λ clones. rw (filling_more c.args.name c.loop-value.accepted c.args.items.items c.in-Some.value _ next, accepted_more c.loop-value.accepted)
+          (subst (λ outcome. IsRunOf c.args.self.now (filling c.args.name (take c.loop-value.accepted c.args.items.items) ++ Push c.args.name c.in-Some.value ∷ []) (accepted c.loop-value.accepted ++ outcome ∷ []) c.step-in-Some.new.self) (pushed clones).0
+          (runs_more c.args.self.now (filling c.args.name (take c.loop-value.accepted c.args.items.items)) (accepted c.loop-value.accepted) c.loop-value.self c.step-in-Some.new.self (Push c.args.name c.in-Some.value) c.step-in-Some.result c.blocks-blocks.ensures.sharing (so_far.run clones) (is.step clones) is.copied is.moved));
+      moves = λ clones. (pushed clones).1;
+    }
+
+pub returns : goal.returns
+returns g c =
+    let so_far = c.loop-value.invariant in
+    let rest = c.loop-value.rest in
+    let ended : into_iter_items rest ≡ [] = nil_from_length (into_iter_items rest) (omega (arith, rest.rest.ok.0, c.in_default-next.ensures.cases.0)) in
+    let none : length (drop c.loop-value.accepted c.args.items.items) ≡ 0 = ap length (sym so_far.left ∙ ended) in
+    let all : c.loop-value.accepted ≡ length c.args.items.items = omega (arith, none, length-drop c.loop-value.accepted c.args.items.items, so_far.within) in
+    let whole : take c.loop-value.accepted c.args.items.items ≡ c.args.items.items = take_all c.loop-value.accepted c.args.items.items (omega (arith, all)) in
+    record {
+      run = λ clones. (all, subst (λ items. IsRunOf c.args.self.now (filling c.args.name items) (accepted c.loop-value.accepted) c.loop-value.self) whole (so_far.run clones));
+      moves = λ clones. moves_at_most c.args.self.now.moved c.args.name c.loop-value.accepted c.loop-value.self (so_far.moves clones);
+    }

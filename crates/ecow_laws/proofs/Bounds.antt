@@ -1,0 +1,348 @@
+-- Over every run, sharing never copies more than copying at each clone, and moves are paid by copies and twice the input.
+use Rattle.std.proofs.Common.{◌≡◌, ℕ, ◌+◌, ◌*◌, ◌≤◌, Bool, true, false, cond, not, ◌&&◌, ltb, List, [], ◌∷◌, length, Option, Some, None, Result, Ok, Err, refl, sym, ◌∙◌, ap, subst, arith, ⊎_elim, if◌then◌else◌}
+use Rattle.std.specs.Prelude.{is_some}
+use Rattle.std.specs.FinMap as finite
+use Rattle.std.specs.Option.{unwrap_or}
+use Rattle.std.proofs.lemmas.Bool.{cases_Bool, ltb-false, eqb-false}
+use Rattle.std.specs.Ordering.{nat_cmp}
+use Rattle.std.proofs.lemmas.Option.{none-some}
+use Rattle.ecow_base.specs.Capacity.{MAX}
+use Rattle.ecow_model.specs.Access.{◌>>=◌, makes, copies as copies_from, drops, changes, reads, OnRefused, there, free, name_in}
+use Rattle.ecow_model.specs.Costs.{unshares, copies, capacity_after, moves, input, copied_by, moved_by}
+use Rattle.ecow_model.specs.CountedRun.{nothing, held_at, reading_of, change, counted_act, counted_step, counted_is_free, CountedStep, CountedRun, if_accepted, names_given, names_after, copied, moved, eager, copied_in_run, moved_in_run, eager_in_run, input_in_run, CopiesAtMostEagerly, MovesArePaid}
+use Rattle.ecow_model.specs.Names.{Names, Held, IsSharing, is_shared, forget, settle, join, debt, debt_of, strain, strain_of, strain_at}
+use Rattle.ecow_model.specs.Run.{StepBy}
+use Rattle.ecow_model.specs.VecStep.{vec_access, list_change}
+use Rattle.ecow_model.specs.declared.command.VecCommand.{VecCommand}
+use Rattle.ecow_model.specs.declared.command.VecCommand.TheVariants.{New, WithCapacity, FromList, FromElem, Clone, Drop, Push, Pop, Insert, Remove, Truncate, Clear, Retain, Drain, Splice, Extend, Reserve, Write, Read, Len, Contents, Capacity, Unique}
+use Rattle.ecow_model.specs.declared.command.Outcome.{Outcome}
+use Rattle.ecow_model.specs.declared.command.Outcome.TheVariants.{Refused}
+use Rattle.ecow_model.specs.declared.command.Refusal.{Refusal}
+use Rattle.ecow_model.specs.declared.command.Refusal.TheVariants.{Taken, Memory}
+use Rattle.ecow_model.proofs.Lists.{found_value}
+use Rattle.ecow_laws.proofs.Groups.{is_sole_owner, debt-forget, blocks-forget}
+use Rattle.ecow_laws.proofs.Totals.{total-empty}
+use Rattle.ecow_laws.proofs.Kept.{sharing-forget, sharing-settle, debt-settle, blocks-settle}
+use Rattle.ecow_laws.proofs.Joined.{sharing-join, debt-join, blocks-join}
+use Rattle.ecow_laws.proofs.Settled.{forget_absent, empty_of}
+use Rattle.ecow_laws.proofs.Lengths.{LengthIs, is_answer}
+use Rattle.ecow_laws.proofs.Steps.{IsPaidSole, IsPaidShared, paid_sole, paid_shared}
+
+settled : (b : Bool) (m : ℕ) → cond b m 0 ≤ m
+settled true m = omega arith
+settled false m = omega arith
+
+pub bound : {A B : Type 0} (r : Result A Refusal) (next : A → Result B Refusal) (b : B) → (r >>= next) ≡ Ok b → (a : A) × (r ≡ Ok a) × (next a ≡ Ok b)
+bound (Ok a) next b e = (a, refl, e)
+bound (Err refusal) next b e = cc
+
+pub same_answer : {A : Type 0} (a b : A) → ◌≡◌ {A = Result A Refusal} (Ok a) (Ok b) → a ≡ b
+same_answer a b e = cc
+
+absent : {V : Type 0} (o : Option V) (u : Unit {0}) → ◌≡◌ {A = Result (Unit {0}) Refusal} (if is_some o then Err Taken else Ok tt) (Ok u) → o ≡ None
+absent None u e = refl
+absent (Some v) u e = cc
+
+module _ {T : Type 0} where
+  -- an answer keeps what groups are, and pays for what is copied and moved; `owes` is what copying at once would copy
+  pub record IsPaid (c : VecCommand T) (h : Held T) (owes : ℕ) (old new : Names T) : Type 0 where
+    pub sharing : IsSharing new
+    pub copies_paid : copied_by c h + debt new ≤ debt old + owes
+    pub moves_paid : moved_by c h + strain new ≤ strain old + copied_by c h + 2 * input c
+
+  module _ (names : Names T) (groups : IsSharing names) where
+    -- x, which holds h, settles with this list
+    module _ (x : ℕ) (h : Held T) (at : finite.get names x ≡ Some h) (c : VecCommand T) (items : List T) (is : LengthIs c (length h.items) (length items)) where
+      within : length h.items ≤ h.capacity
+      within = (groups.fits x h at).0
+
+      small : h.capacity ≤ MAX
+      small = (groups.fits x h at).1
+
+      -- the strain of the others, and of the block if x alone holds it
+      strain_left : strain names ≡ strain (forget x names) + cond (is_sole_owner h) (strain_at (length h.items) h.capacity) 0
+      strain_left = blocks-forget names groups x h at (λ items capacity. strain_at (length items) capacity)
+
+      after_settle : (capacity : ℕ) → length items ≤ capacity → capacity ≤ MAX → strain (settle x items capacity names) ≡ strain (forget x names) + cond (ltb 0 capacity) (strain_at (length items) capacity) 0
+      after_settle capacity fit top = blocks-settle names x groups items capacity fit top (λ items capacity. strain_at (length items) capacity)
+
+      owed : debt names ≡ debt (forget x names) + cond (is_shared h) (length h.items) 0
+      owed = debt-forget names groups x h at
+
+      by_sharing : is_shared h ≡ true → unshares c (length h.items) ≡ true → IsPaid c h 0 names (change c x h items names)
+      by_sharing shared leaves =
+          let paid : IsPaidShared c (length h.items) (length items) h.capacity = paid_shared (length h.items) (length items) h.capacity within small c is leaves in
+          let capacity : ℕ = capacity_after c true (length h.items) h.capacity in
+          let goes : change c x h items names ≡ settle x items capacity names = (λ i. cond (shared i && not (leaves i)) names (settle x items (capacity_after c (shared i) (length h.items) h.capacity) names)) in
+          let cost : copied_by c h ≡ copies c (length h.items) = (λ i. cond (shared i && leaves i) (copies c (length h.items)) 0) in
+          let growth : moved_by c h ≡ 0 = ap (λ b. cond b 0 (moves c (length h.items) h.capacity)) shared in
+          let owes : cond (is_shared h) (length h.items) 0 ≡ length h.items = ap (λ b. cond b (length h.items) 0) shared in
+          let free : debt (settle x items capacity names) ≡ debt (forget x names) = debt-settle names x groups items capacity paid.fits paid.small in
+          let strained : strain (settle x items capacity names) ≡ strain (forget x names) + cond (ltb 0 capacity) (strain_at (length items) capacity) 0 = after_settle capacity paid.fits paid.small in
+          let bound : cond (ltb 0 capacity) (strain_at (length items) capacity) 0 ≤ strain_at (length items) capacity = settled (ltb 0 capacity) (strain_at (length items) capacity) in
+          record {
+            sharing = subst IsSharing (sym goes) (sharing-settle names x groups items capacity paid.fits paid.small);
+            copies_paid = rw goes (omega (arith, cost, owed, owes, free, paid.copied));
+            moves_paid = rw goes (omega (arith, cost, growth, strained, bound, strain_left, paid.moved));
+          }
+
+      by_staying : is_shared h ≡ true → unshares c (length h.items) ≡ false → IsPaid c h 0 names (change c x h items names)
+      by_staying shared stays =
+          let goes : change c x h items names ≡ names = (λ i. cond (shared i && not (stays i)) names (settle x items (capacity_after c (shared i) (length h.items) h.capacity) names)) in
+          let cost : copied_by c h ≡ 0 = (λ i. cond (shared i && stays i) (copies c (length h.items)) 0) in
+          let growth : moved_by c h ≡ 0 = ap (λ b. cond b 0 (moves c (length h.items) h.capacity)) shared in
+          record {
+            sharing = subst IsSharing (sym goes) groups;
+            copies_paid = rw goes (omega (arith, cost));
+            moves_paid = rw goes (omega (arith, cost, growth));
+          }
+
+      own_strain : is_shared h ≡ false → cond (is_sole_owner h) (strain_at (length h.items) h.capacity) 0 ≡ strain_at (length h.items) h.capacity
+      own_strain sole = elim (is_sole_owner h) as (λ b. is_sole_owner h ≡ b → cond b (strain_at (length h.items) h.capacity) 0 ≡ strain_at (length h.items) h.capacity) [
+        | true ↦ λ _. refl
+        | false ↦ λ ne.
+            let few : length h.group ≤ 1 = ltb-false 1 (length h.group) sole in
+            let apart : length h.group ≡ 1 → ⊥ = eqb-false (length h.group) 1 ne in
+            let bare : h.capacity ≡ 0 = groups.bare x h at (empty_of h.group (omega (arith, few, apart))) in
+            let empty : length h.items ≡ 0 = omega (arith, within, bare) in
+            λ i. sym (λ j. strain_at (empty j) (bare j)) i
+      ] refl
+
+      by_itself : is_shared h ≡ false → IsPaid c h 0 names (change c x h items names)
+      by_itself sole =
+          let paid : IsPaidSole c (length h.items) (length items) h.capacity = paid_sole (length h.items) (length items) h.capacity within small c is in
+          let capacity : ℕ = capacity_after c false (length h.items) h.capacity in
+          let goes : change c x h items names ≡ settle x items capacity names = ap (λ b. cond (b && not (unshares c (length h.items))) names (settle x items (capacity_after c b (length h.items) h.capacity) names)) sole in
+          let cost : copied_by c h ≡ 0 = ap (λ b. cond (b && unshares c (length h.items)) (copies c (length h.items)) 0) sole in
+          let growth : moved_by c h ≡ moves c (length h.items) h.capacity = ap (λ b. cond b 0 (moves c (length h.items) h.capacity)) sole in
+          let free : debt (settle x items capacity names) ≡ debt (forget x names) = debt-settle names x groups items capacity paid.fits paid.small in
+          let strained : strain (settle x items capacity names) ≡ strain (forget x names) + cond (ltb 0 capacity) (strain_at (length items) capacity) 0 = after_settle capacity paid.fits paid.small in
+          let bound : cond (ltb 0 capacity) (strain_at (length items) capacity) 0 ≤ strain_at (length items) capacity = settled (ltb 0 capacity) (strain_at (length items) capacity) in
+          let left : strain names ≡ strain (forget x names) + strain_at (length h.items) h.capacity = strain_left ∙ ap (λ n. strain (forget x names) + n) (own_strain sole) in
+          record {
+            sharing = subst IsSharing (sym goes) (sharing-settle names x groups items capacity paid.fits paid.small);
+            copies_paid = rw goes (omega (arith, cost, owed, free));
+            moves_paid = rw goes (omega (arith, cost, growth, strained, bound, left, paid.moved));
+          }
+
+      change_paid : IsPaid c h 0 names (change c x h items names)
+      change_paid = ⊎_elim
+          (λ shared. ⊎_elim (by_sharing shared) (by_staying shared) (cases_Bool (unshares c (length h.items))))
+          by_itself
+          (cases_Bool (is_shared h))
+
+    -- a new name
+    made_paid : (x : ℕ) → finite.get names x ≡ None → (c : VecCommand T) (items : List T) → LengthIs c 0 (length items) → IsPaid c nothing 0 names (settle x items (capacity_after c false 0 0) names)
+    made_paid x none c items is =
+        let paid : IsPaidSole c 0 (length items) 0 = paid_sole 0 (length items) 0 (omega arith) (omega arith) c is in
+        let capacity : ℕ = capacity_after c false 0 0 in
+        let same : forget x names ≡ names = forget_absent names x groups none in
+        let none_copied : copied_by c nothing ≡ 0 = refl in
+        let growth : moved_by c nothing ≡ moves c 0 0 = refl in
+        let free : debt (settle x items capacity names) ≡ debt names = debt-settle names x groups items capacity paid.fits paid.small ∙ ap debt same in
+        let strained : strain (settle x items capacity names) ≡ strain names + cond (ltb 0 capacity) (strain_at (length items) capacity) 0 =
+        blocks-settle names x groups items capacity paid.fits paid.small (λ items capacity. strain_at (length items) capacity) ∙ ap (λ n. strain n + cond (ltb 0 capacity) (strain_at (length items) capacity) 0) same in
+        let bound : cond (ltb 0 capacity) (strain_at (length items) capacity) 0 ≤ strain_at (length items) capacity = settled (ltb 0 capacity) (strain_at (length items) capacity) in
+        record {
+          sharing = sharing-settle names x groups items capacity paid.fits paid.small;
+          copies_paid = omega (arith, none_copied, free);
+          moves_paid = omega (arith, none_copied, growth, strained, bound, paid.moved);
+        }
+
+    copied_none : (c : VecCommand T) (h : Held T) → unshares c (length h.items) ≡ false → copied_by c h ≡ 0
+    copied_none c h stays = elim (is_shared h) as (λ b. cond (b && unshares c (length h.items)) (copies c (length h.items)) 0 ≡ 0) [ true ↦ ap (λ b. cond b (copies c (length h.items)) 0) stays | false ↦ refl ]
+
+    moved_none : (c : VecCommand T) (h : Held T) → moves c (length h.items) h.capacity ≡ 0 → moved_by c h ≡ 0
+    moved_none c h none = elim (is_shared h) as (λ b. cond b 0 (moves c (length h.items) h.capacity) ≡ 0) [ true ↦ refl | false ↦ none ]
+
+    joined_paid : (x y : ℕ) (h : Held T) → finite.get names x ≡ Some h → finite.get names y ≡ None → IsPaid (Clone x y) h (length h.items) names (join x y h names)
+    joined_paid x y h at none =
+        let none_copied : copied_by (Clone x y) h ≡ 0 = copied_none (Clone x y) h refl in
+        let none_moved : moved_by (Clone x y) h ≡ 0 = moved_none (Clone x y) h refl in
+        let owed : debt (join x y h names) ≤ debt names + length h.items = debt-join names groups x y h at none in
+        let strains : strain (join x y h names) ≡ strain names = blocks-join names groups x y h at none (λ items capacity. strain_at (length items) capacity) in
+        record {
+          sharing = sharing-join names groups x y h at none;
+          copies_paid = omega (arith, none_copied, owed);
+          moves_paid = omega (arith, none_copied, none_moved, strains);
+        }
+
+    dropped_paid : (x : ℕ) (h : Held T) → finite.get names x ≡ Some h → IsPaid (Drop x) h 0 names (forget x names)
+    dropped_paid x h at =
+        let none_copied : copied_by (Drop x) h ≡ 0 = copied_none (Drop x) h refl in
+        let none_moved : moved_by (Drop x) h ≡ 0 = moved_none (Drop x) h refl in
+        let left : debt names ≡ debt (forget x names) + cond (is_shared h) (length h.items) 0 = debt-forget names groups x h at in
+        let strains : strain names ≡ strain (forget x names) + cond (is_sole_owner h) (strain_at (length h.items) h.capacity) 0 = blocks-forget names groups x h at (λ items capacity. strain_at (length items) capacity) in
+        record {
+          sharing = sharing-forget names x groups;
+          copies_paid = omega (arith, none_copied, left);
+          moves_paid = omega (arith, none_copied, none_moved, strains);
+        }
+
+    read_paid : (c : VecCommand T) (h : Held T) → unshares c (length h.items) ≡ false → moves c (length h.items) h.capacity ≡ 0 → IsPaid c h 0 names names
+    read_paid c h stays none =
+        let none_copied : copied_by c h ≡ 0 = copied_none c h stays in
+        let none_moved : moved_by c h ≡ 0 = moved_none c h none in
+        record {
+          sharing = groups;
+          copies_paid = omega (arith, none_copied);
+          moves_paid = omega (arith, none_copied, none_moved);
+        }
+
+  held_is : (old : Names T) (x : ℕ) (h : Held T) → finite.get old x ≡ Some h → held_at old x ≡ h
+  held_is old x h at = ap (λ o. unwrap_or o nothing) at
+
+  -- an accepted command isn't answered by a refusal, and is paid
+  abbrev IsPaidAnswer : VecCommand T → Held T → ℕ → Names T → Outcome T × Names T → Type 0
+  IsPaidAnswer c h owes old answer = OnRefused answer.0 ⊥ × IsPaid c h owes old answer.1
+
+  module _ (old : Names T) (groups : IsSharing old) (answer : Outcome T × Names T) where
+    makes_paid : (c : VecCommand T) (x : ℕ) → counted_act c (makes x) old ≡ Ok answer → IsPaidAnswer c (held_at old x) 0 old answer
+    makes_paid c x e =
+        let unused = bound (free old x) _ answer e in
+        let none : finite.get old x ≡ None = absent (finite.get old x) unused.0 unused.1 in
+        let after = bound (list_change (reading_of {T = T} nothing) c []) _ answer unused.2 in
+        let is = is_answer (reading_of {T = T} nothing) [] after.0 c after.1 in
+        let holds : held_at old x ≡ nothing = ap (λ o. unwrap_or o nothing) none in
+        subst (IsPaidAnswer c (held_at old x) 0 old) (same_answer _ answer after.2)
+        (is.0, subst (λ h. IsPaid c h 0 old (settle x after.0.1 (capacity_after c false 0 0) old)) (sym holds) (made_paid old groups x none c after.0.1 is.1))
+
+    changes_paid : (c : VecCommand T) (x : ℕ) → counted_act c (changes x) old ≡ Ok answer → IsPaidAnswer c (held_at old x) 0 old answer
+    changes_paid c x e =
+        let is_there = bound (there old x) _ answer e in
+        let h : Held T = is_there.0 in
+        let at : finite.get old x ≡ Some h = found_value (finite.get old x) h is_there.1 in
+        let after = bound (list_change (reading_of h) c h.items) _ answer is_there.2 in
+        let is = is_answer (reading_of h) h.items after.0 c after.1 in
+        subst (IsPaidAnswer c (held_at old x) 0 old) (same_answer _ answer after.2)
+        (is.0, subst (λ k. IsPaid c k 0 old (change c x h after.0.1 old)) (sym (held_is old x h at)) (change_paid old groups x h at c after.0.1 is.1))
+
+    reads_paid : (c : VecCommand T) (x : ℕ) → ((n : ℕ) → unshares c n ≡ false) → ((n capacity : ℕ) → moves c n capacity ≡ 0) → counted_act c (reads x) old ≡ Ok answer → IsPaidAnswer c (held_at old x) 0 old answer
+    reads_paid c x stays none e =
+        let is_there = bound (there old x) _ answer e in
+        let h : Held T = is_there.0 in
+        let at : finite.get old x ≡ Some h = found_value (finite.get old x) h is_there.1 in
+        let after = bound (list_change (reading_of h) c h.items) _ answer is_there.2 in
+        let is = is_answer (reading_of h) h.items after.0 c after.1 in
+        subst (IsPaidAnswer c (held_at old x) 0 old) (same_answer _ answer after.2)
+        (is.0, subst (λ k. IsPaid c k 0 old old) (sym (held_is old x h at)) (read_paid old groups c h (stays (length h.items)) (none (length h.items) h.capacity)))
+
+    drops_paid : (x : ℕ) → counted_act (Drop x) (drops x) old ≡ Ok answer → IsPaidAnswer (Drop x) (held_at old x) 0 old answer
+    drops_paid x e =
+        let is_there = bound (there old x) _ answer e in
+        let h : Held T = is_there.0 in
+        let at : finite.get old x ≡ Some h = found_value (finite.get old x) h is_there.1 in
+        subst (IsPaidAnswer (Drop x) (held_at old x) 0 old) (same_answer _ answer is_there.2)
+        (tt, subst (λ k. IsPaid (Drop x) k 0 old (forget x old)) (sym (held_is old x h at)) (dropped_paid old groups x h at))
+
+    clone_paid : (x y : ℕ) → counted_act (Clone x y) (copies_from x y) old ≡ Ok answer → IsPaidAnswer (Clone x y) (held_at old x) (length (held_at old x).items) old answer
+    clone_paid x y e =
+        let is_there = bound (there old x) _ answer e in
+        let h : Held T = is_there.0 in
+        let at : finite.get old x ≡ Some h = found_value (finite.get old x) h is_there.1 in
+        let unused = bound (free old y) _ answer is_there.2 in
+        let none : finite.get old y ≡ None = absent (finite.get old y) unused.0 unused.1 in
+        subst (IsPaidAnswer (Clone x y) (held_at old x) (length (held_at old x).items) old) (same_answer _ answer unused.2)
+        (tt, subst (λ k. IsPaid (Clone x y) k (length k.items) old (join x y h old)) (sym (held_is old x h at)) (joined_paid old groups x y h at none))
+
+    answer_paid : (c : VecCommand T) → counted_step old c ≡ Ok answer → IsPaidAnswer c (held_at old (name_in (vec_access c))) (eager c old) old answer
+    answer_paid (New x) e = makes_paid (New x) x e
+    answer_paid (WithCapacity x asked) e = makes_paid (WithCapacity x asked) x e
+    answer_paid (FromList x items) e = makes_paid (FromList x items) x e
+    answer_paid (FromElem x value n) e = makes_paid (FromElem x value n) x e
+    answer_paid (Clone x y) e = clone_paid x y e
+    answer_paid (Drop x) e = drops_paid x e
+    answer_paid (Push x value) e = changes_paid (Push x value) x e
+    answer_paid (Pop x) e = changes_paid (Pop x) x e
+    answer_paid (Insert x index value) e = changes_paid (Insert x index value) x e
+    answer_paid (Remove x index) e = changes_paid (Remove x index) x e
+    answer_paid (Truncate x target) e = changes_paid (Truncate x target) x e
+    answer_paid (Clear x) e = changes_paid (Clear x) x e
+    answer_paid (Retain x marks) e = changes_paid (Retain x marks) x e
+    answer_paid (Drain x bounds) e = changes_paid (Drain x bounds) x e
+    answer_paid (Splice x bounds items) e = changes_paid (Splice x bounds items) x e
+    answer_paid (Extend x items) e = changes_paid (Extend x items) x e
+    answer_paid (Reserve x additional) e = changes_paid (Reserve x additional) x e
+    answer_paid (Write x index value) e = changes_paid (Write x index value) x e
+    answer_paid (Read x index) e = reads_paid (Read x index) x (λ _. refl) (λ _ _. refl) e
+    answer_paid (Len x) e = reads_paid (Len x) x (λ _. refl) (λ _ _. refl) e
+    answer_paid (Contents x) e = reads_paid (Contents x) x (λ _. refl) (λ _ _. refl) e
+    answer_paid (Capacity x) e = reads_paid (Capacity x) x (λ _. refl) (λ _ _. refl) e
+    answer_paid (Unique x) e = reads_paid (Unique x) x (λ _. refl) (λ _ _. refl) e
+
+  -- one command, accepted or refused
+  pub record IsPaidStep (c : VecCommand T) (old : Names T) (outcome : Outcome T) (new : Names T) : Type 0 where
+    pub sharing : IsSharing new
+    pub after : names_after old c outcome ≡ new
+    pub copies_paid : if_accepted outcome (copied c old) + debt new ≤ debt old + if_accepted outcome (eager c old)
+    pub moves_paid : if_accepted outcome (moved c old) + strain new ≤ strain old + if_accepted outcome (copied c old) + 2 * if_accepted outcome (input c)
+
+  module _ (c : VecCommand T) (old : Names T) (groups : IsSharing old) where
+    refused_paid : (refusal : Refusal) → IsPaidStep c old (Refused refusal) old
+    refused_paid refusal = record { sharing = groups; after = refl; copies_paid = omega arith; moves_paid = omega arith }
+
+    refused_as : (refusal : Refusal) (outcome : Outcome T) (new : Names T) → outcome ≡ Refused refusal → new ≡ old → IsPaidStep c old outcome new
+    refused_as refusal outcome new is same = subst (λ (a : Outcome T × Names T). IsPaidStep c old a.0 a.1) (λ i. (sym is i, sym same i)) (refused_paid refusal)
+
+    accepted_paid : (outcome : Outcome T) (new : Names T) → counted_step old c ≡ Ok (outcome, new) → OnRefused outcome ⊥ → IsPaid c (held_at old (name_in (vec_access c))) (eager c old) old new → IsPaidStep c old outcome new
+    accepted_paid (Refused refusal) new is accepted paid = absurd accepted
+    accepted_paid _ new is accepted paid = record { sharing = paid.sharing; after = ap (λ r. names_given r old) is; copies_paid = paid.copies_paid; moves_paid = paid.moves_paid }
+
+    -- a step is paid, and the names after it are those that the sums of a run go on from
+    pub step_paid : (outcome : Outcome T) (new : Names T) → CountedStep old c outcome new → IsPaidStep c old outcome new
+    step_paid outcome new h = elim (counted_step old c) as (λ r. counted_step old c ≡ r → StepBy r (Unit {0}) (counted_is_free old c) old outcome new → IsPaidStep c old outcome new) [
+      | Ok answer ↦ λ e h. ⊎_elim
+          (λ (w : ((outcome, new) ≡ answer) × Unit {0}).
+          let paid = answer_paid old groups answer c e in
+          subst (λ (a : Outcome T × Names T). IsPaidStep c old a.0 a.1) (sym w.0) (accepted_paid answer.0 answer.1 e paid.0 paid.1))
+          (λ (w : (outcome ≡ Refused Memory) × (new ≡ old) × (counted_is_free old c ≡ false)). refused_as Memory outcome new w.0 w.1)
+          h
+      | Err refusal ↦ λ e h. refused_as refusal outcome new h.0 h.1
+    ] refl h
+
+  -- a run keeps what groups are
+  pub run_shares : (cs : List (VecCommand T)) (outcomes : List (Outcome T)) (old new : Names T) → IsSharing old → CountedRun old cs outcomes new → IsSharing new
+  run_shares [] [] old new groups h = subst IsSharing (sym h) groups
+  run_shares [] (outcome ∷ outcomes) old new groups h = absurd h
+  run_shares (c ∷ cs) [] old new groups h = absurd h
+  run_shares (c ∷ cs) (outcome ∷ outcomes) old new groups h = run_shares cs outcomes h.0 new (step_paid c old groups outcome h.0 h.1).sharing h.2
+
+  pub copies_at_most_eagerly : (cs : List (VecCommand T)) (outcomes : List (Outcome T)) (old new : Names T) → CopiesAtMostEagerly old cs outcomes new
+  copies_at_most_eagerly [] [] old new groups h = rw h (omega arith)
+  copies_at_most_eagerly [] (outcome ∷ outcomes) old new groups h = absurd h
+  copies_at_most_eagerly (c ∷ cs) [] old new groups h = absurd h
+  copies_at_most_eagerly (c ∷ cs) (outcome ∷ outcomes) old new groups h =
+      let step : IsPaidStep c old outcome h.0 = step_paid c old groups outcome h.0 h.1 in
+      let rest : copied_in_run h.0 cs outcomes + debt new ≤ debt h.0 + eager_in_run h.0 cs outcomes = copies_at_most_eagerly cs outcomes h.0 new step.sharing h.2 in
+      rw step.after (omega (arith, step.copies_paid, rest))
+
+  pub moves_are_paid : (cs : List (VecCommand T)) (outcomes : List (Outcome T)) (old new : Names T) → MovesArePaid old cs outcomes new
+  moves_are_paid [] [] old new groups h = rw h (omega arith)
+  moves_are_paid [] (outcome ∷ outcomes) old new groups h = absurd h
+  moves_are_paid (c ∷ cs) [] old new groups h = absurd h
+  moves_are_paid (c ∷ cs) (outcome ∷ outcomes) old new groups h =
+      let step : IsPaidStep c old outcome h.0 = step_paid c old groups outcome h.0 h.1 in
+      let rest : moved_in_run h.0 cs outcomes + strain new ≤ strain h.0 + copied_in_run h.0 cs outcomes + 2 * input_in_run h.0 cs outcomes = moves_are_paid cs outcomes h.0 new step.sharing h.2 in
+      rw step.after (omega (arith, step.moves_paid, rest))
+
+  -- from no names at all
+  nothing_shares : IsSharing {T = T} finite.empty
+  nothing_shares = record {
+    common = λ x y h is _. absurd (none-some h (sym (finite.get-empty nat_cmp x) ∙ is));
+    itself = λ x h is. absurd (none-some h (sym (finite.get-empty nat_cmp x) ∙ is));
+    rising = λ x h is. absurd (none-some h (sym (finite.get-empty nat_cmp x) ∙ is));
+    fits = λ x h is. absurd (none-some h (sym (finite.get-empty nat_cmp x) ∙ is));
+    bare = λ x h is _. absurd (none-some h (sym (finite.get-empty nat_cmp x) ∙ is));
+  }
+
+  pub copies_from_nothing : (cs : List (VecCommand T)) (outcomes : List (Outcome T)) (new : Names T) → CountedRun finite.empty cs outcomes new → copied_in_run finite.empty cs outcomes ≤ eager_in_run finite.empty cs outcomes
+  copies_from_nothing cs outcomes new h =
+      let paid : copied_in_run finite.empty cs outcomes + debt new ≤ debt finite.empty + eager_in_run finite.empty cs outcomes = copies_at_most_eagerly cs outcomes finite.empty new nothing_shares h in
+      let none : debt {T = T} finite.empty ≡ 0 = total-empty debt_of in
+      omega (arith, paid, none)
+
+  pub moves_from_nothing : (cs : List (VecCommand T)) (outcomes : List (Outcome T)) (new : Names T) → CountedRun finite.empty cs outcomes new → moved_in_run finite.empty cs outcomes ≤ copied_in_run finite.empty cs outcomes + 2 * input_in_run finite.empty cs outcomes
+  moves_from_nothing cs outcomes new h =
+      let paid : moved_in_run finite.empty cs outcomes + strain new ≤ strain finite.empty + copied_in_run finite.empty cs outcomes + 2 * input_in_run finite.empty cs outcomes = moves_are_paid cs outcomes finite.empty new nothing_shares h in
+      let none : strain {T = T} finite.empty ≡ 0 = total-empty strain_of in
+      omega (arith, paid, none)

@@ -1,0 +1,270 @@
+//! Lists in counted blocks: commands succeed with ample memory, each copied element is one clone,
+//! and elements are dropped with the last name of their block.
+use crate::commands::same;
+use crate::elements::{Counting, Single, Tally};
+use crate::numbers::Numbers;
+use ecow_counted::{Counted, Filled};
+use ecow_model::{Items, Name, Outcome, Refusal, VecCommand};
+use ecow_plain::PlainStore;
+use std::alloc::{AllocError, Global};
+use std::ops::Bound;
+use std::process::Abort;
+use std::test::Fail;
+
+fn list(alloc: Global, elements: &[i64]) -> Result<Items<i64>, AllocError> {
+    Items::from_slice(alloc, elements)
+}
+
+/// Runs the commands in a new table; none is refused.
+fn after(
+    rt: &impl Abort,
+    alloc: Global,
+    commands: Vec<VecCommand<i64>>,
+) -> Result<Counted<i64>, Fail> {
+    let mut table = Counted::new(alloc);
+    let Ok(outcomes) = table.run(commands) else {
+        return Err(AllocError.into());
+    };
+    for outcome in outcomes.iter() {
+        assert!(rt; !matches!(outcome, Outcome::Refused(_)));
+    }
+    Ok(table)
+}
+
+fn holds(rt: &impl Abort, table: &mut Counted<i64>, name: Name, wanted: &[i64]) {
+    match table.step(VecCommand::Contents { name }) {
+        Outcome::Elements(elements) => assert_eq!(rt; elements.as_slice(), wanted),
+        _ => assert!(rt; false, "no elements"),
+    }
+}
+
+#[test]
+fn a_shared_list_is_copied_by_who_writes(rt: HostRuntime) -> Result<(), Fail> {
+    let alloc = rt.alloc();
+    let items = list(alloc, &[1, 2, 3])?;
+    let commands = vec![in alloc;
+        VecCommand::FromList { name: 0, items },
+        VecCommand::Clone { from: 0, to: 1 },
+        VecCommand::Push { name: 1, value: 4 },
+        VecCommand::Clone { from: 0, to: 2 },
+        VecCommand::Truncate { name: 2, target: 1 },
+        VecCommand::Clear { name: 0 },
+    ]?;
+    let mut table = after(&rt, alloc, commands)?;
+    holds(&rt, &mut table, 0, &[]);
+    holds(&rt, &mut table, 1, &[1, 2, 3, 4]);
+    holds(&rt, &mut table, 2, &[1]);
+    assert_eq!(rt; (table.copied(), table.moved(), table.blocks()), (4, 0, 3));
+    Ok(())
+}
+
+#[test]
+fn an_empty_shared_block_is_left_by_few(rt: HostRuntime) -> Result<(), Fail> {
+    let alloc = rt.alloc();
+    let (name, nothing) = (0, list(alloc, &[])?);
+    let commands = vec![in alloc;
+        VecCommand::WithCapacity { name, capacity: 3 },
+        VecCommand::Clone { from: 0, to: 1 },
+        VecCommand::Clear { name },
+        VecCommand::Pop { name },
+        VecCommand::Truncate { name, target: 0 },
+        VecCommand::Extend {
+            name,
+            items: nothing
+        },
+    ]?;
+    let mut table = after(&rt, alloc, commands)?;
+    assert_eq!(rt; (table.owners(0), table.blocks()), (Some(2), 1));
+    let marks = Items::from_slice(alloc, &[])?;
+    assert!(rt;
+        matches!(
+            table.step(VecCommand::Retain { name, marks }),
+            Outcome::Done
+        )
+    );
+    assert_eq!(rt; (table.owners(0), table.capacity(0)), (None, Some(0)));
+    assert_eq!(rt; (table.owners(1), table.capacity(1)), (Some(1), Some(3)));
+    assert_eq!(rt; (table.blocks(), table.copied()), (1, 0));
+    Ok(())
+}
+
+#[test]
+fn a_shared_list_is_spliced_in_one_new_block(rt: HostRuntime) -> Result<(), Fail> {
+    let alloc = rt.alloc();
+    let commands = vec![in alloc;
+        VecCommand::FromList {
+            name: 0,
+            items: list(alloc, &[1, 2, 3, 4, 5])?
+        },
+        VecCommand::Clone { from: 0, to: 1 },
+        VecCommand::Splice {
+            name: 0,
+            bounds: (Bound::Included(1), Bound::Excluded(2)),
+            items: list(alloc, &[7, 8, 9])?
+        },
+        VecCommand::Reserve {
+            name: 1,
+            additional: 0
+        },
+    ]?;
+    let mut table = after(&rt, alloc, commands)?;
+    holds(&rt, &mut table, 0, &[1, 7, 8, 9, 3, 4, 5]);
+    assert_eq!(rt; (table.capacity(0), table.capacity(1)), (Some(10), Some(5)));
+    assert_eq!(rt; (table.copied(), table.moved(), table.blocks()), (5, 0, 2));
+    Ok(())
+}
+
+/// Fills a new list with `n` numbers; none is refused.
+fn filled(rt: &impl Abort, alloc: Global, n: usize) -> Result<Counted<i64>, Fail> {
+    let mut items = Vec::new(alloc);
+    for item in 0..n {
+        items.push(i64::try_from(item).unwrap_or(0))?;
+    }
+    let mut table = Counted::new(alloc);
+    let Filled { accepted, refusal } = table.fill(0, items);
+    assert_eq!(rt; (accepted, refusal), (n, None));
+    Ok(table)
+}
+
+#[test]
+fn a_list_moves_as_it_is_filled(rt: HostRuntime) -> Result<(), Fail> {
+    let alloc = rt.alloc();
+    for (n, moved, capacity) in [(4, 0, 4), (5, 4, 8), (9, 12, 16), (17, 28, 32)] {
+        let table = filled(&rt, alloc, n)?;
+        assert_eq!(rt; (table.moved(), table.capacity(0)), (moved, Some(capacity)));
+    }
+    let mut table = filled(&rt, alloc, 5)?;
+    let Filled { accepted, refusal } = table.fill(0, Vec::new(alloc));
+    assert_eq!(rt; (accepted, refusal), (0, Some(Refusal::Taken)));
+    holds(&rt, &mut table, 0, &[0, 1, 2, 3, 4]);
+    Ok(())
+}
+
+#[test]
+fn units_are_counted_too(rt: HostRuntime) -> Result<(), Fail> {
+    let mut units = Vec::new(rt.alloc());
+    for _unit in 0..9 {
+        units.push(())?;
+    }
+    let mut table = Counted::new(rt.alloc());
+    let Filled { accepted, .. } = table.fill(0, units);
+    assert_eq!(rt; accepted, 9);
+    assert_eq!(rt; (table.moved(), table.capacity(0)), (12, Some(16)));
+    Ok(())
+}
+
+/// Commands by the name 1 that leave a shared block.
+fn leaving(alloc: Global, tally: &Tally) -> Result<Vec<VecCommand<Counting>>, AllocError> {
+    let (name, index, additional) = (1, 1, 0);
+    let bounds = (Bound::Unbounded, Bound::Excluded(1));
+    let marks = Items::from_slice(alloc, &[true, false, true])?;
+    let items = Items::new(tally.elements(alloc, 2)?);
+    let commands = vec![in alloc;
+        VecCommand::Push {
+            name,
+            value: tally.element()?
+        },
+        VecCommand::Insert {
+            name,
+            index,
+            value: tally.element()?
+        },
+        VecCommand::Write {
+            name,
+            index,
+            value: tally.element()?
+        },
+        VecCommand::Splice {
+            name,
+            bounds,
+            items
+        },
+        VecCommand::Pop { name },
+        VecCommand::Remove { name, index },
+        VecCommand::Truncate { name, target: 2 },
+        VecCommand::Retain { name, marks },
+        VecCommand::Drain { name, bounds },
+        VecCommand::Reserve { name, additional },
+    ]?;
+    Ok(commands)
+}
+
+#[test]
+fn each_copied_element_is_one_clone(rt: HostRuntime) -> Result<(), Fail> {
+    let alloc = rt.alloc();
+    let tally = Tally::new(alloc)?;
+    let mut copied = 0;
+    for command in leaving(alloc, &tally)? {
+        let mut table = Counted::new(alloc);
+        let items = Items::new(tally.elements(alloc, 3)?);
+        drop(table.step(VecCommand::FromList { name: 0, items }));
+        drop(table.step(VecCommand::Clone { from: 0, to: 1 }));
+        assert_eq!(rt; tally.clones(), copied);
+        assert!(rt; !matches!(table.step(command), Outcome::Refused(_)));
+        assert_eq!(rt; table.blocks(), 2);
+        copied += table.copied();
+    }
+    assert_eq!(rt; (tally.clones(), copied), (29, 29));
+    Ok(())
+}
+
+#[test]
+fn elements_go_with_the_last_name_of_their_block(rt: HostRuntime) -> Result<(), Fail> {
+    let alloc = rt.alloc();
+    let tally = Tally::new(alloc)?;
+    let mut table = Counted::new(alloc);
+    let items = Items::new(tally.elements(alloc, 3)?);
+    drop(table.step(VecCommand::FromList { name: 0, items }));
+    for to in 1..3 {
+        assert!(rt; matches!(table.share(0, to), Outcome::Done));
+    }
+    drop(table.step(VecCommand::Drop { name: 0 }));
+    drop(table.step(VecCommand::Clear { name: 1 }));
+    assert_eq!(rt;
+        (tally.drops(), table.blocks(), table.owners(2)),
+        (0, 1, Some(1))
+    );
+    drop(table.step(VecCommand::Drop { name: 2 }));
+    assert_eq!(rt; (tally.drops(), tally.clones(), table.blocks()), (3, 0, 0));
+    Ok(())
+}
+
+#[test]
+fn elements_without_a_clone_are_shared(rt: HostRuntime) -> Result<(), Fail> {
+    let mut table: Counted<Single> = Counted::new(rt.alloc());
+    assert!(rt; matches!(table.share(0, 1), Outcome::Refused(Refusal::NoName)));
+    assert_eq!(rt;
+        (table.owners(0), table.is_unique(0), table.blocks()),
+        (None, None, 0)
+    );
+    Ok(())
+}
+
+/// Runs the same commands in counted blocks and on plain lists.
+fn compared(rt: &impl Abort, alloc: Global, seed: u64, n: usize) -> Result<(), Fail> {
+    let commands = Numbers::new(seed).commands(alloc, n)?;
+    let again = Numbers::new(seed).commands(alloc, n)?;
+    let mut table = Counted::new(alloc);
+    let Ok(outcomes) = table.run(commands) else {
+        return Err("no room for the outcomes".into());
+    };
+    let mut plain: PlainStore<i64, 15> = PlainStore::new(alloc);
+    let wanted = plain.run(again)?;
+    assert_eq!(rt; outcomes.len(), wanted.len());
+    assert!(rt;
+        outcomes
+            .iter()
+            .zip(wanted.iter())
+            .all(|(one, other)| same(one, other)),
+        "{seed}"
+    );
+    Ok(())
+}
+
+#[test]
+fn counted_lists_answer_as_plain_lists_do(rt: HostRuntime) -> Result<(), Fail> {
+    for seed in 100..120 {
+        compared(&rt, rt.alloc(), seed, 400)?;
+    }
+    Ok(())
+}

@@ -1,0 +1,159 @@
+//! Lists in counted blocks whose elements refuse their clones: everything stays as it was.
+use crate::elements::Refusing;
+use ecow_counted::Counted;
+use ecow_model::{Items, Name, Outcome, Refusal, VecCommand};
+use std::alloc::{AllocError, Global};
+use std::cell::Cell;
+use std::ops::Bound;
+use std::process::Abort;
+use std::rc::Rc;
+use std::test::Fail;
+
+/// Numbers that share what is left of their clones.
+fn numbers(
+    alloc: Global,
+    values: &[i64],
+    left: &Rc<Cell<u64>>,
+) -> Result<Items<Refusing>, AllocError> {
+    let mut elements = Vec::new(alloc);
+    for value in values {
+        elements.push(Refusing::new(*value, left)?)?;
+    }
+    Ok(Items::new(elements))
+}
+
+/// The names 0 and 1 share a block of three numbers, of which no clone was made.
+fn shared(alloc: Global, left: &Rc<Cell<u64>>) -> Result<Counted<Refusing>, AllocError> {
+    let mut table = Counted::new(alloc);
+    let items = numbers(alloc, &[1, 2, 3], left)?;
+    drop(table.step(VecCommand::FromList { name: 0, items }));
+    drop(table.step(VecCommand::Clone { from: 0, to: 1 }));
+    Ok(table)
+}
+
+/// What the first names hold, who shares it, the capacities and the totals, as numbers. The elements
+/// may be cloned for that.
+fn seen(
+    alloc: Global,
+    table: &mut Counted<Refusing>,
+    left: &Rc<Cell<u64>>,
+) -> Result<Vec<u64>, AllocError> {
+    let kept = left.get();
+    left.set(100);
+    let mut numbers = vec![in alloc; table.copied(), table.moved(), table.blocks() as u64]?;
+    for name in 0..5 {
+        numbers.push(table.owners(name).unwrap_or(0) as u64)?;
+        numbers.push(table.capacity(name).unwrap_or(0) as u64)?;
+        if let Outcome::Elements(elements) = table.step(VecCommand::Contents { name }) {
+            for element in elements.as_slice() {
+                numbers.push(element.value.unsigned_abs())?;
+            }
+        }
+    }
+    left.set(kept);
+    Ok(numbers)
+}
+
+#[test]
+fn a_clone_needs_no_clone_of_an_element(rt: HostRuntime) -> Result<(), Fail> {
+    let left = Rc::new(rt.alloc(), Cell::new(0))?;
+    let mut table = shared(rt.alloc(), &left)?;
+    assert_eq!(rt; (table.owners(0), table.blocks()), (Some(2), 1));
+    let value = Refusing::new(4, &left)?;
+    let refused = table.step(VecCommand::Push { name: 1, value });
+    assert!(rt; matches!(refused, Outcome::Refused(Refusal::Memory)));
+    assert_eq!(rt;
+        (table.owners(0), table.blocks(), table.copied()),
+        (Some(2), 1, 0)
+    );
+    left.set(3);
+    let value = Refusing::new(4, &left)?;
+    assert!(rt;
+        matches!(
+            table.step(VecCommand::Push { name: 1, value }),
+            Outcome::Done
+        )
+    );
+    assert_eq!(rt; (table.copied(), table.blocks()), (3, 2));
+    Ok(())
+}
+
+#[test]
+fn the_second_clone_is_refused(rt: HostRuntime) -> Result<(), Fail> {
+    let left = Rc::new(rt.alloc(), Cell::new(1))?;
+    let mut table = shared(rt.alloc(), &left)?;
+    let refused = table.step(VecCommand::Truncate { name: 1, target: 2 });
+    assert!(rt; matches!(refused, Outcome::Refused(Refusal::Memory)));
+    assert_eq!(rt; (table.copied(), table.owners(0)), (0, Some(2)));
+    drop(table.step(VecCommand::Drop { name: 1 }));
+    left.set(1);
+    let items = numbers(rt.alloc(), &[4, 5, 6], &left)?;
+    let refused = table.step(VecCommand::Extend { name: 0, items });
+    assert!(rt; matches!(refused, Outcome::Refused(Refusal::Memory)));
+    assert_eq!(rt; (table.capacity(0), table.moved()), (Some(4), 0));
+    assert_eq!(rt;
+        seen(rt.alloc(), &mut table, &left)?,
+        vec![in rt.alloc(); 0, 0, 1, 1, 4, 1, 2, 3, 0, 0, 0, 0, 0, 0, 0, 0]?
+    );
+    Ok(())
+}
+
+/// Commands of which some copy, some grow and some clone what they bring.
+fn script(alloc: Global, left: &Rc<Cell<u64>>) -> Result<Vec<VecCommand<Refusing>>, AllocError> {
+    let bounds = (Bound::Included(1), Bound::Excluded(2));
+    let nothing = (Bound::Included(1), Bound::Excluded(1));
+    let commands = vec![in alloc;
+        VecCommand::FromList {
+            name: 0,
+            items: numbers(alloc, &[1, 2, 3, 4, 5], left)?
+        },
+        VecCommand::Clone { from: 0, to: 1 },
+        VecCommand::Splice {
+            name: 1,
+            bounds,
+            items: numbers(alloc, &[7, 8, 9], left)?
+        },
+        VecCommand::Clone { from: 1, to: 2 },
+        VecCommand::Truncate { name: 2, target: 4 },
+        VecCommand::Clone { from: 0, to: 3 },
+        VecCommand::Drain {
+            name: 3,
+            bounds: nothing
+        },
+        VecCommand::Extend {
+            name: 0,
+            items: numbers(alloc, &[6, 7], left)?
+        },
+        VecCommand::Clone { from: 0, to: 4 },
+        VecCommand::Push {
+            name: 4,
+            value: Refusing::new(8, left)?
+        },
+    ]?;
+    Ok(commands)
+}
+
+/// How many of the commands are refused where so many clones succeed; each of these leaves all as it was.
+fn refused(rt: &impl Abort, alloc: Global, clones: u64) -> Result<u64, AllocError> {
+    let left = Rc::new(alloc, Cell::new(clones))?;
+    let mut table = Counted::new(alloc);
+    let mut count = 0u64;
+    for command in script(alloc, &left)? {
+        let before = seen(alloc, &mut table, &left)?;
+        if let Outcome::Refused(refusal) = table.step(command) {
+            assert_eq!(rt; refusal, Refusal::Memory);
+            assert_eq!(rt; seen(alloc, &mut table, &left)?, before);
+            count = count.saturating_add(1);
+        }
+    }
+    Ok(count)
+}
+
+#[test]
+fn each_clone_is_refused_in_turn(rt: HostRuntime) -> Result<(), Fail> {
+    for clones in 0..23 {
+        assert!(rt; refused(&rt, rt.alloc(), clones)? > 0);
+    }
+    assert_eq!(rt; refused(&rt, rt.alloc(), 23)?, 0);
+    Ok(())
+}
