@@ -48,35 +48,35 @@ impl<T: Clone> EcoVec<T> {
         ensures unchanged { OnErr result (self.new ≡ self.old) }
         ensures empty { self.old ≡ [] → IsOk result × (self.new ≡ []) }
     {
-        if self.is_empty() {
-            return Ok(None);
-        }
         if let Some(block) = self.sole_block() {
             return Ok(block.pop());
         }
-        self.pop_shared()
+        if self.is_empty() {
+            return Ok(None);
+        }
+        Ok(Some(self.pop_shared()?))
     }
 
     /// The same where the block is shared and has an element.
     #[cold]
     #[inline(never)]
-    fn pop_shared(&mut self) -> Result<Option<T>, EcoError>
+    fn pop_shared(&mut self) -> Result<T, EcoError>
         requires { 0 < length self.old }
-        ensures value { ClonesAreEqual T.is_clone → IfOk result (λ last. last ≡ slice_get self.old (length self.old - 1)) }
+        ensures value { ClonesAreEqual T.is_clone → IfOk result (λ last. slice_get self.old (length self.old - 1) ≡ Some last) }
         ensures ok { ClonesAreEqual T.is_clone → OnOk result (self.new ≡ take (length self.old - 1) self.old) }
-        ensures some { IfOk result (λ last. IsTrue (is_some last)) }
         ensures len { OnOk result (length self.new ≡ length self.old - 1) }
         ensures err { IfErr result (λ error. error ≡ EcoError.Memory) }
         ensures unchanged { OnErr result (self.new ≡ self.old) }
     {
         let len = self.len();
         let mut fresh = self.copied(len, fresh_capacity(len))?;
-        let Some(block) = Rc::get_mut(&mut fresh) else {
-            return Err(EcoError::Memory);
-        };
-        let last = block.pop();
-        self.block = Some(fresh);
-        Ok(last)
+        if let Some(block) = Rc::get_mut(&mut fresh)
+            && let Some(last) = block.pop()
+        {
+            self.block = Some(fresh);
+            return Ok(last);
+        }
+        Err(EcoError::Memory)
     }
 
     /// Puts `value` in at `index`, before the element that stands there.
