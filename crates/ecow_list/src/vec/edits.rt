@@ -194,6 +194,7 @@ impl<T: Clone> EcoVec<T> {
     }
 
     /// Appends clones of `elements`. Never refused for none, which changes nothing.
+    #[inline]
     pub fn extend_from_slice(&mut self, elements: &[T]) -> Result<(), EcoError>
         ensures ok { ClonesAreEqual T.is_clone → OnOk result (self.new ≡ self.old ++ elements.now) }
         ensures len { OnOk result (length self.new ≡ length self.old + length elements.now) }
@@ -201,17 +202,36 @@ impl<T: Clone> EcoVec<T> {
         ensures capacity { IsErrOf result EcoError.Capacity ↔ (MAX_LEN < length self.old + length elements.now) }
         ensures nothing { elements.now ≡ [] → IsOk result × (self.new ≡ self.old) }
     {
-        let (len, added) = (self.len(), elements.len());
+        let (_len, added) = (self.len(), elements.len());
         if added == 0 {
             return Ok(());
         }
+        if let Some(block) = self.sole_block()
+            && added <= block.capacity() - block.len()
+        {
+            return Ok(block.extend_within(elements)?);
+        }
+        self.extend_growing(elements)
+    }
+
+    /// The same where the block is too small, shared or not there.
+    #[inline(never)]
+    fn extend_growing(&mut self, elements: &[T]) -> Result<(), EcoError>
+        requires { 0 < length elements.now }
+        ensures ok { ClonesAreEqual T.is_clone → OnOk result (self.new ≡ self.old ++ elements.now) }
+        ensures len { OnOk result (length self.new ≡ length self.old + length elements.now) }
+        ensures err { OnErr result (self.new ≡ self.old) }
+        ensures capacity { IsErrOf result EcoError.Capacity ↔ (MAX_LEN < length self.old + length elements.now) }
+    {
+        let (len, added) = (self.len(), elements.len());
         if added > MAX_LEN - len {
             return Err(EcoError::Capacity);
         }
         let room = room_for(len, added, self.capacity());
         if let Some(block) = self.sole_block() {
             block.grow(room_for(len, added, block.capacity()))?;
-            return Ok(block.extend_within(elements)?);
+            block.extend_within(elements)?;
+            return Ok(());
         }
         let mut fresh = self.copied(len, room)?;
         let Some(block) = Rc::get_mut(&mut fresh) else {
