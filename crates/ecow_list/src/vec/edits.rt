@@ -260,10 +260,10 @@ impl<T: Clone> EcoVec<T> {
             return Ok(());
         }
         let mut fresh = self.copied(len, fresh_capacity(len))?;
-        let Some(block) = Rc::get_mut(&mut fresh) else {
+        let Some(own) = Rc::get_mut(&mut fresh) else {
             return Err(EcoError::Memory);
         };
-        block.retain(f);
+        own.retain(f);
         self.block = Some(fresh);
         Ok(())
     }
