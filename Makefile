@@ -1,5 +1,5 @@
-# Proves, builds, runs and tests. Everything but `make faults` needs the kit's `rt` on the path, make
-# and git, and nothing else.
+# Proves, builds, runs and tests. Everything but `make faults` and `make bench` needs the kit's `rt` on
+# the path, make and git, and nothing else.
 
 SOURCES := $(shell find crates -path '*/out' -prune -o \( -name '*.rt' -o -name '*.antt' \) -print) crates.txt
 
@@ -10,7 +10,7 @@ help:
 	@echo "make build             leaves the proved program at bin/ecow-run"
 	@echo "make test              the whole gate: every proof from nothing, must-fail edits, tests, programs"
 	@echo "make faults            refuses each request for memory in turn (needs a C compiler)"
-	@echo "make bench             not yet"
+	@echo "make bench ECOW=FOLDER times the vector beside the original crate in FOLDER (needs cargo)"
 	@echo "make clean             removes what was built"
 
 # The program is proved, linked and run once, on the first example.
@@ -34,7 +34,7 @@ faults:
 	tools/refuse.sh crates/ecow_faults/out/ecow_faults
 
 bench:
-	@echo "not yet"
+	tools/bench.sh $(ECOW)
 
 clean:
 	rm -rf bin crates/*/out

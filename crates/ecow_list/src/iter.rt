@@ -11,7 +11,7 @@ use std::marker::Model;
 /// The elements that `drain` took out, in order, from both ends.
 #[derive(Drop)]
 pub struct Drain<T> {
-    rest: Rest<T>,
+    removed: Rest<T>,
 }
 
 impl<T> Model for Drain<T> {
@@ -19,29 +19,29 @@ impl<T> Model for Drain<T> {
 
     ghost Value = { List T };
 
-    ghost view = { λ it. it.rest };
+    ghost view = { λ it. it.removed };
 }
 
 impl<T> Drain<T> {
     pub(crate) fn new(rest: Rest<T>) -> Self
         ensures { result ≡ rest }
     {
-        Drain { rest }
+        Drain { removed: rest }
     }
 
     /// The elements that are still to come, in order.
     pub fn as_slice(&self) -> &[T]
         ensures { result.now ≡ self.now }
     {
-        self.rest.as_slice()
+        self.removed.as_slice()
     }
 
     /// The elements that are still to come, as a list of their own.
     pub fn into_rest(self) -> Rest<T>
         ensures { result ≡ self }
     {
-        let Drain { rest } = self;
-        rest
+        let Drain { removed } = self;
+        removed
     }
 }
 
@@ -53,7 +53,7 @@ impl<T: Drop> Iterator for Drain<T> {
     ghost remaining = { item_count (λ rest. rest) };
 
     fn next(&mut self) -> Option<T> {
-        self.rest.next()
+        self.removed.next()
     }
 
     fn size_hint(&self) -> (usize, Option<usize>)
@@ -61,7 +61,7 @@ impl<T: Drop> Iterator for Drain<T> {
         ensures upper { IfSome result.1 (UpTo (at_most (length self.now))) }
         ensures exact { result ≡ (length self.now, Some (length self.now)) }
     {
-        self.rest.size_hint()
+        self.removed.size_hint()
     }
 }
 
@@ -69,13 +69,13 @@ impl<T: Drop> DoubleEndedIterator for Drain<T> {
     ghost next_back_gives = { YieldsLast (λ rest. rest) };
 
     fn next_back(&mut self) -> Option<T> {
-        self.rest.next_back()
+        self.removed.next_back()
     }
 }
 
 impl<T: Drop> ExactSizeIterator for Drain<T> {
     fn len(&self) -> usize {
-        self.rest.len()
+        self.removed.len()
     }
 }
 
@@ -84,7 +84,7 @@ impl<T: Drop> FusedIterator for Drain<T> {}
 /// The elements that `splice` took out, in order, from both ends.
 #[derive(Drop)]
 pub struct Splice<T> {
-    rest: Rest<T>,
+    replaced: Rest<T>,
 }
 
 impl<T> Model for Splice<T> {
@@ -92,29 +92,29 @@ impl<T> Model for Splice<T> {
 
     ghost Value = { List T };
 
-    ghost view = { λ it. it.rest };
+    ghost view = { λ it. it.replaced };
 }
 
 impl<T> Splice<T> {
     pub(crate) fn new(rest: Rest<T>) -> Self
         ensures { result ≡ rest }
     {
-        Splice { rest }
+        Splice { replaced: rest }
     }
 
     /// The elements that are still to come, in order.
     pub fn as_slice(&self) -> &[T]
         ensures { result.now ≡ self.now }
     {
-        self.rest.as_slice()
+        self.replaced.as_slice()
     }
 
     /// The elements that are still to come, as a list of their own.
     pub fn into_rest(self) -> Rest<T>
         ensures { result ≡ self }
     {
-        let Splice { rest } = self;
-        rest
+        let Splice { replaced } = self;
+        replaced
     }
 }
 
@@ -126,7 +126,7 @@ impl<T: Drop> Iterator for Splice<T> {
     ghost remaining = { item_count (λ rest. rest) };
 
     fn next(&mut self) -> Option<T> {
-        self.rest.next()
+        self.replaced.next()
     }
 
     fn size_hint(&self) -> (usize, Option<usize>)
@@ -134,7 +134,7 @@ impl<T: Drop> Iterator for Splice<T> {
         ensures upper { IfSome result.1 (UpTo (at_most (length self.now))) }
         ensures exact { result ≡ (length self.now, Some (length self.now)) }
     {
-        self.rest.size_hint()
+        self.replaced.size_hint()
     }
 }
 
@@ -142,13 +142,13 @@ impl<T: Drop> DoubleEndedIterator for Splice<T> {
     ghost next_back_gives = { YieldsLast (λ rest. rest) };
 
     fn next_back(&mut self) -> Option<T> {
-        self.rest.next_back()
+        self.replaced.next_back()
     }
 }
 
 impl<T: Drop> ExactSizeIterator for Splice<T> {
     fn len(&self) -> usize {
-        self.rest.len()
+        self.replaced.len()
     }
 }
 

@@ -48,35 +48,35 @@ impl<T: Clone> EcoVec<T> {
         ensures unchanged { OnErr result (self.new ≡ self.old) }
         ensures empty { self.old ≡ [] → IsOk result × (self.new ≡ []) }
     {
-        if self.is_empty() {
-            return Ok(None);
-        }
         if let Some(block) = self.sole_block() {
             return Ok(block.pop());
         }
-        self.pop_shared()
+        if self.is_empty() {
+            return Ok(None);
+        }
+        Ok(Some(self.pop_shared()?))
     }
 
     /// The same where the block is shared and has an element.
     #[cold]
     #[inline(never)]
-    fn pop_shared(&mut self) -> Result<Option<T>, EcoError>
+    fn pop_shared(&mut self) -> Result<T, EcoError>
         requires { 0 < length self.old }
-        ensures value { ClonesAreEqual T.is_clone → IfOk result (λ last. last ≡ slice_get self.old (length self.old - 1)) }
+        ensures value { ClonesAreEqual T.is_clone → IfOk result (λ last. slice_get self.old (length self.old - 1) ≡ Some last) }
         ensures ok { ClonesAreEqual T.is_clone → OnOk result (self.new ≡ take (length self.old - 1) self.old) }
-        ensures some { IfOk result (λ last. IsTrue (is_some last)) }
         ensures len { OnOk result (length self.new ≡ length self.old - 1) }
         ensures err { IfErr result (λ error. error ≡ EcoError.Memory) }
         ensures unchanged { OnErr result (self.new ≡ self.old) }
     {
         let len = self.len();
         let mut fresh = self.copied(len, fresh_capacity(len))?;
-        let Some(block) = Rc::get_mut(&mut fresh) else {
-            return Err(EcoError::Memory);
-        };
-        let last = block.pop();
-        self.block = Some(fresh);
-        Ok(last)
+        if let Some(block) = Rc::get_mut(&mut fresh)
+            && let Some(last) = block.pop()
+        {
+            self.block = Some(fresh);
+            return Ok(last);
+        }
+        Err(EcoError::Memory)
     }
 
     /// Puts `value` in at `index`, before the element that stands there.
@@ -194,6 +194,7 @@ impl<T: Clone> EcoVec<T> {
     }
 
     /// Appends clones of `elements`. Never refused for none, which changes nothing.
+    #[inline]
     pub fn extend_from_slice(&mut self, elements: &[T]) -> Result<(), EcoError>
         ensures ok { ClonesAreEqual T.is_clone → OnOk result (self.new ≡ self.old ++ elements.now) }
         ensures len { OnOk result (length self.new ≡ length self.old + length elements.now) }
@@ -201,17 +202,36 @@ impl<T: Clone> EcoVec<T> {
         ensures capacity { IsErrOf result EcoError.Capacity ↔ (MAX_LEN < length self.old + length elements.now) }
         ensures nothing { elements.now ≡ [] → IsOk result × (self.new ≡ self.old) }
     {
-        let (len, added) = (self.len(), elements.len());
+        let (_len, added) = (self.len(), elements.len());
         if added == 0 {
             return Ok(());
         }
+        if let Some(block) = self.sole_block()
+            && added <= block.capacity() - block.len()
+        {
+            return Ok(block.extend_within(elements)?);
+        }
+        self.extend_growing(elements)
+    }
+
+    /// The same where the block is too small, shared or not there.
+    #[inline(never)]
+    fn extend_growing(&mut self, elements: &[T]) -> Result<(), EcoError>
+        requires { 0 < length elements.now }
+        ensures ok { ClonesAreEqual T.is_clone → OnOk result (self.new ≡ self.old ++ elements.now) }
+        ensures len { OnOk result (length self.new ≡ length self.old + length elements.now) }
+        ensures err { OnErr result (self.new ≡ self.old) }
+        ensures capacity { IsErrOf result EcoError.Capacity ↔ (MAX_LEN < length self.old + length elements.now) }
+    {
+        let (len, added) = (self.len(), elements.len());
         if added > MAX_LEN - len {
             return Err(EcoError::Capacity);
         }
         let room = room_for(len, added, self.capacity());
         if let Some(block) = self.sole_block() {
             block.grow(room_for(len, added, block.capacity()))?;
-            return Ok(block.extend_within(elements)?);
+            block.extend_within(elements)?;
+            return Ok(());
         }
         let mut fresh = self.copied(len, room)?;
         let Some(block) = Rc::get_mut(&mut fresh) else {
@@ -240,10 +260,10 @@ impl<T: Clone> EcoVec<T> {
             return Ok(());
         }
         let mut fresh = self.copied(len, fresh_capacity(len))?;
-        let Some(block) = Rc::get_mut(&mut fresh) else {
+        let Some(own) = Rc::get_mut(&mut fresh) else {
             return Err(EcoError::Memory);
         };
-        block.retain(f);
+        own.retain(f);
         self.block = Some(fresh);
         Ok(())
     }

@@ -113,7 +113,7 @@ fn collected<T: Drop, I: IntoIterator<Item = T>>(
             if len == MAX_LEN {
                 return Err(AllocError);
             }
-            items.grow(room_for(len, 1, capacity))?;
+            items.grow(room_for(len, 1, capacity.max(16)))?;
         }
         items.push_within(item);
     }

@@ -1,0 +1,87 @@
+//! What `make bench` times: `ecow_bench CALL LENGTH COUNT` goes round one loop on a list of that
+//! length and prints a sum of what it saw. Without arguments it goes three times round each loop.
+#![tactic(auto)]
+
+mod loops;
+
+use std::alloc::{AllocError, Global};
+use std::env::Env;
+use std::{env, io};
+
+const CALLS: [&str; 13] = [
+    "push",
+    "clone",
+    "clone_push",
+    "pop",
+    "insert_remove",
+    "extend",
+    "extend_pieces",
+    "sort",
+    "write",
+    "retain",
+    "splice",
+    "iter",
+    "into_iter",
+];
+
+fn main(rt: HostRuntime) -> io::Result<()> {
+    let words = arguments(&rt)?;
+    match words.as_slice() {
+        [call, length, count] => {
+            if let (Ok(length), Ok(count)) = (length.parse(), count.parse()) {
+                let items = numbers(rt.alloc(), length)?;
+                println!(rt; "{}", sum(rt.alloc(), call, items.as_slice(), count))?;
+            }
+        }
+        _ => {
+            let items = numbers(rt.alloc(), 8)?;
+            for call in CALLS {
+                println!(rt; "{call} {}", sum(rt.alloc(), call, items.as_slice(), 3))?;
+            }
+        }
+    }
+    Ok(())
+}
+
+/// The words after the program's name.
+fn arguments(rt: &(impl Env + AllocGlobal)) -> io::Result<Vec<String>> {
+    let mut words = env::args(rt)?;
+    let _program = words.next();
+    Ok(words.collect(rt.alloc())?)
+}
+
+/// Numbers in no order. One large block is given back first, so that the C library keeps such
+/// blocks from then on.
+fn numbers(alloc: Global, length: usize) -> Result<Vec<u64>, AllocError> {
+    let large: Vec<u8> = Vec::with_capacity(alloc, 32505856)?;
+    drop(large);
+    let mut numbers = Vec::with_capacity(alloc, length)?;
+    let mut state = 88172645463325252u64;
+    for _ in 0..length {
+        state ^= state << 13;
+        state ^= state >> 7;
+        state ^= state << 17;
+        numbers.push(state)?;
+    }
+    Ok(numbers)
+}
+
+/// What a loop saw, or 0 where there is no such call.
+fn sum(alloc: Global, call: &str, items: &[u64], count: u64) -> u64 {
+    match call {
+        "push" => loops::push(alloc, items, count),
+        "clone" => loops::clone(alloc, items, count),
+        "clone_push" => loops::clone_push(alloc, items, count),
+        "pop" => loops::pop(alloc, items, count),
+        "insert_remove" => loops::insert_remove(alloc, items, count),
+        "extend" => loops::extend(alloc, items, count),
+        "extend_pieces" => loops::extend_pieces(alloc, items, count),
+        "sort" => loops::sort(alloc, items, count),
+        "write" => loops::write(alloc, items, count),
+        "retain" => loops::retain(alloc, items, count),
+        "splice" => loops::splice(alloc, items, count),
+        "iter" => loops::iter(alloc, items, count),
+        "into_iter" => loops::into_iter(alloc, items, count),
+        _ => 0,
+    }
+}

@@ -1,0 +1,295 @@
+//! Times the loops of `ecow_bench` beside the same loops on the original crate. Each is run in a process of its own, by
+//! turns, and what counts is the least processor time of so many runs, less that of a run of no rounds.
+//! `bench PROGRAM [SAMPLES [WORD]]`: PROGRAM is the built `ecow_bench`; WORD keeps the calls whose name holds it.
+//! `bench CALL LENGTH COUNT` goes round one loop on the original, as PROGRAM does, and prints what it saw.
+use ecow::EcoVec;
+use std::hint::black_box;
+use std::process::{Command, Stdio};
+
+type Loop = fn(&[u64], u64) -> u64;
+
+/// What the calls are named on the command line and in the table.
+const CALLS: [(&str, &str, Loop); 13] = [
+    ("push", "push each to a new one", push),
+    ("clone", "clone and drop", clone),
+    ("clone_push", "clone, push, drop", clone_push),
+    ("pop", "pop each, refill", pop),
+    ("insert_remove", "insert, remove in the middle", insert_remove),
+    ("extend", "extend a new one by all", extend),
+    ("extend_pieces", "extend a new one by eights", extend_pieces),
+    ("sort", "clone, make_mut, sort", sort),
+    ("write", "clone, make_mut, write one", write),
+    ("retain", "from slice, retain the odd", retain),
+    ("splice", "from slice, splice a quarter", splice),
+    ("iter", "iter", iter),
+    ("into_iter", "from slice, into_iter", into_iter),
+];
+
+fn push(items: &[u64], count: u64) -> u64 {
+    let mut sum = 0u64;
+    for _ in 0..count {
+        let mut list = EcoVec::new();
+        for item in items {
+            list.push(*item);
+        }
+        sum = sum.wrapping_add(list.len() as u64);
+    }
+    sum
+}
+
+#[inline(never)]
+fn cloned(list: &EcoVec<u64>) -> EcoVec<u64> {
+    list.clone()
+}
+
+fn clone(items: &[u64], count: u64) -> u64 {
+    let list = EcoVec::from(items);
+    let mut sum = 0u64;
+    for _ in 0..count {
+        sum = sum.wrapping_add(cloned(&list).len() as u64);
+    }
+    sum
+}
+
+fn clone_push(items: &[u64], count: u64) -> u64 {
+    let list = EcoVec::from(items);
+    let mut sum = 0u64;
+    for round in 0..count {
+        let mut copy = cloned(&list);
+        copy.push(round);
+        sum = sum.wrapping_add(copy.len() as u64);
+    }
+    sum
+}
+
+fn pop(items: &[u64], count: u64) -> u64 {
+    let mut list = EcoVec::from(items);
+    let mut sum = 0u64;
+    for _ in 0..count {
+        for _ in 0..items.len() {
+            if let Some(item) = list.pop() {
+                sum = sum.wrapping_add(item);
+            }
+        }
+        list.extend_from_slice(items);
+    }
+    sum
+}
+
+fn insert_remove(items: &[u64], count: u64) -> u64 {
+    let mut list = EcoVec::from(items);
+    let middle = items.len() / 2;
+    let mut sum = 0u64;
+    for round in 0..count {
+        list.insert(middle, round);
+        sum = sum.wrapping_add(list.remove(middle));
+    }
+    sum
+}
+
+fn extend(items: &[u64], count: u64) -> u64 {
+    let mut sum = 0u64;
+    for _ in 0..count {
+        let mut list = EcoVec::new();
+        list.extend_from_slice(items);
+        sum = sum.wrapping_add(list.len() as u64);
+    }
+    sum
+}
+
+fn extend_pieces(items: &[u64], count: u64) -> u64 {
+    let mut sum = 0u64;
+    for _ in 0..count {
+        let mut list = EcoVec::new();
+        for piece in items.chunks(8) {
+            list.extend_from_slice(piece);
+        }
+        sum = sum.wrapping_add(list.len() as u64);
+    }
+    sum
+}
+
+fn sort(items: &[u64], count: u64) -> u64 {
+    let list = EcoVec::from(items);
+    let mut sum = 0u64;
+    for round in 0..count {
+        let mut copy = cloned(&list);
+        let slice = copy.make_mut();
+        if let Some(first) = slice.first_mut() {
+            *first = round;
+        }
+        slice.sort_unstable();
+        sum = sum.wrapping_add(copy.last().copied().unwrap_or(0));
+    }
+    sum
+}
+
+fn write(items: &[u64], count: u64) -> u64 {
+    let list = EcoVec::from(items);
+    let mut sum = 0u64;
+    for round in 0..count {
+        let mut copy = cloned(&list);
+        if let Some(first) = copy.make_mut().first_mut() {
+            *first = round;
+        }
+        sum = sum.wrapping_add(copy.first().copied().unwrap_or(0));
+    }
+    sum
+}
+
+fn retain(items: &[u64], count: u64) -> u64 {
+    let mut sum = 0u64;
+    for _ in 0..count {
+        let mut list = EcoVec::from(items);
+        list.retain(|item| *item % 2 == 1);
+        sum = sum.wrapping_add(list.len() as u64);
+    }
+    sum
+}
+
+fn splice(items: &[u64], count: u64) -> u64 {
+    let added = &items[items.len() - items.len() / 3..];
+    let start = items.len() / 2;
+    let end = start + items.len() / 4;
+    let mut sum = 0u64;
+    for _ in 0..count {
+        let mut list = EcoVec::from(items);
+        for item in list.splice(start..end, added.iter().copied()) {
+            sum = sum.wrapping_add(item);
+        }
+        sum = sum.wrapping_add(list.len() as u64);
+    }
+    sum
+}
+
+#[inline(never)]
+fn total(list: &EcoVec<u64>) -> u64 {
+    let mut sum = 0u64;
+    for item in list.iter() {
+        sum = sum.wrapping_add(*item);
+    }
+    sum
+}
+
+fn iter(items: &[u64], count: u64) -> u64 {
+    let (even, odd) = (EcoVec::from(items), EcoVec::from(items));
+    let mut sum = 0u64;
+    for round in 0..count {
+        let list = if round % 2 == 0 { &even } else { &odd };
+        sum = sum.wrapping_add(total(list));
+    }
+    sum
+}
+
+fn into_iter(items: &[u64], count: u64) -> u64 {
+    let mut sum = 0u64;
+    for _ in 0..count {
+        for item in EcoVec::from(items) {
+            sum = sum.wrapping_add(item);
+        }
+    }
+    sum
+}
+
+/// Numbers in no order, after one large block was given back.
+fn numbers(length: usize) -> Vec<u64> {
+    drop(black_box(Vec::<u8>::with_capacity(32505856)));
+    let mut state = 88172645463325252u64;
+    let mut next = || {
+        state ^= state << 13;
+        state ^= state >> 7;
+        state ^= state << 17;
+        state
+    };
+    (0..length).map(|_| next()).collect()
+}
+
+#[repr(C)]
+#[derive(Default)]
+struct Usage {
+    user: [i64; 2],
+    system: [i64; 2],
+    rest: [i64; 14],
+}
+
+const CHILDREN: i32 = -1;
+
+unsafe extern "C" {
+    fn getrusage(who: i32, usage: *mut Usage) -> i32;
+}
+
+/// The processor time of all processes that ended, in nanoseconds.
+fn processor_time() -> f64 {
+    let mut usage = Usage::default();
+    assert_eq!(unsafe { getrusage(CHILDREN, &mut usage) }, 0);
+    (usage.user[0] + usage.system[0]) as f64 * 1e9 + (usage.user[1] + usage.system[1]) as f64 * 1e3
+}
+
+/// What one run of a program printed, and its processor time.
+fn run(program: &str, call: &str, length: usize, count: u64) -> (String, f64) {
+    let before = processor_time();
+    let output = Command::new(program)
+        .args([call, &length.to_string(), &count.to_string()])
+        .stderr(Stdio::inherit())
+        .output()
+        .unwrap();
+    assert!(output.status.success());
+    (String::from_utf8(output.stdout).unwrap(), processor_time() - before)
+}
+
+/// The least processor times of one round, of this and of the original, in nanoseconds.
+fn least(programs: [&str; 2], call: &str, length: usize, samples: u32) -> [f64; 2] {
+    let mut count = 1u64;
+    while run(programs[1], call, length, count).1 - run(programs[1], call, length, 0).1 < 2e7 {
+        count *= 2;
+    }
+    let answers = programs.map(|program| run(program, call, length, count).0);
+    assert_eq!(answers[0], answers[1], "{call} saw something else");
+    let mut least = [[f64::INFINITY; 2]; 2];
+    for _ in 0..samples {
+        for (program, least) in programs.iter().zip(&mut least) {
+            least[0] = least[0].min(run(program, call, length, 0).1);
+            least[1] = least[1].min(run(program, call, length, count).1);
+        }
+    }
+    least.map(|[none, all]| (all - none) / count as f64)
+}
+
+fn report(what: &str, ratios: &[(f64, String)]) {
+    let mean = (ratios.iter().map(|r| r.0.ln()).sum::<f64>() / ratios.len() as f64).exp();
+    if let Some((worst, name)) = ratios.iter().max_by(|a, b| a.0.total_cmp(&b.0)) {
+        println!("{what}: geometric mean {mean:.2}, worst {worst:.2} ({name})");
+    }
+}
+
+fn compare(program: &str, samples: u32, word: &str) {
+    let own = std::env::current_exe().unwrap();
+    let programs = [program, own.to_str().unwrap()];
+    println!("{:<30} {:>8} {:>14} {:>14} {:>6}", "call", "length", "original ns", "this ns", "ratio");
+    let (mut short, mut long) = (Vec::new(), Vec::new());
+    for length in [8usize, 1000, 1_000_000] {
+        for (call, name, _) in CALLS.iter().filter(|call| call.1.contains(word)) {
+            let [this, original] = least(programs, call, length, samples);
+            let ratio = this / original;
+            println!("{name:<30} {length:>8} {original:>14.2} {this:>14.2} {ratio:>6.2}");
+            let ratios = if length < 10 { &mut short } else { &mut long };
+            ratios.push((ratio, format!("{name}, {length}")));
+        }
+    }
+    report("fewer than ten elements", &short);
+    report("ten elements and more", &long);
+    short.append(&mut long);
+    report("all", &short);
+}
+
+fn main() {
+    let words: Vec<String> = std::env::args().skip(1).collect();
+    let call = words.first().and_then(|word| CALLS.iter().find(|call| call.0 == word));
+    if let (Some(call), [_, length, count]) = (call, words.as_slice()) {
+        let items = numbers(length.parse().unwrap());
+        println!("{}", call.2(&items, count.parse().unwrap()));
+        return;
+    }
+    let samples = words.get(1).and_then(|word| word.parse().ok()).unwrap_or(9);
+    compare(&words[0], samples, words.get(2).map_or("", |word| word));
+}
