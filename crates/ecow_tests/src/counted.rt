@@ -193,7 +193,7 @@ fn leaving(alloc: Global, tally: &Tally) -> Result<Vec<VecCommand<Counting>>, Al
 fn each_copied_element_is_one_clone(rt: HostRuntime) -> Result<(), Fail> {
     let alloc = rt.alloc();
     let tally = Tally::new(alloc)?;
-    let mut copied = 0;
+    let mut copied = 0u64;
     for command in leaving(alloc, &tally)? {
         let mut table = Counted::new(alloc);
         let items = Items::new(tally.elements(alloc, 3)?);
@@ -202,7 +202,7 @@ fn each_copied_element_is_one_clone(rt: HostRuntime) -> Result<(), Fail> {
         assert_eq!(rt; tally.clones(), copied);
         assert!(rt; !matches!(table.step(command), Outcome::Refused(_)));
         assert_eq!(rt; table.blocks(), 2);
-        copied += table.copied();
+        copied = copied.saturating_add(table.copied());
     }
     assert_eq!(rt; (tally.clones(), copied), (29, 29));
     Ok(())
