@@ -82,6 +82,14 @@ impl Refusing {
             left: left.clone()?,
         })
     }
+
+    /// A number of which no clone succeeds.
+    pub(crate) fn never(alloc: Global, value: i64) -> Result<Self, AllocError> {
+        Ok(Refusing {
+            value,
+            left: Rc::new(alloc, Cell::new(0))?,
+        })
+    }
 }
 
 impl Clone for Refusing {

@@ -1,7 +1,9 @@
-//! Iterators with odd hints: none is asked, and no item after the first `None`.
+//! Iterators with odd hints: none is asked, and no item after the first `None`. The vector's own,
+//! from both ends.
 ghost use Rattle.std.specs.Iterator.{at_most};
 
-use ecow_list::{EcoVec, eco_vec};
+use ecow_list::{EcoVec, eco_vec, range_in};
+use std::cell::Cell;
 use std::test::Fail;
 
 /// Gives `left` times `item`, with a hint of no use, and asks to be left alone after its end.
@@ -11,6 +13,7 @@ struct Vague {
     left: u8,
     ended: bool,
     asked_after_the_end: bool,
+    hint_asked: Cell<bool>,
 }
 
 impl Vague {
@@ -20,6 +23,7 @@ impl Vague {
             left,
             ended: false,
             asked_after_the_end: false,
+            hint_asked: Cell::new(false),
         }
     }
 }
@@ -40,6 +44,7 @@ impl Iterator for &mut Vague {
     }
 
     fn size_hint(&self) -> (usize, Option<usize>) {
+        self.hint_asked.set(true);
         (0, None)
     }
 }
@@ -50,7 +55,8 @@ fn hints_are_not_asked(rt: HostRuntime) -> Result<(), Fail> {
     let mut list = EcoVec::new(rt.alloc());
     list.extend(&mut ones)?;
     assert_eq!(rt; list.len(), 20);
-    assert!(rt; list.iter().all(|one| *one == 1) && !ones.asked_after_the_end);
+    assert!(rt; list.iter().all(|one| *one == 1));
+    assert!(rt; !ones.asked_after_the_end && !ones.hint_asked.get());
     Ok(())
 }
 
@@ -61,8 +67,40 @@ fn all_of_a_replacement_goes_in(rt: HostRuntime) -> Result<(), Fail> {
     assert_eq!(rt; list.len(), 3);
     assert_eq!(rt; list.splice(1..2, &mut nines)?.next(), Some(2));
     assert_eq!(rt; list.as_slice(), [1, 9, 9, 9, 9, 9, 3].as_slice());
-    assert!(rt; !nines.asked_after_the_end);
+    assert!(rt; !nines.asked_after_the_end && !nines.hint_asked.get());
     let made = EcoVec::from_iter(rt.alloc(), &mut Vague::new(4, 2))?;
     assert_eq!(rt; made.as_slice(), [4, 4].as_slice());
+    Ok(())
+}
+
+#[test]
+fn drained_elements_come_from_both_ends(rt: HostRuntime) -> Result<(), Fail> {
+    let mut list = eco_vec![in rt.alloc(); 0, 1, 2, 3, 4, 5]?;
+    if !range_in(&(1..5), list.len()) {
+        return Err("six elements".into());
+    }
+    let mut drained = list.drain(1..5)?;
+    assert_eq!(rt; (drained.next_back(), drained.next()), (Some(4), Some(1)));
+    assert_eq!(rt; (drained.len(), drained.as_slice()), (2, [2, 3].as_slice()));
+    assert_eq!(rt; (drained.next_back(), drained.next()), (Some(3), Some(2)));
+    assert_eq!(rt; (drained.next(), drained.next_back()), (None, None));
+    assert_eq!(rt; list.as_slice(), [0, 5].as_slice());
+    Ok(())
+}
+
+#[test]
+fn replaced_elements_come_from_both_ends(rt: HostRuntime) -> Result<(), Fail> {
+    let mut list = eco_vec![in rt.alloc(); 0, 1, 2, 3]?;
+    if !range_in(&(..3), list.len()) {
+        return Err("four elements".into());
+    }
+    let mut replaced = list.splice(..3, Some(9))?;
+    assert_eq!(rt; (replaced.next(), replaced.next_back()), (Some(0), Some(2)));
+    assert_eq!(rt;
+        (replaced.size_hint(), replaced.as_slice()),
+        ((1, Some(1)), [1].as_slice())
+    );
+    drop(replaced);
+    assert_eq!(rt; list.as_slice(), [9, 3].as_slice());
     Ok(())
 }

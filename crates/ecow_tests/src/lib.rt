@@ -5,6 +5,12 @@
 
 #[cfg(test)]
 mod blocks;
+#[cfg(test)]
+mod callers;
+#[cfg(test)]
+mod capacities;
+#[cfg(test)]
+mod clones;
 pub mod commands;
 #[cfg(test)]
 mod counted;

@@ -80,6 +80,28 @@ fn calls_that_leave_some_elements_shared(rt: HostRuntime) -> Result<(), Fail> {
 }
 
 #[test]
+fn calls_that_only_read(rt: HostRuntime) -> Result<(), Fail> {
+    let (mut first, mut second) = shared_three(rt.alloc())?;
+    assert!(rt; first == second && first.iter().count() == 3 && !first.is_empty());
+    first.extend(None)?;
+    assert_eq!(rt; (first.len(), first.capacity()), (3, 4));
+    assert!(rt; !first.is_unique() && !second.is_unique());
+    Ok(())
+}
+
+#[test]
+fn a_splice_of_an_empty_vector(rt: HostRuntime) -> Result<(), Fail> {
+    let (mut first, _second) = shared_empty(rt.alloc())?;
+    drop(first.splice(.., None)?);
+    assert!(rt; first.is_unique() && first.capacity() == 0);
+    let (mut first, second) = shared_empty(rt.alloc())?;
+    drop(first.splice(.., Some(7))?);
+    assert_eq!(rt; (first.as_slice(), first.capacity()), ([7u8].as_slice(), 4));
+    assert!(rt; first.is_unique() && second.is_empty());
+    Ok(())
+}
+
+#[test]
 fn calls_that_unshare_though_nothing_changes(rt: HostRuntime) -> Result<(), Fail> {
     let (mut first, _second) = shared_three(rt.alloc())?;
     assert_eq!(rt; first.drain(..0)?.len(), 0);
@@ -180,6 +202,20 @@ fn iterators_drop_what_is_left_once(rt: HostRuntime) -> Result<(), Fail> {
     assert_eq!(rt; tally.drops(), 800);
     drop(rest);
     assert_eq!(rt; (tally.drops(), tally.clones()), (1000, 0));
+    Ok(())
+}
+
+#[test]
+fn a_sole_vector_moves_its_elements_out(rt: HostRuntime) -> Result<(), Fail> {
+    let tally = Tally::new(rt.alloc())?;
+    let Ok(list) = EcoVec::from_vec(rt.alloc(), tally.elements(rt.alloc(), 3)?) else {
+        return Err("no memory".into());
+    };
+    let shared = list.clone()?;
+    assert!(rt; shared.into_vec().is_ok());
+    assert_eq!(rt; (tally.clones(), tally.drops()), (3, 3));
+    assert!(rt; list.into_array::<3>().is_ok());
+    assert_eq!(rt; (tally.clones(), tally.drops()), (3, 6));
     Ok(())
 }
 

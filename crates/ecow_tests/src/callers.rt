@@ -1,0 +1,80 @@
+//! Callers that know no more of their elements than a bound, with contracts that rest on those of
+//! the vector.
+ghost use Rattle.std.specs.Prelude.{◌≡◌, ◌+◌, [], ◌∷◌, ◌++◌, length, take, IfOk};
+ghost use Rattle.ecow_base.specs.Clones.{ClonesAreEqual};
+
+use crate::elements::Tally;
+use ecow_list::{EcoError, EcoVec, eco_vec};
+use std::test::Fail;
+
+/// The elements of `list` and one more, in a vector of their own.
+fn with_last<T: Clone>(list: &EcoVec<T>, last: T) -> Result<EcoVec<T>, EcoError>
+    ensures items { ClonesAreEqual T.is_clone → IfOk result (λ longer. longer ≡ list.now ++ last ∷ []) }
+    ensures len { IfOk result (λ longer. length longer ≡ length list.now + 1) }
+{
+    let mut longer = list.clone()?;
+    longer.push(last).map_err(|rejected| rejected.error)?;
+    Ok(longer)
+}
+
+/// The first elements of `list`, and how many there are.
+fn front<T: Clone>(list: &EcoVec<T>, len: usize) -> Result<(EcoVec<T>, usize), EcoError>
+    ensures items { ClonesAreEqual T.is_clone → IfOk result (λ part. part.0 ≡ take len list.now) }
+    ensures len { IfOk result (λ part. part.1 ≡ length part.0) }
+{
+    let mut part = list.clone()?;
+    part.truncate(len)?;
+    let len = part.len();
+    Ok((part, len))
+}
+
+/// How many vectors there are once one without elements is made and cloned, of elements that need
+/// not be cloned.
+fn empty_clones<T: Drop>(list: EcoVec<T>) -> Result<(EcoVec<T>, EcoVec<T>), EcoError>
+    ensures { IfOk result (λ both. (both.0 ≡ []) × (both.1 ≡ list)) }
+{
+    let mut first = list.clone()?;
+    first.clear();
+    Ok((first, list))
+}
+
+#[test]
+fn at_numbers(rt: HostRuntime) -> Result<(), Fail> {
+    let list = eco_vec![in rt.alloc(); 1i64, 2]?;
+    assert_eq!(rt; with_last(&list, 3)?.as_slice(), [1, 2, 3].as_slice());
+    let (part, len) = front(&list, 1)?;
+    assert_eq!(rt; (part.as_slice(), len), ([1].as_slice(), 1));
+    assert_eq!(rt; list.as_slice(), [1, 2].as_slice());
+    Ok(())
+}
+
+#[test]
+fn at_vectors(rt: HostRuntime) -> Result<(), Fail> {
+    let mut inner = eco_vec![in rt.alloc(); 1u8, 2]?;
+    let list = eco_vec![in rt.alloc(); inner.clone()?, inner.clone()?]?;
+    let longer = with_last(&list, eco_vec![in rt.alloc(); 3u8]?)?;
+    inner.push(9).map_err(|rejected| rejected.error)?;
+    assert!(rt; longer.iter().map(EcoVec::len).eq([2, 2, 1]));
+    assert!(rt;
+        list.iter()
+            .all(|part| part.as_slice() == [1u8, 2].as_slice())
+    );
+    Ok(())
+}
+
+#[test]
+fn at_counting_elements(rt: HostRuntime) -> Result<(), Fail> {
+    let tally = Tally::new(rt.alloc())?;
+    let Ok(list) = EcoVec::from_vec(rt.alloc(), tally.elements(rt.alloc(), 3)?) else {
+        return Err("no memory".into());
+    };
+    let (part, len) = front(&list, 2)?;
+    assert_eq!(rt; (len, tally.clones()), (2, 2));
+    let (none, all) = empty_clones(list)?;
+    assert_eq!(rt; (none.len(), all.len(), tally.clones()), (0, 3, 2));
+    drop(all);
+    assert_eq!(rt; tally.drops(), 3);
+    drop(part);
+    assert_eq!(rt; tally.drops(), 5);
+    Ok(())
+}
