@@ -128,9 +128,7 @@ pub(crate) fn counted_runs_hold(alloc: Global) -> bool {
     match counted.run(commands) {
         Ok(outcomes) => outcomes.len() == 3,
         Err(rejected) => {
-            rejected.error == EcoError::Memory
-                && rejected.value.len() == 3
-                && counted.blocks() == 0
+            rejected.error == EcoError::Memory && rejected.value.len() == 3 && counted.blocks() == 0
         }
     }
 }

@@ -17,7 +17,10 @@ fn main(rt: HostRuntime) -> io::Result<()> {
         ("ranges", vectors::ranges_hold(alloc)),
         ("conversions", vectors::conversions_hold(alloc)),
         ("growth", vectors::growth_holds(alloc)),
-        ("commands", keepings::commands_hold(alloc, Store::new(alloc))),
+        (
+            "commands",
+            keepings::commands_hold(alloc, Store::new(alloc)),
+        ),
         ("runs", keepings::runs_hold(alloc)),
         (
             "counted commands",

@@ -17,6 +17,8 @@ mod counted;
 #[cfg(test)]
 mod counted_refusals;
 #[cfg(test)]
+mod counted_scripts;
+#[cfg(test)]
 mod elements;
 #[cfg(test)]
 mod iterators;

@@ -75,7 +75,7 @@ fn ranges_are_taken_out(rt: HostRuntime) {
 }
 
 /// Runs a script on a table of blocks and compares what it writes.
-fn counted_answers(rt: &impl Abort, alloc: Global, script: &str, want: &str) {
+pub(crate) fn counted_answers(rt: &impl Abort, alloc: Global, script: &str, want: &str) {
     let mut written = Vec::new(alloc);
     let end = run_counted(alloc, script.as_bytes(), &mut written);
     assert_eq!(rt; end, End::Done, "{script}");

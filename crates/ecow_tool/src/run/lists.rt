@@ -108,7 +108,11 @@ fn clone<T: Drop>(values: &mut Values<T>, from: Name, to: Name) -> Outcome<T>
 {
     if values.contains(to) {
         let there = values.contains(from);
-        return Outcome::Refused(if there { Refusal::Taken } else { Refusal::NoName });
+        return Outcome::Refused(if there {
+            Refusal::Taken
+        } else {
+            Refusal::NoName
+        });
     }
     let source = match list(values, from) {
         Ok(source) => source,
