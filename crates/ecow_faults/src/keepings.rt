@@ -1,4 +1,5 @@
 //! The commands of both keepings, beside plain lists that take each command that was taken.
+use crate::examples::{EXAMPLES, example};
 use ecow_counted::Counted;
 use ecow_list::EcoError;
 use ecow_model::{Outcome, Refusal, VecCommand};
@@ -11,9 +12,15 @@ use std::alloc::Global;
 /// The names that `Numbers` gives to commands.
 const NAMES: [u32; 4] = [0, 1, 2, 3];
 
-/// How many names share a block and what it has room for, at each name; and the number of blocks
-/// with both totals.
-type Account = ([(Option<usize>, Option<usize>); 4], (usize, u64, u64));
+/// How many names share a block, and what it has room for.
+type Size = (Option<usize>, Option<usize>);
+
+/// The sizes at each name, and the number of blocks with both totals.
+type Account = ([Size; 4], (usize, u64, u64));
+
+fn size_of(counted: &Counted<i64>, name: u32) -> Size {
+    (counted.owners(name), counted.capacity(name))
+}
 
 /// A store of named lists.
 pub(crate) trait Keeping {
@@ -39,7 +46,12 @@ impl Keeping for Counted<i64> {
     }
 
     fn account(&self) -> Option<Account> {
-        let sizes = NAMES.map(|name| (self.owners(name), self.capacity(name)));
+        let sizes = [
+            size_of(self, 0),
+            size_of(self, 1),
+            size_of(self, 2),
+            size_of(self, 3),
+        ];
         Some((sizes, (self.blocks(), self.copied(), self.moved())))
     }
 }
@@ -81,7 +93,27 @@ fn step_holds<K: Keeping>(
     Some(same(&one, &other))
 }
 
-/// Steps both by the same commands.
+/// Carries commands out on both, one by one; `None` where the plain lists lack memory.
+fn steps_hold<K: Keeping>(
+    keeping: &mut K,
+    plain: &mut PlainStore<i64, 15>,
+    commands: Vec<VecCommand<i64>>,
+    again: Vec<VecCommand<i64>>,
+) -> Option<bool> {
+    for (command, repeated) in commands.into_iter().zip(again) {
+        if !step_holds(keeping, plain, command, repeated)? {
+            return Some(false);
+        }
+    }
+    for name in NAMES {
+        if !agree(keeping, plain, name) {
+            return Some(false);
+        }
+    }
+    Some(true)
+}
+
+/// Steps both by the same commands, which a seed decides.
 pub(crate) fn commands_hold<K: Keeping + Drop>(alloc: Global, keeping: K) -> bool {
     let mut keeping = keeping;
     let (mut numbers, mut again) = (Numbers::new(7), Numbers::new(7));
@@ -91,17 +123,27 @@ pub(crate) fn commands_hold<K: Keeping + Drop>(alloc: Global, keeping: K) -> boo
         else {
             return true;
         };
-        for (command, repeated) in commands.into_iter().zip(repeated) {
-            match step_holds(&mut keeping, &mut plain, command, repeated) {
-                Some(true) => {}
-                Some(false) => return false,
-                None => return true,
-            }
+        match steps_hold(&mut keeping, &mut plain, commands, repeated) {
+            Some(true) => {}
+            Some(false) => return false,
+            None => return true,
         }
-        for name in NAMES {
-            if !agree(&mut keeping, &mut plain, name) {
-                return false;
-            }
+    }
+    true
+}
+
+/// Steps a new table and plain lists by the commands of each example.
+pub(crate) fn examples_hold(alloc: Global) -> bool {
+    for number in 0..EXAMPLES {
+        let (Ok(commands), Ok(again)) = (example(alloc, number), example(alloc, number)) else {
+            return true;
+        };
+        let mut counted = Counted::new(alloc);
+        let mut plain: PlainStore<i64, 15> = PlainStore::new(alloc);
+        match steps_hold(&mut counted, &mut plain, commands, again) {
+            Some(true) => {}
+            Some(false) => return false,
+            None => return true,
         }
     }
     true

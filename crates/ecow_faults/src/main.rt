@@ -3,6 +3,7 @@
 //! hands its value back and leaves all as it was.
 #![tactic(auto)]
 
+mod examples;
 mod keepings;
 mod vectors;
 
@@ -26,6 +27,7 @@ fn main(rt: HostRuntime) -> io::Result<()> {
             "counted commands",
             keepings::commands_hold(alloc, Counted::new(alloc)),
         ),
+        ("counted examples", keepings::examples_hold(alloc)),
         ("counted runs", keepings::counted_runs_hold(alloc)),
     ] {
         if holds {
