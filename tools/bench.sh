@@ -5,7 +5,7 @@
 # Needs cargo beside the kit's rt. What cargo makes stays below bin/.
 set -eu
 root=$(cd "$(dirname "$0")/.." && pwd)
-original=$(cd "$1" && pwd)
+original=$(cd "${1:?the folder of the original crate is missing}" && pwd)
 shift
 build=$root/bin/bench
 mkdir -p "$build/src"
