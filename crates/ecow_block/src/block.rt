@@ -152,12 +152,8 @@ impl<T> Block<T> {
         requires room { length self.old.items < self.old.capacity }
         ensures { self.new ≡ contents (insert self.old.items index item) self.old.capacity }
     {
-        let mut tail = self.room.split_off(index);
-        let behind = tail.open_gap(self.base, index, self.len - index, 1);
-        tail.put(self.base, index, item);
-        tail.append(behind);
-        self.room.append(tail);
-        self.len += 1;
+        self.push_within(item);
+        self.as_mut_slice()[index..].rotate_right(1);
     }
 
     /// Takes the element at `index` out.
@@ -167,10 +163,8 @@ impl<T> Block<T> {
         ensures block { self.new ≡ contents (remove self.old.items index) self.old.capacity }
     {
         let mut tail = self.room.split_off(index);
-        let (item, place) = tail.take_first(self.base, index);
-        let behind = self.len - index - 1;
-        self.room
-            .append(place.close_gap(self.base, index, 1, behind, tail));
+        let item = tail.shift_first(self.base, index, self.len - index);
+        self.room.append(tail);
         self.len -= 1;
         item
     }
@@ -201,28 +195,9 @@ impl<T> Block<T> {
         Rest::of_room(base, len, capacity, room, deed, alloc)
     }
 
-    /// Moves all elements of `other` behind those of this block, which has room for them.
-    pub fn append_within(&mut self, other: &mut Block<T>)
-        requires { length self.old.items + length other.old.items ≤ self.old.capacity }
-        ensures block { self.new ≡ contents (self.old.items ++ other.old.items) self.old.capacity }
-        ensures emptied { other.new ≡ contents [] other.old.capacity }
-    {
-        let all = other.room.split_off(0);
-        let places = all.pour(
-            other.base,
-            0,
-            other.len,
-            &mut self.room,
-            self.base,
-            self.len,
-        );
-        other.room.widen(places);
-        self.len += other.len;
-        other.len = 0;
-    }
-
     /// Makes room for exactly `capacity` elements. If it is refused, nothing changes; it never is where there is that much
     /// room already.
+    #[inline]
     pub fn grow(&mut self, capacity: usize) -> Result<(), AllocError>
         requires { self.old.capacity ≤ capacity }
         ensures enough { capacity ≡ self.old.capacity → IsOk result }
@@ -231,6 +206,16 @@ impl<T> Block<T> {
         if capacity == self.capacity {
             return Ok(());
         }
+        self.enlarge(capacity)
+    }
+
+    /// The same where there may be less room.
+    #[cold]
+    #[inline(never)]
+    fn enlarge(&mut self, capacity: usize) -> Result<(), AllocError>
+        requires { self.old.capacity ≤ capacity }
+        ensures { self.new ≡ contents self.old.items (if is_ok result then capacity else self.old.capacity) }
+    {
         if !may_hold::<T>(capacity) {
             return Err(AllocError);
         }
@@ -248,55 +233,91 @@ impl<T> Block<T> {
             return Ok(());
         }
         let mut larger = Block::with_capacity(self.alloc, capacity)?;
-        larger.append_within(self);
+        self.drain_into(0, self.len, &mut larger);
         replace(self, larger).destroy_empty();
         Ok(())
     }
 
-    /// Takes the elements from `start` up to `end` out. Memory is asked for these alone; if it is refused, nothing changes.
-    pub fn drain(&mut self, start: usize, end: usize) -> Result<Rest<T>, AllocError>
+    /// Moves the elements from `start` up to `end` behind those of `other`, which has room for them.
+    pub fn drain_into(&mut self, start: usize, end: usize, other: &mut Block<T>)
         requires ordered { start ≤ end }
         requires in_bounds { end ≤ length self.old.items }
-        ensures removed { IfOk result (λ removed. removed ≡ slice_range self.old.items start end) }
-        ensures len { IfOk result (λ removed. length removed ≡ end - start) }
-        ensures ok { OnOk result (self.new ≡ contents (remove_range self.old.items start end) self.old.capacity) }
-        ensures err { OnErr result (self.new ≡ self.old) }
-        ensures free { start ≡ end → IsOk result }
+        requires room { length other.old.items + (end - start) ≤ other.old.capacity }
+        ensures left { self.new ≡ contents (remove_range self.old.items start end) self.old.capacity }
+        ensures moved { other.new ≡ contents (other.old.items ++ slice_range self.old.items start end) other.old.capacity }
     {
         let count = end - start;
-        let mut removed = Block::with_capacity(self.alloc, count)?;
+        if count == 0 {
+            return;
+        }
         let mut middle = self.room.split_off(start);
         let tail = middle.split_off(count);
-        let gap = middle.pour(self.base, start, count, &mut removed.room, removed.base, 0);
-        removed.len = count;
+        let (base, len) = (other.base, other.len);
+        let gap = middle.pour(self.base, start, count, &mut other.room, base, len);
         let behind = self.len - end;
         self.room
             .append(gap.close_gap(self.base, start, count, behind, tail));
         self.len -= count;
-        Ok(removed.into_rest())
+        other.len += count;
     }
 
-    /// Puts all elements of `other` before the one at `index`. There is room for them.
-    pub fn insert_all_within(&mut self, index: usize, other: Block<T>)
+    /// Moves the elements of `other` from `from` on to before the element at `index`. There is room for them.
+    pub fn insert_from(&mut self, index: usize, other: &mut Block<T>, from: usize)
         requires in_bounds { index ≤ length self.old.items }
-        requires room { length self.old.items + length other.items ≤ self.old.capacity }
-        ensures { self.new ≡ contents (insert_slice self.old.items index other.items) self.old.capacity }
+        requires from_in_bounds { from ≤ length other.old.items }
+        requires room { length self.old.items + (length other.old.items - from) ≤ self.old.capacity }
+        ensures block { self.new ≡ contents (insert_slice self.old.items index (drop from other.old.items)) self.old.capacity }
+        ensures left { other.new ≡ contents (take from other.old.items) other.old.capacity }
     {
-        let Block {
-            base,
-            len,
-            capacity,
-            room,
-            deed,
-            alloc,
-        } = other;
+        let count = other.len - from;
+        if count == 0 {
+            return;
+        }
         let mut gap = self.room.split_off(index);
-        let behind = gap.open_gap(self.base, index, self.len - index, len);
-        let places = room.pour(base, 0, len, &mut gap, self.base, index);
+        let behind = gap.open_gap(self.base, index, self.len - index, count);
+        let rest = other.room.split_off(from);
+        let places = rest.pour(other.base, from, count, &mut gap, self.base, index);
+        other.room.widen(places);
         gap.append(behind);
         self.room.append(gap);
-        self.len += len;
-        free(&alloc, base, capacity, places, deed);
+        self.len += count;
+        other.len = from;
+    }
+
+    /// Lets the `count` elements from `start` on and the first `count` of `other` change places.
+    fn swap_first(&mut self, start: usize, other: &mut Block<T>, count: usize)
+        requires in_bounds { start + count ≤ length self.old.items }
+        requires enough { count ≤ length other.old.items }
+        ensures block { self.new ≡ contents (splice self.old.items start (start + count) (take count other.old.items)) self.old.capacity }
+        ensures other { other.new ≡ contents (slice_range self.old.items start (start + count) ++ drop count other.old.items) other.old.capacity }
+    {
+        let mut middle = self.room.split_off(start);
+        let tail = middle.split_off(count);
+        let rest = other.room.split_off(count);
+        middle.swap(self.base, start, count, &mut other.room, other.base, 0);
+        other.room.append(rest);
+        middle.append(tail);
+        self.room.append(middle);
+    }
+
+    /// Puts the elements of `replacement` in place of those from `start` up to `end`. There is room for them here, and in
+    /// `replacement` for those that it takes their place of, which are given in its memory.
+    pub fn splice_within(&mut self, start: usize, end: usize, replacement: Block<T>) -> Rest<T>
+        requires ordered { start ≤ end }
+        requires in_bounds { end ≤ length self.old.items }
+        requires room { length self.old.items - (end - start) + length replacement.items ≤ self.old.capacity }
+        requires spare { end - start ≤ replacement.capacity }
+        ensures removed { result ≡ slice_range self.old.items start end }
+        ensures len { length result ≡ end - start }
+        ensures block { self.new ≡ contents (splice self.old.items start end replacement.items) self.old.capacity }
+    {
+        let (mut replacement, _len) = (replacement, self.len());
+        let len = replacement.len();
+        let both = len.min(end - start);
+        self.swap_first(start, &mut replacement, both);
+        self.insert_from(start + both, &mut replacement, both);
+        self.drain_into(start + len, end - both + len, &mut replacement);
+        replacement.into_rest()
     }
 
     /// Moves the elements of a `Vec` into this block, which has none and has room for them.
@@ -388,46 +409,6 @@ impl<T: Drop> Block<T> {
         ensures capacity { self.new.capacity ≡ self.old.capacity }
     {
         self.len = self.room.retain(self.base, 0, self.len, f);
-    }
-
-    /// Puts the elements of `replacement` in place of those from `start` up to `end`, and gives those. There is room for them.
-    /// Memory is asked for what is taken out alone; if it is refused, nothing changes, and `replacement` is dropped.
-    pub fn splice_within(
-        &mut self,
-        start: usize,
-        end: usize,
-        replacement: Block<T>,
-    ) -> Result<Rest<T>, AllocError>
-        requires ordered { start ≤ end }
-        requires in_bounds { end ≤ length self.old.items }
-        requires room { length self.old.items - (end - start) + length replacement.items ≤ self.old.capacity }
-        ensures removed { IfOk result (λ removed. removed ≡ slice_range self.old.items start end) }
-        ensures len { IfOk result (λ removed. length removed ≡ end - start) }
-        ensures ok { OnOk result (self.new ≡ contents (splice self.old.items start end replacement.items) self.old.capacity) }
-        ensures err { OnErr result (self.new ≡ self.old) }
-        ensures free { start ≡ end → IsOk result }
-    {
-        let count = end - start;
-        let mut removed = Block::with_capacity(self.alloc, count)?;
-        let Block {
-            base,
-            len,
-            capacity,
-            room,
-            deed,
-            alloc,
-        } = replacement;
-        let mut middle = self.room.split_off(start);
-        let tail = middle.split_off(count);
-        let gap = middle.pour(self.base, start, count, &mut removed.room, removed.base, 0);
-        removed.len = count;
-        let (mut gap, tail) = gap.set_gap(self.base, start, count, len, self.len - end, tail);
-        let places = room.pour(base, 0, len, &mut gap, self.base, start);
-        gap.append(tail);
-        self.room.append(gap);
-        self.len = self.len - count + len;
-        free(&alloc, base, capacity, places, deed);
-        Ok(removed.into_rest())
     }
 }
 

@@ -24,6 +24,35 @@ impl<T> Room<T> {
         (item, replace(self, rest))
     }
 
+    /// Takes the first item, and moves the others, all of which were `len`, down by a place.
+    pub(crate) fn shift_first(&mut self, base: Base<T>, start: usize, len: usize) -> T
+        requires { (base.ptr ≡ self.old.at) × (start ≡ self.old.start) × (len ≡ length self.old.items) × (0 < len) × (start + len < 2 ^ 64) }
+        ensures items { self.old.items ≡ result ∷ self.new.items }
+        ensures places { SamePlaces self.old self.new }
+    {
+        self.as_mut_slice(base, start, len).rotate_left(1);
+        self.take_last(base, start + len - 1)
+    }
+
+    /// Lets all items, of which there are `len`, and those of `other`, of which there are as many, change places.
+    pub(crate) fn swap(
+        &mut self,
+        base: Base<T>,
+        start: usize,
+        len: usize,
+        other: &mut Room<T>,
+        other_base: Base<T>,
+        other_start: usize,
+    )
+        requires here { (base.ptr ≡ self.old.at) × (start ≡ self.old.start) × (len ≡ length self.old.items) }
+        requires there { (other_base.ptr ≡ other.old.at) × (other_start ≡ other.old.start) × (len ≡ length other.old.items) }
+        ensures items { (self.new.items ≡ other.old.items) × (other.new.items ≡ self.old.items) }
+        ensures places { SamePlaces self.old self.new × SamePlaces other.old other.new }
+    {
+        self.as_mut_slice(base, start, len)
+            .swap_with_slice(other.as_mut_slice(other_base, other_start, len));
+    }
+
     /// Puts an item into an empty place, numbered `at`, and that place before the others.
     pub(crate) fn put_first(&mut self, base: Base<T>, at: usize, mut place: Room<T>, item: T)
         requires { (base.ptr ≡ place.at) × (at ≡ place.start) × (place.capacity ≡ 1) × (place.items ≡ []) × Follows place self.old }
@@ -113,33 +142,6 @@ impl<T> Room<T> {
             done += 1;
         }
         moved
-    }
-
-    /// Moves the items behind the `gap` empty places, of which there are `len`, so that the empty places become `wanted`. The
-    /// first of all the places is numbered `start`. The empty places come back, and behind them the items.
-    pub(crate) fn set_gap(
-        mut self,
-        base: Base<T>,
-        start: usize,
-        gap: usize,
-        wanted: usize,
-        len: usize,
-        mut items: Room<T>,
-    ) -> (Room<T>, Room<T>)
-        requires gap { (base.ptr ≡ self.at) × (start ≡ self.start) × (gap ≡ self.capacity) × (self.items ≡ []) }
-        requires items { Follows self items × (len ≡ length items.items) × (wanted + len ≤ gap + items.capacity) × (start + gap + wanted + len < 2 ^ 64) }
-        ensures gap { (result.0.at ≡ self.at) × (result.0.start ≡ self.start) × (result.0.capacity ≡ wanted) × (result.0.items ≡ []) }
-        ensures items { Follows result.0 result.1 × (result.1.items ≡ items.items) × (wanted + result.1.capacity ≡ self.capacity + items.capacity) }
-    {
-        if wanted <= gap {
-            let over = self.split_off(wanted);
-            let moved = over.close_gap(base, start + wanted, gap - wanted, len, items);
-            (self, moved)
-        } else {
-            let moved = items.open_gap(base, start + gap, len, wanted - gap);
-            self.widen(items);
-            (self, moved)
-        }
     }
 
     /// Moves all of `elements` into this room, which is empty. Its first place is numbered `start`.

@@ -181,14 +181,15 @@ fn a_refused_clone_leaves_the_block(rt: HostRuntime) -> Result<(), AllocError> {
 #[test]
 fn ranges_are_drained_and_spliced(rt: HostRuntime) -> Result<(), AllocError> {
     let mut block = Block::from_clones(rt.alloc(), &[0u64, 1, 2, 3, 4, 5], 8)?;
-    let removed = block.drain(1, 3)?;
-    assert_eq!(rt; removed.as_slice(), [1, 2].as_slice());
+    let mut removed = Block::from_clones(rt.alloc(), &[9u64], 3)?;
+    block.drain_into(1, 3, &mut removed);
+    assert_eq!(rt; removed.as_slice(), [9, 1, 2].as_slice());
     assert_eq!(rt; block.as_slice(), [0, 3, 4, 5].as_slice());
     let longer = Block::from_clones(rt.alloc(), &[7u64, 8, 9], 3)?;
-    let removed = block.splice_within(1, 2, longer)?;
+    let removed = block.splice_within(1, 2, longer);
     assert_eq!(rt; removed.as_slice(), [3].as_slice());
     assert_eq!(rt; block.as_slice(), [0, 7, 8, 9, 4, 5].as_slice());
-    let removed = block.splice_within(0, 4, Block::from_clones(rt.alloc(), &[6], 1)?)?;
+    let removed = block.splice_within(0, 4, Block::from_clones(rt.alloc(), &[6], 4)?);
     assert_eq!(rt; removed.as_slice(), [0, 7, 8, 9].as_slice());
     assert_eq!(rt; block.as_slice(), [6, 4, 5].as_slice());
     assert!(rt; block.capacity() == 8);

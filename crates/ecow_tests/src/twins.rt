@@ -90,8 +90,10 @@ impl Twins {
         if start > end || end > self.raw.len() {
             return Ok(true);
         }
-        let removed = self.raw.drain(start, end)?;
-        Ok(is_rest(removed, self.plain.drain(self.alloc, start, end)?))
+        let mut removed = Block::with_capacity(self.alloc, end - start)?;
+        self.raw.drain_into(start, end, &mut removed);
+        let plain = self.plain.drain(self.alloc, start, end)?;
+        Ok(is_rest(removed.into_rest(), plain))
     }
 
     fn splice(&mut self, start: usize, end: usize, values: &[i64]) -> Result<bool, AllocError> {
@@ -101,8 +103,9 @@ impl Twins {
         if values.len() > self.raw.capacity() - (self.raw.len() - (end - start)) {
             return Ok(true);
         }
-        let replacement = Block::from_clones(self.alloc, values, values.len())?;
-        let removed = self.raw.splice_within(start, end, replacement)?;
+        let room = values.len().max(end - start);
+        let replacement = Block::from_clones(self.alloc, values, room)?;
+        let removed = self.raw.splice_within(start, end, replacement);
         let replacement = VecBlock::from_clones(self.alloc, values, values.len())?;
         let plain = self
             .plain
@@ -116,14 +119,9 @@ impl Twins {
             return Ok(());
         }
         let mut raw = Block::from_clones(self.alloc, values, values.len())?;
-        let mut plain = VecBlock::from_clones(self.alloc, values, values.len())?;
-        if index == 0 {
-            self.raw.append_within(&mut raw);
-            self.plain.append_within(&mut plain)
-        } else {
-            self.raw.insert_all_within(index, raw);
-            self.plain.insert_all_within(index, plain)
-        }
+        let plain = VecBlock::from_clones(self.alloc, values, values.len())?;
+        self.raw.insert_from(index, &mut raw, 0);
+        self.plain.insert_all_within(index, plain)
     }
 
     /// All elements go to a `Vec` and come back into a block with room for more.

@@ -64,10 +64,6 @@ impl<T: Drop> VecBlock<T> {
         self.elements.retain_mut(f);
     }
 
-    pub(crate) fn append_within(&mut self, other: &mut VecBlock<T>) -> Result<(), AllocError> {
-        self.elements.append(&mut other.elements)
-    }
-
     pub(crate) fn insert_all_within(
         &mut self,
         index: usize,

@@ -30,8 +30,8 @@ impl<T: Clone> EcoVec<T> {
         ensures unchanged { OnErr result (self.new ≡ self.old) }
     {
         let (start, end) = resolve(&range, self.len()).unwrap();
-        let removed = self.replaced(start, end, Block::new(self.alloc))?;
-        Ok(Drain::new(removed))
+        let removed = Block::with_capacity(self.alloc, end - start)?;
+        Ok(Drain::new(self.replaced(start, end, removed)?))
     }
 
     /// Puts the items of `replace_with` in place of the elements of `range`, which `range_in`
@@ -53,12 +53,12 @@ impl<T: Clone> EcoVec<T> {
         ensures unchanged { OnErr result (self.new ≡ self.old) }
     {
         let (start, end) = resolve(&range, self.len()).unwrap();
-        let replacement = collected(self.alloc, replace_with)?;
-        let removed = self.replaced(start, end, replacement)?;
-        Ok(Splice::new(removed))
+        let replacement = collected(self.alloc, end - start, replace_with)?;
+        Ok(Splice::new(self.replaced(start, end, replacement)?))
     }
 
-    /// Puts `replacement` in place of the elements from `start` up to `end`, and gives these.
+    /// Puts `replacement` in place of the elements from `start` up to `end`, and gives these in its
+    /// memory, in which there is room for them.
     fn replaced(
         &mut self,
         start: usize,
@@ -67,6 +67,7 @@ impl<T: Clone> EcoVec<T> {
     ) -> Result<Rest<T>, EcoError>
         requires ordered { start ≤ end }
         requires in_bounds { end ≤ length self.old }
+        requires spare { end - start ≤ replacement.capacity }
         ensures ok { ClonesAreEqual T.is_clone → OnOk result (self.new ≡ splice self.old start end replacement.items) }
         ensures removed { ClonesAreEqual T.is_clone → IfOk result (λ removed. removed ≡ slice_range self.old start end) }
         ensures len { OnOk result (length self.new + (end - start) ≡ length self.old + length replacement.items) }
@@ -81,31 +82,36 @@ impl<T: Clone> EcoVec<T> {
         }
         if let Some(block) = self.sole_block() {
             block.grow(room_for(left, added, block.capacity()))?;
-            return Ok(block.splice_within(start, end, replacement)?);
+            return Ok(block.splice_within(start, end, replacement));
         }
         let room = room_for(left, added, fresh_capacity(len));
         if room == 0 {
             self.block = None;
-            return Ok(Block::new(self.alloc).into_rest());
+            return Ok(replacement.into_rest());
         }
         let mut fresh = self.copied(len, room)?;
         let Some(block) = Rc::get_mut(&mut fresh) else {
             return Err(EcoError::Memory);
         };
-        let removed = block.splice_within(start, end, replacement)?;
+        let removed = block.splice_within(start, end, replacement);
         self.block = Some(fresh);
         Ok(removed)
     }
 }
 
-/// The items of `iter`, in order.
+/// The items of `iter`, in order, with room for no fewer than `least`. As a replacement is seldom
+/// much longer than what it replaces, there is room for twice as many from the first item on.
 fn collected<T: Drop, I: IntoIterator<Item = T>>(
     alloc: Global,
+    least: usize,
     iter: I,
 ) -> Result<Block<T>, AllocError>
-    requires { (it : I.IntoIter) → I.into_iter_gives iter it → I.IntoIter.can_next it × IsFinite (I.IntoIter.remaining it) }
-    ensures { IfOk result (λ items. GivesItems I.into_iter_gives I.IntoIter.next_gives iter items.items) }
+    requires bounded { least ≤ MAX_LEN }
+    requires ends { (it : I.IntoIter) → I.into_iter_gives iter it → I.IntoIter.can_next it × IsFinite (I.IntoIter.remaining it) }
+    ensures items { IfOk result (λ block. GivesItems I.into_iter_gives I.IntoIter.next_gives iter block.items) }
+    ensures room { IfOk result (λ block. least ≤ block.capacity) }
 {
+    let first = least.saturating_mul(2).max(8).min(MAX_LEN);
     let mut items = Block::new(alloc);
     for item in iter {
         let (len, capacity) = (items.len(), items.capacity());
@@ -113,9 +119,11 @@ fn collected<T: Drop, I: IntoIterator<Item = T>>(
             if len == MAX_LEN {
                 return Err(AllocError);
             }
-            items.grow(room_for(len, 1, capacity.max(16)))?;
+            items.grow(room_for(len, 1, capacity.max(first)))?;
         }
         items.push_within(item);
     }
+    let capacity = items.capacity();
+    items.grow(capacity.max(least))?;
     Ok(items)
 }
