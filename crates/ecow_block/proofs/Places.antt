@@ -43,7 +43,7 @@ module _ (E : El) {M : Type 1} {𝓤 : Ura M} (𝓛 : Logic 𝓤) (b : ℕ) wher
   abbrev s : ℕ
   s = sz E
 
-  abbrev E' : rows.El
+  abbrev pub E' : rows.El
   E' = record { row = E.row; laws = E.laws }
 
   abbrev Room : ℕ → ℕ → Fml

@@ -1,15 +1,29 @@
 //! Moves of items between rooms, one at a time, with no pointer in sight. What is cut and glued here is gone when the
 //! program runs: each loop is a loop over reads and writes, which the compiler knows as a move of memory.
-ghost use Rattle.std.specs.Prelude.{◌≡◌, ◌+◌, ◌-◌, ◌^◌, ◌<◌, ◌≤◌, [], ◌∷◌, ◌++◌, length, take, vec_len, OnOk, OnErr};
+ghost use Rattle.std.specs.Prelude.{◌≡◌, ◌+◌, ◌-◌, ◌^◌, ◌<◌, ◌≤◌, [], ◌∷◌, ◌++◌, length, take, vec_len, OnOk, OnErr, IfOk, IsTrue};
 ghost use Rattle.std.specs.Fn.{CalledAtMut};
+ghost use Rattle.std.specs.Mem.{type_size};
 ghost use Rattle.std.specs.List.Retain.{RetainsInTurn};
 ghost use Rattle.ecow_base.specs.Clones.{ClonesAreEqual};
 ghost use Rattle.ecow_block.specs.Clones.{AppendsClones};
 ghost use Rattle.ecow_block.specs.Rooms.{SamePlaces, Follows};
 
-use crate::room::{Base, Room};
+use crate::room::{Base, CHUNK, Room};
 use std::alloc::AllocError;
-use std::mem::replace;
+use std::mem::{replace, size_of_val};
+
+/// How many bytes a small element takes at most.
+const SMALL: usize = 16;
+
+/// Whether there are elements, and they are small.
+fn are_small<T>(elements: &[T]) -> bool
+    ensures { IsTrue result → type_size T.row ≤ SMALL }
+{
+    match elements.first() {
+        Some(first) => size_of_val(first) <= SMALL,
+        None => false,
+    }
+}
 
 impl<T> Room<T> {
     /// Takes the first item, from the place numbered `at`. That place comes back too.
@@ -176,6 +190,8 @@ impl<T> Room<T> {
 
     /// Appends clones of `elements`, the first of them in the place numbered `at`. If a clone is refused, those before it are
     /// dropped again.
+    ///
+    /// Small elements are cloned some at a time, which the compiler knows as a move of memory where a clone is a copy.
     pub(crate) fn append_clones(
         &mut self,
         base: Base<T>,
@@ -187,6 +203,79 @@ impl<T> Room<T> {
         requires { (base.ptr ≡ self.old.at) × (at ≡ self.old.start + length self.old.items) × (length self.old.items + length elements.now ≤ self.old.capacity) × (at + length elements.now < 2 ^ 64) }
         ensures clones { OnOk result (AppendsClones T.is_clone self.old.items elements.now self.new.items) }
         ensures items { ClonesAreEqual T.is_clone → OnOk result (self.new.items ≡ self.old.items ++ elements.now) }
+        ensures len { OnOk result (length self.new.items ≡ length self.old.items + length elements.now) }
+        ensures places { SamePlaces self.old self.new }
+        ensures err { OnErr result (self.new.items ≡ self.old.items) }
+    {
+        let done = self.append_chunks(base, at, elements)?;
+        if let Err(error) = self.append_each(base, at + done, &elements[done..]) {
+            self.drop_last(base, at, done);
+            return Err(error);
+        }
+        Ok(())
+    }
+
+    /// The same for the first elements alone, where they are small, and returns how many these are.
+    fn append_chunks(
+        &mut self,
+        base: Base<T>,
+        at: usize,
+        elements: &[T],
+    ) -> Result<usize, AllocError>
+    where
+        T: Clone,
+        requires { (base.ptr ≡ self.old.at) × (at ≡ self.old.start + length self.old.items) × (length self.old.items + length elements.now ≤ self.old.capacity) × (at + length elements.now < 2 ^ 64) }
+        ensures clones { IfOk result (λ done. AppendsClones T.is_clone self.old.items (take done elements.now) self.new.items) }
+        ensures len { IfOk result (λ done. (done ≤ length elements.now) × (length self.new.items ≡ length self.old.items + done)) }
+        ensures places { SamePlaces self.old self.new }
+        ensures err { OnErr result (self.new.items ≡ self.old.items) }
+    {
+        let mut rest = elements;
+        let mut done = 0;
+        if !are_small(elements) {
+            return Ok(done);
+        }
+        while let Some((chunk, others)) = rest.split_first_chunk::<CHUNK>() {
+            if let Err(error) = self.append_chunk(base, at + done, chunk) {
+                self.drop_last(base, at, done);
+                return Err(error);
+            }
+            rest = others;
+            done += CHUNK;
+        }
+        Ok(done)
+    }
+
+    /// The same for so many elements.
+    fn append_chunk(
+        &mut self,
+        base: Base<T>,
+        at: usize,
+        elements: &[T; CHUNK],
+    ) -> Result<(), AllocError>
+    where
+        T: Clone,
+        requires room { (base.ptr ≡ self.old.at) × (at ≡ self.old.start + length self.old.items) × (length self.old.items + CHUNK ≤ self.old.capacity) × (at + CHUNK < 2 ^ 64) }
+        ensures clones { OnOk result (AppendsClones T.is_clone self.old.items elements.now self.new.items) }
+        ensures len { OnOk result (length self.new.items ≡ length self.old.items + CHUNK) }
+        ensures places { SamePlaces self.old self.new }
+        ensures err { OnErr result (self.new.items ≡ self.old.items) }
+    {
+        self.put_chunk(base, at, elements.clone()?);
+        Ok(())
+    }
+
+    /// The same one by one.
+    fn append_each(
+        &mut self,
+        base: Base<T>,
+        at: usize,
+        elements: &[T],
+    ) -> Result<(), AllocError>
+    where
+        T: Clone,
+        requires { (base.ptr ≡ self.old.at) × (at ≡ self.old.start + length self.old.items) × (length self.old.items + length elements.now ≤ self.old.capacity) × (at + length elements.now < 2 ^ 64) }
+        ensures clones { OnOk result (AppendsClones T.is_clone self.old.items elements.now self.new.items) }
         ensures len { OnOk result (length self.new.items ≡ length self.old.items + length elements.now) }
         ensures places { SamePlaces self.old self.new }
         ensures err { OnErr result (self.new.items ≡ self.old.items) }

@@ -12,6 +12,9 @@ mod places;
 
 pub(crate) use heap::{free, grow, make, nowhere};
 
+/// How many items are put at a time.
+pub(crate) const CHUNK: usize = 128;
+
 /// Where a block begins. It owns nothing.
 pub(crate) struct Base<T> {
     ptr: *mut T,

@@ -3,7 +3,7 @@ ghost use Rattle.std.specs.Prelude.{◌≡◌, ◌+◌, ◌<◌, ◌≤◌, [], 
 ghost use Rattle.std.specs.Borrow.{sem};
 ghost use Rattle.ecow_block.specs.Rooms.{SamePlaces, Follows};
 
-use super::{Base, Room};
+use super::{Base, CHUNK, Room};
 use std::marker::PhantomData;
 use std::slice;
 
@@ -17,6 +17,15 @@ impl<T> Room<T> {
         ensures places { SamePlaces self.old self.new }
     {
         unsafe { base.ptr.add(at).write(item) }
+    }
+
+    /// Puts items into the first empty places, of which the first is numbered `at`.
+    pub(crate) fn put_chunk(&mut self, base: Base<T>, at: usize, items: [T; CHUNK])
+        requires { (base.ptr ≡ self.old.at) × (at ≡ self.old.start + length self.old.items) × (length self.old.items + CHUNK ≤ self.old.capacity) }
+        ensures items { self.new.items ≡ self.old.items ++ items }
+        ensures places { SamePlaces self.old self.new }
+    {
+        unsafe { base.ptr.add(at).cast::<[T; CHUNK]>().write(items) }
     }
 
     /// Takes the last item, from the place numbered `at`.

@@ -1,11 +1,14 @@
-use Rattle.std.proofs.Common.{rules, arith, ◌≡◌, ◌+◌, ◌++◌, ◌∷◌, [], take}
-use Rattle.std.proofs.lemmas.Grind.{common_steps}
-use Rattle.ecow_block.proofs.Cloned.{one_more, equal_clones}
+use Rattle.std.proofs.Common.{rules, arith, ◌≡◌, ◌-◌, ◌++◌, length, length-drop, take, drop, ap, ◌∙◌}
+use Rattle.std.proofs.lemmas.List.{take-append-drop, take_all}
+use Rattle.ecow_block.proofs.Cloned.{some_more, equal_clones}
 use Rattle.ecow_block.proofs.room.Room.append_clones.Goals as goal
 
-pub loop-done-preserved : goal.loop-done-preserved
-loop-done-preserved g c =
-    let xs = c.args.elements.now in let old = c.args.self.now.items in let done = c.loop-done.done in let x = c.index-elements-done.result in
-    let next : take (done + 1) xs ≡ take done xs ++ x ∷ [] = grind (arith, common_steps) in
-    let grown = one_more g.T.Clone.is_clone old (take done xs) (take (done + 1) xs) _ _ x _ c.loop-done.invariant.4 next c.in-Ok.ensures.cases c.put.ensures.items in
-    (grind (arith, common_steps), search rules, grind (arith, common_steps), grind (arith, common_steps), grown, equal_clones g.T.Clone.is_clone old (take (done + 1) xs) _ grown)
+pub returns-clause-clones : goal.returns-clause-clones
+returns-clause-clones g c =
+    let xs = c.args.elements.now in let done = c.in_ok-done.done in let rest = take (length xs - done) (drop done xs) in
+    let all : take done xs ++ rest ≡ xs = ap (λ l. take done xs ++ l) (take_all (length xs - done) (drop done xs) (omega (arith, length-drop done xs))) ∙ take-append-drop done xs in
+    let grown = some_more g.T.Clone.is_clone c.args.self.now.items (take done xs) rest c.append_chunks.new.self.items c.append_each.new.self.items (search rules) (search rules) in
+    rw all at grown
+
+pub returns-clause-items : goal.returns-clause-items
+returns-clause-items g c = equal_clones g.T.Clone.is_clone c.args.self.now.items c.args.elements.now c.append_each.new.self.items (returns-clause-clones g c)

@@ -1,12 +1,11 @@
-use Rattle.std.proofs.Common.{length, ◌-◌, ◌≡◌, ◌+◌, ◌≤◌, ◌++◌, take}
-use Rattle.ecow_base.specs.Clones.{ClonesAreEqual}
+use Rattle.std.proofs.Common.{length, ◌-◌, ◌≡◌, ◌+◌, ◌≤◌, take}
 use Rattle.ecow_block.specs.Clones.{AppendsClones}
 use Rattle.ecow_block.specs.Rooms.{SamePlaces}
-use Rattle.ecow_block.proofs.room.Room.append_clones.Given as goal
+use Rattle.ecow_block.proofs.room.Room.append_each.Given as goal
 
 abbrev pub invariant-loop-done : goal.invariant-loop-done
 invariant-loop-done g l = (l.done ≤ length l.elements) × SamePlaces l.fn.self l.self × (length l.self.items ≡ length l.fn.self.items + l.done) × (take (length l.fn.self.items) l.self.items ≡ l.fn.self.items)
-    × AppendsClones g.T.Clone.is_clone l.fn.self.items (take l.done l.elements) l.self.items × (ClonesAreEqual g.T.Clone.is_clone → l.self.items ≡ l.fn.self.items ++ take l.done l.elements)
+    × AppendsClones g.T.Clone.is_clone l.fn.self.items (take l.done l.elements) l.self.items
 
 abbrev pub decreases-loop-done : goal.decreases-loop-done
 decreases-loop-done g l = length l.elements - l.done
