@@ -1,5 +1,5 @@
-//! Moves of items between rooms, one at a time, with no pointer in sight. What is cut and glued here is gone when the
-//! program runs: each loop is a loop over reads and writes, which the compiler knows as a move of memory.
+//! Moves of items within a room and between rooms, with no pointer in sight. What is cut and glued here is gone when the
+//! program runs: what is left are reads and writes, which the compiler knows as moves of memory.
 ghost use Rattle.std.specs.Prelude.{◌≡◌, ◌+◌, ◌-◌, ◌^◌, ◌<◌, ◌≤◌, [], ◌∷◌, ◌++◌, length, take, vec_len, OnOk, OnErr, IfOk, IsTrue};
 ghost use Rattle.std.specs.Fn.{CalledAtMut};
 ghost use Rattle.std.specs.Mem.{type_size};

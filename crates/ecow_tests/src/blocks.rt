@@ -178,6 +178,24 @@ fn a_refused_clone_leaves_the_block(rt: HostRuntime) -> Result<(), AllocError> {
     Ok(())
 }
 
+/// So many that they aren't cloned one by one.
+#[test]
+fn a_refused_clone_among_many_leaves_the_block(rt: HostRuntime) -> Result<(), AllocError> {
+    let counts = Counts::new(290);
+    let mut elements = Vec::new(rt.alloc());
+    for _ in 0..300 {
+        elements.push(Counted { counts: &counts })?;
+    }
+    let mut block = Block::with_capacity(rt.alloc(), 300)?;
+    if elements.len() <= 300 {
+        assert!(rt; block.extend_within(elements.as_slice()).is_err());
+        assert_eq!(rt; (block.len(), counts.drops.get()), (0, 289));
+        assert!(rt; block.extend_within(elements.as_slice()).is_ok());
+        assert_eq!(rt; (block.len(), counts.drops.get()), (300, 289));
+    }
+    Ok(())
+}
+
 #[test]
 fn ranges_are_drained_and_spliced(rt: HostRuntime) -> Result<(), AllocError> {
     let mut block = Block::from_clones(rt.alloc(), &[0u64, 1, 2, 3, 4, 5], 8)?;

@@ -1,7 +1,7 @@
 //! The calls that change a vector in place. Each has two paths: a sole block is changed where it
 //! is, and the elements of a shared one are copied into a new block, which is changed and then
 //! takes the old one's place; so a refusal leaves all as it was.
-ghost use Rattle.std.specs.Prelude.{◌≡◌, ◌+◌, ◌-◌, ◌<◌, ◌≤◌, ◌↔◌, [], ◌∷◌, ◌++◌, length, take, IsOk, IfOk, IfErr, OnOk, OnErr, IsErrAnd, IsErrOf, IsSome, Some, IsTrue, is_some, insert, remove, slice_get, slice_set, min};
+ghost use Rattle.std.specs.Prelude.{◌≡◌, ◌+◌, ◌-◌, ◌<◌, ◌≤◌, ◌↔◌, [], ◌∷◌, ◌++◌, length, take, IsOk, IfOk, IfErr, OnOk, OnErr, IsErrAnd, IsErrOf, IsSome, Some, insert, remove, slice_get, slice_set, min};
 ghost use Rattle.std.specs.Fn.{CalledAtMut};
 ghost use Rattle.std.specs.List.Retain.{RetainsInTurn};
 ghost use Rattle.ecow_base.specs.Clones.{ClonesAreEqual};
@@ -9,6 +9,7 @@ ghost use Rattle.ecow_base.specs.Clones.{ClonesAreEqual};
 use crate::error::{EcoError, Rejected};
 use crate::vec::EcoVec;
 use ecow_base::{MAX_LEN, fresh_capacity, room_for};
+use ecow_block::Block;
 use std::rc::Rc;
 
 impl<T: Clone> EcoVec<T> {
@@ -231,6 +232,11 @@ impl<T: Clone> EcoVec<T> {
         if let Some(block) = self.sole_block() {
             block.grow(room_for(len, added, block.capacity()))?;
             block.extend_within(elements)?;
+            return Ok(());
+        }
+        if len == 0 {
+            let block = Block::from_clones(self.alloc, elements, room)?;
+            self.block = Some(Rc::new(self.alloc, block)?);
             return Ok(());
         }
         let mut fresh = self.copied(len, room)?;

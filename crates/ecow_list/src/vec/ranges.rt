@@ -99,8 +99,7 @@ impl<T: Clone> EcoVec<T> {
     }
 }
 
-/// The items of `iter`, in order, with room for no fewer than `least`. As a replacement is seldom
-/// much longer than what it replaces, there is room for twice as many from the first item on.
+/// The items of `iter`, in order, with room for no fewer than `least`.
 fn collected<T: Drop, I: IntoIterator<Item = T>>(
     alloc: Global,
     least: usize,
@@ -111,19 +110,17 @@ fn collected<T: Drop, I: IntoIterator<Item = T>>(
     ensures items { IfOk result (λ block. GivesItems I.into_iter_gives I.IntoIter.next_gives iter block.items) }
     ensures room { IfOk result (λ block. least ≤ block.capacity) }
 {
-    let first = least.saturating_mul(2).max(8).min(MAX_LEN);
-    let mut items = Block::new(alloc);
+    let iter = iter.into_iter();
+    let mut items = Block::with_capacity(alloc, least)?;
     for item in iter {
         let (len, capacity) = (items.len(), items.capacity());
         if len == capacity {
             if len == MAX_LEN {
                 return Err(AllocError);
             }
-            items.grow(room_for(len, 1, capacity.max(first)))?;
+            items.grow(room_for(len, 1, capacity.max(16)))?;
         }
         items.push_within(item);
     }
-    let capacity = items.capacity();
-    items.grow(capacity.max(least))?;
     Ok(items)
 }
