@@ -266,12 +266,7 @@ impl<T> Room<T> {
     }
 
     /// The same one by one.
-    fn append_each(
-        &mut self,
-        base: Base<T>,
-        at: usize,
-        elements: &[T],
-    ) -> Result<(), AllocError>
+    fn append_each(&mut self, base: Base<T>, at: usize, elements: &[T]) -> Result<(), AllocError>
     where
         T: Clone,
         requires { (base.ptr ≡ self.old.at) × (at ≡ self.old.start + length self.old.items) × (length self.old.items + length elements.now ≤ self.old.capacity) × (at + length elements.now < 2 ^ 64) }
