@@ -57,7 +57,7 @@ use Rattle.std.specs.Borrow.{name_if_ok}
 use Rattle.std_alloc.proofs.ResultValues.{ok_of, err_of}
 use Rattle.std_alloc.proofs.VecSteps.Gaps.{all_new}
 use Rattle.std_alloc.proofs.VecSteps.Shapes.{after, head, arm_body}
-use Rattle.ecow_block.specs.Contents.{Contents, contents}
+use Rattle.ecow_block.specs.Contents.{Contents}
 use Rattle.ecow_block.specs.BlockLends.{with_elements}
 use Rattle.ecow_base.specs.Clones.{ClonesAreEqual}
 use Rattle.ecow_list.specs.declared.error.EcoError.{EcoError}
