@@ -3,6 +3,7 @@ use ecow_base::MAX_LEN;
 use ecow_block::Block;
 use std::alloc::AllocError;
 use std::cell::Cell;
+use std::process::Abort;
 
 /// What happened to the elements of a test. The clone with this number is refused.
 #[derive(Drop)]
@@ -63,6 +64,10 @@ fn thousand(alloc: std::alloc::Global, counts: &Counts) -> Result<Block<Counted<
     Ok(block)
 }
 
+fn holds(rt: &impl Abort, elements: &[u64], wanted: &[u64]) {
+    assert_eq!(rt; elements, wanted);
+}
+
 #[test]
 fn elements_come_and_go(rt: HostRuntime) -> Result<(), AllocError> {
     let mut block = Block::with_capacity(rt.alloc(), 5)?;
@@ -71,15 +76,15 @@ fn elements_come_and_go(rt: HostRuntime) -> Result<(), AllocError> {
     block.insert_within(1, 9);
     block.insert_within(0, 6);
     block.insert_within(4, 5);
-    assert_eq!(rt; block.as_slice(), [6, 7, 9, 8, 5].as_slice());
+    holds(&rt, block.as_slice(), &[6, 7, 9, 8, 5]);
     assert_eq!(rt; block.remove(0), 6);
     assert_eq!(rt; block.remove(2), 8);
-    assert_eq!(rt; block.as_slice(), [7, 9, 5].as_slice());
+    holds(&rt, block.as_slice(), &[7, 9, 5]);
     block.grow(9)?;
     assert_eq!(rt; (block.len(), block.capacity()), (3, 9));
     assert_eq!(rt; block.pop(), Some(5));
     block.as_mut_slice()[0] = 4;
-    assert_eq!(rt; block.as_slice(), [4, 9].as_slice());
+    holds(&rt, block.as_slice(), &[4, 9]);
     Ok(())
 }
 
@@ -201,15 +206,15 @@ fn ranges_are_drained_and_spliced(rt: HostRuntime) -> Result<(), AllocError> {
     let mut block = Block::from_clones(rt.alloc(), &[0u64, 1, 2, 3, 4, 5], 8)?;
     let mut removed = Block::from_clones(rt.alloc(), &[9u64], 3)?;
     block.drain_into(1, 3, &mut removed);
-    assert_eq!(rt; removed.as_slice(), [9, 1, 2].as_slice());
-    assert_eq!(rt; block.as_slice(), [0, 3, 4, 5].as_slice());
+    holds(&rt, removed.as_slice(), &[9, 1, 2]);
+    holds(&rt, block.as_slice(), &[0, 3, 4, 5]);
     let longer = Block::from_clones(rt.alloc(), &[7u64, 8, 9], 3)?;
     let removed = block.splice_within(1, 2, longer);
-    assert_eq!(rt; removed.as_slice(), [3].as_slice());
-    assert_eq!(rt; block.as_slice(), [0, 7, 8, 9, 4, 5].as_slice());
+    holds(&rt, removed.as_slice(), &[3]);
+    holds(&rt, block.as_slice(), &[0, 7, 8, 9, 4, 5]);
     let removed = block.splice_within(0, 4, Block::from_clones(rt.alloc(), &[6], 4)?);
-    assert_eq!(rt; removed.as_slice(), [0, 7, 8, 9].as_slice());
-    assert_eq!(rt; block.as_slice(), [6, 4, 5].as_slice());
+    holds(&rt, removed.as_slice(), &[0, 7, 8, 9]);
+    holds(&rt, block.as_slice(), &[6, 4, 5]);
     assert!(rt; block.capacity() == 8);
     Ok(())
 }

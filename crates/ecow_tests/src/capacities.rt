@@ -53,13 +53,23 @@ fn larger_steps(rt: HostRuntime) -> Result<(), Fail> {
 }
 
 #[test]
-fn copies_that_take_something_out(rt: HostRuntime) -> Result<(), Fail> {
+fn a_copy_that_is_cut(rt: HostRuntime) -> Result<(), Fail> {
     let (mut list, _clone) = shared(rt.alloc(), 6, 10)?;
     list.truncate(2)?;
     assert_eq!(rt; list.capacity(), 4);
+    Ok(())
+}
+
+#[test]
+fn a_copy_without_the_last_element(rt: HostRuntime) -> Result<(), Fail> {
     let (mut list, _clone) = shared(rt.alloc(), 6, 10)?;
     assert_eq!(rt; list.pop()?, Some(5));
     assert_eq!(rt; list.capacity(), 6);
+    Ok(())
+}
+
+#[test]
+fn a_copy_of_which_some_elements_are_kept(rt: HostRuntime) -> Result<(), Fail> {
     let (mut list, _clone) = shared(rt.alloc(), 6, 10)?;
     list.retain(|value| *value < 2)?;
     assert_eq!(rt; list.capacity(), 6);
@@ -67,14 +77,24 @@ fn copies_that_take_something_out(rt: HostRuntime) -> Result<(), Fail> {
 }
 
 #[test]
-fn copies_that_put_something_in(rt: HostRuntime) -> Result<(), Fail> {
+fn a_copy_with_one_more_element(rt: HostRuntime) -> Result<(), Fail> {
     let (mut list, clone) = shared(rt.alloc(), 3, 10)?;
     list.push(9).map_err(|rejected| rejected.error)?;
     assert_eq!(rt; list.capacity(), 10);
     assert_eq!(rt; clone.capacity(), 10);
+    Ok(())
+}
+
+#[test]
+fn a_copy_of_a_full_block(rt: HostRuntime) -> Result<(), Fail> {
     let (mut list, _clone) = shared(rt.alloc(), 4, 4)?;
     list.extend_from_slice(&[9])?;
     assert_eq!(rt; list.capacity(), 8);
+    Ok(())
+}
+
+#[test]
+fn a_cleared_vector_has_no_block(rt: HostRuntime) -> Result<(), Fail> {
     let (mut list, _clone) = shared(rt.alloc(), 3, 10)?;
     list.clear();
     assert_eq!(rt; list.capacity(), 0);

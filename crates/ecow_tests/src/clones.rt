@@ -37,6 +37,26 @@ fn holds(list: &EcoVec<Refusing>, values: &[i64]) -> bool {
             .all(|(element, value)| element.value == *value)
 }
 
+/// A vector of 1, 2 and 3, and one that shares its block.
+fn shared_three(
+    alloc: Global,
+    left: &Rc<Cell<u64>>,
+) -> Result<(EcoVec<Refusing>, EcoVec<Refusing>), EcoError> {
+    let list = list_of(alloc, &[1, 2, 3], left)?;
+    let clone = list.clone()?;
+    Ok((list, clone))
+}
+
+/// Whether both still hold 1, 2 and 3, in one block.
+fn is_unchanged(list: &mut EcoVec<Refusing>, clone: &EcoVec<Refusing>) -> bool {
+    holds(list, &[1, 2, 3]) && holds(clone, &[1, 2, 3]) && !list.is_unique()
+}
+
+/// Whether the first holds the values, in a block of its own, and the clone still 1, 2 and 3.
+fn is_apart(list: &mut EcoVec<Refusing>, values: &[i64], clone: &EcoVec<Refusing>) -> bool {
+    holds(list, values) && holds(clone, &[1, 2, 3]) && list.is_unique()
+}
+
 /// Makes a call, which clones `needed` elements, on a vector of 1, 2 and 3 that shares its block.
 fn refused_in_turn<F: FnMut(&mut EcoVec<Refusing>) -> Result<(), EcoError> + Drop>(
     rt: &(impl Abort + AllocGlobal),
@@ -49,19 +69,15 @@ fn refused_in_turn<F: FnMut(&mut EcoVec<Refusing>) -> Result<(), EcoError> + Dro
     let mut call = call;
     let left = Rc::new(rt.alloc(), Cell::new(0))?;
     for clones in 0..needed {
-        let mut list = list_of(rt.alloc(), &[1, 2, 3], &left)?;
-        let clone = list.clone()?;
+        let (mut list, clone) = shared_three(rt.alloc(), &left)?;
         left.set(clones);
         assert_eq!(rt; call(&mut list), Err(EcoError::Memory));
-        assert!(rt; holds(&list, &[1, 2, 3]) && holds(&clone, &[1, 2, 3]));
-        assert!(rt; !list.is_unique());
+        assert!(rt; is_unchanged(&mut list, &clone));
     }
-    let mut list = list_of(rt.alloc(), &[1, 2, 3], &left)?;
-    let clone = list.clone()?;
+    let (mut list, clone) = shared_three(rt.alloc(), &left)?;
     left.set(needed);
     call(&mut list)?;
-    assert!(rt; holds(&list, after) && holds(&clone, &[1, 2, 3]));
-    assert!(rt; list.is_unique() && left.get() == 0);
+    assert!(rt; is_apart(&mut list, after, &clone) && left.get() == 0);
     Ok(())
 }
 

@@ -1,11 +1,11 @@
 //! Lists in counted blocks: commands succeed with ample memory, each copied element is one clone,
 //! and elements are dropped with the last name of their block.
-use crate::commands::same;
 use crate::elements::{Counting, Single, Tally};
 use crate::numbers::Numbers;
+use crate::outcomes::{is_done, refusal_of};
+use crate::scripts::is_plain_run;
 use ecow_counted::{Counted, Filled};
 use ecow_model::{Items, Name, Outcome, Refusal, VecCommand};
-use ecow_plain::PlainStore;
 use std::alloc::{AllocError, Global};
 use std::ops::Bound;
 use std::process::Abort;
@@ -58,9 +58,8 @@ fn a_shared_list_is_copied_by_who_writes(rt: HostRuntime) -> Result<(), Fail> {
     Ok(())
 }
 
-#[test]
-fn an_empty_shared_block_is_left_by_few(rt: HostRuntime) -> Result<(), Fail> {
-    let alloc = rt.alloc();
+/// The names 0 and 1 share an empty block, which no command of the name 0 has left.
+fn shared_empty(rt: &impl Abort, alloc: Global) -> Result<Counted<i64>, Fail> {
     let (name, nothing) = (0, list(alloc, &[])?);
     let commands = vec![in alloc;
         VecCommand::WithCapacity { name, capacity: 3 },
@@ -73,15 +72,16 @@ fn an_empty_shared_block_is_left_by_few(rt: HostRuntime) -> Result<(), Fail> {
             items: nothing
         },
     ]?;
-    let mut table = after(&rt, alloc, commands)?;
+    after(rt, alloc, commands)
+}
+
+#[test]
+fn an_empty_shared_block_is_left_by_few(rt: HostRuntime) -> Result<(), Fail> {
+    let mut table = shared_empty(&rt, rt.alloc())?;
     assert_eq!(rt; (table.owners(0), table.blocks()), (Some(2), 1));
-    let marks = Items::from_slice(alloc, &[])?;
-    assert!(rt;
-        matches!(
-            table.step(VecCommand::Retain { name, marks }),
-            Outcome::Done
-        )
-    );
+    let marks = Items::from_slice(rt.alloc(), &[])?;
+    let retained = table.step(VecCommand::Retain { name: 0, marks });
+    assert!(rt; is_done(retained));
     assert_eq!(rt; (table.owners(0), table.capacity(0)), (None, Some(0)));
     assert_eq!(rt; (table.owners(1), table.capacity(1)), (Some(1), Some(3)));
     assert_eq!(rt; (table.blocks(), table.copied()), (1, 0));
@@ -91,16 +91,15 @@ fn an_empty_shared_block_is_left_by_few(rt: HostRuntime) -> Result<(), Fail> {
 #[test]
 fn a_shared_list_is_spliced_in_one_new_block(rt: HostRuntime) -> Result<(), Fail> {
     let alloc = rt.alloc();
+    let items = list(alloc, &[1, 2, 3, 4, 5])?;
+    let replacement = list(alloc, &[7, 8, 9])?;
     let commands = vec![in alloc;
-        VecCommand::FromList {
-            name: 0,
-            items: list(alloc, &[1, 2, 3, 4, 5])?
-        },
+        VecCommand::FromList { name: 0, items },
         VecCommand::Clone { from: 0, to: 1 },
         VecCommand::Splice {
             name: 0,
             bounds: (Bound::Included(1), Bound::Excluded(2)),
-            items: list(alloc, &[7, 8, 9])?
+            items: replacement
         },
         VecCommand::Reserve {
             name: 1,
@@ -159,20 +158,21 @@ fn leaving(alloc: Global, tally: &Tally) -> Result<Vec<VecCommand<Counting>>, Al
     let bounds = (Bound::Unbounded, Bound::Excluded(1));
     let marks = Items::from_slice(alloc, &[true, false, true])?;
     let items = Items::new(tally.elements(alloc, 2)?);
+    let (pushed, inserted, written) = (tally.element()?, tally.element()?, tally.element()?);
     let commands = vec![in alloc;
         VecCommand::Push {
             name,
-            value: tally.element()?
+            value: pushed
         },
         VecCommand::Insert {
             name,
             index,
-            value: tally.element()?
+            value: inserted
         },
         VecCommand::Write {
             name,
             index,
-            value: tally.element()?
+            value: written
         },
         VecCommand::Splice {
             name,
@@ -189,20 +189,31 @@ fn leaving(alloc: Global, tally: &Tally) -> Result<Vec<VecCommand<Counting>>, Al
     Ok(commands)
 }
 
+/// A table in which the names 0 and 1 share a block of three elements.
+fn shared(alloc: Global, tally: &Tally) -> Result<Counted<Counting>, AllocError> {
+    let mut table = Counted::new(alloc);
+    let items = Items::new(tally.elements(alloc, 3)?);
+    drop(table.step(VecCommand::FromList { name: 0, items }));
+    drop(table.step(VecCommand::Clone { from: 0, to: 1 }));
+    Ok(table)
+}
+
+/// How many elements are copied as a command leaves the shared block.
+fn copied_by(rt: &impl Abort, mut table: Counted<Counting>, command: VecCommand<Counting>) -> u64 {
+    assert!(rt; refusal_of(table.step(command)).is_none());
+    assert_eq!(rt; table.blocks(), 2);
+    table.copied()
+}
+
 #[test]
 fn each_copied_element_is_one_clone(rt: HostRuntime) -> Result<(), Fail> {
     let alloc = rt.alloc();
     let tally = Tally::new(alloc)?;
     let mut copied = 0u64;
     for command in leaving(alloc, &tally)? {
-        let mut table = Counted::new(alloc);
-        let items = Items::new(tally.elements(alloc, 3)?);
-        drop(table.step(VecCommand::FromList { name: 0, items }));
-        drop(table.step(VecCommand::Clone { from: 0, to: 1 }));
+        let table = shared(alloc, &tally)?;
         assert_eq!(rt; tally.clones(), copied);
-        assert!(rt; !matches!(table.step(command), Outcome::Refused(_)));
-        assert_eq!(rt; table.blocks(), 2);
-        copied = copied.saturating_add(table.copied());
+        copied = copied.saturating_add(copied_by(&rt, table, command));
     }
     assert_eq!(rt; (tally.clones(), copied), (29, 29));
     Ok(())
@@ -216,7 +227,7 @@ fn elements_go_with_the_last_name_of_their_block(rt: HostRuntime) -> Result<(), 
     let items = Items::new(tally.elements(alloc, 3)?);
     drop(table.step(VecCommand::FromList { name: 0, items }));
     for to in 1..3 {
-        assert!(rt; matches!(table.share(0, to), Outcome::Done));
+        assert!(rt; is_done(table.share(0, to)));
     }
     drop(table.step(VecCommand::Drop { name: 0 }));
     drop(table.step(VecCommand::Clear { name: 1 }));
@@ -232,7 +243,7 @@ fn elements_go_with_the_last_name_of_their_block(rt: HostRuntime) -> Result<(), 
 #[test]
 fn elements_without_a_clone_are_shared(rt: HostRuntime) -> Result<(), Fail> {
     let mut table: Counted<Single> = Counted::new(rt.alloc());
-    assert!(rt; matches!(table.share(0, 1), Outcome::Refused(Refusal::NoName)));
+    assert!(rt; refusal_of(table.share(0, 1)) == Some(Refusal::NoName));
     assert_eq!(rt;
         (table.owners(0), table.is_unique(0), table.blocks()),
         (None, None, 0)
@@ -243,19 +254,11 @@ fn elements_without_a_clone_are_shared(rt: HostRuntime) -> Result<(), Fail> {
 /// Runs the same commands in counted blocks and on plain lists.
 fn compared(rt: &impl Abort, alloc: Global, seed: u64, n: usize) -> Result<(), Fail> {
     let commands = Numbers::new(seed).commands(alloc, n)?;
-    let again = Numbers::new(seed).commands(alloc, n)?;
-    let mut table = Counted::new(alloc);
-    let Ok(outcomes) = table.run(commands) else {
+    let Ok(outcomes) = Counted::new(alloc).run(commands) else {
         return Err("no room for the outcomes".into());
     };
-    let mut plain: PlainStore<i64, 15> = PlainStore::new(alloc);
-    let wanted = plain.run(again)?;
-    assert_eq!(rt; outcomes.len(), wanted.len());
     assert!(rt;
-        outcomes
-            .iter()
-            .zip(wanted.iter())
-            .all(|(one, other)| same(one, other)),
+        is_plain_run(alloc, seed, n, outcomes.as_slice())?,
         "{seed}"
     );
     Ok(())

@@ -1,5 +1,6 @@
 //! Lists in counted blocks whose elements refuse their clones: everything stays as it was.
 use crate::elements::Refusing;
+use crate::outcomes::{is_done, refusal_of};
 use ecow_counted::Counted;
 use ecow_model::{Items, Name, Outcome, Refusal, VecCommand};
 use std::alloc::{AllocError, Global};
@@ -54,46 +55,57 @@ fn seen(
     Ok(numbers)
 }
 
+/// A push under the name 1.
+fn pushed(
+    table: &mut Counted<Refusing>,
+    left: &Rc<Cell<u64>>,
+) -> Result<Outcome<Refusing>, AllocError> {
+    let value = Refusing::new(4, left)?;
+    Ok(table.step(VecCommand::Push { name: 1, value }))
+}
+
 #[test]
 fn a_clone_needs_no_clone_of_an_element(rt: HostRuntime) -> Result<(), Fail> {
     let left = Rc::new(rt.alloc(), Cell::new(0))?;
     let mut table = shared(rt.alloc(), &left)?;
     assert_eq!(rt; (table.owners(0), table.blocks()), (Some(2), 1));
-    let value = Refusing::new(4, &left)?;
-    let refused = table.step(VecCommand::Push { name: 1, value });
-    assert!(rt; matches!(refused, Outcome::Refused(Refusal::Memory)));
-    assert_eq!(rt;
-        (table.owners(0), table.blocks(), table.copied()),
-        (Some(2), 1, 0)
-    );
+    let refused = pushed(&mut table, &left)?;
+    assert!(rt; refusal_of(refused) == Some(Refusal::Memory));
+    assert_eq!(rt; (table.owners(0), table.blocks()), (Some(2), 1));
+    assert_eq!(rt; table.copied(), 0);
     left.set(3);
-    let value = Refusing::new(4, &left)?;
-    assert!(rt;
-        matches!(
-            table.step(VecCommand::Push { name: 1, value }),
-            Outcome::Done
-        )
-    );
+    let done = pushed(&mut table, &left)?;
+    assert!(rt; is_done(done));
     assert_eq!(rt; (table.copied(), table.blocks()), (3, 2));
     Ok(())
+}
+
+/// A cut is refused, and what it was to cut is shared as before.
+fn refused_cut(rt: &impl Abort, table: &mut Counted<Refusing>) {
+    let refused = table.step(VecCommand::Truncate { name: 1, target: 2 });
+    assert!(rt; refusal_of(refused) == Some(Refusal::Memory));
+    assert_eq!(rt; (table.copied(), table.owners(0)), (0, Some(2)));
+}
+
+/// The items are refused, and no element is moved for them.
+fn refused_addition(rt: &impl Abort, table: &mut Counted<Refusing>, items: Items<Refusing>) {
+    let refused = table.step(VecCommand::Extend { name: 0, items });
+    assert!(rt; refusal_of(refused) == Some(Refusal::Memory));
+    assert_eq!(rt; (table.capacity(0), table.moved()), (Some(4), 0));
 }
 
 #[test]
 fn the_second_clone_is_refused(rt: HostRuntime) -> Result<(), Fail> {
     let left = Rc::new(rt.alloc(), Cell::new(1))?;
     let mut table = shared(rt.alloc(), &left)?;
-    let refused = table.step(VecCommand::Truncate { name: 1, target: 2 });
-    assert!(rt; matches!(refused, Outcome::Refused(Refusal::Memory)));
-    assert_eq!(rt; (table.copied(), table.owners(0)), (0, Some(2)));
+    refused_cut(&rt, &mut table);
     drop(table.step(VecCommand::Drop { name: 1 }));
     left.set(1);
     let items = numbers(rt.alloc(), &[4, 5, 6], &left)?;
-    let refused = table.step(VecCommand::Extend { name: 0, items });
-    assert!(rt; matches!(refused, Outcome::Refused(Refusal::Memory)));
-    assert_eq!(rt; (table.capacity(0), table.moved()), (Some(4), 0));
+    refused_addition(&rt, &mut table, items);
     assert_eq!(rt;
-        seen(rt.alloc(), &mut table, &left)?,
-        vec![in rt.alloc(); 0, 0, 1, 1, 4, 1, 2, 3, 0, 0, 0, 0, 0, 0, 0, 0]?
+        seen(rt.alloc(), &mut table, &left)?.as_slice(),
+        [0, 0, 1, 1, 4, 1, 2, 3, 0, 0, 0, 0, 0, 0, 0, 0].as_slice()
     );
     Ok(())
 }
@@ -102,16 +114,17 @@ fn the_second_clone_is_refused(rt: HostRuntime) -> Result<(), Fail> {
 fn script(alloc: Global, left: &Rc<Cell<u64>>) -> Result<Vec<VecCommand<Refusing>>, AllocError> {
     let bounds = (Bound::Included(1), Bound::Excluded(2));
     let nothing = (Bound::Included(1), Bound::Excluded(1));
+    let items = numbers(alloc, &[1, 2, 3, 4, 5], left)?;
+    let replacement = numbers(alloc, &[7, 8, 9], left)?;
+    let added = numbers(alloc, &[6, 7], left)?;
+    let value = Refusing::new(8, left)?;
     let commands = vec![in alloc;
-        VecCommand::FromList {
-            name: 0,
-            items: numbers(alloc, &[1, 2, 3, 4, 5], left)?
-        },
+        VecCommand::FromList { name: 0, items },
         VecCommand::Clone { from: 0, to: 1 },
         VecCommand::Splice {
             name: 1,
             bounds,
-            items: numbers(alloc, &[7, 8, 9], left)?
+            items: replacement
         },
         VecCommand::Clone { from: 1, to: 2 },
         VecCommand::Truncate { name: 2, target: 4 },
@@ -122,13 +135,10 @@ fn script(alloc: Global, left: &Rc<Cell<u64>>) -> Result<Vec<VecCommand<Refusing
         },
         VecCommand::Extend {
             name: 0,
-            items: numbers(alloc, &[6, 7], left)?
+            items: added
         },
         VecCommand::Clone { from: 0, to: 4 },
-        VecCommand::Push {
-            name: 4,
-            value: Refusing::new(8, left)?
-        },
+        VecCommand::Push { name: 4, value },
     ]?;
     Ok(commands)
 }

@@ -1,4 +1,5 @@
 //! Elements that tell what is done to them.
+use ecow_list::{EcoError, EcoVec};
 use std::alloc::{AllocError, Global};
 use std::cell::Cell;
 use std::rc::Rc;
@@ -41,6 +42,11 @@ impl Tally {
             elements.push(self.element()?)?;
         }
         Ok(elements)
+    }
+
+    /// A vector of elements that count here.
+    pub(crate) fn list(&self, alloc: Global, n: usize) -> Result<EcoVec<Counting>, EcoError> {
+        EcoVec::from_vec(alloc, self.elements(alloc, n)?).map_err(|rejected| rejected.error)
     }
 }
 

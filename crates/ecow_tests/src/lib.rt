@@ -26,6 +26,8 @@ mod iterators;
 mod laws;
 pub mod numbers;
 #[cfg(test)]
+mod outcomes;
+#[cfg(test)]
 mod plain;
 #[cfg(test)]
 mod program;

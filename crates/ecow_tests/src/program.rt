@@ -1,7 +1,7 @@
 //! The program over readers and writers in memory: what it prints, how it ends, and which words
 //! it takes.
 use ecow_tool::{End, Reason, read_arguments, run_counted, run_store};
-use std::alloc::Global;
+use std::alloc::{AllocError, Global};
 use std::io;
 use std::io::{ErrorKind, Read, Write};
 use std::process::Abort;
@@ -199,17 +199,23 @@ fn bytes_that_are_no_text(rt: HostRuntime) {
     assert_eq!(rt; written.len(), 0);
 }
 
+/// What the program reads from the words.
+fn arguments(alloc: Global, words: &[&str]) -> Result<Option<(bool, usize)>, AllocError> {
+    let mut arguments = Vec::new(alloc);
+    for word in words {
+        arguments.push(word.to_string(alloc)?)?;
+    }
+    Ok(read_arguments(arguments.as_slice()))
+}
+
 #[test]
 fn arguments_name_one_file(rt: HostRuntime) -> Result<(), Fail> {
-    let file = "file".to_string(rt.alloc())?;
-    let flag = "--counted".to_string(rt.alloc())?;
+    let alloc = rt.alloc();
     assert_eq!(rt; read_arguments(&[]), None);
-    assert_eq!(rt; read_arguments(&[file.clone()?]), Some((false, 0)));
-    assert_eq!(rt; read_arguments(&[flag.clone()?]), None);
-    let words = [flag, file];
-    assert_eq!(rt; read_arguments(&words), Some((true, 1)));
-    let [flag, file] = words;
-    assert_eq!(rt; read_arguments(&[file, flag]), None);
+    assert_eq!(rt; arguments(alloc, &["file"])?, Some((false, 0)));
+    assert_eq!(rt; arguments(alloc, &["--counted"])?, None);
+    assert_eq!(rt; arguments(alloc, &["--counted", "file"])?, Some((true, 1)));
+    assert_eq!(rt; arguments(alloc, &["file", "--counted"])?, None);
     Ok(())
 }
 

@@ -1,5 +1,6 @@
 //! Elements whose clones are refused: everything stays as it was, and values come back.
 use crate::elements::Refusing;
+use crate::outcomes::refusal_of;
 use ecow_list::{EcoError, EcoVec};
 use ecow_model::{Items, Outcome, Refusal, VecCommand};
 use ecow_tool::Store;
@@ -110,8 +111,8 @@ fn a_refused_command_changes_nothing(rt: HostRuntime) -> Result<(), Fail> {
     let mut store = Store::new(rt.alloc());
     drop(store.step(VecCommand::FromList { name: 0, items }));
     drop(store.step(VecCommand::Clone { from: 0, to: 1 }));
-    let pushed = store.step(VecCommand::Pop { name: 1 });
-    assert!(rt; matches!(&pushed, Outcome::Refused(Refusal::Memory)));
+    let popped = store.step(VecCommand::Pop { name: 1 });
+    assert!(rt; refusal_of(popped) == Some(Refusal::Memory));
     let len = store.step(VecCommand::Len { name: 1 });
     assert!(rt; matches!(&len, Outcome::Count(3)));
     Ok(())

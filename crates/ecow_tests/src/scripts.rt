@@ -1,28 +1,38 @@
 //! The store beside the plain program, on lists of commands that a seed decides.
 use crate::commands::same;
 use crate::numbers::Numbers;
+use ecow_model::Outcome;
 use ecow_plain::PlainStore;
 use ecow_tool::Store;
-use std::alloc::Global;
+use std::alloc::{AllocError, Global};
 use std::process::Abort;
 use std::test::Fail;
+
+/// Whether the outcomes are those of the plain program on `n` commands that the seed decides.
+pub(crate) fn is_plain_run(
+    alloc: Global,
+    seed: u64,
+    n: usize,
+    outcomes: &[Outcome<i64>],
+) -> Result<bool, AllocError> {
+    let commands = Numbers::new(seed).commands(alloc, n)?;
+    let mut plain: PlainStore<i64, 15> = PlainStore::new(alloc);
+    let wanted = plain.run(commands)?;
+    let same = outcomes
+        .iter()
+        .zip(wanted.iter())
+        .all(|(one, other)| same(one, other));
+    Ok(same && outcomes.len() == wanted.len())
+}
 
 /// Runs the same commands through both.
 fn compared(rt: &impl Abort, alloc: Global, seed: u64, n: usize) -> Result<(), Fail> {
     let commands = Numbers::new(seed).commands(alloc, n)?;
-    let again = Numbers::new(seed).commands(alloc, n)?;
-    let mut store = Store::new(alloc);
-    let Ok(outcomes) = store.run(commands) else {
+    let Ok(outcomes) = Store::new(alloc).run(commands) else {
         return Err("no room for the outcomes".into());
     };
-    let mut plain: PlainStore<i64, 15> = PlainStore::new(alloc);
-    let wanted = plain.run(again)?;
-    assert_eq!(rt; outcomes.len(), wanted.len());
     assert!(rt;
-        outcomes
-            .iter()
-            .zip(wanted.iter())
-            .all(|(one, other)| same(one, other)),
+        is_plain_run(alloc, seed, n, outcomes.as_slice())?,
         "{seed}"
     );
     Ok(())

@@ -21,17 +21,32 @@ fn shared_three(alloc: Global) -> Result<(EcoVec<u8>, EcoVec<u8>), Fail> {
     Ok((first, second))
 }
 
+/// Whether a vector shares no block, and has room for `capacity`.
+fn is_unique_with(list: &mut EcoVec<u8>, capacity: usize) -> bool {
+    list.is_unique() && list.capacity() == capacity
+}
+
+/// Whether a vector shares no block, and has three elements.
+fn is_unique_of_three(list: &mut EcoVec<u8>) -> bool {
+    list.is_unique() && list.len() == 3
+}
+
 #[test]
 fn without_a_block_vectors_are_unique(rt: HostRuntime) -> Result<(), Fail> {
     let mut first = EcoVec::<u8>::new(rt.alloc());
     let mut second = first.clone()?;
     assert!(rt; first.is_unique() && second.is_unique());
     let mut none = EcoVec::<u8>::with_capacity(rt.alloc(), 0)?;
-    assert!(rt; none.is_unique() && none.capacity() == 0);
+    assert!(rt; is_unique_with(&mut none, 0));
+    Ok(())
+}
+
+#[test]
+fn the_last_vector_of_a_block_is_unique(rt: HostRuntime) -> Result<(), Fail> {
     let (mut first, mut second) = shared_empty(rt.alloc())?;
     assert!(rt; !first.is_unique() && !second.is_unique());
     drop(second);
-    assert!(rt; first.is_unique() && first.capacity() == 3);
+    assert!(rt; is_unique_with(&mut first, 3));
     Ok(())
 }
 
@@ -49,19 +64,35 @@ fn calls_that_leave_an_empty_vector_shared(rt: HostRuntime) -> Result<(), Fail> 
 }
 
 #[test]
-fn calls_that_unshare_an_empty_vector(rt: HostRuntime) -> Result<(), Fail> {
+fn retain_unshares_an_empty_vector(rt: HostRuntime) -> Result<(), Fail> {
     let (mut first, second) = shared_empty(rt.alloc())?;
     first.retain(|_| true)?;
-    assert!(rt; first.is_unique() && first.capacity() == 0 && second.capacity() == 3);
+    assert!(rt; is_unique_with(&mut first, 0));
+    assert_eq!(rt; second.capacity(), 3);
+    Ok(())
+}
+
+#[test]
+fn drain_unshares_an_empty_vector(rt: HostRuntime) -> Result<(), Fail> {
     let (mut first, _second) = shared_empty(rt.alloc())?;
     drop(first.drain(..)?);
-    assert!(rt; first.is_unique() && first.capacity() == 0);
+    assert!(rt; is_unique_with(&mut first, 0));
+    Ok(())
+}
+
+#[test]
+fn make_mut_unshares_an_empty_vector(rt: HostRuntime) -> Result<(), Fail> {
     let (mut first, _second) = shared_empty(rt.alloc())?;
     assert_eq!(rt; first.make_mut()?.len(), 0);
-    assert!(rt; first.is_unique() && first.capacity() == 0);
+    assert!(rt; is_unique_with(&mut first, 0));
+    Ok(())
+}
+
+#[test]
+fn reserve_unshares_an_empty_vector(rt: HostRuntime) -> Result<(), Fail> {
     let (mut first, _second) = shared_empty(rt.alloc())?;
     first.reserve(0)?;
-    assert!(rt; first.is_unique() && first.capacity() == 3);
+    assert!(rt; is_unique_with(&mut first, 3));
     Ok(())
 }
 
@@ -72,10 +103,15 @@ fn calls_that_leave_some_elements_shared(rt: HostRuntime) -> Result<(), Fail> {
     first.extend_from_slice(&[])?;
     assert!(rt; !first.is_unique());
     first.clear();
-    assert!(rt; first.is_unique() && first.capacity() == 0);
+    assert!(rt; is_unique_with(&mut first, 0));
+    Ok(())
+}
+
+#[test]
+fn a_vector_that_is_cut_to_none_leaves_its_block(rt: HostRuntime) -> Result<(), Fail> {
     let (mut first, _second) = shared_three(rt.alloc())?;
     first.truncate(0)?;
-    assert!(rt; first.is_unique() && first.capacity() == 0);
+    assert!(rt; is_unique_with(&mut first, 0));
     Ok(())
 }
 
@@ -90,29 +126,44 @@ fn calls_that_only_read(rt: HostRuntime) -> Result<(), Fail> {
 }
 
 #[test]
-fn a_splice_of_an_empty_vector(rt: HostRuntime) -> Result<(), Fail> {
+fn a_splice_of_nothing_into_an_empty_vector(rt: HostRuntime) -> Result<(), Fail> {
     let (mut first, _second) = shared_empty(rt.alloc())?;
     drop(first.splice(.., None)?);
-    assert!(rt; first.is_unique() && first.capacity() == 0);
-    let (mut first, second) = shared_empty(rt.alloc())?;
-    drop(first.splice(.., Some(7))?);
-    assert_eq!(rt; (first.as_slice(), first.capacity()), ([7u8].as_slice(), 4));
-    assert!(rt; first.is_unique() && second.is_empty());
+    assert!(rt; is_unique_with(&mut first, 0));
     Ok(())
 }
 
 #[test]
-fn calls_that_unshare_though_nothing_changes(rt: HostRuntime) -> Result<(), Fail> {
+fn a_splice_into_an_empty_vector(rt: HostRuntime) -> Result<(), Fail> {
+    let (mut first, second) = shared_empty(rt.alloc())?;
+    drop(first.splice(.., Some(7))?);
+    assert_eq!(rt; first.as_slice(), [7u8].as_slice());
+    assert!(rt; is_unique_with(&mut first, 4) && second.is_empty());
+    Ok(())
+}
+
+#[test]
+fn a_drain_of_nothing_unshares(rt: HostRuntime) -> Result<(), Fail> {
     let (mut first, _second) = shared_three(rt.alloc())?;
     assert_eq!(rt; first.drain(..0)?.len(), 0);
-    assert!(rt; first.is_unique() && first.len() == 3);
+    assert!(rt; is_unique_of_three(&mut first));
+    Ok(())
+}
+
+#[test]
+fn a_retain_of_everything_unshares(rt: HostRuntime) -> Result<(), Fail> {
     let (mut first, _second) = shared_three(rt.alloc())?;
     first.retain(|_| true)?;
-    assert!(rt; first.is_unique() && first.len() == 3);
+    assert!(rt; is_unique_of_three(&mut first));
+    Ok(())
+}
+
+#[test]
+fn a_loan_for_writing_unshares(rt: HostRuntime) -> Result<(), Fail> {
     let (mut first, _second) = shared_three(rt.alloc())?;
     assert_eq!(rt; first.make_mut()?.len(), 3);
     first.reserve(0)?;
-    assert!(rt; first.is_unique() && first.len() == 3);
+    assert!(rt; is_unique_of_three(&mut first));
     Ok(())
 }
 
@@ -172,9 +223,7 @@ fn done<T: Drop>(rt: &impl Abort, outcome: Outcome<T>) {
 #[test]
 fn drops_come_at_once_and_once(rt: HostRuntime) -> Result<(), Fail> {
     let tally = Tally::new(rt.alloc())?;
-    let Ok(mut first) = EcoVec::from_vec(rt.alloc(), tally.elements(rt.alloc(), 1000)?) else {
-        return Err("no memory".into());
-    };
+    let mut first = tally.list(rt.alloc(), 1000)?;
     assert_eq!(rt; tally.clones(), 0);
     first.truncate(900)?;
     assert_eq!(rt; tally.drops(), 100);
@@ -189,10 +238,7 @@ fn drops_come_at_once_and_once(rt: HostRuntime) -> Result<(), Fail> {
 #[test]
 fn iterators_drop_what_is_left_once(rt: HostRuntime) -> Result<(), Fail> {
     let tally = Tally::new(rt.alloc())?;
-    let Ok(list) = EcoVec::from_vec(rt.alloc(), tally.elements(rt.alloc(), 1000)?) else {
-        return Err("no memory".into());
-    };
-    let Ok(mut rest) = list.into_iter() else {
+    let Ok(mut rest) = tally.list(rt.alloc(), 1000)?.into_iter() else {
         return Err("no memory".into());
     };
     for _ in 0..400 {
@@ -208,9 +254,7 @@ fn iterators_drop_what_is_left_once(rt: HostRuntime) -> Result<(), Fail> {
 #[test]
 fn a_sole_vector_moves_its_elements_out(rt: HostRuntime) -> Result<(), Fail> {
     let tally = Tally::new(rt.alloc())?;
-    let Ok(list) = EcoVec::from_vec(rt.alloc(), tally.elements(rt.alloc(), 3)?) else {
-        return Err("no memory".into());
-    };
+    let list = tally.list(rt.alloc(), 3)?;
     let shared = list.clone()?;
     assert!(rt; shared.into_vec().is_ok());
     assert_eq!(rt; (tally.clones(), tally.drops()), (3, 3));

@@ -2,13 +2,19 @@
 use ecow_list::{EcoError, EcoVec, IntoArray, eco_vec, range_in};
 use std::alloc::{AllocError, Global};
 use std::io::Write;
+use std::process::Abort;
 use std::test::Fail;
+
+fn two_words(alloc: Global) -> Result<EcoVec<&'static str>, EcoError> {
+    let mut list = EcoVec::new(alloc);
+    put(&mut list, 0, "okay")?;
+    put(&mut list, 0, "reverse")?;
+    Ok(list)
+}
 
 #[test]
 fn inserts_into_a_clone_stay_apart(rt: HostRuntime) -> Result<(), Fail> {
-    let mut first = EcoVec::new(rt.alloc());
-    put(&mut first, 0, "okay")?;
-    put(&mut first, 0, "reverse")?;
+    let mut first = two_words(rt.alloc())?;
     let mut second = first.clone()?;
     put(&mut first, 2, "a")?;
     put(&mut first, 1, "b")?;
@@ -85,6 +91,10 @@ fn owned_iterators_go_from_both_ends(rt: HostRuntime) -> Result<(), Fail> {
     Ok(())
 }
 
+fn holds(rt: &impl Abort, elements: &[u8], wanted: &[u8]) {
+    assert_eq!(rt; elements, wanted);
+}
+
 #[test]
 fn retain_keeps_the_changed_elements(rt: HostRuntime) -> Result<(), Fail> {
     let mut list = eco_vec![in rt.alloc(); 1u8, 2, 3, 4]?;
@@ -95,9 +105,9 @@ fn retain_keeps_the_changed_elements(rt: HostRuntime) -> Result<(), Fail> {
         *element = element.wrapping_mul(2);
         *element > 4
     })?;
-    assert_eq!(rt; list.as_slice(), [6u8, 8].as_slice());
-    assert_eq!(rt; seen.as_slice(), [1u8, 2, 3, 4].as_slice());
-    assert_eq!(rt; clone.as_slice(), [1u8, 2, 3, 4].as_slice());
+    holds(&rt, list.as_slice(), &[6u8, 8]);
+    holds(&rt, seen.as_slice(), &[1u8, 2, 3, 4]);
+    holds(&rt, clone.as_slice(), &[1u8, 2, 3, 4]);
     Ok(())
 }
 
@@ -143,8 +153,8 @@ fn a_piece_is_written_whole(rt: HostRuntime) -> Result<(), Fail> {
     let copy = bytes.clone()?;
     bytes.write_all(b"world!")?;
     bytes.flush()?;
-    assert_eq!(rt; bytes.as_slice(), b"Hello, world!".as_slice());
-    assert_eq!(rt; copy.as_slice(), b"Hello, ".as_slice());
+    holds(&rt, bytes.as_slice(), b"Hello, world!");
+    holds(&rt, copy.as_slice(), b"Hello, ");
     Ok(())
 }
 
