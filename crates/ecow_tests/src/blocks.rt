@@ -183,10 +183,13 @@ fn a_refused_clone_leaves_the_block(rt: HostRuntime) -> Result<(), AllocError> {
     Ok(())
 }
 
-/// So many that they aren't cloned one by one.
-#[test]
-fn a_refused_clone_among_many_leaves_the_block(rt: HostRuntime) -> Result<(), AllocError> {
-    let counts = Counts::new(290);
+/// Appends clones of 300 elements, of which the clone with this number is refused, and then again.
+fn refused_among_many(
+    rt: &(impl Abort + AllocGlobal),
+    refused: u32,
+    made: u32,
+) -> Result<(), AllocError> {
+    let counts = Counts::new(refused);
     let mut elements = Vec::new(rt.alloc());
     for _ in 0..300 {
         elements.push(Counted { counts: &counts })?;
@@ -194,11 +197,18 @@ fn a_refused_clone_among_many_leaves_the_block(rt: HostRuntime) -> Result<(), Al
     let mut block = Block::with_capacity(rt.alloc(), 300)?;
     if elements.len() <= 300 {
         assert!(rt; block.extend_within(elements.as_slice()).is_err());
-        assert_eq!(rt; (block.len(), counts.drops.get()), (0, 289));
+        assert_eq!(rt; (block.len(), counts.drops.get()), (0, made));
         assert!(rt; block.extend_within(elements.as_slice()).is_ok());
-        assert_eq!(rt; (block.len(), counts.drops.get()), (300, 289));
+        assert_eq!(rt; (block.len(), counts.drops.get()), (300, made));
     }
     Ok(())
+}
+
+#[test]
+fn a_refused_clone_among_many_leaves_the_block(rt: HostRuntime) -> Result<(), AllocError> {
+    refused_among_many(&rt, 1, 0)?;
+    refused_among_many(&rt, 200, 199)?;
+    refused_among_many(&rt, 290, 289)
 }
 
 #[test]
