@@ -81,7 +81,28 @@ impl<T: Clone> EcoVec<T> {
     }
 
     /// Puts `value` in at `index`, before the element that stands there.
+    #[inline]
     pub fn insert(&mut self, index: usize, value: T) -> Result<(), Rejected<T>>
+        requires { index ≤ length self.old }
+        ensures ok { ClonesAreEqual T.is_clone → OnOk result (self.new ≡ insert self.old index value) }
+        ensures len { OnOk result (length self.new ≡ length self.old + 1) }
+        ensures err { OnErr result (self.new ≡ self.old) }
+        ensures value_returned { IfErr result (λ rejected. rejected.value ≡ value) }
+        ensures capacity { IsErrAnd result (λ rejected. rejected.error ≡ EcoError.Capacity) ↔ (MAX_LEN ≤ length self.old) }
+    {
+        if let Some(block) = self.sole_block()
+            && block.len() < block.capacity()
+        {
+            block.insert_within(index, value);
+            return Ok(());
+        }
+        self.insert_growing(index, value)
+    }
+
+    /// The same where the block is full, shared or not there.
+    #[cold]
+    #[inline(never)]
+    fn insert_growing(&mut self, index: usize, value: T) -> Result<(), Rejected<T>>
         requires { index ≤ length self.old }
         ensures ok { ClonesAreEqual T.is_clone → OnOk result (self.new ≡ insert self.old index value) }
         ensures len { OnOk result (length self.new ≡ length self.old + 1) }
