@@ -300,8 +300,8 @@ impl<T> Block<T> {
         self.room.append(middle);
     }
 
-    /// Puts the elements of `replacement` in place of those from `start` up to `end`. There is room for them here, and in
-    /// `replacement` for those that it takes their place of, which are given in its memory.
+    /// Puts the elements of `replacement`, for which there is room, in place of those from `start` up to `end`, and gives those
+    /// in the memory of `replacement`, in which there is room for them.
     pub fn splice_within(&mut self, start: usize, end: usize, replacement: Block<T>) -> Rest<T>
         requires ordered { start ≤ end }
         requires in_bounds { end ≤ length self.old.items }
