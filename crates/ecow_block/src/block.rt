@@ -1,5 +1,5 @@
 //! A list of elements with a capacity number, over raw memory. Nothing here touches a pointer.
-ghost use Rattle.std.specs.Prelude.{◌≡◌, ◌+◌, ◌*◌, ◌-◌, ◌^◌, ◌<◌, ◌≤◌, ◌==◌, List, [], ◌∷◌, ◌++◌, length, take, drop, slice_get, Some, IfOk, IfErr, OnOk, OnErr, IsOk, insert, remove, slice_range, slice_set, if◌then◌else◌, is_ok, vec_len};
+ghost use Rattle.std.specs.Prelude.{◌≡◌, ◌+◌, ◌*◌, ◌-◌, ◌<◌, ◌≤◌, ◌==◌, [], ◌∷◌, ◌++◌, length, take, drop, slice_get, Some, IfOk, OnOk, OnErr, IsOk, insert, remove, slice_range, slice_set, if◌then◌else◌, is_ok, vec_len};
 ghost use Rattle.std.specs.Borrow.{sem};
 ghost use Rattle.std.specs.Fn.{CalledAtMut};
 ghost use Rattle.std.specs.List.{AllZip, insert_slice, remove_range, splice};

@@ -1,7 +1,7 @@
 //! The calls that change a vector in place. Each has two paths: a sole block is changed where it
 //! is, and the elements of a shared one are copied into a new block, which is changed and then
 //! takes the old one's place; so a refusal leaves all as it was.
-ghost use Rattle.std.specs.Prelude.{◌≡◌, ◌+◌, ◌-◌, ◌<◌, ◌≤◌, ◌↔◌, [], ◌∷◌, ◌++◌, length, take, IsOk, IfOk, IfErr, OnOk, OnErr, IsErrAnd, IsErrOf, IsSome, Some, insert, remove, slice_get, slice_set, min};
+ghost use Rattle.std.specs.Prelude.{◌≡◌, ◌+◌, ◌-◌, ◌<◌, ◌≤◌, ◌↔◌, [], ◌++◌, length, take, IsOk, IfOk, IfErr, OnOk, OnErr, IsErrAnd, IsErrOf, IsSome, Some, insert, remove, slice_get, slice_set, min};
 ghost use Rattle.std.specs.Fn.{CalledAtMut};
 ghost use Rattle.std.specs.List.Retain.{RetainsInTurn};
 ghost use Rattle.ecow_base.specs.Clones.{ClonesAreEqual};

@@ -1,5 +1,5 @@
 //! The calls on a range of elements.
-ghost use Rattle.std.specs.Prelude.{◌≡◌, ◌+◌, ◌-◌, ◌<◌, ◌≤◌, ◌↔◌, length, vec_len, IfOk, IfErr, OnOk, OnErr, IsErrOf, IsSome, slice_range, List};
+ghost use Rattle.std.specs.Prelude.{◌≡◌, ◌+◌, ◌-◌, ◌<◌, ◌≤◌, ◌↔◌, length, IfOk, IfErr, OnOk, OnErr, IsErrOf, IsSome, slice_range, List};
 ghost use Rattle.std.specs.List.{remove_range, splice};
 ghost use Rattle.std.specs.Iterator.{IsFinite};
 ghost use Rattle.ecow_base.specs.Clones.{ClonesAreEqual};
