@@ -2,7 +2,7 @@
 use crate::elements::Refusing;
 use crate::outcomes::{is_done, refusal_of};
 use ecow_counted::Counted;
-use ecow_model::{Items, Name, Outcome, Refusal, VecCommand};
+use ecow_model::{Items, Outcome, Refusal, VecCommand};
 use std::alloc::{AllocError, Global};
 use std::cell::Cell;
 use std::ops::Bound;
