@@ -7,26 +7,31 @@ use Rattle.std.proofs.lemmas.Bool.{cases_Bool, ltb-false, eqb-false}
 use Rattle.std.specs.Ordering.{nat_cmp}
 use Rattle.std.proofs.lemmas.Option.{none-some}
 use Rattle.ecow_base.specs.Capacity.{MAX}
-use Rattle.ecow_model.specs.Access.{◌>>=◌, makes, copies as copies_from, drops, changes, reads, OnRefused, there, free, name_in}
-use Rattle.ecow_model.specs.Costs.{unshares, copies, capacity_after, moves, input, copied_by, moved_by}
-use Rattle.ecow_model.specs.CountedRun.{nothing, held_at, reading_of, change, counted_act, counted_step, counted_is_free, CountedStep, CountedRun, if_accepted, names_given, names_after, copied, moved, eager, copied_in_run, moved_in_run, eager_in_run, input_in_run, CopiesAtMostEagerly, MovesArePaid}
+use Rattle.ecow_model.specs.Refusing.{◌>>=◌, OnRefused}
+use Rattle.ecow_model.specs.Values.{there, unused}
+use Rattle.ecow_model.specs.Uses.{Gives}
+use Rattle.ecow_model.specs.Lists.{ListUsage, list_made, list_edited, list_asked, vec_usage}
+use Rattle.ecow_model.specs.Costs.{capacity_made, unshares, copies, capacity_after, moves, input_made, input_edited, copied_by, moved_by}
+use Rattle.ecow_model.specs.CountedRun.{nothing, held_at, reading_of, change, counted_used, counted_is_free, IsCountedUse, CountedStep, CountedRun, if_accepted, names_given, names_after, copied_in, moved_in, eager_in, input_in, copied_in_run, moved_in_run, eager_in_run, input_in_run, CopiesAtMostEagerly, MovesArePaid}
 use Rattle.ecow_model.specs.Names.{Names, Held, IsSharing, is_shared, forget, settle, join, debt, debt_of, strain, strain_of, strain_at}
-use Rattle.ecow_model.specs.Run.{StepBy}
-use Rattle.ecow_model.specs.VecStep.{vec_access, list_change}
-use Rattle.ecow_model.specs.declared.command.VecCommand.{VecCommand}
-use Rattle.ecow_model.specs.declared.command.VecCommand.TheVariants.{New, WithCapacity, FromList, FromElem, Clone, Drop, Push, Pop, Insert, Remove, Truncate, Clear, Retain, Drain, Splice, Extend, Reserve, Write, Read, Len, Contents, Capacity, Unique}
+use Rattle.ecow_model.specs.declared.usage.Usage.TheVariants.{Make, Derive, Drop, Change as Edit, Ask}
+use Rattle.ecow_model.specs.declared.lists.ListMake.{ListMake}
+use Rattle.ecow_model.specs.declared.lists.ListDerive.{ListDerive}
+use Rattle.ecow_model.specs.declared.lists.ListEdit.{ListEdit}
+use Rattle.ecow_model.specs.declared.lists.ListAsk.{ListAsk}
+use Rattle.ecow_model.specs.declared.lists.VecCommand.{VecCommand}
 use Rattle.ecow_model.specs.declared.command.Outcome.{Outcome}
 use Rattle.ecow_model.specs.declared.command.Outcome.TheVariants.{Refused}
 use Rattle.ecow_model.specs.declared.command.Refusal.{Refusal}
 use Rattle.ecow_model.specs.declared.command.Refusal.TheVariants.{Taken, Memory}
-use Rattle.ecow_model.proofs.Lists.{found_value}
+use Rattle.ecow_model.proofs.PutBack.{found_value}
 use Rattle.ecow_laws.proofs.Groups.{is_sole_owner, debt-forget, blocks-forget}
 use Rattle.ecow_laws.proofs.Totals.{total-empty}
 use Rattle.ecow_laws.proofs.Kept.{sharing-forget, sharing-settle, debt-settle, blocks-settle}
 use Rattle.ecow_laws.proofs.Joined.{sharing-join, debt-join, blocks-join}
 use Rattle.ecow_laws.proofs.Settled.{forget_absent, empty_of}
-use Rattle.ecow_laws.proofs.Lengths.{LengthIs, is_answer}
-use Rattle.ecow_laws.proofs.Steps.{IsPaidSole, IsPaidShared, paid_sole, paid_shared}
+use Rattle.ecow_laws.proofs.Lengths.{LengthMade, LengthIs, is_made, is_answer, is_asked}
+use Rattle.ecow_laws.proofs.Steps.{IsPaidMade, IsPaidSole, IsPaidShared, paid_made, paid_sole, paid_shared}
 
 settled : (b : Bool) (m : ℕ) → cond b m 0 ≤ m
 settled true m = omega arith
@@ -44,15 +49,15 @@ absent None u e = refl
 absent (Some v) u e = cc
 
 module _ {T : Type 0} where
-  -- an answer keeps what groups are, and pays for what is copied and moved; `owes` is what copying at once would copy
-  pub record IsPaid (c : VecCommand T) (h : Held T) (owes : ℕ) (old new : Names T) : Type 0 where
+  -- an answer keeps what groups are, and pays for what is copied and moved, where so much was brought; `owes` is what copying at once would copy
+  pub record IsPaid (copying moving brought owes : ℕ) (old new : Names T) : Type 0 where
     pub sharing : IsSharing new
-    pub copies_paid : copied_by c h + debt new ≤ debt old + owes
-    pub moves_paid : moved_by c h + strain new ≤ strain old + copied_by c h + 2 * input c
+    pub copies_paid : copying + debt new ≤ debt old + owes
+    pub moves_paid : moving + strain new ≤ strain old + copying + 2 * brought
 
   module _ (names : Names T) (groups : IsSharing names) where
     -- x, which holds h, settles with this list
-    module _ (x : ℕ) (h : Held T) (at : finite.get names x ≡ Some h) (c : VecCommand T) (items : List T) (is : LengthIs c (length h.items) (length items)) where
+    module _ (x : ℕ) (h : Held T) (at : finite.get names x ≡ Some h) (edit : ListEdit T) (items : List T) (is : LengthIs edit (length h.items) (length items)) where
       within : length h.items ≤ h.capacity
       within = (groups.fits x h at).0
 
@@ -69,13 +74,13 @@ module _ {T : Type 0} where
       owed : debt names ≡ debt (forget x names) + cond (is_shared h) (length h.items) 0
       owed = debt-forget names groups x h at
 
-      by_sharing : is_shared h ≡ true → unshares c (length h.items) ≡ true → IsPaid c h 0 names (change c x h items names)
+      by_sharing : is_shared h ≡ true → unshares edit (length h.items) ≡ true → IsPaid (copied_by edit h) (moved_by edit h) (input_edited edit) 0 names (change edit x h items names)
       by_sharing shared leaves =
-          let paid : IsPaidShared c (length h.items) (length items) h.capacity = paid_shared (length h.items) (length items) h.capacity within small c is leaves in
-          let capacity : ℕ = capacity_after c true (length h.items) h.capacity in
-          let goes : change c x h items names ≡ settle x items capacity names = (λ i. cond (shared i && not (leaves i)) names (settle x items (capacity_after c (shared i) (length h.items) h.capacity) names)) in
-          let cost : copied_by c h ≡ copies c (length h.items) = (λ i. cond (shared i && leaves i) (copies c (length h.items)) 0) in
-          let growth : moved_by c h ≡ 0 = ap (λ b. cond b 0 (moves c (length h.items) h.capacity)) shared in
+          let paid : IsPaidShared edit (length h.items) (length items) h.capacity = paid_shared (length h.items) (length items) h.capacity within small edit is leaves in
+          let capacity : ℕ = capacity_after edit true (length h.items) h.capacity in
+          let goes : change edit x h items names ≡ settle x items capacity names = (λ i. cond (shared i && not (leaves i)) names (settle x items (capacity_after edit (shared i) (length h.items) h.capacity) names)) in
+          let cost : copied_by edit h ≡ copies edit (length h.items) = (λ i. cond (shared i && leaves i) (copies edit (length h.items)) 0) in
+          let growth : moved_by edit h ≡ 0 = ap (λ b. cond b 0 (moves edit (length h.items) h.capacity)) shared in
           let owes : cond (is_shared h) (length h.items) 0 ≡ length h.items = ap (λ b. cond b (length h.items) 0) shared in
           let free : debt (settle x items capacity names) ≡ debt (forget x names) = debt-settle names x groups items capacity paid.fits paid.small in
           let strained : strain (settle x items capacity names) ≡ strain (forget x names) + cond (ltb 0 capacity) (strain_at (length items) capacity) 0 = after_settle capacity paid.fits paid.small in
@@ -86,11 +91,11 @@ module _ {T : Type 0} where
             moves_paid = rw goes (omega (arith, cost, growth, strained, bound, strain_left, paid.moved));
           }
 
-      by_staying : is_shared h ≡ true → unshares c (length h.items) ≡ false → IsPaid c h 0 names (change c x h items names)
+      by_staying : is_shared h ≡ true → unshares edit (length h.items) ≡ false → IsPaid (copied_by edit h) (moved_by edit h) (input_edited edit) 0 names (change edit x h items names)
       by_staying shared stays =
-          let goes : change c x h items names ≡ names = (λ i. cond (shared i && not (stays i)) names (settle x items (capacity_after c (shared i) (length h.items) h.capacity) names)) in
-          let cost : copied_by c h ≡ 0 = (λ i. cond (shared i && stays i) (copies c (length h.items)) 0) in
-          let growth : moved_by c h ≡ 0 = ap (λ b. cond b 0 (moves c (length h.items) h.capacity)) shared in
+          let goes : change edit x h items names ≡ names = (λ i. cond (shared i && not (stays i)) names (settle x items (capacity_after edit (shared i) (length h.items) h.capacity) names)) in
+          let cost : copied_by edit h ≡ 0 = (λ i. cond (shared i && stays i) (copies edit (length h.items)) 0) in
+          let growth : moved_by edit h ≡ 0 = ap (λ b. cond b 0 (moves edit (length h.items) h.capacity)) shared in
           record {
             sharing = subst IsSharing (sym goes) groups;
             copies_paid = rw goes (omega (arith, cost));
@@ -108,13 +113,13 @@ module _ {T : Type 0} where
             λ i. sym (λ j. strain_at (empty j) (bare j)) i
       ] refl
 
-      by_itself : is_shared h ≡ false → IsPaid c h 0 names (change c x h items names)
+      by_itself : is_shared h ≡ false → IsPaid (copied_by edit h) (moved_by edit h) (input_edited edit) 0 names (change edit x h items names)
       by_itself sole =
-          let paid : IsPaidSole c (length h.items) (length items) h.capacity = paid_sole (length h.items) (length items) h.capacity within small c is in
-          let capacity : ℕ = capacity_after c false (length h.items) h.capacity in
-          let goes : change c x h items names ≡ settle x items capacity names = ap (λ b. cond (b && not (unshares c (length h.items))) names (settle x items (capacity_after c b (length h.items) h.capacity) names)) sole in
-          let cost : copied_by c h ≡ 0 = ap (λ b. cond (b && unshares c (length h.items)) (copies c (length h.items)) 0) sole in
-          let growth : moved_by c h ≡ moves c (length h.items) h.capacity = ap (λ b. cond b 0 (moves c (length h.items) h.capacity)) sole in
+          let paid : IsPaidSole edit (length h.items) (length items) h.capacity = paid_sole (length h.items) (length items) h.capacity within small edit is in
+          let capacity : ℕ = capacity_after edit false (length h.items) h.capacity in
+          let goes : change edit x h items names ≡ settle x items capacity names = ap (λ b. cond (b && not (unshares edit (length h.items))) names (settle x items (capacity_after edit b (length h.items) h.capacity) names)) sole in
+          let cost : copied_by edit h ≡ 0 = ap (λ b. cond (b && unshares edit (length h.items)) (copies edit (length h.items)) 0) sole in
+          let growth : moved_by edit h ≡ moves edit (length h.items) h.capacity = ap (λ b. cond b 0 (moves edit (length h.items) h.capacity)) sole in
           let free : debt (settle x items capacity names) ≡ debt (forget x names) = debt-settle names x groups items capacity paid.fits paid.small in
           let strained : strain (settle x items capacity names) ≡ strain (forget x names) + cond (ltb 0 capacity) (strain_at (length items) capacity) 0 = after_settle capacity paid.fits paid.small in
           let bound : cond (ltb 0 capacity) (strain_at (length items) capacity) 0 ≤ strain_at (length items) capacity = settled (ltb 0 capacity) (strain_at (length items) capacity) in
@@ -125,177 +130,134 @@ module _ {T : Type 0} where
             moves_paid = rw goes (omega (arith, cost, growth, strained, bound, left, paid.moved));
           }
 
-      change_paid : IsPaid c h 0 names (change c x h items names)
+      change_paid : IsPaid (copied_by edit h) (moved_by edit h) (input_edited edit) 0 names (change edit x h items names)
       change_paid = ⊎_elim
-          (λ shared. ⊎_elim (by_sharing shared) (by_staying shared) (cases_Bool (unshares c (length h.items))))
+          (λ shared. ⊎_elim (by_sharing shared) (by_staying shared) (cases_Bool (unshares edit (length h.items))))
           by_itself
           (cases_Bool (is_shared h))
 
     -- a new name
-    made_paid : (x : ℕ) → finite.get names x ≡ None → (c : VecCommand T) (items : List T) → LengthIs c 0 (length items) → IsPaid c nothing 0 names (settle x items (capacity_after c false 0 0) names)
-    made_paid x none c items is =
-        let paid : IsPaidSole c 0 (length items) 0 = paid_sole 0 (length items) 0 (omega arith) (omega arith) c is in
-        let capacity : ℕ = capacity_after c false 0 0 in
+    made_paid : (x : ℕ) → finite.get names x ≡ None → (how : ListMake T) (items : List T) → LengthMade how (length items) → IsPaid 0 0 (input_made how) 0 names (settle x items (capacity_made how) names)
+    made_paid x none how items is =
+        let paid : IsPaidMade how (length items) = paid_made (length items) how is in
+        let capacity : ℕ = capacity_made how in
         let same : forget x names ≡ names = forget_absent names x groups none in
-        let none_copied : copied_by c nothing ≡ 0 = refl in
-        let growth : moved_by c nothing ≡ moves c 0 0 = refl in
         let free : debt (settle x items capacity names) ≡ debt names = debt-settle names x groups items capacity paid.fits paid.small ∙ ap debt same in
         let strained : strain (settle x items capacity names) ≡ strain names + cond (ltb 0 capacity) (strain_at (length items) capacity) 0 =
         blocks-settle names x groups items capacity paid.fits paid.small (λ items capacity. strain_at (length items) capacity) ∙ ap (λ n. strain n + cond (ltb 0 capacity) (strain_at (length items) capacity) 0) same in
         let bound : cond (ltb 0 capacity) (strain_at (length items) capacity) 0 ≤ strain_at (length items) capacity = settled (ltb 0 capacity) (strain_at (length items) capacity) in
         record {
           sharing = sharing-settle names x groups items capacity paid.fits paid.small;
-          copies_paid = omega (arith, none_copied, free);
-          moves_paid = omega (arith, none_copied, growth, strained, bound, paid.moved);
+          copies_paid = omega (arith, free);
+          moves_paid = omega (arith, strained, bound, paid.moved);
         }
 
-    copied_none : (c : VecCommand T) (h : Held T) → unshares c (length h.items) ≡ false → copied_by c h ≡ 0
-    copied_none c h stays = elim (is_shared h) as (λ b. cond (b && unshares c (length h.items)) (copies c (length h.items)) 0 ≡ 0) [ true ↦ ap (λ b. cond b (copies c (length h.items)) 0) stays | false ↦ refl ]
-
-    moved_none : (c : VecCommand T) (h : Held T) → moves c (length h.items) h.capacity ≡ 0 → moved_by c h ≡ 0
-    moved_none c h none = elim (is_shared h) as (λ b. cond b 0 (moves c (length h.items) h.capacity) ≡ 0) [ true ↦ refl | false ↦ none ]
-
-    joined_paid : (x y : ℕ) (h : Held T) → finite.get names x ≡ Some h → finite.get names y ≡ None → IsPaid (Clone x y) h (length h.items) names (join x y h names)
+    joined_paid : (x y : ℕ) (h : Held T) → finite.get names x ≡ Some h → finite.get names y ≡ None → IsPaid 0 0 0 (length h.items) names (join x y h names)
     joined_paid x y h at none =
-        let none_copied : copied_by (Clone x y) h ≡ 0 = copied_none (Clone x y) h refl in
-        let none_moved : moved_by (Clone x y) h ≡ 0 = moved_none (Clone x y) h refl in
         let owed : debt (join x y h names) ≤ debt names + length h.items = debt-join names groups x y h at none in
         let strains : strain (join x y h names) ≡ strain names = blocks-join names groups x y h at none (λ items capacity. strain_at (length items) capacity) in
         record {
           sharing = sharing-join names groups x y h at none;
-          copies_paid = omega (arith, none_copied, owed);
-          moves_paid = omega (arith, none_copied, none_moved, strains);
+          copies_paid = omega (arith, owed);
+          moves_paid = omega (arith, strains);
         }
 
-    dropped_paid : (x : ℕ) (h : Held T) → finite.get names x ≡ Some h → IsPaid (Drop x) h 0 names (forget x names)
+    dropped_paid : (x : ℕ) (h : Held T) → finite.get names x ≡ Some h → IsPaid 0 0 0 0 names (forget x names)
     dropped_paid x h at =
-        let none_copied : copied_by (Drop x) h ≡ 0 = copied_none (Drop x) h refl in
-        let none_moved : moved_by (Drop x) h ≡ 0 = moved_none (Drop x) h refl in
         let left : debt names ≡ debt (forget x names) + cond (is_shared h) (length h.items) 0 = debt-forget names groups x h at in
         let strains : strain names ≡ strain (forget x names) + cond (is_sole_owner h) (strain_at (length h.items) h.capacity) 0 = blocks-forget names groups x h at (λ items capacity. strain_at (length items) capacity) in
         record {
           sharing = sharing-forget names x groups;
-          copies_paid = omega (arith, none_copied, left);
-          moves_paid = omega (arith, none_copied, none_moved, strains);
+          copies_paid = omega (arith, left);
+          moves_paid = omega (arith, strains);
         }
 
-    read_paid : (c : VecCommand T) (h : Held T) → unshares c (length h.items) ≡ false → moves c (length h.items) h.capacity ≡ 0 → IsPaid c h 0 names names
-    read_paid c h stays none =
-        let none_copied : copied_by c h ≡ 0 = copied_none c h stays in
-        let none_moved : moved_by c h ≡ 0 = moved_none c h none in
-        record {
-          sharing = groups;
-          copies_paid = omega (arith, none_copied);
-          moves_paid = omega (arith, none_copied, none_moved);
-        }
+    asked_paid : IsPaid 0 0 0 0 names names
+    asked_paid = record { sharing = groups; copies_paid = omega arith; moves_paid = omega arith }
 
   held_is : (old : Names T) (x : ℕ) (h : Held T) → finite.get old x ≡ Some h → held_at old x ≡ h
   held_is old x h at = ap (λ o. unwrap_or o nothing) at
 
   -- an accepted command isn't answered by a refusal, and is paid
-  abbrev IsPaidAnswer : VecCommand T → Held T → ℕ → Names T → Outcome T × Names T → Type 0
-  IsPaidAnswer c h owes old answer = OnRefused answer.0 ⊥ × IsPaid c h owes old answer.1
+  abbrev IsPaidAnswer : ℕ → ℕ → ℕ → ℕ → Names T → Outcome T × Names T → Type 0
+  IsPaidAnswer copying moving brought owes old answer = OnRefused answer.0 ⊥ × IsPaid copying moving brought owes old answer.1
 
   module _ (old : Names T) (groups : IsSharing old) (answer : Outcome T × Names T) where
-    makes_paid : (c : VecCommand T) (x : ℕ) → counted_act c (makes x) old ≡ Ok answer → IsPaidAnswer c (held_at old x) 0 old answer
-    makes_paid c x e =
-        let unused = bound (free old x) _ answer e in
-        let none : finite.get old x ≡ None = absent (finite.get old x) unused.0 unused.1 in
-        let after = bound (list_change (reading_of {T = T} nothing) c []) _ answer unused.2 in
-        let is = is_answer (reading_of {T = T} nothing) [] after.0 c after.1 in
-        let holds : held_at old x ≡ nothing = ap (λ o. unwrap_or o nothing) none in
-        subst (IsPaidAnswer c (held_at old x) 0 old) (same_answer _ answer after.2)
-        (is.0, subst (λ h. IsPaid c h 0 old (settle x after.0.1 (capacity_after c false 0 0) old)) (sym holds) (made_paid old groups x none c after.0.1 is.1))
+    make_paid : (x : ℕ) (how : ListMake T) → counted_used old (Make x how) ≡ Ok answer → IsPaidAnswer 0 0 (input_made how) 0 old answer
+    make_paid x how e =
+        let new = bound (unused old x) _ answer e in
+        let none : finite.get old x ≡ None = absent (finite.get old x) new.0 new.1 in
+        let xs = bound (list_made how) _ answer new.2 in
+        subst (IsPaidAnswer 0 0 (input_made how) 0 old) (same_answer _ answer xs.2)
+        (tt, made_paid old groups x none how xs.0 (is_made how xs.0 xs.1))
 
-    changes_paid : (c : VecCommand T) (x : ℕ) → counted_act c (changes x) old ≡ Ok answer → IsPaidAnswer c (held_at old x) 0 old answer
-    changes_paid c x e =
+    clone_paid : (x y : ℕ) (how : ListDerive) → counted_used old (Derive x y how) ≡ Ok answer → IsPaidAnswer 0 0 0 (length (held_at old x).items) old answer
+    clone_paid x y how e =
         let is_there = bound (there old x) _ answer e in
         let h : Held T = is_there.0 in
         let at : finite.get old x ≡ Some h = found_value (finite.get old x) h is_there.1 in
-        let after = bound (list_change (reading_of h) c h.items) _ answer is_there.2 in
-        let is = is_answer (reading_of h) h.items after.0 c after.1 in
-        subst (IsPaidAnswer c (held_at old x) 0 old) (same_answer _ answer after.2)
-        (is.0, subst (λ k. IsPaid c k 0 old (change c x h after.0.1 old)) (sym (held_is old x h at)) (change_paid old groups x h at c after.0.1 is.1))
+        let new = bound (unused old y) _ answer is_there.2 in
+        let none : finite.get old y ≡ None = absent (finite.get old y) new.0 new.1 in
+        subst (IsPaidAnswer 0 0 0 (length (held_at old x).items) old) (same_answer _ answer new.2)
+        (tt, subst (λ k. IsPaid 0 0 0 (length k.items) old (join x y h old)) (sym (held_is old x h at)) (joined_paid old groups x y h at none))
 
-    reads_paid : (c : VecCommand T) (x : ℕ) → ((n : ℕ) → unshares c n ≡ false) → ((n capacity : ℕ) → moves c n capacity ≡ 0) → counted_act c (reads x) old ≡ Ok answer → IsPaidAnswer c (held_at old x) 0 old answer
-    reads_paid c x stays none e =
+    drop_paid : (x : ℕ) → counted_used old (Drop x) ≡ Ok answer → IsPaidAnswer 0 0 0 0 old answer
+    drop_paid x e =
         let is_there = bound (there old x) _ answer e in
         let h : Held T = is_there.0 in
         let at : finite.get old x ≡ Some h = found_value (finite.get old x) h is_there.1 in
-        let after = bound (list_change (reading_of h) c h.items) _ answer is_there.2 in
-        let is = is_answer (reading_of h) h.items after.0 c after.1 in
-        subst (IsPaidAnswer c (held_at old x) 0 old) (same_answer _ answer after.2)
-        (is.0, subst (λ k. IsPaid c k 0 old old) (sym (held_is old x h at)) (read_paid old groups c h (stays (length h.items)) (none (length h.items) h.capacity)))
+        subst (IsPaidAnswer 0 0 0 0 old) (same_answer _ answer is_there.2) (tt, dropped_paid old groups x h at)
 
-    drops_paid : (x : ℕ) → counted_act (Drop x) (drops x) old ≡ Ok answer → IsPaidAnswer (Drop x) (held_at old x) 0 old answer
-    drops_paid x e =
+    edit_paid : (x : ℕ) (edit : ListEdit T) → counted_used old (Edit x edit) ≡ Ok answer → IsPaidAnswer (copied_by edit (held_at old x)) (moved_by edit (held_at old x)) (input_edited edit) 0 old answer
+    edit_paid x edit e =
         let is_there = bound (there old x) _ answer e in
         let h : Held T = is_there.0 in
         let at : finite.get old x ≡ Some h = found_value (finite.get old x) h is_there.1 in
-        subst (IsPaidAnswer (Drop x) (held_at old x) 0 old) (same_answer _ answer is_there.2)
-        (tt, subst (λ k. IsPaid (Drop x) k 0 old (forget x old)) (sym (held_is old x h at)) (dropped_paid old groups x h at))
+        let after = bound (list_edited edit h.items) _ answer is_there.2 in
+        let is = is_answer h.items after.0 edit after.1 in
+        subst (IsPaidAnswer (copied_by edit (held_at old x)) (moved_by edit (held_at old x)) (input_edited edit) 0 old) (same_answer _ answer after.2)
+        (is.0, subst (λ k. IsPaid (copied_by edit k) (moved_by edit k) (input_edited edit) 0 old (change edit x h after.0.1 old)) (sym (held_is old x h at)) (change_paid old groups x h at edit after.0.1 is.1))
 
-    clone_paid : (x y : ℕ) → counted_act (Clone x y) (copies_from x y) old ≡ Ok answer → IsPaidAnswer (Clone x y) (held_at old x) (length (held_at old x).items) old answer
-    clone_paid x y e =
+    ask_paid : (x : ℕ) (question : ListAsk) → counted_used old (Ask x question) ≡ Ok answer → IsPaidAnswer 0 0 0 0 old answer
+    ask_paid x question e =
         let is_there = bound (there old x) _ answer e in
         let h : Held T = is_there.0 in
-        let at : finite.get old x ≡ Some h = found_value (finite.get old x) h is_there.1 in
-        let unused = bound (free old y) _ answer is_there.2 in
-        let none : finite.get old y ≡ None = absent (finite.get old y) unused.0 unused.1 in
-        subst (IsPaidAnswer (Clone x y) (held_at old x) (length (held_at old x).items) old) (same_answer _ answer unused.2)
-        (tt, subst (λ k. IsPaid (Clone x y) k (length k.items) old (join x y h old)) (sym (held_is old x h at)) (joined_paid old groups x y h at none))
+        let outcome = bound (list_asked (reading_of h) question h.items) _ answer is_there.2 in
+        subst (IsPaidAnswer 0 0 0 0 old) (same_answer _ answer outcome.2) (is_asked (reading_of h) question h.items outcome.0 outcome.1, asked_paid old groups)
 
-    answer_paid : (c : VecCommand T) → counted_step old c ≡ Ok answer → IsPaidAnswer c (held_at old (name_in (vec_access c))) (eager c old) old answer
-    answer_paid (New x) e = makes_paid (New x) x e
-    answer_paid (WithCapacity x asked) e = makes_paid (WithCapacity x asked) x e
-    answer_paid (FromList x items) e = makes_paid (FromList x items) x e
-    answer_paid (FromElem x value n) e = makes_paid (FromElem x value n) x e
-    answer_paid (Clone x y) e = clone_paid x y e
-    answer_paid (Drop x) e = drops_paid x e
-    answer_paid (Push x value) e = changes_paid (Push x value) x e
-    answer_paid (Pop x) e = changes_paid (Pop x) x e
-    answer_paid (Insert x index value) e = changes_paid (Insert x index value) x e
-    answer_paid (Remove x index) e = changes_paid (Remove x index) x e
-    answer_paid (Truncate x target) e = changes_paid (Truncate x target) x e
-    answer_paid (Clear x) e = changes_paid (Clear x) x e
-    answer_paid (Retain x marks) e = changes_paid (Retain x marks) x e
-    answer_paid (Drain x bounds) e = changes_paid (Drain x bounds) x e
-    answer_paid (Splice x bounds items) e = changes_paid (Splice x bounds items) x e
-    answer_paid (Extend x items) e = changes_paid (Extend x items) x e
-    answer_paid (Reserve x additional) e = changes_paid (Reserve x additional) x e
-    answer_paid (Write x index value) e = changes_paid (Write x index value) x e
-    answer_paid (Read x index) e = reads_paid (Read x index) x (λ _. refl) (λ _ _. refl) e
-    answer_paid (Len x) e = reads_paid (Len x) x (λ _. refl) (λ _ _. refl) e
-    answer_paid (Contents x) e = reads_paid (Contents x) x (λ _. refl) (λ _ _. refl) e
-    answer_paid (Capacity x) e = reads_paid (Capacity x) x (λ _. refl) (λ _ _. refl) e
-    answer_paid (Unique x) e = reads_paid (Unique x) x (λ _. refl) (λ _ _. refl) e
+    answer_paid : (usage : ListUsage T) → counted_used old usage ≡ Ok answer → IsPaidAnswer (copied_in usage old) (moved_in usage old) (input_in usage old) (eager_in usage old) old answer
+    answer_paid (Make x how) e = make_paid x how e
+    answer_paid (Derive x y how) e = clone_paid x y how e
+    answer_paid (Drop x) e = drop_paid x e
+    answer_paid (Edit x edit) e = edit_paid x edit e
+    answer_paid (Ask x question) e = ask_paid x question e
 
   -- one command, accepted or refused
-  pub record IsPaidStep (c : VecCommand T) (old : Names T) (outcome : Outcome T) (new : Names T) : Type 0 where
+  pub record IsPaidStep (usage : ListUsage T) (old : Names T) (outcome : Outcome T) (new : Names T) : Type 0 where
     pub sharing : IsSharing new
-    pub after : names_after old c outcome ≡ new
-    pub copies_paid : if_accepted outcome (copied c old) + debt new ≤ debt old + if_accepted outcome (eager c old)
-    pub moves_paid : if_accepted outcome (moved c old) + strain new ≤ strain old + if_accepted outcome (copied c old) + 2 * if_accepted outcome (input c)
+    pub after : names_after old usage outcome ≡ new
+    pub copies_paid : if_accepted outcome (copied_in usage old) + debt new ≤ debt old + if_accepted outcome (eager_in usage old)
+    pub moves_paid : if_accepted outcome (moved_in usage old) + strain new ≤ strain old + if_accepted outcome (copied_in usage old) + 2 * if_accepted outcome (input_in usage old)
 
-  module _ (c : VecCommand T) (old : Names T) (groups : IsSharing old) where
-    refused_paid : (refusal : Refusal) → IsPaidStep c old (Refused refusal) old
+  module _ (usage : ListUsage T) (old : Names T) (groups : IsSharing old) where
+    refused_paid : (refusal : Refusal) → IsPaidStep usage old (Refused refusal) old
     refused_paid refusal = record { sharing = groups; after = refl; copies_paid = omega arith; moves_paid = omega arith }
 
-    refused_as : (refusal : Refusal) (outcome : Outcome T) (new : Names T) → outcome ≡ Refused refusal → new ≡ old → IsPaidStep c old outcome new
-    refused_as refusal outcome new is same = subst (λ (a : Outcome T × Names T). IsPaidStep c old a.0 a.1) (λ i. (sym is i, sym same i)) (refused_paid refusal)
+    refused_as : (refusal : Refusal) (outcome : Outcome T) (new : Names T) → outcome ≡ Refused refusal → new ≡ old → IsPaidStep usage old outcome new
+    refused_as refusal outcome new is same = subst (λ (a : Outcome T × Names T). IsPaidStep usage old a.0 a.1) (λ i. (sym is i, sym same i)) (refused_paid refusal)
 
-    accepted_paid : (outcome : Outcome T) (new : Names T) → counted_step old c ≡ Ok (outcome, new) → OnRefused outcome ⊥ → IsPaid c (held_at old (name_in (vec_access c))) (eager c old) old new → IsPaidStep c old outcome new
+    accepted_paid : (outcome : Outcome T) (new : Names T) → counted_used old usage ≡ Ok (outcome, new) → OnRefused outcome ⊥ → IsPaid (copied_in usage old) (moved_in usage old) (input_in usage old) (eager_in usage old) old new → IsPaidStep usage old outcome new
     accepted_paid (Refused refusal) new is accepted paid = absurd accepted
     accepted_paid _ new is accepted paid = record { sharing = paid.sharing; after = ap (λ r. names_given r old) is; copies_paid = paid.copies_paid; moves_paid = paid.moves_paid }
 
     -- a step is paid, and the names after it are those that the sums of a run go on from
-    pub step_paid : (outcome : Outcome T) (new : Names T) → CountedStep old c outcome new → IsPaidStep c old outcome new
-    step_paid outcome new h = elim (counted_step old c) as (λ r. counted_step old c ≡ r → StepBy r (Unit {0}) (counted_is_free old c) old outcome new → IsPaidStep c old outcome new) [
+    pub step_paid : (outcome : Outcome T) (new : Names T) → IsCountedUse old usage outcome new → IsPaidStep usage old outcome new
+    step_paid outcome new h = elim (counted_used old usage) as (λ r. counted_used old usage ≡ r → Gives r (counted_is_free old usage) old outcome new → IsPaidStep usage old outcome new) [
       | Ok answer ↦ λ e h. ⊎_elim
-          (λ (w : ((outcome, new) ≡ answer) × Unit {0}).
-          let paid = answer_paid old groups answer c e in
-          subst (λ (a : Outcome T × Names T). IsPaidStep c old a.0 a.1) (sym w.0) (accepted_paid answer.0 answer.1 e paid.0 paid.1))
-          (λ (w : (outcome ≡ Refused Memory) × (new ≡ old) × (counted_is_free old c ≡ false)). refused_as Memory outcome new w.0 w.1)
+          (λ (w : (outcome, new) ≡ answer).
+          let paid = answer_paid old groups answer usage e in
+          subst (λ (a : Outcome T × Names T). IsPaidStep usage old a.0 a.1) (sym w) (accepted_paid answer.0 answer.1 e paid.0 paid.1))
+          (λ (w : (outcome ≡ Refused Memory) × (new ≡ old) × (counted_is_free old usage ≡ false)). refused_as Memory outcome new w.0 w.1)
           h
       | Err refusal ↦ λ e h. refused_as refusal outcome new h.0 h.1
     ] refl h
@@ -305,14 +267,14 @@ module _ {T : Type 0} where
   run_shares [] [] old new groups h = subst IsSharing (sym h) groups
   run_shares [] (outcome ∷ outcomes) old new groups h = absurd h
   run_shares (c ∷ cs) [] old new groups h = absurd h
-  run_shares (c ∷ cs) (outcome ∷ outcomes) old new groups h = run_shares cs outcomes h.0 new (step_paid c old groups outcome h.0 h.1).sharing h.2
+  run_shares (c ∷ cs) (outcome ∷ outcomes) old new groups h = run_shares cs outcomes h.0 new (step_paid (vec_usage c) old groups outcome h.0 h.1).sharing h.2
 
   pub copies_at_most_eagerly : (cs : List (VecCommand T)) (outcomes : List (Outcome T)) (old new : Names T) → CopiesAtMostEagerly old cs outcomes new
   copies_at_most_eagerly [] [] old new groups h = rw h (omega arith)
   copies_at_most_eagerly [] (outcome ∷ outcomes) old new groups h = absurd h
   copies_at_most_eagerly (c ∷ cs) [] old new groups h = absurd h
   copies_at_most_eagerly (c ∷ cs) (outcome ∷ outcomes) old new groups h =
-      let step : IsPaidStep c old outcome h.0 = step_paid c old groups outcome h.0 h.1 in
+      let step : IsPaidStep (vec_usage c) old outcome h.0 = step_paid (vec_usage c) old groups outcome h.0 h.1 in
       let rest : copied_in_run h.0 cs outcomes + debt new ≤ debt h.0 + eager_in_run h.0 cs outcomes = copies_at_most_eagerly cs outcomes h.0 new step.sharing h.2 in
       rw step.after (omega (arith, step.copies_paid, rest))
 
@@ -321,7 +283,7 @@ module _ {T : Type 0} where
   moves_are_paid [] (outcome ∷ outcomes) old new groups h = absurd h
   moves_are_paid (c ∷ cs) [] old new groups h = absurd h
   moves_are_paid (c ∷ cs) (outcome ∷ outcomes) old new groups h =
-      let step : IsPaidStep c old outcome h.0 = step_paid c old groups outcome h.0 h.1 in
+      let step : IsPaidStep (vec_usage c) old outcome h.0 = step_paid (vec_usage c) old groups outcome h.0 h.1 in
       let rest : moved_in_run h.0 cs outcomes + strain new ≤ strain h.0 + copied_in_run h.0 cs outcomes + 2 * input_in_run h.0 cs outcomes = moves_are_paid cs outcomes h.0 new step.sharing h.2 in
       rw step.after (omega (arith, step.moves_paid, rest))
 

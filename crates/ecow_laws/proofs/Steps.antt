@@ -3,101 +3,99 @@ use Rattle.std.proofs.Common.{◌≡◌, ℕ, ◌+◌, ◌-◌, ◌*◌, ◌<◌
 use Rattle.std.proofs.lemmas.Bool.{ltb-true, true≢false}
 use Rattle.ecow_base.specs.Capacity.{MAX, fresh, room}
 use Rattle.ecow_base.specs.Range.{items_in_range}
-use Rattle.ecow_model.specs.Costs.{unshares, copies, capacity_after, moves, input}
+use Rattle.ecow_model.specs.Costs.{capacity_made, unshares, copies, capacity_after, moves, input_made, input_edited}
 use Rattle.ecow_model.specs.Names.{strain_at}
-use Rattle.ecow_model.specs.declared.command.VecCommand.{VecCommand}
-use Rattle.ecow_model.specs.declared.command.VecCommand.TheVariants.{New, WithCapacity, FromList, FromElem, Clone, Drop, Push, Pop, Insert, Remove, Truncate, Clear, Retain, Drain, Splice, Extend, Reserve, Write, Read, Len, Contents, Capacity, Unique}
+use Rattle.ecow_model.specs.declared.lists.ListMake.{ListMake}
+use Rattle.ecow_model.specs.declared.lists.ListMake.TheVariants.{New, WithCapacity, FromList, FromElem}
+use Rattle.ecow_model.specs.declared.lists.ListEdit.{ListEdit}
+use Rattle.ecow_model.specs.declared.lists.ListEdit.TheVariants.{Push, Pop, Insert, Remove, Truncate, Clear, Retain, Drain, Splice, Extend, Reserve, Write}
 use Rattle.ecow_laws.proofs.Costs.{strain_le, strain_keep, le-fresh, fresh-le, strain_fresh, le-room, room-le, paid_by_room, paid_by_copy}
-use Rattle.ecow_laws.proofs.Lengths.{LengthIs}
+use Rattle.ecow_laws.proofs.Lengths.{LengthMade, LengthIs}
+
+-- a list that is made fits in its block, and is paid
+pub record IsPaidMade {T : Type 0} (how : ListMake T) (m : ℕ) : Type 0 where
+  pub fits : m ≤ capacity_made how
+  pub small : capacity_made how ≤ MAX
+  pub moved : strain_at m (capacity_made how) ≤ 2 * input_made how
+
+pub paid_made : {T : Type 0} (m : ℕ) (how : ListMake T) → LengthMade how m → IsPaidMade how m
+paid_made m New ok = record { fits = omega arith; small = omega arith; moved = (let bound : strain_at m 0 ≤ 2 * m - 0 = strain_le m 0 in omega arith) }
+paid_made m (WithCapacity asked) ok = record { fits = omega arith; small = ok.1; moved = (let bound : strain_at m asked ≤ 2 * m - asked = strain_le m asked in omega arith) }
+paid_made m (FromList items) ok =
+    let wide : length items ≤ fresh (length items) = le-fresh (length items) in
+    let bound : strain_at m (fresh (length items)) ≤ length items = strain_fresh m (length items) (omega arith) in
+    record { fits = omega arith; small = fresh-le (length items) (omega arith); moved = omega arith }
+paid_made m (FromElem v k) ok = record { fits = omega arith; small = ok.1; moved = (let bound : strain_at m k ≤ 2 * m - k = strain_le m k in omega arith) }
 
 -- by a sole name, whose list has n elements before and m after: the list fits, and the moves are paid
-pub record IsPaidSole {T : Type 0} (c : VecCommand T) (n m capacity : ℕ) : Type 0 where
-  pub fits : m ≤ capacity_after c false n capacity
-  pub small : capacity_after c false n capacity ≤ MAX
-  pub moved : moves c n capacity + strain_at m (capacity_after c false n capacity) ≤ strain_at n capacity + 2 * input c
+pub record IsPaidSole {T : Type 0} (edit : ListEdit T) (n m capacity : ℕ) : Type 0 where
+  pub fits : m ≤ capacity_after edit false n capacity
+  pub small : capacity_after edit false n capacity ≤ MAX
+  pub moved : moves edit n capacity + strain_at m (capacity_after edit false n capacity) ≤ strain_at n capacity + 2 * input_edited edit
 
 -- by a name that leaves a block to others
-pub record IsPaidShared {T : Type 0} (c : VecCommand T) (n m capacity : ℕ) : Type 0 where
-  pub fits : m ≤ capacity_after c true n capacity
-  pub small : capacity_after c true n capacity ≤ MAX
-  pub copied : copies c n ≤ n
-  pub moved : strain_at m (capacity_after c true n capacity) ≤ copies c n + 2 * input c
+pub record IsPaidShared {T : Type 0} (edit : ListEdit T) (n m capacity : ℕ) : Type 0 where
+  pub fits : m ≤ capacity_after edit true n capacity
+  pub small : capacity_after edit true n capacity ≤ MAX
+  pub copied : copies edit n ≤ n
+  pub moved : strain_at m (capacity_after edit true n capacity) ≤ copies edit n + 2 * input_edited edit
 
 module _ {T : Type 0} (n m capacity : ℕ) (within : n ≤ capacity) (small : capacity ≤ MAX) where
   -- a sole name whose block stays
-  stays : (c : VecCommand T) → m ≤ n → capacity_after c false n capacity ≡ capacity → moves c n capacity ≡ 0 → IsPaidSole c n m capacity
-  stays c short same none =
+  stays : (edit : ListEdit T) → m ≤ n → capacity_after edit false n capacity ≡ capacity → moves edit n capacity ≡ 0 → IsPaidSole edit n m capacity
+  stays edit short same none =
       let less : strain_at m capacity ≤ strain_at n capacity = strain_keep m n capacity short in
-      let at : strain_at m (capacity_after c false n capacity) ≡ strain_at m capacity = ap (strain_at m) same in
+      let at : strain_at m (capacity_after edit false n capacity) ≡ strain_at m capacity = ap (strain_at m) same in
       record { fits = omega arith; small = omega arith; moved = omega arith }
 
   -- a sole name into whose block k items go, where left of its own stay
-  goes_in : (c : VecCommand T) (left : ℕ) → left ≤ n → left + input c ≤ MAX → m ≤ left + input c → capacity_after c false n capacity ≡ room left (input c) capacity → moves c n capacity ≡ cond (leb (left + input c) capacity) 0 left → IsPaidSole c n m capacity
-  goes_in c left part fit short same moved =
-      let enough : left + input c ≤ room left (input c) capacity = le-room left (input c) capacity fit in
-      let top : room left (input c) capacity ≤ MAX = room-le left (input c) capacity small in
-      let paid : cond (leb (left + input c) capacity) 0 left + strain_at m (room left (input c) capacity) ≤ strain_at n capacity + 2 * input c = paid_by_room n m left (input c) capacity part within small short fit in
+  goes_in : (edit : ListEdit T) (left : ℕ) → left ≤ n → left + input_edited edit ≤ MAX → m ≤ left + input_edited edit → capacity_after edit false n capacity ≡ room left (input_edited edit) capacity → moves edit n capacity ≡ cond (leb (left + input_edited edit) capacity) 0 left → IsPaidSole edit n m capacity
+  goes_in edit left part fit short same moved =
+      let enough : left + input_edited edit ≤ room left (input_edited edit) capacity = le-room left (input_edited edit) capacity fit in
+      let top : room left (input_edited edit) capacity ≤ MAX = room-le left (input_edited edit) capacity small in
+      let paid : cond (leb (left + input_edited edit) capacity) 0 left + strain_at m (room left (input_edited edit) capacity) ≤ strain_at n capacity + 2 * input_edited edit = paid_by_room n m left (input_edited edit) capacity part within small short fit in
       record { fits = rw same (omega (arith, short, enough)); small = rw same top; moved = rw (moved, same) paid }
 
-  -- a new name
-  starts : (c : VecCommand T) → m ≤ capacity_after c false n capacity → capacity_after c false n capacity ≤ MAX → moves c n capacity ≡ 0 → strain_at m (capacity_after c false n capacity) ≤ 2 * input c → IsPaidSole c n m capacity
-  starts c fit top none paid = record { fits = fit; small = top; moved = omega (arith, none, paid) }
-
-  pub paid_sole : (c : VecCommand T) → LengthIs c n m → IsPaidSole c n m capacity
-  paid_sole (New x) ok = starts (New x) (omega arith) (omega arith) refl (let bound : strain_at m 0 ≤ 2 * m - 0 = strain_le m 0 in omega arith)
-  paid_sole (WithCapacity x asked) ok = starts (WithCapacity x asked) (omega arith) ok.1 refl (let bound : strain_at m asked ≤ 2 * m - asked = strain_le m asked in omega arith)
-  paid_sole (FromList x items) ok =
-      let wide : length items ≤ fresh (length items) = le-fresh (length items) in
-      let bound : strain_at m (fresh (length items)) ≤ length items = strain_fresh m (length items) (omega arith) in
-      starts (FromList x items) (omega arith) (fresh-le (length items) (omega arith)) refl (omega arith)
-  paid_sole (FromElem x v k) ok = starts (FromElem x v k) (omega arith) ok.1 refl (let bound : strain_at m k ≤ 2 * m - k = strain_le m k in omega arith)
-  paid_sole (Clone x y) ok = stays (Clone x y) ok refl refl
-  paid_sole (Drop x) ok = stays (Drop x) ok refl refl
-  paid_sole (Push x v) ok = goes_in (Push x v) n (omega arith) (omega arith) (omega arith) refl refl
-  paid_sole (Pop x) ok = stays (Pop x) ok refl refl
-  paid_sole (Insert x i v) ok = goes_in (Insert x i v) n (omega arith) (omega arith) (omega arith) refl refl
-  paid_sole (Remove x i) ok = stays (Remove x i) ok refl refl
-  paid_sole (Truncate x t) ok = stays (Truncate x t) ok.0 refl refl
-  paid_sole (Clear x) ok = stays (Clear x) (omega arith) refl refl
-  paid_sole (Retain x marks) ok = stays (Retain x marks) ok refl refl
-  paid_sole (Drain x bounds) ok = stays (Drain x bounds) ok refl refl
-  paid_sole (Splice x bounds v) ok = goes_in (Splice x bounds v) (n - items_in_range bounds n) (omega arith) (omega arith) (omega arith) refl refl
-  paid_sole (Extend x v) ok = goes_in (Extend x v) n (omega arith) (omega arith) (omega arith) refl refl
-  paid_sole (Reserve x k) ok = goes_in (Reserve x k) n (omega arith) ok.1 (omega arith) refl refl
-  paid_sole (Write x i v) ok = stays (Write x i v) ok refl refl
-  paid_sole (Read x i) ok = stays (Read x i) ok refl refl
-  paid_sole (Len x) ok = stays (Len x) ok refl refl
-  paid_sole (Contents x) ok = stays (Contents x) ok refl refl
-  paid_sole (Capacity x) ok = stays (Capacity x) ok refl refl
-  paid_sole (Unique x) ok = stays (Unique x) ok refl refl
+  pub paid_sole : (edit : ListEdit T) → LengthIs edit n m → IsPaidSole edit n m capacity
+  paid_sole (Push v) ok = goes_in (Push v) n (omega arith) (omega arith) (omega arith) refl refl
+  paid_sole Pop ok = stays Pop ok refl refl
+  paid_sole (Insert i v) ok = goes_in (Insert i v) n (omega arith) (omega arith) (omega arith) refl refl
+  paid_sole (Remove i) ok = stays (Remove i) ok refl refl
+  paid_sole (Truncate t) ok = stays (Truncate t) ok.0 refl refl
+  paid_sole Clear ok = stays Clear (omega arith) refl refl
+  paid_sole (Retain marks) ok = stays (Retain marks) ok refl refl
+  paid_sole (Drain bounds) ok = stays (Drain bounds) ok refl refl
+  paid_sole (Splice bounds v) ok = goes_in (Splice bounds v) (n - items_in_range bounds n) (omega arith) (omega arith) (omega arith) refl refl
+  paid_sole (Extend v) ok = goes_in (Extend v) n (omega arith) (omega arith) (omega arith) refl refl
+  paid_sole (Reserve k) ok = goes_in (Reserve k) n (omega arith) ok.1 (omega arith) refl refl
+  paid_sole (Write i v) ok = stays (Write i v) ok refl refl
 
   -- a name that leaves its block with t copied elements, all of its new list among them
-  copied_out : (c : VecCommand T) (t : ℕ) → copies c n ≡ t → t ≤ n → m ≤ t → capacity_after c true n capacity ≡ fresh t → IsPaidShared c n m capacity
-  copied_out c t copied part short same =
+  copied_out : (edit : ListEdit T) (t : ℕ) → copies edit n ≡ t → t ≤ n → m ≤ t → capacity_after edit true n capacity ≡ fresh t → IsPaidShared edit n m capacity
+  copied_out edit t copied part short same =
       let bound : strain_at m (fresh t) ≤ t = strain_fresh m t short in
       let wide : t ≤ fresh t = le-fresh t in
       let top : fresh t ≤ MAX = fresh-le t (omega arith) in
       record { fits = rw same (omega (arith, short, wide)); small = rw same top; copied = omega arith; moved = rw (same, copied) (omega (arith, bound)) }
 
   -- a name that leaves its block for one with room for k items more
-  copied_in : (c : VecCommand T) (left wide : ℕ) → copies c n ≡ n → left ≤ n → n ≤ wide → wide ≤ MAX → left + input c ≤ MAX → m ≤ left + input c → capacity_after c true n capacity ≡ room left (input c) wide → IsPaidShared c n m capacity
-  copied_in c left wide copied part enough top fit short same =
-      let inside : left + input c ≤ room left (input c) wide = le-room left (input c) wide fit in
-      let most : room left (input c) wide ≤ MAX = room-le left (input c) wide top in
-      let paid : strain_at m (room left (input c) wide) ≤ n + 2 * input c = paid_by_copy n m left (input c) wide part enough short fit in
+  copied_in : (edit : ListEdit T) (left wide : ℕ) → copies edit n ≡ n → left ≤ n → n ≤ wide → wide ≤ MAX → left + input_edited edit ≤ MAX → m ≤ left + input_edited edit → capacity_after edit true n capacity ≡ room left (input_edited edit) wide → IsPaidShared edit n m capacity
+  copied_in edit left wide copied part enough top fit short same =
+      let inside : left + input_edited edit ≤ room left (input_edited edit) wide = le-room left (input_edited edit) wide fit in
+      let most : room left (input_edited edit) wide ≤ MAX = room-le left (input_edited edit) wide top in
+      let paid : strain_at m (room left (input_edited edit) wide) ≤ n + 2 * input_edited edit = paid_by_copy n m left (input_edited edit) wide part enough short fit in
       record { fits = rw same (omega (arith, short, inside)); small = rw same most; copied = omega arith; moved = rw (same, copied) paid }
 
-  pub paid_shared : (c : VecCommand T) → LengthIs c n m → unshares c n ≡ true → IsPaidShared c n m capacity
-  paid_shared (Push x v) ok leaves = copied_in (Push x v) n capacity refl (omega arith) within small (omega arith) (omega arith) refl
-  paid_shared (Pop x) ok leaves = copied_out (Pop x) n refl (omega arith) ok refl
-  paid_shared (Insert x i v) ok leaves = copied_in (Insert x i v) n capacity refl (omega arith) within small (omega arith) (omega arith) refl
-  paid_shared (Remove x i) ok leaves = copied_out (Remove x i) n refl (omega arith) ok refl
-  paid_shared (Truncate x t) ok leaves = copied_out (Truncate x t) t refl (let lt : t < n = ltb-true t n leaves in omega arith) ok.1 refl
-  paid_shared (Clear x) ok leaves = copied_out (Clear x) 0 refl (omega arith) (omega arith) refl
-  paid_shared (Retain x marks) ok leaves = copied_out (Retain x marks) n refl (omega arith) ok refl
-  paid_shared (Drain x bounds) ok leaves = copied_out (Drain x bounds) n refl (omega arith) ok refl
-  paid_shared (Splice x bounds v) ok leaves = copied_in (Splice x bounds v) (n - items_in_range bounds n) (fresh n) refl (omega arith) (le-fresh n) (fresh-le n (omega arith)) (omega arith) (omega arith) refl
-  paid_shared (Extend x v) ok leaves = copied_in (Extend x v) n capacity refl (omega arith) within small (omega arith) (omega arith) refl
-  paid_shared (Reserve x k) ok leaves = copied_in (Reserve x k) n capacity refl (omega arith) within small ok.1 (omega arith) refl
-  paid_shared (Write x i v) ok leaves = copied_out (Write x i v) n refl (omega arith) ok refl
-  paid_shared c ok leaves = absurd (true≢false (sym leaves))
+  pub paid_shared : (edit : ListEdit T) → LengthIs edit n m → unshares edit n ≡ true → IsPaidShared edit n m capacity
+  paid_shared (Push v) ok leaves = copied_in (Push v) n capacity refl (omega arith) within small (omega arith) (omega arith) refl
+  paid_shared Pop ok leaves = copied_out Pop n refl (omega arith) ok refl
+  paid_shared (Insert i v) ok leaves = copied_in (Insert i v) n capacity refl (omega arith) within small (omega arith) (omega arith) refl
+  paid_shared (Remove i) ok leaves = copied_out (Remove i) n refl (omega arith) ok refl
+  paid_shared (Truncate t) ok leaves = copied_out (Truncate t) t refl (let lt : t < n = ltb-true t n leaves in omega arith) ok.1 refl
+  paid_shared Clear ok leaves = copied_out Clear 0 refl (omega arith) (omega arith) refl
+  paid_shared (Retain marks) ok leaves = copied_out (Retain marks) n refl (omega arith) ok refl
+  paid_shared (Drain bounds) ok leaves = copied_out (Drain bounds) n refl (omega arith) ok refl
+  paid_shared (Splice bounds v) ok leaves = copied_in (Splice bounds v) (n - items_in_range bounds n) (fresh n) refl (omega arith) (le-fresh n) (fresh-le n (omega arith)) (omega arith) (omega arith) refl
+  paid_shared (Extend v) ok leaves = copied_in (Extend v) n capacity refl (omega arith) within small (omega arith) (omega arith) refl
+  paid_shared (Reserve k) ok leaves = copied_in (Reserve k) n capacity refl (omega arith) within small ok.1 (omega arith) refl
+  paid_shared (Write i v) ok leaves = copied_out (Write i v) n refl (omega arith) ok refl

@@ -4,7 +4,7 @@ ghost use Rattle.std.specs.FinMap as finite;
 ghost use Rattle.ecow_model.specs.CountedRun.{CountedRun, CopiesAtMostEagerly, MovesArePaid, copied_in_run, eager_in_run, input_in_run, moved_in_run};
 ghost use Rattle.ecow_model.specs.Names.{IsSharing, Names};
 ghost use Rattle.ecow_model.specs.declared.command.Outcome.{Outcome};
-ghost use Rattle.ecow_model.specs.declared.command.VecCommand.{VecCommand};
+ghost use Rattle.ecow_model.specs.declared.lists.VecCommand.{VecCommand};
 
 /// What a run copies and moves is paid; from no names at all, sharing never copies more than copying at
 /// each clone would.

@@ -1,6 +1,9 @@
 pub mod Boundaries
 pub mod Contents
 pub mod Entries
-pub mod Lists
+pub mod Lengths
 pub mod Maps
 pub mod Marks
+pub mod PutBack
+pub mod Runs
+pub mod Uses

@@ -2,11 +2,13 @@ pub mod State
 pub mod Inline
 pub mod Utf8
 pub mod Replaced
-pub mod Access
+pub mod Refusing
+pub mod Values
+pub mod Uses
 pub mod Loans
-pub mod VecStep
-pub mod BytesStep
-pub mod TextStep
+pub mod Lists
+pub mod Bytes
+pub mod Texts
 pub mod Run
 pub mod Names
 pub mod Costs

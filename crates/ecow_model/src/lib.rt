@@ -2,12 +2,20 @@
 //! named values in which they are carried out.
 #![tactic(auto)]
 
+pub mod bytes;
 pub mod command;
 pub mod items;
+pub mod kinds;
 pub mod laws;
+pub mod lists;
 pub mod loans;
 pub mod table;
+pub mod texts;
+pub mod usage;
 pub mod value;
 
-pub use command::{Bounds, BytesCommand, Command, Name, Outcome, Refusal, TextCommand, VecCommand};
+pub use bytes::BytesCommand;
+pub use command::{Bounds, Command, Name, Outcome, Refusal};
 pub use items::{Items, Text};
+pub use lists::VecCommand;
+pub use texts::TextCommand;

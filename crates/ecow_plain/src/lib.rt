@@ -1,12 +1,9 @@
-//! The plain program: named lists, each with a copy of its own, which every clone copies at once.
-//! Slow and obvious, for tests to compare with.
+//! The plain store: named lists, each with a copy of its own, which every clone copies at once. Slow
+//! and obvious: it is the twin that tests compare the other keepings with.
 #![tactic(auto)]
 
-mod edits;
+mod kind;
 pub mod list;
-mod makes;
-mod parts;
-mod reads;
 pub mod store;
 
 pub use list::PlainList;

@@ -2,29 +2,27 @@
 ghost use Rattle.std.specs.Prelude.{◌≡◌, Ok, Err, MatchResult, OnErr, IfOk};
 ghost use Rattle.std.specs.FinMap as map;
 ghost use Rattle.ecow_base.specs.Clones.{ClonesAreEqual};
-ghost use Rattle.ecow_model.specs.Access.{list_at};
-ghost use Rattle.ecow_model.specs.Run.{IsVecStep, RunBy};
-ghost use Rattle.ecow_model.specs.declared.command.Refusal.{Refusal};
+ghost use Rattle.ecow_model.specs.Refusing.{OnRefused};
+ghost use Rattle.ecow_model.specs.Run.{IsVecStep, IsVecVerdict, RunBy};
+ghost use Rattle.ecow_model.specs.Values.{list_at};
 
+use crate::kind::ListKind;
 use crate::list::PlainList;
-use crate::{edits, makes, parts, reads};
+use ecow_model::kinds::carry_out;
 use ecow_model::table::Table;
 use ecow_model::value::{PlainBytes, PlainText, Value};
 use ecow_model::{Name, Outcome, Refusal, VecCommand, loans};
 use std::alloc::{AllocError, Global};
 use std::marker::Model;
 
-/// The greatest length and capacity, 2^63 - 1.
-pub(crate) const MAX_LEN: usize = 9223372036854775807;
-
-/// The values of names.
-pub(crate) type Values<T> = Table<Value<PlainList<T>, PlainBytes, PlainText>>;
+/// What stands under a name.
+pub(crate) type Stored<T> = Value<PlainList<T>, PlainBytes, PlainText>;
 
 /// Named plain values, where up to `N` bytes stand inline. It runs the commands on lists.
 #[derive(Drop)]
 pub struct PlainStore<T, const N: usize> {
     alloc: Global,
-    values: Values<T>,
+    values: Table<Stored<T>>,
 }
 
 impl<T, const N: usize> Model for PlainStore<T, N> {
@@ -57,19 +55,20 @@ impl<T, const N: usize> PlainStore<T, N> {
 }
 
 impl<T: Clone, const N: usize> PlainStore<T, N> {
-    /// Runs one command on lists. The answer is `Refused` where a rule refuses the command, and
-    /// `Memory` where there is none or an element's clone is refused; it then changed nothing.
+    /// Carries out one command. A refused command changes nothing.
     pub fn step(&mut self, command: VecCommand<T>) -> Outcome<T>
         ensures step { ClonesAreEqual T.is_clone → IsVecStep self.old command result self.new }
-        ensures refused { (why : Refusal) → result ≡ Outcome.Refused why → self.new ≡ self.old }
+        ensures verdict { IsVecVerdict self.old command result self.new }
+        ensures refused { OnRefused result (self.new ≡ self.old) }
     {
-        vec_step(self.alloc, &mut self.values, command)
+        step(self.alloc, &mut self.values, command)
     }
 
-    /// Runs commands on lists in order, each with its outcome. Room for the outcomes is taken
-    /// first: where it is refused, nothing is run.
+    /// Carries out commands in order and answers the outcome of each. Room for the outcomes is
+    /// taken first: where it is refused nothing is carried out.
     pub fn run(&mut self, commands: Vec<VecCommand<T>>) -> Result<Vec<Outcome<T>>, AllocError>
         ensures run { ClonesAreEqual T.is_clone → IfOk result (λ outcomes. RunBy IsVecStep self.old commands.items outcomes.items self.new) }
+        ensures verdicts { IfOk result (λ outcomes. RunBy IsVecVerdict self.old commands.items outcomes.items self.new) }
         ensures err { OnErr result (self.new ≡ self.old) }
     {
         let mut outcomes = Vec::with_capacity(self.alloc, commands.len())?;
@@ -82,39 +81,14 @@ impl<T: Clone, const N: usize> PlainStore<T, N> {
     }
 }
 
-fn vec_step<T: Clone>(alloc: Global, values: &mut Values<T>, command: VecCommand<T>) -> Outcome<T>
+fn step<T: Clone>(
+    alloc: Global,
+    values: &mut Table<Stored<T>>,
+    command: VecCommand<T>,
+) -> Outcome<T>
     ensures step { ClonesAreEqual T.is_clone → IsVecStep values.old command result values.new }
-    ensures refused { (why : Refusal) → result ≡ Outcome.Refused why → values.new ≡ values.old }
+    ensures verdict { IsVecVerdict values.old command result values.new }
+    ensures refused { OnRefused result (values.new ≡ values.old) }
 {
-    match command {
-        VecCommand::New { name } => makes::new_list(alloc, values, name),
-        VecCommand::WithCapacity { name, capacity } => {
-            makes::with_capacity(alloc, values, name, capacity)
-        }
-        VecCommand::FromList { name, items } => makes::from_list(values, name, items),
-        VecCommand::FromElem { name, value, n } => makes::from_elem(alloc, values, name, value, n),
-        VecCommand::Clone { from, to } => makes::clone(alloc, values, from, to),
-        VecCommand::Drop { name } => makes::drop_list(values, name),
-        VecCommand::Push { name, value } => edits::push(values, name, value),
-        VecCommand::Pop { name } => edits::pop(values, name),
-        VecCommand::Insert { name, index, value } => edits::insert(values, name, index, value),
-        VecCommand::Remove { name, index } => edits::remove(values, name, index),
-        VecCommand::Truncate { name, target } => edits::truncate(values, name, target),
-        VecCommand::Clear { name } => edits::clear(values, name),
-        VecCommand::Retain { name, marks } => edits::retain(values, name, marks),
-        VecCommand::Drain { name, bounds } => parts::drain(alloc, values, name, bounds),
-        VecCommand::Splice {
-            name,
-            bounds,
-            items,
-        } => parts::splice(values, name, bounds, items),
-        VecCommand::Extend { name, items } => edits::extend(values, name, items),
-        VecCommand::Reserve { name, additional } => edits::reserve(values, name, additional),
-        VecCommand::Write { name, index, value } => edits::write(values, name, index, value),
-        VecCommand::Read { name, index } => reads::read(values, name, index),
-        VecCommand::Len { name } => reads::len(values, name),
-        VecCommand::Contents { name } => reads::contents(alloc, values, name),
-        VecCommand::Capacity { name } => reads::capacity(values, name),
-        VecCommand::Unique { name } => reads::unique(values, name),
-    }
+    carry_out::<T, Stored<T>, ListKind>(alloc, values, command.usage())
 }

@@ -1,4 +1,2 @@
 pub mod Arguments
 pub mod Ends
-pub mod Puts
-pub mod Refusals

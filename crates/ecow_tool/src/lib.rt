@@ -1,12 +1,15 @@
-//! Commands on named values: the keeping over handles, the script, and the program over both
-//! keepings.
+//! Commands on named values: both keepings, the script, and the program over either.
 #![tactic(auto)]
 
 mod answer;
 pub mod program;
-pub mod run;
 pub mod script;
 
+pub use ecow_counted::{Counted, Filled};
+pub use ecow_list::{EcoError, Rejected};
+pub use ecow_model::{
+    Bounds, BytesCommand, Command, Items, Name, Outcome, Refusal, Text, TextCommand, VecCommand,
+};
+pub use ecow_store::Store;
 pub use program::{End, read_arguments, run_counted, run_store};
-pub use run::Store;
 pub use script::Reason;

@@ -3,10 +3,10 @@ ghost use Rattle.std.specs.Prelude.{◌≡◌, ◌<◌, length, IfSome};
 ghost use Rattle.ecow_tool.specs.Arguments.{asked, is_flag};
 
 use crate::answer::{write_answer, write_totals};
-use crate::run::Store;
 use crate::script::{Fault, Reason, read_script};
 use ecow_counted::Counted;
 use ecow_model::{Outcome, VecCommand};
+use ecow_store::Store;
 use std::alloc::{AllocError, Global};
 use std::fmt;
 use std::io::{ErrorKind, Read, Write};

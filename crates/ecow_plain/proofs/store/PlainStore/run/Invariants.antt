@@ -1,16 +1,16 @@
-use Rattle.std.proofs.Common.{◌+◌, ◌≤◌, List, ◌++◌, vec_len, vec_capacity}
+use Rattle.std.proofs.Common.{◌+◌, ◌≤◌, vec_len, vec_capacity}
 use Rattle.std.specs.Vec.Iter.{into_iter_items, into_iter_len}
 use Rattle.ecow_base.specs.Clones.{ClonesAreEqual}
-use Rattle.ecow_model.specs.State.{State}
-use Rattle.ecow_model.specs.Run.{IsVecStep, RunBy}
-use Rattle.ecow_model.specs.declared.command.Outcome.{Outcome}
+use Rattle.ecow_model.specs.Run.{IsVecStep, IsVecVerdict}
+use Rattle.ecow_model.proofs.Runs.{GoesOn}
 use Rattle.ecow_plain.proofs.store.PlainStore.run.Given as goal
 
 -- there is room for what is left, and each run of what is left goes on the run so far
 abbrev pub invariant-loop-command : goal.invariant-loop-command
 invariant-loop-command g l = record {
   room : vec_len l.outcomes + into_iter_len l.rest ≤ vec_capacity l.outcomes;
-  goes_on : ClonesAreEqual g.T.Clone.is_clone → (more : List (Outcome g.row.T.Denot)) (new : State g.row.T.Denot) → RunBy IsVecStep l.self (into_iter_items l.rest) more new → RunBy IsVecStep l.fn.self l.fn.commands.items (l.outcomes.items ++ more) new;
+  steps : ClonesAreEqual g.T.Clone.is_clone → GoesOn IsVecStep l.fn.self l.fn.commands.items l.outcomes.items (into_iter_items l.rest) l.self;
+  verdicts : GoesOn IsVecVerdict l.fn.self l.fn.commands.items l.outcomes.items (into_iter_items l.rest) l.self;
 }
 
 abbrev pub decreases-loop-command : goal.decreases-loop-command

@@ -1,0 +1,157 @@
+-- What each command on lists does.
+use Rattle.std.specs.Prelude.{◌+◌, ◌-◌, ℕ, Bool, true, false, ◌||◌, ◌==◌, nat_le, max, List, [], ◌∷◌, ◌++◌, length, take, replicate, slice_get, slice_set, slice_range, Result, Ok}
+use Rattle.std.specs.List.{insert as insert_at, remove as remove_at, remove_range, splice, items_where_true}
+use Rattle.ecow_base.specs.Range.{range_of}
+use Rattle.ecow_model.specs.State.{Plain}
+use Rattle.ecow_model.specs.Refusing.{◌>>=◌, check, found, allowed, Change, becomes}
+use Rattle.ecow_model.specs.Values.{as_list}
+use Rattle.ecow_model.specs.Uses.{Reading, Rules}
+use Rattle.ecow_model.specs.declared.value.Value.TheVariants.{List as Listed}
+use Rattle.ecow_model.specs.declared.command.Outcome.{Outcome}
+use Rattle.ecow_model.specs.declared.command.Outcome.TheVariants.{Element, Popped, Elements, Count, Flag}
+use Rattle.ecow_model.specs.declared.command.Refusal.{Refusal}
+use Rattle.ecow_model.specs.declared.command.Refusal.TheVariants.{Index, Range, Marks}
+use Rattle.ecow_model.specs.declared.usage.Made.{Made}
+use Rattle.ecow_model.specs.declared.usage.Made.TheVariants.{Value}
+use Rattle.ecow_model.specs.declared.usage.Usage.{Usage}
+use Rattle.ecow_model.specs.declared.usage.Usage.TheVariants.{Make, Derive, Drop, Change as Edit, Ask}
+use Rattle.ecow_model.specs.declared.lists.VecCommand.{VecCommand}
+use Rattle.ecow_model.specs.declared.lists.VecCommand.TheVariants as command
+use Rattle.ecow_model.specs.declared.lists.ListMake.{ListMake}
+use Rattle.ecow_model.specs.declared.lists.ListMake.TheVariants.{New, WithCapacity, FromList, FromElem}
+use Rattle.ecow_model.specs.declared.lists.ListDerive.{ListDerive}
+use Rattle.ecow_model.specs.declared.lists.ListDerive.TheVariants.{Clone}
+use Rattle.ecow_model.specs.declared.lists.ListEdit.{ListEdit}
+use Rattle.ecow_model.specs.declared.lists.ListEdit.TheVariants.{Push, Pop, Insert, Remove, Truncate, Clear, Retain, Drain, Splice, Extend, Reserve, Write}
+use Rattle.ecow_model.specs.declared.lists.ListAsk.{ListAsk}
+use Rattle.ecow_model.specs.declared.lists.ListAsk.TheVariants.{Read, Len, Contents, Capacity, Unique}
+
+-- a question that takes no memory
+abbrev pub list_ask_is_free : ListAsk → Bool
+list_ask_is_free (Read index) = false
+list_ask_is_free Contents = false
+list_ask_is_free _ = true
+
+-- a command on lists, by its parts
+abbrev pub ListUsage : Type 0 → Type 0
+ListUsage T = Usage (ListMake T) ListDerive (ListEdit T) ListAsk
+
+module _ {T : Type 0} where
+  -- the list becomes `xs`, if it may be so long
+  abbrev pub grows : List T → Change T (List T)
+  grows xs = do
+    _ ← allowed (length xs)
+    becomes xs
+
+  -- the item at an index, refused past the end
+  abbrev pub item_at : List T → ℕ → Result T Refusal
+  item_at xs index = found (slice_get xs index) Index
+
+  -- the list that is made
+  abbrev pub list_made : ListMake T → Result (List T) Refusal
+  list_made New = Ok []
+  list_made (WithCapacity capacity) = do
+    _ ← allowed capacity
+    Ok []
+  list_made (FromList items) = do
+    _ ← allowed (length items)
+    Ok items
+  list_made (FromElem value n) = do
+    _ ← allowed n
+    Ok (replicate n value)
+
+  -- the list that is made from the value of a name, which stays as it is
+  abbrev pub list_derived : ListDerive → Plain T → Result (List T) Refusal
+  list_derived Clone value = as_list value
+
+  -- what is answered, and the list after the change of the list `xs`
+  abbrev pub list_edited : ListEdit T → List T → Change T (List T)
+  list_edited (Push value) xs = grows (xs ++ value ∷ [])
+  list_edited Pop xs = Ok (Popped (slice_get xs (length xs - 1)), take (length xs - 1) xs)
+  list_edited (Insert index value) xs = do
+    _ ← check (nat_le index (length xs)) Index
+    grows (insert_at xs index value)
+  list_edited (Remove index) xs = do
+    x ← item_at xs index
+    Ok (Element x, remove_at xs index)
+  list_edited (Truncate target) xs = becomes (take target xs)
+  list_edited Clear xs = becomes []
+  list_edited (Retain marks) xs = do
+    _ ← check (length marks == length xs) Marks
+    becomes (items_where_true marks xs)
+  list_edited (Drain bounds) xs = do
+    range ← found (range_of bounds (length xs)) Range
+    Ok (Elements (slice_range xs range.0 range.1), remove_range xs range.0 range.1)
+  list_edited (Splice bounds items) xs = do
+    range ← found (range_of bounds (length xs)) Range
+    spliced ← grows (splice xs range.0 range.1 items)
+    Ok (Elements (slice_range xs range.0 range.1), spliced.1)
+  list_edited (Extend items) xs = grows (xs ++ items)
+  list_edited (Reserve additional) xs = do
+    _ ← allowed (length xs + additional)
+    becomes xs
+  list_edited (Write index value) xs = do
+    x ← item_at xs index
+    becomes (slice_set xs index value)
+
+  -- what the list `xs` answers; the capacity that is read of it is not below its length
+  abbrev pub list_asked : Reading → ListAsk → List T → Result (Outcome T) Refusal
+  list_asked seen (Read index) xs = do
+    x ← item_at xs index
+    Ok (Element x)
+  list_asked seen Len xs = Ok (Count (length xs))
+  list_asked seen Contents xs = Ok (Elements xs)
+  list_asked seen Capacity xs = Ok (Count (max seen.capacity (length xs)))
+  list_asked seen Unique xs = Ok (Flag seen.unique)
+
+  -- a change that takes no memory on the list `xs`, whoever shares it
+  abbrev pub list_edit_is_free : ListEdit T → List T → Bool
+  list_edit_is_free Clear xs = true
+  list_edit_is_free Pop xs = length xs == 0
+  list_edit_is_free (Truncate target) xs = target == 0 || nat_le (length xs) target
+  list_edit_is_free (Extend items) xs = length items == 0
+  list_edit_is_free _ xs = false
+
+  -- the list that is made is a value of its name
+  abbrev pub list_value : ListMake T → Result (Made (List T)) Refusal
+  list_value how = do
+    xs ← list_made how
+    Ok (Value xs)
+
+  abbrev pub list_rules : Rules T (Plain T) (List T) (ListMake T) ListDerive (ListEdit T) ListAsk
+  list_rules = record {
+    seen = as_list;
+    kept = Listed;
+    made = list_value;
+    derived = list_derived;
+    edited = list_edited;
+    asked = list_asked;
+    edit_is_free = list_edit_is_free;
+    ask_is_free = list_ask_is_free;
+  }
+
+  -- the parts of a command
+  abbrev pub vec_usage : VecCommand T → ListUsage T
+  vec_usage (command.New name) = Make name New
+  vec_usage (command.WithCapacity name capacity) = Make name (WithCapacity capacity)
+  vec_usage (command.FromList name items) = Make name (FromList items)
+  vec_usage (command.FromElem name value n) = Make name (FromElem value n)
+  vec_usage (command.Clone from to) = Derive from to Clone
+  vec_usage (command.Drop name) = Drop name
+  vec_usage (command.Push name value) = Edit name (Push value)
+  vec_usage (command.Pop name) = Edit name Pop
+  vec_usage (command.Insert name index value) = Edit name (Insert index value)
+  vec_usage (command.Remove name index) = Edit name (Remove index)
+  vec_usage (command.Truncate name target) = Edit name (Truncate target)
+  vec_usage (command.Clear name) = Edit name Clear
+  vec_usage (command.Retain name marks) = Edit name (Retain marks)
+  vec_usage (command.Drain name bounds) = Edit name (Drain bounds)
+  vec_usage (command.Splice name bounds items) = Edit name (Splice bounds items)
+  vec_usage (command.Extend name items) = Edit name (Extend items)
+  vec_usage (command.Reserve name additional) = Edit name (Reserve additional)
+  vec_usage (command.Write name index value) = Edit name (Write index value)
+  vec_usage (command.Read name index) = Ask name (Read index)
+  vec_usage (command.Len name) = Ask name Len
+  vec_usage (command.Contents name) = Ask name Contents
+  vec_usage (command.Capacity name) = Ask name Capacity
+  vec_usage (command.Unique name) = Ask name Unique

@@ -1,0 +1,41 @@
+-- What stands under names, and the tests that a name passes.
+use Rattle.std.specs.Prelude.{ℕ, if◌then◌else◌, Result, Ok, Err}
+use Rattle.std.specs.Ordering.{nat_cmp}
+use Rattle.std.specs.FinMap.{FinMap, get, contains_key}
+use Rattle.ecow_model.specs.Refusing.{◌>>=◌, found}
+use Rattle.ecow_model.specs.declared.value.Value.{Value}
+use Rattle.ecow_model.specs.declared.value.Value.TheVariants.{List as Listed, Bytes as Buffered, Text as Written}
+use Rattle.ecow_model.specs.declared.command.Refusal.{Refusal}
+use Rattle.ecow_model.specs.declared.command.Refusal.TheVariants.{NoName, Taken, Kind}
+
+-- what stands under each name
+abbrev pub Named : Type 0 → Type 0
+Named V = FinMap nat_cmp V
+
+-- what stands under a name, refused where the name isn't there
+abbrev pub there : {V : Type 0} → Named V → ℕ → Result V Refusal
+there old name = found (get old name) NoName
+
+-- refused where the name is there
+abbrev pub unused : {V : Type 0} → Named V → ℕ → Result (Unit {0}) Refusal
+unused old name = if contains_key old name then Err Taken else Ok tt
+
+-- refused where the value is of another kind
+abbrev pub as_list : {L B S : Type 0} → Value L B S → Result L Refusal
+as_list (Listed xs) = Ok xs
+as_list (Buffered b) = Err Kind
+as_list (Written t) = Err Kind
+
+abbrev pub as_bytes : {L B S : Type 0} → Value L B S → Result B Refusal
+as_bytes (Listed xs) = Err Kind
+as_bytes (Buffered b) = Ok b
+as_bytes (Written t) = Err Kind
+
+abbrev pub as_text : {L B S : Type 0} → Value L B S → Result S Refusal
+as_text (Listed xs) = Err Kind
+as_text (Buffered b) = Err Kind
+as_text (Written t) = Ok t
+
+-- the list under a name
+abbrev pub list_at : {L B S : Type 0} → Named (Value L B S) → ℕ → Result L Refusal
+list_at old name = there old name >>= as_list

@@ -1,0 +1,224 @@
+//! The commands on bytes, and their parts.
+ghost use Rattle.std.specs.Prelude.{◌≡◌};
+ghost use Rattle.ecow_model.specs.Bytes.{bytes_usage};
+
+use crate::command::Name;
+use crate::items::Items;
+use crate::usage::{Usage, ask, change, derive, make};
+
+/// A command on bytes, inline or spilled. Counts and indexes are of bytes.
+#[derive(Drop)]
+pub enum BytesCommand {
+    /// No bytes, inline.
+    New {
+        name: Name,
+    },
+    /// Inline bytes. Answers `Flag`: false, and nothing is made, where they are past the inline limit.
+    TryInline {
+        name: Name,
+        bytes: Items<u8>,
+    },
+    /// No bytes, with room for `capacity`.
+    WithCapacity {
+        name: Name,
+        capacity: usize,
+    },
+    /// A copy of `bytes`.
+    FromList {
+        name: Name,
+        bytes: Items<u8>,
+    },
+    /// The bytes of a vector: spilled, however few.
+    FromEcoVec {
+        name: Name,
+        bytes: Items<u8>,
+    },
+    /// Under `to`, the UTF-8 bytes of the text `from`, in its mode.
+    FromText {
+        from: Name,
+        to: Name,
+    },
+    /// Under `to`, the bytes of `from`, in their mode.
+    Clone {
+        from: Name,
+        to: Name,
+    },
+    /// The name is free again.
+    Drop {
+        name: Name,
+    },
+    /// Appends `byte`.
+    Push {
+        name: Name,
+        byte: u8,
+    },
+    /// Takes the last byte. Answers `PoppedByte`.
+    Pop {
+        name: Name,
+    },
+    /// Puts `byte` in at `index`, which is at most the length.
+    Insert {
+        name: Name,
+        index: usize,
+        byte: u8,
+    },
+    /// Takes the byte at `index`. Answers `Byte`.
+    Remove {
+        name: Name,
+        index: usize,
+    },
+    /// Appends `bytes`.
+    Extend {
+        name: Name,
+        bytes: Items<u8>,
+    },
+    /// Puts `bytes` in at `index`, which is at most the length.
+    InsertSlice {
+        name: Name,
+        index: usize,
+        bytes: Items<u8>,
+    },
+    /// Keeps the first `target` bytes, or all where there are fewer.
+    Truncate {
+        name: Name,
+        target: usize,
+    },
+    /// Keeps no byte.
+    Clear {
+        name: Name,
+    },
+    /// Makes room for `additional` more bytes.
+    Reserve {
+        name: Name,
+        additional: usize,
+    },
+    /// Puts `byte` in place of the byte at `index`.
+    Write {
+        name: Name,
+        index: usize,
+        byte: u8,
+    },
+    /// Answers the byte at `index`: `Byte`.
+    Read {
+        name: Name,
+        index: usize,
+    },
+    /// Under `to`, the bytes of `from`, `n` times over.
+    Repeat {
+        from: Name,
+        to: Name,
+        n: usize,
+    },
+    /// Brings spilled bytes back inline where they are within the limit.
+    ShrinkToFit {
+        name: Name,
+    },
+    /// Answers the number of bytes: `Count`.
+    Len {
+        name: Name,
+    },
+    /// Answers for how many bytes there is room: `Count`.
+    Capacity {
+        name: Name,
+    },
+    /// Answers the bytes: `Bytes`.
+    Contents {
+        name: Name,
+    },
+    /// Answers whether the bytes are inline: `Flag`.
+    IsInline {
+        name: Name,
+    },
+}
+
+/// How bytes are made.
+#[derive(Drop)]
+pub enum BytesMake {
+    New,
+    TryInline(Items<u8>),
+    WithCapacity(usize),
+    FromList(Items<u8>),
+    FromEcoVec(Items<u8>),
+}
+
+/// How bytes are made from another value.
+#[derive(Clone, Copy)]
+pub enum BytesDerive {
+    FromText,
+    Clone,
+    Repeat(usize),
+}
+
+/// A change of bytes.
+#[derive(Drop)]
+pub enum BytesEdit {
+    Push(u8),
+    Pop,
+    Insert(usize, u8),
+    Remove(usize),
+    Extend(Items<u8>),
+    InsertSlice(usize, Items<u8>),
+    Truncate(usize),
+    Clear,
+    Reserve(usize),
+    Write(usize, u8),
+    ShrinkToFit,
+}
+
+/// A question to bytes.
+#[derive(Clone, Copy)]
+pub enum BytesAsk {
+    Read(usize),
+    Len,
+    Capacity,
+    Contents,
+    IsInline,
+}
+
+/// A command on bytes, by its parts.
+pub type BytesUsage = Usage<BytesMake, BytesDerive, BytesEdit, BytesAsk>;
+
+impl BytesCommand {
+    /// The parts of the command.
+    pub fn usage(self) -> BytesUsage
+        ensures { result ≡ bytes_usage self }
+    {
+        match self {
+            BytesCommand::New { name } => make(name, BytesMake::New),
+            BytesCommand::TryInline { name, bytes } => make(name, BytesMake::TryInline(bytes)),
+            BytesCommand::WithCapacity { name, capacity } => {
+                make(name, BytesMake::WithCapacity(capacity))
+            }
+            BytesCommand::FromList { name, bytes } => make(name, BytesMake::FromList(bytes)),
+            BytesCommand::FromEcoVec { name, bytes } => make(name, BytesMake::FromEcoVec(bytes)),
+            BytesCommand::FromText { from, to } => derive(from, to, BytesDerive::FromText),
+            BytesCommand::Clone { from, to } => derive(from, to, BytesDerive::Clone),
+            BytesCommand::Drop { name } => Usage::Drop { name },
+            BytesCommand::Push { name, byte } => change(name, BytesEdit::Push(byte)),
+            BytesCommand::Pop { name } => change(name, BytesEdit::Pop),
+            BytesCommand::Insert { name, index, byte } => {
+                change(name, BytesEdit::Insert(index, byte))
+            }
+            BytesCommand::Remove { name, index } => change(name, BytesEdit::Remove(index)),
+            BytesCommand::Extend { name, bytes } => change(name, BytesEdit::Extend(bytes)),
+            BytesCommand::InsertSlice { name, index, bytes } => {
+                change(name, BytesEdit::InsertSlice(index, bytes))
+            }
+            BytesCommand::Truncate { name, target } => change(name, BytesEdit::Truncate(target)),
+            BytesCommand::Clear { name } => change(name, BytesEdit::Clear),
+            BytesCommand::Reserve { name, additional } => {
+                change(name, BytesEdit::Reserve(additional))
+            }
+            BytesCommand::Write { name, index, byte } => {
+                change(name, BytesEdit::Write(index, byte))
+            }
+            BytesCommand::Read { name, index } => ask(name, BytesAsk::Read(index)),
+            BytesCommand::Repeat { from, to, n } => derive(from, to, BytesDerive::Repeat(n)),
+            BytesCommand::ShrinkToFit { name } => change(name, BytesEdit::ShrinkToFit),
+            BytesCommand::Len { name } => ask(name, BytesAsk::Len),
+            BytesCommand::Capacity { name } => ask(name, BytesAsk::Capacity),
+            BytesCommand::Contents { name } => ask(name, BytesAsk::Contents),
+            BytesCommand::IsInline { name } => ask(name, BytesAsk::IsInline),
+        }
+    }
+}

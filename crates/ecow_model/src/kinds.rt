@@ -1,0 +1,166 @@
+//! The commands on named values by their parts, carried out once for all kinds of value.
+ghost use Rattle.std.specs.Prelude.{◌≡◌, ◌⊎◌, MatchResult, Ok, Err};
+ghost use Rattle.std.specs.Borrow.{sem};
+ghost use Rattle.std.specs.FinMap as map;
+ghost use Rattle.ecow_base.specs.Clones.{ClonesAreEqual};
+ghost use Rattle.ecow_model.specs.Loans.{LendsSeen, LendsKept};
+ghost use Rattle.ecow_model.specs.Refusing.{OnRefused};
+ghost use Rattle.ecow_model.specs.Uses.{Rules, Keeps, IsMade, IsMadeOrRefused, IsDerived, IsDerivedOrRefused, IsEdit, IsEditVerdict, IsAnswer, IsAnswerVerdict, IsUse, IsUseVerdict, value_at};
+ghost use Rattle.ecow_model.specs.declared.command.Outcome.{Outcome};
+ghost use Rattle.ecow_model.specs.declared.command.Refusal.{Refusal};
+
+use crate::command::{Name, Outcome, Refusal};
+use crate::loans::value_mut;
+use crate::table::Table;
+use crate::usage::{Made, Usage};
+use std::alloc::Global;
+
+/// A kind of value, where values of type `V` stand under names: what the parts of a command do with
+/// one of its values. `rules` are the definitions that it keeps.
+pub trait Kind<T: Clone, V: Drop> {
+    /// A value of the kind.
+    type Held: Drop;
+
+    /// The ways to make one.
+    type Make: Drop;
+
+    /// The ways to make one from a value of any kind.
+    type Derive: Drop;
+
+    /// The changes of one.
+    type Edit: Drop;
+
+    /// The questions to one.
+    type Ask: Drop;
+
+    ghost rules: { Rules T V Self.Held Self.Make Self.Derive Self.Edit Self.Ask };
+
+    /// A value that is made, or why it is not.
+    fn make(alloc: Global, how: Self::Make) -> Result<Made<Self::Held>, Refusal>
+        ensures made { ClonesAreEqual T.is_clone → IsMade rules how result }
+        ensures verdict { IsMadeOrRefused rules how result };
+
+    /// A value that is made from another one, or why it is not.
+    fn derive(alloc: Global, how: Self::Derive, source: &V) -> Result<Self::Held, Refusal>
+        ensures derived { ClonesAreEqual T.is_clone → IsDerived rules how source.now result }
+        ensures verdict { IsDerivedOrRefused rules how source.now result };
+
+    /// Carries out one change. A refused one changes nothing.
+    fn edit(alloc: Global, held: &mut Self::Held, edit: Self::Edit) -> Outcome<T>
+        ensures step { ClonesAreEqual T.is_clone → IsEdit rules edit held.old result held.new }
+        ensures verdict { IsEditVerdict rules edit held.old result }
+        ensures refused { OnRefused result (held.new ≡ held.old) };
+
+    /// Answers one question.
+    fn ask(alloc: Global, held: &mut Self::Held, question: Self::Ask) -> Outcome<T>
+        ensures answer { ClonesAreEqual T.is_clone → IsAnswer rules question held.old result }
+        ensures verdict { IsAnswerVerdict rules question held.old result }
+        ensures kept { held.new ≡ held.old };
+
+    /// What stands under a name, where it is of this kind, and else why it can't be used.
+    fn seen(value: &V) -> Result<&Self::Held, Refusal>
+        ensures { MatchResult result (λ x. rules.seen value.now ≡ Ok x.now) (λ refusal. rules.seen value.now ≡ Err refusal) };
+
+    /// The same for writing.
+    fn seen_mut(value: &mut V) -> Result<&mut Self::Held, Refusal>
+        ensures* writes_back { sem 𝓛 (LendsSeen V.row Self.Held.row rules.kept value.entry result) }
+        ensures value { MatchResult result (λ x. rules.seen value.old ≡ Ok x.now) (λ refusal. rules.seen value.old ≡ Err refusal) };
+
+    /// A value of the kind as one that stands under a name.
+    fn kept(held: Self::Held) -> V
+        ensures { result ≡ rules.kept held };
+
+    ghost keeps: { Keeps rules };
+}
+
+/// The value of a kind under a name, for writing.
+fn lent_at<T: Clone, V: Drop, K: Kind<T, V>>(
+    values: &mut Table<V>,
+    name: Name,
+) -> Result<&mut K::Held, Refusal>
+    ensures* writes_back { sem 𝓛 (LendsKept V.row K.Held.row K.rules.kept values.entry name result) }
+    ensures value { MatchResult result (λ x. value_at K.rules values.old name ≡ Ok x.now) (λ refusal. value_at K.rules values.old name ≡ Err refusal) }
+{
+    K::seen_mut(value_mut(values, name)?)
+}
+
+/// Puts a value under a name, and then answers `outcome`.
+fn put<T: Drop, V: Drop>(
+    values: &mut Table<V>,
+    name: Name,
+    value: V,
+    outcome: Outcome<T>,
+) -> Outcome<T>
+    ensures { ((result ≡ outcome) × (values.new ≡ map.insert values.old name value)) ⊎ ((result ≡ Outcome.Refused Refusal.Memory) × (values.new ≡ values.old)) }
+{
+    match values.insert(name, value) {
+        Ok(()) => outcome,
+        Err(_) => Outcome::Refused(Refusal::Memory),
+    }
+}
+
+/// Carries out one command on values of one kind. A refused one changes nothing.
+pub fn carry_out<T: Clone, V: Drop, K: Kind<T, V>>(
+    alloc: Global,
+    values: &mut Table<V>,
+    usage: Usage<K::Make, K::Derive, K::Edit, K::Ask>,
+) -> Outcome<T>
+    ensures step { ClonesAreEqual T.is_clone → IsUse K.rules values.old usage result values.new }
+    ensures verdict { IsUseVerdict K.rules values.old usage result }
+    ensures refused { OnRefused result (values.new ≡ values.old) }
+{
+    match usage {
+        Usage::Make { name, how } => {
+            if values.contains(name) {
+                return Outcome::Refused(Refusal::Taken);
+            }
+            let made: Made<K::Held> = match K::make(alloc, how) {
+                Ok(made) => made,
+                Err(refusal) => return Outcome::Refused(refusal),
+            };
+            match made {
+                Made::Value(value) => put(values, name, K::kept(value), Outcome::Done),
+                Made::Tried(Some(value)) => put(values, name, K::kept(value), Outcome::Flag(true)),
+                Made::Tried(None) => Outcome::Flag(false),
+            }
+        }
+        Usage::Derive { from, to, how } => {
+            let Some(source) = values.get(from) else {
+                return Outcome::Refused(Refusal::NoName);
+            };
+            if values.contains(to) {
+                return Outcome::Refused(Refusal::Taken);
+            }
+            let derived: Result<K::Held, Refusal> = K::derive(alloc, how, source);
+            match derived {
+                Ok(value) => put(values, to, K::kept(value), Outcome::Done),
+                Err(refusal) => Outcome::Refused(refusal),
+            }
+        }
+        Usage::Drop { name } => {
+            let Some(held) = values.get(name) else {
+                return Outcome::Refused(Refusal::NoName);
+            };
+            let seen: Result<&K::Held, Refusal> = K::seen(held);
+            if let Err(refusal) = seen {
+                return Outcome::Refused(refusal);
+            }
+            let _ = values.remove(name);
+            Outcome::Done
+        }
+        Usage::Change { name, edit } => {
+            let held: Result<&mut K::Held, Refusal> = lent_at::<T, V, K>(values, name);
+            match held {
+                Ok(value) => K::edit(alloc, value, edit),
+                Err(refusal) => Outcome::Refused(refusal),
+            }
+        }
+        Usage::Ask { name, question } => {
+            let held: Result<&mut K::Held, Refusal> = lent_at::<T, V, K>(values, name);
+            match held {
+                Ok(value) => K::ask(alloc, value, question),
+                Err(refusal) => Outcome::Refused(refusal),
+            }
+        }
+    }
+}

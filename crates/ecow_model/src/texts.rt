@@ -1,0 +1,247 @@
+//! The commands on texts, and their parts.
+ghost use Rattle.std.specs.Prelude.{◌≡◌};
+ghost use Rattle.ecow_model.specs.Texts.{text_usage};
+
+use crate::command::Name;
+use crate::items::Text;
+use crate::usage::{Usage, ask, change, derive, make};
+
+/// A command on a text, inline or spilled. Counts and indexes are of its UTF-8 bytes.
+#[derive(Drop)]
+pub enum TextCommand {
+    /// An empty text, inline.
+    New {
+        name: Name,
+    },
+    /// An inline text. Answers `Flag`: false, and nothing is made, where it is past the inline limit.
+    TryInline {
+        name: Name,
+        text: Text,
+    },
+    /// An empty text with room for `capacity` bytes.
+    WithCapacity {
+        name: Name,
+        capacity: usize,
+    },
+    /// A copy of `text`.
+    FromStr {
+        name: Name,
+        text: Text,
+    },
+    /// The text of one character.
+    FromChar {
+        name: Name,
+        c: char,
+    },
+    /// Under `to`, the text of which `from` are the UTF-8 bytes, in their mode.
+    FromBytes {
+        from: Name,
+        to: Name,
+    },
+    /// Under `to`, the text of `from`, in its mode.
+    Clone {
+        from: Name,
+        to: Name,
+    },
+    /// The name is free again.
+    Drop {
+        name: Name,
+    },
+    /// Appends `c`.
+    Push {
+        name: Name,
+        c: char,
+    },
+    /// Takes the last character. Answers `PoppedChar`.
+    Pop {
+        name: Name,
+    },
+    /// Appends `text`.
+    PushStr {
+        name: Name,
+        text: Text,
+    },
+    /// Puts `c` in at the byte index `index`, a boundary.
+    Insert {
+        name: Name,
+        index: usize,
+        c: char,
+    },
+    /// Puts `text` in at the byte index `index`, a boundary.
+    InsertStr {
+        name: Name,
+        index: usize,
+        text: Text,
+    },
+    /// Takes the character at the byte index `index`, a boundary below the length. Answers `Char`.
+    Remove {
+        name: Name,
+        index: usize,
+    },
+    /// Keeps the first `target` bytes, a boundary, or all where there are fewer.
+    Truncate {
+        name: Name,
+        target: usize,
+    },
+    /// Keeps no character.
+    Clear {
+        name: Name,
+    },
+    /// Makes room for `additional` more bytes.
+    Reserve {
+        name: Name,
+        additional: usize,
+    },
+    /// Under `to`, the text of `from` with `replacement` in place of the first `count` occurrences of
+    /// `pattern`.
+    Replace {
+        from: Name,
+        to: Name,
+        pattern: Text,
+        replacement: Text,
+        count: usize,
+    },
+    /// Under `to`, the text of `from`, `n` times over.
+    Repeat {
+        from: Name,
+        to: Name,
+        n: usize,
+    },
+    /// Maps the letters `A` to `Z` to lower case, in place.
+    AsciiLower {
+        name: Name,
+    },
+    /// Maps the letters `a` to `z` to upper case, in place.
+    AsciiUpper {
+        name: Name,
+    },
+    /// Under `to`, the text of `from` in ASCII lower case, in its mode.
+    ToAsciiLower {
+        from: Name,
+        to: Name,
+    },
+    /// Under `to`, the text of `from` in ASCII upper case, in its mode.
+    ToAsciiUpper {
+        from: Name,
+        to: Name,
+    },
+    /// Brings a spilled text back inline where its bytes are within the limit.
+    ShrinkToFit {
+        name: Name,
+    },
+    /// Answers the number of bytes: `Count`.
+    Len {
+        name: Name,
+    },
+    /// Answers for how many bytes there is room: `Count`.
+    Capacity {
+        name: Name,
+    },
+    /// Answers the text: `Text`.
+    Contents {
+        name: Name,
+    },
+    /// Answers whether the bytes are inline: `Flag`.
+    IsInline {
+        name: Name,
+    },
+}
+
+/// How a text is made.
+#[derive(Drop)]
+pub enum TextMake {
+    New,
+    TryInline(Text),
+    WithCapacity(usize),
+    FromStr(Text),
+    FromChar(char),
+}
+
+/// How a text is made from another value.
+#[derive(Drop)]
+pub enum TextDerive {
+    FromBytes,
+    Clone,
+    /// `pattern`, `replacement` and the greatest number of occurrences.
+    Replace(Text, Text, usize),
+    Repeat(usize),
+    ToAsciiLower,
+    ToAsciiUpper,
+}
+
+/// A change of a text.
+#[derive(Drop)]
+pub enum TextEdit {
+    Push(char),
+    Pop,
+    PushStr(Text),
+    Insert(usize, char),
+    InsertStr(usize, Text),
+    Remove(usize),
+    Truncate(usize),
+    Clear,
+    Reserve(usize),
+    AsciiLower,
+    AsciiUpper,
+    ShrinkToFit,
+}
+
+/// A question to a text.
+#[derive(Clone, Copy)]
+pub enum TextAsk {
+    Len,
+    Capacity,
+    Contents,
+    IsInline,
+}
+
+/// A command on texts, by its parts.
+pub type TextUsage = Usage<TextMake, TextDerive, TextEdit, TextAsk>;
+
+impl TextCommand {
+    /// The parts of the command.
+    pub fn usage(self) -> TextUsage
+        ensures { result ≡ text_usage self }
+    {
+        match self {
+            TextCommand::New { name } => make(name, TextMake::New),
+            TextCommand::TryInline { name, text } => make(name, TextMake::TryInline(text)),
+            TextCommand::WithCapacity { name, capacity } => {
+                make(name, TextMake::WithCapacity(capacity))
+            }
+            TextCommand::FromStr { name, text } => make(name, TextMake::FromStr(text)),
+            TextCommand::FromChar { name, c } => make(name, TextMake::FromChar(c)),
+            TextCommand::FromBytes { from, to } => derive(from, to, TextDerive::FromBytes),
+            TextCommand::Clone { from, to } => derive(from, to, TextDerive::Clone),
+            TextCommand::Drop { name } => Usage::Drop { name },
+            TextCommand::Push { name, c } => change(name, TextEdit::Push(c)),
+            TextCommand::Pop { name } => change(name, TextEdit::Pop),
+            TextCommand::PushStr { name, text } => change(name, TextEdit::PushStr(text)),
+            TextCommand::Insert { name, index, c } => change(name, TextEdit::Insert(index, c)),
+            TextCommand::InsertStr { name, index, text } => {
+                change(name, TextEdit::InsertStr(index, text))
+            }
+            TextCommand::Remove { name, index } => change(name, TextEdit::Remove(index)),
+            TextCommand::Truncate { name, target } => change(name, TextEdit::Truncate(target)),
+            TextCommand::Clear { name } => change(name, TextEdit::Clear),
+            TextCommand::Reserve { name, additional } => change(name, TextEdit::Reserve(additional)),
+            TextCommand::Replace {
+                from,
+                to,
+                pattern,
+                replacement,
+                count,
+            } => derive(from, to, TextDerive::Replace(pattern, replacement, count)),
+            TextCommand::Repeat { from, to, n } => derive(from, to, TextDerive::Repeat(n)),
+            TextCommand::AsciiLower { name } => change(name, TextEdit::AsciiLower),
+            TextCommand::AsciiUpper { name } => change(name, TextEdit::AsciiUpper),
+            TextCommand::ToAsciiLower { from, to } => derive(from, to, TextDerive::ToAsciiLower),
+            TextCommand::ToAsciiUpper { from, to } => derive(from, to, TextDerive::ToAsciiUpper),
+            TextCommand::ShrinkToFit { name } => change(name, TextEdit::ShrinkToFit),
+            TextCommand::Len { name } => ask(name, TextAsk::Len),
+            TextCommand::Capacity { name } => ask(name, TextAsk::Capacity),
+            TextCommand::Contents { name } => ask(name, TextAsk::Contents),
+            TextCommand::IsInline { name } => ask(name, TextAsk::IsInline),
+        }
+    }
+}

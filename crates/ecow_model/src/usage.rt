@@ -1,0 +1,88 @@
+//! How commands use names, whatever kind of value stands under them.
+ghost use Rattle.std.specs.Prelude.{◌≡◌, ◌+◌, nat_lt};
+ghost use Rattle.ecow_model.specs.Refusing.{allowed as is_allowed, check as is_checked};
+
+use crate::command::{Name, Refusal};
+use ecow_base::MAX_LEN;
+
+/// A command by its parts: how it uses names, and what it does to the value of a name. Each kind of
+/// value has its own ways to make one, to derive one from another, its changes and its questions.
+#[derive(Drop)]
+pub enum Usage<Make, Derive, Edit, Ask> {
+    /// Makes a value under a name that is new.
+    Make { name: Name, how: Make },
+    /// Makes a value under a name that is new, from one that stays as it is.
+    Derive { from: Name, to: Name, how: Derive },
+    /// Takes the name out.
+    Drop { name: Name },
+    /// Changes the value of the name.
+    Change { name: Name, edit: Edit },
+    /// Asks something of the value of the name.
+    Ask { name: Name, question: Ask },
+}
+
+/// What comes of a command that makes a value.
+#[derive(Drop)]
+pub enum Made<V> {
+    /// The value. The command answers `Done`.
+    Value(V),
+    /// The value, if it could be made. The command answers `Flag`.
+    Tried(Option<V>),
+}
+
+pub(crate) fn make<Make, Derive, Edit, Ask>(
+    name: Name,
+    how: Make,
+) -> Usage<Make, Derive, Edit, Ask>
+    ensures { result ≡ Usage.Make name how }
+{
+    Usage::Make { name, how }
+}
+
+pub(crate) fn derive<Make, Derive, Edit, Ask>(
+    from: Name,
+    to: Name,
+    how: Derive,
+) -> Usage<Make, Derive, Edit, Ask>
+    ensures { result ≡ Usage.Derive from to how }
+{
+    Usage::Derive { from, to, how }
+}
+
+pub(crate) fn change<Make, Derive, Edit, Ask>(
+    name: Name,
+    edit: Edit,
+) -> Usage<Make, Derive, Edit, Ask>
+    ensures { result ≡ Usage.Change name edit }
+{
+    Usage::Change { name, edit }
+}
+
+pub(crate) fn ask<Make, Derive, Edit, Ask>(
+    name: Name,
+    question: Ask,
+) -> Usage<Make, Derive, Edit, Ask>
+    ensures { result ≡ Usage.Ask name question }
+{
+    Usage::Ask { name, question }
+}
+
+/// Whether a value of `len` items may have `additional` more.
+pub(crate) fn allowed(len: usize, additional: usize) -> Result<(), Refusal>
+    ensures { result ≡ is_allowed (len + additional) }
+{
+    if len > MAX_LEN || additional > MAX_LEN - len {
+        return Err(Refusal::Capacity);
+    }
+    Ok(())
+}
+
+/// Whether one of `len` items stands at `index`.
+pub(crate) fn within(index: usize, len: usize) -> Result<(), Refusal>
+    ensures { result ≡ is_checked (nat_lt index len) Refusal.Index }
+{
+    if index >= len {
+        return Err(Refusal::Index);
+    }
+    Ok(())
+}

@@ -1,0 +1,261 @@
+//! What the store does with a list: each table of the definitions is one `match`.
+ghost use Rattle.std.specs.Prelude.{◌≡◌, ◌≤◌, [], Ok, length, vec_capacity, OnOk, OnErr, IfErr, MatchResult};
+ghost use Rattle.std.specs.List.{items_where_true};
+ghost use Rattle.ecow_base.specs.Clones.{ClonesAreEqual};
+ghost use Rattle.ecow_list.specs.declared.error.EcoError.{EcoError};
+ghost use Rattle.ecow_model.specs.Lists.{list_edited, list_rules};
+ghost use Rattle.ecow_model.specs.Refusing.{OnRefused, verdict};
+ghost use Rattle.ecow_model.specs.Run.{IsVecStep, IsVecVerdict};
+ghost use Rattle.ecow_model.specs.Uses.{IsEdit, IsEditVerdict};
+ghost use Rattle.ecow_model.specs.declared.command.Outcome.{Outcome};
+ghost use Rattle.ecow_model.specs.declared.command.Refusal.{Refusal};
+ghost use Rattle.ecow_model.specs.declared.lists.ListEdit.{ListEdit};
+ghost use Rattle.ecow_model.proofs.Uses.{list_keeps};
+ghost use Rattle.ecow_store.specs.Refusals.{refusal_for};
+
+use crate::store::Stored;
+use ecow_base::resolve;
+use ecow_list::{Drain, EcoError, EcoVec, Splice};
+use ecow_model::kinds::{Kind, carry_out};
+use ecow_model::lists::{ListAsk, ListDerive, ListEdit, ListMake};
+use ecow_model::table::Table;
+use ecow_model::usage::Made;
+use ecow_model::value::{Value, list_in, list_in_mut};
+use ecow_model::{Bounds, Items, Outcome, Refusal, VecCommand};
+use std::alloc::{AllocError, Global};
+
+/// One command on lists.
+pub(crate) fn step<T: Clone>(
+    alloc: Global,
+    values: &mut Table<Stored<T>>,
+    command: VecCommand<T>,
+) -> Outcome<T>
+    ensures step { ClonesAreEqual T.is_clone → IsVecStep values.old command result values.new }
+    ensures verdict { IsVecVerdict values.old command result values.new }
+    ensures refused { OnRefused result (values.new ≡ values.old) }
+{
+    carry_out::<T, Stored<T>, ListKind>(alloc, values, command.usage())
+}
+
+/// Why a command was refused whose call was.
+fn refusal_of(error: EcoError) -> Refusal
+    ensures { result ≡ refusal_for error }
+{
+    match error {
+        EcoError::Capacity => Refusal::Capacity,
+        EcoError::Memory => Refusal::Memory,
+    }
+}
+
+/// Lists, which are handles.
+pub(crate) struct ListKind;
+
+impl<T: Clone> Kind<T, Stored<T>> for ListKind {
+    type Held = EcoVec<T>;
+
+    type Make = ListMake<T>;
+
+    type Derive = ListDerive;
+
+    type Edit = ListEdit<T>;
+
+    type Ask = ListAsk;
+
+    ghost rules = { list_rules };
+
+    fn make(alloc: Global, how: ListMake<T>) -> Result<Made<EcoVec<T>>, Refusal> {
+        let made = match how {
+            ListMake::New => Ok(EcoVec::new(alloc)),
+            ListMake::WithCapacity(capacity) => EcoVec::with_capacity(alloc, capacity),
+            ListMake::FromList(items) => match EcoVec::from_vec(alloc, items.into_vec()) {
+                Ok(list) => Ok(list),
+                Err(rejected) => Err(rejected.error),
+            },
+            ListMake::FromElem(value, n) => match EcoVec::from_elem(alloc, value, n) {
+                Ok(list) => Ok(list),
+                Err(rejected) => Err(rejected.error),
+            },
+        };
+        match made {
+            Ok(list) => Ok(Made::Value(list)),
+            Err(error) => Err(refusal_of(error)),
+        }
+    }
+
+    fn derive(
+        _alloc: Global,
+        how: ListDerive,
+        source: &Stored<T>,
+    ) -> Result<EcoVec<T>, Refusal> {
+        match (how, source) {
+            (ListDerive::Clone, Value::List(list)) => {
+                let copy: Result<EcoVec<T>, AllocError> = list.clone();
+                match copy {
+                    Ok(copy) => Ok(copy),
+                    Err(_) => Err(Refusal::Memory),
+                }
+            }
+            (ListDerive::Clone, _) => Err(Refusal::Kind),
+        }
+    }
+
+    #[tactic(auto, using(ecow_model::proofs::Lengths::edits, std::proofs::lemmas::Option::slice_get_cases))]
+    fn edit(alloc: Global, list: &mut EcoVec<T>, edit: ListEdit<T>) -> Outcome<T> {
+        if let Err(refusal) = edit.check(list.len()) {
+            return Outcome::Refused(refusal);
+        }
+        match edit {
+            ListEdit::Push(value) => done(list.push(value)),
+            ListEdit::Pop => match list.pop() {
+                Ok(last) => Outcome::Popped(last),
+                Err(_) => Outcome::Refused(Refusal::Memory),
+            },
+            ListEdit::Insert(index, value) => done(list.insert(index, value)),
+            ListEdit::Remove(index) => match list.remove(index) {
+                Ok(value) => Outcome::Element(value),
+                Err(_) => Outcome::Refused(Refusal::Memory),
+            },
+            ListEdit::Truncate(target) => done(list.truncate(target)),
+            ListEdit::Clear => {
+                list.clear();
+                Outcome::Done
+            }
+            ListEdit::Retain(marks) => done(retain_marked(list, marks.as_slice())),
+            ListEdit::Drain(bounds) => drain(alloc, list, bounds),
+            ListEdit::Splice(bounds, items) => splice(alloc, list, bounds, items),
+            ListEdit::Extend(items) => done(list.extend_from_slice(items.as_slice())),
+            ListEdit::Reserve(additional) => done(list.reserve(additional)),
+            ListEdit::Write(index, value) => done(list.set(index, value)),
+        }
+    }
+
+    fn ask(alloc: Global, list: &mut EcoVec<T>, question: ListAsk) -> Outcome<T> {
+        match question {
+            ListAsk::Read(index) => match list.as_slice().get(index) {
+                None => Outcome::Refused(Refusal::Index),
+                Some(item) => match item.clone() {
+                    Ok(copy) => Outcome::Element(copy),
+                    Err(_) => Outcome::Refused(Refusal::Memory),
+                },
+            },
+            ListAsk::Len => Outcome::Count(list.len()),
+            ListAsk::Contents => match Items::from_slice(alloc, list.as_slice()) {
+                Ok(elements) => Outcome::Elements(elements),
+                Err(_) => Outcome::Refused(Refusal::Memory),
+            },
+            ListAsk::Capacity => Outcome::Count(list.capacity()),
+            ListAsk::Unique => Outcome::Flag(list.is_unique()),
+        }
+    }
+
+    fn seen(value: &Stored<T>) -> Result<&EcoVec<T>, Refusal> {
+        list_in(value)
+    }
+
+    fn seen_mut(value: &mut Stored<T>) -> Result<&mut EcoVec<T>, Refusal> {
+        list_in_mut(value)
+    }
+
+    fn kept(list: EcoVec<T>) -> Stored<T> {
+        Value::List(list)
+    }
+
+    ghost keeps = { list_keeps };
+}
+
+/// What a change answers: that it was made, or that memory was wanting.
+fn done<T: Drop, E: Drop>(change: Result<(), E>) -> Outcome<T>
+    ensures { MatchResult change (λ _. result ≡ Outcome.Done) (λ _. result ≡ Outcome.Refused Refusal.Memory) }
+{
+    match change {
+        Ok(()) => Outcome::Done,
+        Err(_) => Outcome::Refused(Refusal::Memory),
+    }
+}
+
+/// Keeps the elements that are marked true.
+fn retain_marked<T: Clone>(list: &mut EcoVec<T>, marks: &[bool]) -> Result<(), EcoError>
+    requires { length marks.now ≡ length list.old }
+    ensures ok { ClonesAreEqual T.is_clone → OnOk result (list.new ≡ items_where_true marks.now list.old) }
+    ensures err { IfErr result (λ error. error ≡ EcoError.Memory) }
+    ensures unchanged { OnErr result (list.new ≡ list.old) }
+{
+    let mut rest = marks;
+    list.retain(|_| match rest.split_first() {
+        Some((mark, tail)) => {
+            rest = tail;
+            *mark
+        }
+        None => false,
+    })
+}
+
+/// The elements that were drained, in `elements`, which is empty and has room for them.
+fn drained<T: Drop>(removed: Drain<T>, elements: Vec<T>) -> Items<T>
+    requires empty { elements.items ≡ [] }
+    requires room { length removed ≤ vec_capacity elements }
+    ensures { result ≡ removed }
+{
+    let (mut removed, mut elements) = (removed, elements);
+    while let Some(element) = removed.next() {
+        elements.push_reserved(element);
+    }
+    Items::new(elements)
+}
+
+/// The elements that were replaced, in `elements`, which is empty and has room for them.
+fn replaced<T: Drop>(removed: Splice<T>, elements: Vec<T>) -> Items<T>
+    requires empty { elements.items ≡ [] }
+    requires room { length removed ≤ vec_capacity elements }
+    ensures { result ≡ removed }
+{
+    let (mut removed, mut elements) = (removed, elements);
+    while let Some(element) = removed.next() {
+        elements.push_reserved(element);
+    }
+    Items::new(elements)
+}
+
+/// Takes the elements within bounds out of a list.
+#[tactic(auto, using(ecow_model::proofs::Lengths::edits))]
+fn drain<T: Clone>(alloc: Global, list: &mut EcoVec<T>, bounds: Bounds) -> Outcome<T>
+    ensures step { ClonesAreEqual T.is_clone → IsEdit list_rules (ListEdit.Drain bounds) list.old result list.new }
+    ensures verdict { IsEditVerdict list_rules (ListEdit.Drain bounds) list.old result }
+    ensures refused { OnRefused result (list.new ≡ list.old) }
+{
+    let Some((start, end)) = resolve(&bounds, list.len()) else {
+        return Outcome::Refused(Refusal::Range);
+    };
+    let Ok(elements) = Vec::with_capacity(alloc, end - start) else {
+        return Outcome::Refused(Refusal::Memory);
+    };
+    match list.drain(bounds) {
+        Ok(removed) => Outcome::Elements(drained(removed, elements)),
+        Err(_) => Outcome::Refused(Refusal::Memory),
+    }
+}
+
+/// Puts items in place of the elements of a list within bounds.
+#[tactic(auto, using(ecow_model::proofs::Lengths::edits))]
+fn splice<T: Clone>(
+    alloc: Global,
+    list: &mut EcoVec<T>,
+    bounds: Bounds,
+    items: Items<T>,
+) -> Outcome<T>
+    requires { verdict (list_edited (ListEdit.Splice bounds items) list.old) ≡ Ok tt }
+    ensures step { ClonesAreEqual T.is_clone → IsEdit list_rules (ListEdit.Splice bounds items) list.old result list.new }
+    ensures verdict { IsEditVerdict list_rules (ListEdit.Splice bounds items) list.old result }
+    ensures refused { OnRefused result (list.new ≡ list.old) }
+{
+    let Some((start, end)) = resolve(&bounds, list.len()) else {
+        return Outcome::Refused(Refusal::Range);
+    };
+    let Ok(elements) = Vec::with_capacity(alloc, end - start) else {
+        return Outcome::Refused(Refusal::Memory);
+    };
+    match list.splice(bounds, items.into_vec()) {
+        Ok(removed) => Outcome::Elements(replaced(removed, elements)),
+        Err(_) => Outcome::Refused(Refusal::Memory),
+    }
+}
