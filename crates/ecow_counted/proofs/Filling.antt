@@ -4,14 +4,18 @@ use Rattle.std.specs.Prelude.{nat_lt, replicate}
 use Rattle.std.specs.FinMap as finite
 use Rattle.std.specs.Option.{unwrap_or}
 use Rattle.ecow_base.specs.Capacity.{MAX}
-use Rattle.ecow_model.specs.Access.{◌>>=◌, OnRefused, allowed, free}
+use Rattle.ecow_model.specs.Refusing.{◌>>=◌, OnRefused, allowed}
+use Rattle.ecow_model.specs.Values.{unused}
+use Rattle.ecow_model.specs.Uses.{Gives}
+use Rattle.ecow_model.specs.Lists.{ListUsage, list_made, grows, vec_usage}
 use Rattle.ecow_model.specs.Costs.{capacity_after, moves, moved_by}
-use Rattle.ecow_model.specs.CountedRun.{nothing, held_at, reading_of, change, counted_step, counted_is_free, CountedStep, CountedRun, saturating, if_accepted, copied, moved, sum_in_run}
+use Rattle.ecow_model.specs.CountedRun.{nothing, held_at, change, counted_used, counted_is_free, CountedStep, CountedRun, saturating, if_accepted, copied_in, moved_in, sum_in_run}
 use Rattle.ecow_model.specs.Names.{Names, Held, IsSharing, is_shared, settle, strain_at}
-use Rattle.ecow_model.specs.Run.{StepBy}
-use Rattle.ecow_model.specs.VecStep.{grows}
-use Rattle.ecow_model.specs.declared.command.VecCommand.{VecCommand}
-use Rattle.ecow_model.specs.declared.command.VecCommand.TheVariants.{New, Push}
+use Rattle.ecow_model.specs.declared.usage.Usage.TheVariants.{Make, Change as Edit}
+use Rattle.ecow_model.specs.declared.lists.ListMake.TheVariants.{New as Begin}
+use Rattle.ecow_model.specs.declared.lists.ListEdit.TheVariants.{Push as Append}
+use Rattle.ecow_model.specs.declared.lists.VecCommand.{VecCommand}
+use Rattle.ecow_model.specs.declared.lists.VecCommand.TheVariants.{New, Push}
 use Rattle.ecow_model.specs.declared.command.Outcome.{Outcome}
 use Rattle.ecow_model.specs.declared.command.Outcome.TheVariants.{Done, Refused}
 use Rattle.ecow_model.specs.declared.command.Refusal.{Refusal}
@@ -62,29 +66,29 @@ module _ {T : Type 0} where
   run_more (d ∷ cs) [] old mid new c outcome h step = absurd h
   run_more (d ∷ cs) (o ∷ outcomes) old mid new c outcome h step = (h.0, h.1, run_more cs outcomes h.0 mid new c outcome h.2 step)
 
-  sum_more : (cost : VecCommand T → Names T → ℕ) (cs : List (VecCommand T)) (outcomes : List (Outcome T)) (old mid : Names T) (c : VecCommand T) (outcome : Outcome T) → IsSharing old → CountedRun old cs outcomes mid
-      → sum_in_run cost old (cs ++ c ∷ []) (outcomes ++ outcome ∷ []) ≡ sum_in_run cost old cs outcomes + if_accepted outcome (cost c mid)
-  sum_more cost [] [] old mid c outcome groups h = let same : if_accepted outcome (cost c mid) ≡ if_accepted outcome (cost c old) = ap (λ names. if_accepted outcome (cost c names)) h in omega (arith, same)
+  sum_more : (cost : ListUsage T → Names T → ℕ) (cs : List (VecCommand T)) (outcomes : List (Outcome T)) (old mid : Names T) (c : VecCommand T) (outcome : Outcome T) → IsSharing old → CountedRun old cs outcomes mid
+      → sum_in_run cost old (cs ++ c ∷ []) (outcomes ++ outcome ∷ []) ≡ sum_in_run cost old cs outcomes + if_accepted outcome (cost (vec_usage c) mid)
+  sum_more cost [] [] old mid c outcome groups h = let same : if_accepted outcome (cost (vec_usage c) mid) ≡ if_accepted outcome (cost (vec_usage c) old) = ap (λ names. if_accepted outcome (cost (vec_usage c) names)) h in omega (arith, same)
   sum_more cost [] (o ∷ outcomes) old mid c outcome groups h = absurd h
   sum_more cost (d ∷ cs) [] old mid c outcome groups h = absurd h
   sum_more cost (d ∷ cs) (o ∷ outcomes) old mid c outcome groups h =
-      let step = step_paid d old groups o h.0 h.1 in
-      let later : sum_in_run cost h.0 (cs ++ c ∷ []) (outcomes ++ outcome ∷ []) ≡ sum_in_run cost h.0 cs outcomes + if_accepted outcome (cost c mid) = sum_more cost cs outcomes h.0 mid c outcome step.sharing h.2 in
+      let step = step_paid (vec_usage d) old groups o h.0 h.1 in
+      let later : sum_in_run cost h.0 (cs ++ c ∷ []) (outcomes ++ outcome ∷ []) ≡ sum_in_run cost h.0 cs outcomes + if_accepted outcome (cost (vec_usage c) mid) = sum_more cost cs outcomes h.0 mid c outcome step.sharing h.2 in
       rw step.after (omega (arith, later))
 
-  pub runs_one : (old : Keeping T) (c : VecCommand T) (outcome : Outcome T) (new : Keeping T) → CountedStep old.names c outcome new.names → new.copied ≡ saturating old.copied (if_accepted outcome (copied c old.names)) → new.moved ≡ saturating old.moved (if_accepted outcome (moved c old.names)) → IsRunOf old (c ∷ []) (outcome ∷ []) new
+  pub runs_one : (old : Keeping T) (c : VecCommand T) (outcome : Outcome T) (new : Keeping T) → CountedStep old.names c outcome new.names → new.copied ≡ saturating old.copied (if_accepted outcome (copied_in (vec_usage c) old.names)) → new.moved ≡ saturating old.moved (if_accepted outcome (moved_in (vec_usage c) old.names)) → IsRunOf old (c ∷ []) (outcome ∷ []) new
   runs_one old c outcome new step copies moves = record { run = (new.names, step, refl); copied = omega (arith, copies); moved = omega (arith, moves) }
 
   pub runs_more : (old : Keeping T) (cs : List (VecCommand T)) (outcomes : List (Outcome T)) (mid new : Keeping T) (c : VecCommand T) (outcome : Outcome T) → IsSharing old.names → IsRunOf old cs outcomes mid
-      → CountedStep mid.names c outcome new.names → new.copied ≡ saturating mid.copied (if_accepted outcome (copied c mid.names)) → new.moved ≡ saturating mid.moved (if_accepted outcome (moved c mid.names)) → IsRunOf old (cs ++ c ∷ []) (outcomes ++ outcome ∷ []) new
+      → CountedStep mid.names c outcome new.names → new.copied ≡ saturating mid.copied (if_accepted outcome (copied_in (vec_usage c) mid.names)) → new.moved ≡ saturating mid.moved (if_accepted outcome (moved_in (vec_usage c) mid.names)) → IsRunOf old (cs ++ c ∷ []) (outcomes ++ outcome ∷ []) new
   runs_more old cs outcomes mid new c outcome groups so_far step copies moves = record {
     run = run_more cs outcomes old.names mid.names new.names c outcome so_far.run step;
-    copied = omega (arith, copies, so_far.copied, sum_more copied cs outcomes old.names mid.names c outcome groups so_far.run);
-    moved = omega (arith, moves, so_far.moved, sum_more moved cs outcomes old.names mid.names c outcome groups so_far.run);
+    copied = omega (arith, copies, so_far.copied, sum_more copied_in cs outcomes old.names mid.names c outcome groups so_far.run);
+    moved = omega (arith, moves, so_far.moved, sum_more moved_in cs outcomes old.names mid.names c outcome groups so_far.run);
   }
 
-  accepted_as : (given : Result (Outcome T × Names T) Refusal) (free : Bool) (old : Names T) (outcome : Outcome T) (new : Names T) → StepBy given (Unit {0}) free old outcome new → OnRefused outcome ⊥ → given ≡ Ok (outcome, new)
-  accepted_as (Ok answer) free old outcome new (inl h) ok = ap (λ a. Ok a) (sym h.0)
+  accepted_as : (given : Result (Outcome T × Names T) Refusal) (free : Bool) (old : Names T) (outcome : Outcome T) (new : Names T) → Gives given free old outcome new → OnRefused outcome ⊥ → given ≡ Ok (outcome, new)
+  accepted_as (Ok answer) free old outcome new (inl h) ok = ap (λ a. Ok a) (sym h)
   accepted_as (Ok answer) free old outcome new (inr h) ok = absurd (subst (λ o. OnRefused o ⊥) h.0 ok)
   accepted_as (Err refusal) free old outcome new h ok = absurd (subst (λ o. OnRefused o ⊥) h.0 ok)
 
@@ -104,15 +108,14 @@ module _ {T : Type 0} where
     begun : CountedStep old.names (New name) outcome new.names → (outcome ≡ Done) × (new.names ≡ settle name [] 0 old.names)
     begun step =
         let answer : Outcome T × Names T = (outcome, new.names) in
-        let unused = bound (free old.names name) _ answer (accepted_as (counted_step old.names (New name)) (counted_is_free old.names (New name)) old.names outcome new.names step ok) in
-        let same : ◌≡◌ {A = Outcome T × Names T} (Done, settle name [] 0 old.names) answer = same_answer _ answer unused.2 in
+        let is_new = bound (unused old.names name) _ answer (accepted_as (counted_used old.names (Make name Begin)) (counted_is_free old.names (Make name Begin)) old.names outcome new.names step ok) in
+        let same : ◌≡◌ {A = Outcome T × Names T} (Done, settle name [] 0 old.names) answer = same_answer _ answer is_new.2 in
         (sym (ap (λ a. a.0) same), sym (ap (λ a. a.1) same))
 
-    pub begins : CountedStep old.names (New name) outcome new.names → new.moved ≡ saturating old.moved (if_accepted outcome (moved (New name) old.names)) → (outcome ≡ Done) × IsFilling old.moved name 0 new
+    pub begins : CountedStep old.names (New name) outcome new.names → new.moved ≡ saturating old.moved (if_accepted outcome 0) → (outcome ≡ Done) × IsFilling old.moved name 0 new
     begins step moves =
         let is = begun step in
-        let none : moved (New name) old.names ≡ 0 = elim (is_shared (held_at old.names name)) as (λ b. ◌≡◌ {A = ℕ} (cond b 0 0) 0) [ true ↦ refl | false ↦ refl ] in
-        let count : if_accepted outcome (moved (New name) old.names) ≡ 0 = ap (λ o. if_accepted o (moved (New name) old.names)) is.0 ∙ none in (
+        let count : if_accepted outcome 0 ≡ 0 = ap (λ o. if_accepted o 0) is.0 in (
           is.0,
           record {
             held = record { items = []; group = []; capacity = 0 };
@@ -129,33 +132,33 @@ module _ {T : Type 0} where
       after = so_far.held.items ++ value ∷ []
 
       abbrev capacity : ℕ
-      capacity = capacity_after (Push name value) false (length so_far.held.items) so_far.held.capacity
+      capacity = capacity_after (Append value) false (length so_far.held.items) so_far.held.capacity
 
-      given_at : counted_step old.names (Push name value) ≡ (grows after >>= (λ a. Ok (a.0, change (Push name value) name so_far.held a.1 old.names)))
+      given_at : counted_used old.names (Edit name (Append value)) ≡ (grows after >>= (λ a. Ok (a.0, change (Append value) name so_far.held a.1 old.names)))
       given_at = rw so_far.at refl
 
       grown_is : (answer : Outcome T × List T) → grows after ≡ Ok answer → ◌≡◌ {A = Outcome T × List T} (Done, after) answer
       grown_is answer e = same_answer _ answer (bound (allowed (length after)) _ answer e).2
 
-      pushed : CountedStep old.names (Push name value) outcome new.names → (outcome ≡ Done) × (length after ≤ MAX) × (new.names ≡ change (Push name value) name so_far.held after old.names)
+      pushed : CountedStep old.names (Push name value) outcome new.names → (outcome ≡ Done) × (length after ≤ MAX) × (new.names ≡ change (Append value) name so_far.held after old.names)
       pushed step =
           let answer : Outcome T × Names T = (outcome, new.names) in
-          let grown = bound (grows after) _ answer (sym given_at ∙ accepted_as (counted_step old.names (Push name value)) (counted_is_free old.names (Push name value)) old.names outcome new.names step ok) in
-          let is = is_answer (reading_of so_far.held) so_far.held.items grown.0 (Push name value) grown.1 in
+          let grown = bound (grows after) _ answer (sym given_at ∙ accepted_as (counted_used old.names (Edit name (Append value))) (counted_is_free old.names (Edit name (Append value))) old.names outcome new.names step ok) in
+          let is = is_answer so_far.held.items grown.0 (Append value) grown.1 in
           let same : ◌≡◌ {A = Outcome T × List T} (Done, after) grown.0 = grown_is grown.0 grown.1 in
-          let ends : ◌≡◌ {A = Outcome T × Names T} (grown.0.0, change (Push name value) name so_far.held grown.0.1 old.names) answer = same_answer _ answer grown.2 in
-          (sym (ap (λ a. a.0) ends) ∙ sym (ap (λ a. a.0) same), subst (λ a. length a.1 ≤ MAX) (sym same) is.1.1, sym (ap (λ a. a.1) ends) ∙ ap (λ a. change (Push name value) name so_far.held a.1 old.names) (sym same))
+          let ends : ◌≡◌ {A = Outcome T × Names T} (grown.0.0, change (Append value) name so_far.held grown.0.1 old.names) answer = same_answer _ answer grown.2 in
+          (sym (ap (λ a. a.0) ends) ∙ sym (ap (λ a. a.0) same), subst (λ a. length a.1 ≤ MAX) (sym same) is.1.1, sym (ap (λ a. a.1) ends) ∙ ap (λ a. change (Append value) name so_far.held a.1 old.names) (sym same))
 
-      pub pushes : CountedStep old.names (Push name value) outcome new.names → new.moved ≡ saturating old.moved (if_accepted outcome (moved (Push name value) old.names)) → (outcome ≡ Done) × IsFilling before name (n + 1) new
+      pub pushes : CountedStep old.names (Push name value) outcome new.names → new.moved ≡ saturating old.moved (if_accepted outcome (moved_in (vec_usage (Push name value)) old.names)) → (outcome ≡ Done) × IsFilling before name (n + 1) new
       pushes step moves_are =
           let is = pushed step in
           let long : length after ≡ length so_far.held.items + 1 = length-append so_far.held.items (value ∷ []) in
           let fits = groups.fits name so_far.held so_far.at in
-          let cost : IsPaidSole (Push name value) (length so_far.held.items) (length after) so_far.held.capacity = paid_sole (length so_far.held.items) (length after) so_far.held.capacity fits.0 fits.1 (Push name value) (long, is.1) in
-          let goes : change (Push name value) name so_far.held after old.names ≡ settle name after capacity old.names = ap (λ b. cond (b && not true) old.names (settle name after (capacity_after (Push name value) b (length so_far.held.items) so_far.held.capacity) old.names)) so_far.sole in
+          let cost : IsPaidSole (Append value) (length so_far.held.items) (length after) so_far.held.capacity = paid_sole (length so_far.held.items) (length after) so_far.held.capacity fits.0 fits.1 (Append value) (long, is.1) in
+          let goes : change (Append value) name so_far.held after old.names ≡ settle name after capacity old.names = ap (λ b. cond (b && not true) old.names (settle name after (capacity_after (Append value) b (length so_far.held.items) so_far.held.capacity) old.names)) so_far.sole in
           let holds : held_at old.names name ≡ so_far.held = ap (λ o. unwrap_or o nothing) so_far.at in
-          let growth : moved (Push name value) old.names ≡ moves (Push name value) (length so_far.held.items) so_far.held.capacity = ap (moved_by (Push name value)) holds ∙ ap (λ b. cond b 0 (moves (Push name value) (length so_far.held.items) so_far.held.capacity)) so_far.sole in
-          let count : if_accepted outcome (moved (Push name value) old.names) ≡ moves (Push name value) (length so_far.held.items) so_far.held.capacity = ap (λ o. if_accepted o (moved (Push name value) old.names)) is.0 ∙ growth in
+          let growth : moved_in (vec_usage (Push name value)) old.names ≡ moves (Append value) (length so_far.held.items) so_far.held.capacity = ap (moved_by (Append value)) holds ∙ ap (λ b. cond b 0 (moves (Append value) (length so_far.held.items) so_far.held.capacity)) so_far.sole in
+          let count : if_accepted outcome (moved_in (vec_usage (Push name value)) old.names) ≡ moves (Append value) (length so_far.held.items) so_far.held.capacity = ap (λ o. if_accepted o (moved_in (vec_usage (Push name value)) old.names)) is.0 ∙ growth in
           let had : strain_at n so_far.held.capacity ≡ strain_at (length so_far.held.items) so_far.held.capacity = ap (λ k. strain_at k so_far.held.capacity) (sym so_far.count) in
           let has : strain_at (n + 1) capacity ≡ strain_at (length after) capacity = ap (λ k. strain_at k capacity) (sym (long ∙ ap (λ k. k + 1) so_far.count)) in (
             is.0,

@@ -3,11 +3,8 @@ pub mod Joining
 pub mod Leaving
 pub mod Placing
 pub mod Updates
-pub mod Splits
-pub mod Rotations
 pub mod Opening
 pub mod Editing
-pub mod Stepping
-pub mod Reading
+pub mod Carrying
 pub mod Totals
 pub mod Filling

@@ -1,9 +1,10 @@
 -- The totals over a run.
 use Rattle.std.proofs.Common.{◌≡◌, ℕ, ◌+◌, ◌*◌, ◌^◌, ◌<◌, ◌≤◌, List, ◌∷◌, sym, ◌∙◌, ap, arith}
 use Rattle.ecow_model.specs.CountedRun.{CountedStep, CountedRun, saturating, if_accepted, sum_in_run, copied_in_run, moved_in_run, eager_in_run, input_in_run}
+use Rattle.ecow_model.specs.Lists.{ListUsage, vec_usage}
 use Rattle.ecow_model.specs.Names.{Names, IsSharing, debt, strain}
 use Rattle.ecow_model.specs.declared.command.Outcome.{Outcome}
-use Rattle.ecow_model.specs.declared.command.VecCommand.{VecCommand}
+use Rattle.ecow_model.specs.declared.lists.VecCommand.{VecCommand}
 use Rattle.ecow_laws.proofs.Bounds.{step_paid, copies_at_most_eagerly, moves_are_paid}
 use Rattle.ecow_counted.specs.Keeping.{Keeping}
 use Rattle.ecow_counted.specs.Totals.{CopiedIsSum, MovedIsSum, CopiedIsPaid, MovedIsPaid}
@@ -11,17 +12,20 @@ use Rattle.ecow_counted.specs.Totals.{CopiedIsSum, MovedIsSum, CopiedIsPaid, Mov
 pub saturating_twice : (n a b : ℕ) → saturating (saturating n a) b ≡ saturating n (a + b)
 saturating_twice n a b = omega arith
 
+pub saturating_none : (n : ℕ) → n < 2 ^ 64 → n ≡ saturating n 0
+saturating_none n h = omega arith
+
 pub saturating_small : (n a : ℕ) → saturating n a < 2 ^ 64
 saturating_small n a = omega arith
 
-module _ {T : Type 0} (cost : VecCommand T → Names T → ℕ) (before : ℕ) (c : VecCommand T) (old : Names T) (groups : IsSharing old) (outcome : Outcome T) (mid : Names T) (step : CountedStep old c outcome mid) where
+module _ {T : Type 0} (cost : ListUsage T → Names T → ℕ) (before : ℕ) (c : VecCommand T) (old : Names T) (groups : IsSharing old) (outcome : Outcome T) (mid : Names T) (step : CountedStep old c outcome mid) where
   -- the first command's share of a total, and that of the others
-  pub total_goes_on : (after : ℕ) → after ≡ saturating before (if_accepted outcome (cost c old)) → (cs : List (VecCommand T)) (outcomes : List (Outcome T))
+  pub total_goes_on : (after : ℕ) → after ≡ saturating before (if_accepted outcome (cost (vec_usage c) old)) → (cs : List (VecCommand T)) (outcomes : List (Outcome T))
       → saturating after (sum_in_run cost mid cs outcomes) ≡ saturating before (sum_in_run cost old (c ∷ cs) (outcome ∷ outcomes))
   total_goes_on after rises cs outcomes =
       ap (λ n. saturating n (sum_in_run cost mid cs outcomes)) rises
-      ∙ saturating_twice before (if_accepted outcome (cost c old)) (sum_in_run cost mid cs outcomes)
-      ∙ ap (λ names. saturating before (if_accepted outcome (cost c old) + sum_in_run cost names cs outcomes)) (sym (step_paid c old groups outcome mid step).after)
+      ∙ saturating_twice before (if_accepted outcome (cost (vec_usage c) old)) (sum_in_run cost mid cs outcomes)
+      ∙ ap (λ names. saturating before (if_accepted outcome (cost (vec_usage c) old) + sum_in_run cost names cs outcomes)) (sym (step_paid (vec_usage c) old groups outcome mid step).after)
 
 module _ {T : Type 0} (old : Keeping T) (cs : List (VecCommand T)) (outcomes : List (Outcome T)) (new : Keeping T) (groups : IsSharing old.names) (run : CountedRun old.names cs outcomes new.names) (copies : CopiedIsSum old cs outcomes new) (moves : MovedIsSum old cs outcomes new) where
   pub copies_paid : CopiedIsPaid old cs outcomes new

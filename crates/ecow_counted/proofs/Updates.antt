@@ -10,11 +10,11 @@ use Rattle.slab.specs.Slab.{Slab, get, slab_len, HasRoomFor}
 use Rattle.ecow_base.specs.Capacity.{MAX}
 use Rattle.ecow_block.specs.Contents.{Contents, contents}
 use Rattle.ecow_model.specs.CountedRun.{nothing, held_at}
-use Rattle.ecow_model.specs.Names.{Names, Held, IsSharing, forget, settle, join, blocks, block_of as one_block}
+use Rattle.ecow_model.specs.Names.{Names, Held, IsSharing, forget, settle, join, blocks, one_block}
 use Rattle.ecow_laws.proofs.Totals.{same_nat, total-empty, get-insert_nat, get-remove_nat}
 use Rattle.ecow_laws.proofs.Settled.{settle_bare}
 use Rattle.ecow_counted.specs.declared.blocks.Entry.{Entry}
-use Rattle.ecow_counted.specs.Sizes.{size_of, block_of, sole_block}
+use Rattle.ecow_counted.specs.Sizes.{size_of, sole_block}
 use Rattle.ecow_counted.specs.Places.{Places, names_at, held_in, names_of, entry_in, has_room, IsOwned, IsTable}
 use Rattle.ecow_counted.proofs.Placing.{found_at, get_names_of, sharing-table}
 use Rattle.ecow_counted.proofs.Changes.{shown_at, shown_entry, shown_none, absent_place, some_place, entry_at, bare_place, removed_names, removed_table, made_names, made_table, placed_names, placed_table}
@@ -66,16 +66,14 @@ module _ {X : Type 0} (places : Places) (table : Slab (Entry X)) (is : IsTable p
     absent : finite.get places x ≡ None → finite.get names x ≡ None
     absent f = sym (ap (λ n. finite.get n x) shown) ∙ shown_none places table x f
 
-    pub block_shown : (entry : Entry X) → entry_in table (finite.get places x) ≡ Some entry → Some entry.block ≡ block_of (finite.get names x)
-    block_shown entry e =
-        let there = held_entry entry e in
-        let some : 0 < length (names_at there.0 places) = omega (arith, there.2.counted, there.2.some) in
-        sym (ap block_of there.1 ∙ ap (λ b. cond b (Some (contents entry.block.items entry.block.capacity)) None) (lt-ltb 0 (length (names_at there.0 places)) some))
+    -- the list of a name with a block, and of one without
+    pub list_shown : (entry : Entry X) → entry_in table (finite.get places x) ≡ Some entry → entry.block.items ≡ (held_at names x).items
+    list_shown entry e = let there = held_entry entry e in sym (ap (λ o. (unwrap_or o nothing).items) there.1)
 
-    pub no_block_shown : entry_in table (finite.get places x) ≡ None → None ≡ block_of (finite.get names x)
-    no_block_shown none = elim (finite.get places x) as (λ o. finite.get places x ≡ o → None ≡ block_of (finite.get names x)) [
-      | None ↦ λ f. sym (ap block_of (absent f))
-      | Some w ↦ λ f. sym (ap block_of (held_bare none (ap is_some f)))
+    pub no_list_shown : entry_in table (finite.get places x) ≡ None → [] ≡ (held_at names x).items
+    no_list_shown none = elim (finite.get places x) as (λ o. finite.get places x ≡ o → [] ≡ (held_at names x).items) [
+      | None ↦ λ f. sym (ap (λ o. (unwrap_or o nothing).items) (absent f))
+      | Some w ↦ λ f. sym (ap (λ o. (unwrap_or o nothing).items) (held_bare none (ap is_some f)))
     ] refl
 
     pub size_shown : (entry : Entry X) → entry_in table (finite.get places x) ≡ Some entry → Some (record { len = length entry.block.items; capacity = entry.block.capacity; owners = entry.owners }) ≡ option_map size_of (finite.get names x)

@@ -1,3 +1,4 @@
+pub mod Carrying
 pub mod Edits
 pub mod Filling
 pub mod Keeping

@@ -3,7 +3,7 @@ use Rattle.std.specs.Prelude.{◌≡◌, ◌+◌, ◌-◌, ◌*◌, ◌<◌, ◌
 use Rattle.ecow_model.specs.CountedRun.{saturating, copied_in_run, moved_in_run, eager_in_run, input_in_run}
 use Rattle.ecow_model.specs.Names.{debt, strain}
 use Rattle.ecow_model.specs.declared.command.Outcome.{Outcome}
-use Rattle.ecow_model.specs.declared.command.VecCommand.{VecCommand}
+use Rattle.ecow_model.specs.declared.lists.VecCommand.{VecCommand}
 use Rattle.ecow_counted.specs.Keeping.{Keeping}
 
 module _ {T : Type 0} (old : Keeping T) (cs : List (VecCommand T)) (outcomes : List (Outcome T)) (new : Keeping T) where

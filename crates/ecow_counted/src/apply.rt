@@ -1,152 +1,107 @@
-//! What the edits do to a block that has room for them. Nothing here is refused, but for the room
+//! What the changes do to a block that has room for them. Nothing here is refused, but for the room
 //! and the clones that are taken before.
-ghost use Rattle.std.specs.Prelude.{◌≡◌, ℕ, IsSome, IfSome, ◌+◌, ◌-◌, ◌<◌, ◌≤◌, ◌++◌, ◌∷◌, [], false, length, IsOk, IfOk, Ok, vec_len, vec_capacity, slice_range, drop, take, reverse};
+ghost use Rattle.std.specs.Prelude.{◌≡◌, ◌+◌, ◌-◌, ◌≤◌, ◌++◌, [], false, length, IsSome, IsOk, IfOk, IfSome, Ok, vec_capacity, slice_range};
 ghost use Rattle.std.specs.List.{splice, items_where_true};
 ghost use Rattle.ecow_base.specs.Clones.{ClonesAreEqual};
 ghost use Rattle.ecow_base.specs.Range.{range_of, items_in_range};
-ghost use Rattle.ecow_model.specs.Access.{OnRefused, Reading};
-ghost use Rattle.ecow_model.specs.VecStep.{list_change};
 ghost use Rattle.ecow_block.specs.Contents.{contents};
-ghost use Rattle.ecow_counted.specs.Edits.{edit_of, asks, length_after, brought, taken_out, takes_spare};
+ghost use Rattle.ecow_model.specs.Lists.{list_edited};
+ghost use Rattle.ecow_model.specs.Refusing.{OnRefused, verdict};
+ghost use Rattle.ecow_counted.specs.Edits.{asked_length, length_after, brought, spare_room, taken_out, takes_spare};
 
-use crate::edit::Edit;
-use ecow_base::resolve;
-use ecow_block::Block;
+use ecow_base::{MAX_LEN, resolve};
+use ecow_block::{Block, Rest};
+use ecow_model::lists::ListEdit;
 use ecow_model::{Bounds, Items, Outcome};
 use std::alloc::{AllocError, Global};
 
-/// What is taken before an edit is made: clones of the items that it appends, or room for the
-/// elements that it answers.
-pub(crate) fn spare<T: Clone>(
-    alloc: Global,
-    edit: &Edit<T>,
-    len: usize,
-) -> Result<Vec<T>, AllocError>
-    ensures items { ClonesAreEqual T.is_clone → IfOk result (λ spare. spare.items ≡ brought edit.now) }
-    ensures len { IfOk result (λ spare. vec_len spare ≡ length (brought edit.now)) }
-    ensures room { IfOk result (λ spare. taken_out edit.now len ≤ vec_capacity spare) }
-    ensures free { takes_spare edit.now ≡ false → IsOk result }
+/// What is taken before a change is made: a block with the clones that it appends, or with room for
+/// what changes places; and room for the elements that it answers.
+#[derive(Drop)]
+pub(crate) struct Spare<T> {
+    pub block: Block<T>,
+    pub answer: Vec<T>,
+}
+
+impl<T: Clone> Spare<T> {
+    /// All that a change of a list of `len` elements takes.
+    pub fn new(alloc: Global, edit: &ListEdit<T>, len: usize) -> Result<Self, AllocError>
+        requires bounded { len ≤ MAX_LEN }
+        requires asked { asked_length edit.now len ≤ MAX_LEN }
+        ensures items { ClonesAreEqual T.is_clone → IfOk result (λ spare. spare.block.items ≡ brought edit.now) }
+        ensures len { IfOk result (λ spare. length spare.block.items ≡ length (brought edit.now)) }
+        ensures room { IfOk result (λ spare. spare_room edit.now len ≤ spare.block.capacity) }
+        ensures empty { IfOk result (λ spare. spare.answer.items ≡ []) }
+        ensures answer { IfOk result (λ spare. taken_out edit.now len ≤ vec_capacity spare.answer) }
+        ensures free { takes_spare edit.now ≡ false → IsOk result }
+    {
+        let taken = taken_by(edit, len);
+        let answer = Vec::with_capacity(alloc, taken)?;
+        let block = match edit {
+            ListEdit::Extend(items) if items.len() > 0 => {
+                Block::from_clones(alloc, items.as_slice(), items.len())?
+            }
+            ListEdit::Splice(_, items) => Block::with_capacity(alloc, taken.max(items.len()))?,
+            _ => Block::with_capacity(alloc, taken)?,
+        };
+        Ok(Spare { block, answer })
+    }
+}
+
+/// How many elements a change answers.
+fn taken_by<T>(edit: &ListEdit<T>, len: usize) -> usize
+    ensures taken { result ≡ taken_out edit.now len }
+    ensures within { result ≤ len }
 {
     match edit {
-        Edit::Extend(items) => clones(alloc, items),
-        Edit::Drain(bounds) => match resolve(bounds, len) {
-            Some((start, end)) => Vec::with_capacity(alloc, end - start),
-            None => Ok(Vec::new(alloc)),
-        },
-        Edit::Splice(bounds, _) => match resolve(bounds, len) {
-            Some((start, end)) => Vec::with_capacity(alloc, end - start),
-            None => Ok(Vec::new(alloc)),
-        },
-        _ => Ok(Vec::new(alloc)),
+        ListEdit::Drain(bounds) => count_in(bounds, len),
+        ListEdit::Splice(bounds, _) => count_in(bounds, len),
+        _ => 0,
     }
 }
 
-/// Clones of items. Takes no memory for none.
-fn clones<T: Clone>(alloc: Global, items: &Items<T>) -> Result<Vec<T>, AllocError>
-    ensures items { ClonesAreEqual T.is_clone → IfOk result (λ clones. clones.items ≡ items.now) }
-    ensures len { IfOk result (λ clones. vec_len clones ≡ length items.now) }
-    ensures free { length items.now ≡ 0 → IsOk result }
+/// How many elements of a list of `len` a range has; none where the bounds are no range of it.
+fn count_in(bounds: &Bounds, len: usize) -> usize
+    ensures count { result ≡ items_in_range bounds.now len }
+    ensures within { result ≤ len }
 {
-    let mut clones = Vec::new(alloc);
-    if items.len() == 0 {
-        return Ok(clones);
-    }
-    clones.extend_with_clones(items.as_slice())?;
-    Ok(clones)
-}
-
-/// Turns the elements of a block, so that those from `middle` on stand first.
-fn turn<T>(block: &mut Block<T>, middle: usize)
-    requires { middle ≤ length block.old.items }
-    ensures { block.new ≡ contents (drop middle block.old.items ++ take middle block.old.items) block.old.capacity }
-{
-    let elements = block.as_mut_slice();
-    elements.rotate_left(middle);
-}
-
-/// Takes the elements from `len` on out of a block, into `taken`, which is empty and has room.
-fn split<T: Drop>(block: &mut Block<T>, len: usize, taken: Vec<T>) -> Vec<T>
-    requires in_bounds { len ≤ length block.old.items }
-    requires empty { taken.items ≡ [] }
-    requires room { length block.old.items - len ≤ vec_capacity taken }
-    ensures block { block.new ≡ contents (take len block.old.items) block.old.capacity }
-    ensures taken { result.items ≡ drop len block.old.items }
-{
-    let mut taken = taken;
-    for _more in len..block.len() {
-        move_last(block, &mut taken);
-    }
-    taken.reverse();
-    taken
-}
-
-/// Moves the last element of a block to the end of `taken`, which has room for it.
-fn move_last<T>(block: &mut Block<T>, taken: &mut Vec<T>)
-    requires some { 0 < length block.old.items }
-    requires room { vec_len taken.old < vec_capacity taken.old }
-    ensures kept { block.new.items ++ reverse taken.new.items ≡ block.old.items ++ reverse taken.old.items }
-    ensures len { length block.new.items + 1 ≡ length block.old.items }
-    ensures taken_len { vec_len taken.new ≡ vec_len taken.old + 1 }
-    ensures capacity { block.new.capacity ≡ block.old.capacity }
-    ensures taken_capacity { vec_capacity taken.new ≡ vec_capacity taken.old }
-{
-    let _len = block.len();
-    if let Some(last) = block.pop() {
-        taken.push_reserved(last);
+    match resolve(bounds, len) {
+        Some((start, end)) => end - start,
+        None => 0,
     }
 }
 
-/// Appends items to a block with room for them.
-pub(crate) fn append_within<T: Drop>(block: &mut Block<T>, items: Vec<T>)
-    requires { length block.old.items + vec_len items ≤ block.old.capacity }
-    ensures { block.new ≡ contents (block.old.items ++ items.items) block.old.capacity }
+/// The elements of `rest` in `answer`, which is empty and has room for them.
+fn gathered<T: Drop>(rest: Rest<T>, answer: Vec<T>) -> Items<T>
+    requires empty { answer.items ≡ [] }
+    requires room { length rest ≤ vec_capacity answer }
+    ensures { result ≡ rest }
 {
-    let mut rest = items.into_iter();
-    while let Some(item) = rest.next() {
-        block.push_within(item);
+    let (mut rest, mut answer) = (rest, answer);
+    while let Some(element) = rest.next() {
+        answer.push_reserved(element);
     }
+    Items::new(answer)
 }
 
-/// Puts items in place of the elements from `start` up to `end` of a block with room for them, and
-/// gives those in `taken`, which is empty and has room.
-fn exchange<T: Drop>(
+/// Puts the elements of another block in place of those within bounds, and answers these in `answer`,
+/// which is empty. There is room for either.
+fn replaced<T: Drop>(
     block: &mut Block<T>,
-    start: usize,
-    end: usize,
-    items: Vec<T>,
-    taken: Vec<T>,
-) -> Vec<T>
-    requires ordered { start ≤ end }
-    requires in_bounds { end ≤ length block.old.items }
-    requires room { length block.old.items - (end - start) + vec_len items ≤ block.old.capacity }
-    requires empty { taken.items ≡ [] }
-    requires spare { end - start ≤ vec_capacity taken }
-    ensures block { block.new ≡ contents (splice block.old.items start end items.items) block.old.capacity }
-    ensures taken { result.items ≡ slice_range block.old.items start end }
-{
-    let len = block.len();
-    // The tail stands in front while the elements before it are exchanged.
-    turn(block, end);
-    let taken = split(block, len - (end - start), taken);
-    append_within(block, items);
-    turn(block, len - end);
-    taken
-}
-
-/// Puts items in place of the elements within bounds of a block with room for them, and gives those in
-/// `taken`, which is empty and has room.
-fn replaced<T: Drop>(block: &mut Block<T>, bounds: Bounds, items: Vec<T>, taken: Vec<T>) -> Items<T>
+    bounds: Bounds,
+    replacement: Block<T>,
+    answer: Vec<T>,
+) -> Items<T>
     requires found { IsSome (range_of bounds (length block.old.items)) }
-    requires room { length block.old.items - items_in_range bounds (length block.old.items) + vec_len items ≤ block.old.capacity }
-    requires empty { taken.items ≡ [] }
-    requires spare { items_in_range bounds (length block.old.items) ≤ vec_capacity taken }
+    requires room { length block.old.items - items_in_range bounds (length block.old.items) + length replacement.items ≤ block.old.capacity }
+    requires places { items_in_range bounds (length block.old.items) ≤ replacement.capacity }
+    requires empty { answer.items ≡ [] }
+    requires answer { items_in_range bounds (length block.old.items) ≤ vec_capacity answer }
     ensures taken { IfSome (range_of bounds (length block.old.items)) (λ range. result ≡ slice_range block.old.items range.0 range.1) }
-    ensures block { IfSome (range_of bounds (length block.old.items)) (λ range. block.new ≡ contents (splice block.old.items range.0 range.1 items.items) block.old.capacity) }
+    ensures block { IfSome (range_of bounds (length block.old.items)) (λ range. block.new ≡ contents (splice block.old.items range.0 range.1 replacement.items) block.old.capacity) }
 {
-    match resolve(&bounds, block.len()) {
-        Some((start, end)) => Items::new(exchange(block, start, end, items, taken)),
-        None => Items::new(taken),
-    }
+    let (start, end) = resolve(&bounds, block.len()).unwrap();
+    gathered(block.splice_within(start, end, replacement), answer)
 }
 
 /// Keeps the elements that are marked true; there is a mark for each.
@@ -164,46 +119,54 @@ fn retain_marked<T: Drop>(block: &mut Block<T>, marks: &[bool])
     });
 }
 
-fn retain<T: Drop>(block: &mut Block<T>, marks: Items<bool>)
-    requires { length marks ≡ length block.old.items }
-    ensures { block.new ≡ contents (items_where_true marks block.old.items) block.old.capacity }
+/// Appends the elements of another block, for which there is room.
+fn append<T: Drop>(block: &mut Block<T>, other: Block<T>)
+    requires { length block.old.items + length other.items ≤ block.old.capacity }
+    ensures { block.new ≡ contents (block.old.items ++ other.items) block.old.capacity }
 {
-    retain_marked(block, marks.as_slice());
+    let mut other = other;
+    let len = block.len();
+    block.insert_from(len, &mut other, 0);
 }
 
-/// Makes an edit in a block with room for it. The items of an `Extend` are those in `spare`, and the
-/// elements that a `Drain` or a `Splice` answers go into it.
+/// Makes a change in a block with room for it.
 pub(crate) fn apply<T: Drop>(
-    alloc: Global,
     block: &mut Block<T>,
-    edit: Edit<T>,
-    spare: Vec<T>,
+    edit: ListEdit<T>,
+    spare: Spare<T>,
 ) -> Outcome<T>
-    requires asked { asks edit (length block.old.items) ≡ Ok tt }
+    requires asked { verdict (list_edited edit block.old.items) ≡ Ok tt }
     requires room { length_after edit (length block.old.items) ≤ block.old.capacity }
-    requires spare_len { vec_len spare ≡ length (brought edit) }
-    requires spare_room { taken_out edit (length block.old.items) ≤ vec_capacity spare }
-    ensures change { spare.items ≡ brought edit → (name : ℕ) (seen : Reading) → list_change seen (edit_of name edit) block.old.items ≡ Ok (result, block.new.items) }
+    requires brought { length spare.block.items ≡ length (brought edit) }
+    requires places { spare_room edit (length block.old.items) ≤ spare.block.capacity }
+    requires empty { spare.answer.items ≡ [] }
+    requires answer { taken_out edit (length block.old.items) ≤ vec_capacity spare.answer }
+    ensures change { spare.block.items ≡ brought edit → list_edited edit block.old.items ≡ Ok (result, block.new.items) }
     ensures capacity { block.new.capacity ≡ block.old.capacity }
     ensures accepted { OnRefused result ⊥ }
 {
+    let Spare {
+        block: mut beside,
+        answer,
+    } = spare;
     match edit {
-        Edit::Pop => return Outcome::Popped(block.pop()),
-        Edit::Remove(index) => return Outcome::Element(block.remove(index)),
-        Edit::Drain(bounds) => {
-            return Outcome::Elements(replaced(block, bounds, Vec::new(alloc), spare));
+        ListEdit::Pop => return Outcome::Popped(block.pop()),
+        ListEdit::Remove(index) => return Outcome::Element(block.remove(index)),
+        ListEdit::Drain(bounds) => {
+            return Outcome::Elements(replaced(block, bounds, beside, answer));
         }
-        Edit::Splice(bounds, items) => {
-            return Outcome::Elements(replaced(block, bounds, items.into_vec(), spare));
+        ListEdit::Splice(bounds, items) => {
+            beside.fill_within(items.into_vec());
+            return Outcome::Elements(replaced(block, bounds, beside, answer));
         }
-        Edit::Push(value) => block.push_within(value),
-        Edit::Insert(index, value) => block.insert_within(index, value),
-        Edit::Write(index, value) => block.set(index, value),
-        Edit::Truncate(target) => block.truncate(target),
-        Edit::Clear => block.truncate(0),
-        Edit::Retain(marks) => retain(block, marks),
-        Edit::Extend(_items) => append_within(block, spare),
-        Edit::Reserve(_) => {}
+        ListEdit::Push(value) => block.push_within(value),
+        ListEdit::Insert(index, value) => block.insert_within(index, value),
+        ListEdit::Write(index, value) => block.set(index, value),
+        ListEdit::Truncate(target) => block.truncate(target),
+        ListEdit::Clear => block.truncate(0),
+        ListEdit::Retain(marks) => retain_marked(block, marks.as_slice()),
+        ListEdit::Extend(_items) => append(block, beside),
+        ListEdit::Reserve(_) => {}
     }
     Outcome::Done
 }

@@ -8,8 +8,9 @@ ghost use Rattle.ecow_model.specs.CountedRun.{held_at, nothing};
 ghost use Rattle.ecow_model.specs.Names.{IsSharing, blocks, forget, join, settle};
 ghost use Rattle.ecow_counted.specs.declared.blocks.Entry.{Entry};
 ghost use Rattle.ecow_counted.specs.Places.{entry_in};
-ghost use Rattle.ecow_counted.specs.Sizes.{size_of, block_of, sole_block};
+ghost use Rattle.ecow_counted.specs.Sizes.{size_of, sole_block};
 
+use ecow_base::MAX_LEN;
 use ecow_block::Block;
 use ecow_model::Name;
 use ecow_model::table::Table;
@@ -83,7 +84,7 @@ impl<T> Blocks<T> {
     /// The size of what a name holds, if it is there.
     pub fn size(&self, name: Name) -> Option<Size>
         ensures size { result ≡ option_map size_of (finite.get self.now.names name) }
-        ensures bounds { IfSome result (λ size. (size.len ≤ size.capacity) × (size.capacity ≤ 9223372036854775807)) }
+        ensures bounds { IfSome result (λ size. (size.len ≤ size.capacity) × (size.capacity ≤ MAX_LEN)) }
         ensures backed { IfSome result (λ size. 0 < size.owners → 0 < size.capacity) }
         ensures sharing { IsSharing self.now.names }
     {
@@ -104,13 +105,13 @@ impl<T> Blocks<T> {
         }
     }
 
-    /// The block of a name, if it is there and has one.
-    pub fn block(&self, name: Name) -> Option<&Block<T>>
-        ensures { option_copied result ≡ block_of (finite.get self.now.names name) }
+    /// The list of a name; of one that is not there, none.
+    pub fn elements(&self, name: Name) -> &[T]
+        ensures { result.now ≡ (held_at self.now.names name).items }
     {
         match entry_of(&self.places, &self.table, name) {
-            Some(entry) => Some(&entry.block),
-            None => None,
+            Some(entry) => entry.block.as_slice(),
+            None => &[],
         }
     }
 
@@ -129,6 +130,7 @@ impl<T> Blocks<T> {
         ensures ok { OnOk result (self.new.names ≡ settle name [] 0 self.old.names) }
         ensures err { OnErr result (self.new.names ≡ self.old.names) }
         ensures room { self.new.has_room ≡ self.old.has_room }
+        ensures sharing { IsSharing self.new.names }
     {
         self.places.insert(name, None)?;
         Ok(())
@@ -138,6 +140,7 @@ impl<T> Blocks<T> {
     pub fn remove(&mut self, name: Name)
         requires bare { finite.get self.old.names name ≡ Some nothing }
         ensures names { self.new.names ≡ forget name self.old.names }
+        ensures sharing { IsSharing self.new.names }
     {
         let _none = self.places.remove(name);
     }
@@ -148,8 +151,10 @@ impl<T> Blocks<T> {
         requires room { self.old.has_room ≡ true }
         requires backed { 0 < block.capacity }
         ensures names { self.new.names ≡ settle name block.items block.capacity self.old.names }
+        ensures sharing { IsSharing self.new.names }
     {
-        let _len = block.len();
+        // For the proof: a list fits in its block.
+        let _fits = block.len();
         let place = self.table.insert_reserved(Entry { block, owners: 1 });
         set_place(&mut self.places, name, Some(place));
     }
@@ -162,6 +167,7 @@ impl<T> Blocks<T> {
         ensures block { result ≡ sole_block (finite.get self.old.names name) }
         ensures room { IsSome result → self.new.has_room ≡ true }
         ensures room_kept { self.old.has_room ≡ true → self.new.has_room ≡ true }
+        ensures sharing { IsSharing self.new.names }
     {
         match place_of(&self.places, name) {
             Some(Some(place)) => {
@@ -180,11 +186,13 @@ impl<T> Blocks<T> {
         requires free { finite.get self.old.names to ≡ None }
         ensures ok { OnOk result (self.new.names ≡ join from to (held_at self.old.names from) self.old.names) }
         ensures err { OnErr result (self.new.names ≡ self.old.names) }
+        ensures sharing { IsSharing self.new.names }
     {
         let Some(place) = place_of(&self.places, from) else {
             return Err(AllocError);
         };
-        let _names = self.places.len();
+        // For the proof: an owner more fits its word.
+        let _fits = self.places.len();
         self.places.insert(to, place)?;
         if let Some(place) = place {
             add_owner(&mut self.table, place);
@@ -200,6 +208,7 @@ impl<T: Drop> Blocks<T> {
         requires free { finite.get self.old.names name ≡ None }
         ensures ok { OnOk result (self.new.names ≡ settle name block.items block.capacity self.old.names) }
         ensures err { OnErr result (self.new.names ≡ self.old.names) }
+        ensures sharing { IsSharing self.old.names → IsSharing self.new.names }
     {
         if block.capacity() == 0 {
             return self.begin(name);
@@ -216,6 +225,7 @@ impl<T: Drop> Blocks<T> {
         requires there { IsSome (finite.get self.old.names name) }
         requires room { 0 < block.capacity → self.old.has_room ≡ true }
         ensures names { self.new.names ≡ settle name block.items block.capacity self.old.names }
+        ensures sharing { IsSharing self.new.names }
     {
         let _old = self.take(name);
         if block.capacity() > 0 {
@@ -227,6 +237,7 @@ impl<T: Drop> Blocks<T> {
     pub fn drop_name(&mut self, name: Name)
         requires there { IsSome (finite.get self.old.names name) }
         ensures names { self.new.names ≡ forget name self.old.names }
+        ensures sharing { IsSharing self.new.names }
     {
         let _last = self.take(name);
         self.remove(name);

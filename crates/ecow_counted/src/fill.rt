@@ -21,7 +21,8 @@ impl<T: Clone> Counted<T> {
         ensures run { ClonesAreEqual T.is_clone → IsFilled self.old name items.items result self.new }
         ensures moves { ClonesAreEqual T.is_clone → self.new.moved ≤ self.old.moved + 2 * result.accepted }
     {
-        let _blocks = self.blocks();
+        // For the proof: the names of a group hold one block.
+        let _sharing = self.blocks();
         if let Outcome::Refused(refusal) = self.step(VecCommand::New { name }) {
             return Filled {
                 accepted: 0,

@@ -4,8 +4,9 @@
 
 mod apply;
 mod blocks;
+mod commands;
+mod costs;
 pub mod counted;
-mod edit;
 pub mod fill;
 mod own;
 

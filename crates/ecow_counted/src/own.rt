@@ -143,10 +143,8 @@ impl<T: Clone> Blocks<T> {
             });
         }
         self.reserve()?;
-        let Some(source) = self.block(name) else {
-            return Err(AllocError);
-        };
-        let block = Block::from_clones(alloc, &source.as_slice()[..want.copies], want.capacity)?;
+        let source = self.elements(name);
+        let block = Block::from_clones(alloc, &source[..want.copies], want.capacity)?;
         let copied = block.len();
         Ok(Owned {
             block,
@@ -173,9 +171,7 @@ impl<T: Clone> Blocks<T> {
         ensures moved { IfOk result (λ own. own.moved ≡ cond (is_shared (held_at self.old.names name)) 0 (cond (nat_le want.capacity (held_at self.old.names name).capacity) 0 want.staying)) }
         ensures free { (want.capacity ≡ cond (is_shared (held_at self.old.names name)) 0 (held_at self.old.names name).capacity) → IsOk result }
     {
-        let Some(size) = self.size(name) else {
-            return Err(AllocError);
-        };
+        let size = self.size(name).unwrap();
         if size.owners > 1 {
             self.copy(alloc, name, want)
         } else {

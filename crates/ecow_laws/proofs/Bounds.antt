@@ -288,7 +288,7 @@ module _ {T : Type 0} where
       rw step.after (omega (arith, step.moves_paid, rest))
 
   -- from no names at all
-  nothing_shares : IsSharing {T = T} finite.empty
+  pub nothing_shares : IsSharing {T = T} finite.empty
   nothing_shares = record {
     common = λ x y h is _. absurd (none-some h (sym (finite.get-empty nat_cmp x) ∙ is));
     itself = λ x h is. absurd (none-some h (sym (finite.get-empty nat_cmp x) ∙ is));

@@ -56,7 +56,7 @@ abbrev pub IsGiven : {A : Type 0} → Result A Refusal → Result A Refusal → 
 IsGiven given result = MatchResult given (λ value. (result ≡ Ok value) ⊎ (result ≡ Err Memory)) (λ refusal. result ≡ Err refusal)
 
 -- the same of the refusal alone
-abbrev pub IsRefusedAlike : {A : Type 0} → Result A Refusal → Result A Refusal → Type 0
+abbrev pub IsRefusedAlike : {A B : Type 0} → Result A Refusal → Result B Refusal → Type 0
 IsRefusedAlike given result = MatchResult given (λ _. IfErr result (λ refusal. refusal ≡ Memory)) (λ refusal. result ≡ Err refusal)
 
 -- a test of a value, if there is one

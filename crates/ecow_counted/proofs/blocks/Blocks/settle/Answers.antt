@@ -12,4 +12,5 @@ returns-then-capacity-gt0 g c = record {
   names = c.place.ensures.names
       ∙ ap (settle c.args.name c.args.block.items c.args.block.capacity) c.take-old.ensures.names
       ∙ settle-settle c.args.self.now.names c.args.name [] c.args.block.items 0 c.args.block.capacity;
+  sharing = c.place.ensures.sharing;
 }

@@ -2,6 +2,8 @@ use Rattle.std.proofs.Common.{ap, sym, ◌∙◌, Some}
 use Rattle.ecow_counted.specs.Places.{entry_in}
 use Rattle.ecow_counted.proofs.Changes.{entry_at}
 use Rattle.ecow_counted.proofs.Updates.{room_for_one, taken_names, taken_table, bare_taken, taken_block, taken_room}
+use Rattle.ecow_counted.proofs.Placing.{sharing-table}
+use Rattle.ecow_counted.proofs.Updates.{shared_names_are}
 use Rattle.ecow_counted.proofs.blocks.Blocks.take.Goals as goal
 
 pub drop_owner-requires-clause-some : goal.drop_owner-requires-clause-some
@@ -46,3 +48,12 @@ returns-in-None-clause-names g c = (bare_taken c.self.inside.places c.self.insid
 
 pub returns-in-None-clause-block : goal.returns-in-None-clause-block
 returns-in-None-clause-block g c = (bare_taken c.self.inside.places c.self.inside.table c.self.invariant c.args.self.now.names (ap (λ s. s.names) c.self.view_is) c.args.name (ap (entry_in c.self.inside.table) (sym c.place_of.ensures ∙ c.in-None.is)) c.requires.there).1
+
+pub returns-in-Some-Some-clause-sharing : goal.returns-in-Some-Some-clause-sharing
+returns-in-Some-Some-clause-sharing g c = sharing-table c.set_place.new.places c.drop_owner.new.table (invariant_of-self g c)
+
+pub returns-in-Some-None-clause-sharing : goal.returns-in-Some-None-clause-sharing
+returns-in-Some-None-clause-sharing g c = shared_names_are c.self.inside.places c.self.inside.table c.self.invariant c.args.self.now.names (ap (λ s. s.names) c.self.view_is)
+
+pub returns-in-None-clause-sharing : goal.returns-in-None-clause-sharing
+returns-in-None-clause-sharing g c = shared_names_are c.self.inside.places c.self.inside.table c.self.invariant c.args.self.now.names (ap (λ s. s.names) c.self.view_is)

@@ -2,9 +2,9 @@ use Rattle.std.proofs.Common.{◌≡◌, ◌+◌, ◌*◌, ◌≤◌, length, dr
 use Rattle.std.specs.Vec.Iter.{into_iter_items}
 use Rattle.std.proofs.lemmas.List.{nil_from_length, take_all}
 use Rattle.ecow_base.specs.Clones.{ClonesAreEqual}
-use Rattle.ecow_model.specs.Access.{OnRefused}
+use Rattle.ecow_model.specs.Refusing.{OnRefused}
 use Rattle.ecow_model.specs.declared.command.Outcome.TheVariants.{Refused}
-use Rattle.ecow_model.specs.declared.command.VecCommand.TheVariants.{New, Push}
+use Rattle.ecow_model.specs.declared.lists.VecCommand.TheVariants.{New, Push}
 use Rattle.ecow_counted.specs.Filling.{IsRunOf, filling, accepted}
 use Rattle.ecow_counted.specs.Keeping.{Keeping}
 use Rattle.ecow_counted.proofs.Filling.{next_of, accepted_more, filling_more, runs_one, runs_more, begins, pushes, moves_at_most, not_refused_by}
@@ -35,7 +35,7 @@ returns-in-Refused-step g c =
       run = λ clones. inr (
         next.within,
         subst (λ cs. IsRunOf c.args.self.now cs (accepted c.loop-value.accepted ++ Refused c.in-Refused-step.refusal ∷ []) c.step-in-Some.new.self) (sym (filling_more c.args.name c.loop-value.accepted c.args.items.items c.in-Some.value _ next))
-            (runs_more c.args.self.now (filling c.args.name (take c.loop-value.accepted c.args.items.items)) (accepted c.loop-value.accepted) c.loop-value.self c.step-in-Some.new.self (Push c.args.name c.in-Some.value) (Refused c.in-Refused-step.refusal) c.blocks-blocks.ensures.sharing (so_far.run clones) (is.step clones) is.copied is.moved),
+            (runs_more c.args.self.now (filling c.args.name (take c.loop-value.accepted c.args.items.items)) (accepted c.loop-value.accepted) c.loop-value.self c.step-in-Some.new.self (Push c.args.name c.in-Some.value) (Refused c.in-Refused-step.refusal) c.blocks-sharing.ensures.sharing (so_far.run clones) (is.step clones) is.copied is.moved),
       );
       moves = λ clones. subst (λ (k : Keeping g.row.T.Denot). k.moved ≤ c.args.self.now.moved + 2 * c.loop-value.accepted) (sym is.refused) (moves_at_most c.args.self.now.moved c.args.name c.loop-value.accepted c.loop-value.self (so_far.moves clones));
     }
@@ -53,7 +53,7 @@ loop-value-preserved g c =
       sharing = is.sharing;
       run = λ clones. rw (filling_more c.args.name c.loop-value.accepted c.args.items.items c.in-Some.value _ next, accepted_more c.loop-value.accepted)
           (subst (λ outcome. IsRunOf c.args.self.now (filling c.args.name (take c.loop-value.accepted c.args.items.items) ++ Push c.args.name c.in-Some.value ∷ []) (accepted c.loop-value.accepted ++ outcome ∷ []) c.step-in-Some.new.self) (pushed clones).0
-          (runs_more c.args.self.now (filling c.args.name (take c.loop-value.accepted c.args.items.items)) (accepted c.loop-value.accepted) c.loop-value.self c.step-in-Some.new.self (Push c.args.name c.in-Some.value) c.step-in-Some.result c.blocks-blocks.ensures.sharing (so_far.run clones) (is.step clones) is.copied is.moved));
+          (runs_more c.args.self.now (filling c.args.name (take c.loop-value.accepted c.args.items.items)) (accepted c.loop-value.accepted) c.loop-value.self c.step-in-Some.new.self (Push c.args.name c.in-Some.value) c.step-in-Some.result c.blocks-sharing.ensures.sharing (so_far.run clones) (is.step clones) is.copied is.moved));
       moves = λ clones. (pushed clones).1;
     }
 

@@ -1,39 +1,47 @@
-use Rattle.std.proofs.Common.{◌≡◌, [], ◌∷◌, refl, sym, ◌∙◌, ap, arith, append_assoc, append-nil, subst}
+use Rattle.std.proofs.Common.{◌≡◌, [], ◌∷◌, sym, ◌∙◌, ap, arith, append_assoc, append-nil, subst}
 use Rattle.std.specs.Vec.Iter.{into_iter_items}
 use Rattle.std.proofs.lemmas.List.{nil_from_length}
-use Rattle.ecow_model.specs.CountedRun.{CountedRun, saturating, copied, moved, copied_in_run, moved_in_run}
+use Rattle.ecow_model.specs.CountedRun.{CountedStep, CountedVerdict, saturating, copied_in, moved_in, copied_in_run, moved_in_run}
 use Rattle.ecow_model.proofs.Contents.{run_of_contents}
-use Rattle.ecow_counted.proofs.Stepping.{saturating_none}
-use Rattle.ecow_counted.proofs.Totals.{total_goes_on, saturating_small, copies_paid, moves_paid}
+use Rattle.ecow_model.proofs.Runs.{goes_further, gone_through}
+use Rattle.ecow_counted.specs.Keeping.{IsKept}
+use Rattle.ecow_counted.proofs.Totals.{total_goes_on, saturating_none, saturating_small, copies_paid, moves_paid}
 use Rattle.ecow_counted.proofs.counted.Counted.run.Goals as goal
 
 pub loop-command-preserved : goal.loop-command-preserved
 loop-command-preserved g c =
+    let so_far = c.loop-command.invariant in
     let old = c.loop-command.self in
     let command = c.in-Some.command in
     let is = c.step-outcome.ensures in
     let mid = c.step-outcome.new.self.names in
     let outcome = c.step-outcome.result in
     record {
-      room = omega (arith, c.in-Some.ensures.len, c.push_reserved.ensures.len, c.push_reserved.ensures.capacity, c.loop-command.invariant.room);
-      small = record { copied = rw is.copied (saturating_small _ _); moved = rw is.moved (saturating_small _ _) };
-      sharing = is.sharing;
-      goes_on = λ clones more new run. rw (c.push_reserved.ensures.items, append_assoc) (c.loop-command.invariant.goes_on clones (outcome ∷ more) new (rw c.in-Some.ensures.items (mid, is.step clones, run)));
+      room = omega (arith, c.in-Some.ensures.len, c.push_reserved.ensures.len, c.push_reserved.ensures.capacity, so_far.room);
+      kept = record { sharing = is.sharing; copied = rw is.copied (saturating_small _ _); moved = rw is.moved (saturating_small _ _) };
+      steps = λ clones. rw c.push_reserved.ensures.items (goes_further CountedStep _ _ _ _ _ _ _ _ (rw c.in-Some.ensures.items at so_far.steps clones) (is.step clones));
+      verdicts = rw c.push_reserved.ensures.items (goes_further CountedVerdict _ _ _ _ _ _ _ _ (rw c.in-Some.ensures.items at so_far.verdicts) is.verdict);
       copied = λ clones more. rw (c.push_reserved.ensures.items, append_assoc)
-          (total_goes_on copied old.copied command old.names c.loop-command.invariant.sharing outcome mid (is.step clones) _ is.copied _ more
+          (total_goes_on copied_in old.copied command old.names so_far.kept.sharing outcome mid (is.step clones) _ is.copied _ more
           ∙ ap (λ cs. saturating old.copied (copied_in_run old.names cs (outcome ∷ more))) (sym c.in-Some.ensures.items)
-          ∙ c.loop-command.invariant.copied clones (outcome ∷ more));
+          ∙ so_far.copied clones (outcome ∷ more));
       moved = λ clones more. rw (c.push_reserved.ensures.items, append_assoc)
-          (total_goes_on moved old.moved command old.names c.loop-command.invariant.sharing outcome mid (is.step clones) _ is.moved _ more
+          (total_goes_on moved_in old.moved command old.names so_far.kept.sharing outcome mid (is.step clones) _ is.moved _ more
           ∙ ap (λ cs. saturating old.moved (moved_in_run old.names cs (outcome ∷ more))) (sym c.in-Some.ensures.items)
-          ∙ c.loop-command.invariant.moved clones (outcome ∷ more));
+          ∙ so_far.moved clones (outcome ∷ more));
     }
 
 pub returns-clause-run : goal.returns-clause-run
 returns-clause-run g c = λ clones.
     let rest = c.loop-command.rest in
     let ended : into_iter_items rest ≡ [] = nil_from_length (into_iter_items rest) (omega (arith, rest.rest.ok.0, c.in_default-next.ensures.cases.0)) in
-    subst (λ outcomes. CountedRun c.args.self.now.names c.args.commands.items outcomes c.loop-command.self.names) (append-nil c.loop-command.outcomes.items) (c.loop-command.invariant.goes_on clones [] c.loop-command.self.names (rw ended refl))
+    gone_through CountedStep _ _ _ _ (rw ended at c.loop-command.invariant.steps clones)
+
+pub returns-clause-verdicts : goal.returns-clause-verdicts
+returns-clause-verdicts g c =
+    let rest = c.loop-command.rest in
+    let ended : into_iter_items rest ≡ [] = nil_from_length (into_iter_items rest) (omega (arith, rest.rest.ok.0, c.in_default-next.ensures.cases.0)) in
+    gone_through CountedVerdict _ _ _ _ (rw ended at c.loop-command.invariant.verdicts)
 
 pub returns-clause-contents : goal.returns-clause-contents
 returns-clause-contents g c = λ clones. run_of_contents c.args.commands.items c.loop-command.outcomes.items c.args.self.now.names c.loop-command.self.names (returns-clause-run g c clones)
@@ -42,7 +50,7 @@ pub returns-clause-copied : goal.returns-clause-copied
 returns-clause-copied g c = λ clones.
     let rest = c.loop-command.rest in
     let ended : into_iter_items rest ≡ [] = nil_from_length (into_iter_items rest) (omega (arith, rest.rest.ok.0, c.in_default-next.ensures.cases.0)) in
-    saturating_none c.loop-command.self.copied c.loop-command.invariant.small.copied
+    saturating_none c.loop-command.self.copied c.loop-command.invariant.kept.copied
     ∙ ap (λ cs. saturating c.loop-command.self.copied (copied_in_run c.loop-command.self.names cs [])) (sym ended)
     ∙ c.loop-command.invariant.copied clones []
     ∙ ap (λ outcomes. saturating c.args.self.now.copied (copied_in_run c.args.self.now.names c.args.commands.items outcomes)) (append-nil c.loop-command.outcomes.items)
@@ -51,13 +59,13 @@ pub returns-clause-moved : goal.returns-clause-moved
 returns-clause-moved g c = λ clones.
     let rest = c.loop-command.rest in
     let ended : into_iter_items rest ≡ [] = nil_from_length (into_iter_items rest) (omega (arith, rest.rest.ok.0, c.in_default-next.ensures.cases.0)) in
-    saturating_none c.loop-command.self.moved c.loop-command.invariant.small.moved
+    saturating_none c.loop-command.self.moved c.loop-command.invariant.kept.moved
     ∙ ap (λ cs. saturating c.loop-command.self.moved (moved_in_run c.loop-command.self.names cs [])) (sym ended)
     ∙ c.loop-command.invariant.moved clones []
     ∙ ap (λ outcomes. saturating c.args.self.now.moved (moved_in_run c.args.self.now.names c.args.commands.items outcomes)) (append-nil c.loop-command.outcomes.items)
 
 pub returns-clause-copies_paid : goal.returns-clause-copies_paid
-returns-clause-copies_paid g c = λ clones. copies_paid c.args.self.now c.args.commands.items c.loop-command.outcomes.items c.loop-command.self c.blocks-blocks.ensures.sharing (returns-clause-run g c clones) (returns-clause-copied g c clones) (returns-clause-moved g c clones)
+returns-clause-copies_paid g c = λ clones. copies_paid c.args.self.now c.args.commands.items c.loop-command.outcomes.items c.loop-command.self (subst IsKept c.self.view_is c.self.invariant).sharing (returns-clause-run g c clones) (returns-clause-copied g c clones) (returns-clause-moved g c clones)
 
 pub returns-clause-moves_paid : goal.returns-clause-moves_paid
-returns-clause-moves_paid g c = λ clones. moves_paid c.args.self.now c.args.commands.items c.loop-command.outcomes.items c.loop-command.self c.blocks-blocks.ensures.sharing (returns-clause-run g c clones) (returns-clause-copied g c clones) (returns-clause-moved g c clones)
+returns-clause-moves_paid g c = λ clones. moves_paid c.args.self.now c.args.commands.items c.loop-command.outcomes.items c.loop-command.self (subst IsKept c.self.view_is c.self.invariant).sharing (returns-clause-run g c clones) (returns-clause-copied g c clones) (returns-clause-moved g c clones)

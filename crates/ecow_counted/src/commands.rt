@@ -1,0 +1,258 @@
+//! The commands by their parts, on names in a table of blocks.
+ghost use Rattle.std.specs.Prelude.{◌≡◌, ◌≤◌, [], Ok, IfOk, IfErr, replicate};
+ghost use Rattle.ecow_base.specs.Clones.{ClonesAreEqual};
+ghost use Rattle.ecow_block.specs.Contents.{contents};
+ghost use Rattle.ecow_model.specs.Costs.{capacity_made};
+ghost use Rattle.ecow_model.specs.CountedRun.{IsCountedUse, IsCountedVerdict};
+ghost use Rattle.ecow_model.specs.Lists.{list_made};
+ghost use Rattle.ecow_model.specs.Names.{IsSharing};
+ghost use Rattle.ecow_model.specs.Refusing.{OnRefused};
+ghost use Rattle.ecow_model.specs.Uses.{IsRefusedAlike};
+ghost use Rattle.ecow_model.specs.declared.command.Outcome.{Outcome};
+ghost use Rattle.ecow_model.specs.declared.command.Refusal.{Refusal};
+ghost use Rattle.ecow_model.specs.declared.lists.ListDerive.{ListDerive};
+ghost use Rattle.ecow_model.specs.declared.usage.Usage.{Usage};
+ghost use Rattle.ecow_counted.specs.Carrying.{IsCarried, still};
+ghost use Rattle.ecow_counted.specs.Edits.{unchanged as is_unchanged};
+
+use crate::apply::{Spare, apply};
+use crate::blocks::Blocks;
+use crate::costs::{capacity, copies, staying, unshares};
+use crate::own::{Owned, Want};
+use ecow_base::{MAX_LEN, fresh_capacity};
+use ecow_block::Block;
+use ecow_model::lists::{ListAsk, ListEdit, ListMake, ListUsage};
+use ecow_model::usage::Usage;
+use ecow_model::{Items, Name, Outcome, Refusal};
+use std::alloc::{AllocError, Global};
+
+/// What a command answers, and how many elements it copied and moved.
+#[derive(Drop)]
+pub(crate) struct Carried<T> {
+    pub outcome: Outcome<T>,
+    pub copied: usize,
+    pub moved: usize,
+}
+
+impl<T> Carried<T> {
+    /// An answer for which nothing was copied or moved.
+    fn still(outcome: Outcome<T>) -> Self
+        ensures { result ≡ still outcome }
+    {
+        Carried {
+            outcome,
+            copied: 0,
+            moved: 0,
+        }
+    }
+}
+
+impl<T> Blocks<T> {
+    /// Puts a name in the group of another.
+    pub fn join(&mut self, from: Name, to: Name) -> Outcome<T>
+        ensures step { IsCountedUse self.old.names (Usage.Derive from to ListDerive.Clone) result self.new.names }
+        ensures verdict { IsCountedVerdict self.old.names (Usage.Derive from to ListDerive.Clone) result }
+        ensures refused { OnRefused result (self.new.names ≡ self.old.names) }
+        ensures sharing { IsSharing self.old.names → IsSharing self.new.names }
+    {
+        if !self.contains(from) {
+            return Outcome::Refused(Refusal::NoName);
+        }
+        if self.contains(to) {
+            return Outcome::Refused(Refusal::Taken);
+        }
+        match self.share(from, to) {
+            Ok(()) => Outcome::Done,
+            Err(_) => Outcome::Refused(Refusal::Memory),
+        }
+    }
+}
+
+impl<T: Drop> Blocks<T> {
+    /// Takes a name out.
+    fn leave(&mut self, name: Name) -> Outcome<T>
+        ensures step { IsCountedUse self.old.names (Usage.Drop name) result self.new.names }
+        ensures verdict { IsCountedVerdict self.old.names (Usage.Drop name) result }
+        ensures refused { OnRefused result (self.new.names ≡ self.old.names) }
+        ensures sharing { IsSharing self.old.names → IsSharing self.new.names }
+    {
+        if !self.contains(name) {
+            return Outcome::Refused(Refusal::NoName);
+        }
+        self.drop_name(name);
+        Outcome::Done
+    }
+}
+
+impl<T: Clone> Blocks<T> {
+    /// Makes a list under a name that is new.
+    fn begin_list(&mut self, alloc: Global, name: Name, how: ListMake<T>) -> Outcome<T>
+        ensures step { ClonesAreEqual T.is_clone → IsCountedUse self.old.names (Usage.Make name how) result self.new.names }
+        ensures verdict { IsCountedVerdict self.old.names (Usage.Make name how) result }
+        ensures refused { OnRefused result (self.new.names ≡ self.old.names) }
+        ensures sharing { IsSharing self.old.names → IsSharing self.new.names }
+    {
+        if self.contains(name) {
+            return Outcome::Refused(Refusal::Taken);
+        }
+        let block = match made(alloc, how) {
+            Ok(block) => block,
+            Err(refusal) => return Outcome::Refused(refusal),
+        };
+        match self.make(name, block) {
+            Ok(()) => Outcome::Done,
+            Err(_) => Outcome::Refused(Refusal::Memory),
+        }
+    }
+
+    /// Answers a question to the list of a name.
+    fn ask(&self, alloc: Global, name: Name, question: ListAsk) -> Outcome<T>
+        ensures step { ClonesAreEqual T.is_clone → IsCountedUse self.now.names (Usage.Ask name question) result self.now.names }
+        ensures verdict { IsCountedVerdict self.now.names (Usage.Ask name question) result }
+    {
+        let Some(size) = self.size(name) else {
+            return Outcome::Refused(Refusal::NoName);
+        };
+        match question {
+            ListAsk::Len => Outcome::Count(size.len),
+            ListAsk::Capacity => Outcome::Count(size.capacity),
+            ListAsk::Unique => Outcome::Flag(size.owners <= 1),
+            ListAsk::Read(index) => match self.elements(name).get(index) {
+                None => Outcome::Refused(Refusal::Index),
+                Some(element) => match element.clone() {
+                    Ok(copy) => Outcome::Element(copy),
+                    Err(_) => Outcome::Refused(Refusal::Memory),
+                },
+            },
+            ListAsk::Contents => match Items::from_slice(alloc, self.elements(name)) {
+                Ok(elements) => Outcome::Elements(elements),
+                Err(_) => Outcome::Refused(Refusal::Memory),
+            },
+        }
+    }
+
+    /// Changes the list of a name, in a block of its own. All that can be refused is taken first.
+    fn edit(&mut self, alloc: Global, name: Name, edit: ListEdit<T>) -> Carried<T>
+        ensures carried { IsCarried (ClonesAreEqual T.is_clone) self.old.names (Usage.Change name edit) result self.new.names }
+        ensures sharing { IsSharing self.old.names → IsSharing self.new.names }
+    {
+        let Some(size) = self.size(name) else {
+            return Carried::still(Outcome::Refused(Refusal::NoName));
+        };
+        if let Err(refusal) = edit.check(size.len) {
+            return Carried::still(Outcome::Refused(refusal));
+        }
+        if size.owners > 1 && !unshares(&edit, size.len) {
+            return Carried::still(unchanged(edit));
+        }
+        let want = Want {
+            copies: copies(&edit, size.len),
+            staying: staying(&edit, size.len),
+            capacity: capacity(&edit, size),
+        };
+        let Ok(spare) = Spare::new(alloc, &edit, size.len) else {
+            return Carried::still(Outcome::Refused(Refusal::Memory));
+        };
+        let Ok(own) = self.own(alloc, name, want) else {
+            return Carried::still(Outcome::Refused(Refusal::Memory));
+        };
+        let Owned {
+            block,
+            copied,
+            moved,
+        } = own;
+        let mut block = block;
+        let outcome = apply(&mut block, edit, spare);
+        self.settle(name, block);
+        Carried {
+            outcome,
+            copied,
+            moved,
+        }
+    }
+
+    /// Carries out one command by its parts. A refused one changes nothing.
+    pub fn carry_out(&mut self, alloc: Global, usage: ListUsage<T>) -> Carried<T>
+        ensures carried { IsCarried (ClonesAreEqual T.is_clone) self.old.names usage result self.new.names }
+        ensures sharing { IsSharing self.old.names → IsSharing self.new.names }
+    {
+        match usage {
+            Usage::Make { name, how } => Carried::still(self.begin_list(alloc, name, how)),
+            Usage::Derive { from, to, how: _ } => Carried::still(self.join(from, to)),
+            Usage::Drop { name } => Carried::still(self.leave(name)),
+            Usage::Change { name, edit } => self.edit(alloc, name, edit),
+            Usage::Ask { name, question } => Carried::still(self.ask(alloc, name, question)),
+        }
+    }
+}
+
+/// What a change answers that changes nothing and leaves a shared block where it is.
+fn unchanged<T: Drop>(edit: ListEdit<T>) -> Outcome<T>
+    ensures outcome { result ≡ is_unchanged edit }
+    ensures accepted { OnRefused result ⊥ }
+{
+    match edit {
+        ListEdit::Pop => Outcome::Popped(None),
+        _ => Outcome::Done,
+    }
+}
+
+/// A list in a block of its own, with exactly the room that it is to have; or why it can't be made.
+fn made<T: Clone>(alloc: Global, how: ListMake<T>) -> Result<Block<T>, Refusal>
+    ensures items { ClonesAreEqual T.is_clone → IfOk result (λ block. list_made how ≡ Ok block.items) }
+    ensures verdict { IsRefusedAlike (list_made how) result }
+    ensures capacity { IfOk result (λ block. block.capacity ≡ capacity_made how) }
+{
+    match how {
+        ListMake::New => Ok(Block::new(alloc)),
+        ListMake::WithCapacity(capacity) => {
+            if capacity > MAX_LEN {
+                return Err(Refusal::Capacity);
+            }
+            empty(alloc, capacity)
+        }
+        ListMake::FromList(items) => {
+            let len = items.len();
+            if len > MAX_LEN {
+                return Err(Refusal::Capacity);
+            }
+            let mut block = empty(alloc, fresh_capacity(len))?;
+            block.fill_within(items.into_vec());
+            Ok(block)
+        }
+        ListMake::FromElem(value, n) => {
+            if n > MAX_LEN {
+                return Err(Refusal::Capacity);
+            }
+            repeated(alloc, value, n)
+        }
+    }
+}
+
+/// An empty block with room for so many elements.
+fn empty<T>(alloc: Global, capacity: usize) -> Result<Block<T>, Refusal>
+    ensures block { IfOk result (λ block. block ≡ contents [] capacity) }
+    ensures memory { IfErr result (λ refusal. refusal ≡ Refusal.Memory) }
+{
+    match Block::with_capacity(alloc, capacity) {
+        Ok(block) => Ok(block),
+        Err(_) => Err(Refusal::Memory),
+    }
+}
+
+/// A block of `n` clones of a value, with room for these alone.
+fn repeated<T: Clone>(alloc: Global, value: T, n: usize) -> Result<Block<T>, Refusal>
+    requires { n ≤ MAX_LEN }
+    ensures items { ClonesAreEqual T.is_clone → IfOk result (λ block. block.items ≡ replicate n value) }
+    ensures capacity { IfOk result (λ block. block.capacity ≡ n) }
+    ensures memory { IfErr result (λ refusal. refusal ≡ Refusal.Memory) }
+{
+    let mut block = empty(alloc, n)?;
+    for _more in 0..n {
+        let Ok(copy) = value.clone() else {
+            return Err(Refusal::Memory);
+        };
+        block.push_within(copy);
+    }
+    Ok(block)
+}
