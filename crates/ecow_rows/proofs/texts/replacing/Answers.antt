@@ -1,5 +1,0 @@
-use Rattle.ecow_rows.proofs.TextFacts as facts
-use Rattle.ecow_rows.proofs.texts.replacing.Goals as goal
-
-pub returns : goal.returns
-returns c = record { replaced_twice_at_boundaries = facts.replaced_twice_at_boundaries; replaced_never = facts.replaced_never; replaced_where_nothing_overlaps = facts.replaced_where_nothing_overlaps; a_text_replaced_by_nothing_is_inline = facts.a_text_replaced_by_nothing_is_inline }
