@@ -1,3 +1,4 @@
+pub mod Fronts
 pub mod Items
 mod Loans
 mod ResultTyped

@@ -12,7 +12,7 @@ impl<T: Clone> EcoVec<T> {
     ghost use Rattle.ecow_list.specs.Lends.{lends_own_block, lends_slice};
 
     /// The elements, for writing. A shared vector copies them first; one without elements gives
-    /// its block up. Never refused where there are none.
+    /// its block up, and is never refused. The only error is `Memory`, where the copy was refused.
     pub fn make_mut(&mut self) -> Result<&mut [T], EcoError>
         ensures* writes_back { sem 𝓛 (lends_slice T.row T.is_clone self.entry result) }
         ensures value { ClonesAreEqual T.is_clone → IfOk result (λ slice. slice.now ≡ self.old) }
