@@ -1,6 +1,7 @@
 //! `EcoVec`.
 ghost use Rattle.std.specs.Prelude.{◌≡◌, ◌+◌, ◌-◌, ◌<◌, ◌≤◌, ◌==◌, ◌↔◌, [], length, take, IfOk, IfSome, IsErrOf, IsOk};
 ghost use Rattle.std.specs.Borrow.{sem};
+ghost use Rattle.std.specs.List.{AllZip};
 ghost use Rattle.std.specs.Slice.Iter.{iter_rest};
 ghost use Rattle.std.specs.Iterator.Adapters.{IterYieldsInOrder};
 ghost use Rattle.ecow_base.specs.Clones.{ClonesAreEqual};
@@ -166,6 +167,7 @@ impl<T: Clone> EcoVec<T> {
         requires room { len ≤ capacity }
         requires bounded { capacity ≤ MAX_LEN }
         ensures items { ClonesAreEqual T.is_clone → IfOk result (λ shared. shared.value.items ≡ take len self.now) }
+        ensures clones { IfOk result (λ shared. AllZip T.is_clone (take len self.now) shared.value.items) }
         ensures len { IfOk result (λ shared. length shared.value.items ≡ len) }
         ensures capacity { IfOk result (λ shared. shared.value.capacity ≡ capacity) }
     {

@@ -2,6 +2,7 @@
 ghost use Rattle.std.specs.Prelude.{◌≡◌, ◌<◌, [], length, IfOk, IfErr, IsOk, OnOk, OnErr, MatchOption};
 ghost use Rattle.std.specs.Borrow.{sem};
 ghost use Rattle.ecow_base.specs.Clones.{ClonesAreEqual};
+ghost use Rattle.ecow_list.specs.Vectors.{IsKept};
 
 use crate::error::EcoError;
 use crate::vec::EcoVec;
@@ -56,6 +57,7 @@ impl<T: Clone> EcoVec<T> {
     fn unshare(&mut self) -> Result<(), EcoError>
         requires { 0 < length self.old }
         ensures ok { ClonesAreEqual T.is_clone → OnOk result (self.new ≡ self.old) }
+        ensures kept { OnOk result (IsKept T.is_clone self.old self.new) }
         ensures len { OnOk result (length self.new ≡ length self.old) }
         ensures err { IfErr result (λ error. error ≡ EcoError.Memory) }
         ensures unchanged { OnErr result (self.new ≡ self.old) }
@@ -71,6 +73,7 @@ impl<T: Clone> EcoVec<T> {
     #[inline(never)]
     fn unshare_shared(&mut self) -> Result<(), EcoError>
         ensures ok { ClonesAreEqual T.is_clone → OnOk result (self.new ≡ self.old) }
+        ensures kept { OnOk result (IsKept T.is_clone self.old self.new) }
         ensures len { OnOk result (length self.new ≡ length self.old) }
         ensures err { IfErr result (λ error. error ≡ EcoError.Memory) }
         ensures unchanged { OnErr result (self.new ≡ self.old) }

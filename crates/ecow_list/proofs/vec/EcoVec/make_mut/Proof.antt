@@ -54,6 +54,7 @@ use Rattle.std.specs.declared.result.Result.TheVariants.{Ok, Err}
 use Rattle.std.specs.contracts.result.Result.{the_row as result_row}
 use Rattle.std.specs.Prelude.{IfOk, IfErr, IsOk, OnOk, OnErr, MatchOption}
 use Rattle.std.specs.Borrow.{name_if_ok}
+use Rattle.std.proofs.Common.{inl, inr}
 use Rattle.std_alloc.proofs.ResultValues.{ok_of, err_of}
 use Rattle.std_alloc.proofs.VecSteps.Gaps.{all_new}
 use Rattle.std_alloc.proofs.VecSteps.Shapes.{after, head, arm_body}
@@ -78,6 +79,7 @@ use Rattle.ecow_list.proofs.vec.EcoVec.make_mut.Code as code
 use Rattle.ecow_list.proofs.Loans.{so_then, so_none_by}
 use Rattle.ecow_list.proofs.ResultTyped.{refused, refused_is, not_memory}
 use Rattle.ecow_list.specs.Lends.{name_of_slice, name_if_lent}
+use Rattle.ecow_list.specs.Vectors.{IsKept}
 use Rattle.std.specs.declared.option.Option.{Option}
 use Rattle.std.specs.declared.option.Option.TheVariants.{None, Some}
 use Rattle.std.specs.contracts.option.Option.{the_row as option_row}
@@ -167,13 +169,13 @@ module _ (X : RattleType) (g : Ghosts X.Denot) (dc dd : Dict) where
       BlockIs r x n = IsOk r → n ≡ x.items
 
       abbrev BlockStays : Given → List X.Denot → Type 0
-      BlockStays r n = OnErr r (ClonesAreEqual g.is_clone → n ≡ d)
+      BlockStays r n = OnErr r (IsKept g.is_clone d n)
 
       abbrev SliceIs : Answer → List X.Denot → List X.Denot → Type 0
       SliceIs r x n = IsOk r → length x ≡ length d → n ≡ x
 
       abbrev SliceStays : Answer → List X.Denot → Type 0
-      SliceStays r n = OnErr r (ClonesAreEqual g.is_clone → n ≡ d) × (d ≡ [] → ClonesAreEqual g.is_clone → n ≡ [])
+      SliceStays r n = OnErr r (IsKept g.is_clone d n) × (d ≡ [] → n ≡ [])
 
       abbrev HasItems : Given → Type 0
       HasItems r = ClonesAreEqual g.is_clone → IfOk r (λ x. x.now.items ≡ d)
@@ -201,6 +203,12 @@ module _ (X : RattleType) (g : Ghosts X.Denot) (dc dd : Dict) where
 
       empty_has : d ≡ [] → 0 < length d → ⊥
       empty_has e p = omega (arith, ap length e, p)
+
+      none_kept : (old n : List X.Denot) → old ≡ [] → IsKept g.is_clone old n → n ≡ []
+      none_kept [] n e (inl same) = same
+      none_kept [] [] e (inr clones) = refl
+      none_kept [] (y ∷ ys) e (inr clones) = absurd clones
+      none_kept (x ∷ xs) n e is = absurd (omega (arith, ap length e))
 
       has_name : (δ : GName) (xs : List X.Denot) → 0 < length xs → some δ ≡ name_of_slice δ xs
       has_name δ [] p = absurd (omega (arith, p))
@@ -276,7 +284,7 @@ module _ (X : RattleType) (g : Ghosts X.Denot) (dc dd : Dict) where
             returns ! (look_at ! 0 refl) $ free_all ! refl $ keep ! (0 ∷ 2 ∷ 3 ∷ 4 ∷ []) $
             use1 𝓛 (‵ ((result_row Items error_row).own_val (Ok s) (live 0 (of_list (slice_val (l 9, 0) 0 ∷ [])) ∷ []))) (ok_of 𝓛 Items error_row s (slice_val (l 9, 0) 0)) $ move ! (3 ∷ []) $
             use1 𝓛 (‵ (follows_so V (Array R 0) γ none (SliceIs (Ok s)) (SliceStays (Ok s))))
-            (so_none_by 𝓛 V B (Array R 0) γ (λ w. w) (BlockIs (Err None)) (BlockStays (Err None)) (SliceIs (Ok s)) (SliceStays (Ok s)) (λ w ok fits. refl) (λ n is. (tt, λ none' equal. is equal ∙ none'))) $
+            (so_none_by 𝓛 V B (Array R 0) γ (λ w. w) (BlockIs (Err None)) (BlockStays (Err None)) (SliceIs (Ok s)) (SliceStays (Ok s)) (λ w ok fits. refl) (λ n is. (tt, λ none'. none_kept d n none' is))) $
             by ! (exits (Ok s) (live 0 (of_list (slice_val (l 9, 0) 0 ∷ []))) ((λ equal. sym facts.1.1.1), (ap length (sym facts.1.1.1), (tt, λ none'. refl))))))))))
         lent (Err (Some Capacity)) v facts = absurd (not_memory facts.1.1.1.0)
         lent (Err (Some NoMemory)) v facts =
