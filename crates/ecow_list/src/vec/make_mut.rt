@@ -13,13 +13,18 @@ impl<T: Clone> EcoVec<T> {
     ghost use Rattle.ecow_list.specs.Lends.{lends_own_block, lends_slice};
 
     /// The elements, for writing. A shared vector copies them first; one without elements gives
-    /// its block up, and is never refused. The only error is `Memory`, where the copy was refused.
+    /// its block up, and is never refused.
+    ///
+    /// The one error is `Memory`, where the copy was refused; then nothing has changed. (The contract
+    /// leaves clones in the elements' places open there, since it can't tell that a new block is not
+    /// shared.)
     pub fn make_mut(&mut self) -> Result<&mut [T], EcoError>
         ensures* writes_back { sem 𝓛 (lends_slice T.row T.is_clone self.entry result) }
         ensures value { ClonesAreEqual T.is_clone → IfOk result (λ slice. slice.now ≡ self.old) }
         ensures len { IfOk result (λ slice. length slice.now ≡ length self.old) }
         ensures err { IfErr result (λ error. error ≡ EcoError.Memory) }
         ensures empty { self.old ≡ [] → IsOk result }
+        ensures kept { IfOk result (λ slice. IsKept T.is_clone self.old slice.now) }
     {
         match self.own_mut() {
             Ok(block) => Ok(block.as_mut_slice()),
@@ -32,7 +37,7 @@ impl<T: Clone> EcoVec<T> {
     #[inline]
     pub(crate) fn own_mut(&mut self) -> Result<&mut Block<T>, Option<EcoError>>
         ensures* writes_back { sem 𝓛 (lends_own_block T.row T.is_clone self.entry result) }
-        ensures items { ClonesAreEqual T.is_clone → IfOk result (λ block. block.now.items ≡ self.old) }
+        ensures kept { IfOk result (λ block. IsKept T.is_clone self.old block.now.items) }
         ensures len { IfOk result (λ block. length block.now.items ≡ length self.old) }
         ensures some { OnOk result (0 < length self.old) }
         ensures err { IfErr result (λ refused. MatchOption refused (self.old ≡ []) (λ error. (error ≡ EcoError.Memory) × (0 < length self.old))) }
