@@ -1,6 +1,6 @@
 //! How often an iterator is asked for an item, and a closure called: no item is asked for after the
-//! first `None` nor after a refused one, and no closure is called where a copy is refused. Each
-//! test holds as well where a request for memory is refused.
+//! first `None` nor after a refused one, and no closure is called where a copy is refused. The
+//! assertions also hold where any request for memory is refused.
 ghost use Rattle.std.specs.Prelude.{vec_len};
 ghost use Rattle.std.specs.Iterator.{at_most};
 
