@@ -284,9 +284,9 @@ impl<T: Clone> EcoVec<T> {
     }
 
     /// Gives each element to `f` for writing, once and in order, and keeps those, as `f` left
-    /// them, at which it answered `true`. A shared vector copies its elements first, and an empty
-    /// one gives its block up. The one error is `Memory`, where the copy was refused: then `f` was
-    /// given no element, and nothing has changed.
+    /// them, at which it answered `true`. A shared vector copies its elements first, or gives its
+    /// block up where it has none. The one error is `Memory`, where the copy was refused: then `f`
+    /// was given no element, and nothing has changed.
     pub fn retain<F: FnMut(&mut T) -> bool>(&mut self, f: F) -> Result<(), EcoError>
         requires { F.IsAlwaysCallable f }
         ensures ok { ClonesAreEqual T.is_clone → OnOk result (RetainsInTurn (CalledAtMut F.FnMut) f self.old self.new) }

@@ -12,12 +12,12 @@ use ecow_block::Block;
 impl<T: Clone> EcoVec<T> {
     ghost use Rattle.ecow_list.specs.Lends.{lends_own_block, lends_slice};
 
-    /// The elements, for writing. A shared vector copies them first; one without elements gives
-    /// its block up, and is never refused.
+    /// The elements, for writing. A shared vector copies them first, or gives its block up where it
+    /// has none. Never refused where there are none.
     ///
     /// The one error is `Memory`, where the copy was refused; then nothing has changed. (The contract
-    /// leaves clones in the elements' places open there, since it can't tell that a new block is not
-    /// shared.)
+    /// leaves open that clones stand in the elements' places, since none can say that a new block
+    /// isn't shared.)
     pub fn make_mut(&mut self) -> Result<&mut [T], EcoError>
         ensures* writes_back { sem 𝓛 (lends_slice T.row T.is_clone self.entry result) }
         ensures value { ClonesAreEqual T.is_clone → IfOk result (λ slice. slice.now ≡ self.old) }

@@ -20,8 +20,8 @@ use std::rc::Rc;
 impl<T: Clone> EcoVec<T> {
     /// Takes out the elements of `range`, which `range_in` tests; the vector is final when the call
     /// answers. A shared vector copies its elements into a block of its own first, also where
-    /// nothing is taken out; an empty one gives its block up. The one error is `Memory`, which
-    /// changes nothing.
+    /// nothing is taken out, or gives its block up where it has none. The one error is `Memory`,
+    /// which changes nothing.
     pub fn drain<R: RangeBounds<usize>>(&mut self, range: R) -> Result<Drain<T>, EcoError>
         requires known { R.has_bounds range }
         requires in_range { IsSome (range_of (R.start_bound range, R.end_bound range) (length self.old)) }
@@ -40,7 +40,8 @@ impl<T: Clone> EcoVec<T> {
     /// Puts the items of `replace_with` in place of the elements of `range`, which `range_in`
     /// tests, and gives these; the vector is final when the call answers. All items are collected
     /// first, and the size hint isn't asked. A shared vector then copies its elements into a block
-    /// of its own, also where nothing changes; an empty one that gets no item gives its block up.
+    /// of its own, also where nothing changes; where it has none and gets none, it gives its block
+    /// up.
     ///
     /// A refusal leaves the vector as it was; the items so far are dropped, and no further one is
     /// asked for: `Capacity` at the item with which the new length passes 2^63 - 1, and else
