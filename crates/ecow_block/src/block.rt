@@ -406,6 +406,7 @@ impl<T: Drop> Block<T> {
     pub fn retain<F: FnMut(&mut T) -> bool>(&mut self, f: F)
         requires { F.IsAlwaysCallable f }
         ensures items { RetainsInTurn (CalledAtMut F.FnMut) f self.old.items self.new.items }
+        ensures len { length self.new.items ≤ length self.old.items }
         ensures capacity { self.new.capacity ≡ self.old.capacity }
     {
         self.len = self.room.retain(self.base, 0, self.len, f);

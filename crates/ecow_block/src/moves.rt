@@ -303,7 +303,7 @@ impl<T> Room<T> {
         requires here { (base.ptr ≡ self.old.at) × (start ≡ self.old.start) × (len ≡ length self.old.items) × (start + len < 2 ^ 64) }
         requires callable { F.IsAlwaysCallable f }
         ensures items { RetainsInTurn (CalledAtMut F.FnMut) f self.old.items self.new.items }
-        ensures len { result ≡ length self.new.items }
+        ensures len { (result ≡ length self.new.items) × (result ≤ length self.old.items) }
         ensures places { SamePlaces self.old self.new }
     {
         let mut rest = self.split_off(0);

@@ -1,3 +1,5 @@
+pub mod Fronts
 pub mod Items
+pub mod Kept
 mod Loans
 mod ResultTyped

@@ -3,9 +3,9 @@ use mathlib.Core.Option as maybe
 use Rattle.std.specs.Prelude.{◌≡◌, List, [], ◌∷◌, length, Option, Result, IsOk, OnErr}
 use Rattle.std.specs.declared.result.Result.TheVariants.{Ok, Err}
 use Rattle.std.specs.Borrow.{LendsIf, LendsSoOk, follows_so, GName, Fml, RattleType, MutBor, Array}
-use Rattle.ecow_base.specs.Clones.{ClonesAreEqual}
 use Rattle.ecow_block.specs.Contents.{Contents}
 use Rattle.ecow_block.specs.contracts.block.Block.{the_row as block_row}
+use Rattle.ecow_list.specs.Vectors.{IsKept}
 use Rattle.ecow_list.specs.contracts.vec.EcoVec.{the_row as vec_row}
 
 -- the name of a borrowed slice; one of no elements needs none
@@ -22,10 +22,10 @@ module _ (T : RattleType) where
   abbrev pub lends_block : MutBor (List T.Denot) → Option (MutBor (Contents T.Denot)) → Fml
   lends_block v r = LendsIf (vec_row T) (block_row T) v r (λ b. b.items) v.now
 
-  -- the same; at `Err` they stay where clones equal their sources
+  -- the same; at `Err` they stay, or clones stand in their places
   abbrev pub lends_own_block : (T.Denot → T.Denot → Type 0) → MutBor (List T.Denot) → {E : Type 0} → Result (MutBor (Contents T.Denot)) E → Fml
-  lends_own_block is_clone v r = LendsSoOk (vec_row T) (block_row T) v r (λ n b. n ≡ b.items) (λ n. ClonesAreEqual is_clone → n ≡ v.now)
+  lends_own_block is_clone v r = LendsSoOk (vec_row T) (block_row T) v r (λ n b. n ≡ b.items) (λ n. IsKept is_clone v.now n)
 
-  -- the elements are those that were written last through the slice, as many as there were; at `Err`, and where there are none, they stay
+  -- the elements are those that were written last through the slice, as many as there were; where there are none, none come, and at `Err` they stay, or clones stand in their places
   abbrev pub lends_slice : (T.Denot → T.Denot → Type 0) → MutBor (List T.Denot) → {E : Type 0} → Result (MutBor (List T.Denot)) E → Fml
-  lends_slice is_clone v r = follows_so (vec_row T) (Array T 0) v.ghost_name (name_if_lent r) (λ written n. IsOk r → length written ≡ length v.now → n ≡ written) (λ n. OnErr r (ClonesAreEqual is_clone → n ≡ v.now) × (v.now ≡ [] → ClonesAreEqual is_clone → n ≡ []))
+  lends_slice is_clone v r = follows_so (vec_row T) (Array T 0) v.ghost_name (name_if_lent r) (λ written n. IsOk r → length written ≡ length v.now → n ≡ written) (λ n. OnErr r (IsKept is_clone v.now n) × (v.now ≡ [] → n ≡ []))

@@ -1,11 +1,25 @@
--- What calls over iterators leave of a list of elements.
-use Rattle.std.specs.Prelude.{◌≡◌, List, Option, ◌++◌}
-use Rattle.std.specs.Iterator.{Drains}
+-- What calls leave of a list of elements.
+use Rattle.std.specs.Prelude.{◌≡◌, ◌⊎◌, ◌+◌, List, [], Option, ◌++◌, length}
+use Rattle.std.specs.Iterator.{Drains, Yields}
+use Rattle.std.specs.List.{AllZip}
 
 -- new has the elements of old and then xs
 abbrev pub Appends : {T : Type 0} → List T → List T → List T → Type 0
 Appends old xs new = new ≡ old ++ xs
 
--- xs are all items that the iterator of a collection gave
-abbrev pub GivesItems : {C I T : Type 0} → (C → I → Type 0) → (I → Option T → I → Type 0) → C → List T → Type 0
-GivesItems {C} {I} gives steps c xs = (it : I) × gives c it × Drains steps it xs
+-- new has one more element than old for each of xs, and is old where there are none
+abbrev pub Lengthens : {T : Type 0} → List T → List T → List T → Type 0
+Lengthens old xs new = (length new ≡ length old + length xs) × (xs ≡ [] → new ≡ old)
+
+-- new is old, or has a clone of each of its elements in their places
+abbrev pub IsKept : {T : Type 0} → (T → T → Type 0) → List T → List T → Type 0
+IsKept is_clone old new = (new ≡ old) ⊎ AllZip is_clone old new
+
+module _ {C I T : Type 0} (gives : C → I → Type 0) (steps : I → Option T → I → Type 0) where
+  -- xs are all items that the iterator of a collection gave
+  abbrev pub GivesItems : C → List T → Type 0
+  GivesItems c xs = (it : I) × gives c it × Drains steps it xs
+
+  -- xs are the items that it gave first
+  abbrev pub GivesFirst : C → List T → Type 0
+  GivesFirst c xs = (it : I) × (rest : I) × gives c it × Yields steps it xs rest

@@ -6,13 +6,14 @@ use std::alloc::{AllocError, AllocFailed};
 use std::fmt::Debug;
 use thiserror::Error;
 
-/// Why a call was refused. Every value that the call could have changed is as it was before.
+/// Why a call was refused. Every value that the call could have changed is as it was before, but
+/// for `extend`, which keeps the items that went in.
 #[derive(Clone, Copy, Debug, PartialEq, Eq, Error)]
 pub enum EcoError {
     /// The asked capacity or the new length passes 2^63 - 1.
     #[error("capacity overflow")]
     Capacity,
-    /// There was no memory, or the clone of an element was refused.
+    /// There was no memory for the elements, or the clone of one was refused.
     #[error("out of memory")]
     Memory,
 }

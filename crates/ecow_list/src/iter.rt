@@ -35,14 +35,6 @@ impl<T> Drain<T> {
     {
         self.removed.as_slice()
     }
-
-    /// The elements that are still to come, as a list of their own.
-    pub fn into_rest(self) -> Rest<T>
-        ensures { result ≡ self }
-    {
-        let Drain { removed } = self;
-        removed
-    }
 }
 
 impl<T: Drop> Iterator for Drain<T> {
@@ -107,14 +99,6 @@ impl<T> Splice<T> {
         ensures { result.now ≡ self.now }
     {
         self.replaced.as_slice()
-    }
-
-    /// The elements that are still to come, as a list of their own.
-    pub fn into_rest(self) -> Rest<T>
-        ensures { result ≡ self }
-    {
-        let Splice { replaced } = self;
-        replaced
     }
 }
 

@@ -1,10 +1,12 @@
 //! `EcoVec`.
 ghost use Rattle.std.specs.Prelude.{◌≡◌, ◌+◌, ◌-◌, ◌<◌, ◌≤◌, ◌==◌, ◌↔◌, [], length, take, IfOk, IfSome, IsErrOf, IsOk};
 ghost use Rattle.std.specs.Borrow.{sem};
+ghost use Rattle.std.specs.List.{AllZip};
 ghost use Rattle.std.specs.Slice.Iter.{iter_rest};
 ghost use Rattle.std.specs.Iterator.Adapters.{IterYieldsInOrder};
 ghost use Rattle.ecow_base.specs.Clones.{ClonesAreEqual};
 
+mod collect;
 mod conversions;
 mod edits;
 mod make_mut;
@@ -23,7 +25,7 @@ use std::slice;
 /// A vector whose clones share its elements until one of them is written to.
 ///
 /// A clone takes no memory and clones no element. A write to a vector that shares its block copies
-/// the elements that stay into a block of its own first; no other vector sees the change.
+/// its elements into a block of its own first, element by element; no other vector sees the change.
 #[derive(Drop)]
 pub struct EcoVec<T> {
     block: Option<Rc<Block<T>>>,
@@ -77,7 +79,7 @@ impl<T> EcoVec<T> {
         self.len() == 0
     }
 
-    /// For how many elements the block has room: 0 without a block.
+    /// For how many elements the block has room, never fewer than there are: 0 without a block.
     pub fn capacity(&self) -> usize
         ensures room { length self.now ≤ result }
         ensures bounded { result ≤ MAX_LEN }
@@ -122,8 +124,8 @@ impl<T> EcoVec<T> {
 }
 
 impl<T: Drop> EcoVec<T> {
-    /// An empty vector with room for exactly `capacity` elements: without a block, and taking no
-    /// memory, for none.
+    /// An empty vector with room for exactly `capacity` elements: without a block, and never
+    /// refused, for none. Answers `Capacity` where that passes 2^63 - 1, and else `Memory`.
     pub fn with_capacity(alloc: Global, capacity: usize) -> Result<Self, EcoError>
         ensures ok { IfOk result (λ v. v ≡ []) }
         ensures capacity { IsErrOf result EcoError.Capacity ↔ (MAX_LEN < capacity) }
@@ -142,8 +144,8 @@ impl<T: Drop> EcoVec<T> {
         })
     }
 
-    /// Drops the elements. A shared block is given up and a sole one is kept; an empty vector
-    /// stays as it is, shared or not. Never refused.
+    /// Drops the elements. A shared block is given up, with nothing copied, and a sole one is
+    /// kept; an empty vector stays as it is, shared or not. Never refused.
     pub fn clear(&mut self)
         ensures { self.new ≡ [] }
     {
@@ -165,6 +167,7 @@ impl<T: Clone> EcoVec<T> {
         requires room { len ≤ capacity }
         requires bounded { capacity ≤ MAX_LEN }
         ensures items { ClonesAreEqual T.is_clone → IfOk result (λ shared. shared.value.items ≡ take len self.now) }
+        ensures clones { IfOk result (λ shared. AllZip T.is_clone (take len self.now) shared.value.items) }
         ensures len { IfOk result (λ shared. length shared.value.items ≡ len) }
         ensures capacity { IfOk result (λ shared. shared.value.capacity ≡ capacity) }
     {

@@ -1,8 +1,10 @@
-//! Bytes that are written to an `EcoVec<u8>` are appended to it: a whole piece, or an error and
-//! nothing.
-ghost use Rattle.std.specs.Prelude.{◌≡◌, ◌++◌, length, Some, IsOk, IfOk, OnErr};
+//! Bytes that are written to an `EcoVec<u8>` are appended to it: a whole piece, or the error
+//! `OutOfMemory` and nothing.
+ghost use Rattle.std.specs.Prelude.{◌≡◌, ◌++◌, length, Some, IsOk, IfOk, IfErr, OnErr};
 ghost use Rattle.std.specs.Io.{WritesAtMost};
 ghost use Rattle.std.specs.Io.KnownBytes.{Keeps, WriteAppends};
+ghost use Rattle.std.specs.IoError.{error_kind};
+ghost use Rattle.std.specs.declared.io.ErrorKind.TheVariants.{OutOfMemory};
 
 use crate::error::EcoError;
 use crate::vec::EcoVec;
@@ -16,6 +18,7 @@ impl io::Write for EcoVec<u8> {
         ensures bound { WritesAtMost result buf.now }
         ensures bytes { WriteAppends (Some self.old) (Some self.new) result buf.now }
         ensures count { IfOk result (λ n. n ≡ length buf.now) }
+        ensures memory { IfErr result (λ error. error_kind error ≡ OutOfMemory) }
         ensures unchanged { OnErr result (self.new ≡ self.old) }
     {
         match self.extend_from_slice(buf) {

@@ -36,6 +36,8 @@ mod ranges;
 #[cfg(test)]
 mod refusals;
 #[cfg(test)]
+mod refusing_iterators;
+#[cfg(test)]
 mod scripts;
 #[cfg(test)]
 mod sharing;

@@ -1,28 +1,30 @@
 //! The calls that make a vector of other collections, or other collections of a vector.
-ghost use Rattle.std.specs.Prelude.{◌≡◌, ◌≢◌, ◌+◌, ◌<◌, ◌≤◌, ◌↔◌, [], length, replicate, vec_len, IsOk, IfOk, IfErr, OnErr, IsErrAnd, IsErrOf};
+ghost use Rattle.std.specs.Prelude.{◌≡◌, ◌≢◌, ◌+◌, ◌<◌, ◌≤◌, ◌↔◌, [], List, length, replicate, vec_len, IsOk, IfOk, IfErr, OnErr, IsErrAnd, IsErrOf};
 ghost use Rattle.std.specs.Iterator.{IsFinite, ExtendsWithItems};
 ghost use Rattle.ecow_base.specs.Clones.{ClonesAreEqual};
-ghost use Rattle.ecow_list.specs.Vectors.{Appends, GivesItems};
+ghost use Rattle.ecow_list.specs.Vectors.{Appends, GivesFirst, GivesItems, Lengthens};
 
 use crate::error::{EcoError, Rejected};
 use crate::iter::IntoIter;
 use crate::vec::EcoVec;
+use crate::vec::collect::collected;
 use ecow_base::{MAX_LEN, fresh_capacity};
 use ecow_block::Block;
 use std::alloc::{AllocError, Global};
 use std::rc::Rc;
 
-/// Why a vector was not made an array. The vector comes back.
+/// Why a vector was not made an array. The vector comes back as it was.
 #[derive(Drop)]
 pub enum IntoArray<T> {
     /// It has another length.
     Length(EcoVec<T>),
-    /// The call was refused.
+    /// There was no memory, or the clone of an element was refused.
     Refused(EcoError, EcoVec<T>),
 }
 
 impl<T: Drop> EcoVec<T> {
-    /// The elements of a `Vec`, none of them cloned; without a block where there are none.
+    /// The elements of a `Vec`, none of them cloned; without a block where there are none. A
+    /// refusal hands the `Vec` back, with `Capacity` past 2^63 - 1 elements, and else with `Memory`.
     pub fn from_vec(alloc: Global, elements: Vec<T>) -> Result<Self, Rejected<Vec<T>>>
         ensures ok { IfOk result (λ v. v ≡ elements.items) }
         ensures value_returned { IfErr result (λ rejected. rejected.value.items ≡ elements.items) }
@@ -54,7 +56,8 @@ impl<T: Drop> EcoVec<T> {
         })
     }
 
-    /// The elements of an array, none of them cloned.
+    /// The elements of an array, none of them cloned; without a block where there are none. A
+    /// refusal hands the array back, with `Capacity` past 2^63 - 1 elements, and else with `Memory`.
     pub fn from_array<const N: usize>(
         alloc: Global,
         elements: [T; N],
@@ -83,12 +86,31 @@ impl<T: Drop> EcoVec<T> {
             }),
         }
     }
+
+    /// The items of `iter`, none of them cloned; without a block, and never refused, where there are
+    /// none. Its size hint isn't asked. Answers `Capacity` at the item past 2^63 - 1, and else
+    /// `Memory`: the items so far are dropped then, and no further one is asked for.
+    pub fn from_iter<I: IntoIterator<Item = T>>(alloc: Global, iter: I) -> Result<Self, EcoError>
+        requires { (it : I.IntoIter) → I.into_iter_gives iter it → I.IntoIter.can_next it × IsFinite (I.IntoIter.remaining it) }
+        ensures ok { IfOk result (λ v. GivesItems I.into_iter_gives I.IntoIter.next_gives iter v) }
+        ensures refused { OnErr result ((items : List T) × GivesFirst I.into_iter_gives I.IntoIter.next_gives iter items × (0 < length items) × (IsErrOf result EcoError.Capacity ↔ (MAX_LEN < length items))) }
+    {
+        let items = collected(alloc, 0, 4, MAX_LEN, iter)?;
+        if items.len() == 0 {
+            return Ok(EcoVec::new(alloc));
+        }
+        Ok(EcoVec {
+            block: Some(Rc::new(alloc, items)?),
+            alloc,
+        })
+    }
 }
 
 impl<T: Clone> EcoVec<T> {
-    ghost use Rattle.ecow_list.specs.IntoArray.{IsLength, HandsBack};
+    ghost use Rattle.ecow_list.specs.IntoArray.{IsLength, HandsBack, IsForMemory};
 
-    /// Clones of the elements of a slice; without a block where there are none.
+    /// Clones of the elements of a slice; without a block, and never refused, where there are none.
+    /// Answers `Capacity` past 2^63 - 1 elements, and else `Memory`.
     pub fn from_slice(alloc: Global, elements: &[T]) -> Result<Self, EcoError>
         ensures ok { ClonesAreEqual T.is_clone → IfOk result (λ v. v ≡ elements.now) }
         ensures len { IfOk result (λ v. length v ≡ length elements.now) }
@@ -109,8 +131,9 @@ impl<T: Clone> EcoVec<T> {
         })
     }
 
-    /// `n` clones of `value`, with room for no more; without a block for none. `value` is dropped
-    /// in the end.
+    /// `n` clones of `value`, with room for no more; without a block, and never refused, for none.
+    /// `value` is dropped in the end. A refusal hands it back, with `Capacity` where `n` passes
+    /// 2^63 - 1, and else with `Memory`.
     pub fn from_elem(alloc: Global, value: T, n: usize) -> Result<Self, Rejected<T>>
         ensures ok { ClonesAreEqual T.is_clone → IfOk result (λ v. v ≡ replicate n value) }
         ensures len { IfOk result (λ v. length v ≡ n) }
@@ -152,12 +175,18 @@ impl<T: Clone> EcoVec<T> {
         })
     }
 
-    /// Appends the items of `iter`, one after another; its size hint isn't asked. Where an item is
-    /// refused it is dropped, those before it stay, and no further one is asked for.
+    /// Appends the items of `iter`, one after another, each as `push` does: so a shared vector copies
+    /// its elements at the first item, and nothing changes where there is none. The size hint isn't
+    /// asked.
+    ///
+    /// Where an item is refused it is dropped, those before it stay, and no further one is asked
+    /// for: `Capacity` where there are 2^63 - 1 elements then, and else `Memory`.
     pub fn extend<I: IntoIterator<Item = T>>(&mut self, iter: I) -> Result<(), EcoError>
         requires { (it : I.IntoIter) → I.into_iter_gives iter it → I.IntoIter.can_next it × IsFinite (I.IntoIter.remaining it) }
         ensures ok { ClonesAreEqual T.is_clone → ExtendsWithItems I.into_iter_gives I.IntoIter.next_gives Appends iter self.old self.new result }
-        ensures capacity { IsErrOf result EcoError.Capacity → MAX_LEN ≤ length self.new }
+        ensures len { ExtendsWithItems I.into_iter_gives I.IntoIter.next_gives Lengthens iter self.old self.new result }
+        ensures refused { OnErr result ((items : List T) × GivesFirst I.into_iter_gives I.IntoIter.next_gives iter items × (length self.new + 1 ≡ length self.old + length items)) }
+        ensures capacity { OnErr result (IsErrOf result EcoError.Capacity ↔ (MAX_LEN ≤ length self.new)) }
     {
         for item in iter {
             if let Err(rejected) = self.push(item) {
@@ -167,18 +196,8 @@ impl<T: Clone> EcoVec<T> {
         Ok(())
     }
 
-    /// The items of `iter`; its size hint isn't asked. Where an item is refused nothing is made.
-    pub fn from_iter<I: IntoIterator<Item = T>>(alloc: Global, iter: I) -> Result<Self, EcoError>
-        requires { (it : I.IntoIter) → I.into_iter_gives iter it → I.IntoIter.can_next it × IsFinite (I.IntoIter.remaining it) }
-        ensures ok { ClonesAreEqual T.is_clone → IfOk result (λ v. GivesItems I.into_iter_gives I.IntoIter.next_gives iter v) }
-    {
-        let mut vec = EcoVec::new(alloc);
-        vec.extend(iter)?;
-        Ok(vec)
-    }
-
-    /// The elements as a `Vec`. A sole vector moves them, and a shared one clones them. Where it
-    /// is refused the vector comes back.
+    /// The elements as a `Vec`. A sole vector moves them, and a shared one clones them. The one
+    /// error is `Memory`, with which the vector comes back as it was.
     pub fn into_vec(self) -> Result<Vec<T>, Rejected<Self>>
         ensures ok { ClonesAreEqual T.is_clone → IfOk result (λ elements. elements.items ≡ self) }
         ensures len { IfOk result (λ elements. vec_len elements ≡ length self) }
@@ -206,7 +225,7 @@ impl<T: Clone> EcoVec<T> {
     }
 
     /// The elements by value, in order, from both ends. A sole vector moves them, and a shared one
-    /// clones them first. Where it is refused the vector comes back.
+    /// clones them all first. The one error is `Memory`, with which the vector comes back as it was.
     pub fn into_iter(self) -> Result<IntoIter<T>, Rejected<Self>>
         ensures ok { ClonesAreEqual T.is_clone → IfOk result (λ rest. rest ≡ self) }
         ensures len { IfOk result (λ rest. length rest ≡ length self) }
@@ -233,12 +252,13 @@ impl<T: Clone> EcoVec<T> {
     }
 
     /// The elements as an array of `N`. A sole vector moves them, and a shared one clones them.
-    /// Answers `Length` where there is another number of them; the vector comes back with either
-    /// error.
+    /// Answers `Length` where there is another number of them, and else `Refused` with `Memory`; the
+    /// vector comes back as it was with either.
     pub fn into_array<const N: usize>(self) -> Result<[T; N], IntoArray<T>>
         ensures ok { ClonesAreEqual T.is_clone → IfOk result (λ elements. elements ≡ self) }
         ensures length { IsErrAnd result IsLength ↔ (length self ≢ N) }
         ensures value_returned { IfErr result (λ error. HandsBack error self) }
+        ensures memory { IfErr result IsForMemory }
     {
         if self.len() != N {
             return Err(IntoArray::Length(self));

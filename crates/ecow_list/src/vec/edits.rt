@@ -14,7 +14,8 @@ use std::rc::Rc;
 
 impl<T: Clone> EcoVec<T> {
     /// Keeps the first `len` elements, or all where there are fewer. A shared vector copies only
-    /// those that stay. Never refused where it keeps all, which changes nothing, or none.
+    /// those that stay; where all do, it stays shared, and where none does, it gives its block up.
+    /// Never refused in these two cases; else the one error is `Memory`, which changes nothing.
     pub fn truncate(&mut self, len: usize) -> Result<(), EcoError>
         ensures ok { ClonesAreEqual T.is_clone → OnOk result (self.new ≡ take len self.old) }
         ensures len { OnOk result (length self.new ≡ min len (length self.old)) }
@@ -38,7 +39,9 @@ impl<T: Clone> EcoVec<T> {
         Ok(())
     }
 
-    /// Takes the last element. Never refused where there is none, which changes nothing.
+    /// Takes the last element: `None` where there is none, which is never refused and changes
+    /// nothing. A shared vector copies all its elements first. The one error is `Memory`, which
+    /// changes nothing.
     #[inline]
     pub fn pop(&mut self) -> Result<Option<T>, EcoError>
         ensures value { ClonesAreEqual T.is_clone → IfOk result (λ last. last ≡ slice_get self.old (length self.old - 1)) }
@@ -80,7 +83,11 @@ impl<T: Clone> EcoVec<T> {
         Err(EcoError::Memory)
     }
 
-    /// Puts `value` in at `index`, before the element that stands there.
+    /// Puts `value` in at `index`, before the element that stands there. A vector that is shared
+    /// copies its elements into a block of its own first, and one that is full gets a larger block.
+    ///
+    /// A refusal changes nothing and hands `value` back, with `Capacity` where there are 2^63 - 1
+    /// elements, and else with `Memory`.
     #[inline]
     pub fn insert(&mut self, index: usize, value: T) -> Result<(), Rejected<T>>
         requires { index ≤ length self.old }
@@ -141,7 +148,8 @@ impl<T: Clone> EcoVec<T> {
         })
     }
 
-    /// Takes the element at `index`.
+    /// Takes the element at `index`. A shared vector copies all its elements first. The one error
+    /// is `Memory`, which changes nothing.
     pub fn remove(&mut self, index: usize) -> Result<T, EcoError>
         requires { index < length self.old }
         ensures value { ClonesAreEqual T.is_clone → IfOk result (λ value. slice_get self.old index ≡ Some value) }
@@ -163,7 +171,8 @@ impl<T: Clone> EcoVec<T> {
         Ok(value)
     }
 
-    /// Puts `value` in place of the element at `index`.
+    /// Puts `value` in place of the element at `index`, which is dropped. A shared vector copies its
+    /// elements first. The one error is `Memory`, which changes nothing and hands `value` back.
     ///
     /// This project's own: the original writes through `make_mut`, which is proved here as well,
     /// but of whose borrow a proved caller learns less.
@@ -193,8 +202,10 @@ impl<T: Clone> EcoVec<T> {
         })
     }
 
-    /// Makes room for `additional` more elements. A shared vector gets a block of its own, also
-    /// for none; a vector without a block stays without one for none.
+    /// Asks for room for `additional` more elements; no capacity is promised. A shared vector copies
+    /// its elements into a block of its own, also where `additional` is 0; a vector without a block
+    /// stays without one there. A refusal changes nothing: `Capacity` where the length and
+    /// `additional` together pass 2^63 - 1, and else `Memory`.
     pub fn reserve(&mut self, additional: usize) -> Result<(), EcoError>
         ensures ok { ClonesAreEqual T.is_clone → OnOk result (self.new ≡ self.old) }
         ensures len { OnOk result (length self.new ≡ length self.old) }
@@ -215,7 +226,10 @@ impl<T: Clone> EcoVec<T> {
         Ok(())
     }
 
-    /// Appends clones of `elements`. Never refused for none, which changes nothing.
+    /// Appends clones of `elements`: all, or none where it is refused. A vector that is shared
+    /// copies its own elements first, and one that is too full gets a larger block. For no elements
+    /// it is never refused and changes nothing, sharing included. Else a refusal changes nothing:
+    /// `Capacity` where the new length passes 2^63 - 1, and `Memory` where that isn't so.
     #[inline]
     pub fn extend_from_slice(&mut self, elements: &[T]) -> Result<(), EcoError>
         ensures ok { ClonesAreEqual T.is_clone → OnOk result (self.new ≡ self.old ++ elements.now) }
@@ -270,10 +284,13 @@ impl<T: Clone> EcoVec<T> {
     }
 
     /// Gives each element to `f` for writing, once and in order, and keeps those, as `f` left
-    /// them, at which it answered `true`. Where it is refused, `f` was given none.
+    /// them, at which it answered `true`. A shared vector copies its elements first, or gives its
+    /// block up where it has none. The one error is `Memory`, where the copy was refused: then `f`
+    /// was given no element, and nothing has changed.
     pub fn retain<F: FnMut(&mut T) -> bool>(&mut self, f: F) -> Result<(), EcoError>
         requires { F.IsAlwaysCallable f }
         ensures ok { ClonesAreEqual T.is_clone → OnOk result (RetainsInTurn (CalledAtMut F.FnMut) f self.old self.new) }
+        ensures len { OnOk result (length self.new ≤ length self.old) }
         ensures err { IfErr result (λ error. error ≡ EcoError.Memory) }
         ensures unchanged { OnErr result (self.new ≡ self.old) }
     {

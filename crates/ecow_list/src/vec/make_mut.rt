@@ -2,6 +2,7 @@
 ghost use Rattle.std.specs.Prelude.{◌≡◌, ◌<◌, [], length, IfOk, IfErr, IsOk, OnOk, OnErr, MatchOption};
 ghost use Rattle.std.specs.Borrow.{sem};
 ghost use Rattle.ecow_base.specs.Clones.{ClonesAreEqual};
+ghost use Rattle.ecow_list.specs.Vectors.{IsKept};
 
 use crate::error::EcoError;
 use crate::vec::EcoVec;
@@ -11,14 +12,19 @@ use ecow_block::Block;
 impl<T: Clone> EcoVec<T> {
     ghost use Rattle.ecow_list.specs.Lends.{lends_own_block, lends_slice};
 
-    /// The elements, for writing. A shared vector copies them first; one without elements gives
-    /// its block up. Never refused where there are none.
+    /// The elements, for writing. A shared vector copies them first, or gives its block up where it
+    /// has none. Never refused where there are none.
+    ///
+    /// The one error is `Memory`, where the copy was refused; then nothing has changed. (The contract
+    /// leaves open that clones stand in the elements' places, since none can say that a new block
+    /// isn't shared.)
     pub fn make_mut(&mut self) -> Result<&mut [T], EcoError>
         ensures* writes_back { sem 𝓛 (lends_slice T.row T.is_clone self.entry result) }
         ensures value { ClonesAreEqual T.is_clone → IfOk result (λ slice. slice.now ≡ self.old) }
         ensures len { IfOk result (λ slice. length slice.now ≡ length self.old) }
         ensures err { IfErr result (λ error. error ≡ EcoError.Memory) }
         ensures empty { self.old ≡ [] → IsOk result }
+        ensures kept { IfOk result (λ slice. IsKept T.is_clone self.old slice.now) }
     {
         match self.own_mut() {
             Ok(block) => Ok(block.as_mut_slice()),
@@ -31,7 +37,7 @@ impl<T: Clone> EcoVec<T> {
     #[inline]
     pub(crate) fn own_mut(&mut self) -> Result<&mut Block<T>, Option<EcoError>>
         ensures* writes_back { sem 𝓛 (lends_own_block T.row T.is_clone self.entry result) }
-        ensures items { ClonesAreEqual T.is_clone → IfOk result (λ block. block.now.items ≡ self.old) }
+        ensures kept { IfOk result (λ block. IsKept T.is_clone self.old block.now.items) }
         ensures len { IfOk result (λ block. length block.now.items ≡ length self.old) }
         ensures some { OnOk result (0 < length self.old) }
         ensures err { IfErr result (λ refused. MatchOption refused (self.old ≡ []) (λ error. (error ≡ EcoError.Memory) × (0 < length self.old))) }
@@ -56,6 +62,7 @@ impl<T: Clone> EcoVec<T> {
     fn unshare(&mut self) -> Result<(), EcoError>
         requires { 0 < length self.old }
         ensures ok { ClonesAreEqual T.is_clone → OnOk result (self.new ≡ self.old) }
+        ensures kept { OnOk result (IsKept T.is_clone self.old self.new) }
         ensures len { OnOk result (length self.new ≡ length self.old) }
         ensures err { IfErr result (λ error. error ≡ EcoError.Memory) }
         ensures unchanged { OnErr result (self.new ≡ self.old) }
@@ -71,6 +78,7 @@ impl<T: Clone> EcoVec<T> {
     #[inline(never)]
     fn unshare_shared(&mut self) -> Result<(), EcoError>
         ensures ok { ClonesAreEqual T.is_clone → OnOk result (self.new ≡ self.old) }
+        ensures kept { OnOk result (IsKept T.is_clone self.old self.new) }
         ensures len { OnOk result (length self.new ≡ length self.old) }
         ensures err { IfErr result (λ error. error ≡ EcoError.Memory) }
         ensures unchanged { OnErr result (self.new ≡ self.old) }

@@ -9,7 +9,11 @@ use ecow_base::{MAX_LEN, room_for};
 use std::rc::Rc;
 
 impl<T: Clone> EcoVec<T> {
-    /// Appends `value`.
+    /// Appends `value`. A vector that is shared copies its elements into a block of its own first,
+    /// and one that is full gets a larger block.
+    ///
+    /// A refusal changes nothing and hands `value` back, with `Capacity` where there are 2^63 - 1
+    /// elements, and else with `Memory`.
     #[inline]
     pub fn push(&mut self, value: T) -> Result<(), Rejected<T>>
         ensures ok { ClonesAreEqual T.is_clone → OnOk result (self.new ≡ self.old ++ value ∷ []) }

@@ -5,20 +5,23 @@ ghost use Rattle.std.specs.Iterator.{IsFinite};
 ghost use Rattle.ecow_base.specs.Clones.{ClonesAreEqual};
 ghost use Rattle.ecow_base.specs.Range.{range_of};
 ghost use Rattle.ecow_list.specs.Ranges.{AtRange};
-ghost use Rattle.ecow_list.specs.Vectors.{GivesItems};
+ghost use Rattle.ecow_list.specs.Vectors.{GivesFirst, GivesItems};
 
 use crate::error::EcoError;
 use crate::iter::{Drain, Splice};
 use crate::vec::EcoVec;
+use crate::vec::collect::collected;
 use ecow_base::{MAX_LEN, fresh_capacity, resolve, room_for};
 use ecow_block::{Block, Rest};
-use std::alloc::{AllocError, Global};
+use std::alloc::AllocError;
 use std::ops::RangeBounds;
 use std::rc::Rc;
 
 impl<T: Clone> EcoVec<T> {
-    /// Takes out the elements of `range`, which `range_in` tests. A shared vector gets a block of
-    /// its own, also where nothing is taken out.
+    /// Takes out the elements of `range`, which `range_in` tests; the vector is final when the call
+    /// answers. A shared vector copies its elements into a block of its own first, also where
+    /// nothing is taken out, or gives its block up where it has none. The one error is `Memory`,
+    /// which changes nothing.
     pub fn drain<R: RangeBounds<usize>>(&mut self, range: R) -> Result<Drain<T>, EcoError>
         requires known { R.has_bounds range }
         requires in_range { IsSome (range_of (R.start_bound range, R.end_bound range) (length self.old)) }
@@ -35,8 +38,14 @@ impl<T: Clone> EcoVec<T> {
     }
 
     /// Puts the items of `replace_with` in place of the elements of `range`, which `range_in`
-    /// tests, and gives these. All items are collected first, whatever the size hint says; a
-    /// refusal there leaves the vector as it was.
+    /// tests, and gives these; the vector is final when the call answers. All items are collected
+    /// first, and the size hint isn't asked. A shared vector then copies its elements into a block
+    /// of its own, also where nothing changes; where it has none and gets none, it gives its block
+    /// up.
+    ///
+    /// A refusal leaves the vector as it was; the items so far are dropped, and no further one is
+    /// asked for: `Capacity` at the item with which the new length passes 2^63 - 1, and else
+    /// `Memory`.
     pub fn splice<R: RangeBounds<usize>, I: IntoIterator<Item = T>>(
         &mut self,
         range: R,
@@ -49,11 +58,12 @@ impl<T: Clone> EcoVec<T> {
         ensures removed { ClonesAreEqual T.is_clone → IfOk result (λ removed. AtRange (R.start_bound range, R.end_bound range) (length self.old) (λ start end. removed ≡ slice_range self.old start end)) }
         ensures len { OnOk result ((items : List T) × GivesItems I.into_iter_gives I.IntoIter.next_gives replace_with items × AtRange (R.start_bound range, R.end_bound range) (length self.old) (λ start end. length self.new + (end - start) ≡ length self.old + length items)) }
         ensures removed_len { IfOk result (λ removed. AtRange (R.start_bound range, R.end_bound range) (length self.old) (λ start end. length removed ≡ end - start)) }
-        ensures capacity { IsErrOf result EcoError.Capacity → (items : List T) × GivesItems I.into_iter_gives I.IntoIter.next_gives replace_with items × AtRange (R.start_bound range, R.end_bound range) (length self.old) (λ start end. MAX_LEN < length self.old - (end - start) + length items) }
+        ensures capacity { OnErr result ((items : List T) × GivesFirst I.into_iter_gives I.IntoIter.next_gives replace_with items × AtRange (R.start_bound range, R.end_bound range) (length self.old) (λ start end. IsErrOf result EcoError.Capacity ↔ (MAX_LEN < length self.old - (end - start) + length items))) }
         ensures unchanged { OnErr result (self.new ≡ self.old) }
     {
         let (start, end) = resolve(&range, self.len()).unwrap();
-        let replacement = collected(self.alloc, end - start, replace_with)?;
+        let most = MAX_LEN - (self.len() - (end - start));
+        let replacement = collected(self.alloc, end - start, 16, most, replace_with)?;
         Ok(Splice::new(self.replaced(start, end, replacement)?))
     }
 
@@ -64,22 +74,19 @@ impl<T: Clone> EcoVec<T> {
         start: usize,
         end: usize,
         replacement: Block<T>,
-    ) -> Result<Rest<T>, EcoError>
+    ) -> Result<Rest<T>, AllocError>
         requires ordered { start ≤ end }
         requires in_bounds { end ≤ length self.old }
+        requires fits { length self.old - (end - start) + length replacement.items ≤ MAX_LEN }
         requires spare { end - start ≤ replacement.capacity }
         ensures ok { ClonesAreEqual T.is_clone → OnOk result (self.new ≡ splice self.old start end replacement.items) }
         ensures removed { ClonesAreEqual T.is_clone → IfOk result (λ removed. removed ≡ slice_range self.old start end) }
         ensures len { OnOk result (length self.new + (end - start) ≡ length self.old + length replacement.items) }
         ensures removed_len { IfOk result (λ removed. length removed ≡ end - start) }
-        ensures capacity { IsErrOf result EcoError.Capacity ↔ (MAX_LEN < length self.old - (end - start) + length replacement.items) }
         ensures unchanged { OnErr result (self.new ≡ self.old) }
     {
         let len = self.len();
         let (left, added) = (len - (end - start), replacement.len());
-        if added > MAX_LEN - left {
-            return Err(EcoError::Capacity);
-        }
         if let Some(block) = self.sole_block() {
             block.grow(room_for(left, added, block.capacity()))?;
             return Ok(block.splice_within(start, end, replacement));
@@ -91,36 +98,10 @@ impl<T: Clone> EcoVec<T> {
         }
         let mut fresh = self.copied(len, room)?;
         let Some(block) = Rc::get_mut(&mut fresh) else {
-            return Err(EcoError::Memory);
+            return Err(AllocError);
         };
         let removed = block.splice_within(start, end, replacement);
         self.block = Some(fresh);
         Ok(removed)
     }
-}
-
-/// The items of `iter`, in order, with room for no fewer than `least`.
-fn collected<T: Drop, I: IntoIterator<Item = T>>(
-    alloc: Global,
-    least: usize,
-    iter: I,
-) -> Result<Block<T>, AllocError>
-    requires bounded { least ≤ MAX_LEN }
-    requires ends { (it : I.IntoIter) → I.into_iter_gives iter it → I.IntoIter.can_next it × IsFinite (I.IntoIter.remaining it) }
-    ensures items { IfOk result (λ block. GivesItems I.into_iter_gives I.IntoIter.next_gives iter block.items) }
-    ensures room { IfOk result (λ block. least ≤ block.capacity) }
-{
-    let iter = iter.into_iter();
-    let mut items = Block::with_capacity(alloc, least)?;
-    for item in iter {
-        let (len, capacity) = (items.len(), items.capacity());
-        if len == capacity {
-            if len == MAX_LEN {
-                return Err(AllocError);
-            }
-            items.grow(room_for(len, 1, capacity.max(16)))?;
-        }
-        items.push_within(item);
-    }
-    Ok(items)
 }

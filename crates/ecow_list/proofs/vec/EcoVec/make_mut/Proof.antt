@@ -54,6 +54,7 @@ use Rattle.std.specs.declared.result.Result.TheVariants.{Ok, Err}
 use Rattle.std.specs.contracts.result.Result.{the_row as result_row}
 use Rattle.std.specs.Prelude.{IfOk, IfErr, IsOk, OnOk, OnErr, MatchOption}
 use Rattle.std.specs.Borrow.{name_if_ok}
+use Rattle.std.proofs.Common.{inl}
 use Rattle.std_alloc.proofs.ResultValues.{ok_of, err_of}
 use Rattle.std_alloc.proofs.VecSteps.Gaps.{all_new}
 use Rattle.std_alloc.proofs.VecSteps.Shapes.{after, head, arm_body}
@@ -75,9 +76,11 @@ use Rattle.ecow_block.proofs.block.Block.as_mut_slice.Met as slice_thm
 use Rattle.ecow_list.proofs.vec.EcoVec.own_mut.Met as own_thm
 use Rattle.ecow_list.proofs.vec.EcoVec.make_mut.Statement as stated
 use Rattle.ecow_list.proofs.vec.EcoVec.make_mut.Code as code
+use Rattle.ecow_list.proofs.Kept.{kept_equal, none_kept}
 use Rattle.ecow_list.proofs.Loans.{so_then, so_none_by}
 use Rattle.ecow_list.proofs.ResultTyped.{refused, refused_is, not_memory}
 use Rattle.ecow_list.specs.Lends.{name_of_slice, name_if_lent}
+use Rattle.ecow_list.specs.Vectors.{IsKept}
 use Rattle.std.specs.declared.option.Option.{Option}
 use Rattle.std.specs.declared.option.Option.TheVariants.{None, Some}
 use Rattle.std.specs.contracts.option.Option.{the_row as option_row}
@@ -167,16 +170,16 @@ module _ (X : RattleType) (g : Ghosts X.Denot) (dc dd : Dict) where
       BlockIs r x n = IsOk r → n ≡ x.items
 
       abbrev BlockStays : Given → List X.Denot → Type 0
-      BlockStays r n = OnErr r (ClonesAreEqual g.is_clone → n ≡ d)
+      BlockStays r n = OnErr r (IsKept g.is_clone d n)
 
       abbrev SliceIs : Answer → List X.Denot → List X.Denot → Type 0
       SliceIs r x n = IsOk r → length x ≡ length d → n ≡ x
 
       abbrev SliceStays : Answer → List X.Denot → Type 0
-      SliceStays r n = OnErr r (ClonesAreEqual g.is_clone → n ≡ d) × (d ≡ [] → ClonesAreEqual g.is_clone → n ≡ [])
+      SliceStays r n = OnErr r (IsKept g.is_clone d n) × (d ≡ [] → n ≡ [])
 
       abbrev HasItems : Given → Type 0
-      HasItems r = ClonesAreEqual g.is_clone → IfOk r (λ x. x.now.items ≡ d)
+      HasItems r = IfOk r (λ x. IsKept g.is_clone d x.now.items)
 
       abbrev HasLength : Given → Type 0
       HasLength r = IfOk r (λ x. length x.now.items ≡ length d)
@@ -188,16 +191,17 @@ module _ (X : RattleType) (g : Ghosts X.Denot) (dc dd : Dict) where
       IsRefusal r = IfErr r (λ e. MatchOption e (d ≡ []) (λ error. (error ≡ NoMemory) × (0 < length d)))
 
       -- how the walk ends, once the clause is there
-      exits : (r : Answer) (v : Val) → (ClonesAreEqual g.is_clone → IfOk r (λ s. s.now ≡ d)) × (IfOk r (λ s. length s.now ≡ length d) × (IfErr r (λ e. e ≡ NoMemory) × (d ≡ [] → IsOk r)))
+      exits : (r : Answer) (v : Val) → (ClonesAreEqual g.is_clone → IfOk r (λ s. s.now ≡ d)) × (IfOk r (λ s. length s.now ≡ length d) × (IfErr r (λ e. e ≡ NoMemory) × ((d ≡ [] → IsOk r) × IfOk r (λ s. IsKept g.is_clone d s.now))))
           → ent 𝓤 (sep 𝓤 (sem 𝓛 (follows_so V (Array R 0) γ (name_if_lent r) (SliceIs r) (SliceStays r))) (sep 𝓤 (sem 𝓛 ((result_row Items error_row).own_val r (v ∷ []))) (sep 𝓤 (A.lft κ q) (A.lft κT qT)))) (Ends v)
       exits r v facts =
           qed 𝓛 (‵ (follows_so V (Array R 0) γ (name_if_lent r) (SliceIs r) (SliceStays r)) ∷ ‵ ((result_row Items error_row).own_val r (v ∷ [])) ∷ ‵ (flft κ q) ∷ ‵ (flft κT qT) ∷ []) ∵
           suffices ! _ (ends_at 𝓛 ended stayed held bound v r (tt, tt) (tt, tt)) $
           nothing ! $ nothing ! $ fjoin ! $ move ! (0 ∷ 2 ∷ []) $ join ! $ nothing ! $ move ! (4 ∷ 0 ∷ []) $ join ! $ move ! (3 ∷ 0 ∷ []) $ join ! $ join ! $ frame ! $
-          use0 𝓛 (raw (fact 𝓤 (d ≡ [] → IsOk r))) (fact_i 𝓤 (d ≡ [] → IsOk r) (emp 𝓤) facts.1.1.1) $ use0 𝓛 (raw (fact 𝓤 (IfErr r (λ e. e ≡ NoMemory)))) (fact_i 𝓤 (IfErr r (λ e. e ≡ NoMemory)) (emp 𝓤) facts.1.1.0) $
+          use0 𝓛 (raw (fact 𝓤 (IfOk r (λ s. IsKept g.is_clone d s.now)))) (fact_i 𝓤 (IfOk r (λ s. IsKept g.is_clone d s.now)) (emp 𝓤) facts.1.1.1.1) $
+          use0 𝓛 (raw (fact 𝓤 (d ≡ [] → IsOk r))) (fact_i 𝓤 (d ≡ [] → IsOk r) (emp 𝓤) facts.1.1.1.0) $ use0 𝓛 (raw (fact 𝓤 (IfErr r (λ e. e ≡ NoMemory)))) (fact_i 𝓤 (IfErr r (λ e. e ≡ NoMemory)) (emp 𝓤) facts.1.1.0) $
           use0 𝓛 (raw (fact 𝓤 (IfOk r (λ s. length s.now ≡ length d)))) (fact_i 𝓤 (IfOk r (λ s. length s.now ≡ length d)) (emp 𝓤) facts.1.0) $
           use0 𝓛 (raw (fact 𝓤 (ClonesAreEqual g.is_clone → IfOk r (λ s. s.now ≡ d)))) (fact_i 𝓤 (ClonesAreEqual g.is_clone → IfOk r (λ s. s.now ≡ d)) (emp 𝓤) facts.0) $
-          move ! (4 ∷ 0 ∷ 1 ∷ 2 ∷ 3 ∷ []) $ done !
+          move ! (5 ∷ 0 ∷ 1 ∷ 2 ∷ 3 ∷ 4 ∷ []) $ done !
 
       empty_has : d ≡ [] → 0 < length d → ⊥
       empty_has e p = omega (arith, ap length e, p)
@@ -218,7 +222,7 @@ module _ (X : RattleType) (g : Ghosts X.Denot) (dc dd : Dict) where
           (so_then 𝓛 V B (Array R 0) γ x.ghost_name s.ghost_name (BlockIs (Ok x)) (BlockStays (Ok x)) (with_elements x.now) (SliceIs (Ok s)) (SliceStays (Ok s))
           (λ w n is ok fits. is ok ∙ all_new (length x.now.items) x.now.items w (fits ∙ sym long)) (λ n is. (tt, λ none'. absurd (empty_has none' nonempty)))) $
           rewrite ! 0 (λ (m : Option' GName). ‵ (follows_so V (Array R 0) γ m (SliceIs (Ok s)) (SliceStays (Ok s)))) (has_name s.ghost_name s.now has) refl $
-          by ! (exits (Ok s) (live 0 (of_list (u ∷ []))) ((λ equal. same ∙ items equal), (len, (tt, λ none'. refl))))
+          by ! (exits (Ok s) (live 0 (of_list (u ∷ []))) ((λ equal. same ∙ kept_equal g.is_clone equal d x.now.items items), (len, (tt, ((λ none'. refl), subst (IsKept g.is_clone d) (sym same) items)))))
 
       module _ (𝓣 : Tables 𝓤 H) (own : Triple 𝓤 (𝓣.C own_key) Own) (slice : Triple 𝓤 (𝓣.C slice_key) Slice) (alive : κT ⊑ X.lives) (l : ℕ → ℕ) where
         abbrev En : Env 𝓤 H
@@ -276,8 +280,8 @@ module _ (X : RattleType) (g : Ghosts X.Denot) (dc dd : Dict) where
             returns ! (look_at ! 0 refl) $ free_all ! refl $ keep ! (0 ∷ 2 ∷ 3 ∷ 4 ∷ []) $
             use1 𝓛 (‵ ((result_row Items error_row).own_val (Ok s) (live 0 (of_list (slice_val (l 9, 0) 0 ∷ [])) ∷ []))) (ok_of 𝓛 Items error_row s (slice_val (l 9, 0) 0)) $ move ! (3 ∷ []) $
             use1 𝓛 (‵ (follows_so V (Array R 0) γ none (SliceIs (Ok s)) (SliceStays (Ok s))))
-            (so_none_by 𝓛 V B (Array R 0) γ (λ w. w) (BlockIs (Err None)) (BlockStays (Err None)) (SliceIs (Ok s)) (SliceStays (Ok s)) (λ w ok fits. refl) (λ n is. (tt, λ none' equal. is equal ∙ none'))) $
-            by ! (exits (Ok s) (live 0 (of_list (slice_val (l 9, 0) 0 ∷ []))) ((λ equal. sym facts.1.1.1), (ap length (sym facts.1.1.1), (tt, λ none'. refl))))))))))
+            (so_none_by 𝓛 V B (Array R 0) γ (λ w. w) (BlockIs (Err None)) (BlockStays (Err None)) (SliceIs (Ok s)) (SliceStays (Ok s)) (λ w ok fits. refl) (λ n is. (tt, λ none'. none_kept g.is_clone d n none' is))) $
+            by ! (exits (Ok s) (live 0 (of_list (slice_val (l 9, 0) 0 ∷ []))) ((λ equal. sym facts.1.1.1), (ap length (sym facts.1.1.1), (tt, ((λ none'. refl), inl (sym facts.1.1.1))))))))))))
         lent (Err (Some Capacity)) v facts = absurd (not_memory facts.1.1.1.0)
         lent (Err (Some NoMemory)) v facts =
             fpick ! (λ us. fsplit ! $ feq_l ! (λ is. fpick ! (λ vss. fsplit ! $ feq_l ! (λ field. fsplit ! $
@@ -297,7 +301,7 @@ module _ (X : RattleType) (g : Ghosts X.Denot) (dc dd : Dict) where
             use1 𝓛 (‵ ((result_row Items error_row).own_val (Err NoMemory) (live 1 (of_list (value ∷ [])) ∷ []))) (err_of 𝓛 Items error_row NoMemory value) $ move ! (3 ∷ []) $
             use1 𝓛 (‵ (follows_so V (Array R 0) γ none (SliceIs (Err NoMemory)) (SliceStays (Err NoMemory))))
             (so_none_by 𝓛 V B (Array R 0) γ (λ w. w) (BlockIs (Err (Some NoMemory))) (BlockStays (Err (Some NoMemory))) (SliceIs (Err NoMemory)) (SliceStays (Err NoMemory)) (λ w ok fits. refl) (λ n is. (is, λ none'. absurd (empty_has none' facts.1.1.1.1)))) $
-            by ! (exits (Err NoMemory) (live 1 (of_list (value ∷ []))) ((λ equal. tt), (tt, (refl, λ none'. absurd (empty_has none' facts.1.1.1.1))))))))))))))
+            by ! (exits (Err NoMemory) (live 1 (of_list (value ∷ []))) ((λ equal. tt), (tt, (refl, ((λ none'. absurd (empty_has none' facts.1.1.1.1)), tt))))))))))))))
 
       module _ (𝓣 : Tables 𝓤 H) (own : Triple 𝓤 (𝓣.C own_key) Own) (slice : Triple 𝓤 (𝓣.C slice_key) Slice) where
         walk : ent 𝓤 (sep 𝓤 (on_entry 𝓛 ended.signature (κ, (κT, tt)) (q, (qT, tt)) (self, tt) (mut_vals self, tt)) ((held (κ, (κT, tt)) (self, tt)).requires tt)) (WpFn 𝓤 H 𝓣.C 𝓣.Λ function (vptr b o ∷ []) Ends)

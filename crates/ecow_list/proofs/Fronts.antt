@@ -1,0 +1,19 @@
+-- The items that an iterator gave up to a refusal.
+use Rattle.std.proofs.Common.{List, ◌∷◌, ◌++◌, [], Option, Some, Result, Ok, Err, OnErr}
+use Rattle.std.specs.Iterator.{Yields}
+use Rattle.std.proofs.iter.Next.{Yields-more}
+use Rattle.ecow_list.specs.Vectors.{GivesFirst, GivesItems}
+
+module _ {C I T : Type 0} (gives : C → I → Type 0) (steps : I → Option T → I → Type 0) (c : C) where
+  -- one item more came
+  pub one_more : (it : I) (xs : List T) (t : I) (x : T) (u : I) → gives c it → Yields steps it xs t → steps t (Some x) u → GivesFirst gives steps c (xs ++ x ∷ [])
+  one_more it xs t x u g y s = (it, u, g, Yields-more steps it xs t x u y s)
+
+  -- all items are the first ones
+  pub all_first : (xs : List T) → GivesItems gives steps c xs → GivesFirst gives steps c xs
+  all_first xs h = (h.0, h.2.1.0, h.1, h.2.1.1)
+
+-- what holds anyway holds where there is an error
+pub on_err : {T E P : Type 0} (r : Result T E) → P → OnErr r P
+on_err (Ok x) p = tt
+on_err (Err e) p = p

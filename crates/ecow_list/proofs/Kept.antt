@@ -1,0 +1,24 @@
+-- Elements that stayed, or in whose places clones stand.
+use Rattle.std.proofs.Common.{◌≡◌, List, [], ◌∷◌, length, refl, ap, arith, inl, inr}
+use Rattle.std.specs.List.{AllZip}
+use Rattle.ecow_base.specs.Clones.{ClonesAreEqual}
+use Rattle.ecow_list.specs.Vectors.{IsKept}
+
+module _ {X : Type 0} (is_clone : X → X → Type 0) where
+  -- clones that equal their sources are the elements of before
+  pub clones_equal : ClonesAreEqual is_clone → (old new : List X) → AllZip is_clone old new → new ≡ old
+  clones_equal equal [] [] all = refl
+  clones_equal equal [] (y ∷ ys) all = absurd all
+  clones_equal equal (x ∷ xs) [] all = absurd all
+  clones_equal equal (x ∷ xs) (y ∷ ys) all = let head : y ≡ x = equal x y all.0 in let tail : ys ≡ xs = clones_equal equal xs ys all.1 in cc
+
+  pub kept_equal : ClonesAreEqual is_clone → (old new : List X) → IsKept is_clone old new → new ≡ old
+  kept_equal equal old new (inl same) = same
+  kept_equal equal old new (inr clones) = clones_equal equal old new clones
+
+  -- where there were none, there are none
+  pub none_kept : (old new : List X) → old ≡ [] → IsKept is_clone old new → new ≡ []
+  none_kept [] new e (inl same) = same
+  none_kept [] [] e (inr clones) = refl
+  none_kept [] (y ∷ ys) e (inr clones) = absurd clones
+  none_kept (x ∷ xs) new e is = absurd (omega (arith, ap length e))
