@@ -8,3 +8,4 @@ pub mod Ranges
 pub mod Lengths
 pub mod Steps
 pub mod Bounds
+pub mod Agreement

@@ -1,10 +1,15 @@
 //! Laws of runs in shared blocks.
-ghost use Rattle.std.specs.Prelude.{◌≡◌, ℕ, ◌+◌, ◌*◌, ◌≤◌, List};
+ghost use Rattle.std.specs.Prelude.{◌≡◌, ℕ, ◌+◌, ◌*◌, ◌≤◌, List, Some, Ok};
 ghost use Rattle.std.specs.FinMap as finite;
-ghost use Rattle.ecow_model.specs.CountedRun.{CountedRun, CopiesAtMostEagerly, MovesArePaid, copied_in_run, eager_in_run, input_in_run, moved_in_run};
-ghost use Rattle.ecow_model.specs.Names.{IsSharing, Names};
+ghost use Rattle.ecow_model.specs.Agreement.{LacksNoMemory, SameAnswers};
+ghost use Rattle.ecow_model.specs.CountedRun.{CountedRun, CopiesAtMostEagerly, MovesArePaid, copied_in_run, counted_used, eager_in_run, input_in_run, moved_in_run};
+ghost use Rattle.ecow_model.specs.Names.{Held, IsSharing, Names, contents};
+ghost use Rattle.ecow_model.specs.Run.{IsVecStep, RunBy};
+ghost use Rattle.ecow_model.specs.State.{State};
 ghost use Rattle.ecow_model.specs.declared.command.Outcome.{Outcome};
+ghost use Rattle.ecow_model.specs.declared.lists.ListAsk.{ListAsk};
 ghost use Rattle.ecow_model.specs.declared.lists.VecCommand.{VecCommand};
+ghost use Rattle.ecow_model.specs.declared.usage.Usage.{Usage};
 
 /// What a run copies and moves is paid; from no names at all, sharing never copies more than copying at
 /// each clone would.
@@ -14,4 +19,16 @@ pub fn runs_are_paid<T>()
     ensures moves { (commands : List (VecCommand T)) (outcomes : List (Outcome T)) (old : Names T) (new : Names T) → MovesArePaid old commands outcomes new }
     ensures copies_from_nothing { (commands : List (VecCommand T)) (outcomes : List (Outcome T)) (new : Names T) → CountedRun finite.empty commands outcomes new → copied_in_run finite.empty commands outcomes ≤ eager_in_run finite.empty commands outcomes }
     ensures moves_from_nothing { (commands : List (VecCommand T)) (outcomes : List (Outcome T)) (new : Names T) → CountedRun finite.empty commands outcomes new → moved_in_run finite.empty commands outcomes ≤ copied_in_run finite.empty commands outcomes + 2 * input_in_run finite.empty commands outcomes }
+{}
+
+/// Where neither lacks memory, plain lists and lists in shared blocks give the same contents and, but
+/// for what Capacity and Unique read, the same answers to the same commands.
+pub fn keepings_agree<T>()
+    ensures answers { (commands : List (VecCommand T)) (ours : List (Outcome T)) (theirs : List (Outcome T)) (old : State T) (new : State T) (names : Names T) (later : Names T) → contents names ≡ old → RunBy IsVecStep old commands ours new → CountedRun names commands theirs later → LacksNoMemory ours → LacksNoMemory theirs → SameAnswers commands ours theirs }
+    ensures contents { (commands : List (VecCommand T)) (ours : List (Outcome T)) (theirs : List (Outcome T)) (old : State T) (new : State T) (names : Names T) (later : Names T) → contents names ≡ old → RunBy IsVecStep old commands ours new → CountedRun names commands theirs later → LacksNoMemory ours → LacksNoMemory theirs → contents later ≡ new }
+{}
+
+/// In shared blocks Capacity answers exactly the capacity of the name's block.
+pub fn capacities_are_exact<T>()
+    ensures { (names : Names T) (name : ℕ) (held : Held T) → IsSharing names → finite.get names name ≡ Some held → counted_used names (Usage.Ask name ListAsk.Capacity) ≡ Ok (Outcome.Count held.capacity, names) }
 {}

@@ -13,3 +13,4 @@ pub mod Run
 pub mod Names
 pub mod Costs
 pub mod CountedRun
+pub mod Agreement
