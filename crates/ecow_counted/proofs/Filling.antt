@@ -1,15 +1,16 @@
 -- A new list that is filled item by item: its run, and what it moves.
-use Rattle.std.proofs.Common.{zero, suc, ◌≡◌, ℕ, ◌+◌, ◌*◌, ◌<◌, ◌≤◌, Bool, true, false, cond, not, ◌&&◌, List, [], ◌∷◌, ◌++◌, map, length, take, drop, Some, Result, Ok, Err, refl, sym, ◌∙◌, ap, subst, arith, inl, inr, length-append}
-use Rattle.std.specs.Prelude.{nat_lt, replicate}
+use Rattle.std.proofs.Common.{zero, suc, ◌≡◌, ℕ, ◌+◌, ◌*◌, ◌<◌, ◌≤◌, Bool, true, false, cond, not, ◌&&◌, List, [], ◌∷◌, ◌++◌, map, length, take, drop, Option, Some, None, Result, Ok, Err, refl, sym, ◌∙◌, ap, subst, arith, inl, inr, length-append, if◌then◌else◌}
+use Rattle.std.specs.Prelude.{nat_lt, replicate, is_some, IsSome}
+use Rattle.std.proofs.lemmas.Bool.{true≢false}
 use Rattle.std.specs.FinMap as finite
 use Rattle.std.specs.Option.{unwrap_or}
 use Rattle.ecow_base.specs.Capacity.{MAX}
 use Rattle.ecow_model.specs.Refusing.{◌>>=◌, OnRefused, allowed}
 use Rattle.ecow_model.specs.Values.{unused}
-use Rattle.ecow_model.specs.Uses.{Gives}
+use Rattle.ecow_model.specs.Uses.{Gives, IsVerdict}
 use Rattle.ecow_model.specs.Lists.{ListUsage, list_made, grows, vec_usage}
 use Rattle.ecow_model.specs.Costs.{capacity_after, moves, moved_by}
-use Rattle.ecow_model.specs.CountedRun.{nothing, held_at, change, counted_used, counted_is_free, CountedStep, CountedRun, saturating, if_accepted, copied_in, moved_in, sum_in_run}
+use Rattle.ecow_model.specs.CountedRun.{nothing, held_at, change, counted_used, counted_is_free, CountedStep, CountedVerdict, CountedRun, saturating, if_accepted, copied_in, moved_in, sum_in_run}
 use Rattle.ecow_model.specs.Names.{Names, Held, IsSharing, is_shared, settle, strain_at}
 use Rattle.ecow_model.specs.declared.usage.Usage.TheVariants.{Make, Change as Edit}
 use Rattle.ecow_model.specs.declared.lists.ListMake.TheVariants.{New as Begin}
@@ -19,6 +20,7 @@ use Rattle.ecow_model.specs.declared.lists.VecCommand.TheVariants.{New, Push}
 use Rattle.ecow_model.specs.declared.command.Outcome.{Outcome}
 use Rattle.ecow_model.specs.declared.command.Outcome.TheVariants.{Done, Refused}
 use Rattle.ecow_model.specs.declared.command.Refusal.{Refusal}
+use Rattle.ecow_model.specs.declared.command.Refusal.TheVariants.{Taken}
 use Rattle.ecow_laws.proofs.Bounds.{bound, same_answer, step_paid}
 use Rattle.ecow_laws.proofs.Lengths.{is_answer}
 use Rattle.ecow_laws.proofs.Settled.{get-settle}
@@ -170,6 +172,18 @@ module _ {T : Type 0} where
               paid = omega (arith, moves_are, count, so_far.paid, cost.moved, had, has);
             },
           )
+
+-- New of a name that is there is refused as taken
+pub is_taken : {T : Type 0} (old : Names T) (name : ℕ) (outcome : Outcome T) (new : Names T) → CountedVerdict old (New name) outcome new → IsSome (finite.get old name) → outcome ≡ Refused Taken
+is_taken {T} old name outcome new h there = elim (finite.get old name) as (λ o. IsVerdict {A = Outcome T × Names T} ((if is_some o then Err Taken else Ok tt) >>= (λ _. Ok (Done, settle name [] 0 old))) false outcome → IsSome o → outcome ≡ Refused Taken) [
+  | None ↦ λ h there. absurd (true≢false (sym there))
+  | Some held ↦ λ h there. h
+] h.0 there
+
+-- why a command was refused
+abbrev pub refusal_in : {T : Type 0} → Outcome T → Option Refusal
+refusal_in (Refused refusal) = Some refusal
+refusal_in _ = None
 
 pub not_refused_by : {T : Type 0} (outcome : Outcome T) → ((refusal : Refusal) → outcome ≡ Refused refusal → ⊥) → OnRefused outcome ⊥
 not_refused_by (Refused refusal) h = h refusal refl

@@ -1,7 +1,9 @@
 //! A new list, filled item by item.
-ghost use Rattle.std.specs.Prelude.{◌+◌, ◌*◌, ◌≤◌};
+ghost use Rattle.std.specs.Prelude.{◌≡◌, ◌+◌, ◌*◌, ◌≤◌, Some, IsSome, IfNone, length};
+ghost use Rattle.std.specs.FinMap as finite;
 ghost use Rattle.ecow_base.specs.Clones.{ClonesAreEqual};
 ghost use Rattle.ecow_counted.specs.Filling.{IsFilled};
+ghost use Rattle.ecow_model.specs.declared.command.Refusal.{Refusal};
 
 use crate::Counted;
 use ecow_model::{Name, Outcome, Refusal, VecCommand};
@@ -19,6 +21,9 @@ impl<T: Clone> Counted<T> {
     /// are dropped. Where the name can't be made nothing changes.
     pub fn fill(&mut self, name: Name, items: Vec<T>) -> Filled
         ensures run { ClonesAreEqual T.is_clone → IsFilled self.old name items.items result self.new }
+        ensures taken { IsSome (finite.get self.old.names name) → (result.accepted ≡ 0) × (result.refusal ≡ Some Refusal.Taken) × (self.new ≡ self.old) }
+        ensures within { result.accepted ≤ length items.items }
+        ensures all { IfNone result.refusal (result.accepted ≡ length items.items) }
         ensures moves { ClonesAreEqual T.is_clone → self.new.moved ≤ self.old.moved + 2 * result.accepted }
     {
         // For the proof: the names of a group hold one block.

@@ -3,11 +3,13 @@ use Rattle.std.specs.Vec.Iter.{into_iter_items}
 use Rattle.std.proofs.lemmas.List.{nil_from_length, take_all}
 use Rattle.ecow_base.specs.Clones.{ClonesAreEqual}
 use Rattle.ecow_model.specs.Refusing.{OnRefused}
+use Rattle.ecow_model.specs.declared.command.Outcome.{Outcome}
 use Rattle.ecow_model.specs.declared.command.Outcome.TheVariants.{Refused}
+use Rattle.ecow_model.specs.declared.command.Refusal.TheVariants.{Taken}
 use Rattle.ecow_model.specs.declared.lists.VecCommand.TheVariants.{New, Push}
 use Rattle.ecow_counted.specs.Filling.{IsRunOf, filling, accepted}
 use Rattle.ecow_counted.specs.Keeping.{Keeping}
-use Rattle.ecow_counted.proofs.Filling.{next_of, accepted_more, filling_more, runs_one, runs_more, begins, pushes, moves_at_most, not_refused_by}
+use Rattle.ecow_counted.proofs.Filling.{next_of, accepted_more, filling_more, runs_one, runs_more, begins, pushes, moves_at_most, not_refused_by, is_taken, refusal_in}
 use Rattle.ecow_counted.proofs.counted.Counted.fill.Goals as goal
 
 pub returns-in-Refused-clause-run : goal.returns-in-Refused-clause-run
@@ -26,19 +28,33 @@ loop-value-init g c =
       moves = λ clones. (begun clones).1;
     }
 
-pub returns-in-Refused-step : goal.returns-in-Refused-step
-returns-in-Refused-step g c =
+pub returns-in-Refused-clause-taken : goal.returns-in-Refused-clause-taken
+returns-in-Refused-clause-taken g c = λ there. (
+      refl,
+      ap (λ (o : Outcome g.row.T.Denot). refusal_in o) (is_taken c.args.self.now.names c.args.name (Refused c.in-Refused.refusal) c.step.new.self.names c.in-Refused.ensures.verdict there),
+      c.in-Refused.ensures.refused,
+    )
+
+pub returns-in-Refused-step-clause-run : goal.returns-in-Refused-step-clause-run
+returns-in-Refused-step-clause-run g c =
     let so_far = c.loop-value.invariant in
     let is = c.in-Refused-step.ensures in
     let next = next_of c.loop-value.accepted c.args.items.items c.in-Some.value _ (sym so_far.left ∙ c.in-Some.ensures.items) in
-    record {
-      run = λ clones. inr (
+    λ clones. inr (
         next.within,
         subst (λ cs. IsRunOf c.args.self.now cs (accepted c.loop-value.accepted ++ Refused c.in-Refused-step.refusal ∷ []) c.step-in-Some.new.self) (sym (filling_more c.args.name c.loop-value.accepted c.args.items.items c.in-Some.value _ next))
             (runs_more c.args.self.now (filling c.args.name (take c.loop-value.accepted c.args.items.items)) (accepted c.loop-value.accepted) c.loop-value.self c.step-in-Some.new.self (Push c.args.name c.in-Some.value) (Refused c.in-Refused-step.refusal) c.blocks-sharing.ensures.sharing (so_far.run clones) (is.step clones) is.copied is.moved),
-      );
-      moves = λ clones. subst (λ (k : Keeping g.row.T.Denot). k.moved ≤ c.args.self.now.moved + 2 * c.loop-value.accepted) (sym is.refused) (moves_at_most c.args.self.now.moved c.args.name c.loop-value.accepted c.loop-value.self (so_far.moves clones));
-    }
+      )
+
+pub returns-in-Refused-step-clause-taken : goal.returns-in-Refused-step-clause-taken
+returns-in-Refused-step-clause-taken g c = λ there. absurd (c.in_default.not-Refused Taken (is_taken c.args.self.now.names c.args.name c.step.result c.step.new.self.names c.step.ensures.verdict there))
+
+pub returns-in-Refused-step-clause-moves : goal.returns-in-Refused-step-clause-moves
+returns-in-Refused-step-clause-moves g c =
+    let so_far = c.loop-value.invariant in
+    let is = c.in-Refused-step.ensures in
+    let next = next_of c.loop-value.accepted c.args.items.items c.in-Some.value _ (sym so_far.left ∙ c.in-Some.ensures.items) in
+    λ clones. subst (λ (k : Keeping g.row.T.Denot). k.moved ≤ c.args.self.now.moved + 2 * c.loop-value.accepted) (sym is.refused) (moves_at_most c.args.self.now.moved c.args.name c.loop-value.accepted c.loop-value.self (so_far.moves clones))
 
 pub loop-value-preserved : goal.loop-value-preserved
 loop-value-preserved g c =
@@ -57,15 +73,30 @@ loop-value-preserved g c =
       moves = λ clones. (pushed clones).1;
     }
 
-pub returns : goal.returns
-returns g c =
+pub returns-clause-run : goal.returns-clause-run
+returns-clause-run g c =
     let so_far = c.loop-value.invariant in
     let rest = c.loop-value.rest in
     let ended : into_iter_items rest ≡ [] = nil_from_length (into_iter_items rest) (omega (arith, rest.rest.ok.0, c.in_default-next.ensures.cases.0)) in
     let none : length (drop c.loop-value.accepted c.args.items.items) ≡ 0 = ap length (sym so_far.left ∙ ended) in
     let all : c.loop-value.accepted ≡ length c.args.items.items = omega (arith, none, length-drop c.loop-value.accepted c.args.items.items, so_far.within) in
     let whole : take c.loop-value.accepted c.args.items.items ≡ c.args.items.items = take_all c.loop-value.accepted c.args.items.items (omega (arith, all)) in
-    record {
-      run = λ clones. (all, subst (λ items. IsRunOf c.args.self.now (filling c.args.name items) (accepted c.loop-value.accepted) c.loop-value.self) whole (so_far.run clones));
-      moves = λ clones. moves_at_most c.args.self.now.moved c.args.name c.loop-value.accepted c.loop-value.self (so_far.moves clones);
-    }
+    λ clones. (all, subst (λ items. IsRunOf c.args.self.now (filling c.args.name items) (accepted c.loop-value.accepted) c.loop-value.self) whole (so_far.run clones))
+
+pub returns-clause-taken : goal.returns-clause-taken
+returns-clause-taken g c = λ there. absurd (c.in_default.not-Refused Taken (is_taken c.args.self.now.names c.args.name c.step.result c.step.new.self.names c.step.ensures.verdict there))
+
+pub returns-clause-all : goal.returns-clause-all
+returns-clause-all g c =
+    let so_far = c.loop-value.invariant in
+    let rest = c.loop-value.rest in
+    let ended : into_iter_items rest ≡ [] = nil_from_length (into_iter_items rest) (omega (arith, rest.rest.ok.0, c.in_default-next.ensures.cases.0)) in
+    let none : length (drop c.loop-value.accepted c.args.items.items) ≡ 0 = ap length (sym so_far.left ∙ ended) in
+    let all : c.loop-value.accepted ≡ length c.args.items.items = omega (arith, none, length-drop c.loop-value.accepted c.args.items.items, so_far.within) in
+    let _whole : take c.loop-value.accepted c.args.items.items ≡ c.args.items.items = take_all c.loop-value.accepted c.args.items.items (omega (arith, all)) in
+    all
+
+pub returns-clause-moves : goal.returns-clause-moves
+returns-clause-moves g c =
+    let so_far = c.loop-value.invariant in
+    λ clones. moves_at_most c.args.self.now.moved c.args.name c.loop-value.accepted c.loop-value.self (so_far.moves clones)
