@@ -73,7 +73,7 @@ module _ (E : El) (Z : Al) where
   abbrev pub Dd : RattleType
   Dd = Deed-type.the_row (R E) (P E Z) Z.g
 
-  -- the right to free, where there are bytes to free
+  -- the right to give back, where there are bytes
   abbrev pub Right : Z.row.Denot → Ptr → ℕ → base.Fml.Fml
   Right a p c = deed_owns (token Z a) (R E) p c
 
@@ -109,7 +109,7 @@ no_bytes_room E {𝓤 = 𝓤} 𝓛 b o c none =
     split ! $ as_raw ! (ty_array (elτ E) c) b o $ keep ! (0 ∷ []) $ done !
 
 module _ (E : El) (Z : Al) {M : Type 1} {𝓤 : Ura M} {𝓛 : Logic 𝓤} {K : Type 0} {Γ : List (Item 𝓤)} {G : Goal 𝓤 𝓛.H} where
-  -- a `&mut` to a deed is opened: [the right to free; the mark's cell; the open borrow; obs; auth]; and it is closed
+  -- a `&mut` to a deed is opened: [the right to give back; the mark's cell; the open borrow; obs; auth]; and it is closed
   pub deed_opens : K → Soaks G → {κ : Lft} {q : Share} {γ : GName} (d : (Dd E Z).Denot) (rb ro : ℕ)
       → Step K 𝓛 (‵ (Right E Z d.alloc d.at d.capacity) ∷ ‵ (cell_at full_share (Dd E Z).mir (mark ∷ []) rb ro) ∷ ‵ (fobor κ q (Body (mem (Dd E Z)) rb ro γ)) ∷ ‵ (fobs γ ((Dd E Z).coded.code d)) ∷ ‵ (fauth γ ((Dd E Z).coded.code d)) ∷ Γ) G
       (‵ (fobs γ ((Dd E Z).coded.code d)) ∷ ‵ (fbor κ (Body (mem (Dd E Z)) rb ro γ)) ∷ ‵ (flft κ q) ∷ Γ) G

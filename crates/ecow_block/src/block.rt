@@ -11,7 +11,7 @@ ghost use Rattle.ecow_block.specs.Contents.{contents};
 ghost use Rattle.ecow_block.specs.Ownership.{has_bytes};
 
 use crate::rest::Rest;
-use crate::room::{Base, Deed, Room, free, grow, make, nowhere};
+use crate::room::{Base, Deed, Room, give_back, grow, make, nowhere};
 use ecow_base::MAX_LEN;
 use std::alloc::{AllocError, Global};
 use std::marker::Model;
@@ -359,7 +359,7 @@ impl<T> Block<T> {
             deed,
             alloc,
         } = self;
-        free(&alloc, base, capacity, room, deed);
+        give_back(&alloc, base, capacity, room, deed);
     }
 }
 

@@ -3,7 +3,7 @@ ghost use Rattle.std.specs.Prelude.{◌≡◌, ◌^◌, ◌<◌, [], length, Som
 ghost use Rattle.std.specs.Iterator.{UpTo, YieldsFirst, YieldsLast, at_most, item_count};
 ghost use Rattle.std.specs.Iterator.SizeHint.{IsWithinCount};
 
-use crate::room::{Base, Deed, Room, free};
+use crate::room::{Base, Deed, Room, give_back};
 use std::alloc::Global;
 use std::iter::FusedIterator;
 use std::marker::Model;
@@ -115,7 +115,7 @@ impl<T> Rest<T> {
             alloc,
         } = self;
         taken.widen(room);
-        free(&alloc, base, capacity, taken, deed);
+        give_back(&alloc, base, capacity, taken, deed);
     }
 }
 

@@ -10,7 +10,7 @@ use std::marker::{Model, PhantomData};
 mod heap;
 mod places;
 
-pub(crate) use heap::{free, grow, make, nowhere};
+pub(crate) use heap::{give_back, grow, make, nowhere};
 
 /// How many items are put at a time.
 pub(crate) const CHUNK: usize = 128;

@@ -1,9 +1,9 @@
 //! A vector whose clones share their elements until one of them is written to.
 #![tactic(auto)]
 
+pub mod comparisons;
 pub mod error;
 pub mod iter;
-pub mod laws;
 mod macros;
 pub mod vec;
 pub mod write;

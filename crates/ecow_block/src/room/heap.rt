@@ -44,7 +44,7 @@ pub(crate) fn nowhere<T, A: Allocator>(
 }
 
 /// Gives a block that holds nothing back to `alloc`, if it was asked of it.
-pub(crate) fn free<T, A: Allocator>(
+pub(crate) fn give_back<T, A: Allocator>(
     alloc: &A,
     base: Base<T>,
     capacity: usize,

@@ -138,7 +138,7 @@ module _ (E : El) (Z : Al) where
         sets ! (agg ! (and_then ! (get ! refl) (and_then ! (get ! refl) (and_then ! (get ! refl) (no_more !))))) refl typed $
         sets_last ! (agg ! (and_then ! (lit ! tt) (and_then ! (get ! refl) (no_more !)))) refl ok_typed $
         exec ! 𝓣.C 𝓣.Λ En (after 3 here.body) (at_ret En Post) $ sets ! (of_opd ! (get ! refl)) refl ok_typed $
-        -- [the block; the right to free it; the token; the other tokens]
+        -- [the block; the right to give back it; the token; the other tokens]
         move ! (1 ∷ []) $ rewrite ! 0 (λ (w : Bool). ‵ (owns_if w (token Z a (block_ty E c) p))) (sym ok.1) refl $ deed_made E Z ! (deed_at a b o c) $ move ! (1 ∷ []) $
         all_fresh E b o c ! $ room_made E ! (fresh E b o c) b o refl (fresh_small E b o c small) $ base_made E ! p $
         use3 𝓛 (‵ (Three.own_val (block a b o c) (made ∷ []))) (three_of 𝓛 (Bs E) (Rm E) (Dd E Z) (record { ptr = p }) (fresh E b o c) (deed_at a b o c) (word p) mark mark) $

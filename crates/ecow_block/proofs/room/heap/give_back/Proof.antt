@@ -1,4 +1,4 @@
--- `free` hands the block back where it has bytes, for every element type and allocator. Assumes `Logic`.
+-- `give_back` hands the block back where it has bytes, for every element type and allocator. Assumes `Logic`.
 use mathlib.Core.Path.{◌≡◌, refl, sym, ap, subst, ◌∙◌}
 use mathlib.Core.Bool.{Bool}
 use Prim.Native.Nat.{ℕ, ◌+◌, ◌-◌, ◌*◌, ◌<◌, ◌^◌}
@@ -49,10 +49,10 @@ use Rattle.ecow_block.specs.Rooms.{IsWhole}
 use Rattle.ecow_block.proofs.Deeds.{Dd, Right, yes_true, deed_had}
 use native.Mathlib.Nat.{zero-mul}
 use types.Part.{whole as whole_part}
-use Rattle.ecow_block.specs.contracts.room.heap.free as F
-use Rattle.ecow_block.specs.contracts.room.heap.free.Key.{name as #self}
-use Rattle.ecow_block.proofs.room.heap.free.Statement.{statement}
-use Rattle.ecow_block.proofs.room.heap.free.Code as code
+use Rattle.ecow_block.specs.contracts.room.heap.give_back as F
+use Rattle.ecow_block.specs.contracts.room.heap.give_back.Key.{name as #self}
+use Rattle.ecow_block.proofs.room.heap.give_back.Statement.{statement}
+use Rattle.ecow_block.proofs.room.heap.give_back.Code as code
 
 module _ (E : El) (Z : Al) where
   abbrev here : Fn
@@ -89,7 +89,7 @@ module _ (E : El) (Z : Al) where
         move ! (1 ∷ []) $ split ! $ drop ! $ split ! $ heard ! (κ₂ ⊑ Z.row.lives) (λ within. heard ! Asked (λ ok. let whole = ok.0 in
         split ! $ split ! $ move ! (2 ∷ []) $ fsplit ! $ fsplit ! $ feq_l ! (λ e₀. move ! (1 ∷ []) $ fsplit ! $ base_had E ! base vss.1.0 (λ e₁. fsplit ! $ fsplit ! $ feq_l ! (λ e₂. flt_l ! (λ fits.
         fsplit ! $ room_had E ! r vss.1.1.1.0 (λ b o at_b e₃ small. move ! (2 ∷ []) $ fsplit ! $ deed_had E Z ! d vss.1.1.1.1.0 (λ e₄.
-        -- [the right to free; nothing; the items; the empty places; the handle; the token; the other tokens]
+        -- [the right to give back; nothing; the items; the empty places; the handle; the token; the other tokens]
         keep ! (3 ∷ 0 ∷ 4 ∷ 5 ∷ 6 ∷ []) $
         let us : List Val = vptr hp.0 hp.1 ∷ word base.ptr ∷ vint w64 c ∷ mark ∷ mark ∷ [] in
         let Run : List Val → SProp 𝓤 = λ ws. WpFn 𝓤 H 𝓣.C 𝓣.Λ here ws Post in
@@ -103,7 +103,7 @@ module _ (E : El) (Z : Al) where
         let many : r.capacity - length r.items ≡ c = let none = ap length ok.1 in let same = ok.2 in omega arith in
         rewrite ! 0 (λ (k : ℕ). ‵ (Spare E b k (r.capacity - length r.items))) here_at refl $ rewrite ! 0 (λ (k : ℕ). ‵ (Spare E b o k)) many refl $
         rewrite ! 1 (λ (w : Z.row.Denot × Ptr × ℕ). ‵ (Right E Z w.0 w.1 w.2)) (λ i. (whole.deed_alloc i, (whole.deed_at ∙ base_at) i, (whole.deed_capacity ∙ sym ok.2) i)) refl $
-        -- [the places; the right to free; the handle; the token; the other tokens]
+        -- [the places; the right to give back; the handle; the token; the other tokens]
         sets ! (is ! (bin ! (get ! refl) (size_word !) (record { fits = subst (λ (k : ℕ). k < 2 ^ 64) (sym (uncapped c s bytes)) bytes })) (ap (vint w64) (uncapped c s bytes))) refl (tt, record { fits = bytes }) $
         sets ! (bin ! (get ! refl) (lit ! tt) tt) refl (tt, tt) $ first ! $ branches ! (get ! refl)
         (λ some.
@@ -123,9 +123,9 @@ module _ (E : El) (Z : Al) where
         walk_Meets 𝓛 ended stayed (Goes-dropped 𝓛 3 (RefOf (0 ∷ []) tt (plain (λ _. P E Z)) (λ _. tt)) yes (λ κs x f. refl), (Goes-dropped 𝓛 3 (plain (λ _. Bs E)) no (λ κs x f. refl), (Goes-dropped 𝓛 3 (plain (λ _. usize)) yes (λ κs x f. refl), (Goes-dropped 𝓛 3 (plain (λ _. Rm E)) no (λ κs x f. refl), (Goes-dropped 𝓛 3 (plain (λ _. Dd E Z)) no (λ κs x f. refl), tt))))) held
         (WpFn 𝓤 H 𝓣.C 𝓣.Λ here) (WpFn-mono 𝓤 H 𝓛.laws 𝓣 here) walk
 
-pub free_spec : {M : Type 1} → statement M
+pub give_back_spec : {M : Type 1} → statement M
 unfolding tables_of
-free_spec 𝓤 𝓛 𝓜 𝓡 wired X Y LX LY g d dd met md =
+give_back_spec 𝓤 𝓛 𝓜 𝓡 wired X Y LX LY g d dd met md =
     let E : El = record { row = X; laws = LX } in let Z : Al = record { row = Y; laws = LY; g = g; d = d; drops = dd } in
     let 𝓣 : Tables 𝓤 𝓛.H = tables_of 𝓤 𝓛.H 𝓜 (tables 𝓤 𝓛.H 𝓜 𝓡 𝓡.env) in
     entered 𝓤 𝓛.H (triple_of 𝓛 (ended E Z).signature (F.spec X Y g d dd 𝓛 𝓜.mem 𝓡.returns)) 𝓣.C 𝓣.Λ (#self (args E Z)) (here E Z) (code.unfolded 𝓤 𝓛.H 𝓜 𝓡 wired (X, (Y, tt)) d dd)
