@@ -64,43 +64,6 @@ fn thousand(alloc: std::alloc::Global, counts: &Counts) -> Result<Block<Counted<
     Ok(block)
 }
 
-fn holds(rt: &impl Abort, elements: &[u64], wanted: &[u64]) {
-    assert_eq!(rt; elements, wanted);
-}
-
-#[test]
-fn elements_come_and_go(rt: HostRuntime) -> Result<(), AllocError> {
-    let mut block = Block::with_capacity(rt.alloc(), 5)?;
-    block.push_within(7u64);
-    block.push_within(8);
-    block.insert_within(1, 9);
-    block.insert_within(0, 6);
-    block.insert_within(4, 5);
-    holds(&rt, block.as_slice(), &[6, 7, 9, 8, 5]);
-    assert_eq!(rt; block.remove(0), 6);
-    assert_eq!(rt; block.remove(2), 8);
-    holds(&rt, block.as_slice(), &[7, 9, 5]);
-    block.grow(9)?;
-    assert_eq!(rt; (block.len(), block.capacity()), (3, 9));
-    assert_eq!(rt; block.pop(), Some(5));
-    block.as_mut_slice()[0] = 4;
-    holds(&rt, block.as_slice(), &[4, 9]);
-    Ok(())
-}
-
-#[test]
-fn three_places_take_three_elements(rt: HostRuntime) -> Result<(), AllocError> {
-    let mut block = Block::with_capacity(rt.alloc(), 3)?;
-    for n in 0..3u32 {
-        if block.len() < block.capacity() {
-            block.push_within(n);
-        }
-    }
-    assert_eq!(rt; block.as_slice(), [0, 1, 2].as_slice());
-    assert!(rt; block.capacity() == 3);
-    Ok(())
-}
-
 #[test]
 fn each_element_is_dropped_once(rt: HostRuntime) -> Result<(), AllocError> {
     let counts = Counts::new(0);
@@ -133,19 +96,6 @@ fn what_is_left_is_dropped_with_the_rest(rt: HostRuntime) -> Result<(), AllocErr
     assert_eq!(rt; counts.drops.get(), 1400);
     drop(rest);
     assert_eq!(rt; counts.drops.get(), 2000);
-    Ok(())
-}
-
-#[test]
-fn the_rest_is_taken_from_both_ends(rt: HostRuntime) -> Result<(), AllocError> {
-    let mut rest = Block::from_clones(rt.alloc(), &[1u8, 2, 3, 4], 6)?.into_rest();
-    assert_eq!(rt; rest.next(), Some(1));
-    assert_eq!(rt; rest.next_back(), Some(4));
-    assert_eq!(rt; rest.as_slice(), [2, 3].as_slice());
-    assert_eq!(rt;
-        (rest.next(), rest.next(), rest.next_back()),
-        (Some(2), Some(3), None)
-    );
     Ok(())
 }
 
@@ -209,32 +159,6 @@ fn a_refused_clone_among_many_leaves_the_block(rt: HostRuntime) -> Result<(), Al
     refused_among_many(&rt, 1, 0)?;
     refused_among_many(&rt, 200, 199)?;
     refused_among_many(&rt, 290, 289)
-}
-
-#[test]
-fn ranges_are_drained_and_spliced(rt: HostRuntime) -> Result<(), AllocError> {
-    let mut block = Block::from_clones(rt.alloc(), &[0u64, 1, 2, 3, 4, 5], 8)?;
-    let mut removed = Block::from_clones(rt.alloc(), &[9u64], 3)?;
-    block.drain_into(1, 3, &mut removed);
-    holds(&rt, removed.as_slice(), &[9, 1, 2]);
-    holds(&rt, block.as_slice(), &[0, 3, 4, 5]);
-    let longer = Block::from_clones(rt.alloc(), &[7u64, 8, 9], 3)?;
-    let removed = block.splice_within(1, 2, longer);
-    holds(&rt, removed.as_slice(), &[3]);
-    holds(&rt, block.as_slice(), &[0, 7, 8, 9, 4, 5]);
-    let removed = block.splice_within(0, 4, Block::from_clones(rt.alloc(), &[6], 4)?);
-    holds(&rt, removed.as_slice(), &[0, 7, 8, 9]);
-    holds(&rt, block.as_slice(), &[6, 4, 5]);
-    assert!(rt; block.capacity() == 8);
-    Ok(())
-}
-
-#[test]
-fn some_elements_are_kept(rt: HostRuntime) -> Result<(), AllocError> {
-    let mut block = Block::from_clones(rt.alloc(), &[1u32, 2, 3, 4, 5], 5)?;
-    block.retain(|n| *n % 2 == 1);
-    assert_eq!(rt; block.as_slice(), [1, 3, 5].as_slice());
-    Ok(())
 }
 
 #[test]

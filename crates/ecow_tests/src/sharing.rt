@@ -1,4 +1,5 @@
-//! Which calls give a vector a block of its own.
+//! Who shares a block, and what is cloned and dropped, where no script says it.
+use crate::calls::{reverse, shared};
 use crate::elements::{Single, Tally};
 use ecow_list::{EcoError, EcoVec};
 use ecow_model::{Items, Outcome, VecCommand};
@@ -7,177 +8,53 @@ use std::alloc::Global;
 use std::process::Abort;
 use std::test::Fail;
 
-/// An empty vector with room for three that shares its block.
-fn shared_empty(alloc: Global) -> Result<(EcoVec<u8>, EcoVec<u8>), Fail> {
-    let first = EcoVec::with_capacity(alloc, 3)?;
-    let second = first.clone()?;
+/// A vector with room for three that shares its block.
+fn with_clone(alloc: Global, values: &[u8]) -> Result<(EcoVec<u8>, EcoVec<u8>), EcoError> {
+    let mut first = EcoVec::with_capacity(alloc, 3)?;
+    first.extend_from_slice(values)?;
+    let second = shared(&first)?;
     Ok((first, second))
 }
 
-/// A vector of three that shares its block.
-fn shared_three(alloc: Global) -> Result<(EcoVec<u8>, EcoVec<u8>), Fail> {
-    let first = EcoVec::from_slice(alloc, &[1u8, 2, 3])?;
-    let second = first.clone()?;
-    Ok((first, second))
-}
-
-/// Whether a vector shares no block, and has room for `capacity`.
-fn is_unique_with(list: &mut EcoVec<u8>, capacity: usize) -> bool {
-    list.is_unique() && list.capacity() == capacity
-}
-
-/// Whether a vector shares no block, and has three elements.
-fn is_unique_of_three(list: &mut EcoVec<u8>) -> bool {
-    list.is_unique() && list.len() == 3
-}
-
-#[test]
-fn without_a_block_vectors_are_unique(rt: HostRuntime) -> Result<(), Fail> {
-    let mut first = EcoVec::<u8>::new(rt.alloc());
-    let mut second = first.clone()?;
-    assert!(rt; first.is_unique() && second.is_unique());
-    let mut none = EcoVec::<u8>::with_capacity(rt.alloc(), 0)?;
-    assert!(rt; is_unique_with(&mut none, 0));
-    Ok(())
-}
-
-#[test]
-fn the_last_vector_of_a_block_is_unique(rt: HostRuntime) -> Result<(), Fail> {
-    let (mut first, mut second) = shared_empty(rt.alloc())?;
-    assert!(rt; !first.is_unique() && !second.is_unique());
-    drop(second);
-    assert!(rt; is_unique_with(&mut first, 3));
-    Ok(())
-}
-
-#[test]
-fn calls_that_leave_an_empty_vector_shared(rt: HostRuntime) -> Result<(), Fail> {
-    let (mut first, _second) = shared_empty(rt.alloc())?;
-    first.clear();
-    assert!(rt; !first.is_unique());
-    assert_eq!(rt; first.pop()?, None);
-    assert!(rt; !first.is_unique());
-    first.truncate(0)?;
-    first.extend_from_slice(&[])?;
-    assert!(rt; !first.is_unique());
-    Ok(())
-}
-
-#[test]
-fn retain_unshares_an_empty_vector(rt: HostRuntime) -> Result<(), Fail> {
-    let (mut first, second) = shared_empty(rt.alloc())?;
-    first.retain(|_| true)?;
-    assert!(rt; is_unique_with(&mut first, 0));
-    assert_eq!(rt; second.capacity(), 3);
-    Ok(())
-}
-
-#[test]
-fn drain_unshares_an_empty_vector(rt: HostRuntime) -> Result<(), Fail> {
-    let (mut first, _second) = shared_empty(rt.alloc())?;
-    drop(first.drain(..)?);
-    assert!(rt; is_unique_with(&mut first, 0));
-    Ok(())
-}
-
-#[test]
-fn make_mut_unshares_an_empty_vector(rt: HostRuntime) -> Result<(), Fail> {
-    let (mut first, _second) = shared_empty(rt.alloc())?;
-    assert_eq!(rt; first.make_mut()?.len(), 0);
-    assert!(rt; is_unique_with(&mut first, 0));
-    Ok(())
-}
-
-#[test]
-fn reserve_unshares_an_empty_vector(rt: HostRuntime) -> Result<(), Fail> {
-    let (mut first, _second) = shared_empty(rt.alloc())?;
-    first.reserve(0)?;
-    assert!(rt; is_unique_with(&mut first, 3));
-    Ok(())
-}
-
-#[test]
-fn calls_that_leave_some_elements_shared(rt: HostRuntime) -> Result<(), Fail> {
-    let (mut first, _second) = shared_three(rt.alloc())?;
-    first.truncate(3)?;
-    first.extend_from_slice(&[])?;
-    assert!(rt; !first.is_unique());
-    first.clear();
-    assert!(rt; is_unique_with(&mut first, 0));
-    Ok(())
-}
-
-#[test]
-fn a_vector_that_is_cut_to_none_leaves_its_block(rt: HostRuntime) -> Result<(), Fail> {
-    let (mut first, _second) = shared_three(rt.alloc())?;
-    first.truncate(0)?;
-    assert!(rt; is_unique_with(&mut first, 0));
-    Ok(())
+/// The room of a vector that shares no block.
+fn room_of_a_unique(list: &mut EcoVec<u8>) -> Option<usize> {
+    if list.is_unique() {
+        return Some(list.capacity());
+    }
+    None
 }
 
 #[test]
 fn calls_that_only_read(rt: HostRuntime) -> Result<(), Fail> {
-    let (mut first, mut second) = shared_three(rt.alloc())?;
+    let (mut first, mut second) = with_clone(rt.alloc(), &[1, 2, 3])?;
     assert!(rt; first == second && first.iter().count() == 3 && !first.is_empty());
     first.extend(None)?;
-    assert_eq!(rt; (first.len(), first.capacity()), (3, 4));
+    assert_eq!(rt; (first.len(), first.capacity()), (3, 3));
     assert!(rt; !first.is_unique() && !second.is_unique());
-    Ok(())
-}
-
-#[test]
-fn a_splice_of_nothing_into_an_empty_vector(rt: HostRuntime) -> Result<(), Fail> {
-    let (mut first, _second) = shared_empty(rt.alloc())?;
-    drop(first.splice(.., None)?);
-    assert!(rt; is_unique_with(&mut first, 0));
-    Ok(())
-}
-
-#[test]
-fn a_splice_into_an_empty_vector(rt: HostRuntime) -> Result<(), Fail> {
-    let (mut first, second) = shared_empty(rt.alloc())?;
-    drop(first.splice(.., Some(7))?);
-    assert_eq!(rt; first.as_slice(), [7u8].as_slice());
-    assert!(rt; is_unique_with(&mut first, 4) && second.is_empty());
-    Ok(())
-}
-
-#[test]
-fn a_drain_of_nothing_unshares(rt: HostRuntime) -> Result<(), Fail> {
-    let (mut first, _second) = shared_three(rt.alloc())?;
-    assert_eq!(rt; first.drain(..0)?.len(), 0);
-    assert!(rt; is_unique_of_three(&mut first));
-    Ok(())
-}
-
-#[test]
-fn a_retain_of_everything_unshares(rt: HostRuntime) -> Result<(), Fail> {
-    let (mut first, _second) = shared_three(rt.alloc())?;
-    first.retain(|_| true)?;
-    assert!(rt; is_unique_of_three(&mut first));
     Ok(())
 }
 
 #[test]
 fn a_loan_for_writing_unshares(rt: HostRuntime) -> Result<(), Fail> {
-    let (mut first, _second) = shared_three(rt.alloc())?;
-    assert_eq!(rt; first.make_mut()?.len(), 3);
-    first.reserve(0)?;
-    assert!(rt; is_unique_of_three(&mut first));
+    for (values, after, room) in [
+        ([].as_slice(), [].as_slice(), 0),
+        (&[1, 2, 3], &[3, 2, 1], 4),
+    ] {
+        let (mut first, second) = with_clone(rt.alloc(), values)?;
+        reverse(&mut first)?;
+        assert_eq!(rt; room_of_a_unique(&mut first), Some(room));
+        assert_eq!(rt; first.as_slice(), after);
+        assert_eq!(rt; second.as_slice(), values);
+    }
     Ok(())
 }
 
 #[test]
-fn writes_are_not_seen_by_clones(rt: HostRuntime) -> Result<(), Fail> {
-    let (mut first, second) = shared_three(rt.alloc())?;
-    first.make_mut()?.reverse();
-    assert_eq!(rt; first.as_slice(), [3u8, 2, 1].as_slice());
-    assert_eq!(rt; second.as_slice(), [1u8, 2, 3].as_slice());
-    first.set(0, 9).map_err(|rejected| rejected.error)?;
-    assert_eq!(rt; first.as_slice(), [9u8, 2, 1].as_slice());
-    let third = first.clone()?;
-    first.set(1, 8).map_err(|rejected| rejected.error)?;
-    assert_eq!(rt; third.as_slice(), [9u8, 2, 1].as_slice());
+fn a_slice_is_given_room_for_four(rt: HostRuntime) -> Result<(), Fail> {
+    for (values, room) in [([1u8, 2].as_slice(), 4), (&[1, 2, 3, 4, 5], 5)] {
+        let mut list = EcoVec::from_slice(rt.alloc(), values)?;
+        assert_eq!(rt; room_of_a_unique(&mut list), Some(room));
+    }
     Ok(())
 }
 
@@ -189,9 +66,8 @@ fn elements_without_a_clone_are_shared(rt: HostRuntime) -> Result<(), Fail> {
     let Ok(first) = EcoVec::from_vec(rt.alloc(), two) else {
         return Err("no memory".into());
     };
-    let second: EcoVec<Single> = first.clone()?;
-    assert_eq!(rt; first.len(), 2);
-    assert_eq!(rt; second.len(), 2);
+    let second = shared(&first)?;
+    assert_eq!(rt; (first.len(), second.len()), (2, 2));
     Ok(())
 }
 

@@ -1,0 +1,87 @@
+//! Calls of vectors and tables, without what their contracts say: a test of many calls is proved
+//! faster over these. Where a call has a condition that doesn't hold, nothing is done.
+use ecow_counted::Counted;
+use ecow_list::{EcoError, EcoVec, Rejected, range_in};
+use ecow_model::{Outcome, VecCommand};
+use std::process::Abort;
+
+/// What a refusal says, without the value.
+pub(crate) fn error_of<V: Drop>(rejected: Rejected<V>) -> EcoError {
+    rejected.error
+}
+
+/// A second vector over the same block.
+pub(crate) fn shared<T: Drop>(list: &EcoVec<T>) -> Result<EcoVec<T>, EcoError> {
+    Ok(list.clone()?)
+}
+
+pub(crate) fn push<T: Clone>(list: &mut EcoVec<T>, value: T) -> Result<(), Rejected<T>> {
+    list.push(value)
+}
+
+pub(crate) fn insert<T: Clone>(
+    list: &mut EcoVec<T>,
+    index: usize,
+    value: T,
+) -> Result<(), Rejected<T>> {
+    if index > list.len() {
+        return Ok(());
+    }
+    list.insert(index, value)
+}
+
+pub(crate) fn write<T: Clone>(
+    list: &mut EcoVec<T>,
+    index: usize,
+    value: T,
+) -> Result<(), Rejected<T>> {
+    if index >= list.len() {
+        return Ok(());
+    }
+    list.set(index, value)
+}
+
+pub(crate) fn remove<T: Clone>(list: &mut EcoVec<T>, index: usize) -> Result<(), EcoError> {
+    if index >= list.len() {
+        return Ok(());
+    }
+    list.remove(index).map(drop)
+}
+
+pub(crate) fn reverse<T: Clone>(list: &mut EcoVec<T>) -> Result<(), EcoError> {
+    list.make_mut()?.reverse();
+    Ok(())
+}
+
+pub(crate) fn drain<T: Clone>(
+    list: &mut EcoVec<T>,
+    start: usize,
+    end: usize,
+) -> Result<(), EcoError> {
+    if !range_in(&(start..end), list.len()) {
+        return Ok(());
+    }
+    list.drain(start..end).map(drop)
+}
+
+pub(crate) fn splice<T: Clone>(
+    list: &mut EcoVec<T>,
+    start: usize,
+    end: usize,
+    value: T,
+) -> Result<(), EcoError> {
+    if !range_in(&(start..end), list.len()) {
+        return Ok(());
+    }
+    list.splice(start..end, Some(value)).map(drop)
+}
+
+/// What a table answers to a command.
+pub(crate) fn step<T: Clone>(table: &mut Counted<T>, command: VecCommand<T>) -> Outcome<T> {
+    table.step(command)
+}
+
+/// Carries a command out, which is done.
+pub(crate) fn done<T: Clone>(rt: &impl Abort, table: &mut Counted<T>, command: VecCommand<T>) {
+    assert!(rt; matches!(&step(table, command), Outcome::Done));
+}
