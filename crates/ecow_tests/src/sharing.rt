@@ -25,12 +25,11 @@ fn room_of_a_unique(list: &mut EcoVec<u8>) -> Option<usize> {
 }
 
 #[test]
-fn calls_that_only_read(rt: HostRuntime) -> Result<(), Fail> {
+fn calls_that_only_read(rt: HostRuntime) -> Result<(), EcoError> {
     let (mut first, mut second) = with_clone(rt.alloc(), &[1, 2, 3])?;
-    assert!(rt; first == second && first.iter().count() == 3 && !first.is_empty());
     first.extend(None)?;
-    assert_eq!(rt; (first.len(), first.capacity()), (3, 3));
-    assert!(rt; !first.is_unique() && !second.is_unique());
+    let read = first == second && first.iter().count() == 3 && first.capacity() == 3;
+    assert!(rt; read && !first.is_unique() && !second.is_unique());
     Ok(())
 }
 
