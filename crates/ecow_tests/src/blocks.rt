@@ -21,6 +21,11 @@ impl Counts {
             refused,
         }
     }
+
+    /// The clones and the drops.
+    fn seen(&self) -> (u32, u32) {
+        (self.clones.get(), self.drops.get())
+    }
 }
 
 /// An element that counts its drops and its clones.
@@ -68,13 +73,10 @@ fn thousand(alloc: std::alloc::Global, counts: &Counts) -> Result<Block<Counted<
 fn each_element_is_dropped_once(rt: HostRuntime) -> Result<(), AllocError> {
     let counts = Counts::new(0);
     let mut block = thousand(rt.alloc(), &counts)?;
-    assert!(rt; block.len() == 1000);
-    assert_eq!(rt; counts.drops.get(), 0);
     block.truncate(600);
-    assert_eq!(rt; counts.drops.get(), 400);
+    assert_eq!(rt; counts.seen(), (0, 400));
     drop(block);
-    assert_eq!(rt; counts.drops.get(), 1000);
-    assert_eq!(rt; counts.clones.get(), 0);
+    assert_eq!(rt; counts.seen(), (0, 1000));
     Ok(())
 }
 
@@ -82,20 +84,13 @@ fn each_element_is_dropped_once(rt: HostRuntime) -> Result<(), AllocError> {
 fn what_is_left_is_dropped_with_the_rest(rt: HostRuntime) -> Result<(), AllocError> {
     let counts = Counts::new(0);
     let mut rest = thousand(rt.alloc(), &counts)?.into_rest();
-    for _ in 0..400 {
+    for _ in 0..200 {
         drop(rest.next());
-    }
-    assert!(rt; rest.len() == 600 && rest.as_slice().len() == 600);
-    assert_eq!(rt; counts.drops.get(), 400);
-    drop(rest);
-    assert_eq!(rt; counts.drops.get(), 1000);
-    let mut rest = thousand(rt.alloc(), &counts)?.into_rest();
-    for _ in 0..400 {
         drop(rest.next_back());
     }
-    assert_eq!(rt; counts.drops.get(), 1400);
+    assert!(rt; rest.len() == 600 && rest.as_slice().len() == 600 && counts.seen() == (0, 400));
     drop(rest);
-    assert_eq!(rt; counts.drops.get(), 2000);
+    assert_eq!(rt; counts.seen(), (0, 1000));
     Ok(())
 }
 
@@ -110,55 +105,44 @@ fn moves_clone_nothing(rt: HostRuntime) -> Result<(), AllocError> {
     let mut block = Block::with_capacity(rt.alloc(), capacity)?;
     block.fill_within(elements);
     let elements = block.take_vec()?;
-    assert!(rt; elements.len() == 10 && block.len() == 0);
+    let moved = elements.len() == 10 && block.len() == 0;
     drop(elements);
-    assert_eq!(rt; (counts.drops.get(), counts.clones.get()), (10, 0));
+    assert!(rt; moved && counts.seen() == (0, 10));
+    Ok(())
+}
+
+/// Appends clones of so many elements, of which the clone with this number is refused, and then
+/// again.
+fn refused_among(
+    rt: &(impl Abort + AllocGlobal),
+    count: usize,
+    refused: u32,
+) -> Result<(), AllocError> {
+    let counts = Counts::new(refused);
+    let mut elements = Vec::new(rt.alloc());
+    for _ in 0..count {
+        elements.push(Counted { counts: &counts })?;
+    }
+    let mut block = Block::with_capacity(rt.alloc(), 300)?;
+    if elements.len() <= 300 {
+        let first = block.extend_within(elements.as_slice()).is_err() && block.len() == 0;
+        let made = counts.drops.get();
+        let second = block.extend_within(elements.as_slice()).is_ok() && block.len() == count;
+        assert!(rt;
+            first && second && made.wrapping_add(1) == refused,
+            "{refused} of {count}"
+        );
+        assert!(rt; counts.drops.get() == made && block.capacity() == 300);
+    }
     Ok(())
 }
 
 #[test]
 fn a_refused_clone_leaves_the_block(rt: HostRuntime) -> Result<(), AllocError> {
-    let counts = Counts::new(3);
-    let elements = [
-        Counted { counts: &counts },
-        Counted { counts: &counts },
-        Counted { counts: &counts },
-    ];
-    let mut block = Block::with_capacity(rt.alloc(), 3)?;
-    assert!(rt; block.extend_within(&elements).is_err());
-    assert!(rt; block.len() == 0 && block.capacity() == 3);
-    assert_eq!(rt; counts.drops.get(), 2);
-    assert!(rt; block.extend_within(&elements).is_ok());
-    assert!(rt; block.len() == 3);
-    Ok(())
-}
-
-/// Appends clones of 300 elements, of which the clone with this number is refused, and then again.
-fn refused_among_many(
-    rt: &(impl Abort + AllocGlobal),
-    refused: u32,
-    made: u32,
-) -> Result<(), AllocError> {
-    let counts = Counts::new(refused);
-    let mut elements = Vec::new(rt.alloc());
-    for _ in 0..300 {
-        elements.push(Counted { counts: &counts })?;
-    }
-    let mut block = Block::with_capacity(rt.alloc(), 300)?;
-    if elements.len() <= 300 {
-        assert!(rt; block.extend_within(elements.as_slice()).is_err());
-        assert_eq!(rt; (block.len(), counts.drops.get()), (0, made));
-        assert!(rt; block.extend_within(elements.as_slice()).is_ok());
-        assert_eq!(rt; (block.len(), counts.drops.get()), (300, made));
+    for (count, refused) in [(3, 3), (300, 1), (300, 200), (300, 290)] {
+        refused_among(&rt, count, refused)?;
     }
     Ok(())
-}
-
-#[test]
-fn a_refused_clone_among_many_leaves_the_block(rt: HostRuntime) -> Result<(), AllocError> {
-    refused_among_many(&rt, 1, 0)?;
-    refused_among_many(&rt, 200, 199)?;
-    refused_among_many(&rt, 290, 289)
 }
 
 #[test]
@@ -169,15 +153,14 @@ fn elements_of_no_bytes_take_no_memory(rt: HostRuntime) -> Result<(), AllocError
             block.push_within(());
         }
     }
-    assert!(rt; block.len() == 1000 && block.capacity() == MAX_LEN);
-    assert!(rt; block.as_slice().len() == 1000);
+    assert!(rt; block.as_slice().len() == 1000 && block.capacity() == MAX_LEN);
     Ok(())
 }
 
 #[test]
 fn more_than_memory_is_refused(rt: HostRuntime) {
-    assert!(rt; Block::<u64>::with_capacity(rt.alloc(), 0x1000_0000_0000_0000).is_err());
+    let made = Block::<u64>::with_capacity(rt.alloc(), 0x1000_0000_0000_0000);
     let mut block = Block::<u64>::new(rt.alloc());
-    assert!(rt; block.grow(0x1000_0000_0000_0000).is_err());
-    assert!(rt; block.capacity() == 0 && block.grow(2).is_ok());
+    let grown = block.grow(0x1000_0000_0000_0000);
+    assert!(rt; made.is_err() && grown.is_err() && block.capacity() == 0 && block.grow(2).is_ok());
 }

@@ -2,12 +2,17 @@
 //! faster over these. Where a call has a condition that doesn't hold, nothing is done.
 use ecow_counted::Counted;
 use ecow_list::{EcoError, EcoVec, Rejected, range_in};
-use ecow_model::{Outcome, VecCommand};
+use ecow_model::{Name, Outcome, VecCommand};
+use std::alloc::Global;
 use std::process::Abort;
 
 /// What a refusal says, without the value.
 pub(crate) fn error_of<V: Drop>(rejected: Rejected<V>) -> EcoError {
     rejected.error
+}
+
+pub(crate) fn of<T: Clone>(alloc: Global, elements: &[T]) -> Result<EcoVec<T>, EcoError> {
+    EcoVec::from_slice(alloc, elements)
 }
 
 /// A second vector over the same block.
@@ -84,4 +89,14 @@ pub(crate) fn step<T: Clone>(table: &mut Counted<T>, command: VecCommand<T>) -> 
 /// Carries a command out, which is done.
 pub(crate) fn done<T: Clone>(rt: &impl Abort, table: &mut Counted<T>, command: VecCommand<T>) {
     assert!(rt; matches!(&step(table, command), Outcome::Done));
+}
+
+/// How many names share a name's block, and for how many elements it has room.
+pub(crate) fn held<T: Drop>(table: &Counted<T>, name: Name) -> (Option<usize>, Option<usize>) {
+    (table.owners(name), table.capacity(name))
+}
+
+/// How many elements were copied and moved, and the number of blocks.
+pub(crate) fn totals<T: Drop>(table: &Counted<T>) -> (u64, u64, usize) {
+    (table.copied(), table.moved(), table.blocks())
 }

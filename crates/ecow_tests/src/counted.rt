@@ -1,6 +1,6 @@
 //! Lists in counted blocks: commands succeed with ample memory, each copied element is one clone,
 //! and elements are dropped with the last name of their block.
-use crate::calls::{done, step};
+use crate::calls::{done, held, step, totals};
 use crate::elements::{Counting, Single, Tally};
 use crate::numbers::Numbers;
 use crate::outcomes::{is_done, refusal_of};
@@ -23,13 +23,12 @@ fn an_empty_shared_block_is_left_by_a_retain(rt: HostRuntime) -> Result<(), Fail
             capacity: 3,
         },
     );
-    assert!(rt; is_done(table.share(0, 1)));
-    assert_eq!(rt; (table.owners(0), table.blocks()), (Some(2), 1));
+    let shared = is_done(table.share(0, 1)) && held(&table, 0) == (Some(2), Some(3));
+    assert!(rt; shared && totals(&table) == (0, 0, 1));
     let marks = Items::from_slice(rt.alloc(), &[])?;
     done(&rt, &mut table, VecCommand::Retain { name: 0, marks });
-    assert_eq!(rt; (table.owners(0), table.capacity(0)), (None, Some(0)));
-    assert_eq!(rt; (table.owners(1), table.capacity(1)), (Some(1), Some(3)));
-    assert_eq!(rt; (table.blocks(), table.copied()), (1, 0));
+    let left = held(&table, 0) == (None, Some(0)) && held(&table, 1) == (Some(1), Some(3));
+    assert!(rt; left && totals(&table) == (0, 0, 1));
     Ok(())
 }
 
@@ -50,13 +49,19 @@ fn a_list_moves_as_it_is_filled(rt: HostRuntime) -> Result<(), Fail> {
     let alloc = rt.alloc();
     for (n, moved, capacity) in [(4, 0, 4), (5, 4, 8), (9, 12, 16), (17, 28, 32)] {
         let table = filled(&rt, alloc, n)?;
-        assert_eq!(rt; (table.moved(), table.capacity(0)), (moved, Some(capacity)));
+        assert_eq!(rt; totals(&table), (0, moved, 1), "{n}");
+        assert_eq!(rt; held(&table, 0), (Some(1), Some(capacity)), "{n}");
     }
-    let mut table = filled(&rt, alloc, 5)?;
-    let Filled { accepted, refusal } = table.fill(0, Vec::new(alloc));
-    assert_eq!(rt; (accepted, refusal), (0, Some(Refusal::Taken)));
+    Ok(())
+}
+
+#[test]
+fn a_name_that_is_there_is_not_filled(rt: HostRuntime) -> Result<(), Fail> {
+    let mut table = filled(&rt, rt.alloc(), 5)?;
+    let Filled { accepted, refusal } = table.fill(0, Vec::new(rt.alloc()));
     let len = step(&mut table, VecCommand::Len { name: 0 });
-    assert!(rt; matches!(&len, Outcome::Count(5)));
+    let whole = matches!(&len, Outcome::Count(5));
+    assert!(rt; whole && accepted == 0 && refusal == Some(Refusal::Taken));
     Ok(())
 }
 
@@ -68,8 +73,8 @@ fn units_are_counted_too(rt: HostRuntime) -> Result<(), Fail> {
     }
     let mut table = Counted::new(rt.alloc());
     let Filled { accepted, .. } = table.fill(0, units);
-    assert_eq!(rt; accepted, 9);
-    assert_eq!(rt; (table.moved(), table.capacity(0)), (12, Some(16)));
+    assert!(rt; accepted == 9 && totals(&table) == (0, 12, 1));
+    assert_eq!(rt; held(&table, 0), (Some(1), Some(16)));
     Ok(())
 }
 
@@ -121,9 +126,10 @@ fn shared(alloc: Global, tally: &Tally) -> Result<Counted<Counting>, AllocError>
 
 /// How many elements are copied as a command leaves the shared block.
 fn copied_by(rt: &impl Abort, mut table: Counted<Counting>, command: VecCommand<Counting>) -> u64 {
-    assert!(rt; refusal_of(step(&mut table, command)).is_none());
-    assert_eq!(rt; table.blocks(), 2);
-    table.copied()
+    let done = refusal_of(step(&mut table, command)).is_none();
+    let (copied, _, blocks) = totals(&table);
+    assert!(rt; done && blocks == 2);
+    copied
 }
 
 #[test]
@@ -152,23 +158,17 @@ fn elements_go_with_the_last_name_of_their_block(rt: HostRuntime) -> Result<(), 
     }
     done(&rt, &mut table, VecCommand::Drop { name: 0 });
     done(&rt, &mut table, VecCommand::Clear { name: 1 });
-    assert_eq!(rt;
-        (tally.drops(), table.blocks(), table.owners(2)),
-        (0, 1, Some(1))
-    );
+    assert!(rt; tally.drops() == 0 && held(&table, 2) == (Some(1), Some(4)));
     done(&rt, &mut table, VecCommand::Drop { name: 2 });
-    assert_eq!(rt; (tally.drops(), tally.clones(), table.blocks()), (3, 0, 0));
+    assert!(rt; tally.drops() == 3 && tally.clones() == 0 && totals(&table) == (0, 0, 0));
     Ok(())
 }
 
 #[test]
 fn elements_without_a_clone_are_shared(rt: HostRuntime) -> Result<(), Fail> {
     let mut table: Counted<Single> = Counted::new(rt.alloc());
-    assert!(rt; refusal_of(table.share(0, 1)) == Some(Refusal::NoName));
-    assert_eq!(rt;
-        (table.owners(0), table.is_unique(0), table.blocks()),
-        (None, None, 0)
-    );
+    let refused = refusal_of(table.share(0, 1)) == Some(Refusal::NoName);
+    assert!(rt; refused && table.is_unique(0).is_none() && held(&table, 0) == (None, None));
     Ok(())
 }
 

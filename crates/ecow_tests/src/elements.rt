@@ -27,6 +27,11 @@ impl Tally {
         self.drops.get()
     }
 
+    /// The clones and the drops.
+    pub(crate) fn counts(&self) -> (u64, u64) {
+        (self.clones(), self.drops())
+    }
+
     /// An element that counts here.
     pub(crate) fn element(&self) -> Result<Counting, AllocError> {
         Ok(Counting {

@@ -33,12 +33,15 @@ fn arguments(alloc: Global, words: &[&str]) -> Result<Option<(bool, usize)>, All
 
 #[test]
 fn arguments_name_one_file(rt: HostRuntime) -> Result<(), Fail> {
-    let alloc = rt.alloc();
-    assert_eq!(rt; read_arguments(&[]), None);
-    assert_eq!(rt; arguments(alloc, &["file"])?, Some((false, 0)));
-    assert_eq!(rt; arguments(alloc, &["--counted"])?, None);
-    assert_eq!(rt; arguments(alloc, &["--counted", "file"])?, Some((true, 1)));
-    assert_eq!(rt; arguments(alloc, &["file", "--counted"])?, None);
+    for (words, wanted) in [
+        ([].as_slice(), None),
+        (&["file"], Some((false, 0))),
+        (&["--counted"], None),
+        (&["--counted", "file"], Some((true, 1))),
+        (&["file", "--counted"], None),
+    ] {
+        assert_eq!(rt; arguments(rt.alloc(), words)?, wanted);
+    }
     Ok(())
 }
 
@@ -91,9 +94,7 @@ fn sizes_up_to_the_limit_are_read(rt: HostRuntime) {
 
 #[test]
 fn a_full_device_ends_the_program(rt: HostRuntime) {
-    assert_eq!(rt;
-        run_store(rt.alloc(), b"vec new a\n".as_slice(), Full),
-        End::Output
-    );
-    assert_eq!(rt; run_store(rt.alloc(), b"".as_slice(), Full), End::Done);
+    for (script, wanted) in [(b"vec new a\n".as_slice(), End::Output), (b"", End::Done)] {
+        assert_eq!(rt; run_store(rt.alloc(), script, Full), wanted);
+    }
 }

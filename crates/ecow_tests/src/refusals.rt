@@ -191,6 +191,20 @@ fn a_refused_retain_asks_nothing(rt: HostRuntime) -> Result<(), Fail> {
 }
 
 #[test]
+fn a_refused_extension_asks_for_no_more(rt: HostRuntime) -> Result<(), Fail> {
+    for clones in 0..3 {
+        let left = Rc::new(rt.alloc(), Cell::new(clones))?;
+        let mut list = list_of(rt.alloc(), &[1, 2, 3], &left)?;
+        let clone = shared(&list)?;
+        let added = numbers(rt.alloc(), &[4, 5, 6], &left)?;
+        let mut asked = 0u32;
+        let refused = list.extend(added.into_iter().inspect(|_| asked = asked.wrapping_add(1)));
+        assert!(rt; refused.is_err() && asked == 1 && is_unchanged(&mut list, &clone));
+    }
+    Ok(())
+}
+
+#[test]
 fn a_vector_is_made_whole_or_not_at_all(rt: HostRuntime) -> Result<(), Fail> {
     let left = Rc::new(rt.alloc(), Cell::new(0))?;
     let items = numbers(rt.alloc(), &[1, 2, 3], &left)?;

@@ -1,11 +1,10 @@
 //! Who shares a block, and what is cloned and dropped, where no script says it.
-use crate::calls::{reverse, shared};
+use crate::calls::{error_of, reverse, shared};
 use crate::elements::{Single, Tally};
 use ecow_list::{EcoError, EcoVec};
 use ecow_model::{Items, Outcome, VecCommand};
 use ecow_tool::Store;
 use std::alloc::Global;
-use std::process::Abort;
 use std::test::Fail;
 
 /// A vector with room for three that shares its block.
@@ -59,14 +58,12 @@ fn a_slice_is_given_room_for_four(rt: HostRuntime) -> Result<(), Fail> {
 
 #[test]
 fn elements_without_a_clone_are_shared(rt: HostRuntime) -> Result<(), Fail> {
-    let Ok(two) = Vec::from_array(rt.alloc(), [Single, Single]) else {
-        return Err("no memory".into());
-    };
-    let Ok(first) = EcoVec::from_vec(rt.alloc(), two) else {
-        return Err("no memory".into());
-    };
+    let mut two = Vec::new(rt.alloc());
+    two.push(Single)?;
+    two.push(Single)?;
+    let first = EcoVec::from_vec(rt.alloc(), two).map_err(error_of)?;
     let second = shared(&first)?;
-    assert_eq!(rt; (first.len(), second.len()), (2, 2));
+    assert!(rt; first.len() == 2 && second.len() == 2);
     Ok(())
 }
 
@@ -75,54 +72,40 @@ fn a_clone_in_a_store_clones_no_element(rt: HostRuntime) -> Result<(), Fail> {
     let tally = Tally::new(rt.alloc())?;
     let items = Items::new(tally.elements(rt.alloc(), 3)?);
     let mut store = Store::new(rt.alloc());
-    done(&rt, store.step(VecCommand::FromList { name: 0, items }));
-    done(&rt, store.step(VecCommand::Clone { from: 0, to: 1 }));
-    assert_eq!(rt; tally.clones(), 0);
+    drop(store.step(VecCommand::FromList { name: 0, items }));
+    drop(store.step(VecCommand::Clone { from: 0, to: 1 }));
     let unique = store.step(VecCommand::Unique { name: 0 });
-    assert!(rt; matches!(&unique, Outcome::Flag(false)));
-    done(
-        &rt,
-        store.step(VecCommand::Reserve {
-            name: 1,
-            additional: 0,
-        }),
-    );
+    assert!(rt; matches!(&unique, Outcome::Flag(false)) && tally.clones() == 0);
+    drop(store.step(VecCommand::Pop { name: 1 }));
     assert_eq!(rt; tally.clones(), 3);
     Ok(())
-}
-
-fn done<T: Drop>(rt: &impl Abort, outcome: Outcome<T>) {
-    assert!(rt; matches!(&outcome, Outcome::Done));
 }
 
 #[test]
 fn drops_come_at_once_and_once(rt: HostRuntime) -> Result<(), Fail> {
     let tally = Tally::new(rt.alloc())?;
     let mut first = tally.list(rt.alloc(), 1000)?;
-    assert_eq!(rt; tally.clones(), 0);
     first.truncate(900)?;
-    assert_eq!(rt; tally.drops(), 100);
-    let second = first.clone()?;
+    let second = shared(&first)?;
     drop(first);
-    assert_eq!(rt; tally.drops(), 100);
+    assert_eq!(rt; tally.counts(), (0, 100));
     drop(second);
-    assert_eq!(rt; tally.drops(), 1000);
+    assert_eq!(rt; tally.counts(), (0, 1000));
     Ok(())
 }
 
 #[test]
 fn iterators_drop_what_is_left_once(rt: HostRuntime) -> Result<(), Fail> {
     let tally = Tally::new(rt.alloc())?;
-    let Ok(mut rest) = tally.list(rt.alloc(), 1000)?.into_iter() else {
-        return Err("no memory".into());
-    };
+    let list = tally.list(rt.alloc(), 1000)?;
+    let mut rest = list.into_iter().map_err(error_of)?;
     for _ in 0..400 {
         drop(rest.next());
         drop(rest.next_back());
     }
-    assert_eq!(rt; tally.drops(), 800);
+    assert_eq!(rt; tally.counts(), (0, 800));
     drop(rest);
-    assert_eq!(rt; (tally.drops(), tally.clones()), (1000, 0));
+    assert_eq!(rt; tally.counts(), (0, 1000));
     Ok(())
 }
 
@@ -130,11 +113,10 @@ fn iterators_drop_what_is_left_once(rt: HostRuntime) -> Result<(), Fail> {
 fn a_sole_vector_moves_its_elements_out(rt: HostRuntime) -> Result<(), Fail> {
     let tally = Tally::new(rt.alloc())?;
     let list = tally.list(rt.alloc(), 3)?;
-    let shared = list.clone()?;
-    assert!(rt; shared.into_vec().is_ok());
-    assert_eq!(rt; (tally.clones(), tally.drops()), (3, 3));
-    assert!(rt; list.into_array::<3>().is_ok());
-    assert_eq!(rt; (tally.clones(), tally.drops()), (3, 6));
+    let whole = shared(&list)?.into_vec().is_ok();
+    assert!(rt; whole && tally.counts() == (3, 3));
+    let whole = list.into_array::<3>().is_ok();
+    assert!(rt; whole && tally.counts() == (3, 6));
     Ok(())
 }
 

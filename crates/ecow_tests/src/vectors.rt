@@ -1,5 +1,5 @@
 //! The calls of `EcoVec` at concrete types, with the values of the original's own tests.
-use crate::calls::{drain, error_of, insert, push, shared};
+use crate::calls::{drain, error_of, insert, of, push, shared};
 use ecow_list::{EcoError, EcoVec, IntoArray, eco_vec, range_in};
 use std::alloc::{AllocError, Global};
 use std::io::Write;
@@ -8,30 +8,22 @@ use std::test::Fail;
 
 #[test]
 fn drains_may_be_dropped_early(rt: HostRuntime) -> Result<(), Fail> {
-    let mut list = eco_vec![in rt.alloc(); 'a'; 10]?;
-    let len = list.len();
-    if !range_in(&(5..), len) {
+    let mut list = of(rt.alloc(), &['a'; 10])?;
+    if !range_in(&(5..), list.len()) {
         return Err("ten elements".into());
     }
-    let mut tail = list.drain(5..)?;
-    assert_eq!(rt; tail.next(), Some('a'));
-    drop(tail);
-    assert_eq!(rt; list.len(), 5);
+    let first = list.drain(5..)?.next();
+    assert_eq!(rt; (first, list.len()), (Some('a'), 5));
     Ok(())
 }
 
 #[test]
 fn owned_iterators_go_from_both_ends(rt: HostRuntime) -> Result<(), Fail> {
-    let Ok(mut rest) = eco_vec![in rt.alloc(); 2, 4, 5]?.into_iter() else {
-        return Err("no memory".into());
-    };
-    assert_eq!(rt; rest.len(), 3);
-    assert_eq!(rt; rest.next(), Some(2));
-    assert_eq!(rt; rest.next_back(), Some(5));
-    assert_eq!(rt;
-        (rest.next(), rest.next(), rest.next_back()),
-        (Some(4), None, None)
-    );
+    let mut rest = of(rt.alloc(), &[2, 4, 5])?.into_iter().map_err(error_of)?;
+    let ends = [rest.next(), rest.next_back()];
+    let shown = rest.as_slice() == [4].as_slice() && rest.len() == 1;
+    let end = [rest.next(), rest.next(), rest.next_back()];
+    assert!(rt; ends == [Some(2), Some(5)] && shown && end == [Some(4), None, None]);
     Ok(())
 }
 
@@ -41,7 +33,7 @@ fn holds(rt: &impl Abort, elements: &[u8], wanted: &[u8]) {
 
 #[test]
 fn retain_keeps_the_changed_elements(rt: HostRuntime) -> Result<(), Fail> {
-    let mut list = eco_vec![in rt.alloc(); 1u8, 2, 3, 4]?;
+    let mut list = of(rt.alloc(), &[1u8, 2, 3, 4])?;
     let clone = shared(&list)?;
     let mut seen = Vec::new(rt.alloc());
     list.retain(|element| {
@@ -65,39 +57,32 @@ fn length_of(error: IntoArray<u16>) -> Option<usize> {
 
 #[test]
 fn arrays_come_back_or_tell_their_length(rt: HostRuntime) -> Result<(), Fail> {
-    let list = eco_vec![in rt.alloc(); 3u16, 5]?;
-    let copy = shared(&list)?;
-    let array = copy.into_array::<2>().map_err(length_of);
-    assert_eq!(rt; array, Ok([3, 5]));
+    let list = of(rt.alloc(), &[3u16, 5])?;
+    let array = shared(&list)?.into_array::<2>().map_err(length_of);
     let length = list.into_array::<3>().map_err(length_of);
-    assert_eq!(rt; length, Err(Some(2)));
+    assert!(rt; array == Ok([3, 5]) && length == Err(Some(2)));
     Ok(())
 }
 
 #[test]
 fn all_forms_of_eco_vec(rt: HostRuntime) -> Result<(), Fail> {
     let alloc = rt.alloc();
-    assert_eq!(rt;
-        eco_vec![in alloc; 1; 4]?.as_slice(),
-        [1, 1, 1, 1].as_slice()
-    );
-    assert_eq!(rt;
-        eco_vec![in alloc; 1, 2, 3]?.as_slice(),
-        [1, 2, 3].as_slice()
-    );
+    let equal = eco_vec![in alloc; 1; 4]?;
+    let listed = eco_vec![in alloc; 1, 2, 3]?;
     let none: EcoVec<u8> = eco_vec![in alloc]?;
-    assert!(rt; none.is_empty());
+    let same = equal.as_slice() == [1, 1, 1, 1].as_slice();
+    assert!(rt; same && listed.as_slice() == [1, 2, 3].as_slice() && none.is_empty());
     Ok(())
 }
 
 #[test]
 fn a_piece_is_written_whole(rt: HostRuntime) -> Result<(), Fail> {
     let mut bytes = EcoVec::new(rt.alloc());
-    assert_eq!(rt; bytes.write(b"Hello, ")?, 7);
+    let count = bytes.write(b"Hello, ")?;
     let copy = shared(&bytes)?;
     bytes.write_all(b"world!")?;
     bytes.flush()?;
-    holds(&rt, bytes.as_slice(), b"Hello, world!");
+    assert!(rt; count == 7 && bytes.as_slice() == b"Hello, world!".as_slice());
     holds(&rt, copy.as_slice(), b"Hello, ");
     Ok(())
 }
