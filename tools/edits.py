@@ -43,6 +43,9 @@ def function_at(path, line):
 
 def goal(folder, said):
     """Which goal of which function refused an edit, as far as the prover's line says it."""
+    answer = re.match(r"(?:\./)?proofs/(?:\S+/)?(\S+?)/\w+\.antt:\d+:\d+: error: `([^`]+)`", said)
+    if answer:
+        return f"{answer[1]} (its proof): {answer[2]}"
     place = re.match(r"(?:note: )?(?:\./)?(src/\S+?):(\d+):\d+: (.*)", said)
     if not place:
         return said

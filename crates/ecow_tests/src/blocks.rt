@@ -111,6 +111,11 @@ fn moves_clone_nothing(rt: HostRuntime) -> Result<(), AllocError> {
     Ok(())
 }
 
+/// Whether clones of the elements go in; not where there is no room.
+fn appended<'a>(block: &mut Block<Counted<'a>>, elements: &[Counted<'a>]) -> bool {
+    elements.len() <= block.capacity() - block.len() && block.extend_within(elements).is_ok()
+}
+
 /// Appends clones of so many elements, of which the clone with this number is refused, and then
 /// again.
 fn refused_among(
@@ -124,16 +129,12 @@ fn refused_among(
         elements.push(Counted { counts: &counts })?;
     }
     let mut block = Block::with_capacity(rt.alloc(), 300)?;
-    if elements.len() <= 300 {
-        let first = block.extend_within(elements.as_slice()).is_err() && block.len() == 0;
-        let made = counts.drops.get();
-        let second = block.extend_within(elements.as_slice()).is_ok() && block.len() == count;
-        assert!(rt;
-            first && second && made.wrapping_add(1) == refused,
-            "{refused} of {count}"
-        );
-        assert!(rt; counts.drops.get() == made && block.capacity() == 300);
-    }
+    let first = !appended(&mut block, elements.as_slice()) && block.len() == 0;
+    let made = counts.drops.get();
+    let second = appended(&mut block, elements.as_slice()) && block.len() == count;
+    assert!(rt; first && second, "{refused} of {count}");
+    assert!(rt; made.wrapping_add(1) == refused && counts.drops.get() == made);
+    assert!(rt; block.capacity() == 300);
     Ok(())
 }
 
