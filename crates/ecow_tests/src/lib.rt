@@ -36,6 +36,4 @@ mod sharing;
 #[cfg(test)]
 mod twins;
 #[cfg(test)]
-mod vec_block;
-#[cfg(test)]
 mod vectors;
