@@ -27,9 +27,9 @@ impl Tally {
         self.drops.get()
     }
 
-    /// The clones and the drops.
-    pub(crate) fn counts(&self) -> (u64, u64) {
-        (self.clones(), self.drops())
+    /// Whether so many clones were made, and so many elements dropped.
+    pub(crate) fn has(&self, clones: u64, drops: u64) -> bool {
+        self.clones() == clones && self.drops() == drops
     }
 
     /// An element that counts here.
