@@ -1,22 +1,30 @@
-# Proves, builds, runs and tests. Everything but `make faults` and `make bench` needs the kit's `rt` on
-# the path, make and git, and nothing else.
+# Proves, builds, runs and tests. Everything but `make faults`, `make bench`, `make edits` and
+# `make times` needs the kit's `rt` on the path, make and git, and nothing else.
 
 SOURCES := $(shell find crates -path '*/out' -prune -o \( -name '*.rt' -o -name '*.antt' \) -print) crates.txt
 
-.PHONY: help build run test faults bench clean
+.PHONY: help try build run test agree edits times faults bench clean
 
 help:
-	@echo "make run SCRIPT=FILE   proves and builds what it must, and runs the script"
+	@echo "make try SCRIPT=FILE   runs the script with no proof, in half a minute"
+	@echo "make run SCRIPT=FILE   proves and builds what it must, says how far it is, and runs the script"
 	@echo "make build             leaves the proved program at bin/ecow-run"
 	@echo "make test              the whole gate: every proof from nothing, must-fail edits, tests, programs"
+	@echo "make edits             tries each edit that must be refused, those beside the gate's too (needs"
+	@echo "                       python3); CRATES=\"NAME ..\" those of some crates"
+	@echo "make times             runs the gate and says what each part of it costs (needs python3)"
 	@echo "make faults            refuses each request for memory in turn (needs a C compiler)"
 	@echo "make bench ECOW=FOLDER times the vector beside the original crate in FOLDER (needs cargo)"
 	@echo "make clean             removes what was built"
 
+# SCRIPT may begin with --counted.
+try:
+	@tools/try.sh $(SCRIPT)
+
 # The program is proved, linked and run once, on the first example.
 bin/ecow-run: $(SOURCES)
-	@mkdir -p bin
-	cd crates/ecow_run && rt run -- ../../examples/first.eco > ../../bin/build.log 2>&1 || { cat ../../bin/build.log; exit 1; }
+	@tools/prove.sh ecow_run
+	@cd crates/ecow_run && rt run -- ../../examples/first.eco > ../../bin/build.log 2>&1 || { cat ../../bin/build.log; exit 1; }
 	@cp crates/ecow_run/out/ecow_run bin/ecow-run
 
 build: bin/ecow-run
@@ -26,8 +34,19 @@ run:
 	@$(MAKE) --no-print-directory --silent bin/ecow-run >&2
 	@bin/ecow-run $(SCRIPT)
 
-test:
+test: agree
 	rt ci
+
+# The examples are cases too, and the gate runs the program on the first.
+agree:
+	@for file in examples/*.eco; do cmp $$file crates/ecow_cases/data/$$(basename $$file) || exit 1; done
+	@cmp examples/first.eco crates/ecow_run/data/first.eco
+
+edits:
+	tools/edits.py $(CRATES)
+
+times: agree
+	tools/times.py
 
 faults:
 	cd crates/ecow_faults && rt run

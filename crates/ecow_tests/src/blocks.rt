@@ -21,6 +21,11 @@ impl Counts {
             refused,
         }
     }
+
+    /// Whether so many clones were made, and so many elements dropped.
+    fn have(&self, clones: u32, drops: u32) -> bool {
+        self.clones.get() == clones && self.drops.get() == drops
+    }
 }
 
 /// An element that counts its drops and its clones.
@@ -64,54 +69,14 @@ fn thousand(alloc: std::alloc::Global, counts: &Counts) -> Result<Block<Counted<
     Ok(block)
 }
 
-fn holds(rt: &impl Abort, elements: &[u64], wanted: &[u64]) {
-    assert_eq!(rt; elements, wanted);
-}
-
-#[test]
-fn elements_come_and_go(rt: HostRuntime) -> Result<(), AllocError> {
-    let mut block = Block::with_capacity(rt.alloc(), 5)?;
-    block.push_within(7u64);
-    block.push_within(8);
-    block.insert_within(1, 9);
-    block.insert_within(0, 6);
-    block.insert_within(4, 5);
-    holds(&rt, block.as_slice(), &[6, 7, 9, 8, 5]);
-    assert_eq!(rt; block.remove(0), 6);
-    assert_eq!(rt; block.remove(2), 8);
-    holds(&rt, block.as_slice(), &[7, 9, 5]);
-    block.grow(9)?;
-    assert_eq!(rt; (block.len(), block.capacity()), (3, 9));
-    assert_eq!(rt; block.pop(), Some(5));
-    block.as_mut_slice()[0] = 4;
-    holds(&rt, block.as_slice(), &[4, 9]);
-    Ok(())
-}
-
-#[test]
-fn three_places_take_three_elements(rt: HostRuntime) -> Result<(), AllocError> {
-    let mut block = Block::with_capacity(rt.alloc(), 3)?;
-    for n in 0..3u32 {
-        if block.len() < block.capacity() {
-            block.push_within(n);
-        }
-    }
-    assert_eq!(rt; block.as_slice(), [0, 1, 2].as_slice());
-    assert!(rt; block.capacity() == 3);
-    Ok(())
-}
-
 #[test]
 fn each_element_is_dropped_once(rt: HostRuntime) -> Result<(), AllocError> {
     let counts = Counts::new(0);
     let mut block = thousand(rt.alloc(), &counts)?;
-    assert!(rt; block.len() == 1000);
-    assert_eq!(rt; counts.drops.get(), 0);
     block.truncate(600);
-    assert_eq!(rt; counts.drops.get(), 400);
+    assert!(rt; counts.have(0, 400));
     drop(block);
-    assert_eq!(rt; counts.drops.get(), 1000);
-    assert_eq!(rt; counts.clones.get(), 0);
+    assert!(rt; counts.have(0, 1000));
     Ok(())
 }
 
@@ -119,33 +84,13 @@ fn each_element_is_dropped_once(rt: HostRuntime) -> Result<(), AllocError> {
 fn what_is_left_is_dropped_with_the_rest(rt: HostRuntime) -> Result<(), AllocError> {
     let counts = Counts::new(0);
     let mut rest = thousand(rt.alloc(), &counts)?.into_rest();
-    for _ in 0..400 {
+    for _ in 0..200 {
         drop(rest.next());
-    }
-    assert!(rt; rest.len() == 600 && rest.as_slice().len() == 600);
-    assert_eq!(rt; counts.drops.get(), 400);
-    drop(rest);
-    assert_eq!(rt; counts.drops.get(), 1000);
-    let mut rest = thousand(rt.alloc(), &counts)?.into_rest();
-    for _ in 0..400 {
         drop(rest.next_back());
     }
-    assert_eq!(rt; counts.drops.get(), 1400);
+    assert!(rt; rest.len() == 600 && rest.as_slice().len() == 600 && counts.have(0, 400));
     drop(rest);
-    assert_eq!(rt; counts.drops.get(), 2000);
-    Ok(())
-}
-
-#[test]
-fn the_rest_is_taken_from_both_ends(rt: HostRuntime) -> Result<(), AllocError> {
-    let mut rest = Block::from_clones(rt.alloc(), &[1u8, 2, 3, 4], 6)?.into_rest();
-    assert_eq!(rt; rest.next(), Some(1));
-    assert_eq!(rt; rest.next_back(), Some(4));
-    assert_eq!(rt; rest.as_slice(), [2, 3].as_slice());
-    assert_eq!(rt;
-        (rest.next(), rest.next(), rest.next_back()),
-        (Some(2), Some(3), None)
-    );
+    assert!(rt; counts.have(0, 1000));
     Ok(())
 }
 
@@ -160,80 +105,44 @@ fn moves_clone_nothing(rt: HostRuntime) -> Result<(), AllocError> {
     let mut block = Block::with_capacity(rt.alloc(), capacity)?;
     block.fill_within(elements);
     let elements = block.take_vec()?;
-    assert!(rt; elements.len() == 10 && block.len() == 0);
+    let moved = elements.len() == 10 && block.len() == 0;
     drop(elements);
-    assert_eq!(rt; (counts.drops.get(), counts.clones.get()), (10, 0));
+    assert!(rt; moved && counts.have(0, 10));
+    Ok(())
+}
+
+/// Whether clones of the elements go in; not where there is no room.
+fn appended<'a>(block: &mut Block<Counted<'a>>, elements: &[Counted<'a>]) -> bool {
+    elements.len() <= block.capacity() - block.len() && block.extend_within(elements).is_ok()
+}
+
+/// Appends clones of so many elements, of which the clone with this number is refused, and then
+/// again.
+fn refused_among(
+    rt: &(impl Abort + AllocGlobal),
+    count: usize,
+    refused: u32,
+) -> Result<(), AllocError> {
+    let counts = Counts::new(refused);
+    let mut elements = Vec::new(rt.alloc());
+    for _ in 0..count {
+        elements.push(Counted { counts: &counts })?;
+    }
+    let mut block = Block::with_capacity(rt.alloc(), 300)?;
+    let first = !appended(&mut block, elements.as_slice()) && block.len() == 0;
+    let made = counts.drops.get();
+    let second = appended(&mut block, elements.as_slice()) && block.len() == count;
+    assert!(rt; first && second, "{refused} of {count}");
+    assert!(rt; made.wrapping_add(1) == refused && counts.drops.get() == made);
+    assert!(rt; block.capacity() == 300);
     Ok(())
 }
 
 #[test]
 fn a_refused_clone_leaves_the_block(rt: HostRuntime) -> Result<(), AllocError> {
-    let counts = Counts::new(3);
-    let elements = [
-        Counted { counts: &counts },
-        Counted { counts: &counts },
-        Counted { counts: &counts },
-    ];
-    let mut block = Block::with_capacity(rt.alloc(), 3)?;
-    assert!(rt; block.extend_within(&elements).is_err());
-    assert!(rt; block.len() == 0 && block.capacity() == 3);
-    assert_eq!(rt; counts.drops.get(), 2);
-    assert!(rt; block.extend_within(&elements).is_ok());
-    assert!(rt; block.len() == 3);
-    Ok(())
-}
-
-/// Appends clones of 300 elements, of which the clone with this number is refused, and then again.
-fn refused_among_many(
-    rt: &(impl Abort + AllocGlobal),
-    refused: u32,
-    made: u32,
-) -> Result<(), AllocError> {
-    let counts = Counts::new(refused);
-    let mut elements = Vec::new(rt.alloc());
-    for _ in 0..300 {
-        elements.push(Counted { counts: &counts })?;
+    for (count, refused) in [(3, 3), (300, 1), (300, 200), (300, 290)] {
+        refused_among(&rt, count, refused)?;
     }
-    let mut block = Block::with_capacity(rt.alloc(), 300)?;
-    if elements.len() <= 300 {
-        assert!(rt; block.extend_within(elements.as_slice()).is_err());
-        assert_eq!(rt; (block.len(), counts.drops.get()), (0, made));
-        assert!(rt; block.extend_within(elements.as_slice()).is_ok());
-        assert_eq!(rt; (block.len(), counts.drops.get()), (300, made));
-    }
-    Ok(())
-}
-
-#[test]
-fn a_refused_clone_among_many_leaves_the_block(rt: HostRuntime) -> Result<(), AllocError> {
-    refused_among_many(&rt, 1, 0)?;
-    refused_among_many(&rt, 200, 199)?;
-    refused_among_many(&rt, 290, 289)
-}
-
-#[test]
-fn ranges_are_drained_and_spliced(rt: HostRuntime) -> Result<(), AllocError> {
-    let mut block = Block::from_clones(rt.alloc(), &[0u64, 1, 2, 3, 4, 5], 8)?;
-    let mut removed = Block::from_clones(rt.alloc(), &[9u64], 3)?;
-    block.drain_into(1, 3, &mut removed);
-    holds(&rt, removed.as_slice(), &[9, 1, 2]);
-    holds(&rt, block.as_slice(), &[0, 3, 4, 5]);
-    let longer = Block::from_clones(rt.alloc(), &[7u64, 8, 9], 3)?;
-    let removed = block.splice_within(1, 2, longer);
-    holds(&rt, removed.as_slice(), &[3]);
-    holds(&rt, block.as_slice(), &[0, 7, 8, 9, 4, 5]);
-    let removed = block.splice_within(0, 4, Block::from_clones(rt.alloc(), &[6], 4)?);
-    holds(&rt, removed.as_slice(), &[0, 7, 8, 9]);
-    holds(&rt, block.as_slice(), &[6, 4, 5]);
-    assert!(rt; block.capacity() == 8);
-    Ok(())
-}
-
-#[test]
-fn some_elements_are_kept(rt: HostRuntime) -> Result<(), AllocError> {
-    let mut block = Block::from_clones(rt.alloc(), &[1u32, 2, 3, 4, 5], 5)?;
-    block.retain(|n| *n % 2 == 1);
-    assert_eq!(rt; block.as_slice(), [1, 3, 5].as_slice());
     Ok(())
 }
 
@@ -245,15 +154,14 @@ fn elements_of_no_bytes_take_no_memory(rt: HostRuntime) -> Result<(), AllocError
             block.push_within(());
         }
     }
-    assert!(rt; block.len() == 1000 && block.capacity() == MAX_LEN);
-    assert!(rt; block.as_slice().len() == 1000);
+    assert!(rt; block.as_slice().len() == 1000 && block.capacity() == MAX_LEN);
     Ok(())
 }
 
 #[test]
 fn more_than_memory_is_refused(rt: HostRuntime) {
-    assert!(rt; Block::<u64>::with_capacity(rt.alloc(), 0x1000_0000_0000_0000).is_err());
+    let made = Block::<u64>::with_capacity(rt.alloc(), 0x1000_0000_0000_0000);
     let mut block = Block::<u64>::new(rt.alloc());
-    assert!(rt; block.grow(0x1000_0000_0000_0000).is_err());
-    assert!(rt; block.capacity() == 0 && block.grow(2).is_ok());
+    let grown = block.grow(0x1000_0000_0000_0000);
+    assert!(rt; made.is_err() && grown.is_err() && block.capacity() == 0 && block.grow(2).is_ok());
 }

@@ -1,115 +1,34 @@
 //! Lists in counted blocks: commands succeed with ample memory, each copied element is one clone,
 //! and elements are dropped with the last name of their block.
+use crate::calls::{done, held, step, totals};
 use crate::elements::{Counting, Single, Tally};
 use crate::numbers::Numbers;
 use crate::outcomes::{is_done, refusal_of};
 use crate::scripts::is_plain_run;
 use ecow_counted::{Counted, Filled};
-use ecow_model::{Items, Name, Outcome, Refusal, VecCommand};
+use ecow_model::{Items, Outcome, Refusal, VecCommand};
 use std::alloc::{AllocError, Global};
 use std::ops::Bound;
 use std::process::Abort;
 use std::test::Fail;
 
-fn list(alloc: Global, elements: &[i64]) -> Result<Items<i64>, AllocError> {
-    Items::from_slice(alloc, elements)
-}
-
-/// Runs the commands in a new table; none is refused.
-fn after(
-    rt: &impl Abort,
-    alloc: Global,
-    commands: Vec<VecCommand<i64>>,
-) -> Result<Counted<i64>, Fail> {
-    let mut table = Counted::new(alloc);
-    let Ok(outcomes) = table.run(commands) else {
-        return Err(AllocError.into());
-    };
-    for outcome in outcomes.iter() {
-        assert!(rt; !matches!(outcome, Outcome::Refused(_)));
-    }
-    Ok(table)
-}
-
-fn holds(rt: &impl Abort, table: &mut Counted<i64>, name: Name, wanted: &[i64]) {
-    match table.step(VecCommand::Contents { name }) {
-        Outcome::Elements(elements) => assert_eq!(rt; elements.as_slice(), wanted),
-        _ => assert!(rt; false, "no elements"),
-    }
-}
-
 #[test]
-fn a_shared_list_is_copied_by_who_writes(rt: HostRuntime) -> Result<(), Fail> {
-    let alloc = rt.alloc();
-    let items = list(alloc, &[1, 2, 3])?;
-    let commands = vec![in alloc;
-        VecCommand::FromList { name: 0, items },
-        VecCommand::Clone { from: 0, to: 1 },
-        VecCommand::Push { name: 1, value: 4 },
-        VecCommand::Clone { from: 0, to: 2 },
-        VecCommand::Truncate { name: 2, target: 1 },
-        VecCommand::Clear { name: 0 },
-    ]?;
-    let mut table = after(&rt, alloc, commands)?;
-    holds(&rt, &mut table, 0, &[]);
-    holds(&rt, &mut table, 1, &[1, 2, 3, 4]);
-    holds(&rt, &mut table, 2, &[1]);
-    assert_eq!(rt; (table.copied(), table.moved(), table.blocks()), (4, 0, 3));
-    Ok(())
-}
-
-/// The names 0 and 1 share an empty block, which no command of the name 0 has left.
-fn shared_empty(rt: &impl Abort, alloc: Global) -> Result<Counted<i64>, Fail> {
-    let (name, nothing) = (0, list(alloc, &[])?);
-    let commands = vec![in alloc;
-        VecCommand::WithCapacity { name, capacity: 3 },
-        VecCommand::Clone { from: 0, to: 1 },
-        VecCommand::Clear { name },
-        VecCommand::Pop { name },
-        VecCommand::Truncate { name, target: 0 },
-        VecCommand::Extend {
-            name,
-            items: nothing
-        },
-    ]?;
-    after(rt, alloc, commands)
-}
-
-#[test]
-fn an_empty_shared_block_is_left_by_few(rt: HostRuntime) -> Result<(), Fail> {
-    let mut table = shared_empty(&rt, rt.alloc())?;
-    assert_eq!(rt; (table.owners(0), table.blocks()), (Some(2), 1));
-    let marks = Items::from_slice(rt.alloc(), &[])?;
-    let retained = table.step(VecCommand::Retain { name: 0, marks });
-    assert!(rt; is_done(retained));
-    assert_eq!(rt; (table.owners(0), table.capacity(0)), (None, Some(0)));
-    assert_eq!(rt; (table.owners(1), table.capacity(1)), (Some(1), Some(3)));
-    assert_eq!(rt; (table.blocks(), table.copied()), (1, 0));
-    Ok(())
-}
-
-#[test]
-fn a_shared_list_is_spliced_in_one_new_block(rt: HostRuntime) -> Result<(), Fail> {
-    let alloc = rt.alloc();
-    let items = list(alloc, &[1, 2, 3, 4, 5])?;
-    let replacement = list(alloc, &[7, 8, 9])?;
-    let commands = vec![in alloc;
-        VecCommand::FromList { name: 0, items },
-        VecCommand::Clone { from: 0, to: 1 },
-        VecCommand::Splice {
+fn an_empty_shared_block_is_left_by_a_retain(rt: HostRuntime) -> Result<(), Fail> {
+    let mut table: Counted<i64> = Counted::new(rt.alloc());
+    done(
+        &rt,
+        &mut table,
+        VecCommand::WithCapacity {
             name: 0,
-            bounds: (Bound::Included(1), Bound::Excluded(2)),
-            items: replacement
+            capacity: 3,
         },
-        VecCommand::Reserve {
-            name: 1,
-            additional: 0
-        },
-    ]?;
-    let mut table = after(&rt, alloc, commands)?;
-    holds(&rt, &mut table, 0, &[1, 7, 8, 9, 3, 4, 5]);
-    assert_eq!(rt; (table.capacity(0), table.capacity(1)), (Some(10), Some(5)));
-    assert_eq!(rt; (table.copied(), table.moved(), table.blocks()), (5, 0, 2));
+    );
+    let shared = is_done(table.share(0, 1)) && held(&table, 0) == (Some(2), Some(3));
+    assert!(rt; shared && totals(&table) == (0, 0, 1));
+    let marks = Items::from_slice(rt.alloc(), &[])?;
+    done(&rt, &mut table, VecCommand::Retain { name: 0, marks });
+    let left = held(&table, 0) == (None, Some(0)) && held(&table, 1) == (Some(1), Some(3));
+    assert!(rt; left && totals(&table) == (0, 0, 1));
     Ok(())
 }
 
@@ -130,12 +49,19 @@ fn a_list_moves_as_it_is_filled(rt: HostRuntime) -> Result<(), Fail> {
     let alloc = rt.alloc();
     for (n, moved, capacity) in [(4, 0, 4), (5, 4, 8), (9, 12, 16), (17, 28, 32)] {
         let table = filled(&rt, alloc, n)?;
-        assert_eq!(rt; (table.moved(), table.capacity(0)), (moved, Some(capacity)));
+        assert_eq!(rt; totals(&table), (0, moved, 1), "{n}");
+        assert_eq!(rt; held(&table, 0), (Some(1), Some(capacity)), "{n}");
     }
-    let mut table = filled(&rt, alloc, 5)?;
-    let Filled { accepted, refusal } = table.fill(0, Vec::new(alloc));
-    assert_eq!(rt; (accepted, refusal), (0, Some(Refusal::Taken)));
-    holds(&rt, &mut table, 0, &[0, 1, 2, 3, 4]);
+    Ok(())
+}
+
+#[test]
+fn a_name_that_is_there_is_not_filled(rt: HostRuntime) -> Result<(), Fail> {
+    let mut table = filled(&rt, rt.alloc(), 5)?;
+    let Filled { accepted, refusal } = table.fill(0, Vec::new(rt.alloc()));
+    let len = step(&mut table, VecCommand::Len { name: 0 });
+    let whole = matches!(&len, Outcome::Count(5));
+    assert!(rt; whole && accepted == 0 && refusal == Some(Refusal::Taken));
     Ok(())
 }
 
@@ -147,8 +73,8 @@ fn units_are_counted_too(rt: HostRuntime) -> Result<(), Fail> {
     }
     let mut table = Counted::new(rt.alloc());
     let Filled { accepted, .. } = table.fill(0, units);
-    assert_eq!(rt; accepted, 9);
-    assert_eq!(rt; (table.moved(), table.capacity(0)), (12, Some(16)));
+    assert!(rt; accepted == 9 && totals(&table) == (0, 12, 1));
+    assert_eq!(rt; held(&table, 0), (Some(1), Some(16)));
     Ok(())
 }
 
@@ -193,16 +119,17 @@ fn leaving(alloc: Global, tally: &Tally) -> Result<Vec<VecCommand<Counting>>, Al
 fn shared(alloc: Global, tally: &Tally) -> Result<Counted<Counting>, AllocError> {
     let mut table = Counted::new(alloc);
     let items = Items::new(tally.elements(alloc, 3)?);
-    drop(table.step(VecCommand::FromList { name: 0, items }));
-    drop(table.step(VecCommand::Clone { from: 0, to: 1 }));
+    drop(step(&mut table, VecCommand::FromList { name: 0, items }));
+    drop(table.share(0, 1));
     Ok(table)
 }
 
 /// How many elements are copied as a command leaves the shared block.
 fn copied_by(rt: &impl Abort, mut table: Counted<Counting>, command: VecCommand<Counting>) -> u64 {
-    assert!(rt; refusal_of(table.step(command)).is_none());
-    assert_eq!(rt; table.blocks(), 2);
-    table.copied()
+    let done = refusal_of(step(&mut table, command)).is_none();
+    let (copied, _, blocks) = totals(&table);
+    assert!(rt; done && blocks == 2);
+    copied
 }
 
 #[test]
@@ -225,29 +152,23 @@ fn elements_go_with_the_last_name_of_their_block(rt: HostRuntime) -> Result<(), 
     let tally = Tally::new(alloc)?;
     let mut table = Counted::new(alloc);
     let items = Items::new(tally.elements(alloc, 3)?);
-    drop(table.step(VecCommand::FromList { name: 0, items }));
+    done(&rt, &mut table, VecCommand::FromList { name: 0, items });
     for to in 1..3 {
         assert!(rt; is_done(table.share(0, to)));
     }
-    drop(table.step(VecCommand::Drop { name: 0 }));
-    drop(table.step(VecCommand::Clear { name: 1 }));
-    assert_eq!(rt;
-        (tally.drops(), table.blocks(), table.owners(2)),
-        (0, 1, Some(1))
-    );
-    drop(table.step(VecCommand::Drop { name: 2 }));
-    assert_eq!(rt; (tally.drops(), tally.clones(), table.blocks()), (3, 0, 0));
+    done(&rt, &mut table, VecCommand::Drop { name: 0 });
+    done(&rt, &mut table, VecCommand::Clear { name: 1 });
+    assert!(rt; tally.drops() == 0 && held(&table, 2) == (Some(1), Some(4)));
+    done(&rt, &mut table, VecCommand::Drop { name: 2 });
+    assert!(rt; tally.drops() == 3 && tally.clones() == 0 && totals(&table) == (0, 0, 0));
     Ok(())
 }
 
 #[test]
 fn elements_without_a_clone_are_shared(rt: HostRuntime) -> Result<(), Fail> {
     let mut table: Counted<Single> = Counted::new(rt.alloc());
-    assert!(rt; refusal_of(table.share(0, 1)) == Some(Refusal::NoName));
-    assert_eq!(rt;
-        (table.owners(0), table.is_unique(0), table.blocks()),
-        (None, None, 0)
-    );
+    let refused = refusal_of(table.share(0, 1)) == Some(Refusal::NoName);
+    assert!(rt; refused && table.is_unique(0).is_none() && held(&table, 0) == (None, None));
     Ok(())
 }
 

@@ -1,4 +1,5 @@
 //! Lists in counted blocks whose elements refuse their clones: everything stays as it was.
+use crate::calls::{held, step, totals};
 use crate::elements::Refusing;
 use crate::outcomes::{is_done, refusal_of};
 use ecow_counted::Counted;
@@ -27,8 +28,8 @@ fn numbers(
 fn shared(alloc: Global, left: &Rc<Cell<u64>>) -> Result<Counted<Refusing>, AllocError> {
     let mut table = Counted::new(alloc);
     let items = numbers(alloc, &[1, 2, 3], left)?;
-    drop(table.step(VecCommand::FromList { name: 0, items }));
-    drop(table.step(VecCommand::Clone { from: 0, to: 1 }));
+    drop(step(&mut table, VecCommand::FromList { name: 0, items }));
+    drop(step(&mut table, VecCommand::Clone { from: 0, to: 1 }));
     Ok(table)
 }
 
@@ -41,11 +42,13 @@ fn seen(
 ) -> Result<Vec<u64>, AllocError> {
     let kept = left.get();
     left.set(100);
-    let mut numbers = vec![in alloc; table.copied(), table.moved(), table.blocks() as u64]?;
+    let (copied, moved, blocks) = totals(table);
+    let mut numbers = vec![in alloc; copied, moved, blocks as u64]?;
     for name in 0..5 {
-        numbers.push(table.owners(name).unwrap_or(0) as u64)?;
-        numbers.push(table.capacity(name).unwrap_or(0) as u64)?;
-        if let Outcome::Elements(elements) = table.step(VecCommand::Contents { name }) {
+        let (owners, capacity) = held(table, name);
+        numbers.push(owners.unwrap_or(0) as u64)?;
+        numbers.push(capacity.unwrap_or(0) as u64)?;
+        if let Outcome::Elements(elements) = step(table, VecCommand::Contents { name }) {
             for element in elements.as_slice() {
                 numbers.push(element.value.unsigned_abs())?;
             }
@@ -61,37 +64,34 @@ fn pushed(
     left: &Rc<Cell<u64>>,
 ) -> Result<Outcome<Refusing>, AllocError> {
     let value = Refusing::new(4, left)?;
-    Ok(table.step(VecCommand::Push { name: 1, value }))
+    Ok(step(table, VecCommand::Push { name: 1, value }))
 }
 
 #[test]
 fn a_clone_needs_no_clone_of_an_element(rt: HostRuntime) -> Result<(), Fail> {
     let left = Rc::new(rt.alloc(), Cell::new(0))?;
     let mut table = shared(rt.alloc(), &left)?;
-    assert_eq!(rt; (table.owners(0), table.blocks()), (Some(2), 1));
-    let refused = pushed(&mut table, &left)?;
-    assert!(rt; refusal_of(refused) == Some(Refusal::Memory));
-    assert_eq!(rt; (table.owners(0), table.blocks()), (Some(2), 1));
-    assert_eq!(rt; table.copied(), 0);
+    assert_eq!(rt; held(&table, 0), (Some(2), Some(4)));
+    let refused = refusal_of(pushed(&mut table, &left)?) == Some(Refusal::Memory);
+    assert!(rt; refused && totals(&table) == (0, 0, 1));
     left.set(3);
-    let done = pushed(&mut table, &left)?;
-    assert!(rt; is_done(done));
-    assert_eq!(rt; (table.copied(), table.blocks()), (3, 2));
+    let done = is_done(pushed(&mut table, &left)?);
+    assert!(rt; done && totals(&table) == (3, 0, 2));
     Ok(())
 }
 
 /// A cut is refused, and what it was to cut is shared as before.
 fn refused_cut(rt: &impl Abort, table: &mut Counted<Refusing>) {
-    let refused = table.step(VecCommand::Truncate { name: 1, target: 2 });
-    assert!(rt; refusal_of(refused) == Some(Refusal::Memory));
-    assert_eq!(rt; (table.copied(), table.owners(0)), (0, Some(2)));
+    let refused = step(table, VecCommand::Truncate { name: 1, target: 2 });
+    let refused = refusal_of(refused) == Some(Refusal::Memory);
+    assert!(rt; refused && totals(table) == (0, 0, 1));
 }
 
 /// The items are refused, and no element is moved for them.
 fn refused_addition(rt: &impl Abort, table: &mut Counted<Refusing>, items: Items<Refusing>) {
-    let refused = table.step(VecCommand::Extend { name: 0, items });
-    assert!(rt; refusal_of(refused) == Some(Refusal::Memory));
-    assert_eq!(rt; (table.capacity(0), table.moved()), (Some(4), 0));
+    let refused = step(table, VecCommand::Extend { name: 0, items });
+    let refused = refusal_of(refused) == Some(Refusal::Memory);
+    assert!(rt; refused && held(table, 0) == (Some(1), Some(4)) && totals(table) == (0, 0, 1));
 }
 
 #[test]
@@ -99,7 +99,7 @@ fn the_second_clone_is_refused(rt: HostRuntime) -> Result<(), Fail> {
     let left = Rc::new(rt.alloc(), Cell::new(1))?;
     let mut table = shared(rt.alloc(), &left)?;
     refused_cut(&rt, &mut table);
-    drop(table.step(VecCommand::Drop { name: 1 }));
+    drop(step(&mut table, VecCommand::Drop { name: 1 }));
     left.set(1);
     let items = numbers(rt.alloc(), &[4, 5, 6], &left)?;
     refused_addition(&rt, &mut table, items);
@@ -150,7 +150,7 @@ fn refused(rt: &impl Abort, alloc: Global, clones: u64) -> Result<u64, AllocErro
     let mut count = 0u64;
     for command in script(alloc, &left)? {
         let before = seen(alloc, &mut table, &left)?;
-        if let Outcome::Refused(refusal) = table.step(command) {
+        if let Outcome::Refused(refusal) = step(&mut table, command) {
             assert_eq!(rt; refusal, Refusal::Memory);
             assert_eq!(rt; seen(alloc, &mut table, &left)?, before);
             count = count.saturating_add(1);

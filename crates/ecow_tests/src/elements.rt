@@ -27,6 +27,11 @@ impl Tally {
         self.drops.get()
     }
 
+    /// Whether so many clones were made, and so many elements dropped.
+    pub(crate) fn has(&self, clones: u64, drops: u64) -> bool {
+        self.clones() == clones && self.drops() == drops
+    }
+
     /// An element that counts here.
     pub(crate) fn element(&self) -> Result<Counting, AllocError> {
         Ok(Counting {

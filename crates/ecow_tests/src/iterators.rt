@@ -2,7 +2,8 @@
 //! from both ends.
 ghost use Rattle.std.specs.Iterator.{at_most};
 
-use ecow_list::{EcoVec, eco_vec, range_in};
+use crate::calls::of;
+use ecow_list::{EcoError, EcoVec, range_in};
 use std::cell::Cell;
 use std::test::Fail;
 
@@ -25,6 +26,11 @@ impl Vague {
             asked_after_the_end: false,
             hint_asked: Cell::new(false),
         }
+    }
+
+    /// Whether it wasn't asked after its end, nor for a hint.
+    fn is_left_alone(&self) -> bool {
+        !self.asked_after_the_end && !self.hint_asked.get()
     }
 }
 
@@ -54,53 +60,56 @@ fn hints_are_not_asked(rt: HostRuntime) -> Result<(), Fail> {
     let mut ones = Vague::new(1, 20);
     let mut list = EcoVec::new(rt.alloc());
     list.extend(&mut ones)?;
-    assert_eq!(rt; list.len(), 20);
-    assert!(rt; list.iter().all(|one| *one == 1));
-    assert!(rt; !ones.asked_after_the_end && !ones.hint_asked.get());
+    assert!(rt; list.as_slice() == [1; 20].as_slice() && ones.is_left_alone());
     Ok(())
 }
 
 #[test]
 fn all_of_a_replacement_goes_in(rt: HostRuntime) -> Result<(), Fail> {
     let mut nines = Vague::new(9, 5);
-    let mut list = eco_vec![in rt.alloc(); 1, 2, 3]?;
-    assert_eq!(rt; list.len(), 3);
-    assert_eq!(rt; list.splice(1..2, &mut nines)?.next(), Some(2));
-    assert_eq!(rt; list.as_slice(), [1, 9, 9, 9, 9, 9, 3].as_slice());
-    assert!(rt; !nines.asked_after_the_end && !nines.hint_asked.get());
-    let made = EcoVec::from_iter(rt.alloc(), &mut Vague::new(4, 2))?;
-    assert_eq!(rt; made.as_slice(), [4, 4].as_slice());
+    let mut list = of(rt.alloc(), &[1, 2, 3])?;
+    if !range_in(&(1..2), list.len()) {
+        return Err("three elements".into());
+    }
+    let replaced = list.splice(1..2, &mut nines)?.next();
+    let whole = list.as_slice() == [1, 9, 9, 9, 9, 9, 3].as_slice();
+    assert!(rt; replaced == Some(2) && whole && nines.is_left_alone());
+    Ok(())
+}
+
+#[test]
+fn all_items_are_collected(rt: HostRuntime) -> Result<(), EcoError> {
+    let mut fours = Vague::new(4, 2);
+    let made = EcoVec::from_iter(rt.alloc(), &mut fours)?;
+    assert!(rt; made.as_slice() == [4, 4].as_slice() && fours.is_left_alone());
     Ok(())
 }
 
 #[test]
 fn drained_elements_come_from_both_ends(rt: HostRuntime) -> Result<(), Fail> {
-    let mut list = eco_vec![in rt.alloc(); 0, 1, 2, 3, 4, 5]?;
+    let mut list = of(rt.alloc(), &[0, 1, 2, 3, 4, 5])?;
     if !range_in(&(1..5), list.len()) {
         return Err("six elements".into());
     }
     let mut drained = list.drain(1..5)?;
-    assert_eq!(rt; (drained.next_back(), drained.next()), (Some(4), Some(1)));
-    assert_eq!(rt; (drained.len(), drained.as_slice()), (2, [2, 3].as_slice()));
-    assert_eq!(rt; (drained.next_back(), drained.next()), (Some(3), Some(2)));
-    assert_eq!(rt; (drained.next(), drained.next_back()), (None, None));
-    assert_eq!(rt; list.as_slice(), [0, 5].as_slice());
+    let ends = [drained.next_back(), drained.next()];
+    let shown = drained.as_slice() == [2, 3].as_slice() && drained.len() == 2;
+    let last = [drained.next_back(), drained.next(), drained.next()];
+    assert!(rt; ends == [Some(4), Some(1)] && shown && last == [Some(3), Some(2), None]);
+    assert!(rt; drained.next_back().is_none() && list.as_slice() == [0, 5].as_slice());
     Ok(())
 }
 
 #[test]
 fn replaced_elements_come_from_both_ends(rt: HostRuntime) -> Result<(), Fail> {
-    let mut list = eco_vec![in rt.alloc(); 0, 1, 2, 3]?;
+    let mut list = of(rt.alloc(), &[0, 1, 2, 3])?;
     if !range_in(&(..3), list.len()) {
         return Err("four elements".into());
     }
     let mut replaced = list.splice(..3, Some(9))?;
-    assert_eq!(rt; (replaced.next(), replaced.next_back()), (Some(0), Some(2)));
-    assert_eq!(rt;
-        (replaced.size_hint(), replaced.as_slice()),
-        ((1, Some(1)), [1].as_slice())
-    );
+    let ends = [replaced.next(), replaced.next_back()];
+    let shown = replaced.as_slice() == [1].as_slice() && replaced.size_hint() == (1, Some(1));
     drop(replaced);
-    assert_eq!(rt; list.as_slice(), [9, 3].as_slice());
+    assert!(rt; ends == [Some(0), Some(2)] && shown && list.as_slice() == [9, 3].as_slice());
     Ok(())
 }

@@ -6,7 +6,9 @@ ghost use Rattle.std.specs.Cmp.Rules.{comparing, hashing};
 ghost use Rattle.std.specs.Hash as fed;
 ghost use Rattle.std.specs.Ordering.{as_partial_cmp, nat_cmp, on};
 
-use ecow_list::{EcoVec, eco_vec};
+use crate::calls::{error_of, of, push, shared};
+use ecow_list::EcoVec;
+use std::alloc::{AllocError, Global};
 use std::cmp::{Ordering, Reverse};
 use std::collections::{BTreeMap, HashMap};
 use std::hash::{Hash, Hasher};
@@ -14,46 +16,50 @@ use std::test::Fail;
 
 #[test]
 fn vectors_are_ordered_as_lists(rt: HostRuntime) -> Result<(), Fail> {
-    let alloc = rt.alloc();
-    let short = eco_vec![in alloc; 1, 2]?;
-    let long = eco_vec![in alloc; 1, 2, 0]?;
-    assert_eq!(rt; short.cmp(&long), Ordering::Less);
-    assert!(rt; short != long && short < long);
-    let mut grown = short.clone()?;
-    grown.push(0).map_err(|rejected| rejected.error)?;
-    assert!(rt; grown == long);
+    let short = of(rt.alloc(), &[1, 2])?;
+    let long = of(rt.alloc(), &[1, 2, 0])?;
+    let mut grown = shared(&short)?;
+    push(&mut grown, 0).map_err(error_of)?;
+    assert!(rt; short.cmp(&long) == Ordering::Less && short < long);
+    assert!(rt; short != long && grown == long);
     Ok(())
 }
 
 #[test]
 fn reversed_elements_reverse_the_order(rt: HostRuntime) -> Result<(), Fail> {
-    let alloc = rt.alloc();
-    let two = eco_vec![in alloc; Reverse(2)]?;
-    let one = eco_vec![in alloc; Reverse(1)]?;
-    let none: EcoVec<Reverse<i32>> = eco_vec![in alloc]?;
-    assert!(rt; two < one);
-    assert!(rt; none < two && none < one);
+    let two = of(rt.alloc(), &[Reverse(2)])?;
+    let one = of(rt.alloc(), &[Reverse(1)])?;
+    let none = of(rt.alloc(), &[])?;
+    assert!(rt; two < one && none < two && none < one);
     Ok(())
+}
+
+/// Whether a map that holds one key finds another.
+fn is_found<T: Eq + Hash + Drop>(
+    alloc: Global,
+    kept: EcoVec<T>,
+    key: &EcoVec<T>,
+) -> Result<bool, AllocError> {
+    let mut map = HashMap::new(alloc);
+    map.insert(kept, ())?;
+    Ok(map.contains_key(key))
 }
 
 #[test]
 fn vectors_are_keys_of_maps(rt: HostRuntime) -> Result<(), Fail> {
-    let alloc = rt.alloc();
-    let mut hashed = HashMap::new(alloc);
-    let mut ordered = BTreeMap::new(alloc);
-    hashed.insert(eco_vec![in alloc; 1u8, 2]?, "kept")?;
-    ordered.insert(eco_vec![in alloc; 1u8, 2]?, "kept")?;
-    let mut key = eco_vec![in alloc; 1u8, 2, 3]?;
-    let _clone = key.clone()?;
+    let kept = of(rt.alloc(), &[1u8, 2])?;
+    let mut key = of(rt.alloc(), &[1u8, 2, 3])?;
+    let _clone = shared(&key)?;
     key.truncate(2)?;
-    assert_eq!(rt; hashed.get(&key).copied(), Some("kept"));
-    assert_eq!(rt; ordered.get(&key).copied(), Some("kept"));
+    let mut ordered = BTreeMap::new(rt.alloc());
+    ordered.insert(shared(&kept)?, ())?;
+    assert!(rt; ordered.contains_key(&key) && is_found(rt.alloc(), kept, &key)?);
     Ok(())
 }
 
 #[test]
 fn debug_text_is_that_of_a_list(rt: HostRuntime) -> Result<(), Fail> {
-    let list = eco_vec![in rt.alloc(); 1u8, 2]?;
+    let list = of(rt.alloc(), &[1u8, 2])?;
     let text = format!(in rt.alloc(); "{list:?}")?;
     assert_eq!(rt; text.as_str(), "[1, 2]");
     Ok(())
@@ -113,12 +119,9 @@ impl Hash for LastDigit {
 
 #[test]
 fn elements_are_equal_by_their_own_equality(rt: HostRuntime) -> Result<(), Fail> {
-    let alloc = rt.alloc();
-    let twelve = eco_vec![in alloc; LastDigit(12)]?;
-    let two = eco_vec![in alloc; LastDigit(2)]?;
-    assert!(rt; twelve == two && twelve.cmp(&two) == Ordering::Equal);
-    let mut hashed = HashMap::new(alloc);
-    hashed.insert(twelve, "kept")?;
-    assert_eq!(rt; hashed.get(&two).copied(), Some("kept"));
+    let twelve = of(rt.alloc(), &[LastDigit(12)])?;
+    let two = of(rt.alloc(), &[LastDigit(2)])?;
+    let equal = twelve == two && twelve.cmp(&two) == Ordering::Equal;
+    assert!(rt; equal && is_found(rt.alloc(), twelve, &two)?);
     Ok(())
 }

@@ -1,6 +1,6 @@
-//! Tests of what no contract says, over all crates: that calls succeed with ample memory, what is
-//! cloned and dropped, who shares a block, and what is printed. Expected values are those of the
-//! original or of its documentation.
+//! Tests of what no contract says and no script can: what is cloned and dropped, what a refusal
+//! leaves, iterators, writers and elements of other kinds. Scripts with their answers stand in
+//! `ecow_cases`.
 #![tactic(auto)]
 
 #[cfg(test)]
@@ -8,16 +8,12 @@ mod blocks;
 #[cfg(test)]
 mod callers;
 #[cfg(test)]
-mod capacities;
-#[cfg(test)]
-mod clones;
+mod calls;
 pub mod commands;
 #[cfg(test)]
 mod counted;
 #[cfg(test)]
 mod counted_refusals;
-#[cfg(test)]
-mod counted_scripts;
 #[cfg(test)]
 mod elements;
 #[cfg(test)]
@@ -27,8 +23,6 @@ mod laws;
 pub mod numbers;
 #[cfg(test)]
 mod outcomes;
-#[cfg(test)]
-mod plain;
 #[cfg(test)]
 mod program;
 #[cfg(test)]
@@ -43,7 +37,5 @@ mod scripts;
 mod sharing;
 #[cfg(test)]
 mod twins;
-#[cfg(test)]
-mod vec_block;
 #[cfg(test)]
 mod vectors;

@@ -1,7 +1,10 @@
-//! Elements whose clones are refused: everything stays as it was, and values come back.
+//! Calls on a shared vector while clones of its elements are refused: the first of them, the second
+//! and so on. Each leaves both vectors as they were, sharing their block, and hands its value back.
+//! Once all clones succeed, the call is done and the other vector is as it was.
+use crate::calls::{drain, error_of, insert, push, remove, reverse, shared, splice, write};
 use crate::elements::Refusing;
 use crate::outcomes::refusal_of;
-use ecow_list::{EcoError, EcoVec};
+use ecow_list::{EcoError, EcoVec, IntoArray, Rejected};
 use ecow_model::{Items, Outcome, Refusal, VecCommand};
 use ecow_tool::Store;
 use std::alloc::{AllocError, Global};
@@ -10,7 +13,7 @@ use std::process::Abort;
 use std::rc::Rc;
 use std::test::Fail;
 
-/// Numbers of which `clones` clones succeed in all.
+/// Numbers that share what is left of their clones.
 fn numbers(
     alloc: Global,
     values: &[i64],
@@ -28,16 +31,125 @@ fn list_of(
     values: &[i64],
     left: &Rc<Cell<u64>>,
 ) -> Result<EcoVec<Refusing>, EcoError> {
-    EcoVec::from_vec(alloc, numbers(alloc, values, left)?).map_err(|rejected| rejected.error)
+    EcoVec::from_vec(alloc, numbers(alloc, values, left)?).map_err(error_of)
 }
 
-fn holds(rt: &impl Abort, list: &EcoVec<Refusing>, values: &[i64]) {
-    assert_eq!(rt; list.len(), values.len());
-    assert!(rt;
-        list.iter()
+fn holds(list: &EcoVec<Refusing>, values: &[i64]) -> bool {
+    list.len() == values.len()
+        && list
+            .iter()
             .zip(values)
             .all(|(element, value)| element.value == *value)
-    );
+}
+
+/// Whether both hold 1, 2 and 3, in one block.
+fn is_unchanged(list: &mut EcoVec<Refusing>, clone: &EcoVec<Refusing>) -> bool {
+    holds(list, &[1, 2, 3]) && holds(clone, &[1, 2, 3]) && !list.is_unique()
+}
+
+/// Whether the first holds the values, in a block of its own, and the clone still 1, 2 and 3.
+fn is_apart(list: &mut EcoVec<Refusing>, values: &[i64], clone: &EcoVec<Refusing>) -> bool {
+    holds(list, values) && holds(clone, &[1, 2, 3]) && list.is_unique()
+}
+
+/// The calls that copy what is shared.
+#[derive(Clone, Copy, Debug)]
+enum Call {
+    Push,
+    Insert,
+    Write,
+    Pop,
+    Remove,
+    Truncate,
+    Loan,
+    Retain,
+    Reserve,
+    Drain,
+    Splice,
+    Extend,
+    ExtendFromSlice,
+}
+
+impl Call {
+    /// Makes the call on a vector of 1, 2 and 3. The values are 9, or 8 and 9.
+    fn make(self, list: &mut EcoVec<Refusing>, value: Refusing) -> Result<(), EcoError> {
+        match self {
+            Call::Push => returned(push(list, value)),
+            Call::Insert => returned(insert(list, 1, value)),
+            Call::Write => returned(write(list, 0, value)),
+            Call::Pop => list.pop().map(drop),
+            Call::Remove => remove(list, 0),
+            Call::Truncate => list.truncate(2),
+            Call::Loan => reverse(list),
+            Call::Retain => list.retain(|element| element.value != 2),
+            Call::Reserve => list.reserve(0),
+            Call::Drain => drain(list, 1, 3),
+            Call::Splice => splice(list, 1, 2, value),
+            Call::Extend => list.extend(Some(value)),
+            Call::ExtendFromSlice => list.extend_from_slice(&[value]),
+        }
+    }
+}
+
+/// A refused call hands 9 back.
+fn returned(put: Result<(), Rejected<Refusing>>) -> Result<(), EcoError> {
+    match put {
+        Ok(()) => Ok(()),
+        Err(rejected) if rejected.value.value == 9 => Err(rejected.error),
+        Err(_) => Err(EcoError::Capacity),
+    }
+}
+
+/// Makes a call on a vector of 1, 2 and 3 that shares its block, where so many clones succeed.
+fn made(
+    rt: &(impl Abort + AllocGlobal),
+    call: Call,
+    clones: u64,
+    after: Option<&[i64]>,
+) -> Result<(), Fail> {
+    let left = Rc::new(rt.alloc(), Cell::new(clones))?;
+    let mut list = list_of(rt.alloc(), &[1, 2, 3], &left)?;
+    let clone = shared(&list)?;
+    let outcome = call.make(&mut list, Refusing::new(9, &left)?);
+    match after {
+        Some(after) => {
+            assert_eq!(rt; outcome, Ok(()), "{call:?}");
+            assert!(rt;
+                is_apart(&mut list, after, &clone) && left.get() == 0,
+                "{call:?}"
+            );
+        }
+        None => {
+            assert_eq!(rt; outcome, Err(EcoError::Memory), "{call:?}");
+            assert!(rt; is_unchanged(&mut list, &clone), "{call:?}");
+        }
+    }
+    Ok(())
+}
+
+#[test]
+fn each_clone_is_refused_in_turn(rt: HostRuntime) -> Result<(), Fail> {
+    for (call, needed, after) in [
+        (Call::Push, 3, [1, 2, 3, 9].as_slice()),
+        (Call::Insert, 3, &[1, 9, 2, 3]),
+        (Call::Write, 3, &[9, 2, 3]),
+        (Call::Pop, 3, &[1, 2]),
+        (Call::Remove, 3, &[2, 3]),
+        (Call::Truncate, 2, &[1, 2]),
+        (Call::Loan, 3, &[3, 2, 1]),
+        (Call::Retain, 3, &[1, 3]),
+        (Call::Reserve, 3, &[1, 2, 3]),
+        (Call::Drain, 3, &[1]),
+        (Call::Splice, 3, &[1, 9, 3]),
+        (Call::Extend, 3, &[1, 2, 3, 9]),
+        (Call::ExtendFromSlice, 4, &[1, 2, 3, 9]),
+    ] {
+        for clones in 0..needed {
+            made(&rt, call, clones, None)?;
+        }
+        made(&rt, call, needed, Some(after))?;
+    }
+    Ok(())
 }
 
 #[test]
@@ -45,62 +157,88 @@ fn a_slice_goes_in_whole_or_not_at_all(rt: HostRuntime) -> Result<(), Fail> {
     let left = Rc::new(rt.alloc(), Cell::new(1))?;
     let mut list = list_of(rt.alloc(), &[1, 2], &left)?;
     let added = numbers(rt.alloc(), &[3, 4, 5], &left)?;
-    assert_eq!(rt;
-        list.extend_from_slice(added.as_slice()),
-        Err(EcoError::Memory)
-    );
-    holds(&rt, &list, &[1, 2]);
+    assert!(rt; list.extend_from_slice(added.as_slice()).is_err() && holds(&list, &[1, 2]));
     left.set(3);
     list.extend_from_slice(added.as_slice())?;
-    holds(&rt, &list, &[1, 2, 3, 4, 5]);
+    assert!(rt; holds(&list, &[1, 2, 3, 4, 5]));
     Ok(())
 }
 
-#[test]
-fn a_refused_push_hands_the_value_back(rt: HostRuntime) -> Result<(), Fail> {
-    let left = Rc::new(rt.alloc(), Cell::new(1))?;
-    let mut list = list_of(rt.alloc(), &[1, 2], &left)?;
-    let clone = list.clone()?;
-    let Err(rejected) = list.push(Refusing::new(9, &left)?) else {
-        return Err("a push of a shared list whose clones are refused".into());
-    };
-    assert_eq!(rt;
-        (rejected.error, rejected.value.value),
-        (EcoError::Memory, 9)
-    );
-    holds(&rt, &list, &[1, 2]);
-    holds(&rt, &clone, &[1, 2]);
-    assert!(rt; !list.is_unique());
-    Ok(())
-}
-
-#[test]
-fn a_refused_retain_asks_nothing(rt: HostRuntime) -> Result<(), Fail> {
-    let left = Rc::new(rt.alloc(), Cell::new(2))?;
-    let mut list = list_of(rt.alloc(), &[1, 2, 3], &left)?;
-    let clone = list.clone()?;
+/// Whether the closure of a refused `retain` is given no element.
+fn retain_asks_nothing(list: &mut EcoVec<Refusing>) -> bool {
     let mut asked = false;
     let refused = list.retain(|_| {
         asked = true;
         false
     });
-    assert_eq!(rt; refused, Err(EcoError::Memory));
-    assert!(rt; !asked);
-    holds(&rt, &list, &[1, 2, 3]);
-    holds(&rt, &clone, &[1, 2, 3]);
+    refused.is_err() && !asked
+}
+
+#[test]
+fn a_refused_retain_asks_nothing(rt: HostRuntime) -> Result<(), Fail> {
+    let values = [1i64; 40];
+    for len in [1, 2, 3, 17, 40] {
+        let left = Rc::new(rt.alloc(), Cell::new(0))?;
+        let mut list = list_of(rt.alloc(), &values[..len], &left)?;
+        let clone = shared(&list)?;
+        for clones in 0..len as u64 {
+            left.set(clones);
+            assert!(rt; retain_asks_nothing(&mut list), "{clones} of {len}");
+            assert!(rt; holds(&list, &values[..len]) && holds(&clone, &values[..len]));
+        }
+    }
     Ok(())
 }
 
 #[test]
-fn refused_cuts_change_nothing(rt: HostRuntime) -> Result<(), Fail> {
-    let left = Rc::new(rt.alloc(), Cell::new(1))?;
-    let mut list = list_of(rt.alloc(), &[1, 2, 3], &left)?;
-    let _clone = list.clone()?;
-    assert_eq!(rt; list.truncate(2), Err(EcoError::Memory));
-    holds(&rt, &list, &[1, 2, 3]);
-    left.set(2);
-    list.truncate(2)?;
-    holds(&rt, &list, &[1, 2]);
+fn a_refused_extension_asks_for_no_more(rt: HostRuntime) -> Result<(), Fail> {
+    for clones in 0..3 {
+        let left = Rc::new(rt.alloc(), Cell::new(clones))?;
+        let mut list = list_of(rt.alloc(), &[1, 2, 3], &left)?;
+        let clone = shared(&list)?;
+        let added = numbers(rt.alloc(), &[4, 5, 6], &left)?;
+        let mut asked = 0u32;
+        let refused = list.extend(added.into_iter().inspect(|_| asked = asked.wrapping_add(1)));
+        assert!(rt; refused.is_err() && asked == 1 && is_unchanged(&mut list, &clone));
+    }
+    Ok(())
+}
+
+#[test]
+fn a_vector_is_made_whole_or_not_at_all(rt: HostRuntime) -> Result<(), Fail> {
+    let left = Rc::new(rt.alloc(), Cell::new(0))?;
+    let items = numbers(rt.alloc(), &[1, 2, 3], &left)?;
+    for clones in 0..3 {
+        left.set(clones);
+        assert!(rt; EcoVec::from_slice(rt.alloc(), items.as_slice()).is_err());
+        left.set(clones);
+        let made = EcoVec::from_elem(rt.alloc(), Refusing::new(7, &left)?, 3);
+        assert!(rt; matches!(&made, Err(rejected) if rejected.value.value == 7));
+    }
+    Ok(())
+}
+
+/// The vector that comes back from a conversion into an array, a `Vec` and an iterator in turn.
+fn handed_back(list: EcoVec<Refusing>) -> Option<EcoVec<Refusing>> {
+    let Err(IntoArray::Refused(EcoError::Memory, list)) = list.into_array::<3>() else {
+        return None;
+    };
+    let list = list.into_vec().err()?.value;
+    Some(list.into_iter().err()?.value)
+}
+
+#[test]
+fn a_shared_vector_is_given_away_whole_or_comes_back(rt: HostRuntime) -> Result<(), Fail> {
+    for clones in 0..3 {
+        let left = Rc::new(rt.alloc(), Cell::new(0))?;
+        let list = list_of(rt.alloc(), &[1, 2, 3], &left)?;
+        let clone = shared(&list)?;
+        left.set(clones);
+        let Some(mut list) = handed_back(list) else {
+            return Err("clones that are refused were given away".into());
+        };
+        assert!(rt; is_unchanged(&mut list, &clone));
+    }
     Ok(())
 }
 
@@ -115,21 +253,5 @@ fn a_refused_command_changes_nothing(rt: HostRuntime) -> Result<(), Fail> {
     assert!(rt; refusal_of(popped) == Some(Refusal::Memory));
     let len = store.step(VecCommand::Len { name: 1 });
     assert!(rt; matches!(&len, Outcome::Count(3)));
-    Ok(())
-}
-
-#[test]
-fn an_array_and_a_vec_come_back(rt: HostRuntime) -> Result<(), Fail> {
-    let left = Rc::new(rt.alloc(), Cell::new(0))?;
-    let list = list_of(rt.alloc(), &[1, 2], &left)?;
-    let _clone = list.clone()?;
-    let Err(rejected) = list.into_vec() else {
-        return Err("a vec of clones that are refused".into());
-    };
-    holds(&rt, &rejected.value, &[1, 2]);
-    let Err(rejected) = rejected.value.into_iter() else {
-        return Err("an iterator of clones that are refused".into());
-    };
-    holds(&rt, &rejected.value, &[1, 2]);
     Ok(())
 }

@@ -1,16 +1,16 @@
-//! The block over raw memory beside one over a `Vec`, on edits that a seed decides.
+//! The block over raw memory beside a `Vec` and a capacity number, on edits that a seed decides.
 use crate::numbers::Numbers;
-use crate::vec_block::VecBlock;
 use ecow_block::{Block, Rest};
 use std::alloc::{AllocError, Global};
 use std::process::Abort;
 use std::test::Fail;
 
-/// The same block twice: `raw` is the library's, and `plain` stands over a `Vec`.
+/// The same list twice: in a block over raw memory, and in a `Vec` beside a capacity number.
 #[derive(Drop)]
 struct Twins {
     raw: Block<i64>,
-    plain: VecBlock<i64>,
+    plain: Vec<i64>,
+    capacity: usize,
     alloc: Global,
 }
 
@@ -28,30 +28,59 @@ fn is_rest(rest: Rest<i64>, items: Vec<i64>) -> bool {
     same && rest.next().is_none() && rest.len() == 0
 }
 
+/// Puts the values in one by one.
+fn put(list: &mut Vec<i64>, index: usize, values: &[i64]) -> Result<(), AllocError> {
+    let mut index = index;
+    for value in values {
+        if index <= list.len() {
+            list.insert(index, *value)?;
+        }
+        index = index.saturating_add(1);
+    }
+    Ok(())
+}
+
+/// Takes a part out, one by one.
+fn taken(
+    alloc: Global,
+    list: &mut Vec<i64>,
+    start: usize,
+    end: usize,
+) -> Result<Vec<i64>, AllocError> {
+    let mut part = Vec::new(alloc);
+    for _ in start..end {
+        if start < list.len() {
+            part.push(list.remove(start))?;
+        }
+    }
+    Ok(part)
+}
+
 impl Twins {
     fn new(alloc: Global) -> Self {
         Twins {
             raw: Block::new(alloc),
-            plain: VecBlock::new(alloc),
+            plain: Vec::new(alloc),
+            capacity: 0,
             alloc,
         }
     }
 
     fn is_same(&self) -> bool {
-        self.raw.as_slice() == self.plain.as_slice() && self.raw.capacity() == self.plain.capacity()
+        self.raw.as_slice() == self.plain.as_slice() && self.raw.capacity() == self.capacity
     }
 
     fn grow(&mut self, n: usize) -> Result<(), AllocError> {
         let capacity = self.raw.capacity().saturating_add(n);
         self.raw.grow(capacity)?;
-        self.plain.grow(capacity);
+        self.capacity = capacity;
         Ok(())
     }
 
     fn push(&mut self, value: i64) -> Result<(), AllocError> {
         if self.raw.len() < self.raw.capacity() {
             self.raw.push_within(value);
-            self.plain.push_within(value)?;
+            self.plain.push(value)?;
         }
         Ok(())
     }
@@ -59,29 +88,29 @@ impl Twins {
     fn insert(&mut self, index: usize, value: i64) -> Result<(), AllocError> {
         if self.raw.len() < self.raw.capacity() && index <= self.raw.len() {
             self.raw.insert_within(index, value);
-            self.plain.insert_within(index, value)?;
+            put(&mut self.plain, index, &[value])?;
         }
         Ok(())
     }
 
     fn remove(&mut self, index: usize) -> bool {
-        if index < self.raw.len() {
-            return Some(self.raw.remove(index)) == self.plain.remove(index);
+        if index < self.raw.len() && index < self.plain.len() {
+            return self.raw.remove(index) == self.plain.remove(index);
         }
         true
     }
 
     fn set(&mut self, index: usize, value: i64) {
-        if index < self.raw.len() {
+        if index < self.raw.len() && index < self.plain.len() {
             self.raw.set(index, value);
-            self.plain.set(index, value);
+            self.plain[index] = value;
         }
     }
 
     fn extend(&mut self, values: &[i64]) -> Result<(), AllocError> {
         if values.len() <= self.raw.capacity() - self.raw.len() {
             self.raw.extend_within(values)?;
-            self.plain.extend_within(values)?;
+            self.plain.extend_from_slice(values)?;
         }
         Ok(())
     }
@@ -92,7 +121,7 @@ impl Twins {
         }
         let mut removed = Block::with_capacity(self.alloc, end - start)?;
         self.raw.drain_into(start, end, &mut removed);
-        let plain = self.plain.drain(self.alloc, start, end)?;
+        let plain = taken(self.alloc, &mut self.plain, start, end)?;
         Ok(is_rest(removed.into_rest(), plain))
     }
 
@@ -106,10 +135,8 @@ impl Twins {
         let room = values.len().max(end - start);
         let replacement = Block::from_clones(self.alloc, values, room)?;
         let removed = self.raw.splice_within(start, end, replacement);
-        let replacement = VecBlock::from_clones(self.alloc, values, values.len())?;
-        let plain = self
-            .plain
-            .splice_within(self.alloc, start, end, replacement)?;
+        let plain = taken(self.alloc, &mut self.plain, start, end)?;
+        put(&mut self.plain, start, values)?;
         Ok(is_rest(removed, plain))
     }
 
@@ -118,23 +145,20 @@ impl Twins {
         if values.len() > self.raw.capacity() - self.raw.len() || index > self.raw.len() {
             return Ok(());
         }
-        let mut raw = Block::from_clones(self.alloc, values, values.len())?;
-        let plain = VecBlock::from_clones(self.alloc, values, values.len())?;
-        self.raw.insert_from(index, &mut raw, 0);
-        self.plain.insert_all_within(index, plain)
+        let mut other = Block::from_clones(self.alloc, values, values.len())?;
+        self.raw.insert_from(index, &mut other, 0);
+        put(&mut self.plain, index, values)
     }
 
     /// All elements go to a `Vec` and come back into a block with room for more.
     fn through_a_vec(&mut self, more: usize) -> Result<bool, AllocError> {
-        let (raw, plain) = (self.raw.take_vec()?, self.plain.take_vec(self.alloc));
-        let same = raw.as_slice() == plain.as_slice() && self.raw.len() == 0;
-        let capacity = raw.len().saturating_add(more);
-        self.raw = Block::with_capacity(self.alloc, capacity)?;
-        if raw.len() <= self.raw.capacity() {
-            self.raw.fill_within(raw);
+        let items = self.raw.take_vec()?;
+        let same = items.as_slice() == self.plain.as_slice() && self.raw.len() == 0;
+        self.capacity = items.len().saturating_add(more);
+        self.raw = Block::with_capacity(self.alloc, self.capacity)?;
+        if items.len() <= self.raw.capacity() {
+            self.raw.fill_within(items);
         }
-        self.plain.grow(capacity);
-        self.plain.fill_within(plain);
         Ok(same)
     }
 

@@ -1,93 +1,29 @@
 //! The calls of `EcoVec` at concrete types, with the values of the original's own tests.
+use crate::calls::{drain, error_of, insert, of, push, shared};
 use ecow_list::{EcoError, EcoVec, IntoArray, eco_vec, range_in};
 use std::alloc::{AllocError, Global};
 use std::io::Write;
 use std::process::Abort;
 use std::test::Fail;
 
-fn two_words(alloc: Global) -> Result<EcoVec<&'static str>, EcoError> {
-    let mut list = EcoVec::new(alloc);
-    put(&mut list, 0, "okay")?;
-    put(&mut list, 0, "reverse")?;
-    Ok(list)
-}
-
-#[test]
-fn inserts_into_a_clone_stay_apart(rt: HostRuntime) -> Result<(), Fail> {
-    let mut first = two_words(rt.alloc())?;
-    let mut second = first.clone()?;
-    put(&mut first, 2, "a")?;
-    put(&mut first, 1, "b")?;
-    put(&mut second, 2, "last")?;
-    assert!(rt; first.iter().eq(["reverse", "b", "okay", "a"].iter()));
-    assert!(rt; second.iter().eq(["reverse", "okay", "last"].iter()));
-    Ok(())
-}
-
-fn put<T: Clone>(list: &mut EcoVec<T>, index: usize, value: T) -> Result<(), EcoError> {
-    if index > list.len() {
-        return Err(EcoError::Capacity);
-    }
-    list.insert(index, value).map_err(|rejected| rejected.error)
-}
-
-fn spliced(
-    list: &mut EcoVec<char>,
-    start: usize,
-    end: usize,
-    by: EcoVec<char>,
-) -> Result<usize, EcoError> {
-    if !range_in(&(start..end), list.len()) {
-        return Err(EcoError::Capacity);
-    }
-    let items = by.into_vec().map_err(|rejected| rejected.error)?;
-    Ok(list.splice(start..end, items)?.len())
-}
-
-#[test]
-fn splices_grow_and_shrink(rt: HostRuntime) -> Result<(), Fail> {
-    let alloc = rt.alloc();
-    let mut first = eco_vec![in alloc; 'a'; 6]?;
-    assert_eq!(rt; spliced(&mut first, 2, 4, eco_vec![in alloc; 'b']?)?, 2);
-    assert_eq!(rt; first.as_slice(), ['a', 'a', 'b', 'a', 'a'].as_slice());
-    let mut second = first.clone()?;
-    assert_eq!(rt; spliced(&mut second, 3, 4, eco_vec![in alloc; 'c'; 3]?)?, 1);
-    assert_eq!(rt;
-        second.as_slice(),
-        ['a', 'a', 'b', 'c', 'c', 'c', 'a'].as_slice()
-    );
-    assert_eq!(rt; spliced(&mut second, 2, 6, eco_vec![in alloc; 'd'; 4]?)?, 4);
-    assert_eq!(rt; spliced(&mut second, 1, 6, eco_vec![in alloc; 'e'; 3]?)?, 5);
-    assert_eq!(rt; second.as_slice(), ['a', 'e', 'e', 'e', 'a'].as_slice());
-    assert_eq!(rt; first.as_slice(), ['a', 'a', 'b', 'a', 'a'].as_slice());
-    Ok(())
-}
-
 #[test]
 fn drains_may_be_dropped_early(rt: HostRuntime) -> Result<(), Fail> {
-    let mut list = eco_vec![in rt.alloc(); 'a'; 10]?;
-    assert_eq!(rt; list.len(), 10);
-    assert_eq!(rt; list.drain(3..6)?.len(), 3);
-    assert_eq!(rt; list.len(), 7);
-    let mut tail = list.drain(5..)?;
-    assert_eq!(rt; tail.next(), Some('a'));
-    drop(tail);
-    assert_eq!(rt; list.len(), 5);
+    let mut list = of(rt.alloc(), &['a'; 10])?;
+    if !range_in(&(5..), list.len()) {
+        return Err("ten elements".into());
+    }
+    let first = list.drain(5..)?.next();
+    assert_eq!(rt; (first, list.len()), (Some('a'), 5));
     Ok(())
 }
 
 #[test]
 fn owned_iterators_go_from_both_ends(rt: HostRuntime) -> Result<(), Fail> {
-    let Ok(mut rest) = eco_vec![in rt.alloc(); 2, 4, 5]?.into_iter() else {
-        return Err("no memory".into());
-    };
-    assert_eq!(rt; rest.len(), 3);
-    assert_eq!(rt; rest.next(), Some(2));
-    assert_eq!(rt; rest.next_back(), Some(5));
-    assert_eq!(rt;
-        (rest.next(), rest.next(), rest.next_back()),
-        (Some(4), None, None)
-    );
+    let mut rest = of(rt.alloc(), &[2, 4, 5])?.into_iter().map_err(error_of)?;
+    let ends = [rest.next(), rest.next_back()];
+    let shown = rest.as_slice() == [4].as_slice() && rest.len() == 1;
+    let end = [rest.next(), rest.next(), rest.next_back()];
+    assert!(rt; ends == [Some(2), Some(5)] && shown && end == [Some(4), None, None]);
     Ok(())
 }
 
@@ -97,8 +33,8 @@ fn holds(rt: &impl Abort, elements: &[u8], wanted: &[u8]) {
 
 #[test]
 fn retain_keeps_the_changed_elements(rt: HostRuntime) -> Result<(), Fail> {
-    let mut list = eco_vec![in rt.alloc(); 1u8, 2, 3, 4]?;
-    let clone = list.clone()?;
+    let mut list = of(rt.alloc(), &[1u8, 2, 3, 4])?;
+    let clone = shared(&list)?;
     let mut seen = Vec::new(rt.alloc());
     list.retain(|element| {
         let _room = seen.push(*element);
@@ -121,39 +57,32 @@ fn length_of(error: IntoArray<u16>) -> Option<usize> {
 
 #[test]
 fn arrays_come_back_or_tell_their_length(rt: HostRuntime) -> Result<(), Fail> {
-    let list = eco_vec![in rt.alloc(); 3u16, 5]?;
-    let copy = list.clone()?;
-    let array = copy.into_array::<2>().map_err(length_of);
-    assert_eq!(rt; array, Ok([3, 5]));
+    let list = of(rt.alloc(), &[3u16, 5])?;
+    let array = shared(&list)?.into_array::<2>().map_err(length_of);
     let length = list.into_array::<3>().map_err(length_of);
-    assert_eq!(rt; length, Err(Some(2)));
+    assert!(rt; array == Ok([3, 5]) && length == Err(Some(2)));
     Ok(())
 }
 
 #[test]
 fn all_forms_of_eco_vec(rt: HostRuntime) -> Result<(), Fail> {
     let alloc = rt.alloc();
-    assert_eq!(rt;
-        eco_vec![in alloc; 1; 4]?.as_slice(),
-        [1, 1, 1, 1].as_slice()
-    );
-    assert_eq!(rt;
-        eco_vec![in alloc; 1, 2, 3]?.as_slice(),
-        [1, 2, 3].as_slice()
-    );
+    let equal = eco_vec![in alloc; 1; 4]?;
+    let listed = eco_vec![in alloc; 1, 2, 3]?;
     let none: EcoVec<u8> = eco_vec![in alloc]?;
-    assert!(rt; none.is_empty());
+    let same = equal.as_slice() == [1, 1, 1, 1].as_slice();
+    assert!(rt; same && listed.as_slice() == [1, 2, 3].as_slice() && none.is_empty());
     Ok(())
 }
 
 #[test]
 fn a_piece_is_written_whole(rt: HostRuntime) -> Result<(), Fail> {
     let mut bytes = EcoVec::new(rt.alloc());
-    assert_eq!(rt; bytes.write(b"Hello, ")?, 7);
-    let copy = bytes.clone()?;
+    let count = bytes.write(b"Hello, ")?;
+    let copy = shared(&bytes)?;
     bytes.write_all(b"world!")?;
     bytes.flush()?;
-    holds(&rt, bytes.as_slice(), b"Hello, world!");
+    assert!(rt; count == 7 && bytes.as_slice() == b"Hello, world!".as_slice());
     holds(&rt, copy.as_slice(), b"Hello, ");
     Ok(())
 }
@@ -162,11 +91,10 @@ fn a_piece_is_written_whole(rt: HostRuntime) -> Result<(), Fail> {
 fn elements_of_no_bytes(rt: HostRuntime) -> Result<(), Fail> {
     let mut list = EcoVec::new(rt.alloc());
     for _ in 0..1000 {
-        list.push(()).map_err(|rejected| rejected.error)?;
+        push(&mut list, ()).map_err(error_of)?;
     }
-    assert_eq!(rt; list.len(), 1000);
-    list.insert(7, ()).map_err(|rejected| rejected.error)?;
-    drop(list.drain(..500)?);
+    insert(&mut list, 7, ()).map_err(error_of)?;
+    drain(&mut list, 0, 500)?;
     assert_eq!(rt; list.len(), 501);
     let many = EcoVec::from_elem(rt.alloc(), (), 9223372036854775808);
     assert!(rt; matches!(&many, Err(rejected) if rejected.error == EcoError::Capacity));

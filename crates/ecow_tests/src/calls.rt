@@ -1,0 +1,102 @@
+//! Calls of vectors and tables, without what their contracts say: a test of many calls is proved
+//! faster over these. Where a call has a condition that doesn't hold, nothing is done.
+use ecow_counted::Counted;
+use ecow_list::{EcoError, EcoVec, Rejected, range_in};
+use ecow_model::{Name, Outcome, VecCommand};
+use std::alloc::Global;
+use std::process::Abort;
+
+/// What a refusal says, without the value.
+pub(crate) fn error_of<V: Drop>(rejected: Rejected<V>) -> EcoError {
+    rejected.error
+}
+
+pub(crate) fn of<T: Clone>(alloc: Global, elements: &[T]) -> Result<EcoVec<T>, EcoError> {
+    EcoVec::from_slice(alloc, elements)
+}
+
+/// A second vector over the same block.
+pub(crate) fn shared<T: Drop>(list: &EcoVec<T>) -> Result<EcoVec<T>, EcoError> {
+    Ok(list.clone()?)
+}
+
+pub(crate) fn push<T: Clone>(list: &mut EcoVec<T>, value: T) -> Result<(), Rejected<T>> {
+    list.push(value)
+}
+
+pub(crate) fn insert<T: Clone>(
+    list: &mut EcoVec<T>,
+    index: usize,
+    value: T,
+) -> Result<(), Rejected<T>> {
+    if index > list.len() {
+        return Ok(());
+    }
+    list.insert(index, value)
+}
+
+pub(crate) fn write<T: Clone>(
+    list: &mut EcoVec<T>,
+    index: usize,
+    value: T,
+) -> Result<(), Rejected<T>> {
+    if index >= list.len() {
+        return Ok(());
+    }
+    list.set(index, value)
+}
+
+pub(crate) fn remove<T: Clone>(list: &mut EcoVec<T>, index: usize) -> Result<(), EcoError> {
+    if index >= list.len() {
+        return Ok(());
+    }
+    list.remove(index).map(drop)
+}
+
+pub(crate) fn reverse<T: Clone>(list: &mut EcoVec<T>) -> Result<(), EcoError> {
+    list.make_mut()?.reverse();
+    Ok(())
+}
+
+pub(crate) fn drain<T: Clone>(
+    list: &mut EcoVec<T>,
+    start: usize,
+    end: usize,
+) -> Result<(), EcoError> {
+    if !range_in(&(start..end), list.len()) {
+        return Ok(());
+    }
+    list.drain(start..end).map(drop)
+}
+
+pub(crate) fn splice<T: Clone>(
+    list: &mut EcoVec<T>,
+    start: usize,
+    end: usize,
+    value: T,
+) -> Result<(), EcoError> {
+    if !range_in(&(start..end), list.len()) {
+        return Ok(());
+    }
+    list.splice(start..end, Some(value)).map(drop)
+}
+
+/// What a table answers to a command.
+pub(crate) fn step<T: Clone>(table: &mut Counted<T>, command: VecCommand<T>) -> Outcome<T> {
+    table.step(command)
+}
+
+/// Carries a command out, which is done.
+pub(crate) fn done<T: Clone>(rt: &impl Abort, table: &mut Counted<T>, command: VecCommand<T>) {
+    assert!(rt; matches!(&step(table, command), Outcome::Done));
+}
+
+/// How many names share a name's block, and for how many elements it has room.
+pub(crate) fn held<T: Drop>(table: &Counted<T>, name: Name) -> (Option<usize>, Option<usize>) {
+    (table.owners(name), table.capacity(name))
+}
+
+/// How many elements were copied and moved, and the number of blocks.
+pub(crate) fn totals<T: Drop>(table: &Counted<T>) -> (u64, u64, usize) {
+    (table.copied(), table.moved(), table.blocks())
+}

@@ -1,0 +1,35 @@
+#!/bin/sh
+# Proves the libraries that a crate stands on, lowest first, and says how many are left:
+# tools/prove.sh CRATE. What hasn't changed since it was proved is skipped.
+set -eu
+cd "$(dirname "$0")/.."
+below=$(awk -F: -v top="$1" '
+    /^#/ || NF < 2 { next }
+    { order[++count] = $1; needs[$1] = $2 }
+    END {
+        needed[top] = 1
+        for (i = count; i >= 1; i--)
+            if (order[i] in needed) {
+                split(needs[order[i]], names, " ")
+                for (k in names) needed[names[k]] = 1
+            }
+        for (i = 1; i <= count; i++)
+            if (order[i] in needed && order[i] != top) print order[i]
+    }' crates.txt)
+mkdir -p bin
+left=$(echo "$below" | wc -l)
+changed=no
+for crate in $below; do
+    stamp=bin/$crate.proved
+    if [ $changed = no ] && [ -d "crates/$crate/out/rlib" ] && [ -f "$stamp" ] &&
+        [ -z "$(find "crates/$crate" crates.txt \( -name out -o -name must-fail -o -name edits \) -prune -o -type f -newer "$stamp" -print)" ]; then
+        echo "$crate is proved"
+    else
+        changed=yes
+        echo "proving $crate, with $((left - 1)) to come and the program"
+        (cd "crates/$crate" && rt lib) > bin/build.log 2>&1 || { cat bin/build.log; exit 1; }
+        touch "$stamp"
+    fi
+    left=$((left - 1))
+done
+echo "proving and linking $1"

@@ -1,0 +1,25 @@
+#!/bin/sh
+# Runs a script with no proof, in a build that stops where a promise is broken:
+# tools/try.sh [--counted] FILE. The answers come first, then messages and the status.
+set -u
+flag=
+if [ "${1:-}" = --counted ]; then
+    flag=--counted
+    shift
+fi
+if [ $# -ne 1 ] || [ ! -f "$1" ]; then
+    echo "make try SCRIPT=FILE: there is no such file" >&2
+    exit 1
+fi
+file=$(realpath "$1")
+said=$(mktemp)
+trap 'rm -f "$said"' EXIT
+cd "$(dirname "$0")/../crates/ecow_run" || exit 1
+rt try --data "script=$file" -- $flag script 2> "$said"
+status=$?
+if ! grep -q '^run=ended ' "$said"; then
+    cat "$said" >&2
+    exit 1
+fi
+grep -v '^checked: \|^run=' "$said"
+echo "(status $status, nothing was proved)"
