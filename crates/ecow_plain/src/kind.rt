@@ -79,37 +79,21 @@ impl<T: Clone> Kind<T, Stored<T>> for ListKind {
             return Outcome::Refused(refusal);
         }
         match edit {
-            ListEdit::Push(value) => done(list.push(value)),
-            ListEdit::Pop => Outcome::Popped(list.pop()),
-            ListEdit::Insert(index, value) => done(list.insert(index, value)),
-            ListEdit::Remove(index) => Outcome::Element(list.remove(index)),
-            ListEdit::Truncate(target) => {
-                list.truncate(target);
-                Outcome::Done
-            }
-            ListEdit::Clear => {
-                list.truncate(0);
-                Outcome::Done
-            }
-            ListEdit::Retain(marks) => {
-                list.retain_marked(marks.as_slice());
-                Outcome::Done
-            }
-            ListEdit::Drain(bounds) => drain(alloc, list, bounds),
-            ListEdit::Splice(bounds, items) => splice(list, bounds, items),
-            ListEdit::Extend(items) => {
-                if items.len() == 0 {
-                    return Outcome::Done;
-                }
-                done(list.append(PlainList::from_items(items)))
-            }
+            ListEdit::Push(value) => return done(list.push(value)),
+            ListEdit::Pop => return Outcome::Popped(list.pop()),
+            ListEdit::Insert(index, value) => return done(list.insert(index, value)),
+            ListEdit::Remove(index) => return Outcome::Element(list.remove(index)),
+            ListEdit::Drain(bounds) => return drain(alloc, list, bounds),
+            ListEdit::Splice(bounds, items) => return splice(list, bounds, items),
+            ListEdit::Extend(items) => return extend(list, items),
+            ListEdit::Truncate(target) => list.truncate(target),
+            ListEdit::Clear => list.truncate(0),
+            ListEdit::Retain(marks) => list.retain_marked(marks.as_slice()),
+            ListEdit::Write(index, value) => list.set(index, value),
             // A plain list has no room of its own.
-            ListEdit::Reserve(_) => Outcome::Done,
-            ListEdit::Write(index, value) => {
-                list.set(index, value);
-                Outcome::Done
-            }
+            ListEdit::Reserve(_) => {}
         }
+        Outcome::Done
     }
 
     fn ask(alloc: Global, list: &mut PlainList<T>, question: ListAsk) -> Outcome<T> {
@@ -155,6 +139,20 @@ fn done<T: Drop>(change: Result<(), AllocError>) -> Outcome<T>
         Ok(()) => Outcome::Done,
         Err(_) => Outcome::Refused(Refusal::Memory),
     }
+}
+
+/// Appends items to a list. Nothing is asked for none.
+#[tactic(auto, using(ecow_model::proofs::Lengths::edits))]
+fn extend<T: Drop>(list: &mut PlainList<T>, items: Items<T>) -> Outcome<T>
+    requires { verdict (list_edited (ListEdit.Extend items) list.old) ≡ Ok tt }
+    ensures step { IsEdit list_rules (ListEdit.Extend items) list.old result list.new }
+    ensures verdict { IsEditVerdict list_rules (ListEdit.Extend items) list.old result }
+    ensures refused { OnRefused result (list.new ≡ list.old) }
+{
+    if items.len() == 0 {
+        return Outcome::Done;
+    }
+    done(list.append(PlainList::from_items(items)))
 }
 
 /// Takes the elements within bounds out of a list.
