@@ -131,9 +131,13 @@ module _ {X : Type 0} (places : Places) (table : Slab (Entry X)) (is : IsTable p
         pub own_table : IsTable after left
         own_table = placed_table places after table left is x (Some (Some p)) (λ q. ap (λ m. finite.get m q) written ∙ get-insert_nat places x (Some p) q) no_place p entry refl vacant here others len one fits small backed
 
+    -- a name that is seen has a place
+    pub has_place : IsSome (finite.get names x) → IsSome (finite.get places x)
+    has_place some = some_place places table x (ap (λ n. is_some (finite.get n x)) shown ∙ some)
+
     pub bare_taken : entry_in table (finite.get places x) ≡ None → IsSome (finite.get names x) → (names ≡ settle x [] 0 names) × (None ≡ sole_block (finite.get names x))
     bare_taken none some =
-        let bare : finite.get names x ≡ Some nothing = held_bare none (some_place places table x (ap (λ n. is_some (finite.get n x)) shown ∙ some)) in
+        let bare : finite.get names x ≡ Some nothing = held_bare none (has_place some) in
         (sym (settle_bare names x shared_names_are bare), sym (ap sole_block bare))
 
     -- a name leaves its group

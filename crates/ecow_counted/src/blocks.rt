@@ -170,11 +170,10 @@ impl<T> Blocks<T> {
         ensures sharing { IsSharing self.new.names }
     {
         match place_of(&self.places, name) {
-            Some(Some(place)) => {
+            Some(place) => {
                 set_place(&mut self.places, name, None);
                 drop_owner(&mut self.table, place)
             }
-            Some(None) => None,
             None => None,
         }
     }
@@ -188,9 +187,7 @@ impl<T> Blocks<T> {
         ensures err { OnErr result (self.new.names ≡ self.old.names) }
         ensures sharing { IsSharing self.new.names }
     {
-        let Some(place) = place_of(&self.places, from) else {
-            return Err(AllocError);
-        };
+        let place = place_of(&self.places, from);
         // For the proof: an owner more fits its word.
         let _fits = self.places.len();
         self.places.insert(to, place)?;
@@ -244,14 +241,12 @@ impl<T: Drop> Blocks<T> {
     }
 }
 
-/// The place of a name, if it is there.
-fn place_of(places: &Table<Option<usize>>, name: Name) -> Option<Option<usize>>
-    ensures { result ≡ finite.get places.now name }
+/// The place of a name that is there, if it has one.
+fn place_of(places: &Table<Option<usize>>, name: Name) -> Option<usize>
+    requires { IsSome (finite.get places.now name) }
+    ensures { finite.get places.now name ≡ Some result }
 {
-    match places.get(name) {
-        Some(place) => Some(*place),
-        None => None,
-    }
+    *places.get(name).unwrap()
 }
 
 /// Gives a name that is there another place.
@@ -272,8 +267,8 @@ fn entry_of<'a, T>(
 ) -> Option<&'a Entry<T>>
     ensures { option_copied result ≡ entry_in table.now (finite.get places.now name) }
 {
-    match place_of(places, name) {
-        Some(Some(place)) => table.get(place),
+    match places.get(name) {
+        Some(Some(place)) => table.get(*place),
         _ => None,
     }
 }

@@ -2,32 +2,32 @@ use Rattle.std.proofs.Common.{ap, sym, ◌∙◌, Some, subst, ◌<◌, ◌^◌,
 use Rattle.std.specs.FinMap as finite
 use Rattle.ecow_counted.proofs.Updates.{owners_fit, joined_names, joined_table, bare_joined_names, bare_joined_table}
 use Rattle.ecow_counted.proofs.Placing.{sharing-table}
-use Rattle.ecow_counted.proofs.Updates.{shared_names_are}
+use Rattle.ecow_counted.proofs.Updates.{has_place}
 use Rattle.ecow_counted.proofs.blocks.Blocks.share.Goals as goal
 
 pub add_owner-requires-clause-room : goal.add_owner-requires-clause-room
-add_owner-requires-clause-room g c = λ entry at. owners_fit c.self.inside.places c.self.inside.table c.self.invariant c.args.self.now.names (ap (λ s. s.names) c.self.view_is) c.in-Some-place.place entry at (let P : ℕ → Type 0 = λ n. n < 2 ^ 63 in subst P c.len-fits.ensures.len c.len-fits.ensures.small)
+add_owner-requires-clause-room g c = λ entry at. owners_fit c.self.inside.places c.self.inside.table c.self.invariant c.args.self.now.names (ap (λ s. s.names) c.self.view_is) c.in-Some.place entry at (let P : ℕ → Type 0 = λ n. n < 2 ^ 63 in subst P c.len-fits.ensures.len c.len-fits.ensures.small)
 
-pub invariant_of-self-in-Some-place : goal.invariant_of-self-in-Some-place
-invariant_of-self-in-Some-place g c = joined_table c.self.inside.places c.self.inside.table c.self.invariant c.args.self.now.names (ap (λ s. s.names) c.self.view_is) c.args.from c.args.to c.requires.free c.insert.new.self c.add_owner.new.table c.in-Some-place.place (sym c.place_of.ensures ∙ c.in-Some.is ∙ ap Some c.in-Some-place.is) (c.in_ok-insert.ensures.ok ∙ ap (finite.insert c.self.inside.places c.args.to) c.in-Some-place.is) c.add_owner.ensures.counted c.add_owner.ensures.others c.add_owner.ensures.len
+pub invariant_of-self-in-Some : goal.invariant_of-self-in-Some
+invariant_of-self-in-Some g c = joined_table c.self.inside.places c.self.inside.table c.self.invariant c.args.self.now.names (ap (λ s. s.names) c.self.view_is) c.args.from c.args.to c.requires.free c.insert.new.self c.add_owner.new.table c.in-Some.place (c.place_of-place.ensures ∙ ap Some c.in-Some.is) (c.in_ok-insert.ensures.ok ∙ ap (finite.insert c.self.inside.places c.args.to) c.in-Some.is) c.add_owner.ensures.counted c.add_owner.ensures.others c.add_owner.ensures.len
 
-pub invariant_of-self-in_default-place : goal.invariant_of-self-in_default-place
-invariant_of-self-in_default-place g c = bare_joined_table c.self.inside.places c.self.inside.table c.self.invariant c.args.self.now.names (ap (λ s. s.names) c.self.view_is) c.args.from c.args.to c.requires.free c.insert.new.self (sym c.place_of.ensures ∙ c.in-Some.is ∙ ap Some c.in_default-place.is) (c.in_ok-insert.ensures.ok ∙ ap (finite.insert c.self.inside.places c.args.to) c.in_default-place.is)
+pub invariant_of-self-in_default : goal.invariant_of-self-in_default
+invariant_of-self-in_default g c = bare_joined_table c.self.inside.places c.self.inside.table c.self.invariant c.args.self.now.names (ap (λ s. s.names) c.self.view_is) c.args.from c.args.to c.requires.free c.insert.new.self (c.place_of-place.ensures ∙ ap Some c.in_default.is) (c.in_ok-insert.ensures.ok ∙ ap (finite.insert c.self.inside.places c.args.to) c.in_default.is)
 
-pub returns-in-Some-place-clause-ok : goal.returns-in-Some-place-clause-ok
-returns-in-Some-place-clause-ok g c = joined_names c.self.inside.places c.self.inside.table c.self.invariant c.args.self.now.names (ap (λ s. s.names) c.self.view_is) c.args.from c.args.to c.requires.free c.insert.new.self c.add_owner.new.table c.in-Some-place.place (sym c.place_of.ensures ∙ c.in-Some.is ∙ ap Some c.in-Some-place.is) (c.in_ok-insert.ensures.ok ∙ ap (finite.insert c.self.inside.places c.args.to) c.in-Some-place.is) c.add_owner.ensures.counted c.add_owner.ensures.others c.add_owner.ensures.len
+pub returns-in-Some-clause-ok : goal.returns-in-Some-clause-ok
+returns-in-Some-clause-ok g c = joined_names c.self.inside.places c.self.inside.table c.self.invariant c.args.self.now.names (ap (λ s. s.names) c.self.view_is) c.args.from c.args.to c.requires.free c.insert.new.self c.add_owner.new.table c.in-Some.place (c.place_of-place.ensures ∙ ap Some c.in-Some.is) (c.in_ok-insert.ensures.ok ∙ ap (finite.insert c.self.inside.places c.args.to) c.in-Some.is) c.add_owner.ensures.counted c.add_owner.ensures.others c.add_owner.ensures.len
 
-pub returns-in_default-place-clause-ok : goal.returns-in_default-place-clause-ok
-returns-in_default-place-clause-ok g c = bare_joined_names c.self.inside.places c.self.inside.table c.self.invariant c.args.self.now.names (ap (λ s. s.names) c.self.view_is) c.args.from c.args.to c.requires.free c.insert.new.self (sym c.place_of.ensures ∙ c.in-Some.is ∙ ap Some c.in_default-place.is) (c.in_ok-insert.ensures.ok ∙ ap (finite.insert c.self.inside.places c.args.to) c.in_default-place.is)
-
-pub returns-in_default-clause-sharing : goal.returns-in_default-clause-sharing
-returns-in_default-clause-sharing g c = shared_names_are c.self.inside.places c.self.inside.table c.self.invariant c.args.self.now.names (ap (λ s. s.names) c.self.view_is)
+pub returns-in_default-clause-ok : goal.returns-in_default-clause-ok
+returns-in_default-clause-ok g c = bare_joined_names c.self.inside.places c.self.inside.table c.self.invariant c.args.self.now.names (ap (λ s. s.names) c.self.view_is) c.args.from c.args.to c.requires.free c.insert.new.self (c.place_of-place.ensures ∙ ap Some c.in_default.is) (c.in_ok-insert.ensures.ok ∙ ap (finite.insert c.self.inside.places c.args.to) c.in_default.is)
 
 pub returns-in_err-insert-clause-sharing : goal.returns-in_err-insert-clause-sharing
 returns-in_err-insert-clause-sharing g c = rw c.in_err-insert.ensures.err (sharing-table c.self.inside.places c.self.inside.table c.self.invariant)
 
-pub returns-in-Some-place-clause-sharing : goal.returns-in-Some-place-clause-sharing
-returns-in-Some-place-clause-sharing g c = sharing-table c.insert.new.self c.add_owner.new.table (invariant_of-self-in-Some-place g c)
+pub returns-in-Some-clause-sharing : goal.returns-in-Some-clause-sharing
+returns-in-Some-clause-sharing g c = sharing-table c.insert.new.self c.add_owner.new.table (invariant_of-self-in-Some g c)
 
-pub returns-in_default-place-clause-sharing : goal.returns-in_default-place-clause-sharing
-returns-in_default-place-clause-sharing g c = sharing-table c.insert.new.self c.self.inside.table (invariant_of-self-in_default-place g c)
+pub returns-in_default-clause-sharing : goal.returns-in_default-clause-sharing
+returns-in_default-clause-sharing g c = sharing-table c.insert.new.self c.self.inside.table (invariant_of-self-in_default g c)
+
+pub place_of-place-requires : goal.place_of-place-requires
+place_of-place-requires g c = has_place c.self.inside.places c.self.inside.table c.self.invariant c.args.self.now.names (ap (λ s. s.names) c.self.view_is) c.args.from c.requires.there
