@@ -71,7 +71,7 @@ enum Call {
 }
 
 impl Call {
-    /// Makes the call on a vector of 1, 2 and 3. The values are 9, or 8 and 9.
+    /// Makes the call on a vector of 1, 2 and 3, to which some calls bring a value.
     fn make(self, list: &mut EcoVec<Refusing>, value: Refusing) -> Result<(), EcoError> {
         match self {
             Call::Push => returned(push(list, value)),
