@@ -71,7 +71,7 @@ enum Call {
 }
 
 impl Call {
-    /// Makes the call on a vector of 1, 2 and 3. The values are 9, or 8 and 9.
+    /// Makes the call on a vector of 1, 2 and 3, to which some calls bring a value.
     fn make(self, list: &mut EcoVec<Refusing>, value: Refusing) -> Result<(), EcoError> {
         match self {
             Call::Push => returned(push(list, value)),
@@ -164,14 +164,14 @@ fn a_slice_goes_in_whole_or_not_at_all(rt: HostRuntime) -> Result<(), Fail> {
     Ok(())
 }
 
-/// Whether the closure of a refused `retain` is given no element.
-fn retain_asks_nothing(list: &mut EcoVec<Refusing>) -> bool {
-    let mut asked = false;
-    let refused = list.retain(|_| {
-        asked = true;
-        false
+/// Whether a `retain` is done, and how many elements its closure was given.
+fn asked_by_retain(list: &mut EcoVec<Refusing>) -> (bool, u64) {
+    let mut asked = 0u64;
+    let outcome = list.retain(|_| {
+        asked = asked.wrapping_add(1);
+        true
     });
-    refused.is_err() && !asked
+    (outcome.is_ok(), asked)
 }
 
 #[test]
@@ -181,9 +181,14 @@ fn a_refused_retain_asks_nothing(rt: HostRuntime) -> Result<(), Fail> {
         let left = Rc::new(rt.alloc(), Cell::new(0))?;
         let mut list = list_of(rt.alloc(), &values[..len], &left)?;
         let clone = shared(&list)?;
-        for clones in 0..len as u64 {
+        for clones in 0..=len as u64 {
             left.set(clones);
-            assert!(rt; retain_asks_nothing(&mut list), "{clones} of {len}");
+            let wanted = if clones < len as u64 {
+                (false, 0)
+            } else {
+                (true, clones)
+            };
+            assert_eq!(rt; asked_by_retain(&mut list), wanted, "{clones} of {len}");
             assert!(rt; holds(&list, &values[..len]) && holds(&clone, &values[..len]));
         }
     }
