@@ -20,7 +20,7 @@ use Rattle.ecow_model.specs.declared.command.Refusal.TheVariants.{NoName, Memory
 use Rattle.ecow_counted.specs.declared.blocks.Size.{Size}
 use Rattle.ecow_counted.specs.declared.commands.Carried.{Carried}
 use Rattle.ecow_counted.specs.Sizes.{size_of}
-use Rattle.ecow_counted.specs.Edits.{asked_length, staying, unchanged}
+use Rattle.ecow_counted.specs.Edits.{staying, unchanged}
 use Rattle.ecow_counted.specs.Carrying.{IsCarried, still}
 use Rattle.ecow_counted.proofs.Editing.{accepts, refuses, asks_within, enough, moves_are, stays_as}
 

@@ -1,8 +1,7 @@
 -- What a change takes is what its command costs.
-use Rattle.std.proofs.Common.{zero, suc, ◌≡◌, ℕ, ◌+◌, ◌-◌, ◌^◌, ◌<◌, ◌≤◌, Bool, true, false, cond, not, ◌&&◌, ◌||◌, eqb, ltb, List, [], ◌∷◌, ◌++◌, length, take, Option, Some, None, Result, Ok, Err, refl, sym, ◌∙◌, ap, arith}
-use Rattle.std.specs.Prelude.{nat_lt, nat_le, ◌==◌, slice_get}
-use Rattle.std.specs.List.{splice}
-use Rattle.std.proofs.lemmas.Bool.{true≢false, ltb-true, ltb-false, le-ltb, leb-true, leb-false, le-leb, lt-leb, lt-ltb, eqb-true, ne_eqb}
+use Rattle.std.proofs.Common.{zero, suc, ◌≡◌, ℕ, ◌+◌, ◌-◌, ◌^◌, ◌<◌, ◌≤◌, Bool, true, false, cond, not, ◌&&◌, ◌||◌, eqb, ltb, List, [], ◌∷◌, ◌++◌, length, take, Ok, Err, refl, sym, ◌∙◌, ap, arith}
+use Rattle.std.specs.Prelude.{nat_lt, nat_le, slice_get}
+use Rattle.std.proofs.lemmas.Bool.{true≢false, ltb-true, ltb-false, leb-false, le-leb, lt-leb, eqb-true, ne_eqb}
 use Rattle.std.proofs.Math.Seq.{take-length}
 use Rattle.std.proofs.lemmas.List.{nil_from_length}
 use Rattle.ecow_base.specs.Capacity.{MAX, fresh, grown, room}
@@ -18,7 +17,7 @@ use Rattle.ecow_model.specs.declared.command.Outcome.TheVariants.{Done, Popped}
 use Rattle.ecow_model.specs.declared.command.Refusal.{Refusal}
 use Rattle.ecow_model.specs.declared.command.Refusal.TheVariants.{Capacity as TooMuch}
 use Rattle.ecow_laws.proofs.Lengths.{is_answer}
-use Rattle.ecow_counted.specs.Edits.{staying, length_after, asked_length, taken_out, spare_room, takes_spare, unchanged}
+use Rattle.ecow_counted.specs.Edits.{staying, asked_length, taken_out, spare_room, takes_spare, unchanged}
 
 take_twice : {X : Type 0} (n : ℕ) (xs : List X) → take n (take n xs) ≡ take n xs
 take_twice zero xs = refl

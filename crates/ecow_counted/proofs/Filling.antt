@@ -8,7 +8,7 @@ use Rattle.ecow_base.specs.Capacity.{MAX}
 use Rattle.ecow_model.specs.Refusing.{◌>>=◌, OnRefused, allowed}
 use Rattle.ecow_model.specs.Values.{unused}
 use Rattle.ecow_model.specs.Uses.{Gives, IsVerdict}
-use Rattle.ecow_model.specs.Lists.{ListUsage, list_made, grows, vec_usage}
+use Rattle.ecow_model.specs.Lists.{ListUsage, grows, vec_usage}
 use Rattle.ecow_model.specs.Costs.{capacity_after, moves, moved_by}
 use Rattle.ecow_model.specs.CountedRun.{nothing, held_at, change, counted_used, counted_is_free, CountedStep, CountedVerdict, CountedRun, saturating, if_accepted, copied_in, moved_in, sum_in_run}
 use Rattle.ecow_model.specs.Names.{Names, Held, IsSharing, is_shared, settle, strain_at}

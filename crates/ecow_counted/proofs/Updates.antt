@@ -8,7 +8,7 @@ use Rattle.std.proofs.lemmas.Bool.{ne_eqb, eq-eqb, true≢false, lt-ltb, cases_e
 use Rattle.std.proofs.lemmas.Option.{none-some}
 use Rattle.slab.specs.Slab.{Slab, get, slab_len, HasRoomFor}
 use Rattle.ecow_base.specs.Capacity.{MAX}
-use Rattle.ecow_block.specs.Contents.{Contents, contents}
+use Rattle.ecow_block.specs.Contents.{Contents}
 use Rattle.ecow_model.specs.CountedRun.{nothing, held_at}
 use Rattle.ecow_model.specs.Names.{Names, Held, IsSharing, forget, settle, join, blocks, one_block}
 use Rattle.ecow_laws.proofs.Totals.{same_nat, total-empty, get-insert_nat, get-remove_nat}

@@ -130,11 +130,7 @@ fn append<T: Drop>(block: &mut Block<T>, other: Block<T>)
 }
 
 /// Makes a change in a block with room for it.
-pub(crate) fn apply<T: Drop>(
-    block: &mut Block<T>,
-    edit: ListEdit<T>,
-    spare: Spare<T>,
-) -> Outcome<T>
+pub(crate) fn apply<T: Drop>(block: &mut Block<T>, edit: ListEdit<T>, spare: Spare<T>) -> Outcome<T>
     requires asked { verdict (list_edited edit block.old.items) ≡ Ok tt }
     requires room { length_after edit (length block.old.items) ≤ block.old.capacity }
     requires brought { length spare.block.items ≡ length (brought edit) }

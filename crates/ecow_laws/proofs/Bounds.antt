@@ -12,7 +12,7 @@ use Rattle.ecow_model.specs.Values.{there, unused}
 use Rattle.ecow_model.specs.Uses.{Gives}
 use Rattle.ecow_model.specs.Lists.{ListUsage, list_made, list_edited, list_asked, vec_usage}
 use Rattle.ecow_model.specs.Costs.{capacity_made, unshares, copies, capacity_after, moves, input_made, input_edited, copied_by, moved_by}
-use Rattle.ecow_model.specs.CountedRun.{nothing, held_at, reading_of, change, counted_used, counted_is_free, IsCountedUse, CountedStep, CountedRun, if_accepted, names_given, names_after, copied_in, moved_in, eager_in, input_in, copied_in_run, moved_in_run, eager_in_run, input_in_run, CopiesAtMostEagerly, MovesArePaid}
+use Rattle.ecow_model.specs.CountedRun.{nothing, held_at, reading_of, change, counted_used, counted_is_free, IsCountedUse, CountedRun, if_accepted, names_given, names_after, copied_in, moved_in, eager_in, input_in, copied_in_run, moved_in_run, eager_in_run, input_in_run, CopiesAtMostEagerly, MovesArePaid}
 use Rattle.ecow_model.specs.Names.{Names, Held, IsSharing, is_shared, forget, settle, join, debt, debt_of, strain, strain_of, strain_at}
 use Rattle.ecow_model.specs.declared.usage.Usage.TheVariants.{Make, Derive, Drop, Change as Edit, Ask}
 use Rattle.ecow_model.specs.declared.lists.ListMake.{ListMake}

@@ -1,5 +1,5 @@
 -- What an accepted command makes of the length of its list.
-use Rattle.std.proofs.Common.{◌≡◌, ℕ, ◌+◌, ◌-◌, ◌*◌, ◌^◌, ◌<◌, ◌≤◌, Bool, true, false, List, [], ◌∷◌, ◌++◌, length, take, drop, Option, Some, None, Result, Ok, Err, refl, sym, ◌∙◌, ap, subst, arith, length-append, length-drop, ⊎_elim, get_or}
+use Rattle.std.proofs.Common.{◌≡◌, ℕ, ◌+◌, ◌-◌, ◌^◌, ◌<◌, ◌≤◌, Bool, true, false, List, [], ◌∷◌, ◌++◌, length, take, drop, Option, Some, None, Result, Ok, Err, refl, sym, ◌∙◌, ap, subst, arith, length-append, length-drop, ⊎_elim, get_or}
 use Rattle.std.specs.Prelude.{nat_lt, nat_le, ◌==◌, slice_get, slice_set, slice_range, replicate}
 use Rattle.std.specs.List.{insert as insert_at, remove as remove_at, remove_range, splice, items_where_true}
 use Rattle.std.specs.Option.{option_map_or}
@@ -19,7 +19,7 @@ use Rattle.ecow_model.specs.declared.lists.ListEdit.TheVariants.{Push, Pop, Inse
 use Rattle.ecow_model.specs.declared.lists.ListAsk.{ListAsk}
 use Rattle.ecow_model.specs.declared.lists.ListAsk.TheVariants.{Read, Len, Contents, Capacity, Unique}
 use Rattle.ecow_model.specs.declared.command.Outcome.{Outcome}
-use Rattle.ecow_model.specs.declared.command.Outcome.TheVariants.{Done, Popped, Elements, Element, Count, Flag}
+use Rattle.ecow_model.specs.declared.command.Outcome.TheVariants.{Done, Popped, Elements, Element}
 use Rattle.ecow_model.specs.declared.command.Refusal.{Refusal}
 use Rattle.ecow_model.specs.declared.command.Refusal.TheVariants.{Capacity as TooMuch, Index, Range, Marks}
 use Rattle.ecow_model.proofs.Lengths.{length-inserted, length-spliced}

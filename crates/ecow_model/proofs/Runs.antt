@@ -1,5 +1,5 @@
 -- A run of commands in order, as far as it has come.
-use Rattle.std.proofs.Common.{List, [], ◌∷◌, ◌++◌, ◌≡◌, refl, append_assoc, append-nil, subst}
+use Rattle.std.proofs.Common.{List, [], ◌∷◌, ◌++◌, refl, append_assoc, append-nil, subst}
 use Rattle.ecow_model.specs.Run.{RunBy}
 use Rattle.ecow_model.specs.declared.command.Outcome.{Outcome}
 

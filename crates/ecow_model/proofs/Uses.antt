@@ -1,13 +1,13 @@
 -- What is done to a value that stands under a name is done to the named values, whatever kind it is.
 use Rattle.std.proofs.Common.{◌≡◌, ℕ, Bool, Result, Ok, Err, refl, ap, ◌∙◌, inl, inr}
-use Rattle.std.specs.FinMap.{get, insert, remove}
+use Rattle.std.specs.FinMap.{get, insert}
 use Rattle.ecow_model.specs.Refusing.{◌>>=◌, OnRefused, Change}
 use Rattle.ecow_model.specs.Values.{Named, there}
 use Rattle.ecow_model.specs.Uses.{Rules, Keeps, Gives, IsVerdict, value_at, reading_in, IsEdit, IsEditVerdict, IsAnswer, IsAnswerVerdict, IsUse, IsUseVerdict}
 use Rattle.ecow_model.specs.Lists.{list_rules}
 use Rattle.ecow_model.specs.declared.usage.Usage.TheVariants as use_to
 use Rattle.ecow_model.specs.declared.command.Outcome.{Outcome}
-use Rattle.ecow_model.specs.declared.command.Outcome.TheVariants.{Done, Refused}
+use Rattle.ecow_model.specs.declared.command.Outcome.TheVariants.{Refused}
 use Rattle.ecow_model.specs.declared.command.Refusal.{Refusal}
 use Rattle.ecow_model.specs.declared.value.Value.TheVariants.{List as Listed, Bytes as Buffered, Text as Written}
 use Rattle.ecow_model.proofs.PutBack.{insert_same, found_value}

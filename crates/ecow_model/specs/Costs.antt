@@ -7,7 +7,7 @@ use Rattle.ecow_model.specs.Names.{Held, is_shared}
 use Rattle.ecow_model.specs.declared.lists.ListMake.{ListMake}
 use Rattle.ecow_model.specs.declared.lists.ListMake.TheVariants.{New, WithCapacity, FromList, FromElem}
 use Rattle.ecow_model.specs.declared.lists.ListEdit.{ListEdit}
-use Rattle.ecow_model.specs.declared.lists.ListEdit.TheVariants.{Push, Pop, Insert, Remove, Truncate, Clear, Retain, Drain, Splice, Extend, Reserve, Write}
+use Rattle.ecow_model.specs.declared.lists.ListEdit.TheVariants.{Push, Pop, Insert, Remove, Truncate, Clear, Retain, Splice, Extend, Reserve, Write}
 
 module _ {T : Type 0} where
   -- the capacity of a list that is made

@@ -1,5 +1,5 @@
 -- What commands do to named values, by their parts: a table of rules for each kind of value, and once for all kinds the names.
-use Rattle.std.specs.Prelude.{◌≡◌, ℕ, ◌⊎◌, Bool, true, false, Option, Some, None, Result, Ok, Err, MatchResult, IfErr}
+use Rattle.std.specs.Prelude.{◌≡◌, ℕ, ◌⊎◌, Bool, true, false, Some, None, Result, Ok, Err, MatchResult, IfErr}
 use Rattle.std.specs.FinMap.{insert, remove}
 use Rattle.ecow_model.specs.Refusing.{◌>>=◌, Change, IfRefused}
 use Rattle.ecow_model.specs.Values.{Named, there, unused}

@@ -224,7 +224,10 @@ impl TextCommand {
             TextCommand::Remove { name, index } => change(name, TextEdit::Remove(index)),
             TextCommand::Truncate { name, target } => change(name, TextEdit::Truncate(target)),
             TextCommand::Clear { name } => change(name, TextEdit::Clear),
-            TextCommand::Reserve { name, additional } => change(name, TextEdit::Reserve(additional)),
+            TextCommand::Reserve { name, additional } => change(
+                name,
+                TextEdit::Reserve(additional),
+            ),
             TextCommand::Replace {
                 from,
                 to,

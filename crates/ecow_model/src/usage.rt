@@ -30,10 +30,7 @@ pub enum Made<V> {
     Tried(Option<V>),
 }
 
-pub(crate) fn make<Make, Derive, Edit, Ask>(
-    name: Name,
-    how: Make,
-) -> Usage<Make, Derive, Edit, Ask>
+pub(crate) fn make<Make, Derive, Edit, Ask>(name: Name, how: Make) -> Usage<Make, Derive, Edit, Ask>
     ensures { result ≡ Usage.Make name how }
 {
     Usage::Make { name, how }

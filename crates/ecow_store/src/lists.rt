@@ -82,11 +82,7 @@ impl<T: Clone> Kind<T, Stored<T>> for ListKind {
         }
     }
 
-    fn derive(
-        _alloc: Global,
-        how: ListDerive,
-        source: &Stored<T>,
-    ) -> Result<EcoVec<T>, Refusal> {
+    fn derive(_alloc: Global, how: ListDerive, source: &Stored<T>) -> Result<EcoVec<T>, Refusal> {
         match (how, source) {
             (ListDerive::Clone, Value::List(list)) => {
                 let copy: Result<EcoVec<T>, AllocError> = list.clone();

@@ -10,7 +10,6 @@ use Rattle.ecow_model.specs.Costs.{capacity_made, unshares, capacity_after, copi
 use Rattle.ecow_model.specs.CountedRun.{reading_of, nothing, change, counted_used, copied_in, moved_in, eager_in, input_in}
 use Rattle.ecow_model.specs.Names.{Names, Held, is_shared, leave, enter, forget, settle, join, debt_of, strain_of}
 use Rattle.ecow_model.specs.declared.usage.Usage.TheVariants.{Make, Derive, Drop, Change as Edit, Ask}
-use Rattle.ecow_model.specs.declared.lists.ListMake.{ListMake}
 use Rattle.ecow_model.specs.declared.lists.ListEdit.{ListEdit}
 use Rattle.ecow_model.specs.declared.lists.ListAsk.{ListAsk}
 use Rattle.ecow_model.specs.declared.lists.VecCommand.{VecCommand}

@@ -1,7 +1,6 @@
 use Rattle.std.proofs.Common.{ap}
 use Rattle.ecow_counted.proofs.Updates.{begun_names, begun_table}
 use Rattle.ecow_counted.proofs.Placing.{sharing-table}
-use Rattle.ecow_counted.proofs.Updates.{shared_names_are}
 use Rattle.ecow_counted.proofs.blocks.Blocks.begin.Goals as goal
 
 pub invariant_of-self-2 : goal.invariant_of-self-2

@@ -1,14 +1,11 @@
-use Rattle.std.proofs.Common.{◌≡◌, ℕ, ◌≤◌, true, cond, length, take, List, Ok, sym, ap, ◌∙◌, subst, arith, ⊎_elim}
+use Rattle.std.proofs.Common.{◌≡◌, ◌≤◌, true, cond, length, take, sym, ap, ◌∙◌, subst, arith, ⊎_elim}
 use Rattle.std.specs.Prelude.{nat_lt, nat_le, vec_capacity}
-use Rattle.std.specs.FinMap as finite
-use Rattle.std.proofs.lemmas.Bool.{true≢false, le-ltb, lt-ltb, cases_Bool}
+use Rattle.std.proofs.lemmas.Bool.{true≢false, le-ltb, cases_Bool}
 use Rattle.ecow_base.specs.Capacity.{MAX}
 use Rattle.ecow_base.specs.Clones.{ClonesAreEqual}
 use Rattle.ecow_model.specs.Costs.{unshares, copies, capacity_after, held_is_free}
 use Rattle.ecow_model.specs.CountedRun.{held_at}
-use Rattle.ecow_model.specs.Lists.{list_edited}
-use Rattle.ecow_model.specs.Names.{is_shared, settle}
-use Rattle.ecow_model.specs.Refusing.{verdict}
+use Rattle.ecow_model.specs.Names.{is_shared}
 use Rattle.ecow_model.specs.declared.usage.Usage.TheVariants.{Change as Edit}
 use Rattle.ecow_counted.specs.Edits.{asked_length, staying, spare_room, taken_out, takes_spare}
 use Rattle.ecow_counted.proofs.Editing.{asks_within, may_be_copied, taken_same, free_keeps, spare_not_free}

@@ -1,4 +1,4 @@
-use Rattle.std.proofs.Common.{ap, sym, ◌∙◌, Some}
+use Rattle.std.proofs.Common.{ap, ◌∙◌, Some}
 use Rattle.ecow_counted.specs.Places.{entry_in}
 use Rattle.ecow_counted.proofs.Changes.{entry_at}
 use Rattle.ecow_counted.proofs.Updates.{room_for_one, taken_names, taken_table, bare_taken, taken_block, taken_room}

@@ -30,10 +30,10 @@ loop-value-init g c =
 
 pub returns-in-Refused-clause-taken : goal.returns-in-Refused-clause-taken
 returns-in-Refused-clause-taken g c = λ there. (
-      refl,
-      ap (λ (o : Outcome g.row.T.Denot). refusal_in o) (is_taken c.args.self.now.names c.args.name (Refused c.in-Refused.refusal) c.step.new.self.names c.in-Refused.ensures.verdict there),
-      c.in-Refused.ensures.refused,
-    )
+  refl,
+  ap (λ (o : Outcome g.row.T.Denot). refusal_in o) (is_taken c.args.self.now.names c.args.name (Refused c.in-Refused.refusal) c.step.new.self.names c.in-Refused.ensures.verdict there),
+  c.in-Refused.ensures.refused,
+)
 
 pub returns-in-Refused-step-clause-run : goal.returns-in-Refused-step-clause-run
 returns-in-Refused-step-clause-run g c =
@@ -41,10 +41,10 @@ returns-in-Refused-step-clause-run g c =
     let is = c.in-Refused-step.ensures in
     let next = next_of c.loop-value.accepted c.args.items.items c.in-Some.value _ (sym so_far.left ∙ c.in-Some.ensures.items) in
     λ clones. inr (
-        next.within,
-        subst (λ cs. IsRunOf c.args.self.now cs (accepted c.loop-value.accepted ++ Refused c.in-Refused-step.refusal ∷ []) c.step-in-Some.new.self) (sym (filling_more c.args.name c.loop-value.accepted c.args.items.items c.in-Some.value _ next))
-            (runs_more c.args.self.now (filling c.args.name (take c.loop-value.accepted c.args.items.items)) (accepted c.loop-value.accepted) c.loop-value.self c.step-in-Some.new.self (Push c.args.name c.in-Some.value) (Refused c.in-Refused-step.refusal) c.blocks-sharing.ensures.sharing (so_far.run clones) (is.step clones) is.copied is.moved),
-      )
+      next.within,
+      subst (λ cs. IsRunOf c.args.self.now cs (accepted c.loop-value.accepted ++ Refused c.in-Refused-step.refusal ∷ []) c.step-in-Some.new.self) (sym (filling_more c.args.name c.loop-value.accepted c.args.items.items c.in-Some.value _ next))
+          (runs_more c.args.self.now (filling c.args.name (take c.loop-value.accepted c.args.items.items)) (accepted c.loop-value.accepted) c.loop-value.self c.step-in-Some.new.self (Push c.args.name c.in-Some.value) (Refused c.in-Refused-step.refusal) c.blocks-sharing.ensures.sharing (so_far.run clones) (is.step clones) is.copied is.moved),
+    )
 
 pub returns-in-Refused-step-clause-taken : goal.returns-in-Refused-step-clause-taken
 returns-in-Refused-step-clause-taken g c = λ there. absurd (c.in_default.not-Refused Taken (is_taken c.args.self.now.names c.args.name c.step.result c.step.new.self.names c.step.ensures.verdict there))
