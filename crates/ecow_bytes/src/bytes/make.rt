@@ -1,6 +1,7 @@
 //! The calls that make bytes of something else.
-ghost use Rattle.std.specs.Prelude.{◌≡◌, ◌+◌, ◌<◌, ◌≤◌, ◌↔◌, [], List, length, vec_len, true, false, IsOk, IfOk, IfErr, OnErr, IsErrAnd, IsErrOf, IsSome, IfSome};
+ghost use Rattle.std.specs.Prelude.{◌≡◌, ℕ, ◌<◌, ◌≤◌, ◌↔◌, [], List, length, vec_len, true, false, IsOk, IfOk, IfErr, OnErr, IsErrAnd, IsErrOf, IsSome, IfSome};
 ghost use Rattle.std.specs.Iterator.{IsFinite};
+ghost use Rattle.ecow_list.specs.Vectors.{GivesFirst, GivesItems};
 ghost use Rattle.ecow_model.specs.Bytes.{plain_bytes};
 ghost use Rattle.ecow_model.specs.Inline.{inline_for};
 
@@ -81,6 +82,20 @@ impl<const N: usize> SmallBytes<N> {
         ensures free { M ≤ N → IsOk result }
     {
         Self::from_slice(alloc, &bytes)
+    }
+
+    /// The bytes of `iter`: inline where there are at most `N`, which is never refused, and else
+    /// spilled. Its size hint isn't asked. Answers `Capacity` at the byte past 2^63 - 1, and else
+    /// `Memory`: no further one is asked for then.
+    pub fn from_iter<I: IntoIterator<Item = u8>>(alloc: Global, iter: I) -> Result<Self, EcoError>
+        requires { (it : I.IntoIter) → I.into_iter_gives iter it → I.IntoIter.can_next it × IsFinite (I.IntoIter.remaining it) }
+        ensures bytes { IfOk result (λ made. GivesItems I.into_iter_gives I.IntoIter.next_gives iter made.bytes) }
+        ensures mode { IfOk result (λ made. made.inline ≡ inline_for N (length made.bytes)) }
+        ensures refused { OnErr result ((items : List ℕ) × GivesFirst I.into_iter_gives I.IntoIter.next_gives iter items × (N < length items) × (IsErrOf result EcoError.Capacity ↔ (MAX_LEN < length items))) }
+    {
+        let mut made = Self::new(alloc);
+        made.extend(iter)?;
+        Ok(made)
     }
 
     /// The bytes of a `Vec`: inline where there are at most `N`, which is never refused, and else

@@ -1,6 +1,8 @@
 //! Appending bytes. The case in which they fit inline is short, so that it is inlined; the others
 //! are out of line.
-ghost use Rattle.std.specs.Prelude.{◌≡◌, ◌+◌, ◌<◌, ◌≤◌, ◌↔◌, [], ◌∷◌, ◌++◌, length, true, false, IsOk, IfOk, IfErr, OnOk, OnErr, IsErrOf};
+ghost use Rattle.std.specs.Prelude.{◌≡◌, ℕ, List, ◌+◌, ◌<◌, ◌≤◌, ◌↔◌, [], ◌∷◌, ◌++◌, length, true, false, IsOk, IfOk, IfErr, OnOk, OnErr, IsErrOf};
+ghost use Rattle.std.specs.Iterator.{IsFinite, ExtendsWithItems};
+ghost use Rattle.ecow_list.specs.Vectors.{Appends, GivesFirst};
 ghost use Rattle.ecow_model.specs.Inline.{inline_after};
 
 use crate::bytes::{Form, SmallBytes};
@@ -81,6 +83,27 @@ impl<const N: usize> SmallBytes<N> {
             return Ok(());
         }
         self.spill_by(bytes)
+    }
+
+    /// Appends the bytes of `iter`, one after another, each as `push` does: so inline bytes spill at
+    /// the one with which they pass `N`, and nothing changes where there is none. The size hint isn't
+    /// asked.
+    ///
+    /// Where a byte is refused those before it stay, and no further one is asked for: `Capacity`
+    /// where there are 2^63 - 1 bytes then, and else `Memory`. No byte is refused that fits inline.
+    pub fn extend<I: IntoIterator<Item = u8>>(&mut self, iter: I) -> Result<(), EcoError>
+        requires { (it : I.IntoIter) → I.into_iter_gives iter it → I.IntoIter.can_next it × IsFinite (I.IntoIter.remaining it) }
+        ensures bytes { ExtendsWithItems I.into_iter_gives I.IntoIter.next_gives Appends iter self.old.bytes self.new.bytes result }
+        ensures mode { self.new.inline ≡ inline_after N self.old.inline (length self.new.bytes) 0 }
+        ensures refused { OnErr result ((items : List ℕ) × GivesFirst I.into_iter_gives I.IntoIter.next_gives iter items × (length self.new.bytes + 1 ≡ length self.old.bytes + length items)) }
+        ensures capacity { OnErr result (IsErrOf result EcoError.Capacity ↔ (MAX_LEN ≤ length self.new.bytes)) }
+        ensures free { OnErr result (inline_after N self.new.inline (length self.new.bytes) 1 ≡ false) }
+    {
+        let _len = self.len();
+        for byte in iter {
+            self.push(byte)?;
+        }
+        Ok(())
     }
 
     /// Spills inline bytes, and appends `bytes`, with which they don't fit inline.
