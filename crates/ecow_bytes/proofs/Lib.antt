@@ -1,2 +1,3 @@
 mod Limits
 mod Moves
+mod Repeats

@@ -5,6 +5,7 @@ mod conversions;
 mod edits;
 mod make;
 mod push;
+mod repeat;
 
 use crate::inline::InlineVec;
 use ecow_base::MAX_LEN;

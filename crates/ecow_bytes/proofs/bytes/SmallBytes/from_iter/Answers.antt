@@ -1,5 +1,4 @@
 use Rattle.std.proofs.Common.{rules, ◌≡◌, ◌+◌, ◌<◌, length, arith}
-use Rattle.std.proofs.lemmas.Result.{err_from_is_err_and}
 use Rattle.ecow_list.proofs.Fronts.{on_err}
 use Rattle.ecow_bytes.proofs.Limits.{past_by_one}
 use Rattle.ecow_bytes.proofs.bytes.SmallBytes.from_iter.Goals as goal
