@@ -1,3 +1,4 @@
 mod Limits
 mod Moves
 mod Repeats
+mod Variants

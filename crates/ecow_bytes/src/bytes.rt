@@ -4,6 +4,7 @@ ghost use Rattle.std.specs.Prelude.{◌≡◌, ◌≤◌, ◌==◌, [], length, 
 mod conversions;
 mod edits;
 mod make;
+mod make_mut;
 mod push;
 mod repeat;
 

@@ -28,6 +28,9 @@ impl<const N: usize> Model for InlineVec<N> {
 }
 
 impl<const N: usize> InlineVec<N> {
+    ghost use Rattle.std.specs.Borrow.{sem};
+    ghost use Rattle.ecow_bytes.specs.Lends.{lends_inline};
+
     /// No bytes.
     pub(crate) fn new() -> Self
         ensures { result ≡ [] }
@@ -164,5 +167,13 @@ impl<const N: usize> InlineVec<N> {
     {
         let _len = self.len;
         self.cells.bytes[index] = byte;
+    }
+
+    /// The bytes, for writing.
+    pub(crate) fn as_mut_slice(&mut self) -> &mut [u8]
+        ensures* writes_back { sem 𝓛 (lends_inline N.row self.entry result) }
+        ensures value { result.now ≡ self.old }
+    {
+        self.cells.front_mut(self.len)
     }
 }

@@ -262,3 +262,29 @@ fn at_most_fifteen_bytes_are_tried_inline(rt: HostRuntime) -> Result<(), Fail> {
     assert_eq!(rt; EcoBytes::INLINE_LIMIT, 15);
     Ok(())
 }
+
+#[test]
+fn bytes_are_written_where_they_stand(rt: HostRuntime) -> Result<(), Fail> {
+    let mut spilled = spilled_letters(rt.alloc())?;
+    let shared = spilled.clone()?;
+    spilled.make_mut()?.reverse();
+    assert!(rt; !spilled.is_inline());
+    assert_eq!(rt; spilled.as_slice(), b"onmlkjihgfedcba".as_slice());
+    assert_eq!(rt; shared.as_slice(), LETTERS.as_slice());
+    let mut inline = shared.clone()?;
+    inline.shrink_to_fit();
+    inline.make_mut()?.reverse();
+    assert!(rt; inline.is_inline());
+    assert_eq!(rt; inline.as_slice(), b"onmlkjihgfedcba".as_slice());
+    Ok(())
+}
+
+#[test]
+fn no_bytes_are_written(rt: HostRuntime) -> Result<(), Fail> {
+    assert!(rt; EcoBytes::new(rt.alloc()).make_mut()?.is_empty());
+    let mut spilled: EcoBytes = SmallBytes::from(EcoVec::with_capacity(rt.alloc(), 3)?);
+    let _shared = spilled.clone()?;
+    assert!(rt; spilled.make_mut()?.is_empty());
+    assert!(rt; !spilled.is_inline());
+    Ok(())
+}
