@@ -75,11 +75,12 @@ impl<const N: usize> InlineVec<N> {
         ensures ok { OnOk result (self.new ≡ self.old ++ byte ∷ []) }
         ensures err { OnErr result (self.new ≡ self.old) }
     {
-        if self.len == N {
+        let len = self.len;
+        if len == N {
             return Err(Full);
         }
-        self.cells.bytes[self.len] = byte;
-        self.len += 1;
+        self.cells.bytes[len] = byte;
+        self.len = len + 1;
         Ok(())
     }
 

@@ -280,6 +280,14 @@ fn bytes_are_written_where_they_stand(rt: HostRuntime) -> Result<(), Fail> {
 }
 
 #[test]
+fn the_paths_of_the_original_lead_here(rt: HostRuntime) -> Result<(), Fail> {
+    let list: ecow::vec::EcoVec<u8> = ecow::eco_vec![in rt.alloc(); 1u8, 2]?;
+    let bytes: ecow::bytes::EcoBytes = ecow::EcoBytes::from(list);
+    assert!(rt; bytes == EcoBytes::from_slice(rt.alloc(), &[1, 2])?);
+    Ok(())
+}
+
+#[test]
 fn no_bytes_are_written(rt: HostRuntime) -> Result<(), Fail> {
     assert!(rt; EcoBytes::new(rt.alloc()).make_mut()?.is_empty());
     let mut spilled: EcoBytes = SmallBytes::from(EcoVec::with_capacity(rt.alloc(), 3)?);

@@ -121,6 +121,7 @@ impl<const N: usize> SmallBytes<N> {
     }
 }
 
+/// The bytes of a vector, which keep its block, shared or not: spilled, however few. Takes no memory.
 impl<const N: usize> From<EcoVec<u8>> for SmallBytes<N> {
     ghost from_gives = { λ vec made. made ≡ plain_bytes vec false };
 
