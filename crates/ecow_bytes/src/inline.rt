@@ -59,6 +59,7 @@ impl<const N: usize> InlineVec<N> {
     }
 
     /// The same bytes once more.
+    #[inline]
     pub(crate) fn copied(&self) -> Self
         ensures { result ≡ self.now }
     {

@@ -1,11 +1,11 @@
 //! Equality, order, hash and debug text of bytes: those of the bytes in order, inline or spilled,
 //! shared or not. A front comes before what it begins.
-ghost use Rattle.std.specs.Prelude.{◌≡◌, Some, nat_eq, refl};
+ghost use Rattle.std.specs.Prelude.{◌≡◌, [], ◌∷◌, ◌++◌, length, Some, nat_eq, refl};
 ghost use Rattle.std.specs.Ordering.{nat_cmp};
-ghost use Rattle.std.specs.Cmp.{on_equiv, on_total, on_po, on_per, partial_equiv_from_equiv, unsigned_Decides};
-ghost use Rattle.std.specs.Cmp.Lexicographic.{pointwise, slice_cmp, nat_list_eq_equiv, nat_list_cmp_total, texts_po, texts_ties};
+ghost use Rattle.std.specs.Cmp.{on_equiv, on_total, on_po, on_per, partial_equiv_from_equiv};
+ghost use Rattle.std.specs.Cmp.Lexicographic.{pointwise, slice_cmp, nat_list_eq_equiv, nat_list_cmp_total, texts_po, texts_ties, bytes_decides};
 ghost use Rattle.std.specs.Hash as fed;
-ghost use Rattle.std.specs.Hash.{items_Alike, on_Alike, same_Alike};
+ghost use Rattle.std.specs.Hash.{on_Alike, same_Alike};
 
 use crate::bytes::SmallBytes;
 use std::cmp::Ordering;
@@ -50,13 +50,16 @@ impl<const N: usize> Ord for SmallBytes<N> {
     }
 }
 
+// The length, and then all bytes in one write: a hasher takes them by words.
 impl<const N: usize> Hash for SmallBytes<N> {
-    ghost hash_input = { λ b. fed.slice fed.u8 b.bytes };
+    ghost hash_input = { λ b. fed.usize (length b.bytes) ++ b.bytes ∷ [] };
 
-    ghost respects_eq = { (on_Alike (λ b. b.bytes) (items_Alike (same_Alike fed.u8 unsigned_Decides))).fed };
+    ghost respects_eq = { (on_Alike (λ b. b.bytes) (same_Alike (λ bytes. fed.usize (length bytes) ++ bytes ∷ []) bytes_decides)).fed };
 
     fn hash<H: Hasher>(&self, state: &mut H) {
-        self.as_slice().hash(state);
+        let bytes = self.as_slice();
+        state.write_usize(bytes.len());
+        state.write(bytes);
     }
 }
 
