@@ -135,8 +135,7 @@ fn changes_hold(alloc: Global, kept: (bool, bool)) -> bool {
         b"abcdefghijklmn",
         inline,
         |bytes| bytes.pop().map(|_| ()),
-    )
-        && holds(alloc, kept, b"ab", inline, |bytes| bytes.truncate(2))
+    ) && holds(alloc, kept, b"ab", inline, |bytes| bytes.truncate(2))
         && holds(
             alloc,
             kept,
@@ -190,7 +189,11 @@ pub(crate) fn makers_hold(alloc: Global) -> bool {
     };
     is_made(EcoBytes::from_slice(alloc, &LETTERS), &LETTERS, true)
         && is_made(EcoBytes::from_slice(alloc, more), more, false)
-        && is_made(EcoBytes::from_array(alloc, *b"abcdefghijklmnop"), more, false)
+        && is_made(
+            EcoBytes::from_array(alloc, *b"abcdefghijklmnop"),
+            more,
+            false,
+        )
         && is_made(EcoBytes::from_iter(alloc, b'a'..b'q'), more, false)
         && is_made(EcoBytes::with_capacity(alloc, 16), b"", false)
         && is_made(four.repeat(4), b"abcdabcdabcdabcd", false)
