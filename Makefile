@@ -14,7 +14,7 @@ help:
 	@echo "                       python3); CRATES=\"NAME ..\" those of some crates"
 	@echo "make times             runs the gate and says what each part of it costs (needs python3)"
 	@echo "make faults            refuses each request for memory in turn (needs a C compiler)"
-	@echo "make bench ECOW=FOLDER times the vector beside the original crate in FOLDER (needs cargo)"
+	@echo "make bench ECOW=FOLDER times the vector and bytes beside the original crate in FOLDER (needs cargo)"
 	@echo "make clean             removes what was built"
 
 # SCRIPT may begin with --counted.

@@ -2,13 +2,29 @@
 //! turns, and what counts is the least processor time of so many runs, less that of a run of no rounds.
 //! `bench PROGRAM [SAMPLES [WORD]]`: PROGRAM is the built `ecow_bench`; WORD keeps the calls whose name holds it.
 //! `bench CALL LENGTH COUNT` goes round one loop on the original, as PROGRAM does, and prints what it saw.
-use ecow::EcoVec;
+use ecow::{EcoBytes, EcoVec};
+use std::cmp::Ordering;
+use std::hash::{DefaultHasher, Hash, Hasher};
 use std::hint::black_box;
 use std::process::{Command, Stdio};
 
 type Loop = fn(&[u64], u64) -> u64;
+type ByteLoop = fn(&[u8], u64) -> u64;
 
-/// What the calls are named on the command line and in the table.
+/// What the calls of bytes are named on the command line and in the table, and the lengths they are timed at.
+const BYTE_CALLS: [(&str, &str, &[usize], ByteLoop); 9] = [
+    ("bytes_from_slice", "bytes: from slice", &[7, 15, 40, 1000], bytes_from_slice),
+    ("bytes_push", "bytes: push each", &[14, 20], bytes_push),
+    ("bytes_clone", "bytes: clone and drop", &[7, 40], bytes_clone),
+    ("bytes_extend", "bytes: extend ten times", &[1, 8, 100], bytes_extend),
+    ("bytes_eq", "bytes: equality", &[7, 40, 1000], bytes_eq),
+    ("bytes_cmp", "bytes: order", &[7, 40, 1000], bytes_cmp),
+    ("bytes_repeat", "bytes: repeat 1000 times", &[40], bytes_repeat),
+    ("bytes_insert_slice", "bytes: insert slice", &[7, 40, 1000], bytes_insert_slice),
+    ("bytes_hash", "bytes: hash", &[7, 40, 1000], bytes_hash),
+];
+
+/// What the calls of the vector are named on the command line and in the table.
 const CALLS: [(&str, &str, Loop); 13] = [
     ("push", "push each to a new one", push),
     ("clone", "clone and drop", clone),
@@ -191,6 +207,146 @@ fn into_iter(items: &[u64], count: u64) -> u64 {
     sum
 }
 
+#[inline(never)]
+fn bytes_of(bytes: &[u8]) -> EcoBytes {
+    EcoBytes::from(bytes)
+}
+
+fn bytes_from_slice(bytes: &[u8], count: u64) -> u64 {
+    let mut sum = 0u64;
+    for _ in 0..count {
+        sum = sum.wrapping_add(bytes_of(bytes).len() as u64);
+    }
+    sum
+}
+
+#[inline(never)]
+fn pushed(bytes: &[u8]) -> EcoBytes {
+    let mut made = EcoBytes::new();
+    for byte in bytes {
+        made.push(*byte);
+    }
+    made
+}
+
+fn bytes_push(bytes: &[u8], count: u64) -> u64 {
+    let mut sum = 0u64;
+    for _ in 0..count {
+        sum = sum.wrapping_add(pushed(bytes).len() as u64);
+    }
+    sum
+}
+
+#[inline(never)]
+fn cloned_bytes(bytes: &EcoBytes) -> EcoBytes {
+    bytes.clone()
+}
+
+fn bytes_clone(bytes: &[u8], count: u64) -> u64 {
+    let made = bytes_of(bytes);
+    let mut sum = 0u64;
+    for _ in 0..count {
+        sum = sum.wrapping_add(cloned_bytes(&made).len() as u64);
+    }
+    sum
+}
+
+#[inline(never)]
+fn extended(bytes: &[u8]) -> EcoBytes {
+    let mut made = EcoBytes::new();
+    for _ in 0..10 {
+        made.extend_from_slice(bytes);
+    }
+    made
+}
+
+fn bytes_extend(bytes: &[u8], count: u64) -> u64 {
+    let mut sum = 0u64;
+    for _ in 0..count {
+        sum = sum.wrapping_add(extended(bytes).len() as u64);
+    }
+    sum
+}
+
+#[inline(never)]
+fn same(left: &EcoBytes, right: &EcoBytes) -> bool {
+    left == right
+}
+
+fn bytes_eq(bytes: &[u8], count: u64) -> u64 {
+    let made = bytes_of(bytes);
+    let (even, odd) = (bytes_of(bytes), bytes_of(bytes));
+    let mut sum = 0u64;
+    for round in 0..count {
+        let other = if round % 2 == 0 { &even } else { &odd };
+        if same(&made, other) {
+            sum = sum.wrapping_add(round);
+        }
+    }
+    sum
+}
+
+#[inline(never)]
+fn compared(left: &EcoBytes, right: &EcoBytes) -> Ordering {
+    left.cmp(right)
+}
+
+fn bytes_cmp(bytes: &[u8], count: u64) -> u64 {
+    let made = bytes_of(bytes);
+    let (even, odd) = (bytes_of(bytes), bytes_of(bytes));
+    let mut sum = 0u64;
+    for round in 0..count {
+        let other = if round % 2 == 0 { &even } else { &odd };
+        if compared(&made, other).is_eq() {
+            sum = sum.wrapping_add(round);
+        }
+    }
+    sum
+}
+
+fn bytes_repeat(bytes: &[u8], count: u64) -> u64 {
+    let made = bytes_of(bytes);
+    let mut sum = 0u64;
+    for _ in 0..count {
+        sum = sum.wrapping_add(made.repeat(1000).len() as u64);
+    }
+    sum
+}
+
+#[inline(never)]
+fn inserted(made: &mut EcoBytes, bytes: &[u8]) {
+    let middle = made.len() / 2;
+    made.insert_slice(middle, bytes);
+}
+
+fn bytes_insert_slice(bytes: &[u8], count: u64) -> u64 {
+    let mut made = bytes_of(bytes);
+    let mut sum = 0u64;
+    for _ in 0..count {
+        inserted(&mut made, bytes);
+        sum = sum.wrapping_add(made.len() as u64);
+        made.truncate(bytes.len());
+    }
+    sum
+}
+
+#[inline(never)]
+fn hashed(bytes: &EcoBytes) -> u64 {
+    let mut hasher = DefaultHasher::new();
+    bytes.hash(&mut hasher);
+    hasher.finish()
+}
+
+fn bytes_hash(bytes: &[u8], count: u64) -> u64 {
+    let (even, odd) = (bytes_of(bytes), bytes_of(bytes));
+    let mut sum = 0u64;
+    for round in 0..count {
+        let made = if round % 2 == 0 { &even } else { &odd };
+        sum = sum.wrapping_add(hashed(made));
+    }
+    sum
+}
+
 /// Numbers in no order, after one large block was given back.
 fn numbers(length: usize) -> Vec<u64> {
     drop(black_box(Vec::<u8>::with_capacity(32505856)));
@@ -202,6 +358,11 @@ fn numbers(length: usize) -> Vec<u64> {
         state
     };
     (0..length).map(|_| next()).collect()
+}
+
+/// As many bytes as there are numbers.
+fn letters(items: &[u64]) -> Vec<u8> {
+    items.iter().map(|item| (item % 251) as u8).collect()
 }
 
 #[repr(C)]
@@ -266,29 +427,43 @@ fn compare(program: &str, samples: u32, word: &str) {
     let own = std::env::current_exe().unwrap();
     let programs = [program, own.to_str().unwrap()];
     println!("{:<30} {:>8} {:>14} {:>14} {:>6}", "call", "length", "original ns", "this ns", "ratio");
-    let (mut short, mut long) = (Vec::new(), Vec::new());
+    let row = |call: &str, name: &str, length: usize| {
+        let [this, original] = least(programs, call, length, samples);
+        let ratio = this / original;
+        println!("{name:<30} {length:>8} {original:>14.2} {this:>14.2} {ratio:>6.2}");
+        (ratio, format!("{name}, {length}"))
+    };
+    let (mut short, mut long, mut bytes) = (Vec::new(), Vec::new(), Vec::new());
     for length in [8usize, 1000, 1_000_000] {
         for (call, name, _) in CALLS.iter().filter(|call| call.1.contains(word)) {
-            let [this, original] = least(programs, call, length, samples);
-            let ratio = this / original;
-            println!("{name:<30} {length:>8} {original:>14.2} {this:>14.2} {ratio:>6.2}");
             let ratios = if length < 10 { &mut short } else { &mut long };
-            ratios.push((ratio, format!("{name}, {length}")));
+            ratios.push(row(call, name, length));
         }
     }
-    report("fewer than ten elements", &short);
-    report("ten elements and more", &long);
+    for (call, name, lengths, _) in BYTE_CALLS.iter().filter(|call| call.1.contains(word)) {
+        bytes.extend(lengths.iter().map(|length| row(call, name, *length)));
+    }
+    report("the vector, fewer than ten elements", &short);
+    report("the vector, ten elements and more", &long);
     short.append(&mut long);
-    report("all", &short);
+    report("the vector, all", &short);
+    report("bytes", &bytes);
 }
 
 fn main() {
     let words: Vec<String> = std::env::args().skip(1).collect();
-    let call = words.first().and_then(|word| CALLS.iter().find(|call| call.0 == word));
-    if let (Some(call), [_, length, count]) = (call, words.as_slice()) {
-        let items = numbers(length.parse().unwrap());
-        println!("{}", call.2(&items, count.parse().unwrap()));
-        return;
+    if let [word, length, count] = words.as_slice()
+        && let (Ok(length), Ok(count)) = (length.parse(), count.parse())
+    {
+        let items = numbers(length);
+        if let Some(call) = CALLS.iter().find(|call| call.0 == word) {
+            println!("{}", call.2(&items, count));
+            return;
+        }
+        if let Some(call) = BYTE_CALLS.iter().find(|call| call.0 == word) {
+            println!("{}", call.3(&letters(&items), count));
+            return;
+        }
     }
     let samples = words.get(1).and_then(|word| word.parse().ok()).unwrap_or(9);
     compare(&words[0], samples, words.get(2).map_or("", |word| word));

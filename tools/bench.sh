@@ -1,5 +1,5 @@
 #!/bin/sh
-# Times the calls of the vector beside those of the original crate.
+# Times the calls of the vector and of bytes beside those of the original crate.
 # usage: tools/bench.sh FOLDER [SAMPLES [WORD]]
 # FOLDER is that of the original crate. SAMPLES (9) are taken of each call whose name holds WORD.
 # Needs cargo beside the kit's rt. What cargo makes stays below bin/.

@@ -1,14 +1,16 @@
 //! What `make bench` times: `ecow_bench CALL LENGTH COUNT` goes round one loop on a list of that
-//! length and prints a sum of what it saw. Without arguments it goes three times round each loop.
+//! length, or on so many bytes where CALL begins with `bytes_`, and prints a sum of what it saw.
+//! Without arguments it goes three times round each loop.
 #![tactic(auto)]
 
+mod bytes;
 mod loops;
 
 use std::alloc::{AllocError, Global};
 use std::env::Env;
 use std::{env, io};
 
-const CALLS: [&str; 13] = [
+const CALLS: [&str; 22] = [
     "push",
     "clone",
     "clone_push",
@@ -22,6 +24,15 @@ const CALLS: [&str; 13] = [
     "splice",
     "iter",
     "into_iter",
+    "bytes_from_slice",
+    "bytes_push",
+    "bytes_clone",
+    "bytes_extend",
+    "bytes_eq",
+    "bytes_cmp",
+    "bytes_repeat",
+    "bytes_insert_slice",
+    "bytes_hash",
 ];
 
 fn main(rt: HostRuntime) -> io::Result<()> {
@@ -30,13 +41,13 @@ fn main(rt: HostRuntime) -> io::Result<()> {
         [call, length, count] => {
             if let (Ok(length), Ok(count)) = (length.parse(), count.parse()) {
                 let items = numbers(rt.alloc(), length)?;
-                println!(rt; "{}", sum(rt.alloc(), call, items.as_slice(), count))?;
+                println!(rt; "{}", sum(rt.alloc(), call, items.as_slice(), count)?)?;
             }
         }
         _ => {
             let items = numbers(rt.alloc(), 8)?;
             for call in CALLS {
-                println!(rt; "{call} {}", sum(rt.alloc(), call, items.as_slice(), 3))?;
+                println!(rt; "{call} {}", sum(rt.alloc(), call, items.as_slice(), 3)?)?;
             }
         }
     }
@@ -67,7 +78,39 @@ fn numbers(alloc: Global, length: usize) -> Result<Vec<u64>, AllocError> {
 }
 
 /// What a loop saw, or 0 where there is no such call.
-fn sum(alloc: Global, call: &str, items: &[u64], count: u64) -> u64 {
+fn sum(alloc: Global, call: &str, items: &[u64], count: u64) -> Result<u64, AllocError> {
+    if call.starts_with("bytes_") {
+        let bytes = letters(alloc, items)?;
+        return Ok(sum_of_bytes(alloc, call, bytes.as_slice(), count));
+    }
+    Ok(sum_of_items(alloc, call, items, count))
+}
+
+/// As many bytes as there are numbers.
+fn letters(alloc: Global, items: &[u64]) -> Result<Vec<u8>, AllocError> {
+    let mut letters = Vec::with_capacity(alloc, items.len())?;
+    for item in items {
+        letters.push((*item % 251) as u8)?;
+    }
+    Ok(letters)
+}
+
+fn sum_of_bytes(alloc: Global, call: &str, bytes: &[u8], count: u64) -> u64 {
+    match call {
+        "bytes_from_slice" => bytes::from_slice(alloc, bytes, count),
+        "bytes_push" => bytes::push(alloc, bytes, count),
+        "bytes_clone" => bytes::clone(alloc, bytes, count),
+        "bytes_extend" => bytes::extend(alloc, bytes, count),
+        "bytes_eq" => bytes::eq(alloc, bytes, count),
+        "bytes_cmp" => bytes::cmp(alloc, bytes, count),
+        "bytes_repeat" => bytes::repeat(alloc, bytes, count),
+        "bytes_insert_slice" => bytes::insert_slice(alloc, bytes, count),
+        "bytes_hash" => bytes::hash(alloc, bytes, count),
+        _ => 0,
+    }
+}
+
+fn sum_of_items(alloc: Global, call: &str, items: &[u64], count: u64) -> u64 {
     match call {
         "push" => loops::push(alloc, items, count),
         "clone" => loops::clone(alloc, items, count),

@@ -3,6 +3,7 @@
 //! hands its value back and leaves all as it was.
 #![tactic(auto)]
 
+mod bytes;
 mod examples;
 mod keepings;
 mod vectors;
@@ -18,6 +19,9 @@ fn main(rt: HostRuntime) -> io::Result<()> {
         ("ranges", vectors::ranges_hold(alloc)),
         ("conversions", vectors::conversions_hold(alloc)),
         ("growth", vectors::growth_holds(alloc)),
+        ("edits of bytes", bytes::edits_hold(alloc)),
+        ("makers of bytes", bytes::makers_hold(alloc)),
+        ("conversions of bytes", bytes::conversions_hold(alloc)),
         (
             "commands",
             keepings::commands_hold(alloc, Store::new(alloc)),

@@ -1,5 +1,5 @@
 pub mod Fronts
 pub mod Items
 pub mod Kept
-mod Loans
-mod ResultTyped
+pub mod Loans
+pub mod ResultTyped

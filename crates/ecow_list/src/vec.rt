@@ -9,6 +9,7 @@ ghost use Rattle.ecow_base.specs.Clones.{ClonesAreEqual};
 mod collect;
 mod conversions;
 mod edits;
+mod insert_slice;
 mod make_mut;
 mod push;
 mod ranges;
@@ -49,6 +50,11 @@ impl<T> EcoVec<T> {
         ensures { result ≡ [] }
     {
         EcoVec { block: None, alloc }
+    }
+
+    /// The allocator of which the vector asks its memory.
+    pub fn allocator(&self) -> Global {
+        self.alloc
     }
 
     /// The elements, in order.

@@ -6,6 +6,8 @@
 #[cfg(test)]
 mod blocks;
 #[cfg(test)]
+mod bytes;
+#[cfg(test)]
 mod callers;
 #[cfg(test)]
 mod calls;

@@ -1,0 +1,18 @@
+//! Containers whose clones share what they hold until one of them is written to: `EcoVec`, a vector,
+//! and `EcoBytes`, bytes that stand in the value itself where they are few.
+//!
+//! The paths are those of the original crate.
+#![tactic(auto)]
+
+pub use ecow_bytes::{EcoBytes, SmallBytes};
+pub use ecow_list::{EcoError, EcoVec, IntoArray, Rejected, eco_vec, range_in, resolve};
+
+/// The vector and its iterators.
+pub mod vec {
+    pub use ecow_list::{Drain, EcoVec, IntoIter, Splice};
+}
+
+/// The bytes, for 15 inline bytes and for any number of them.
+pub mod bytes {
+    pub use ecow_bytes::{EcoBytes, SmallBytes};
+}

@@ -1,0 +1,163 @@
+//! Loops of one call of `EcoBytes` each, in the form of those of the vector: `bytes` are what the
+//! value is made of.
+
+use ecow_bytes::EcoBytes;
+use std::alloc::Global;
+use std::cmp::Ordering;
+use std::hash::{DefaultHasher, Hash, Hasher};
+
+#[inline(never)]
+fn bytes_of(alloc: Global, bytes: &[u8]) -> EcoBytes {
+    match EcoBytes::from_slice(alloc, bytes) {
+        Ok(made) => made,
+        Err(_) => EcoBytes::new(alloc),
+    }
+}
+
+/// Makes a value from the slice and drops it.
+pub(crate) fn from_slice(alloc: Global, bytes: &[u8], count: u64) -> u64 {
+    let mut sum = 0u64;
+    for _ in 0..count {
+        sum = sum.wrapping_add(bytes_of(alloc, bytes).len() as u64);
+    }
+    sum
+}
+
+#[inline(never)]
+fn pushed(alloc: Global, bytes: &[u8]) -> EcoBytes {
+    let mut made = EcoBytes::new(alloc);
+    for byte in bytes {
+        let _done = made.push(*byte);
+    }
+    made
+}
+
+/// Fills a new value by pushes.
+pub(crate) fn push(alloc: Global, bytes: &[u8], count: u64) -> u64 {
+    let mut sum = 0u64;
+    for _ in 0..count {
+        sum = sum.wrapping_add(pushed(alloc, bytes).len() as u64);
+    }
+    sum
+}
+
+#[inline(never)]
+fn cloned(bytes: &EcoBytes) -> Option<EcoBytes> {
+    bytes.clone().ok()
+}
+
+/// Makes a clone and drops it.
+pub(crate) fn clone(alloc: Global, bytes: &[u8], count: u64) -> u64 {
+    let made = bytes_of(alloc, bytes);
+    let mut sum = 0u64;
+    for _ in 0..count {
+        if let Some(copy) = cloned(&made) {
+            sum = sum.wrapping_add(copy.len() as u64);
+        }
+    }
+    sum
+}
+
+#[inline(never)]
+fn extended(alloc: Global, bytes: &[u8]) -> EcoBytes {
+    let mut made = EcoBytes::new(alloc);
+    for _ in 0..10 {
+        let _done = made.extend_from_slice(bytes);
+    }
+    made
+}
+
+/// Appends the slice ten times to a new value.
+pub(crate) fn extend(alloc: Global, bytes: &[u8], count: u64) -> u64 {
+    let mut sum = 0u64;
+    for _ in 0..count {
+        sum = sum.wrapping_add(extended(alloc, bytes).len() as u64);
+    }
+    sum
+}
+
+#[inline(never)]
+fn same(left: &EcoBytes, right: &EcoBytes) -> bool {
+    left == right
+}
+
+/// Compares a value with one and with another that equals it, by turns.
+pub(crate) fn eq(alloc: Global, bytes: &[u8], count: u64) -> u64 {
+    let made = bytes_of(alloc, bytes);
+    let (even, odd) = (bytes_of(alloc, bytes), bytes_of(alloc, bytes));
+    let mut sum = 0u64;
+    for round in 0..count {
+        let other = if round % 2 == 0 { &even } else { &odd };
+        if same(&made, other) {
+            sum = sum.wrapping_add(round);
+        }
+    }
+    sum
+}
+
+#[inline(never)]
+fn compared(left: &EcoBytes, right: &EcoBytes) -> Ordering {
+    left.cmp(right)
+}
+
+/// Orders a value and one or another that equals it, by turns.
+pub(crate) fn cmp(alloc: Global, bytes: &[u8], count: u64) -> u64 {
+    let made = bytes_of(alloc, bytes);
+    let (even, odd) = (bytes_of(alloc, bytes), bytes_of(alloc, bytes));
+    let mut sum = 0u64;
+    for round in 0..count {
+        let other = if round % 2 == 0 { &even } else { &odd };
+        if compared(&made, other).is_eq() {
+            sum = sum.wrapping_add(round);
+        }
+    }
+    sum
+}
+
+/// Makes a value of a thousand copies.
+pub(crate) fn repeat(alloc: Global, bytes: &[u8], count: u64) -> u64 {
+    let made = bytes_of(alloc, bytes);
+    let mut sum = 0u64;
+    for _ in 0..count {
+        if let Ok(copies) = made.repeat(1000) {
+            sum = sum.wrapping_add(copies.len() as u64);
+        }
+    }
+    sum
+}
+
+#[inline(never)]
+fn inserted(made: &mut EcoBytes, bytes: &[u8]) {
+    let middle = made.len() / 2;
+    let _done = made.insert_slice(middle, bytes);
+}
+
+/// Puts the slice into the middle of a value made from it, and keeps as many bytes as there were.
+pub(crate) fn insert_slice(alloc: Global, bytes: &[u8], count: u64) -> u64 {
+    let mut made = bytes_of(alloc, bytes);
+    let mut sum = 0u64;
+    for _ in 0..count {
+        inserted(&mut made, bytes);
+        sum = sum.wrapping_add(made.len() as u64);
+        let _done = made.truncate(bytes.len());
+    }
+    sum
+}
+
+#[inline(never)]
+fn hashed(bytes: &EcoBytes) -> u64 {
+    let mut hasher = DefaultHasher::new();
+    bytes.hash(&mut hasher);
+    hasher.finish()
+}
+
+/// Hashes one and another value, by turns.
+pub(crate) fn hash(alloc: Global, bytes: &[u8], count: u64) -> u64 {
+    let (even, odd) = (bytes_of(alloc, bytes), bytes_of(alloc, bytes));
+    let mut sum = 0u64;
+    for round in 0..count {
+        let made = if round % 2 == 0 { &even } else { &odd };
+        sum = sum.wrapping_add(hashed(made));
+    }
+    sum
+}

@@ -1,0 +1,4 @@
+mod Limits
+mod Moves
+mod Repeats
+mod Variants

@@ -1,0 +1,135 @@
+//! The calls that make bytes of something else.
+ghost use Rattle.std.specs.Prelude.{◌≡◌, ℕ, ◌<◌, ◌≤◌, ◌↔◌, [], List, length, vec_len, true, false, IsOk, IfOk, IfErr, OnErr, IsErrAnd, IsErrOf, IsSome, IfSome};
+ghost use Rattle.std.specs.Iterator.{IsFinite};
+ghost use Rattle.ecow_list.specs.Vectors.{GivesFirst, GivesItems};
+ghost use Rattle.ecow_model.specs.Bytes.{plain_bytes};
+ghost use Rattle.ecow_model.specs.Inline.{inline_for};
+
+use crate::bytes::{Form, SmallBytes};
+use crate::inline::InlineVec;
+use ecow_base::MAX_LEN;
+use ecow_list::{EcoError, EcoVec, Rejected};
+use std::alloc::Global;
+
+impl<const N: usize> SmallBytes<N> {
+    /// A copy of `bytes`, inline: `None` where there are more than `N`. Takes no memory.
+    pub fn try_inline(alloc: Global, bytes: &[u8]) -> Option<Self>
+        ensures fits { IsSome result ↔ (length bytes.now ≤ N) }
+        ensures bytes { IfSome result (λ made. made.bytes ≡ bytes.now) }
+        ensures mode { IfSome result (λ made. made.inline ≡ true) }
+    {
+        let mut inline = InlineVec::new();
+        match inline.extend_from_slice(bytes) {
+            Ok(()) => Some(SmallBytes {
+                form: Form::Inline(inline),
+                alloc,
+            }),
+            Err(_) => None,
+        }
+    }
+
+    /// A copy of `bytes`, of which there are at most `N`, inline. Takes no memory.
+    pub fn inline(alloc: Global, bytes: &[u8]) -> Self
+        requires { length bytes.now ≤ N }
+        ensures bytes { result.bytes ≡ bytes.now }
+        ensures mode { result.inline ≡ true }
+    {
+        Self::try_inline(alloc, bytes).unwrap()
+    }
+
+    /// No bytes, with room for `capacity`: inline where that is at most `N`, which is never refused,
+    /// and else spilled. Answers `Capacity` where that passes 2^63 - 1, and else `Memory`.
+    pub fn with_capacity(alloc: Global, capacity: usize) -> Result<Self, EcoError>
+        ensures bytes { IfOk result (λ made. made.bytes ≡ []) }
+        ensures mode { IfOk result (λ made. made.inline ≡ inline_for N capacity) }
+        ensures capacity { IsErrOf result EcoError.Capacity ↔ (MAX_LEN < capacity) }
+        ensures free { capacity ≤ N → IsOk result }
+    {
+        let made = Self::new(alloc);
+        if capacity <= made.capacity() {
+            return Ok(made);
+        }
+        let vec = EcoVec::with_capacity(alloc, capacity)?;
+        Ok(SmallBytes {
+            form: Form::Spilled(vec),
+            alloc,
+        })
+    }
+
+    /// A copy of `bytes`: inline where there are at most `N`, which is never refused, and else
+    /// spilled. Answers `Capacity` past 2^63 - 1 bytes, and else `Memory`.
+    #[inline]
+    pub fn from_slice(alloc: Global, bytes: &[u8]) -> Result<Self, EcoError>
+        ensures bytes { IfOk result (λ made. made.bytes ≡ bytes.now) }
+        ensures mode { IfOk result (λ made. made.inline ≡ inline_for N (length bytes.now)) }
+        ensures capacity { IsErrOf result EcoError.Capacity ↔ (MAX_LEN < length bytes.now) }
+        ensures free { length bytes.now ≤ N → IsOk result }
+    {
+        let mut inline = InlineVec::new();
+        let _len = inline.len();
+        let form = match inline.extend_from_slice(bytes) {
+            Ok(()) => Form::Inline(inline),
+            Err(_) => Form::Spilled(EcoVec::from_slice(alloc, bytes)?),
+        };
+        Ok(SmallBytes { form, alloc })
+    }
+
+    /// The bytes of an array, as `from_slice` makes them.
+    pub fn from_array<const M: usize>(alloc: Global, bytes: [u8; M]) -> Result<Self, EcoError>
+        ensures bytes { IfOk result (λ made. made.bytes ≡ bytes.entry) }
+        ensures mode { IfOk result (λ made. made.inline ≡ inline_for N M) }
+        ensures capacity { IsErrOf result EcoError.Capacity ↔ (MAX_LEN < M) }
+        ensures free { M ≤ N → IsOk result }
+    {
+        Self::from_slice(alloc, &bytes)
+    }
+
+    /// The bytes of `iter`: inline where there are at most `N`, which is never refused, and else
+    /// spilled. Its size hint isn't asked. Answers `Capacity` at the byte past 2^63 - 1, and else
+    /// `Memory`: no further one is asked for then.
+    pub fn from_iter<I: IntoIterator<Item = u8>>(alloc: Global, iter: I) -> Result<Self, EcoError>
+        requires { (it : I.IntoIter) → I.into_iter_gives iter it → I.IntoIter.can_next it × IsFinite (I.IntoIter.remaining it) }
+        ensures bytes { IfOk result (λ made. GivesItems I.into_iter_gives I.IntoIter.next_gives iter made.bytes) }
+        ensures mode { IfOk result (λ made. made.inline ≡ inline_for N (length made.bytes)) }
+        ensures refused { OnErr result ((items : List ℕ) × GivesFirst I.into_iter_gives I.IntoIter.next_gives iter items × (N < length items) × (IsErrOf result EcoError.Capacity ↔ (MAX_LEN < length items))) }
+    {
+        let mut made = Self::new(alloc);
+        made.extend(iter)?;
+        Ok(made)
+    }
+
+    /// The bytes of a `Vec`: inline where there are at most `N`, which is never refused, and else
+    /// spilled, with a block of their own. A refusal hands the `Vec` back, with `Capacity` past
+    /// 2^63 - 1 bytes, and else with `Memory`.
+    pub fn from_vec(alloc: Global, bytes: Vec<u8>) -> Result<Self, Rejected<Vec<u8>>>
+        ensures bytes { IfOk result (λ made. made.bytes ≡ bytes.items) }
+        ensures mode { IfOk result (λ made. made.inline ≡ inline_for N (vec_len bytes)) }
+        ensures value_returned { IfErr result (λ rejected. rejected.value.items ≡ bytes.items) }
+        ensures capacity { IsErrAnd result (λ rejected. rejected.error ≡ EcoError.Capacity) ↔ (MAX_LEN < vec_len bytes) }
+        ensures free { vec_len bytes ≤ N → IsOk result }
+    {
+        let mut inline = InlineVec::new();
+        let _len = inline.len();
+        let form = match inline.extend_from_slice(bytes.as_slice()) {
+            Ok(()) => Form::Inline(inline),
+            Err(_) => match EcoVec::from_vec(alloc, bytes) {
+                Ok(vec) => Form::Spilled(vec),
+                Err(rejected) => return Err(rejected),
+            },
+        };
+        Ok(SmallBytes { form, alloc })
+    }
+}
+
+/// The bytes of a vector, which keep its block, shared or not: spilled, however few. Takes no memory.
+impl<const N: usize> From<EcoVec<u8>> for SmallBytes<N> {
+    ghost from_gives = { λ vec made. made ≡ plain_bytes vec false };
+
+    fn from(vec: EcoVec<u8>) -> Self {
+        let alloc = vec.allocator();
+        SmallBytes {
+            form: Form::Spilled(vec),
+            alloc,
+        }
+    }
+}

@@ -1,0 +1,47 @@
+//! The bytes, borrowed for writing.
+ghost use Rattle.std.specs.Prelude.{◌≡◌, [], false, IsOk, IfOk, IfErr, OnErr};
+ghost use Rattle.std.specs.Borrow.{sem};
+ghost use Rattle.ecow_bytes.specs.Form.{plain_of};
+
+use crate::bytes::{Form, SmallBytes};
+use ecow_list::EcoError;
+
+impl<const N: usize> SmallBytes<N> {
+    ghost use Rattle.ecow_bytes.specs.Lends.{lends_whole, lends_bytes};
+
+    /// The bytes, for writing, in their mode. Never refused for inline bytes or none. Spilled bytes
+    /// that are shared are copied first, and the one error is `Memory`, which changes nothing.
+    pub fn make_mut(&mut self) -> Result<&mut [u8], EcoError>
+        ensures* writes_back { sem 𝓛 (lends_bytes N.row self.entry result) }
+        ensures value { IfOk result (λ bytes. bytes.now ≡ self.old.bytes) }
+        ensures memory { IfErr result (λ error. error ≡ EcoError.Memory) }
+        ensures free { OnErr result (self.old.inline ≡ false) }
+        ensures empty { self.old.bytes ≡ [] → IsOk result }
+    {
+        self.form_mut().make_mut()
+    }
+
+    fn form_mut(&mut self) -> &mut Form<N>
+        ensures* writes_back { sem 𝓛 (lends_whole N.row self.entry result) }
+        ensures value { plain_of result.now ≡ self.old }
+    {
+        &mut self.form
+    }
+}
+
+impl<const N: usize> Form<N> {
+    ghost use Rattle.ecow_bytes.specs.Lends.{lends_form};
+
+    fn make_mut(&mut self) -> Result<&mut [u8], EcoError>
+        ensures* writes_back { sem 𝓛 (lends_form N.row self.entry result) }
+        ensures value { IfOk result (λ bytes. bytes.now ≡ (plain_of self.old).bytes) }
+        ensures memory { IfErr result (λ error. error ≡ EcoError.Memory) }
+        ensures free { OnErr result ((plain_of self.old).inline ≡ false) }
+        ensures empty { (plain_of self.old).bytes ≡ [] → IsOk result }
+    {
+        match self {
+            Form::Inline(inline) => Ok(inline.as_mut_slice()),
+            Form::Spilled(vec) => vec.make_mut(),
+        }
+    }
+}

@@ -1,0 +1,128 @@
+//! Appending bytes. The case in which they fit inline is short, so that it is inlined; the others
+//! are out of line.
+ghost use Rattle.std.specs.Prelude.{◌≡◌, ℕ, List, ◌+◌, ◌<◌, ◌≤◌, ◌↔◌, [], ◌∷◌, ◌++◌, length, true, false, IsOk, IfOk, IfErr, OnOk, OnErr, IsErrOf};
+ghost use Rattle.std.specs.Iterator.{IsFinite, ExtendsWithItems};
+ghost use Rattle.ecow_list.specs.Vectors.{Appends, GivesFirst};
+ghost use Rattle.ecow_model.specs.Inline.{inline_after};
+
+use crate::bytes::{Form, SmallBytes};
+use ecow_base::{MAX_LEN, room_for};
+use ecow_list::{EcoError, EcoVec};
+use std::alloc::Global;
+
+/// A vector of `bytes`, with room for `additional` more.
+pub(super) fn spilled(
+    alloc: Global,
+    bytes: &[u8],
+    additional: usize,
+) -> Result<EcoVec<u8>, EcoError>
+    requires { length bytes.now + additional ≤ MAX_LEN }
+    ensures bytes { IfOk result (λ vec. vec ≡ bytes.now) }
+    ensures memory { IfErr result (λ error. error ≡ EcoError.Memory) }
+{
+    let room = room_for(bytes.len(), additional, bytes.len());
+    let mut vec = EcoVec::with_capacity(alloc, room)?;
+    vec.extend_from_slice(bytes)?;
+    Ok(vec)
+}
+
+impl<const N: usize> SmallBytes<N> {
+    /// Appends `byte`: inline where it fits, which is never refused, and else spilled. Spilled bytes
+    /// that are shared are copied first.
+    ///
+    /// A refusal changes nothing: `Capacity` where there are 2^63 - 1 bytes, and else `Memory`.
+    #[inline]
+    #[tactic(auto, using(crate::proofs::Limits::past_limit))]
+    pub fn push(&mut self, byte: u8) -> Result<(), EcoError>
+        ensures bytes { OnOk result (self.new.bytes ≡ self.old.bytes ++ byte ∷ []) }
+        ensures mode { OnOk result (self.new.inline ≡ inline_after N self.old.inline (length self.old.bytes) 1) }
+        ensures err { OnErr result (self.new ≡ self.old) }
+        ensures capacity { IsErrOf result EcoError.Capacity ↔ (MAX_LEN ≤ length self.old.bytes) }
+        ensures free { OnErr result (inline_after N self.old.inline (length self.old.bytes) 1 ≡ false) }
+    {
+        let inline = match &mut self.form {
+            Form::Inline(inline) => inline,
+            Form::Spilled(vec) => {
+                return match vec.push(byte) {
+                    Ok(()) => Ok(()),
+                    Err(rejected) => Err(rejected.error),
+                };
+            }
+        };
+        if let Ok(()) = inline.push(byte) {
+            return Ok(());
+        }
+        self.spill_by(&[byte])
+    }
+
+    /// Appends `bytes`: all, or none where it is refused. They are inline where they fit, which is
+    /// never refused, and else spilled. Spilled bytes that are shared are copied first. For no bytes
+    /// it is never refused and changes nothing, sharing included.
+    ///
+    /// A refusal changes nothing: `Capacity` where the new length passes 2^63 - 1, and else
+    /// `Memory`.
+    #[inline]
+    #[tactic(auto, using(crate::proofs::Limits::past_limit))]
+    pub fn extend_from_slice(&mut self, bytes: &[u8]) -> Result<(), EcoError>
+        ensures bytes { OnOk result (self.new.bytes ≡ self.old.bytes ++ bytes.now) }
+        ensures mode { OnOk result (self.new.inline ≡ inline_after N self.old.inline (length self.old.bytes) (length bytes.now)) }
+        ensures err { OnErr result (self.new ≡ self.old) }
+        ensures capacity { IsErrOf result EcoError.Capacity ↔ (MAX_LEN < length self.old.bytes + length bytes.now) }
+        ensures free { OnErr result (inline_after N self.old.inline (length self.old.bytes) (length bytes.now) ≡ false) }
+        ensures nothing { bytes.now ≡ [] → IsOk result × (self.new ≡ self.old) }
+    {
+        if let [byte] = bytes {
+            return self.push(*byte);
+        }
+        let inline = match &mut self.form {
+            Form::Inline(inline) => inline,
+            Form::Spilled(vec) => return vec.extend_from_slice(bytes),
+        };
+        let _len = inline.len();
+        if let Ok(()) = inline.extend_from_slice(bytes) {
+            return Ok(());
+        }
+        self.spill_by(bytes)
+    }
+
+    /// Appends the bytes of `iter`, one after another, each as `push` does: so inline bytes spill at
+    /// the one with which they pass `N`, and nothing changes where there is none. The size hint isn't
+    /// asked.
+    ///
+    /// Where a byte is refused those before it stay, and no further one is asked for: `Capacity`
+    /// where there are 2^63 - 1 bytes then, and else `Memory`. No byte is refused that fits inline.
+    pub fn extend<I: IntoIterator<Item = u8>>(&mut self, iter: I) -> Result<(), EcoError>
+        requires { (it : I.IntoIter) → I.into_iter_gives iter it → I.IntoIter.can_next it × IsFinite (I.IntoIter.remaining it) }
+        ensures bytes { ExtendsWithItems I.into_iter_gives I.IntoIter.next_gives Appends iter self.old.bytes self.new.bytes result }
+        ensures mode { self.new.inline ≡ inline_after N self.old.inline (length self.new.bytes) 0 }
+        ensures refused { OnErr result ((items : List ℕ) × GivesFirst I.into_iter_gives I.IntoIter.next_gives iter items × (length self.new.bytes + 1 ≡ length self.old.bytes + length items)) }
+        ensures capacity { OnErr result (IsErrOf result EcoError.Capacity ↔ (MAX_LEN ≤ length self.new.bytes)) }
+        ensures free { OnErr result (inline_after N self.new.inline (length self.new.bytes) 1 ≡ false) }
+    {
+        let _len = self.len();
+        for byte in iter {
+            self.push(byte)?;
+        }
+        Ok(())
+    }
+
+    /// Spills inline bytes, and appends `bytes`, with which they don't fit inline.
+    #[cold]
+    #[inline(never)]
+    fn spill_by(&mut self, bytes: &[u8]) -> Result<(), EcoError>
+        requires inline { self.old.inline ≡ true }
+        requires full { N < length self.old.bytes + length bytes.now }
+        ensures bytes { OnOk result (self.new.bytes ≡ self.old.bytes ++ bytes.now) }
+        ensures mode { OnOk result (self.new.inline ≡ false) }
+        ensures err { OnErr result (self.new ≡ self.old) }
+        ensures capacity { IsErrOf result EcoError.Capacity ↔ (MAX_LEN < length self.old.bytes + length bytes.now) }
+    {
+        if bytes.len() > MAX_LEN - self.len() {
+            return Err(EcoError::Capacity);
+        }
+        let mut vec = spilled(self.alloc, self.as_slice(), bytes.len())?;
+        vec.extend_from_slice(bytes)?;
+        self.form = Form::Spilled(vec);
+        Ok(())
+    }
+}

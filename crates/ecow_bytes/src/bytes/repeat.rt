@@ -1,0 +1,57 @@
+//! The same bytes several times over.
+ghost use Rattle.std.specs.Prelude.{◌≡◌, ◌+◌, ◌*◌, ◌<◌, ◌≤◌, ◌↔◌, ◌++◌, false, length, take, IsOk, IfOk, IfErr, OnOk, OnErr, IsErrOf};
+ghost use Rattle.std.specs.List.{repeat};
+ghost use Rattle.ecow_model.specs.Inline.{inline_after, inline_for};
+
+use crate::bytes::SmallBytes;
+use ecow_base::MAX_LEN;
+use ecow_list::EcoError;
+
+/// How many bytes are copied at once, at most, unless one copy has more.
+const PIECE: usize = 4096;
+
+impl<const N: usize> SmallBytes<N> {
+    /// The bytes `count` times over: inline where they come to at most `N`, which is never refused,
+    /// and else spilled. Each step appends as many copies as there are, up to some 4096 bytes. Of no
+    /// bytes it returns at once, however often.
+    ///
+    /// Answers `Capacity` where they come to more than 2^63 - 1, and else `Memory`.
+    pub fn repeat(&self, count: usize) -> Result<Self, EcoError>
+        ensures bytes { IfOk result (λ made. made.bytes ≡ repeat count self.now.bytes) }
+        ensures mode { IfOk result (λ made. made.inline ≡ inline_for N (length self.now.bytes * count)) }
+        ensures capacity { IsErrOf result EcoError.Capacity ↔ (MAX_LEN < length self.now.bytes * count) }
+        ensures free { length self.now.bytes * count ≤ N → IsOk result }
+    {
+        let len = self.len();
+        if len == 0 || count == 0 {
+            return Ok(Self::new(self.alloc));
+        }
+        if count > MAX_LEN / len {
+            return Err(EcoError::Capacity);
+        }
+        let mut made = Self::with_capacity(self.alloc, len * count)?;
+        made.extend_from_slice(self.as_slice())?;
+        let mut copies = 1;
+        while copies < count {
+            let more = copies.min(count - copies).min(PIECE.div_ceil(len));
+            made.append_front(more * len)?;
+            copies += more;
+        }
+        Ok(made)
+    }
+
+    /// Appends the first `len` bytes once more.
+    #[tactic(auto, using(crate::proofs::Limits::past_limit, crate::proofs::Limits::part_fits))]
+    fn append_front(&mut self, len: usize) -> Result<(), EcoError>
+        requires within { len ≤ length self.old.bytes }
+        requires bounded { length self.old.bytes + len ≤ MAX_LEN }
+        ensures bytes { OnOk result (self.new.bytes ≡ self.old.bytes ++ take len self.old.bytes) }
+        ensures mode { OnOk result (self.new.inline ≡ inline_after N self.old.inline (length self.old.bytes) len) }
+        ensures memory { IfErr result (λ error. error ≡ EcoError.Memory) }
+        ensures free { OnErr result (inline_after N self.old.inline (length self.old.bytes) len ≡ false) }
+    {
+        let front = Self::from_slice(self.alloc, &self.as_slice()[..len])?;
+        self.extend_from_slice(front.as_slice())?;
+        Ok(())
+    }
+}

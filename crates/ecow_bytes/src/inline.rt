@@ -1,0 +1,181 @@
+//! At most `N` bytes in the value itself.
+ghost use Rattle.std.specs.Prelude.{◌≡◌, ◌+◌, ◌-◌, ◌<◌, ◌≤◌, ◌↔◌, [], ◌∷◌, ◌++◌, length, take, IsOk, OnOk, OnErr, slice_get, slice_set, Some};
+ghost use Rattle.std.specs.List.{remove, insert_slice};
+
+use crate::cells::Cells;
+use ecow_base::MAX_LEN;
+use std::marker::Model;
+
+/// A list of at most `N` bytes. It takes no memory.
+#[derive(Drop)]
+pub(crate) struct InlineVec<const N: usize> {
+    cells: Cells<N>,
+    len: usize,
+}
+
+/// There is no room for what was to go in; nothing has changed.
+#[derive(Debug, Drop)]
+pub(crate) struct Full;
+
+impl<const N: usize> Model for InlineVec<N> {
+    ghost use Rattle.std.specs.Prelude.{◌≡◌, ◌≤◌, ℕ, List, length, take};
+
+    ghost Value = { List ℕ };
+
+    ghost view = { λ v. take v.len v.cells.bytes };
+
+    ghost invariant = { λ v. (v.len ≤ N) × (length v.cells.bytes ≡ N) };
+}
+
+impl<const N: usize> InlineVec<N> {
+    ghost use Rattle.std.specs.Borrow.{sem};
+    ghost use Rattle.ecow_bytes.specs.Lends.{lends_inline};
+
+    /// No bytes.
+    pub(crate) fn new() -> Self
+        ensures { result ≡ [] }
+    {
+        InlineVec {
+            cells: Cells { bytes: [0; N] },
+            len: 0,
+        }
+    }
+
+    /// The number of bytes.
+    pub(crate) fn len(&self) -> usize
+        ensures len { result ≡ length self.now }
+        ensures fits { result ≤ N }
+        ensures bounded { N ≤ MAX_LEN }
+    {
+        self.len
+    }
+
+    /// The bytes, in order.
+    pub(crate) fn as_slice(&self) -> &[u8]
+        ensures value { result.now ≡ self.now }
+        ensures fits { length result.now ≤ N }
+    {
+        &self.cells.bytes[..self.len]
+    }
+
+    /// The same bytes once more.
+    #[inline]
+    pub(crate) fn copied(&self) -> Self
+        ensures { result ≡ self.now }
+    {
+        InlineVec {
+            cells: self.cells,
+            len: self.len,
+        }
+    }
+
+    /// Appends `byte`. Refused where there are `N` bytes.
+    #[inline]
+    pub(crate) fn push(&mut self, byte: u8) -> Result<(), Full>
+        ensures room { IsOk result ↔ (length self.old < N) }
+        ensures ok { OnOk result (self.new ≡ self.old ++ byte ∷ []) }
+        ensures err { OnErr result (self.new ≡ self.old) }
+    {
+        let len = self.len;
+        if len == N {
+            return Err(Full);
+        }
+        self.cells.bytes[len] = byte;
+        self.len = len + 1;
+        Ok(())
+    }
+
+    /// Takes the last byte: `None` where there is none.
+    #[inline]
+    pub(crate) fn pop(&mut self) -> Option<u8>
+        ensures value { result ≡ slice_get self.old (length self.old - 1) }
+        ensures bytes { self.new ≡ take (length self.old - 1) self.old }
+    {
+        if self.len == 0 {
+            return None;
+        }
+        self.len -= 1;
+        Some(self.cells.bytes[self.len])
+    }
+
+    /// Keeps the first `target` bytes, or all where there are fewer.
+    pub(crate) fn truncate(&mut self, target: usize)
+        ensures { self.new ≡ take target self.old }
+    {
+        if target < self.len {
+            self.len = target;
+        }
+    }
+
+    /// Keeps no byte.
+    pub(crate) fn clear(&mut self)
+        ensures { self.new ≡ [] }
+    {
+        self.len = 0;
+    }
+
+    /// Appends `bytes`. Refused where there were more than `N` then.
+    #[inline]
+    pub(crate) fn extend_from_slice(&mut self, bytes: &[u8]) -> Result<(), Full>
+        ensures room { IsOk result ↔ (length self.old + length bytes.now ≤ N) }
+        ensures ok { OnOk result (self.new ≡ self.old ++ bytes.now) }
+        ensures err { OnErr result (self.new ≡ self.old) }
+    {
+        if N - self.len < bytes.len() {
+            return Err(Full);
+        }
+        let end = self.len + bytes.len();
+        let all = &mut self.cells.bytes[..];
+        all[self.len..end].copy_from_slice(bytes);
+        self.len = end;
+        Ok(())
+    }
+
+    /// Puts `bytes` in before the byte at `index`. Refused where there were more than `N` then.
+    pub(crate) fn insert_slice(&mut self, index: usize, bytes: &[u8]) -> Result<(), Full>
+        requires { index ≤ length self.old }
+        ensures room { IsOk result ↔ (length self.old + length bytes.now ≤ N) }
+        ensures ok { OnOk result (self.new ≡ insert_slice self.old index bytes.now) }
+        ensures err { OnErr result (self.new ≡ self.old) }
+    {
+        if N - self.len < bytes.len() {
+            return Err(Full);
+        }
+        let end = self.len;
+        let all = &mut self.cells.bytes[..];
+        all.copy_within(index..end, index + bytes.len());
+        all[index..index + bytes.len()].copy_from_slice(bytes);
+        self.len = end + bytes.len();
+        Ok(())
+    }
+
+    /// Takes the byte at `index`.
+    pub(crate) fn remove(&mut self, index: usize) -> u8
+        requires { index < length self.old }
+        ensures value { slice_get self.old index ≡ Some result }
+        ensures bytes { self.new ≡ remove self.old index }
+    {
+        let byte = self.cells.bytes[index];
+        let end = self.len;
+        self.cells.bytes.copy_within(index + 1..end, index);
+        self.len = end - 1;
+        byte
+    }
+
+    /// Puts `byte` in place of the byte at `index`.
+    pub(crate) fn set(&mut self, index: usize, byte: u8)
+        requires { index < length self.old }
+        ensures { self.new ≡ slice_set self.old index byte }
+    {
+        let _len = self.len;
+        self.cells.bytes[index] = byte;
+    }
+
+    /// The bytes, for writing.
+    pub(crate) fn as_mut_slice(&mut self) -> &mut [u8]
+        ensures* writes_back { sem 𝓛 (lends_inline N.row self.entry result) }
+        ensures value { result.now ≡ self.old }
+    {
+        self.cells.front_mut(self.len)
+    }
+}

@@ -1,0 +1,10 @@
+//! Bytes that stand in the value itself up to a limit, and past it in a vector that clones share.
+#![tactic(auto)]
+
+pub mod bytes;
+mod cells;
+mod inline;
+pub mod laws;
+pub mod write;
+
+pub use bytes::{EcoBytes, SmallBytes};

@@ -1,0 +1,39 @@
+//! Bytes that are written to a `SmallBytes` are appended to it: a whole piece, or the error
+//! `OutOfMemory` and nothing.
+ghost use Rattle.std.specs.Prelude.{◌≡◌, ◌++◌, length, false, Some, IsOk, IfOk, IfErr, OnOk, OnErr};
+ghost use Rattle.std.specs.Io.{WritesAtMost};
+ghost use Rattle.std.specs.Io.KnownBytes.{Keeps, WriteAppends};
+ghost use Rattle.std.specs.IoError.{error_kind};
+ghost use Rattle.std.specs.declared.io.ErrorKind.TheVariants.{OutOfMemory};
+ghost use Rattle.ecow_model.specs.Inline.{inline_after};
+
+use crate::bytes::SmallBytes;
+use std::alloc::AllocError;
+use std::io;
+
+impl<const N: usize> io::Write for SmallBytes<N> {
+    ghost contents = { λ b. Some b.bytes };
+
+    fn write(&mut self, buf: &[u8]) -> io::Result<usize>
+        ensures bound { WritesAtMost result buf.now }
+        ensures bytes { WriteAppends (Some self.old.bytes) (Some self.new.bytes) result buf.now }
+        ensures mode { OnOk result (self.new.inline ≡ inline_after N self.old.inline (length self.old.bytes) (length buf.now)) }
+        ensures count { IfOk result (λ n. n ≡ length buf.now) }
+        ensures memory { IfErr result (λ error. error_kind error ≡ OutOfMemory) }
+        ensures unchanged { OnErr result (self.new ≡ self.old) }
+        ensures free { OnErr result (inline_after N self.old.inline (length self.old.bytes) (length buf.now) ≡ false) }
+    {
+        match self.extend_from_slice(buf) {
+            Ok(()) => Ok(buf.len()),
+            Err(_) => Err(AllocError.into()),
+        }
+    }
+
+    fn flush(&mut self) -> io::Result<()>
+        ensures bytes { Keeps (Some self.old.bytes) (Some self.new.bytes) }
+        ensures ok { IsOk result }
+        ensures unchanged { self.new ≡ self.old }
+    {
+        Ok(())
+    }
+}
