@@ -5,6 +5,8 @@ use Rattle.ecow_model.specs.Refusing.{◌>>=◌, OnRefused, Change}
 use Rattle.ecow_model.specs.Values.{Named, there}
 use Rattle.ecow_model.specs.Uses.{Rules, Keeps, Gives, IsVerdict, value_at, reading_in, IsEdit, IsEditVerdict, IsAnswer, IsAnswerVerdict, IsUse, IsUseVerdict}
 use Rattle.ecow_model.specs.Lists.{list_rules}
+use Rattle.ecow_model.specs.Bytes.{bytes_rules}
+use Rattle.ecow_model.specs.Texts.{text_rules}
 use Rattle.ecow_model.specs.declared.usage.Usage.TheVariants as use_to
 use Rattle.ecow_model.specs.declared.command.Outcome.{Outcome}
 use Rattle.ecow_model.specs.declared.command.Outcome.TheVariants.{Refused}
@@ -53,7 +55,7 @@ module _ {T V A M D E Q : Type 0} (rules : Rules T V A M D E Q) (keeps : Keeps r
   refused_lifts y (Refused refusal) same = put_kept y same
   refused_lifts y _ same = tt
 
--- lists are kept as they are seen
+-- lists, bytes and texts are kept as they are seen
 pub list_keeps : {T : Type 0} → Keeps (list_rules {T = T})
 list_keeps (Listed xs) ys e = cc
 list_keeps (Buffered b) ys e = cc
@@ -63,3 +65,13 @@ list_keeps (Written t) ys e = cc
 pub on_refused : {T P : Type 0} (outcome : Outcome T) → P → OnRefused outcome P
 on_refused (Refused refusal) p = p
 on_refused _ p = tt
+
+pub bytes_keeps : {T : Type 0} (limit : ℕ) → Keeps (bytes_rules {T = T} limit)
+bytes_keeps limit (Listed xs) b e = cc
+bytes_keeps limit (Buffered c) b e = cc
+bytes_keeps limit (Written t) b e = cc
+
+pub text_keeps : {T : Type 0} (limit : ℕ) → Keeps (text_rules {T = T} limit)
+text_keeps limit (Listed xs) t e = cc
+text_keeps limit (Buffered b) t e = cc
+text_keeps limit (Written u) t e = cc

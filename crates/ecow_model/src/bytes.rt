@@ -1,10 +1,12 @@
 //! The commands on bytes, and their parts.
-ghost use Rattle.std.specs.Prelude.{◌≡◌};
-ghost use Rattle.ecow_model.specs.Bytes.{bytes_usage};
+ghost use Rattle.std.specs.Prelude.{◌≡◌, length};
+ghost use Rattle.ecow_model.specs.Bytes.{bytes_edited, bytes_usage};
+ghost use Rattle.ecow_model.specs.Refusing.{verdict};
+ghost use Rattle.ecow_model.specs.declared.value.PlainBytes.{PlainBytes};
 
-use crate::command::Name;
+use crate::command::{Name, Refusal};
 use crate::items::Items;
-use crate::usage::{Usage, ask, change, derive, make};
+use crate::usage::{Usage, allowed, ask, change, derive, make, within};
 
 /// A command on bytes, inline or spilled. Counts and indexes are of bytes.
 #[derive(Drop)]
@@ -219,6 +221,38 @@ impl BytesCommand {
             BytesCommand::Capacity { name } => ask(name, BytesAsk::Capacity),
             BytesCommand::Contents { name } => ask(name, BytesAsk::Contents),
             BytesCommand::IsInline { name } => ask(name, BytesAsk::IsInline),
+        }
+    }
+}
+
+impl BytesEdit {
+    /// Whether the edit may be made in `len` bytes, of which up to `N` stand inline, and else why
+    /// not: the first refusal that applies, want of memory apart. `T` is what the store's lists hold.
+    pub fn check<T, const N: usize>(&self, len: usize) -> Result<(), Refusal>
+        ensures { (b : PlainBytes) → length b.bytes ≡ len → result ≡ verdict (bytes_edited {T = T} N self.now b) }
+    {
+        match self {
+            BytesEdit::Push(_) => allowed(len, 1),
+            BytesEdit::Insert(index, _) => {
+                if *index > len {
+                    return Err(Refusal::Index);
+                }
+                allowed(len, 1)
+            }
+            BytesEdit::InsertSlice(index, bytes) => {
+                if *index > len {
+                    return Err(Refusal::Index);
+                }
+                allowed(len, bytes.len())
+            }
+            BytesEdit::Remove(index) => within(*index, len),
+            BytesEdit::Write(index, _) => within(*index, len),
+            BytesEdit::Extend(bytes) => allowed(len, bytes.len()),
+            BytesEdit::Reserve(additional) => allowed(len, *additional),
+            BytesEdit::Pop => Ok(()),
+            BytesEdit::Truncate(_) => Ok(()),
+            BytesEdit::Clear => Ok(()),
+            BytesEdit::ShrinkToFit => Ok(()),
         }
     }
 }
