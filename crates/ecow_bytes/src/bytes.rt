@@ -1,6 +1,7 @@
 //! `SmallBytes`, and `EcoBytes`, its name for 15 bytes.
 ghost use Rattle.std.specs.Prelude.{◌≡◌, ◌≤◌, ◌==◌, [], length, true, false};
 
+mod allocator;
 mod conversions;
 mod edits;
 mod make;
