@@ -1,0 +1,86 @@
+-- A map of the ASCII letters alone, on a text's bytes and on its characters.
+use Rattle.std.proofs.Common.{◌≡◌, ℕ, zero, suc, ◌&&◌, ◌+◌, ◌-◌, ◌<◌, ◌≤◌, Bool, true, false, List, [], ◌∷◌, ◌++◌, length, get_or, refl, sym, ap, ◌∙◌, arith, inl, inr, append-nil, append_assoc}
+use Rattle.std.specs.Prelude.{map}
+use Rattle.std.specs.Char.{encode_utf8, to_ascii_lowercase, to_ascii_uppercase, IsScalar}
+use Rattle.std.specs.Str.{chars, encode_utf8_all, all_scalars}
+use Rattle.std.proofs.lemmas.Str.{encode_ascii, inside_one, chars-encodes}
+use Rattle.std.proofs.lemmas.Str.Ascii.{lowercase_ascii, uppercase_ascii, lowercase_is, uppercase_is}
+use Rattle.std.proofs.lemmas.Bool.{cases_lt}
+use Rattle.std.proofs.lemmas.List.{map-append}
+use Rattle.std.proofs.Math.Utf8.{scalar, low_scalar}
+use Rattle.ecow_text.specs.Text.{AreChars, AreUtf8}
+use Rattle.ecow_text.proofs.Texts.{AreUtf8-encoded}
+
+both : (a b : Bool) → (a && b) ≡ true → (a ≡ true) × (b ≡ true)
+both true b h = (refl, h)
+both false b h = cc
+
+joined : (a b : Bool) → a ≡ true → b ≡ true → (a && b) ≡ true
+joined true b h i = i
+joined false b h i = cc
+
+module _ (f : ℕ → ℕ) (low : (c : ℕ) → c < 128 → f c < 128) (high : (c : ℕ) → 128 ≤ c → f c ≡ c) where
+  high_bytes : (bs : List ℕ) → ((k : ℕ) → k < length bs → 128 ≤ get_or bs k 0) → map f bs ≡ bs
+  high_bytes [] above = refl
+  high_bytes (b ∷ bs) above = λ i. high b (above 0 (omega arith)) i ∷ high_bytes bs (λ k less. above (suc k) (omega arith)) i
+
+  -- a character past ASCII has no byte of ASCII
+  wide_bytes : (c : ℕ) → 128 ≤ c → (k : ℕ) → k < length (encode_utf8 c) → 128 ≤ get_or (encode_utf8 c) k 0
+  wide_bytes c wide k less = elim (cases_lt (get_or (encode_utf8 c) k 0) 128) [
+    | inl small ↦ absurd (omega (arith, inside_one c [] (encode_utf8 c) k (sym (append-nil _)) less small))
+    | inr large ↦ omega arith
+  ]
+
+  one_char : (c : ℕ) → map f (encode_utf8 c) ≡ encode_utf8 (f c)
+  one_char c = elim (cases_lt c 128) [
+    | inl small ↦ ap (map f) (encode_ascii c small) ∙ sym (encode_ascii (f c) (low c small))
+    | inr wide ↦ high_bytes (encode_utf8 c) (wide_bytes c (omega arith)) ∙ ap encode_utf8 (sym (high c (omega arith)))
+  ]
+
+  mapped_scalar : (c : ℕ) → IsScalar c → IsScalar (f c)
+  mapped_scalar c is = elim (cases_lt c 128) [
+    | inl small ↦ (let less = low c small in low_scalar (f c) (omega arith))
+    | inr wide ↦ ap scalar (high c (omega arith)) ∙ is
+  ]
+
+  mapped_chars : (cs : List ℕ) → AreChars cs → AreChars (map f cs)
+  mapped_chars [] are = refl
+  mapped_chars (c ∷ cs) are = let parts = both (scalar c) (all_scalars cs) are in joined (scalar (f c)) (all_scalars (map f cs)) (mapped_scalar c parts.0) (mapped_chars cs parts.1)
+
+  mapped_bytes : (cs : List ℕ) → map f (encode_utf8_all cs) ≡ encode_utf8_all (map f cs)
+  mapped_bytes [] = refl
+  mapped_bytes (c ∷ cs) = map-append f (encode_utf8 c) (encode_utf8_all cs) ∙ (λ i. one_char c i ++ mapped_bytes cs i)
+
+  -- the bytes are mapped, and so are the characters
+  as_encoded : (bs : List ℕ) → AreUtf8 bs → map f bs ≡ encode_utf8_all (map f (chars bs))
+  as_encoded bs text = ap (map f) (sym text.spelled) ∙ mapped_bytes (chars bs)
+
+  AreUtf8-mapped : (bs : List ℕ) → AreUtf8 bs → AreUtf8 (map f bs)
+  AreUtf8-mapped bs text = rw (as_encoded bs text) (AreUtf8-encoded _ (mapped_chars (chars bs) text.valid))
+
+  chars-mapped : (bs : List ℕ) → AreUtf8 bs → chars (map f bs) ≡ map f (chars bs)
+  chars-mapped bs text = ap chars (as_encoded bs text) ∙ chars-encodes _ (mapped_chars (chars bs) text.valid)
+
+lower_high : (c : ℕ) → 128 ≤ c → to_ascii_lowercase c ≡ c
+lower_high c wide = (lowercase_is c).2 (omega arith)
+
+upper_high : (c : ℕ) → 128 ≤ c → to_ascii_uppercase c ≡ c
+upper_high c wide = (uppercase_is c).2 (omega arith)
+
+pub AreUtf8-lowered : (bs : List ℕ) → AreUtf8 bs → AreUtf8 (map to_ascii_lowercase bs)
+AreUtf8-lowered = AreUtf8-mapped to_ascii_lowercase lowercase_ascii lower_high
+
+pub chars-lowered : (bs : List ℕ) → AreUtf8 bs → chars (map to_ascii_lowercase bs) ≡ map to_ascii_lowercase (chars bs)
+chars-lowered = chars-mapped to_ascii_lowercase lowercase_ascii lower_high
+
+pub AreUtf8-raised : (bs : List ℕ) → AreUtf8 bs → AreUtf8 (map to_ascii_uppercase bs)
+AreUtf8-raised = AreUtf8-mapped to_ascii_uppercase uppercase_ascii upper_high
+
+pub chars-raised : (bs : List ℕ) → AreUtf8 bs → chars (map to_ascii_uppercase bs) ≡ map to_ascii_uppercase (chars bs)
+chars-raised = chars-mapped to_ascii_uppercase uppercase_ascii upper_high
+
+-- a piece from the front is mapped, and the rest is to come
+pub mapped_piece : (f : ℕ → ℕ) (made rest piece behind bytes new : List ℕ) → made ++ map f rest ≡ map f bytes → piece ++ behind ≡ rest → new ≡ made ++ map f piece → new ++ map f behind ≡ map f bytes
+mapped_piece f made rest piece behind bytes new whole parts appended =
+    ap (λ l. l ++ map f behind) appended ∙ append_assoc made (map f piece) (map f behind)
+    ∙ ap (λ l. made ++ l) (sym (map-append f piece behind) ∙ ap (map f) parts) ∙ whole

@@ -1,0 +1,4 @@
+mod Cased
+mod Removal
+mod Repeats
+mod Texts

@@ -1,0 +1,84 @@
+//! Bytes with the ASCII letters in one case.
+ghost use Rattle.std.specs.Prelude.{◌≡◌, ◌+◌, ◌≤◌, ◌++◌, length, map, false, IfOk, IfErr, OnOk, OnErr};
+ghost use Rattle.ecow_text.specs.Case.{in_case};
+
+use ecow_base::MAX_LEN;
+use ecow_bytes::SmallBytes;
+use ecow_list::{EcoError, EcoVec};
+use std::alloc::Global;
+
+/// How many bytes are mapped at once.
+const PIECE: usize = 64;
+
+/// A case of the ASCII letters.
+#[derive(Clone, Copy)]
+pub(crate) enum Case {
+    Lower,
+    Upper,
+}
+
+impl Case {
+    /// Maps the letters among `bytes`, in place.
+    fn map(self, bytes: &mut [u8])
+        ensures { bytes.new ≡ map (in_case self) bytes.old }
+    {
+        match self {
+            Case::Lower => bytes.make_ascii_lowercase(),
+            Case::Upper => bytes.make_ascii_uppercase(),
+        }
+    }
+}
+
+/// The bytes with their letters in one case, in their mode. Never refused of inline bytes; the one
+/// error is `Memory`.
+pub(crate) fn mapped<const N: usize>(
+    bytes: &SmallBytes<N>,
+    case: Case,
+) -> Result<SmallBytes<N>, EcoError>
+    ensures bytes { IfOk result (λ made. made.bytes ≡ map (in_case case) bytes.now.bytes) }
+    ensures mode { IfOk result (λ made. made.inline ≡ bytes.now.inline) }
+    ensures memory { IfErr result (λ error. error ≡ EcoError.Memory) }
+    ensures free { OnErr result (bytes.now.inline ≡ false) }
+{
+    let alloc = bytes.allocator();
+    let len = bytes.len();
+    if bytes.is_inline() {
+        let mut buffer = [0; N];
+        let front = &mut buffer[..len];
+        front.copy_from_slice(bytes.as_slice());
+        case.map(front);
+        return Ok(SmallBytes::inline(alloc, front));
+    }
+    Ok(SmallBytes::from(mapped_vec(alloc, bytes.as_slice(), case)?))
+}
+
+/// The same in a vector.
+fn mapped_vec(alloc: Global, bytes: &[u8], case: Case) -> Result<EcoVec<u8>, EcoError>
+    requires { length bytes.now ≤ MAX_LEN }
+    ensures bytes { IfOk result (λ made. made ≡ map (in_case case) bytes.now) }
+    ensures memory { IfErr result (λ error. error ≡ EcoError.Memory) }
+{
+    let mut made = EcoVec::with_capacity(alloc, bytes.len())?;
+    let mut rest = bytes;
+    while !rest.is_empty() {
+        let (piece, behind) = rest.split_at(rest.len().min(PIECE));
+        push_mapped(&mut made, piece, case)?;
+        rest = behind;
+    }
+    Ok(made)
+}
+
+/// Appends a piece, with its letters in one case.
+fn push_mapped(made: &mut EcoVec<u8>, piece: &[u8], case: Case) -> Result<(), EcoError>
+    requires short { length piece.now ≤ PIECE }
+    requires fits { length made.old + length piece.now ≤ MAX_LEN }
+    ensures bytes { OnOk result (made.new ≡ made.old ++ map (in_case case) piece.now) }
+    ensures memory { IfErr result (λ error. error ≡ EcoError.Memory) }
+{
+    let mut buffer = [0; PIECE];
+    let front = &mut buffer[..piece.len()];
+    front.copy_from_slice(piece);
+    case.map(front);
+    made.extend_from_slice(front)?;
+    Ok(())
+}

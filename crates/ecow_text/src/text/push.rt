@@ -1,0 +1,49 @@
+//! Appending text.
+ghost use Rattle.std.specs.Prelude.{◌≡◌, ◌+◌, ◌<◌, ◌↔◌, [], ◌∷◌, ◌++◌, length, false, IsOk, OnOk, OnErr, IsErrOf};
+ghost use Rattle.std.specs.Char.{len_utf8};
+ghost use Rattle.std.specs.Str.{chars};
+ghost use Rattle.ecow_model.specs.Inline.{inline_after};
+ghost use Rattle.ecow_model.specs.Utf8.{utf8_len};
+
+use crate::text::SmallText;
+use ecow_base::MAX_LEN;
+use ecow_list::EcoError;
+
+impl<const N: usize> SmallText<N> {
+    /// Appends `c`: inline where its bytes fit, which is never refused, and else spilled. A spilled
+    /// text that is shared is copied first.
+    ///
+    /// A refusal changes nothing: `Capacity` where the new length passes 2^63 - 1, and else
+    /// `Memory`.
+    #[inline]
+    pub fn push(&mut self, c: char) -> Result<(), EcoError>
+        ensures chars { OnOk result (self.new.chars ≡ self.old.chars ++ c ∷ []) }
+        ensures mode { OnOk result (self.new.inline ≡ inline_after N self.old.inline (utf8_len self.old.chars) (len_utf8 c)) }
+        ensures err { OnErr result (self.new ≡ self.old) }
+        ensures capacity { IsErrOf result EcoError.Capacity ↔ (MAX_LEN < utf8_len self.old.chars + len_utf8 c) }
+        ensures free { OnErr result (inline_after N self.old.inline (utf8_len self.old.chars) (len_utf8 c) ≡ false) }
+    {
+        let mut buffer = [0; 4];
+        self.push_str(c.encode_utf8(&mut buffer))?;
+        Ok(())
+    }
+
+    /// Appends `text`: all, or nothing where it is refused. It is inline where it fits, which is
+    /// never refused, and else spilled. A spilled text that is shared is copied first. Of an empty
+    /// text it is never refused and changes nothing, sharing included.
+    ///
+    /// A refusal changes nothing: `Capacity` where the new length passes 2^63 - 1, and else
+    /// `Memory`.
+    #[inline]
+    pub fn push_str(&mut self, text: &str) -> Result<(), EcoError>
+        ensures chars { OnOk result (self.new.chars ≡ self.old.chars ++ chars text.now) }
+        ensures mode { OnOk result (self.new.inline ≡ inline_after N self.old.inline (utf8_len self.old.chars) (length text.now)) }
+        ensures err { OnErr result (self.new ≡ self.old) }
+        ensures capacity { IsErrOf result EcoError.Capacity ↔ (MAX_LEN < utf8_len self.old.chars + length text.now) }
+        ensures free { OnErr result (inline_after N self.old.inline (utf8_len self.old.chars) (length text.now) ≡ false) }
+        ensures nothing { text.now ≡ [] → IsOk result × (self.new ≡ self.old) }
+    {
+        self.bytes.extend_from_slice(text.as_bytes())?;
+        Ok(())
+    }
+}
