@@ -1,12 +1,12 @@
 -- A character taken out of a text.
-use Rattle.std.proofs.Common.{◌≡◌, ℕ, zero, suc, ◌+◌, ◌≤◌, ◌<◌, true, List, [], ◌∷◌, ◌++◌, length, take, drop, Some, refl, sym, ap, ◌∙◌, subst, arith, append_assoc, length-append, take-append-drop, length-take-le, length-drop}
+use Rattle.std.proofs.Common.{◌≡◌, ℕ, suc, ◌+◌, ◌≤◌, true, List, [], ◌∷◌, ◌++◌, length, take, drop, Some, refl, sym, ap, ◌∙◌, subst, arith, append_assoc, length-append, take-append-drop, length-take-le}
 use Rattle.std.specs.Prelude.{slice_get}
 use Rattle.std.specs.List.{remove, remove_range}
 use Rattle.std.specs.Char.{len_utf8, encode_utf8}
 use Rattle.std.specs.Str.{chars, encode_utf8_all}
 use Rattle.std.proofs.lemmas.Str.{chars-encodes, encodes-append, cons_from_encodes, length-encode, drop_past_char}
 use Rattle.std.proofs.lemmas.List.{take_at, drop_at}
-use Rattle.ecow_model.specs.Utf8.{chars_before, IsBoundary, is_boundary}
+use Rattle.ecow_model.specs.Utf8.{chars_before, is_boundary}
 use Rattle.ecow_model.proofs.Boundaries.{chars_before-front, passes_boundary}
 use Rattle.ecow_text.specs.Text.{AreChars, AreUtf8}
 use Rattle.ecow_text.proofs.Texts.{AreUtf8-encoded, AreChars-append, AreChars-joined, front_bytes, split_encoded}

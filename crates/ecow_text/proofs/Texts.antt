@@ -1,5 +1,5 @@
 -- The characters of bytes that are UTF-8, and their byte indices.
-use Rattle.std.proofs.Common.{◌≡◌, ℕ, zero, suc, ◌&&◌, ◌+◌, ◌-◌, ◌<◌, ◌≤◌, Bool, true, false, List, [], ◌∷◌, ◌++◌, length, take, drop, Option, None, Some, IfSome, refl, sym, ap, ◌∙◌, subst, arith, inl, inr, append-nil, append_assoc, length-append, length-take-le, take-append-drop, IsUtf8}
+use Rattle.std.proofs.Common.{◌≡◌, ℕ, zero, suc, ◌&&◌, ◌+◌, ◌-◌, ◌<◌, ◌≤◌, Bool, true, false, List, [], ◌∷◌, ◌++◌, length, take, drop, None, Some, refl, sym, ap, ◌∙◌, subst, arith, inl, inr, append-nil, append_assoc, length-append, length-take-le, take-append-drop, IsUtf8}
 use Rattle.std.specs.Prelude.{slice_get, ◌==◌}
 use Rattle.std.specs.List.{insert, insert_slice}
 use Rattle.std.specs.Char.{len_utf8, encode_utf8, IsScalar}
@@ -9,7 +9,7 @@ use Rattle.std.proofs.lemmas.List.{take_at, take_all, drop_at, nil_from_length}
 use Rattle.std.proofs.lemmas.Bool.{cases_lt, eqb-true, eq-eqb}
 use Rattle.std.proofs.Math.Utf8.{scalar}
 use Rattle.ecow_model.specs.Utf8.{utf8_len, chars_before, IsBoundary, is_boundary}
-use Rattle.ecow_model.proofs.Boundaries.{width, chars_before-front, boundary_passes, passes_boundary}
+use Rattle.ecow_model.proofs.Boundaries.{width, chars_before-front, passes_boundary}
 use Rattle.ecow_text.specs.Text.{AreChars, AreUtf8}
 
 pub AreUtf8-from : (bs : List ℕ) → IsUtf8 bs → AreUtf8 bs
@@ -208,3 +208,7 @@ not_utf8 bs never = failed (is_utf8 bs) (λ e. never (IsUtf8-from_is_utf8 bs e))
     failed : (b : Bool) → ¬ (b ≡ true) → b ≡ false
     failed true h = absurd (h refl)
     failed false h = refl
+
+-- no bytes spell no characters
+pub chars_of_none : (bs : List ℕ) → (length bs == 0) ≡ true → chars bs ≡ []
+chars_of_none bs e = chars_of_nil bs (nil_from_length bs (eqb-true _ _ e))

@@ -1,2 +1,3 @@
 pub mod Case
+pub mod Replace
 pub mod Text

@@ -1,5 +1,5 @@
 -- Which bytes a text may have. A character is a Unicode scalar value: a number below 1114112, outside 55296 to 57343.
-use Rattle.std.specs.Prelude.{◌≡◌, ℕ, Bool, true, false, List, Result, MatchResult}
+use Rattle.std.specs.Prelude.{◌≡◌, ℕ, true, false, List, Result, MatchResult}
 use Rattle.std.specs.Str.{chars, encode_utf8_all, all_scalars, is_utf8}
 use Rattle.std.specs.declared.str.Utf8Error.{Utf8Error}
 use Rattle.ecow_model.specs.Bytes.{plain_bytes}

@@ -10,6 +10,7 @@ mod edits;
 mod make;
 mod push;
 mod repeat;
+mod replace;
 
 use ecow_base::MAX_LEN;
 use ecow_bytes::SmallBytes;

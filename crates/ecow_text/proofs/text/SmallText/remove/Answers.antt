@@ -1,5 +1,5 @@
-use Rattle.std.proofs.Common.{◌≡◌, ◌+◌, sym, ap, ◌∙◌, drop}
-use Rattle.std.specs.Str.{chars, encode_utf8_all}
+use Rattle.std.proofs.Common.{◌≡◌, sym, ap, ◌∙◌, drop}
+use Rattle.std.specs.Str.{encode_utf8_all}
 use Rattle.ecow_model.proofs.Boundaries.{passes_boundary}
 use Rattle.ecow_model.specs.declared.value.PlainText.{PlainText}
 use Rattle.ecow_text.proofs.Removal.{Removed, removed}

@@ -1,0 +1,29 @@
+-- How a text is split for a replacement. A `str` is its bytes.
+use Rattle.std.specs.Prelude.{◌≡◌, ◌+◌, ℕ, MatchOption, List, [], ◌∷◌, length, Option, Some, None}
+use Rattle.std.specs.Str.{chars, IsUtf8}
+use denote.Ref.{Bor}
+use Rattle.ecow_model.specs.Replaced.{first_split}
+
+-- the texts before and behind the first p in s
+pub record IsFirstSplit (p s before behind : List ℕ) : Type 0 where
+  pub split : first_split (chars p) (chars s) ≡ Some (chars before, chars behind)
+  pub lengths : length before + length p + length behind ≡ length s
+  pub before_utf8 : IsUtf8 before
+  pub behind_utf8 : IsUtf8 behind
+
+-- the parts are what stands before and behind the first p in s
+abbrev pub SplitsFirst : List ℕ → List ℕ → Option (Bor (List ℕ) × Bor (List ℕ)) → Type 0
+SplitsFirst p s r = MatchOption r (first_split (chars p) (chars s) ≡ None) (λ parts. IsFirstSplit p s parts.0.now parts.1.now)
+
+-- the first character of s, as a text, and the text behind it
+pub record IsCharSplit (s first behind : List ℕ) : Type 0 where
+  pub char : ℕ
+  pub first_chars : chars first ≡ char ∷ []
+  pub split : chars s ≡ char ∷ chars behind
+  pub lengths : length first + length behind ≡ length s
+  pub first_utf8 : IsUtf8 first
+  pub behind_utf8 : IsUtf8 behind
+
+-- the parts are the first character of s and what stands behind it
+abbrev pub SplitsChar : List ℕ → Option (Bor (List ℕ) × Bor (List ℕ)) → Type 0
+SplitsChar s r = MatchOption r (chars s ≡ []) (λ parts. IsCharSplit s parts.0.now parts.1.now)

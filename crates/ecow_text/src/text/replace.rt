@@ -1,0 +1,72 @@
+//! A text with another in place of a pattern. The resulting length is counted first, so that a text
+//! that would be too long asks for no memory.
+ghost use Rattle.std.specs.Prelude.{◌≡◌, ◌≢◌, ◌+◌, ◌<◌, ◌≤◌, ◌↔◌, [], length, IsOk, IfOk, IsErrOf};
+ghost use Rattle.std.specs.Str.{chars};
+ghost use Rattle.ecow_model.specs.Inline.{inline_for};
+ghost use Rattle.ecow_model.specs.Replaced.{replaced, replaced_all};
+ghost use Rattle.ecow_model.specs.Utf8.{utf8_len};
+
+mod pattern;
+mod spread;
+mod within;
+
+use crate::text::SmallText;
+use crate::text::replace::pattern::{push_replaced, replaced_len};
+use crate::text::replace::spread::{push_spread, spread_len};
+use ecow_base::MAX_LEN;
+use ecow_list::EcoError;
+use memchr::memmem::Finder;
+
+impl<const N: usize> SmallText<N> {
+    /// The text with `replacement` in place of the first `count` occurrences of `pattern`, from the
+    /// left and without overlap; an empty pattern occurs at each boundary, the end too. It is inline
+    /// where it has at most `N` bytes, which is never refused, and else spilled.
+    ///
+    /// Answers `Capacity` where it comes to more than 2^63 - 1 bytes, and else `Memory`.
+    pub fn replacen(&self, pattern: &str, replacement: &str, count: usize) -> Result<Self, EcoError>
+        ensures chars { IfOk result (λ made. made.chars ≡ replaced count (chars pattern.now) (chars replacement.now) self.now.chars) }
+        ensures mode { IfOk result (λ made. made.inline ≡ inline_for N (utf8_len (replaced count (chars pattern.now) (chars replacement.now) self.now.chars))) }
+        ensures capacity { IsErrOf result EcoError.Capacity ↔ (MAX_LEN < utf8_len (replaced count (chars pattern.now) (chars replacement.now) self.now.chars)) }
+        ensures free { utf8_len (replaced count (chars pattern.now) (chars replacement.now) self.now.chars) ≤ N → IsOk result }
+    {
+        if pattern.is_empty() {
+            return self.spread(replacement, count);
+        }
+        self.replaced(pattern, replacement, count)
+    }
+
+    /// `replacen` of a pattern that is not empty.
+    fn replaced(&self, pattern: &str, replacement: &str, count: usize) -> Result<Self, EcoError>
+        requires { pattern.now ≢ [] }
+        ensures chars { IfOk result (λ made. made.chars ≡ replaced count (chars pattern.now) (chars replacement.now) self.now.chars) }
+        ensures mode { IfOk result (λ made. made.inline ≡ inline_for N (utf8_len (replaced count (chars pattern.now) (chars replacement.now) self.now.chars))) }
+        ensures capacity { IsErrOf result EcoError.Capacity ↔ (MAX_LEN < utf8_len (replaced count (chars pattern.now) (chars replacement.now) self.now.chars)) }
+        ensures free { utf8_len (replaced count (chars pattern.now) (chars replacement.now) self.now.chars) ≤ N → IsOk result }
+    {
+        let text = self.as_str();
+        let finder = Finder::new(pattern.as_bytes());
+        let Some(most) = replaced_len(text, &finder, pattern, replacement, count) else {
+            return Err(EcoError::Capacity);
+        };
+        let mut made = Self::with_capacity(self.bytes.allocator(), most)?;
+        push_replaced(&mut made, text, &finder, pattern, replacement, count, most)?;
+        Ok(made)
+    }
+
+    /// `replacen` of the empty pattern.
+    fn spread(&self, replacement: &str, count: usize) -> Result<Self, EcoError>
+        ensures chars { IfOk result (λ made. made.chars ≡ replaced count [] (chars replacement.now) self.now.chars) }
+        ensures mode { IfOk result (λ made. made.inline ≡ inline_for N (utf8_len (replaced count [] (chars replacement.now) self.now.chars))) }
+        ensures capacity { IsErrOf result EcoError.Capacity ↔ (MAX_LEN < utf8_len (replaced count [] (chars replacement.now) self.now.chars)) }
+        ensures free { utf8_len (replaced count [] (chars replacement.now) self.now.chars) ≤ N → IsOk result }
+    {
+        let text = self.as_str();
+        let _len = self.len();
+        let Some(most) = spread_len(text, replacement, count) else {
+            return Err(EcoError::Capacity);
+        };
+        let mut made = Self::with_capacity(self.bytes.allocator(), most)?;
+        push_spread(&mut made, text, replacement, count, most)?;
+        Ok(made)
+    }
+}
