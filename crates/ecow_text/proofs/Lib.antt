@@ -1,7 +1,9 @@
 mod Cased
 mod Chars
+mod Enough
 mod Limits
 mod Occurrences
+mod Printed
 mod Removal
 mod Repeats
 mod Steps

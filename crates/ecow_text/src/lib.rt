@@ -3,6 +3,10 @@
 
 mod case;
 mod cut;
+pub mod display;
+pub mod laws;
+mod macros;
 pub mod text;
 
+pub use display::ToEcoString;
 pub use text::{EcoString, SmallText};

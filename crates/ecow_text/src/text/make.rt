@@ -1,5 +1,5 @@
 //! The calls that make a text of something else.
-ghost use Rattle.std.specs.Prelude.{◌≡◌, ◌<◌, ◌≤◌, ◌↔◌, [], ◌∷◌, length, true, IsOk, IfOk, IfErr, IsErrOf, IsSome, IfSome};
+ghost use Rattle.std.specs.Prelude.{◌≡◌, ◌<◌, ◌≤◌, ◌↔◌, [], ◌∷◌, length, true, IsOk, IfOk, IfErr, IsErrAnd, IsErrOf, IsSome, IfSome, string_bytes};
 ghost use Rattle.std.specs.Char.{len_utf8};
 ghost use Rattle.std.specs.Str.{chars};
 ghost use Rattle.ecow_model.specs.Inline.{inline_for};
@@ -7,7 +7,7 @@ ghost use Rattle.ecow_model.specs.Inline.{inline_for};
 use crate::text::SmallText;
 use ecow_base::MAX_LEN;
 use ecow_bytes::SmallBytes;
-use ecow_list::EcoError;
+use ecow_list::{EcoError, Rejected};
 use std::alloc::Global;
 
 impl<const N: usize> SmallText<N> {
@@ -67,5 +67,20 @@ impl<const N: usize> SmallText<N> {
     {
         let bytes = SmallBytes::from_slice(alloc, text.as_bytes())?;
         Ok(SmallText { bytes })
+    }
+    /// The text of a `String`: inline where it has at most `N` bytes, which is never refused, and
+    /// else spilled, with a block of its own. A refusal hands the `String` back, with `Capacity` past
+    /// 2^63 - 1 bytes, and else with `Memory`.
+    pub fn from_string(alloc: Global, text: String) -> Result<Self, Rejected<String>>
+        ensures chars { IfOk result (λ made. made.chars ≡ chars (string_bytes text)) }
+        ensures mode { IfOk result (λ made. made.inline ≡ inline_for N (length (string_bytes text))) }
+        ensures value_returned { IfErr result (λ rejected. rejected.value ≡ text) }
+        ensures capacity { IsErrAnd result (λ rejected. rejected.error ≡ EcoError.Capacity) ↔ (MAX_LEN < length (string_bytes text)) }
+        ensures free { length (string_bytes text) ≤ N → IsOk result }
+    {
+        match Self::from_str(alloc, text.as_str()) {
+            Ok(made) => Ok(made),
+            Err(error) => Err(Rejected { error, value: text }),
+        }
     }
 }

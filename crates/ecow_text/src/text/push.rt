@@ -1,5 +1,5 @@
 //! Appending text.
-ghost use Rattle.std.specs.Prelude.{◌≡◌, ◌+◌, ◌<◌, ◌↔◌, [], ◌∷◌, ◌++◌, length, false, IsOk, OnOk, OnErr, IsErrOf};
+ghost use Rattle.std.specs.Prelude.{◌≡◌, ◌+◌, ◌<◌, ◌↔◌, [], ◌∷◌, ◌++◌, length, false, IsOk, IfOk, IfErr, OnOk, OnErr, IsErrAnd, IsErrOf};
 ghost use Rattle.std.specs.Char.{len_utf8};
 ghost use Rattle.std.specs.Str.{chars};
 ghost use Rattle.ecow_model.specs.Inline.{inline_after};
@@ -7,7 +7,7 @@ ghost use Rattle.ecow_model.specs.Utf8.{utf8_len};
 
 use crate::text::SmallText;
 use ecow_base::MAX_LEN;
-use ecow_list::EcoError;
+use ecow_list::{EcoError, Rejected};
 
 impl<const N: usize> SmallText<N> {
     /// Appends `c`: inline where its bytes fit, which is never refused, and else spilled. A spilled
@@ -45,5 +45,21 @@ impl<const N: usize> SmallText<N> {
     {
         self.bytes.extend_from_slice(text.as_bytes())?;
         Ok(())
+    }
+    /// The text with `text` behind it, as `push_str` appends it. A refusal hands this text back as it
+    /// was, with `push_str`'s error.
+    pub fn add(self, text: &str) -> Result<Self, Rejected<Self>>
+        ensures chars { IfOk result (λ sum. sum.chars ≡ self.entry.chars ++ chars text.now) }
+        ensures mode { IfOk result (λ sum. sum.inline ≡ inline_after N self.entry.inline (utf8_len self.entry.chars) (length text.now)) }
+        ensures value_returned { IfErr result (λ rejected. rejected.value ≡ self.entry) }
+        ensures capacity { IsErrAnd result (λ rejected. rejected.error ≡ EcoError.Capacity) ↔ (MAX_LEN < utf8_len self.entry.chars + length text.now) }
+        ensures free { OnErr result (inline_after N self.entry.inline (utf8_len self.entry.chars) (length text.now) ≡ false) }
+        ensures nothing { text.now ≡ [] → IsOk result }
+    {
+        let mut sum = self;
+        match sum.push_str(text) {
+            Ok(()) => Ok(sum),
+            Err(error) => Err(Rejected { error, value: sum }),
+        }
     }
 }

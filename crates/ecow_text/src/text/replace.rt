@@ -35,6 +35,17 @@ impl<const N: usize> SmallText<N> {
         self.replaced(pattern, replacement, count)
     }
 
+    /// The text with `replacement` in place of all occurrences of `pattern`: `replacen` without a
+    /// limit.
+    pub fn replace(&self, pattern: &str, replacement: &str) -> Result<Self, EcoError>
+        ensures chars { IfOk result (λ made. made.chars ≡ replaced_all (chars pattern.now) (chars replacement.now) self.now.chars) }
+        ensures mode { IfOk result (λ made. made.inline ≡ inline_for N (utf8_len (replaced_all (chars pattern.now) (chars replacement.now) self.now.chars))) }
+        ensures capacity { IsErrOf result EcoError.Capacity ↔ (MAX_LEN < utf8_len (replaced_all (chars pattern.now) (chars replacement.now) self.now.chars)) }
+        ensures free { utf8_len (replaced_all (chars pattern.now) (chars replacement.now) self.now.chars) ≤ N → IsOk result }
+    {
+        self.replacen(pattern, replacement, self.len() + 1)
+    }
+
     /// `replacen` of a pattern that is not empty.
     fn replaced(&self, pattern: &str, replacement: &str, count: usize) -> Result<Self, EcoError>
         requires { pattern.now ≢ [] }

@@ -1,0 +1,68 @@
+//! Equality, order, hash and debug text of a text: those of its UTF-8 bytes, inline or spilled, shared
+//! or not. A front comes before what it begins. The hash is that of a `str`.
+ghost use Rattle.std.specs.Prelude.{nat_eq, Some, refl};
+ghost use Rattle.std.specs.Ordering.{nat_cmp};
+ghost use Rattle.std.specs.Cmp.{on_equiv, on_total, on_po, on_per, partial_equiv_from_equiv};
+ghost use Rattle.std.specs.Cmp.Lexicographic.{pointwise, slice_cmp, nat_list_eq_equiv, nat_list_cmp_total, texts_po, texts_ties, bytes_decides};
+ghost use Rattle.std.specs.Hash as fed;
+ghost use Rattle.std.specs.Hash.{on_Alike, same_Alike};
+ghost use Rattle.std.specs.Str.{encode_utf8_all};
+
+use crate::text::SmallText;
+use std::cmp::Ordering;
+use std::fmt;
+use std::hash::{Hash, Hasher};
+
+impl<const N: usize> PartialEq for SmallText<N> {
+    ghost eq = { λ t u. pointwise nat_eq (encode_utf8_all t.chars) (encode_utf8_all u.chars) };
+
+    ghost laws = { on_per (λ t. encode_utf8_all t.chars) (partial_equiv_from_equiv nat_list_eq_equiv) };
+
+    fn eq(&self, other: &Self) -> bool {
+        self.as_str() == other.as_str()
+    }
+}
+
+impl<const N: usize> Eq for SmallText<N> {
+    ghost laws = { on_equiv (λ t. encode_utf8_all t.chars) nat_list_eq_equiv };
+}
+
+impl<const N: usize> PartialOrd for SmallText<N> {
+    ghost partial_cmp = { λ t u. Some (slice_cmp nat_cmp (encode_utf8_all t.chars) (encode_utf8_all u.chars)) };
+
+    ghost laws = { on_po (λ t. encode_utf8_all t.chars) texts_po };
+
+    fn partial_cmp(&self, other: &Self) -> Option<Ordering> {
+        Some(self.cmp(other))
+    }
+}
+
+impl<const N: usize> Ord for SmallText<N> {
+    ghost cmp = { λ t u. slice_cmp nat_cmp (encode_utf8_all t.chars) (encode_utf8_all u.chars) };
+
+    ghost total = { on_total (λ t. encode_utf8_all t.chars) nat_list_cmp_total };
+
+    ghost matches_partial_cmp = { λ t u. refl };
+
+    ghost matches_eq = { λ t u. texts_ties (encode_utf8_all t.chars) (encode_utf8_all u.chars) };
+
+    fn cmp(&self, other: &Self) -> Ordering {
+        self.as_str().cmp(other.as_str())
+    }
+}
+
+impl<const N: usize> Hash for SmallText<N> {
+    ghost hash_input = { λ t. fed.str (encode_utf8_all t.chars) };
+
+    ghost respects_eq = { (on_Alike (λ t. encode_utf8_all t.chars) (same_Alike (λ bytes. fed.str bytes) bytes_decides)).fed };
+
+    fn hash<H: Hasher>(&self, state: &mut H) {
+        self.as_str().hash(state);
+    }
+}
+
+impl<const N: usize> fmt::Debug for SmallText<N> {
+    fn fmt<W: fmt::Write>(&self, f: &mut fmt::Formatter<W>) -> fmt::Result {
+        fmt::Debug::fmt(self.as_str(), f)
+    }
+}
