@@ -1,6 +1,7 @@
 mod Cased
 mod Chars
 mod Enough
+mod Joined
 mod Limits
 mod Occurrences
 mod Printed

@@ -1,6 +1,7 @@
 -- One step of a replacement, on the characters and by lengths.
 use Rattle.std.proofs.Common.{◌≡◌, ◌≢◌, ℕ, zero, suc, ◌+◌, ◌-◌, ◌*◌, ◌<◌, ◌≤◌, List, [], ◌∷◌, ◌++◌, length, Some, None, refl, sym, ap, ◌∙◌, arith, min}
 use Rattle.std.proofs.Math.Nat.{suc-mul}
+use Rattle.std.specs.Char.{len_utf8}
 use Rattle.std.specs.Str.{chars, encode_utf8_all, IsUtf8}
 use Rattle.std.specs.Option.{option_map_or}
 use Rattle.std.proofs.lemmas.Str.{encodes-chars}
@@ -97,3 +98,7 @@ spread_total n places t s to text e =
 -- what fits once all is appended leaves room for a part of it
 pub part_fits : (made old rest whole after : List ℕ) (most n : ℕ) → made ++ rest ≡ old ++ whole → utf8_len old + utf8_len whole ≤ most → utf8_len rest ≡ n + utf8_len after → utf8_len made + n ≤ most
 part_fits made old rest whole after most n joined fits size = omega (arith, ap utf8_len joined, encoded_len made rest, encoded_len old whole)
+
+-- the bytes of a text with one character more
+pub one_char_more : (cs : List ℕ) (c : ℕ) → utf8_len (cs ++ c ∷ []) ≡ utf8_len cs + len_utf8 c
+one_char_more cs c = encoded_len cs (c ∷ []) ∙ ap (λ n. utf8_len cs + n) (width c [] ∙ omega arith)

@@ -1,3 +1,4 @@
+pub mod Appends
 pub mod Case
 pub mod Replace
 pub mod Text

@@ -1,5 +1,6 @@
 //! Bytes with the ASCII letters in one case.
-ghost use Rattle.std.specs.Prelude.{◌≡◌, ◌+◌, ◌≤◌, ◌++◌, length, map, false, IfOk, IfErr, OnOk, OnErr};
+ghost use Rattle.std.specs.Prelude.{◌≡◌, ◌+◌, ◌≤◌, ◌++◌, length, map, true, false, IsOk, IfOk, IfErr, OnOk, OnErr};
+ghost use Rattle.ecow_model.specs.Inline.{inline_for};
 ghost use Rattle.ecow_text.specs.Case.{in_case};
 
 use ecow_base::MAX_LEN;
@@ -41,15 +42,41 @@ pub(crate) fn mapped<const N: usize>(
     ensures free { OnErr result (bytes.now.inline ≡ false) }
 {
     let alloc = bytes.allocator();
-    let len = bytes.len();
+    let _len = bytes.len();
     if bytes.is_inline() {
-        let mut buffer = [0; N];
-        let front = &mut buffer[..len];
-        front.copy_from_slice(bytes.as_slice());
-        case.map(front);
-        return Ok(SmallBytes::inline(alloc, front));
+        return Ok(mapped_inline(alloc, bytes.as_slice(), case));
     }
     Ok(SmallBytes::from(mapped_vec(alloc, bytes.as_slice(), case)?))
+}
+
+/// The same, inline where there are at most `N` bytes, which is never refused, and else spilled.
+pub(crate) fn mapped_by_length<const N: usize>(
+    bytes: &SmallBytes<N>,
+    case: Case,
+) -> Result<SmallBytes<N>, EcoError>
+    ensures bytes { IfOk result (λ made. made.bytes ≡ map (in_case case) bytes.now.bytes) }
+    ensures mode { IfOk result (λ made. made.inline ≡ inline_for N (length bytes.now.bytes)) }
+    ensures memory { IfErr result (λ error. error ≡ EcoError.Memory) }
+    ensures free { length bytes.now.bytes ≤ N → IsOk result }
+{
+    let alloc = bytes.allocator();
+    if bytes.len() <= N {
+        return Ok(mapped_inline(alloc, bytes.as_slice(), case));
+    }
+    Ok(SmallBytes::from(mapped_vec(alloc, bytes.as_slice(), case)?))
+}
+
+/// The same inline.
+fn mapped_inline<const N: usize>(alloc: Global, bytes: &[u8], case: Case) -> SmallBytes<N>
+    requires { length bytes.now ≤ N }
+    ensures bytes { result.bytes ≡ map (in_case case) bytes.now }
+    ensures mode { result.inline ≡ true }
+{
+    let mut buffer = [0; N];
+    let front = &mut buffer[..bytes.len()];
+    front.copy_from_slice(bytes);
+    case.map(front);
+    SmallBytes::inline(alloc, front)
 }
 
 /// The same in a vector.

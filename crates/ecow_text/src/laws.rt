@@ -1,12 +1,16 @@
 //! Equality, order, hash and debug text of a text: those of its UTF-8 bytes, inline or spilled, shared
 //! or not. A front comes before what it begins. The hash is that of a `str`.
-ghost use Rattle.std.specs.Prelude.{nat_eq, Some, refl};
+ghost use Rattle.std.specs.Prelude.{◌≡◌, true, nat_eq, Some, refl};
 ghost use Rattle.std.specs.Ordering.{nat_cmp};
 ghost use Rattle.std.specs.Cmp.{on_equiv, on_total, on_po, on_per, partial_equiv_from_equiv};
 ghost use Rattle.std.specs.Cmp.Lexicographic.{pointwise, slice_cmp, nat_list_eq_equiv, nat_list_cmp_total, texts_po, texts_ties, bytes_decides};
 ghost use Rattle.std.specs.Hash as fed;
 ghost use Rattle.std.specs.Hash.{on_Alike, same_Alike};
-ghost use Rattle.std.specs.Str.{encode_utf8_all};
+ghost use Rattle.std.specs.Str.{encode_utf8_all, is_utf8, IsUtf8};
+ghost use Rattle.ecow_model.specs.Texts.{text_of};
+ghost use Rattle.ecow_model.specs.declared.value.PlainBytes.{PlainBytes};
+ghost use Rattle.ecow_model.specs.declared.value.PlainText.{PlainText};
+ghost use Rattle.ecow_text.specs.Text.{AreChars, bytes_of};
 
 use crate::text::SmallText;
 use std::cmp::Ordering;
@@ -66,3 +70,20 @@ impl<const N: usize> fmt::Debug for SmallText<N> {
         fmt::Debug::fmt(self.as_str(), f)
     }
 }
+
+/// Bytes are tried for a text exactly where they are UTF-8, and the text has these bytes in their
+/// mode. The bytes of a text pass, and are tried for that text in the same mode.
+pub fn texts_are_their_bytes()
+    ensures passes { (held : PlainBytes) → IsUtf8 held.bytes → is_utf8 held.bytes ≡ true }
+    ensures is { (held : PlainBytes) → is_utf8 held.bytes ≡ true → IsUtf8 held.bytes }
+    ensures kept { (held : PlainBytes) → is_utf8 held.bytes ≡ true → bytes_of (text_of held) ≡ held }
+    ensures valid { (held : PlainBytes) → is_utf8 held.bytes ≡ true → AreChars (text_of held).chars }
+    ensures again_passes { (text : PlainText) → AreChars text.chars → is_utf8 (bytes_of text).bytes ≡ true }
+    ensures again { (text : PlainText) → AreChars text.chars → text_of (bytes_of text) ≡ text }
+{}
+
+/// Texts are equal exactly where they have the same characters.
+pub fn equal_texts_have_the_same_characters()
+    ensures same { (t : PlainText) (u : PlainText) → pointwise nat_eq (encode_utf8_all t.chars) (encode_utf8_all u.chars) ≡ true → t.chars ≡ u.chars }
+    ensures equal { (t : PlainText) (u : PlainText) → t.chars ≡ u.chars → pointwise nat_eq (encode_utf8_all t.chars) (encode_utf8_all u.chars) ≡ true }
+{}

@@ -5,6 +5,7 @@ ghost use Rattle.ecow_model.specs.Utf8.{utf8_len, is_boundary};
 ghost use Rattle.ecow_text.specs.Text.{AreChars};
 
 mod case;
+mod collect;
 mod conversions;
 mod edits;
 mod make;

@@ -1,9 +1,15 @@
 //! The letters of a text in one case.
-ghost use Rattle.std.specs.Prelude.{◌≡◌, false, IfOk, IfErr, OnOk, OnErr, map};
+ghost use Rattle.std.specs.Prelude.{◌≡◌, ◌<◌, ◌≤◌, length, false, IsOk, IfOk, IfErr, OnOk, OnErr, IsErrOf, map};
 ghost use Rattle.std.specs.Char.{to_ascii_lowercase, to_ascii_uppercase};
+ghost use Rattle.std.specs.Str.{encode_utf8_all, IsAscii};
+ghost use Rattle.std.specs.StrCase.Lower.{str_to_lowercase};
+ghost use Rattle.std.specs.StrCase.Upper.{str_to_uppercase};
+ghost use Rattle.ecow_model.specs.Inline.{inline_for};
+ghost use Rattle.ecow_model.specs.Utf8.{utf8_len};
 
-use crate::case::{Case, mapped};
+use crate::case::{Case, mapped, mapped_by_length};
 use crate::text::SmallText;
+use ecow_base::MAX_LEN;
 use ecow_list::EcoError;
 
 impl<const N: usize> SmallText<N> {
@@ -54,5 +60,50 @@ impl<const N: usize> SmallText<N> {
     {
         let bytes = mapped(&self.bytes, Case::Upper)?;
         Ok(SmallText { bytes })
+    }
+    /// The text in lower case, as std's `str` has it: of an ASCII text the letters mapped, and past ASCII
+    /// by Unicode. It is inline where it has at most `N` bytes, which is never refused of an ASCII
+    /// text, and else spilled. Past ASCII memory for std's text may be refused too.
+    ///
+    /// Answers `Memory`, or `Capacity` where std's text has more than 2^63 - 1 bytes.
+    pub fn to_lowercase(&self) -> Result<Self, EcoError>
+        ensures bytes { IfOk result (λ made. encode_utf8_all made.chars ≡ str_to_lowercase (encode_utf8_all self.now.chars)) }
+        ensures ascii { IsAscii (encode_utf8_all self.now.chars) → IfOk result (λ made. made.chars ≡ map to_ascii_lowercase self.now.chars) }
+        ensures mode { IfOk result (λ made. made.inline ≡ inline_for N (utf8_len made.chars)) }
+        ensures capacity { IsErrOf result EcoError.Capacity → MAX_LEN < length (str_to_lowercase (encode_utf8_all self.now.chars)) }
+        ensures free { IsAscii (encode_utf8_all self.now.chars) → utf8_len self.now.chars ≤ N → IsOk result }
+    {
+        let text = self.as_str();
+        if text.is_ascii() {
+            let bytes = mapped_by_length(&self.bytes, Case::Lower)?;
+            return Ok(SmallText { bytes });
+        }
+        let alloc = self.bytes.allocator();
+        let cased = text.to_lowercase(alloc)?;
+        let made = Self::from_str(alloc, cased.as_str())?;
+        Ok(made)
+    }
+
+    /// The text in upper case, as std's `str` has it: of an ASCII text the letters mapped, and past ASCII
+    /// by Unicode. It is inline where it has at most `N` bytes, which is never refused of an ASCII
+    /// text, and else spilled. Past ASCII memory for std's text may be refused too.
+    ///
+    /// Answers `Memory`, or `Capacity` where std's text has more than 2^63 - 1 bytes.
+    pub fn to_uppercase(&self) -> Result<Self, EcoError>
+        ensures bytes { IfOk result (λ made. encode_utf8_all made.chars ≡ str_to_uppercase (encode_utf8_all self.now.chars)) }
+        ensures ascii { IsAscii (encode_utf8_all self.now.chars) → IfOk result (λ made. made.chars ≡ map to_ascii_uppercase self.now.chars) }
+        ensures mode { IfOk result (λ made. made.inline ≡ inline_for N (utf8_len made.chars)) }
+        ensures capacity { IsErrOf result EcoError.Capacity → MAX_LEN < length (str_to_uppercase (encode_utf8_all self.now.chars)) }
+        ensures free { IsAscii (encode_utf8_all self.now.chars) → utf8_len self.now.chars ≤ N → IsOk result }
+    {
+        let text = self.as_str();
+        if text.is_ascii() {
+            let bytes = mapped_by_length(&self.bytes, Case::Upper)?;
+            return Ok(SmallText { bytes });
+        }
+        let alloc = self.bytes.allocator();
+        let cased = text.to_uppercase(alloc)?;
+        let made = Self::from_str(alloc, cased.as_str())?;
+        Ok(made)
     }
 }

@@ -1,0 +1,103 @@
+//! Texts of the items of iterators. A size hint isn't asked: so a text is inline wherever it fits.
+ghost use Rattle.std.specs.Prelude.{◌≡◌, ℕ, List, ◌+◌, ◌<◌, ◌↔◌, ◌++◌, length, false, IfOk, OnOk, OnErr, IsErrOf};
+ghost use Rattle.std.specs.Borrow.{Bor};
+ghost use Rattle.std.specs.Str.{chars};
+ghost use Rattle.std.specs.Iterator.{IsFinite, ExtendsWithItems};
+ghost use Rattle.ecow_list.specs.Vectors.{Appends, GivesFirst, GivesItems};
+ghost use Rattle.ecow_model.specs.Inline.{inline_after, inline_for};
+ghost use Rattle.ecow_model.specs.Utf8.{utf8_len};
+ghost use Rattle.ecow_text.specs.Appends.{AppendsStrs, joined_strs};
+
+use crate::text::SmallText;
+use ecow_base::MAX_LEN;
+use ecow_list::EcoError;
+use std::alloc::Global;
+
+impl<const N: usize> SmallText<N> {
+    /// The characters of `iter`, one after another: inline where they come to at most `N` bytes, which
+    /// is never refused, and else spilled. Answers `Capacity` at the character with which they come to more
+    /// than 2^63 - 1, and else `Memory`: no further one is asked for then.
+    pub fn from_chars<I: IntoIterator<Item = char>>(
+        alloc: Global,
+        iter: I,
+    ) -> Result<Self, EcoError>
+        requires { (it : I.IntoIter) → I.into_iter_gives iter it → I.IntoIter.can_next it × IsFinite (I.IntoIter.remaining it) }
+        ensures chars { IfOk result (λ made. GivesItems I.into_iter_gives I.IntoIter.next_gives iter made.chars) }
+        ensures mode { IfOk result (λ made. made.inline ≡ inline_for N (utf8_len made.chars)) }
+        ensures refused { OnErr result ((items : List ℕ) × GivesFirst I.into_iter_gives I.IntoIter.next_gives iter items × (N < utf8_len items) × (IsErrOf result EcoError.Capacity ↔ (MAX_LEN < utf8_len items))) }
+    {
+        let mut made = Self::new(alloc);
+        made.extend_chars(iter)?;
+        Ok(made)
+    }
+
+    /// The texts of `iter`, one after another: inline where they come to at most `N` bytes, which
+    /// is never refused, and else spilled. Answers `Capacity` at the text with which they come to more
+    /// than 2^63 - 1, and else `Memory`: no further one is asked for then.
+    pub fn from_strs<'a, I: IntoIterator<Item = &'a str>>(
+        alloc: Global,
+        iter: I,
+    ) -> Result<Self, EcoError>
+        requires { (it : I.IntoIter) → I.into_iter_gives iter it → I.IntoIter.can_next it × IsFinite (I.IntoIter.remaining it) }
+        ensures chars { IfOk result (λ made. (items : List (Bor (List ℕ))) × GivesItems I.into_iter_gives I.IntoIter.next_gives iter items × (made.chars ≡ joined_strs items)) }
+        ensures mode { IfOk result (λ made. made.inline ≡ inline_for N (utf8_len made.chars)) }
+        ensures refused { OnErr result ((items : List (Bor (List ℕ))) × GivesFirst I.into_iter_gives I.IntoIter.next_gives iter items × (N < utf8_len (joined_strs items)) × (IsErrOf result EcoError.Capacity ↔ (MAX_LEN < utf8_len (joined_strs items)))) }
+    {
+        let mut made = Self::new(alloc);
+        made.extend_strs(iter)?;
+        Ok(made)
+    }
+
+    /// Appends the characters of `iter`, one after another, each as `push` does: so an inline text spills
+    /// at the one with which it passes `N` bytes, and nothing changes where there is none.
+    ///
+    /// Where a character is refused those before it stay, and no further one is asked for: `Capacity`
+    /// where the text would pass 2^63 - 1 bytes with it, and else `Memory`. None is refused that fits
+    /// inline.
+    pub fn extend_chars<I: IntoIterator<Item = char>>(&mut self, iter: I) -> Result<(), EcoError>
+        requires { (it : I.IntoIter) → I.into_iter_gives iter it → I.IntoIter.can_next it × IsFinite (I.IntoIter.remaining it) }
+        ensures chars { ExtendsWithItems I.into_iter_gives I.IntoIter.next_gives Appends iter self.old.chars self.new.chars result }
+        ensures mode { self.new.inline ≡ inline_after N self.old.inline (utf8_len self.new.chars) 0 }
+        ensures refused { OnErr result ((items : List ℕ) × GivesFirst I.into_iter_gives I.IntoIter.next_gives iter items × (length self.new.chars + 1 ≡ length self.old.chars + length items) × (inline_after N self.old.inline (utf8_len (self.old.chars ++ items)) 0 ≡ false) × (IsErrOf result EcoError.Capacity ↔ (MAX_LEN < utf8_len (self.old.chars ++ items)))) }
+    {
+        let _len = self.len();
+        for c in iter {
+            self.push(c)?;
+        }
+        Ok(())
+    }
+
+    /// Appends the texts of `iter`, one after another, each as `push_str` does: so an inline text spills
+    /// at the one with which it passes `N` bytes, and nothing changes where there is none.
+    ///
+    /// Where a text is refused those before it stay, and no further one is asked for: `Capacity`
+    /// where the text would pass 2^63 - 1 bytes with it, and else `Memory`. None is refused that fits
+    /// inline.
+    pub fn extend_strs<'a, I: IntoIterator<Item = &'a str>>(
+        &mut self,
+        iter: I,
+    ) -> Result<(), EcoError>
+        requires { (it : I.IntoIter) → I.into_iter_gives iter it → I.IntoIter.can_next it × IsFinite (I.IntoIter.remaining it) }
+        ensures chars { ExtendsWithItems I.into_iter_gives I.IntoIter.next_gives AppendsStrs iter self.old.chars self.new.chars result }
+        ensures mode { self.new.inline ≡ inline_after N self.old.inline (utf8_len self.new.chars) 0 }
+        ensures refused { OnErr result ((items : List (Bor (List ℕ))) × GivesFirst I.into_iter_gives I.IntoIter.next_gives iter items × (inline_after N self.old.inline (utf8_len (self.old.chars ++ joined_strs items)) 0 ≡ false) × (IsErrOf result EcoError.Capacity ↔ (MAX_LEN < utf8_len (self.old.chars ++ joined_strs items)))) }
+    {
+        let _len = self.len();
+        for text in iter {
+            self.push_next(text)?;
+        }
+        Ok(())
+    }
+    /// `push_str` of an item.
+    fn push_next(&mut self, text: &str) -> Result<(), EcoError>
+        ensures chars { OnOk result (self.new.chars ≡ self.old.chars ++ chars text.now) }
+        ensures mode { OnOk result (self.new.inline ≡ inline_after N self.old.inline (utf8_len self.old.chars) (length text.now)) }
+        ensures capacity { IsErrOf result EcoError.Capacity ↔ (MAX_LEN < utf8_len self.old.chars + length text.now) }
+        ensures err { OnErr result (self.new ≡ self.old) }
+        ensures free { OnErr result (inline_after N self.old.inline (utf8_len self.old.chars) (length text.now) ≡ false) }
+        ensures len { utf8_len (self.old.chars ++ chars text.now) ≡ utf8_len self.old.chars + length text.now }
+    {
+        self.push_str(text)?;
+        Ok(())
+    }
+}
