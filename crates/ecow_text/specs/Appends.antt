@@ -4,16 +4,20 @@ use Rattle.std.specs.Str.{chars}
 use denote.Ref.{Bor}
 use Rattle.ecow_model.specs.declared.value.PlainText.{PlainText}
 
--- the characters of the texts, end to end; a `str` is its bytes
+-- the characters of the texts, end to end
+abbrev pub joined_by : {T : Type 0} → (T → List ℕ) → List T → List ℕ
+joined_by text_of texts = flat_map text_of texts
+
+-- a `str` is its bytes
 abbrev pub joined_strs : List (Bor (List ℕ)) → List ℕ
-joined_strs texts = flat_map (λ text. chars text.now) texts
+joined_strs texts = joined_by (λ text. chars text.now) texts
 
 abbrev pub joined_texts : List PlainText → List ℕ
-joined_texts texts = flat_map (λ text. text.chars) texts
+joined_texts texts = joined_by (λ text. text.chars) texts
 
 -- new has the characters of old and then those of the texts
+abbrev pub AppendsBy : {T : Type 0} → (T → List ℕ) → List ℕ → List T → List ℕ → Type 0
+AppendsBy text_of old texts new = new ≡ old ++ joined_by text_of texts
+
 abbrev pub AppendsStrs : List ℕ → List (Bor (List ℕ)) → List ℕ → Type 0
 AppendsStrs old texts new = new ≡ old ++ joined_strs texts
-
-abbrev pub AppendsTexts : List ℕ → List PlainText → List ℕ → Type 0
-AppendsTexts old texts new = new ≡ old ++ joined_texts texts

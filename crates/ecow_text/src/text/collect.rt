@@ -6,12 +6,30 @@ ghost use Rattle.std.specs.Iterator.{IsFinite, ExtendsWithItems};
 ghost use Rattle.ecow_list.specs.Vectors.{Appends, GivesFirst, GivesItems};
 ghost use Rattle.ecow_model.specs.Inline.{inline_after, inline_for};
 ghost use Rattle.ecow_model.specs.Utf8.{utf8_len};
-ghost use Rattle.ecow_text.specs.Appends.{AppendsStrs, joined_strs};
+ghost use Rattle.ecow_model.specs.declared.value.PlainText.{PlainText};
+ghost use Rattle.ecow_text.specs.Appends.{AppendsBy, AppendsStrs, joined_by, joined_strs, joined_texts};
 
 use crate::text::SmallText;
 use ecow_base::MAX_LEN;
 use ecow_list::EcoError;
 use std::alloc::Global;
+
+/// A text that is joined to others.
+trait Joined: Drop {
+    ghost text_of: { Self → List ℕ };
+
+    /// The text.
+    fn text(&self) -> &str
+        ensures { chars result.now ≡ text_of self.now };
+}
+
+impl<const N: usize> Joined for SmallText<N> {
+    ghost text_of = { λ text. text.chars };
+
+    fn text(&self) -> &str {
+        self.as_str()
+    }
+}
 
 impl<const N: usize> SmallText<N> {
     /// The characters of `iter`, one after another: inline where they come to at most `N` bytes, which
@@ -45,6 +63,21 @@ impl<const N: usize> SmallText<N> {
     {
         let mut made = Self::new(alloc);
         made.extend_strs(iter)?;
+        Ok(made)
+    }
+
+    /// The texts of `iter`, one after another, as `from_strs` makes them.
+    pub fn from_eco_strings<I: IntoIterator<Item = Self>>(
+        alloc: Global,
+        iter: I,
+    ) -> Result<Self, EcoError>
+        requires { (it : I.IntoIter) → I.into_iter_gives iter it → I.IntoIter.can_next it × IsFinite (I.IntoIter.remaining it) }
+        ensures chars { IfOk result (λ made. (items : List PlainText) × GivesItems I.into_iter_gives I.IntoIter.next_gives iter items × (made.chars ≡ joined_texts items)) }
+        ensures mode { IfOk result (λ made. made.inline ≡ inline_for N (utf8_len made.chars)) }
+        ensures refused { OnErr result ((items : List PlainText) × GivesFirst I.into_iter_gives I.IntoIter.next_gives iter items × (N < utf8_len (joined_texts items)) × (IsErrOf result EcoError.Capacity ↔ (MAX_LEN < utf8_len (joined_texts items)))) }
+    {
+        let mut made = Self::new(alloc);
+        made.extend_texts(iter)?;
         Ok(made)
     }
 
@@ -88,6 +121,23 @@ impl<const N: usize> SmallText<N> {
         }
         Ok(())
     }
+    /// Appends the texts of `iter`, as `extend_strs` does.
+    fn extend_texts<T: Joined, I: IntoIterator<Item = T>>(
+        &mut self,
+        iter: I,
+    ) -> Result<(), EcoError>
+        requires { (it : I.IntoIter) → I.into_iter_gives iter it → I.IntoIter.can_next it × IsFinite (I.IntoIter.remaining it) }
+        ensures chars { ExtendsWithItems I.into_iter_gives I.IntoIter.next_gives (AppendsBy T.text_of) iter self.old.chars self.new.chars result }
+        ensures mode { self.new.inline ≡ inline_after N self.old.inline (utf8_len self.new.chars) 0 }
+        ensures refused { OnErr result ((items : List T) × GivesFirst I.into_iter_gives I.IntoIter.next_gives iter items × (inline_after N self.old.inline (utf8_len (self.old.chars ++ joined_by T.text_of items)) 0 ≡ false) × (IsErrOf result EcoError.Capacity ↔ (MAX_LEN < utf8_len (self.old.chars ++ joined_by T.text_of items)))) }
+    {
+        let _len = self.len();
+        for text in iter {
+            self.push_next(text.text())?;
+        }
+        Ok(())
+    }
+
     /// `push_str` of an item.
     fn push_next(&mut self, text: &str) -> Result<(), EcoError>
         ensures chars { OnOk result (self.new.chars ≡ self.old.chars ++ chars text.now) }
