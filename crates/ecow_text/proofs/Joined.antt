@@ -3,9 +3,8 @@ use Rattle.std.proofs.Common.{◌≡◌, ℕ, ◌+◌, List, [], ◌∷◌, ◌+
 use Rattle.std.specs.Prelude.{IsErrOf}
 use Rattle.std.specs.Str.{chars}
 use Rattle.std.proofs.lemmas.Grind.{flat_map-append}
-use denote.Ref.{Bor}
 use Rattle.ecow_model.specs.Utf8.{utf8_len}
-use Rattle.ecow_text.specs.Appends.{joined_by, joined_strs}
+use Rattle.ecow_text.specs.Appends.{joined_by}
 use Rattle.ecow_text.proofs.Occurrences.{encoded_len}
 use Rattle.ecow_text.proofs.Steps.{utf8_len-chars}
 
@@ -14,9 +13,6 @@ pub joined_by_more : {T : Type 0} (f : T → List ℕ) (old : List ℕ) (xs : Li
 joined_by_more f old xs x now e =
     let last : joined_by f (xs ++ x ∷ []) ≡ joined_by f xs ++ f x = flat_map-append f xs (x ∷ []) ∙ ap (λ l. joined_by f xs ++ l) (append-nil (f x)) in
     ap (λ l. l ++ f x) e ∙ append_assoc old (joined_by f xs) (f x) ∙ ap (λ l. old ++ l) (sym last)
-
-pub joined_more : (old : List ℕ) (xs : List (Bor (List ℕ))) (x : Bor (List ℕ)) (now : List ℕ) → now ≡ old ++ joined_strs xs → now ++ chars x.now ≡ old ++ joined_strs (xs ++ x ∷ [])
-joined_more = joined_by_more (λ text. chars text.now)
 
 pub text_more : (cs bs : List ℕ) → IsUtf8 bs → utf8_len (cs ++ chars bs) ≡ utf8_len cs + length bs
 text_more cs bs text = encoded_len cs (chars bs) ∙ ap (λ n. utf8_len cs + n) (utf8_len-chars bs text)

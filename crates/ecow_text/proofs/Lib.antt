@@ -4,6 +4,7 @@ mod Enough
 mod Joined
 mod Limits
 mod Occurrences
+pub mod Places
 mod Printed
 mod Removal
 mod Repeats

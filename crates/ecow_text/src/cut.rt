@@ -38,7 +38,8 @@ pub(crate) fn cut_out<const N: usize>(
     }
 }
 
-/// The same of inline bytes: those behind the part are kept beside, and appended to those before it.
+/// The same of inline bytes: those behind the part are kept beside, and appended to those before
+/// it.
 fn cut_inline<const N: usize>(
     bytes: &mut SmallBytes<N>,
     start: usize,

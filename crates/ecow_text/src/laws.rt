@@ -1,5 +1,5 @@
-//! Equality, order, hash and debug text of a text: those of its UTF-8 bytes, inline or spilled, shared
-//! or not. A front comes before what it begins. The hash is that of a `str`.
+//! Equality, order, hash and debug text of a text: those of its UTF-8 bytes, inline or spilled,
+//! shared or not. A front comes before what it begins. The hash is that of a `str`.
 ghost use Rattle.std.specs.Prelude.{◌≡◌, true, nat_eq, Some, refl};
 ghost use Rattle.std.specs.Ordering.{nat_cmp};
 ghost use Rattle.std.specs.Cmp.{on_equiv, on_total, on_po, on_per, partial_equiv_from_equiv};

@@ -61,9 +61,9 @@ impl<const N: usize> SmallText<N> {
         let bytes = mapped(&self.bytes, Case::Upper)?;
         Ok(SmallText { bytes })
     }
-    /// The text in lower case, as std's `str` has it: of an ASCII text the letters mapped, and past ASCII
-    /// by Unicode. It is inline where it has at most `N` bytes, which is never refused of an ASCII
-    /// text, and else spilled. Past ASCII memory for std's text may be refused too.
+    /// The text in lower case, as std's `str` has it: of an ASCII text the letters mapped, and past
+    /// ASCII by Unicode. It is inline where it has at most `N` bytes, which is never refused of an
+    /// ASCII text, and else spilled. Past ASCII memory for std's text may be refused too.
     ///
     /// Answers `Memory`, or `Capacity` where std's text has more than 2^63 - 1 bytes.
     pub fn to_lowercase(&self) -> Result<Self, EcoError>
@@ -84,9 +84,9 @@ impl<const N: usize> SmallText<N> {
         Ok(made)
     }
 
-    /// The text in upper case, as std's `str` has it: of an ASCII text the letters mapped, and past ASCII
-    /// by Unicode. It is inline where it has at most `N` bytes, which is never refused of an ASCII
-    /// text, and else spilled. Past ASCII memory for std's text may be refused too.
+    /// The text in upper case, as std's `str` has it: of an ASCII text the letters mapped, and past
+    /// ASCII by Unicode. It is inline where it has at most `N` bytes, which is never refused of an
+    /// ASCII text, and else spilled. Past ASCII memory for std's text may be refused too.
     ///
     /// Answers `Memory`, or `Capacity` where std's text has more than 2^63 - 1 bytes.
     pub fn to_uppercase(&self) -> Result<Self, EcoError>

@@ -31,10 +31,18 @@ impl<const N: usize> Joined for SmallText<N> {
     }
 }
 
+impl Joined for &str {
+    ghost text_of = { λ text. chars text.now };
+
+    fn text(&self) -> &str {
+        self
+    }
+}
+
 impl<const N: usize> SmallText<N> {
     /// The characters of `iter`, one after another: inline where they come to at most `N` bytes, which
-    /// is never refused, and else spilled. Answers `Capacity` at the character with which they come to more
-    /// than 2^63 - 1, and else `Memory`: no further one is asked for then.
+    /// is never refused, and else spilled. Answers `Capacity` at the character with which they come to
+    /// more than 2^63 - 1, and else `Memory`: no further one is asked for then.
     pub fn from_chars<I: IntoIterator<Item = char>>(
         alloc: Global,
         iter: I,
@@ -81,8 +89,8 @@ impl<const N: usize> SmallText<N> {
         Ok(made)
     }
 
-    /// Appends the characters of `iter`, one after another, each as `push` does: so an inline text spills
-    /// at the one with which it passes `N` bytes, and nothing changes where there is none.
+    /// Appends the characters of `iter`, one after another, each as `push` does: so an inline text
+    /// spills at the one with which it passes `N` bytes, and nothing changes where there is none.
     ///
     /// Where a character is refused those before it stay, and no further one is asked for: `Capacity`
     /// where the text would pass 2^63 - 1 bytes with it, and else `Memory`. None is refused that fits
@@ -100,8 +108,8 @@ impl<const N: usize> SmallText<N> {
         Ok(())
     }
 
-    /// Appends the texts of `iter`, one after another, each as `push_str` does: so an inline text spills
-    /// at the one with which it passes `N` bytes, and nothing changes where there is none.
+    /// Appends the texts of `iter`, one after another, each as `push_str` does: so an inline text
+    /// spills at the one with which it passes `N` bytes, and nothing changes where there is none.
     ///
     /// Where a text is refused those before it stay, and no further one is asked for: `Capacity`
     /// where the text would pass 2^63 - 1 bytes with it, and else `Memory`. None is refused that fits
@@ -115,13 +123,11 @@ impl<const N: usize> SmallText<N> {
         ensures mode { self.new.inline ≡ inline_after N self.old.inline (utf8_len self.new.chars) 0 }
         ensures refused { OnErr result ((items : List (Bor (List ℕ))) × GivesFirst I.into_iter_gives I.IntoIter.next_gives iter items × (inline_after N self.old.inline (utf8_len (self.old.chars ++ joined_strs items)) 0 ≡ false) × (IsErrOf result EcoError.Capacity ↔ (MAX_LEN < utf8_len (self.old.chars ++ joined_strs items)))) }
     {
-        let _len = self.len();
-        for text in iter {
-            self.push_next(text)?;
-        }
+        self.extend_texts(iter)?;
         Ok(())
     }
-    /// Appends the texts of `iter`, as `extend_strs` does.
+
+    /// What `extend_strs` and `from_eco_strings` share.
     fn extend_texts<T: Joined, I: IntoIterator<Item = T>>(
         &mut self,
         iter: I,

@@ -1,8 +1,0 @@
-use Rattle.std.proofs.Common.{◌≡◌}
-use Rattle.ecow_text.specs.Appends.{AppendsStrs}
-use Rattle.ecow_model.specs.Inline.{inline_after}
-use Rattle.ecow_model.specs.Utf8.{utf8_len}
-use Rattle.ecow_text.proofs.text.SmallText.extend_strs.Given as goal
-
-abbrev pub invariant-loop-text : goal.invariant-loop-text
-invariant-loop-text g l = AppendsStrs l.fn.self.chars l.yielded l.self.chars × (l.self.inline ≡ inline_after g.row.N l.fn.self.inline (utf8_len l.self.chars) 0)
