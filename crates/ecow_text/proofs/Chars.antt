@@ -1,5 +1,5 @@
 -- The first character of a text.
-use Rattle.std.proofs.Common.{◌≡◌, ℕ, ◌+◌, List, [], ◌∷◌, ◌++◌, length, take, drop, sym, ap, ◌∙◌, append-nil, length-append, take-append-drop, IsUtf8}
+use Rattle.std.proofs.Common.{◌≡◌, ℕ, List, [], ◌∷◌, ◌++◌, take, drop, sym, ap, ◌∙◌, append-nil, IsUtf8}
 use Rattle.std.specs.Char.{len_utf8, encode_utf8}
 use Rattle.std.specs.Str.{chars, IsCharBoundary}
 use Rattle.std.proofs.lemmas.Str.{IsCharBoundary-at_seam, length-encode, IsUtf8-past_char, IsUtf8-take, chars_past_char, chars-nil}
@@ -10,7 +10,6 @@ pub record FirstChar (bs : List ℕ) (c : ℕ) : Type 0 where
   pub boundary : IsCharBoundary bs (len_utf8 c)
   pub first : chars (take (len_utf8 c) bs) ≡ c ∷ []
   pub split : chars bs ≡ c ∷ chars (drop (len_utf8 c) bs)
-  pub lengths : length (take (len_utf8 c) bs) + length (drop (len_utf8 c) bs) ≡ length bs
 
 pub first_char : (bs rest : List ℕ) (c : ℕ) → IsUtf8 bs → bs ≡ encode_utf8 c ++ rest → FirstChar bs c
 first_char bs rest c text e =
@@ -23,5 +22,4 @@ first_char bs rest c text e =
       boundary = boundary;
       first = ap chars front ∙ chars_past_char (encode_utf8 c) [] c alone (sym (append-nil _)) ∙ ap (λ l. c ∷ l) chars-nil;
       split = chars_past_char bs rest c text e ∙ ap (λ l. c ∷ chars l) (sym back);
-      lengths = sym (length-append (take (len_utf8 c) bs) (drop (len_utf8 c) bs)) ∙ ap length (take-append-drop (len_utf8 c) bs);
     }

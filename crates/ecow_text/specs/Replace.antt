@@ -1,5 +1,5 @@
 -- How a text is split for a replacement. A `str` is its bytes.
-use Rattle.std.specs.Prelude.{◌≡◌, ◌+◌, ℕ, MatchOption, List, [], ◌∷◌, length, Option, Some, None}
+use Rattle.std.specs.Prelude.{◌≡◌, ℕ, MatchOption, List, [], ◌∷◌, Option, Some, None}
 use Rattle.std.specs.Str.{chars, IsUtf8}
 use denote.Ref.{Bor}
 use Rattle.ecow_model.specs.Replaced.{first_split}
@@ -7,7 +7,6 @@ use Rattle.ecow_model.specs.Replaced.{first_split}
 -- the texts before and behind the first p in s
 pub record IsFirstSplit (p s before behind : List ℕ) : Type 0 where
   pub split : first_split (chars p) (chars s) ≡ Some (chars before, chars behind)
-  pub lengths : length before + length p + length behind ≡ length s
   pub before_utf8 : IsUtf8 before
   pub behind_utf8 : IsUtf8 behind
 
@@ -20,7 +19,6 @@ pub record IsCharSplit (s first behind : List ℕ) : Type 0 where
   pub char : ℕ
   pub first_chars : chars first ≡ char ∷ []
   pub split : chars s ≡ char ∷ chars behind
-  pub lengths : length first + length behind ≡ length s
   pub first_utf8 : IsUtf8 first
   pub behind_utf8 : IsUtf8 behind
 

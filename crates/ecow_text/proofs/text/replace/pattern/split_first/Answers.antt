@@ -1,4 +1,4 @@
-use Rattle.std.proofs.Common.{◌≡◌, ◌+◌, Some, None, length, take, drop, ℕ, arith, rules, ap, length-drop, length-take-le}
+use Rattle.std.proofs.Common.{◌≡◌, ◌+◌, Some, None, length, take, drop, rules}
 use Rattle.ecow_text.proofs.Occurrences.{Found, finds_text}
 use Rattle.ecow_text.proofs.text.replace.pattern.split_first.Goals as goal
 
@@ -30,7 +30,6 @@ returns c =
     let back : c.range_from.result.now ≡ drop (c.in_ok-start.start + length c.args.pattern.now) c.args.text.now = c.range_from.ensures.value in
     record {
       split = rw (front, back) is.split;
-      lengths = omega (arith, is.fits, ap length front, ap length back, length-drop (c.in_ok-start.start + length c.args.pattern.now) c.args.text.now, length-take-le {A = ℕ});
       before_utf8 = c.range.utf8;
       behind_utf8 = c.range_from.utf8;
     }

@@ -22,7 +22,6 @@ returns c =
       char = c.in_ok-next.field-0;
       first_chars = rw (front, size) is.first;
       split = rw (back, size) is.split;
-      lengths = rw (front, back, size) is.lengths;
       first_utf8 = c.range.utf8;
       behind_utf8 = c.range_from.utf8;
     }
