@@ -74,6 +74,11 @@ pub and_both : (a b : Bool) → a ≡ true → b ≡ true → (a && b) ≡ true
 and_both true b p q = q
 and_both false b p q = p
 
+pub longer_twice : (n m : ℕ) (xs ys : List ℕ) → take n xs ≡ take n ys → take m (drop n xs) ≡ take m (drop n ys) → take m (drop (n + m) xs) ≡ take m (drop (n + m) ys) → take (n + 2 * m) xs ≡ take (n + 2 * m) ys
+longer_twice n m xs ys front chunk next =
+    let sum : n + 2 * m ≡ n + m + m = omega arith in
+    ap (λ j. take j xs) sum ∙ longer (n + m) m xs ys (longer n m xs ys front chunk) next ∙ sym (ap (λ j. take j ys) sum)
+
 -- and a part of a front that is the same is
 pub part_of_front : (a m n : ℕ) (xs ys : List ℕ) → a + m ≤ n → n ≤ length xs → n ≤ length ys → take n xs ≡ take n ys → take m (drop a xs) ≡ take m (drop a ys)
 part_of_front a m n xs ys le in_xs in_ys front =
@@ -84,13 +89,14 @@ part_of_front a m n xs ys le in_xs in_ys front =
     λ zs. get_or-take m (drop a zs) i 0 below ∙ get_or-drop a zs i 0 ∙ sym (get_or-take n zs (a + i) 0 (omega arith)) in
     at xs ∙ ap (λ zs. get_or zs (a + i) 0) front ∙ sym (at ys))
 
--- a front that is the same and a chunk that ends behind it
-pub joined : (n m len : ℕ) (xs ys : List ℕ) → n ≤ len → m ≤ len → len ≤ n + m → len ≤ length xs → len ≤ length ys
-    → take n xs ≡ take n ys → take m (drop (len - m) xs) ≡ take m (drop (len - m) ys) → take len xs ≡ take len ys
-joined n m len xs ys below fits reached in_xs in_ys front chunk =
+-- a front that is the same, the chunk that follows it or the last, and the last
+pub joined : (n m len k : ℕ) (xs ys : List ℕ) → k ≡ min n (len - m) → n ≤ len → m ≤ len → len ≤ n + 2 * m → len ≤ length xs → len ≤ length ys
+    → take n xs ≡ take n ys → take m (drop k xs) ≡ take m (drop k ys) → take m (drop (len - m) xs) ≡ take m (drop (len - m) ys) → take len xs ≡ take len ys
+joined n m len k xs ys nearer below fits reached in_xs in_ys front chunk back =
     let a = len - m in
     let sum : len ≡ a + m = omega arith in
-    ap (λ k. take k xs) sum ∙ longer a m xs ys (part_of_front 0 a n xs ys (omega arith) (omega arith) (omega arith) front) chunk ∙ sym (ap (λ k. take k ys) sum)
+    let near : take (k + m) xs ≡ take (k + m) ys = longer k m xs ys (part_of_front 0 k n xs ys (omega arith) (omega arith) (omega arith) front) chunk in
+    ap (λ j. take j xs) sum ∙ longer a m xs ys (part_of_front 0 a (k + m) xs ys (omega arith) (omega arith) (omega arith) near) back ∙ sym (ap (λ j. take j ys) sum)
 
 -- a front tells whether all are the same
 pub equal_by_front : (xs ys : List ℕ) (n : ℕ) → length xs ≡ length ys → n ≤ length xs → take n xs ≡ take n ys → (n < length xs → take (length xs) xs ≢ take (length xs) ys)

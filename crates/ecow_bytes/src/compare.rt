@@ -41,19 +41,29 @@ fn few_same(left: &[u8], right: &[u8]) -> bool
     ensures { IsTrue result ↔ (left.now ≡ right.now) }
 {
     let len = left.len();
-    if len < 4 {
-        return left == right;
-    }
-    if len <= 8 {
-        return same_ends::<4>(left, right);
-    }
-    if len <= 16 {
-        return same_ends::<8>(left, right);
-    }
-    if len <= 32 {
+    if len > 16 {
+        if len > 32 {
+            return same_ends::<32>(left, right);
+        }
         return same_ends::<16>(left, right);
     }
-    same_ends::<32>(left, right)
+    if len >= 8 {
+        return same_ends::<8>(left, right);
+    }
+    if len >= 4 {
+        return same_ends::<4>(left, right);
+    }
+    left == right
+}
+
+/// Whether the groups from `first` and from `second` on are the same.
+#[inline(always)]
+fn both_same(left: &[u8], right: &[u8], first: usize, second: usize) -> bool
+    requires first_in_bounds { (first + GROUP ≤ length left.now) × (first + GROUP ≤ length right.now) }
+    requires second_in_bounds { (second + GROUP ≤ length left.now) × (second + GROUP ≤ length right.now) }
+    ensures { IsTrue result ↔ ((take GROUP (drop first left.now) ≡ take GROUP (drop first right.now)) × (take GROUP (drop second left.now) ≡ take GROUP (drop second right.now))) }
+{
+    same_at::<GROUP>(left, right, first) & same_at::<GROUP>(left, right, second)
 }
 
 /// How many of the first `len` bytes are known to be the same: all, or as many as stand before a
@@ -67,13 +77,14 @@ fn same_front(left: &[u8], right: &[u8], len: usize) -> usize
     ensures differ { result < len → (take len left.now ≢ take len right.now) }
 {
     let mut at = 0;
-    while len - at > GROUP {
-        if !same_at::<GROUP>(left, right, at) {
+    while len - at > 2 * GROUP {
+        if !both_same(left, right, at, at + GROUP) {
             return at;
         }
-        at += GROUP;
+        at += 2 * GROUP;
     }
-    if same_at::<GROUP>(left, right, len - GROUP) {
+    let last = len - GROUP;
+    if both_same(left, right, at.min(last), last) {
         len
     } else {
         at
