@@ -33,27 +33,33 @@ fn same_ends<const M: usize>(left: &[u8], right: &[u8]) -> bool
     same_at::<M>(left, right, 0) & same_at::<M>(left, right, left.len() - M)
 }
 
-/// Whether as many bytes are the same, at most a group. No loop is gone round.
+/// Whether as many bytes are the same, at most 16.
 #[inline(always)]
 fn few_same(left: &[u8], right: &[u8]) -> bool
     requires as_many { length left.now ≡ length right.now }
-    requires few { length left.now ≤ GROUP }
+    requires few { length left.now ≤ 16 }
     ensures { IsTrue result ↔ (left.now ≡ right.now) }
 {
-    let len = left.len();
-    if len > 16 {
-        if len > 32 {
-            return same_ends::<32>(left, right);
-        }
-        return same_ends::<16>(left, right);
-    }
-    if len >= 8 {
+    if left.len() >= 8 {
         return same_ends::<8>(left, right);
     }
-    if len >= 4 {
+    if left.len() >= 4 {
         return same_ends::<4>(left, right);
     }
     left == right
+}
+
+/// Whether as many bytes are the same, 16 to a group.
+#[inline(always)]
+fn some_same(left: &[u8], right: &[u8]) -> bool
+    requires as_many { length left.now ≡ length right.now }
+    requires some { (16 ≤ length left.now) × (length left.now ≤ GROUP) }
+    ensures { IsTrue result ↔ (left.now ≡ right.now) }
+{
+    if left.len() > 32 {
+        return same_ends::<32>(left, right);
+    }
+    same_ends::<16>(left, right)
 }
 
 /// Whether the groups from `first` and from `second` on are the same.
@@ -102,11 +108,13 @@ fn same_so_far(left: &[u8], right: &[u8], len: usize) -> usize
     if len > GROUP {
         return same_front(left, right, len);
     }
-    if few_same(&left[..len], &right[..len]) {
-        len
+    let (left, right) = (&left[..len], &right[..len]);
+    let same = if len > 16 {
+        some_same(left, right)
     } else {
-        0
-    }
+        few_same(left, right)
+    };
+    if same { len } else { 0 }
 }
 
 /// Whether the bytes are the same.
@@ -126,5 +134,15 @@ pub(crate) fn order(left: &[u8], right: &[u8]) -> Ordering
     if same == len {
         return left.len().cmp(&right.len());
     }
+    order_past(left, right, same)
+}
+
+/// The same for bytes of which the first `same` are.
+#[inline(never)]
+fn order_past(left: &[u8], right: &[u8], same: usize) -> Ordering
+    requires in_bounds { (same ≤ length left.now) × (same ≤ length right.now) }
+    requires same { take same left.now ≡ take same right.now }
+    ensures { result ≡ slice_cmp nat_cmp left.now right.now }
+{
     left[same..].cmp(&right[same..])
 }
