@@ -1,5 +1,5 @@
 //! Equality and order of bytes, up to 64 at a time.
-ghost use Rattle.std.specs.Prelude.{◌≡◌, ◌+◌, ◌*◌, ◌<◌, ◌≤◌, ◌↔◌, ◌≢◌, IsTrue, length, take, drop, nat_eq};
+ghost use Rattle.std.specs.Prelude.{◌≡◌, ◌+◌, ◌*◌, ◌<◌, ◌≤◌, ◌↔◌, ◌≢◌, IsTrue, length, take, drop, min, nat_eq};
 ghost use Rattle.std.specs.Ordering.{nat_cmp};
 ghost use Rattle.std.specs.Cmp.Lexicographic.{pointwise, slice_cmp};
 
@@ -33,33 +33,27 @@ fn same_ends<const M: usize>(left: &[u8], right: &[u8]) -> bool
     same_at::<M>(left, right, 0) & same_at::<M>(left, right, left.len() - M)
 }
 
-/// Whether as many bytes are the same, at most 16.
+/// Whether as many bytes are the same, at most a group. No loop is gone round.
 #[inline(always)]
 fn few_same(left: &[u8], right: &[u8]) -> bool
     requires as_many { length left.now ≡ length right.now }
-    requires few { length left.now ≤ 16 }
+    requires few { length left.now ≤ GROUP }
     ensures { IsTrue result ↔ (left.now ≡ right.now) }
 {
-    if left.len() >= 8 {
+    let len = left.len();
+    if len > 32 {
+        return same_ends::<32>(left, right);
+    }
+    if len > 16 {
+        return same_ends::<16>(left, right);
+    }
+    if len >= 8 {
         return same_ends::<8>(left, right);
     }
-    if left.len() >= 4 {
+    if len >= 4 {
         return same_ends::<4>(left, right);
     }
     left == right
-}
-
-/// Whether as many bytes are the same, 16 to a group.
-#[inline(always)]
-fn some_same(left: &[u8], right: &[u8]) -> bool
-    requires as_many { length left.now ≡ length right.now }
-    requires some { (16 ≤ length left.now) × (length left.now ≤ GROUP) }
-    ensures { IsTrue result ↔ (left.now ≡ right.now) }
-{
-    if left.len() > 32 {
-        return same_ends::<32>(left, right);
-    }
-    same_ends::<16>(left, right)
 }
 
 /// Whether the groups from `first` and from `second` on are the same.
@@ -74,7 +68,7 @@ fn both_same(left: &[u8], right: &[u8], first: usize, second: usize) -> bool
 
 /// How many of the first `len` bytes are known to be the same: all, or as many as stand before a
 /// group in which two differ.
-#[inline(never)]
+#[inline]
 fn same_front(left: &[u8], right: &[u8], len: usize) -> usize
     requires many { GROUP ≤ len }
     requires in_bounds { (len ≤ length left.now) × (len ≤ length right.now) }
@@ -97,47 +91,30 @@ fn same_front(left: &[u8], right: &[u8], len: usize) -> usize
     }
 }
 
-/// The same, however few there are.
-#[inline(always)]
-fn same_so_far(left: &[u8], right: &[u8], len: usize) -> usize
-    requires in_bounds { (len ≤ length left.now) × (len ≤ length right.now) }
-    ensures within { result ≤ len }
-    ensures same { take result left.now ≡ take result right.now }
-    ensures differ { result < len → (take len left.now ≢ take len right.now) }
+/// Whether as many bytes are the same, more than a group.
+#[inline(never)]
+fn many_same(left: &[u8], right: &[u8]) -> bool
+    requires as_many { length left.now ≡ length right.now }
+    requires many { GROUP ≤ length left.now }
+    ensures { result ≡ pointwise nat_eq left.now right.now }
 {
-    if len > GROUP {
-        return same_front(left, right, len);
-    }
-    let (left, right) = (&left[..len], &right[..len]);
-    let same = if len > 16 {
-        some_same(left, right)
-    } else {
-        few_same(left, right)
-    };
-    if same { len } else { 0 }
+    same_front(left, right, left.len()) == left.len()
 }
 
 /// Whether the bytes are the same.
 pub(crate) fn equal(left: &[u8], right: &[u8]) -> bool
     ensures { result ≡ pointwise nat_eq left.now right.now }
 {
-    let len = left.len();
-    len == right.len() && same_so_far(left, right, len) == len
-}
-
-/// The order of the first bytes that differ, and else that of the lengths.
-pub(crate) fn order(left: &[u8], right: &[u8]) -> Ordering
-    ensures { result ≡ slice_cmp nat_cmp left.now right.now }
-{
-    let len = left.len().min(right.len());
-    let same = same_so_far(left, right, len);
-    if same == len {
-        return left.len().cmp(&right.len());
+    if left.len() != right.len() {
+        return false;
     }
-    order_past(left, right, same)
+    if left.len() > GROUP {
+        return many_same(left, right);
+    }
+    few_same(left, right)
 }
 
-/// The same for bytes of which the first `same` are.
+/// The order of bytes of which the first `same` are the same.
 #[inline(never)]
 fn order_past(left: &[u8], right: &[u8], same: usize) -> Ordering
     requires in_bounds { (same ≤ length left.now) × (same ≤ length right.now) }
@@ -145,4 +122,32 @@ fn order_past(left: &[u8], right: &[u8], same: usize) -> Ordering
     ensures { result ≡ slice_cmp nat_cmp left.now right.now }
 {
     left[same..].cmp(&right[same..])
+}
+
+/// The order of more bytes than a group, at least `len` of each.
+#[inline(never)]
+fn order_many(left: &[u8], right: &[u8], len: usize) -> Ordering
+    requires shorter { len ≡ min (length left.now) (length right.now) }
+    requires many { GROUP ≤ len }
+    ensures { result ≡ slice_cmp nat_cmp left.now right.now }
+{
+    let same = same_front(left, right, len);
+    if same == len {
+        return left.len().cmp(&right.len());
+    }
+    order_past(left, right, same)
+}
+
+/// The order of the first bytes that differ, and else that of the lengths.
+pub(crate) fn order(left: &[u8], right: &[u8]) -> Ordering
+    ensures { result ≡ slice_cmp nat_cmp left.now right.now }
+{
+    let len = left.len().min(right.len());
+    if len > GROUP {
+        return order_many(left, right, len);
+    }
+    if few_same(&left[..len], &right[..len]) {
+        return left.len().cmp(&right.len());
+    }
+    order_past(left, right, 0)
 }
