@@ -1,4 +1,4 @@
-//! Equality and order of bytes, up to 64 at a time.
+//! Equality and order of bytes, many at a time.
 ghost use Rattle.std.specs.Prelude.{◌≡◌, ◌+◌, ◌*◌, ◌<◌, ◌≤◌, ◌↔◌, ◌≢◌, IsTrue, length, take, drop, min, nat_eq};
 ghost use Rattle.std.specs.Ordering.{nat_cmp};
 ghost use Rattle.std.specs.Cmp.Lexicographic.{pointwise, slice_cmp};
@@ -6,7 +6,7 @@ ghost use Rattle.std.specs.Cmp.Lexicographic.{pointwise, slice_cmp};
 use std::cmp::Ordering;
 use std::simd::Simd;
 
-/// How many bytes are compared at once, at most.
+/// How many bytes make a group, which is compared at once.
 const GROUP: usize = 64;
 
 /// Whether the `M` bytes from `at` on are the same.
