@@ -10,6 +10,7 @@ ghost use Rattle.ecow_block.specs.Clones.{AppendsClones};
 ghost use Rattle.ecow_block.specs.Contents.{contents};
 ghost use Rattle.ecow_block.specs.Ownership.{has_bytes};
 
+use crate::moves::{FEW, last_to_first};
 use crate::rest::Rest;
 use crate::room::{Base, Deed, Room, give_back, grow, make, nowhere};
 use ecow_base::MAX_LEN;
@@ -152,8 +153,18 @@ impl<T> Block<T> {
         requires room { length self.old.items < self.old.capacity }
         ensures { self.new ≡ contents (insert self.old.items index item) self.old.capacity }
     {
-        self.push_within(item);
-        self.as_mut_slice()[index..].rotate_right(1);
+        let behind = self.len - index;
+        if behind > FEW {
+            self.push_within(item);
+            last_to_first(&mut self.as_mut_slice()[index..]);
+            return;
+        }
+        let mut gap = self.room.split_off(index);
+        let rest = gap.open_gap(self.base, index, behind, 1);
+        gap.put(self.base, index, item);
+        gap.append(rest);
+        self.room.append(gap);
+        self.len += 1;
     }
 
     /// Takes the element at `index` out.

@@ -1,6 +1,6 @@
 //! Moves of items within a room and between rooms, with no pointer in sight. What is cut and glued here is gone when the
 //! program runs: what is left are reads and writes, which the compiler knows as moves of memory.
-ghost use Rattle.std.specs.Prelude.{◌≡◌, ◌+◌, ◌-◌, ◌^◌, ◌<◌, ◌≤◌, [], ◌∷◌, ◌++◌, length, take, vec_len, OnOk, OnErr, IfOk, IsTrue};
+ghost use Rattle.std.specs.Prelude.{◌≡◌, ◌+◌, ◌-◌, ◌^◌, ◌<◌, ◌≤◌, [], ◌∷◌, ◌++◌, drop, length, take, vec_len, OnOk, OnErr, IfOk, IsTrue};
 ghost use Rattle.std.specs.Fn.{CalledAtMut};
 ghost use Rattle.std.specs.Mem.{type_size};
 ghost use Rattle.std.specs.List.Retain.{RetainsInTurn};
@@ -15,6 +15,9 @@ use std::mem::{replace, size_of_val};
 /// How many bytes a small element takes at most.
 const SMALL: usize = 16;
 
+/// How many items are moved by a place one by one, at most.
+pub(crate) const FEW: usize = 16;
+
 /// Whether there are elements, and they are small.
 fn are_small<T>(elements: &[T]) -> bool
     ensures { IsTrue result → type_size T.row ≤ SMALL }
@@ -23,6 +26,24 @@ fn are_small<T>(elements: &[T]) -> bool
         Some(first) => size_of_val(first) <= SMALL,
         None => false,
     }
+}
+
+/// Moves the first of many items behind the others. Out of line the compiler knows that nothing else lies where they do.
+#[inline(never)]
+fn first_to_last<T>(items: &mut [T])
+    requires { 0 < length items.old }
+    ensures { items.new ≡ drop 1 items.old ++ take 1 items.old }
+{
+    items.rotate_left(1);
+}
+
+/// Moves the last of many items before the others.
+#[inline(never)]
+pub(crate) fn last_to_first<T>(items: &mut [T])
+    requires { 0 < length items.old }
+    ensures { items.new ≡ drop (length items.old - 1) items.old ++ take (length items.old - 1) items.old }
+{
+    items.rotate_right(1);
 }
 
 impl<T> Room<T> {
@@ -38,14 +59,20 @@ impl<T> Room<T> {
         (item, replace(self, rest))
     }
 
-    /// Takes the first item, and moves the others, all of which were `len`, down by a place.
+    /// Takes the first item, and moves the others, all of which were `len`, down by a place: one by one where they are few.
     pub(crate) fn shift_first(&mut self, base: Base<T>, start: usize, len: usize) -> T
         requires { (base.ptr ≡ self.old.at) × (start ≡ self.old.start) × (len ≡ length self.old.items) × (0 < len) × (start + len < 2 ^ 64) }
         ensures items { self.old.items ≡ result ∷ self.new.items }
         ensures places { SamePlaces self.old self.new }
     {
-        self.as_mut_slice(base, start, len).rotate_left(1);
-        self.take_last(base, start + len - 1)
+        if len > FEW {
+            first_to_last(self.as_mut_slice(base, start, len));
+            return self.take_last(base, start + len - 1);
+        }
+        let mut rest = self.split_off(0);
+        let (item, place) = rest.take_first(base, start);
+        self.append(place.close_gap(base, start, 1, len - 1, rest));
+        item
     }
 
     /// Lets all items, of which there are `len`, and those of `other`, of which there are as many, change places.

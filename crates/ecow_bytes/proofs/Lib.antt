@@ -1,3 +1,4 @@
+mod Groups
 mod Limits
 mod Moves
 mod Repeats

@@ -110,10 +110,7 @@ impl<const N: usize> SmallBytes<N> {
         ensures inline { self.now.inline ≡ true → result ≡ N }
     {
         match &self.form {
-            Form::Inline(inline) => {
-                let _len = inline.len();
-                N
-            }
+            Form::Inline(inline) => inline.capacity(),
             Form::Spilled(vec) => vec.capacity(),
         }
     }

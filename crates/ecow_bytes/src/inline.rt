@@ -33,7 +33,8 @@ impl<const N: usize> InlineVec<N> {
 
     /// No bytes.
     pub(crate) fn new() -> Self
-        ensures { result ≡ [] }
+        ensures bytes { result ≡ [] }
+        ensures bounded { N ≤ MAX_LEN }
     {
         InlineVec {
             cells: Cells { bytes: [0; N] },
@@ -48,6 +49,15 @@ impl<const N: usize> InlineVec<N> {
         ensures bounded { N ≤ MAX_LEN }
     {
         self.len
+    }
+
+    /// For how many bytes there is room.
+    pub(crate) fn capacity(&self) -> usize
+        ensures room { result ≡ N }
+        ensures fits { length self.now ≤ result }
+        ensures bounded { result ≤ MAX_LEN }
+    {
+        self.cells.bytes[..].len()
     }
 
     /// The bytes, in order.
@@ -118,6 +128,7 @@ impl<const N: usize> InlineVec<N> {
     #[inline]
     pub(crate) fn extend_from_slice(&mut self, bytes: &[u8]) -> Result<(), Full>
         ensures room { IsOk result ↔ (length self.old + length bytes.now ≤ N) }
+        ensures fits { (length self.old ≤ N) × (N ≤ MAX_LEN) }
         ensures ok { OnOk result (self.new ≡ self.old ++ bytes.now) }
         ensures err { OnErr result (self.new ≡ self.old) }
     {
@@ -167,7 +178,6 @@ impl<const N: usize> InlineVec<N> {
         requires { index < length self.old }
         ensures { self.new ≡ slice_set self.old index byte }
     {
-        let _len = self.len;
         self.cells.bytes[index] = byte;
     }
 

@@ -8,6 +8,7 @@ ghost use Rattle.std.specs.Hash as fed;
 ghost use Rattle.std.specs.Hash.{on_Alike, same_Alike};
 
 use crate::bytes::SmallBytes;
+use crate::compare::{equal, order};
 use std::cmp::Ordering;
 use std::fmt;
 use std::hash::{Hash, Hasher};
@@ -18,7 +19,7 @@ impl<const N: usize> PartialEq for SmallBytes<N> {
     ghost laws = { on_per (λ b. b.bytes) (partial_equiv_from_equiv nat_list_eq_equiv) };
 
     fn eq(&self, other: &Self) -> bool {
-        self.as_slice() == other.as_slice()
+        equal(self.as_slice(), other.as_slice())
     }
 }
 
@@ -46,7 +47,7 @@ impl<const N: usize> Ord for SmallBytes<N> {
     ghost matches_eq = { λ b c. texts_ties b.bytes c.bytes };
 
     fn cmp(&self, other: &Self) -> Ordering {
-        self.as_slice().cmp(other.as_slice())
+        order(self.as_slice(), other.as_slice())
     }
 }
 

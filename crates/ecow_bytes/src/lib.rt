@@ -3,6 +3,7 @@
 
 pub mod bytes;
 mod cells;
+mod compare;
 mod inline;
 pub mod laws;
 pub mod write;

@@ -66,7 +66,6 @@ impl<const N: usize> SmallBytes<N> {
         ensures free { length bytes.now ≤ N → IsOk result }
     {
         let mut inline = InlineVec::new();
-        let _len = inline.len();
         let form = match inline.extend_from_slice(bytes) {
             Ok(()) => Form::Inline(inline),
             Err(_) => Form::Spilled(EcoVec::from_slice(alloc, bytes)?),
@@ -109,7 +108,6 @@ impl<const N: usize> SmallBytes<N> {
         ensures free { vec_len bytes ≤ N → IsOk result }
     {
         let mut inline = InlineVec::new();
-        let _len = inline.len();
         let form = match inline.extend_from_slice(bytes.as_slice()) {
             Ok(()) => Form::Inline(inline),
             Err(_) => match EcoVec::from_vec(alloc, bytes) {

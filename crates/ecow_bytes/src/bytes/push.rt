@@ -78,7 +78,6 @@ impl<const N: usize> SmallBytes<N> {
             Form::Inline(inline) => inline,
             Form::Spilled(vec) => return vec.extend_from_slice(bytes),
         };
-        let _len = inline.len();
         if let Ok(()) = inline.extend_from_slice(bytes) {
             return Ok(());
         }
