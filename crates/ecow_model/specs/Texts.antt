@@ -40,6 +40,12 @@ plain_text cs inline = record { chars = cs; inline = inline }
 abbrev pub text_of : PlainBytes → PlainText
 text_of b = plain_text (chars b.bytes) b.inline
 
+-- the same, refused where they are not UTF-8
+abbrev pub text_spelled : PlainBytes → Result PlainText Refusal
+text_spelled b = do
+  _ ← check (is_utf8 b.bytes) NotUtf8
+  Ok (text_of b)
+
 -- the text in ASCII lower or upper case, in its mode
 abbrev pub lowered : PlainText → PlainText
 lowered t = plain_text (map to_ascii_lowercase t.chars) t.inline
@@ -99,8 +105,7 @@ module _ {T : Type 0} (limit : ℕ) where
   abbrev pub text_derived : TextDerive → Plain T → Result PlainText Refusal
   text_derived FromBytes value = do
     b ← as_bytes value
-    _ ← check (is_utf8 b.bytes) NotUtf8
-    Ok (text_of b)
+    text_spelled b
   text_derived Clone value = as_text value
   text_derived (Replace pattern replacement count) value = do
     t ← as_text value

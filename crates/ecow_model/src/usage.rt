@@ -65,7 +65,7 @@ pub(crate) fn ask<Make, Derive, Edit, Ask>(
 }
 
 /// Whether a value of `len` items may have `additional` more.
-pub(crate) fn allowed(len: usize, additional: usize) -> Result<(), Refusal>
+pub fn allowed(len: usize, additional: usize) -> Result<(), Refusal>
     ensures { result ≡ is_allowed (len + additional) }
 {
     if len > MAX_LEN || additional > MAX_LEN - len {

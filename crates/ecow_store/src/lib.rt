@@ -1,7 +1,10 @@
 //! `Store`: commands on named values that are handles, which share their blocks by `Rc`.
 #![tactic(auto)]
 
+mod answers;
+mod bytes;
 mod lists;
 pub mod store;
+mod texts;
 
-pub use store::Store;
+pub use store::{SmallStore, Store};

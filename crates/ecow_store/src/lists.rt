@@ -11,8 +11,8 @@ ghost use Rattle.ecow_model.specs.declared.command.Outcome.{Outcome};
 ghost use Rattle.ecow_model.specs.declared.command.Refusal.{Refusal};
 ghost use Rattle.ecow_model.specs.declared.lists.ListEdit.{ListEdit};
 ghost use Rattle.ecow_model.proofs.Uses.{list_keeps};
-ghost use Rattle.ecow_store.specs.Refusals.{refusal_for};
 
+use crate::answers::{done, refusal_of};
 use crate::store::Stored;
 use ecow_base::resolve;
 use ecow_list::{Drain, EcoError, EcoVec, Splice};
@@ -25,32 +25,22 @@ use ecow_model::{Bounds, Items, Outcome, Refusal, VecCommand};
 use std::alloc::{AllocError, Global};
 
 /// One command on lists.
-pub(crate) fn step<T: Clone>(
+pub(crate) fn step<T: Clone, const N: usize>(
     alloc: Global,
-    values: &mut Table<Stored<T>>,
+    values: &mut Table<Stored<T, N>>,
     command: VecCommand<T>,
 ) -> Outcome<T>
     ensures step { ClonesAreEqual T.is_clone → IsVecStep values.old command result values.new }
     ensures verdict { IsVecVerdict values.old command result values.new }
     ensures refused { OnRefused result (values.new ≡ values.old) }
 {
-    carry_out::<T, Stored<T>, ListKind>(alloc, values, command.usage())
-}
-
-/// Why a command was refused whose call was.
-fn refusal_of(error: EcoError) -> Refusal
-    ensures { result ≡ refusal_for error }
-{
-    match error {
-        EcoError::Capacity => Refusal::Capacity,
-        EcoError::Memory => Refusal::Memory,
-    }
+    carry_out::<T, Stored<T, N>, ListKind>(alloc, values, command.usage())
 }
 
 /// Lists, which are handles.
 pub(crate) struct ListKind;
 
-impl<T: Clone> Kind<T, Stored<T>> for ListKind {
+impl<T: Clone, const N: usize> Kind<T, Stored<T, N>> for ListKind {
     type Held = EcoVec<T>;
 
     type Make = ListMake<T>;
@@ -82,7 +72,11 @@ impl<T: Clone> Kind<T, Stored<T>> for ListKind {
         }
     }
 
-    fn derive(_alloc: Global, how: ListDerive, source: &Stored<T>) -> Result<EcoVec<T>, Refusal> {
+    fn derive(
+        _alloc: Global,
+        how: ListDerive,
+        source: &Stored<T, N>,
+    ) -> Result<EcoVec<T>, Refusal> {
         match (how, source) {
             (ListDerive::Clone, Value::List(list)) => {
                 let copy: Result<EcoVec<T>, AllocError> = list.clone();
@@ -144,29 +138,19 @@ impl<T: Clone> Kind<T, Stored<T>> for ListKind {
         }
     }
 
-    fn seen(value: &Stored<T>) -> Result<&EcoVec<T>, Refusal> {
+    fn seen(value: &Stored<T, N>) -> Result<&EcoVec<T>, Refusal> {
         list_in(value)
     }
 
-    fn seen_mut(value: &mut Stored<T>) -> Result<&mut EcoVec<T>, Refusal> {
+    fn seen_mut(value: &mut Stored<T, N>) -> Result<&mut EcoVec<T>, Refusal> {
         list_in_mut(value)
     }
 
-    fn kept(list: EcoVec<T>) -> Stored<T> {
+    fn kept(list: EcoVec<T>) -> Stored<T, N> {
         Value::List(list)
     }
 
     ghost keeps = { list_keeps };
-}
-
-/// What a change answers: that it was made, or that memory was wanting.
-fn done<T: Drop, E: Drop>(change: Result<(), E>) -> Outcome<T>
-    ensures { MatchResult change (λ _. result ≡ Outcome.Done) (λ _. result ≡ Outcome.Refused Refusal.Memory) }
-{
-    match change {
-        Ok(()) => Outcome::Done,
-        Err(_) => Outcome::Refused(Refusal::Memory),
-    }
 }
 
 /// Keeps the elements that are marked true.

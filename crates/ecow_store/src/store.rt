@@ -4,66 +4,81 @@ ghost use Rattle.std.specs.FinMap as map;
 ghost use Rattle.ecow_base.specs.Clones.{ClonesAreEqual};
 ghost use Rattle.ecow_list.specs.declared.error.EcoError.{EcoError};
 ghost use Rattle.ecow_model.specs.Refusing.{OnRefused};
-ghost use Rattle.ecow_model.specs.Run.{IsVecStep, IsVecVerdict, RunBy};
+ghost use Rattle.ecow_model.specs.Run.{Run, RunBy, Step, StepVerdict};
 
-use crate::lists;
+use crate::{bytes, lists, texts};
+use ecow_bytes::SmallBytes;
 use ecow_list::{EcoError, EcoVec, Rejected};
 use ecow_model::table::Table;
-use ecow_model::value::{PlainBytes, PlainText, Value};
-use ecow_model::{Outcome, VecCommand};
+use ecow_model::value::Value;
+use ecow_model::{Command, Outcome};
+use ecow_text::SmallText;
 use std::alloc::Global;
 use std::marker::Model;
 
-/// What stands under a name. Lists alone are handles so far.
-pub(crate) type Stored<T> = Value<EcoVec<T>, PlainBytes, PlainText>;
+/// What stands under a name.
+pub type Stored<T, const N: usize> = Value<EcoVec<T>, SmallBytes<N>, SmallText<N>>;
 
-/// Named values that share their blocks by `Rc`. The commands on lists are carried out so far.
+/// Named values of which `V` is the type.
 #[derive(Drop)]
-pub struct Store<T> {
+pub struct NamedValues<V> {
     alloc: Global,
-    values: Table<Stored<T>>,
+    values: Table<V>,
 }
 
-impl<T> Model for Store<T> {
-    ghost use Rattle.ecow_model.specs.State.{State, state_code};
+/// Named lists, bytes and texts that share their blocks by `Rc`, where up to `N` bytes of a value
+/// of bytes or of a text stand in the value itself.
+pub type SmallStore<T, const N: usize> = NamedValues<Stored<T, N>>;
 
-    ghost Value = { State T };
+/// The store with an inline limit of 15 bytes.
+pub type Store<T> = SmallStore<T, 15>;
 
-    ghost coded = { state_code T.code };
+impl<V> Model for NamedValues<V> {
+    ghost use Rattle.std.specs.FinMap.{code};
+    ghost use Rattle.std.specs.Coded.{coded_ℕ};
+    ghost use Rattle.ecow_model.specs.Values.{Named};
+
+    ghost Value = { Named V };
+
+    ghost coded = { code coded_ℕ V.code };
 
     ghost view = { λ a. a.values };
 }
 
-impl<T> Store<T> {
+impl<V> NamedValues<V> {
     /// No name is there. Takes no memory.
     pub fn new(alloc: Global) -> Self
         ensures { result ≡ map.empty }
     {
-        Store {
+        NamedValues {
             alloc,
             values: Table::new(alloc),
         }
     }
 }
 
-impl<T: Clone> Store<T> {
+impl<T: Clone, const N: usize> NamedValues<Stored<T, N>> {
     /// Carries out one command. A refused command changes nothing; what it carried is dropped.
-    pub fn step(&mut self, command: VecCommand<T>) -> Outcome<T>
-        ensures step { ClonesAreEqual T.is_clone → IsVecStep self.old command result self.new }
-        ensures verdict { IsVecVerdict self.old command result self.new }
+    pub fn step(&mut self, command: Command<T>) -> Outcome<T>
+        ensures step { ClonesAreEqual T.is_clone → Step N self.old command result self.new }
+        ensures verdict { StepVerdict N self.old command result self.new }
         ensures refused { OnRefused result (self.new ≡ self.old) }
     {
-        lists::step(self.alloc, &mut self.values, command)
+        match command {
+            Command::Vec(command) => lists::step::<T, N>(self.alloc, &mut self.values, command),
+            Command::Bytes(command) => bytes::step::<T, N>(self.alloc, &mut self.values, command),
+            Command::Text(command) => texts::step::<T, N>(self.alloc, &mut self.values, command),
+        }
     }
 
     /// Carries out commands in order and answers the outcome of each. Room for the outcomes is
     /// taken first: where it is refused nothing is carried out, and the commands come back.
     pub fn run(
         &mut self,
-        commands: Vec<VecCommand<T>>,
-    ) -> Result<Vec<Outcome<T>>, Rejected<Vec<VecCommand<T>>>>
-        ensures run { ClonesAreEqual T.is_clone → IfOk result (λ outcomes. RunBy IsVecStep self.old commands.items outcomes.items self.new) }
-        ensures verdicts { IfOk result (λ outcomes. RunBy IsVecVerdict self.old commands.items outcomes.items self.new) }
+        commands: Vec<Command<T>>,
+    ) -> Result<Vec<Outcome<T>>, Rejected<Vec<Command<T>>>>
+        ensures run { ClonesAreEqual T.is_clone → IfOk result (λ outcomes. Run N self.old commands.items outcomes.items self.new) }
+        ensures verdicts { IfOk result (λ outcomes. RunBy (StepVerdict N) self.old commands.items outcomes.items self.new) }
         ensures err { OnErr result (self.new ≡ self.old) }
         ensures value_returned { IfErr result (λ rejected. rejected.value ≡ commands) }
         ensures memory { IfErr result (λ rejected. rejected.error ≡ EcoError.Memory) }

@@ -1,0 +1,40 @@
+//! What the calls of values answer, as outcomes and refusals.
+ghost use Rattle.std.specs.Prelude.{◌≡◌, Ok, Err, MatchResult};
+ghost use Rattle.ecow_model.specs.declared.command.Outcome.{Outcome};
+ghost use Rattle.ecow_model.specs.declared.command.Refusal.{Refusal};
+ghost use Rattle.ecow_model.specs.declared.usage.Made.{Made};
+ghost use Rattle.ecow_store.specs.Refusals.{refusal_for};
+
+use ecow_list::EcoError;
+use ecow_model::usage::Made;
+use ecow_model::{Outcome, Refusal};
+
+/// Why a command was refused whose call was.
+pub(crate) fn refusal_of(error: EcoError) -> Refusal
+    ensures { result ≡ refusal_for error }
+{
+    match error {
+        EcoError::Capacity => Refusal::Capacity,
+        EcoError::Memory => Refusal::Memory,
+    }
+}
+
+/// What a change answers: that it was made, or that memory was wanting.
+pub(crate) fn done<T: Drop, E: Drop>(change: Result<(), E>) -> Outcome<T>
+    ensures { MatchResult change (λ _. result ≡ Outcome.Done) (λ _. result ≡ Outcome.Refused Refusal.Memory) }
+{
+    match change {
+        Ok(()) => Outcome::Done,
+        Err(_) => Outcome::Refused(Refusal::Memory),
+    }
+}
+
+/// A value that was made, or why it was not.
+pub(crate) fn made<V>(made: Result<V, EcoError>) -> Result<Made<V>, Refusal>
+    ensures { MatchResult made (λ value. result ≡ Ok (Made.Value value)) (λ error. result ≡ Err (refusal_for error)) }
+{
+    match made {
+        Ok(value) => Ok(Made::Value(value)),
+        Err(error) => Err(refusal_of(error)),
+    }
+}

@@ -1,0 +1,157 @@
+//! What the store does with bytes: each table of the definitions is one `match`.
+ghost use Rattle.std.specs.Prelude.{◌≡◌};
+ghost use Rattle.ecow_base.specs.Clones.{ClonesAreEqual};
+ghost use Rattle.ecow_model.specs.Bytes.{bytes_rules};
+ghost use Rattle.ecow_model.specs.Refusing.{OnRefused};
+ghost use Rattle.ecow_model.specs.Run.{IsBytesStep, IsBytesVerdict};
+ghost use Rattle.ecow_model.proofs.Uses.{bytes_keeps};
+
+use crate::answers::{done, made, refusal_of};
+use crate::store::Stored;
+use ecow_bytes::SmallBytes;
+use ecow_list::EcoVec;
+use ecow_model::bytes::{BytesAsk, BytesDerive, BytesEdit, BytesMake};
+use ecow_model::kinds::{Kind, carry_out};
+use ecow_model::table::Table;
+use ecow_model::usage::Made;
+use ecow_model::value::{Value, bytes_in, bytes_in_mut};
+use ecow_model::{BytesCommand, Items, Outcome, Refusal};
+use ecow_text::SmallText;
+use std::alloc::{AllocError, Global};
+
+/// One command on bytes.
+pub(crate) fn step<T: Clone, const N: usize>(
+    alloc: Global,
+    values: &mut Table<Stored<T, N>>,
+    command: BytesCommand,
+) -> Outcome<T>
+    ensures step { ClonesAreEqual T.is_clone → IsBytesStep N values.old command result values.new }
+    ensures verdict { IsBytesVerdict N values.old command result values.new }
+    ensures refused { OnRefused result (values.new ≡ values.old) }
+{
+    carry_out::<T, Stored<T, N>, BytesKind>(alloc, values, command.usage())
+}
+
+/// Bytes, inline or in handles.
+pub(crate) struct BytesKind;
+
+impl<T: Clone, const N: usize> Kind<T, Stored<T, N>> for BytesKind {
+    type Held = SmallBytes<N>;
+
+    type Make = BytesMake;
+
+    type Derive = BytesDerive;
+
+    type Edit = BytesEdit;
+
+    type Ask = BytesAsk;
+
+    ghost rules = { bytes_rules N };
+
+    fn make(alloc: Global, how: BytesMake) -> Result<Made<SmallBytes<N>>, Refusal> {
+        match how {
+            BytesMake::New => Ok(Made::Value(SmallBytes::new(alloc))),
+            BytesMake::TryInline(bytes) => {
+                Ok(Made::Tried(SmallBytes::try_inline(alloc, bytes.as_slice())))
+            }
+            BytesMake::WithCapacity(capacity) => made(SmallBytes::with_capacity(alloc, capacity)),
+            BytesMake::FromList(bytes) => made(SmallBytes::from_slice(alloc, bytes.as_slice())),
+            BytesMake::FromEcoVec(bytes) => match EcoVec::from_vec(alloc, bytes.into_vec()) {
+                Ok(vec) => Ok(Made::Value(SmallBytes::from(vec))),
+                Err(rejected) => Err(refusal_of(rejected.error)),
+            },
+        }
+    }
+
+    fn derive(
+        _alloc: Global,
+        how: BytesDerive,
+        source: &Stored<T, N>,
+    ) -> Result<SmallBytes<N>, Refusal> {
+        match (how, source) {
+            (BytesDerive::FromText, Value::Text(text)) => {
+                let copy: Result<SmallText<N>, AllocError> = text.clone();
+                match copy {
+                    Ok(copy) => Ok(SmallBytes::from(copy)),
+                    Err(_) => Err(Refusal::Memory),
+                }
+            }
+            (BytesDerive::Clone, Value::Bytes(bytes)) => {
+                let copy: Result<SmallBytes<N>, AllocError> = bytes.clone();
+                match copy {
+                    Ok(copy) => Ok(copy),
+                    Err(_) => Err(Refusal::Memory),
+                }
+            }
+            (BytesDerive::Repeat(count), Value::Bytes(bytes)) => match bytes.repeat(count) {
+                Ok(copies) => Ok(copies),
+                Err(error) => Err(refusal_of(error)),
+            },
+            (_, _) => Err(Refusal::Kind),
+        }
+    }
+
+    #[tactic(auto, using(ecow_model::proofs::Lengths::edits, std::proofs::lemmas::Option::slice_get_cases))]
+    fn edit(_alloc: Global, bytes: &mut SmallBytes<N>, edit: BytesEdit) -> Outcome<T> {
+        if let Err(refusal) = edit.check::<T, N>(bytes.len()) {
+            return Outcome::Refused(refusal);
+        }
+        match edit {
+            BytesEdit::Push(byte) => done(bytes.push(byte)),
+            BytesEdit::Pop => match bytes.pop() {
+                Ok(last) => Outcome::PoppedByte(last),
+                Err(_) => Outcome::Refused(Refusal::Memory),
+            },
+            BytesEdit::Insert(index, byte) => done(bytes.insert(index, byte)),
+            BytesEdit::Remove(index) => match bytes.remove(index) {
+                Ok(byte) => Outcome::Byte(byte),
+                Err(_) => Outcome::Refused(Refusal::Memory),
+            },
+            BytesEdit::Extend(more) => done(bytes.extend_from_slice(more.as_slice())),
+            BytesEdit::InsertSlice(index, more) => {
+                done(bytes.insert_slice(index, more.as_slice()))
+            }
+            BytesEdit::Truncate(target) => done(bytes.truncate(target)),
+            BytesEdit::Clear => {
+                bytes.clear();
+                Outcome::Done
+            }
+            BytesEdit::Reserve(additional) => done(bytes.reserve(additional)),
+            BytesEdit::Write(index, byte) => done(bytes.set(index, byte)),
+            BytesEdit::ShrinkToFit => {
+                bytes.shrink_to_fit();
+                Outcome::Done
+            }
+        }
+    }
+
+    fn ask(alloc: Global, bytes: &mut SmallBytes<N>, question: BytesAsk) -> Outcome<T> {
+        match question {
+            BytesAsk::Read(index) => match bytes.as_slice().get(index) {
+                Some(byte) => Outcome::Byte(*byte),
+                None => Outcome::Refused(Refusal::Index),
+            },
+            BytesAsk::Len => Outcome::Count(bytes.len()),
+            BytesAsk::Capacity => Outcome::Count(bytes.capacity()),
+            BytesAsk::Contents => match Items::from_slice(alloc, bytes.as_slice()) {
+                Ok(copy) => Outcome::Bytes(copy),
+                Err(_) => Outcome::Refused(Refusal::Memory),
+            },
+            BytesAsk::IsInline => Outcome::Flag(bytes.is_inline()),
+        }
+    }
+
+    fn seen(value: &Stored<T, N>) -> Result<&SmallBytes<N>, Refusal> {
+        bytes_in(value)
+    }
+
+    fn seen_mut(value: &mut Stored<T, N>) -> Result<&mut SmallBytes<N>, Refusal> {
+        bytes_in_mut(value)
+    }
+
+    fn kept(bytes: SmallBytes<N>) -> Stored<T, N> {
+        Value::Bytes(bytes)
+    }
+
+    ghost keeps = { bytes_keeps N };
+}

@@ -1,0 +1,217 @@
+//! What the store does with texts: each table of the definitions is one `match`.
+ghost use Rattle.std.specs.Prelude.{◌≡◌};
+ghost use Rattle.ecow_base.specs.Clones.{ClonesAreEqual};
+ghost use Rattle.ecow_model.specs.Refusing.{OnRefused, verdict};
+ghost use Rattle.ecow_model.specs.Run.{IsTextStep, IsTextVerdict};
+ghost use Rattle.ecow_model.specs.Texts.{text_edited, text_rules, text_spelled};
+ghost use Rattle.ecow_model.specs.Uses.{IsGiven};
+ghost use Rattle.ecow_model.proofs.Uses.{text_keeps};
+
+use crate::answers::{done, made, refusal_of};
+use crate::store::Stored;
+use ecow_bytes::SmallBytes;
+use ecow_list::EcoError;
+use ecow_model::kinds::{Kind, carry_out};
+use ecow_model::table::Table;
+use ecow_model::texts::{TextAsk, TextDerive, TextEdit, TextMake};
+use ecow_model::usage::{Made, allowed};
+use ecow_model::value::{Value, text_in, text_in_mut};
+use ecow_model::{Outcome, Refusal, Text, TextCommand};
+use ecow_text::SmallText;
+use std::alloc::{AllocError, Global};
+
+/// One command on texts.
+pub(crate) fn step<T: Clone, const N: usize>(
+    alloc: Global,
+    values: &mut Table<Stored<T, N>>,
+    command: TextCommand,
+) -> Outcome<T>
+    ensures step { ClonesAreEqual T.is_clone → IsTextStep N values.old command result values.new }
+    ensures verdict { IsTextVerdict N values.old command result values.new }
+    ensures refused { OnRefused result (values.new ≡ values.old) }
+{
+    carry_out::<T, Stored<T, N>, TextKind>(alloc, values, command.usage())
+}
+
+/// Texts, inline or in handles.
+pub(crate) struct TextKind;
+
+impl<T: Clone, const N: usize> Kind<T, Stored<T, N>> for TextKind {
+    type Held = SmallText<N>;
+
+    type Make = TextMake;
+
+    type Derive = TextDerive;
+
+    type Edit = TextEdit;
+
+    type Ask = TextAsk;
+
+    ghost rules = { text_rules N };
+
+    #[tactic(auto, using(crate::proofs::Characters::texts))]
+    fn make(alloc: Global, how: TextMake) -> Result<Made<SmallText<N>>, Refusal> {
+        match how {
+            TextMake::New => Ok(Made::Value(SmallText::new(alloc))),
+            TextMake::TryInline(text) => {
+                Ok(Made::Tried(SmallText::try_inline(alloc, text.as_str())))
+            }
+            TextMake::WithCapacity(capacity) => made(SmallText::with_capacity(alloc, capacity)),
+            TextMake::FromStr(text) => made(SmallText::from_str(alloc, text.as_str())),
+            TextMake::FromChar(c) => made(SmallText::from_char(alloc, c)),
+        }
+    }
+
+    #[tactic(auto, using(crate::proofs::Characters::texts))]
+    fn derive(
+        _alloc: Global,
+        how: TextDerive,
+        source: &Stored<T, N>,
+    ) -> Result<SmallText<N>, Refusal> {
+        if let TextDerive::FromBytes = how {
+            return match source {
+                Value::Bytes(bytes) => spelled(bytes),
+                _ => Err(Refusal::Kind),
+            };
+        }
+        let text = text_in(source)?;
+        let derived: Result<SmallText<N>, EcoError> = match how {
+            TextDerive::FromBytes => return Err(Refusal::Kind),
+            TextDerive::Clone => {
+                let copy: Result<SmallText<N>, AllocError> = text.clone();
+                match copy {
+                    Ok(copy) => Ok(copy),
+                    Err(_) => Err(EcoError::Memory),
+                }
+            }
+            TextDerive::Replace(pattern, replacement, count) => {
+                text.replacen(pattern.as_str(), replacement.as_str(), count)
+            }
+            TextDerive::Repeat(count) => text.repeat(count),
+            TextDerive::ToAsciiLower => text.to_ascii_lowercase(),
+            TextDerive::ToAsciiUpper => text.to_ascii_uppercase(),
+        };
+        match derived {
+            Ok(text) => Ok(text),
+            Err(error) => Err(refusal_of(error)),
+        }
+    }
+
+    #[tactic(auto, using(crate::proofs::Characters::texts))]
+    fn edit(_alloc: Global, text: &mut SmallText<N>, edit: TextEdit) -> Outcome<T> {
+        if let Err(refusal) = check::<T, N>(text, &edit) {
+            return Outcome::Refused(refusal);
+        }
+        match edit {
+            TextEdit::Push(c) => done(text.push(c)),
+            TextEdit::Pop => match text.pop() {
+                Ok(last) => Outcome::PoppedChar(last),
+                Err(_) => Outcome::Refused(Refusal::Memory),
+            },
+            TextEdit::PushStr(more) => done(text.push_str(more.as_str())),
+            TextEdit::Insert(index, c) => done(text.insert(index, c)),
+            TextEdit::InsertStr(index, more) => done(text.insert_str(index, more.as_str())),
+            TextEdit::Remove(index) => match text.remove(index) {
+                Ok(c) => Outcome::Char(c),
+                Err(_) => Outcome::Refused(Refusal::Memory),
+            },
+            TextEdit::Truncate(target) => done(text.truncate(target)),
+            TextEdit::Clear => {
+                text.clear();
+                Outcome::Done
+            }
+            TextEdit::Reserve(additional) => done(text.reserve(additional)),
+            TextEdit::AsciiLower => done(text.make_ascii_lowercase()),
+            TextEdit::AsciiUpper => done(text.make_ascii_uppercase()),
+            TextEdit::ShrinkToFit => {
+                text.shrink_to_fit();
+                Outcome::Done
+            }
+        }
+    }
+
+    fn ask(alloc: Global, text: &mut SmallText<N>, question: TextAsk) -> Outcome<T> {
+        match question {
+            TextAsk::Len => Outcome::Count(text.len()),
+            TextAsk::Capacity => Outcome::Count(text.capacity()),
+            TextAsk::Contents => match String::from_str(alloc, text.as_str()) {
+                Ok(copy) => Outcome::Text(Text::new(copy)),
+                Err(_) => Outcome::Refused(Refusal::Memory),
+            },
+            TextAsk::IsInline => Outcome::Flag(text.is_inline()),
+        }
+    }
+
+    fn seen(value: &Stored<T, N>) -> Result<&SmallText<N>, Refusal> {
+        text_in(value)
+    }
+
+    fn seen_mut(value: &mut Stored<T, N>) -> Result<&mut SmallText<N>, Refusal> {
+        text_in_mut(value)
+    }
+
+    fn kept(text: SmallText<N>) -> Stored<T, N> {
+        Value::Text(text)
+    }
+
+    ghost keeps = { text_keeps N };
+}
+
+/// Whether an edit of a text may be made, and else why not: the first refusal that applies, want of
+/// memory apart.
+#[tactic(auto, using(crate::proofs::Characters::texts))]
+fn check<T, const N: usize>(text: &SmallText<N>, edit: &TextEdit) -> Result<(), Refusal>
+    ensures { result ≡ verdict (text_edited {T = T} N edit.now text.now) }
+{
+    let len = text.len();
+    match edit {
+        TextEdit::Push(c) => allowed(len, c.len_utf8()),
+        TextEdit::PushStr(more) => allowed(len, more.as_str().len()),
+        TextEdit::Insert(index, c) => {
+            if !text.is_char_boundary(*index) {
+                return Err(Refusal::Boundary);
+            }
+            allowed(len, c.len_utf8())
+        }
+        TextEdit::InsertStr(index, more) => {
+            if !text.is_char_boundary(*index) {
+                return Err(Refusal::Boundary);
+            }
+            allowed(len, more.as_str().len())
+        }
+        TextEdit::Remove(index) => {
+            if *index >= len || !text.is_char_boundary(*index) {
+                return Err(Refusal::Boundary);
+            }
+            Ok(())
+        }
+        TextEdit::Truncate(target) => {
+            if *target <= len && !text.is_char_boundary(*target) {
+                return Err(Refusal::Boundary);
+            }
+            Ok(())
+        }
+        TextEdit::Reserve(additional) => allowed(len, *additional),
+        TextEdit::Pop => Ok(()),
+        TextEdit::Clear => Ok(()),
+        TextEdit::AsciiLower => Ok(()),
+        TextEdit::AsciiUpper => Ok(()),
+        TextEdit::ShrinkToFit => Ok(()),
+    }
+}
+
+/// The text that bytes spell, in their mode: `NotUtf8` where they spell none.
+#[tactic(auto, using(crate::proofs::Characters::texts))]
+fn spelled<const N: usize>(bytes: &SmallBytes<N>) -> Result<SmallText<N>, Refusal>
+    ensures { IsGiven (text_spelled bytes.now) result }
+{
+    let copy: Result<SmallBytes<N>, AllocError> = bytes.clone();
+    match copy {
+        Ok(copy) => match SmallText::try_from(copy) {
+            Ok(text) => Ok(text),
+            Err(_) => Err(Refusal::NotUtf8),
+        },
+        Err(_) if str::from_utf8(bytes.as_slice()).is_err() => Err(Refusal::NotUtf8),
+        Err(_) => Err(Refusal::Memory),
+    }
+}
