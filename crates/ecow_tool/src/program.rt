@@ -3,9 +3,9 @@ ghost use Rattle.std.specs.Prelude.{◌≡◌, ◌<◌, length, IfSome};
 ghost use Rattle.ecow_tool.specs.Arguments.{asked, is_flag};
 
 use crate::answer::{write_answer, write_totals};
-use crate::script::{Fault, Reason, read_script};
+use crate::script::{Fault, Reason, Scripted, read_script};
 use ecow_counted::Counted;
-use ecow_model::{Outcome, VecCommand};
+use ecow_model::{Command, Outcome, VecCommand};
 use ecow_store::Store;
 use std::alloc::{AllocError, Global};
 use std::fmt;
@@ -103,41 +103,47 @@ pub fn run_counted<R: Read + Drop, W: Write + Drop>(alloc: Global, reader: R, wr
 }
 
 fn store_answers<R: Read>(alloc: Global, reader: &mut R) -> Result<String, End> {
-    let commands = read_commands(alloc, reader)?;
+    let pieces = read_commands::<R, Command<i64>>(alloc, reader)?;
     let mut store = Store::new(alloc);
-    let Ok(outcomes) = store.run(commands) else {
-        return Err(End::Memory);
-    };
-    answers_of(alloc, outcomes.as_slice())
+    let mut answers = String::new(alloc);
+    for commands in pieces {
+        let Ok(outcomes) = store.run(commands) else {
+            return Err(End::Memory);
+        };
+        write_answers(&mut answers, outcomes.as_slice())?;
+    }
+    Ok(answers)
 }
 
 fn counted_answers<R: Read>(alloc: Global, reader: &mut R) -> Result<String, End> {
-    let commands = read_commands(alloc, reader)?;
+    let pieces = read_commands::<R, VecCommand<i64>>(alloc, reader)?;
     let mut counted = Counted::new(alloc);
-    let Ok(outcomes) = counted.run(commands) else {
-        return Err(End::Memory);
-    };
-    let mut answers = answers_of(alloc, outcomes.as_slice())?;
+    let mut answers = String::new(alloc);
+    for commands in pieces {
+        let Ok(outcomes) = counted.run(commands) else {
+            return Err(End::Memory);
+        };
+        write_answers(&mut answers, outcomes.as_slice())?;
+    }
     write_totals(&mut answers, &counted)?;
     Ok(answers)
 }
 
-/// The commands of a script.
-fn read_commands<R: Read>(alloc: Global, reader: &mut R) -> Result<Vec<VecCommand<i64>>, End> {
+/// The commands of a script, in pieces.
+fn read_commands<R: Read, C: Scripted>(alloc: Global, reader: &mut R) -> Result<Vec<Vec<C>>, End> {
     let script = read_limited(alloc, reader)?;
-    if str::from_utf8(script.as_slice()).is_err() {
-        return Err(End::NotUtf8);
+    match str::from_utf8(script.as_slice()) {
+        Ok(text) => Ok(read_script::<C>(alloc, text)?),
+        Err(_) => Err(End::NotUtf8),
     }
-    Ok(read_script(alloc, script.as_slice())?)
 }
 
-/// The answer lines of outcomes.
-fn answers_of(alloc: Global, outcomes: &[Outcome<i64>]) -> Result<String, End> {
-    let mut answers = String::new(alloc);
+/// Appends the answer lines of outcomes.
+fn write_answers(answers: &mut String, outcomes: &[Outcome<i64>]) -> Result<(), AllocError> {
     for outcome in outcomes {
-        write_answer(&mut answers, outcome)?;
+        write_answer(answers, outcome)?;
     }
-    Ok(answers)
+    Ok(())
 }
 
 fn write_out<W: Write>(writer: &mut W, answers: &str) -> End {

@@ -1,7 +1,7 @@
 //! The arguments of a command.
 use crate::script::Reason;
 use crate::script::words::{Misfit, Reader};
-use ecow_model::{Bounds, Items, Name};
+use ecow_model::{Bounds, Items, Name, Text};
 use std::alloc::Global;
 use std::ops::Bound;
 
@@ -37,6 +37,18 @@ impl<'a> Reader<'a> {
     pub(super) fn integers(&mut self) -> Result<Items<i64>, Misfit> {
         let word = self.argument()?;
         integers_in(self.alloc, word)
+    }
+
+    /// BYTE: a number of 8 bits.
+    pub(super) fn byte(&mut self) -> Result<u8, Misfit> {
+        let word = self.argument()?;
+        byte_in(word).ok_or(Misfit::Expected(Reason::Number))
+    }
+
+    /// BYTES: numbers of 8 bits in brackets, parted by commas.
+    pub(super) fn bytes(&mut self) -> Result<Items<u8>, Misfit> {
+        let word = self.argument()?;
+        bytes_in(self.alloc, word)
     }
 
     /// MARKS: `+` and `-` in brackets, for what is kept and what is not.
@@ -94,6 +106,10 @@ fn integer_in(word: &[u8]) -> Option<i64> {
     i64::try_from(magnitude).ok()?.checked_neg()
 }
 
+fn byte_in(word: &[u8]) -> Option<u8> {
+    u8::try_from(digits_in(word)?).ok()
+}
+
 /// What stands between brackets.
 fn bracketed(word: &[u8]) -> Option<&[u8]> {
     word.strip_prefix(b"[")?.strip_suffix(b"]")
@@ -114,6 +130,23 @@ fn integers_in(alloc: Global, word: &[u8]) -> Result<Items<i64>, Misfit> {
         items.push(item)?;
     }
     Ok(Items::new(items))
+}
+
+fn bytes_in(alloc: Global, word: &[u8]) -> Result<Items<u8>, Misfit> {
+    let Some(inner) = bracketed(word) else {
+        return Err(Misfit::Expected(Reason::List));
+    };
+    let mut bytes = Vec::new(alloc);
+    if inner.is_empty() {
+        return Ok(Items::new(bytes));
+    }
+    for part in inner.split(|byte| *byte == b',') {
+        let Some(byte) = byte_in(part) else {
+            return Err(Misfit::Expected(Reason::List));
+        };
+        bytes.push(byte)?;
+    }
+    Ok(Items::new(bytes))
 }
 
 fn marks_in(alloc: Global, word: &[u8]) -> Result<Items<bool>, Misfit> {

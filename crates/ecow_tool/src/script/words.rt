@@ -3,12 +3,12 @@ ghost use Rattle.std.specs.Prelude.{◌≡◌, ◌↔◌, ◌⊎◌, IsTrue};
 
 use crate::script::Reason;
 use ecow_model::Name;
-use std::alloc::{AllocFailed, Global};
+use std::alloc::{AllocError, AllocFailed, Global};
 use std::collections::HashMap;
 
 /// Why a line was not read.
 #[derive(Clone, Copy, Debug, PartialEq, Eq)]
-pub(super) enum Misfit {
+pub(crate) enum Misfit {
     /// This was expected in place of a word.
     Expected(Reason),
     /// There was no memory.
@@ -26,11 +26,22 @@ impl<T: Drop> From<AllocFailed<T>> for Misfit {
     }
 }
 
+impl From<AllocError> for Misfit {
+    ghost use Rattle.std.specs.Prelude.{◌≡◌};
+    ghost use Rattle.ecow_tool.specs.declared.script.words.Misfit.{Misfit};
+
+    ghost from_gives = { λ _ misfit. misfit ≡ Misfit.Memory };
+
+    fn from(_: AllocError) -> Self {
+        Self::Memory
+    }
+}
+
 /// What is left of a line, and the names that were read so far.
 #[derive(Drop)]
-pub(super) struct Reader<'a> {
+pub(crate) struct Reader<'a> {
     pub(super) alloc: Global,
-    rest: &'a [u8],
+    rest: &'a str,
     names: HashMap<&'a [u8], Name>,
 }
 
@@ -39,33 +50,49 @@ impl<'a> Reader<'a> {
     pub(super) fn new(alloc: Global) -> Self {
         Reader {
             alloc,
-            rest: &[],
+            rest: "",
             names: HashMap::new(alloc),
         }
     }
 
     /// Goes on to a line.
-    pub(super) fn begin(&mut self, line: &'a [u8]) {
+    pub(super) fn begin(&mut self, line: &'a str) {
         self.rest = line;
     }
 
     /// The next word of the line, if there is one. Words are parted by blanks.
     pub(super) fn next_word(&mut self) -> Option<&'a [u8]> {
-        let start = self.rest.iter().position(|byte| !is_blank(*byte))?;
-        if start >= self.rest.len() {
+        let text = self.next_text();
+        if text.is_empty() {
             return None;
         }
-        let text = &self.rest[start..];
-        match text.iter().position(|byte| is_blank(*byte)) {
-            Some(end) if end <= text.len() => {
-                self.rest = &text[end..];
-                Some(&text[..end])
-            }
-            _ => {
-                self.rest = &[];
-                Some(text)
-            }
+        let (word, rest) = parted(
+            text,
+            text.as_bytes().iter().position(|byte| is_blank(*byte)),
+        );
+        self.rest = rest;
+        Some(word.as_bytes())
+    }
+
+    /// What is left of the line, from the next word on.
+    pub(super) fn next_text(&mut self) -> &'a str {
+        let words = self
+            .rest
+            .as_bytes()
+            .iter()
+            .position(|byte| !is_blank(*byte));
+        let (_, text) = parted(self.rest, words);
+        self.rest = text;
+        text
+    }
+
+    /// Goes on behind a text, which a blank or the line's end must follow.
+    pub(super) fn go_on_at(&mut self, rest: &'a str) -> Result<(), Misfit> {
+        if !rest.as_bytes().first().is_none_or(|byte| is_blank(*byte)) {
+            return Err(Misfit::Expected(Reason::Text));
         }
+        self.rest = rest;
+        Ok(())
     }
 
     /// The next word of a line that must have one.
@@ -87,6 +114,14 @@ impl<'a> Reader<'a> {
             Ok(_) => Ok(number),
             Err(_) => Err(Misfit::Memory),
         }
+    }
+}
+
+/// The text before a byte index, and that from it on: all before it where there is none.
+fn parted(text: &str, index: Option<usize>) -> (&str, &str) {
+    match index {
+        Some(index) => text.split_at_checked(index).unwrap_or((text, "")),
+        None => (text, ""),
     }
 }
 
