@@ -23,7 +23,7 @@ impl<const N: usize> PartialEq for SmallText<N> {
     ghost laws = { on_per (λ t. encode_utf8_all t.chars) (partial_equiv_from_equiv nat_list_eq_equiv) };
 
     fn eq(&self, other: &Self) -> bool {
-        self.as_str() == other.as_str()
+        self.bytes == other.bytes
     }
 }
 
@@ -51,7 +51,7 @@ impl<const N: usize> Ord for SmallText<N> {
     ghost matches_eq = { λ t u. texts_ties (encode_utf8_all t.chars) (encode_utf8_all u.chars) };
 
     fn cmp(&self, other: &Self) -> Ordering {
-        self.as_str().cmp(other.as_str())
+        self.bytes.cmp(&other.bytes)
     }
 }
 

@@ -30,7 +30,7 @@ use std::str;
 /// text ends.
 #[derive(Drop)]
 pub struct SmallText<const N: usize> {
-    bytes: SmallBytes<N>,
+    pub(crate) bytes: SmallBytes<N>,
 }
 
 /// Text of which at most 15 bytes stand in the value itself.

@@ -61,6 +61,7 @@ impl<const N: usize> SmallText<N> {
         let bytes = mapped(&self.bytes, Case::Upper)?;
         Ok(SmallText { bytes })
     }
+
     /// The text in lower case, as std's `str` has it: of an ASCII text the letters mapped, and past
     /// ASCII by Unicode. It is inline where it has at most `N` bytes, which is never refused of an
     /// ASCII text, and else spilled. Past ASCII memory for std's text may be refused too.

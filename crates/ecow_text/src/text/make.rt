@@ -68,6 +68,7 @@ impl<const N: usize> SmallText<N> {
         let bytes = SmallBytes::from_slice(alloc, text.as_bytes())?;
         Ok(SmallText { bytes })
     }
+
     /// The text of a `String`: inline where it has at most `N` bytes, which is never refused, and
     /// else spilled, with a block of its own. A refusal hands the `String` back, with `Capacity` past
     /// 2^63 - 1 bytes, and else with `Memory`.

@@ -46,6 +46,7 @@ impl<const N: usize> SmallText<N> {
         self.bytes.extend_from_slice(text.as_bytes())?;
         Ok(())
     }
+
     /// The text with `text` behind it, as `push_str` appends it. A refusal hands this text back as it
     /// was, with `push_str`'s error.
     pub fn add(self, text: &str) -> Result<Self, Rejected<Self>>
