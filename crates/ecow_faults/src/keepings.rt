@@ -2,7 +2,7 @@
 use crate::examples::{EXAMPLES, example};
 use ecow_counted::Counted;
 use ecow_list::EcoError;
-use ecow_model::{Outcome, Refusal, VecCommand};
+use ecow_model::{Command, Outcome, Refusal, VecCommand};
 use ecow_plain::PlainStore;
 use ecow_tests::commands::same;
 use ecow_tests::numbers::Numbers;
@@ -32,7 +32,7 @@ pub(crate) trait Keeping {
 
 impl Keeping for Store<i64> {
     fn carry_out(&mut self, command: VecCommand<i64>) -> Outcome<i64> {
-        self.step(command)
+        self.step(Command::Vec(command))
     }
 
     fn account(&self) -> Option<Account> {
@@ -152,7 +152,7 @@ pub(crate) fn examples_hold(alloc: Global) -> bool {
 /// A run whose room for the outcomes is refused hands its commands back, and runs nothing.
 pub(crate) fn runs_hold(alloc: Global) -> bool {
     let mut store = Store::new(alloc);
-    let Ok(commands) = Numbers::new(1).commands(alloc, 3) else {
+    let Ok(commands) = Numbers::new(1).store_commands(alloc, 3) else {
         return true;
     };
     match store.run(commands) {

@@ -6,6 +6,7 @@
 mod bytes;
 mod examples;
 mod keepings;
+mod texts;
 mod vectors;
 
 use ecow_counted::Counted;
@@ -22,6 +23,11 @@ fn main(rt: HostRuntime) -> io::Result<()> {
         ("edits of bytes", bytes::edits_hold(alloc)),
         ("makers of bytes", bytes::makers_hold(alloc)),
         ("conversions of bytes", bytes::conversions_hold(alloc)),
+        ("edits of texts", texts::edits_hold(alloc)),
+        ("makers of texts", texts::makers_hold(alloc)),
+        ("texts of texts", texts::derived_texts_hold(alloc)),
+        ("conversions of texts", texts::conversions_hold(alloc)),
+        ("printed texts", texts::printing_holds(alloc)),
         (
             "commands",
             keepings::commands_hold(alloc, Store::new(alloc)),

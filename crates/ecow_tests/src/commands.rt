@@ -1,6 +1,6 @@
 //! Commands on lists that a seed decides.
 use crate::numbers::Numbers;
-use ecow_model::{Items, Outcome, VecCommand};
+use ecow_model::{Command, Items, Outcome, VecCommand};
 use std::alloc::{AllocError, Global};
 use std::ops::Bound;
 
@@ -122,6 +122,19 @@ impl Numbers {
         let mut commands = Vec::new(alloc);
         for _ in 0..n {
             commands.push(self.command(alloc)?)?;
+        }
+        Ok(commands)
+    }
+
+    /// The same, as commands of a store.
+    pub fn store_commands(
+        &mut self,
+        alloc: Global,
+        n: usize,
+    ) -> Result<Vec<Command<i64>>, AllocError> {
+        let mut commands = Vec::new(alloc);
+        for command in self.commands(alloc, n)? {
+            commands.push(Command::Vec(command))?;
         }
         Ok(commands)
     }

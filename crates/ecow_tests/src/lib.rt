@@ -38,6 +38,8 @@ mod scripts;
 #[cfg(test)]
 mod sharing;
 #[cfg(test)]
+mod texts;
+#[cfg(test)]
 mod twins;
 #[cfg(test)]
 mod vectors;

@@ -98,3 +98,25 @@ fn a_full_device_ends_the_program(rt: HostRuntime) {
         assert_eq!(rt; run_store(rt.alloc(), script, Full), wanted);
     }
 }
+
+/// Texts that are cut and made of bytes.
+const SCRIPT: &[u8] = b"text from_str t \"abcd\\u{1F600}\"
+text truncate t 5
+text remove t 4
+text contents t
+bytes from_list b [255]
+text from_bytes b u
+bytes len t
+";
+
+#[test]
+fn a_script_that_is_cut_is_run_or_unreadable(rt: HostRuntime) {
+    for end in 0..=SCRIPT.len() {
+        let mut answers = Vec::new(rt.alloc());
+        match run_store(rt.alloc(), &SCRIPT[..end], &mut answers) {
+            End::Done => {}
+            End::Unreadable(_, _) => assert_eq!(rt; answers.len(), 0),
+            end => panic!(rt; "{end}"),
+        }
+    }
+}

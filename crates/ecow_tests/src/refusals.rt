@@ -5,7 +5,7 @@ use crate::calls::{drain, error_of, insert, push, remove, reverse, shared, splic
 use crate::elements::Refusing;
 use crate::outcomes::refusal_of;
 use ecow_list::{EcoError, EcoVec, IntoArray, Rejected};
-use ecow_model::{Items, Outcome, Refusal, VecCommand};
+use ecow_model::{Command, Items, Outcome, Refusal, VecCommand};
 use ecow_tool::Store;
 use std::alloc::{AllocError, Global};
 use std::cell::Cell;
@@ -252,11 +252,11 @@ fn a_refused_command_changes_nothing(rt: HostRuntime) -> Result<(), Fail> {
     let left = Rc::new(rt.alloc(), Cell::new(2))?;
     let items = Items::new(numbers(rt.alloc(), &[1, 2, 3], &left)?);
     let mut store = Store::new(rt.alloc());
-    drop(store.step(VecCommand::FromList { name: 0, items }));
-    drop(store.step(VecCommand::Clone { from: 0, to: 1 }));
-    let popped = store.step(VecCommand::Pop { name: 1 });
+    drop(store.step(Command::Vec(VecCommand::FromList { name: 0, items })));
+    drop(store.step(Command::Vec(VecCommand::Clone { from: 0, to: 1 })));
+    let popped = store.step(Command::Vec(VecCommand::Pop { name: 1 }));
     assert!(rt; refusal_of(popped) == Some(Refusal::Memory));
-    let len = store.step(VecCommand::Len { name: 1 });
+    let len = store.step(Command::Vec(VecCommand::Len { name: 1 }));
     assert!(rt; matches!(&len, Outcome::Count(3)));
     Ok(())
 }

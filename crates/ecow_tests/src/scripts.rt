@@ -27,7 +27,7 @@ pub(crate) fn is_plain_run(
 
 /// Runs the same commands through both.
 fn compared(rt: &impl Abort, alloc: Global, seed: u64, n: usize) -> Result<(), Fail> {
-    let commands = Numbers::new(seed).commands(alloc, n)?;
+    let commands = Numbers::new(seed).store_commands(alloc, n)?;
     let Ok(outcomes) = Store::new(alloc).run(commands) else {
         return Err("no room for the outcomes".into());
     };

@@ -2,7 +2,7 @@
 use crate::calls::{error_of, reverse, shared};
 use crate::elements::{Single, Tally};
 use ecow_list::{EcoError, EcoVec};
-use ecow_model::{Items, Outcome, VecCommand};
+use ecow_model::{Command, Items, Outcome, VecCommand};
 use ecow_tool::Store;
 use std::alloc::Global;
 use std::test::Fail;
@@ -72,11 +72,11 @@ fn a_clone_in_a_store_clones_no_element(rt: HostRuntime) -> Result<(), Fail> {
     let tally = Tally::new(rt.alloc())?;
     let items = Items::new(tally.elements(rt.alloc(), 3)?);
     let mut store = Store::new(rt.alloc());
-    drop(store.step(VecCommand::FromList { name: 0, items }));
-    drop(store.step(VecCommand::Clone { from: 0, to: 1 }));
-    let unique = store.step(VecCommand::Unique { name: 0 });
+    drop(store.step(Command::Vec(VecCommand::FromList { name: 0, items })));
+    drop(store.step(Command::Vec(VecCommand::Clone { from: 0, to: 1 })));
+    let unique = store.step(Command::Vec(VecCommand::Unique { name: 0 }));
     assert!(rt; matches!(&unique, Outcome::Flag(false)) && tally.clones() == 0);
-    drop(store.step(VecCommand::Pop { name: 1 }));
+    drop(store.step(Command::Vec(VecCommand::Pop { name: 1 })));
     assert_eq!(rt; tally.clones(), 3);
     Ok(())
 }
