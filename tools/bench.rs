@@ -2,7 +2,7 @@
 //! turns, and what counts is the least processor time of so many runs, less that of a run of no rounds.
 //! `bench PROGRAM [SAMPLES [WORD]]`: PROGRAM is the built `ecow_bench`; WORD keeps the calls whose name holds it.
 //! `bench CALL LENGTH COUNT` goes round one loop on the original, as PROGRAM does, and prints what it saw.
-use ecow::{EcoBytes, EcoVec};
+use ecow::{EcoBytes, EcoString, EcoVec, eco_format};
 use std::cmp::Ordering;
 use std::hash::{DefaultHasher, Hash, Hasher};
 use std::hint::black_box;
@@ -10,6 +10,7 @@ use std::process::{Command, Stdio};
 
 type Loop = fn(&[u64], u64) -> u64;
 type ByteLoop = fn(&[u8], u64) -> u64;
+type TextLoop = fn(&str, u64) -> u64;
 
 /// What the calls of bytes are named on the command line and in the table, and the lengths they are timed at.
 const BYTE_CALLS: [(&str, &str, &[usize], ByteLoop); 9] = [
@@ -22,6 +23,26 @@ const BYTE_CALLS: [(&str, &str, &[usize], ByteLoop); 9] = [
     ("bytes_repeat", "bytes: repeat 1000 times", &[40], bytes_repeat),
     ("bytes_insert_slice", "bytes: insert slice", &[7, 40, 1000], bytes_insert_slice),
     ("bytes_hash", "bytes: hash", &[7, 40, 1000], bytes_hash),
+];
+
+/// The same of texts.
+const TEXT_CALLS: [(&str, &str, &[usize], TextLoop); 16] = [
+    ("text_from_str", "text: from str", &[7, 15, 40], text_from_str),
+    ("text_clone", "text: clone and drop", &[7, 40], text_clone),
+    ("text_push_a", "text: push 'a'", &[14, 40], |text, count| text_push('a', text, count)),
+    ("text_push_e", "text: push 'é'", &[7, 40], |text, count| text_push('é', text, count)),
+    ("text_push_str", "text: push_str ten times", &[1, 16, 100], text_push_str),
+    ("text_pop", "text: pop, push back", &[7, 40], text_pop),
+    ("text_insert_str", "text: insert_str in the middle", &[7, 40], text_insert_str),
+    ("text_eq", "text: equality", &[7, 40], text_eq),
+    ("text_cmp", "text: order", &[7, 40], text_cmp),
+    ("text_hash", "text: hash", &[7, 40], text_hash),
+    ("text_replace_rare", "text: replace what is rare", &[1_000_000], |text, count| text_replace("qzx", text, count)),
+    ("text_replace_often", "text: replace what is frequent", &[1_000_000], |text, count| text_replace("e", text, count)),
+    ("text_to_uppercase", "text: to_uppercase", &[1_000_000], text_to_uppercase),
+    ("text_repeat", "text: repeat 1000 times", &[40], text_repeat),
+    ("text_format", "text: eco_format! of three", &[6], text_format),
+    ("text_to_eco_string", "text: to_eco_string", &[1], text_to_eco_string),
 ];
 
 /// What the calls of the vector are named on the command line and in the table.
@@ -347,6 +368,216 @@ fn bytes_hash(bytes: &[u8], count: u64) -> u64 {
     sum
 }
 
+#[inline(never)]
+fn text_of(text: &str) -> EcoString {
+    EcoString::from(text)
+}
+
+#[inline(never)]
+fn seen(text: &EcoString) -> u64 {
+    text.as_bytes().last().map_or(0, |byte| text.len() as u64 + u64::from(*byte))
+}
+
+fn text_from_str(text: &str, count: u64) -> u64 {
+    let odd = text_of(text);
+    let mut sum = 0u64;
+    for round in 0..count {
+        let text = if round % 2 == 0 { text } else { odd.as_str() };
+        sum = sum.wrapping_add(seen(&text_of(text)));
+    }
+    sum
+}
+
+#[inline(never)]
+fn cloned_text(text: &EcoString) -> EcoString {
+    text.clone()
+}
+
+fn text_clone(text: &str, count: u64) -> u64 {
+    let (even, odd) = (text_of(text), text_of(text));
+    let mut sum = 0u64;
+    for round in 0..count {
+        let made = if round % 2 == 0 { &even } else { &odd };
+        sum = sum.wrapping_add(seen(&cloned_text(made)));
+    }
+    sum
+}
+
+#[inline(never)]
+fn pushed_text(c: char, times: usize) -> EcoString {
+    let mut made = EcoString::new();
+    for _ in 0..times {
+        made.push(c);
+    }
+    made
+}
+
+fn text_push(c: char, text: &str, count: u64) -> u64 {
+    let mut sum = 0u64;
+    for _ in 0..count {
+        sum = sum.wrapping_add(pushed_text(c, text.len()).len() as u64);
+    }
+    sum
+}
+
+#[inline(never)]
+fn extended_text(text: &str) -> EcoString {
+    let mut made = EcoString::new();
+    for _ in 0..10 {
+        made.push_str(text);
+    }
+    made
+}
+
+fn text_push_str(text: &str, count: u64) -> u64 {
+    let mut sum = 0u64;
+    for _ in 0..count {
+        sum = sum.wrapping_add(extended_text(text).len() as u64);
+    }
+    sum
+}
+
+#[inline(never)]
+fn popped(made: &mut EcoString) -> Option<char> {
+    made.pop()
+}
+
+fn text_pop(text: &str, count: u64) -> u64 {
+    let mut made = text_of(text);
+    let mut sum = 0u64;
+    for _ in 0..count {
+        if let Some(c) = popped(&mut made) {
+            sum = sum.wrapping_add(u64::from(u32::from(c)));
+            made.push(c);
+        }
+    }
+    sum
+}
+
+#[inline(never)]
+fn inserted_text(made: &mut EcoString) {
+    let middle = made.len() / 2;
+    made.insert_str(middle, "..");
+}
+
+fn text_insert_str(text: &str, count: u64) -> u64 {
+    let mut made = text_of(text);
+    let mut sum = 0u64;
+    for _ in 0..count {
+        inserted_text(&mut made);
+        sum = sum.wrapping_add(made.len() as u64);
+        made.truncate(text.len());
+    }
+    sum
+}
+
+#[inline(never)]
+fn same_text(left: &EcoString, right: &EcoString) -> bool {
+    left == right
+}
+
+fn text_eq(text: &str, count: u64) -> u64 {
+    let made = text_of(text);
+    let (even, odd) = (text_of(text), text_of(text));
+    let mut sum = 0u64;
+    for round in 0..count {
+        let other = if round % 2 == 0 { &even } else { &odd };
+        if same_text(&made, other) {
+            sum = sum.wrapping_add(round);
+        }
+    }
+    sum
+}
+
+#[inline(never)]
+fn compared_text(left: &EcoString, right: &EcoString) -> Ordering {
+    left.cmp(right)
+}
+
+fn text_cmp(text: &str, count: u64) -> u64 {
+    let made = text_of(text);
+    let (even, odd) = (text_of(text), text_of(text));
+    let mut sum = 0u64;
+    for round in 0..count {
+        let other = if round % 2 == 0 { &even } else { &odd };
+        if compared_text(&made, other).is_eq() {
+            sum = sum.wrapping_add(round);
+        }
+    }
+    sum
+}
+
+#[inline(never)]
+fn hashed_text(text: &EcoString) -> u64 {
+    let mut hasher = DefaultHasher::new();
+    text.hash(&mut hasher);
+    hasher.finish()
+}
+
+fn text_hash(text: &str, count: u64) -> u64 {
+    let (even, odd) = (text_of(text), text_of(text));
+    let mut sum = 0u64;
+    for round in 0..count {
+        let made = if round % 2 == 0 { &even } else { &odd };
+        sum = sum.wrapping_add(hashed_text(made));
+    }
+    sum
+}
+
+fn text_replace(pattern: &str, text: &str, count: u64) -> u64 {
+    let made = text_of(text);
+    let mut sum = 0u64;
+    for _ in 0..count {
+        sum = sum.wrapping_add(made.replace(pattern, "...").len() as u64);
+    }
+    sum
+}
+
+fn text_to_uppercase(text: &str, count: u64) -> u64 {
+    let made = text_of(text);
+    let mut sum = 0u64;
+    for _ in 0..count {
+        sum = sum.wrapping_add(made.to_uppercase().len() as u64);
+    }
+    sum
+}
+
+fn text_repeat(text: &str, count: u64) -> u64 {
+    let made = text_of(text);
+    let mut sum = 0u64;
+    for _ in 0..count {
+        sum = sum.wrapping_add(made.repeat(1000).len() as u64);
+    }
+    sum
+}
+
+#[inline(never)]
+fn formatted(text: &str, number: u64) -> usize {
+    eco_format!("{text} {text} {number}").len()
+}
+
+fn text_format(text: &str, count: u64) -> u64 {
+    let mut sum = 0u64;
+    for round in 0..count {
+        sum = sum.wrapping_add(formatted(text, round % 1000) as u64);
+    }
+    sum
+}
+
+#[inline(never)]
+fn printed(number: u64) -> usize {
+    use ecow::string::ToEcoString;
+    number.to_eco_string().len()
+}
+
+fn text_to_eco_string(_text: &str, count: u64) -> u64 {
+    let mut sum = 0u64;
+    for round in 0..count {
+        sum = sum.wrapping_add(printed(round % 1000000) as u64);
+    }
+    sum
+}
+
 /// Numbers in no order, after one large block was given back.
 fn numbers(length: usize) -> Vec<u64> {
     drop(black_box(Vec::<u8>::with_capacity(32505856)));
@@ -358,6 +589,11 @@ fn numbers(length: usize) -> Vec<u64> {
         state
     };
     (0..length).map(|_| next()).collect()
+}
+
+/// As many lower case letters as there are numbers.
+fn prose(items: &[u64]) -> String {
+    items.iter().map(|item| char::from(b'a' + (item % 26) as u8)).collect()
 }
 
 /// As many bytes as there are numbers.
@@ -433,7 +669,8 @@ fn compare(program: &str, samples: u32, word: &str) {
         println!("{name:<30} {length:>8} {original:>14.2} {this:>14.2} {ratio:>6.2}");
         (ratio, format!("{name}, {length}"))
     };
-    let (mut short, mut long, mut bytes) = (Vec::new(), Vec::new(), Vec::new());
+    let (mut short, mut long) = (Vec::new(), Vec::new());
+    let (mut bytes, mut texts) = (Vec::new(), Vec::new());
     for length in [8usize, 1000, 1_000_000] {
         for (call, name, _) in CALLS.iter().filter(|call| call.1.contains(word)) {
             let ratios = if length < 10 { &mut short } else { &mut long };
@@ -443,11 +680,15 @@ fn compare(program: &str, samples: u32, word: &str) {
     for (call, name, lengths, _) in BYTE_CALLS.iter().filter(|call| call.1.contains(word)) {
         bytes.extend(lengths.iter().map(|length| row(call, name, *length)));
     }
+    for (call, name, lengths, _) in TEXT_CALLS.iter().filter(|call| call.1.contains(word)) {
+        texts.extend(lengths.iter().map(|length| row(call, name, *length)));
+    }
     report("the vector, fewer than ten elements", &short);
     report("the vector, ten elements and more", &long);
     short.append(&mut long);
     report("the vector, all", &short);
     report("bytes", &bytes);
+    report("texts", &texts);
 }
 
 fn main() {
@@ -462,6 +703,10 @@ fn main() {
         }
         if let Some(call) = BYTE_CALLS.iter().find(|call| call.0 == word) {
             println!("{}", call.3(&letters(&items), count));
+            return;
+        }
+        if let Some(call) = TEXT_CALLS.iter().find(|call| call.0 == word) {
+            println!("{}", call.3(&prose(&items), count));
             return;
         }
     }

@@ -1,16 +1,17 @@
 //! What `make bench` times: `ecow_bench CALL LENGTH COUNT` goes round one loop on a list of that
-//! length, or on so many bytes where CALL begins with `bytes_`, and prints a sum of what it saw.
+//! length, or on so many bytes or letters where CALL begins with `bytes_` or `text_`, and prints a sum of what it saw.
 //! Without arguments it goes three times round each loop.
 #![tactic(auto)]
 
 mod bytes;
 mod loops;
+mod texts;
 
 use std::alloc::{AllocError, Global};
 use std::env::Env;
 use std::{env, io};
 
-const CALLS: [&str; 22] = [
+const CALLS: [&str; 38] = [
     "push",
     "clone",
     "clone_push",
@@ -33,6 +34,22 @@ const CALLS: [&str; 22] = [
     "bytes_repeat",
     "bytes_insert_slice",
     "bytes_hash",
+    "text_from_str",
+    "text_clone",
+    "text_push_a",
+    "text_push_e",
+    "text_push_str",
+    "text_pop",
+    "text_insert_str",
+    "text_eq",
+    "text_cmp",
+    "text_hash",
+    "text_replace_rare",
+    "text_replace_often",
+    "text_to_uppercase",
+    "text_repeat",
+    "text_format",
+    "text_to_eco_string",
 ];
 
 fn main(rt: HostRuntime) -> io::Result<()> {
@@ -83,7 +100,42 @@ fn sum(alloc: Global, call: &str, items: &[u64], count: u64) -> Result<u64, Allo
         let bytes = letters(alloc, items)?;
         return Ok(sum_of_bytes(alloc, call, bytes.as_slice(), count));
     }
+    if call.starts_with("text_") {
+        let text = prose(alloc, items)?;
+        return Ok(sum_of_texts(alloc, call, text.as_str(), count));
+    }
     Ok(sum_of_items(alloc, call, items, count))
+}
+
+/// As many lower case letters as there are numbers.
+fn prose(alloc: Global, items: &[u64]) -> Result<String, AllocError> {
+    let mut prose = String::with_capacity(alloc, items.len())?;
+    for item in items {
+        prose.push(char::from(b'a' + (*item % 26) as u8))?;
+    }
+    Ok(prose)
+}
+
+fn sum_of_texts(alloc: Global, call: &str, text: &str, count: u64) -> u64 {
+    match call {
+        "text_from_str" => texts::from_str(alloc, text, count),
+        "text_clone" => texts::clone(alloc, text, count),
+        "text_push_a" => texts::push(alloc, 'a', text, count),
+        "text_push_e" => texts::push(alloc, 'é', text, count),
+        "text_push_str" => texts::push_str(alloc, text, count),
+        "text_pop" => texts::pop(alloc, text, count),
+        "text_insert_str" => texts::insert_str(alloc, text, count),
+        "text_eq" => texts::eq(alloc, text, count),
+        "text_cmp" => texts::cmp(alloc, text, count),
+        "text_hash" => texts::hash(alloc, text, count),
+        "text_replace_rare" => texts::replace(alloc, "qzx", text, count),
+        "text_replace_often" => texts::replace(alloc, "e", text, count),
+        "text_to_uppercase" => texts::to_uppercase(alloc, text, count),
+        "text_repeat" => texts::repeat(alloc, text, count),
+        "text_format" => texts::format(alloc, text, count),
+        "text_to_eco_string" => texts::to_eco_string(alloc, count),
+        _ => 0,
+    }
 }
 
 /// As many bytes as there are numbers.

@@ -1,0 +1,255 @@
+//! Loops of one call of `EcoString` each, in the form of those of the vector: `text` is what the value
+//! is made of.
+
+use ecow_text::{EcoString, ToEcoString, eco_format};
+use std::alloc::Global;
+use std::cmp::Ordering;
+use std::hash::{DefaultHasher, Hash, Hasher};
+
+#[inline(never)]
+fn text_of(alloc: Global, text: &str) -> EcoString {
+    match EcoString::from_str(alloc, text) {
+        Ok(made) => made,
+        Err(_) => EcoString::new(alloc),
+    }
+}
+
+/// The length and the last byte of a value that stands in memory.
+#[inline(never)]
+fn seen(text: &EcoString) -> u64 {
+    match text.as_str().as_bytes().last() {
+        Some(byte) => (text.len() as u64).wrapping_add(*byte as u64),
+        None => 0,
+    }
+}
+
+/// Makes a value from one text or another that equals it, by turns, and drops it.
+pub(crate) fn from_str(alloc: Global, text: &str, count: u64) -> u64 {
+    let odd = text_of(alloc, text);
+    let mut sum = 0u64;
+    for round in 0..count {
+        let text = if round % 2 == 0 { text } else { odd.as_str() };
+        sum = sum.wrapping_add(seen(&text_of(alloc, text)));
+    }
+    sum
+}
+
+#[inline(never)]
+fn cloned(text: &EcoString) -> Option<EcoString> {
+    text.clone().ok()
+}
+
+/// Makes a clone of one value or another, by turns, and drops it.
+pub(crate) fn clone(alloc: Global, text: &str, count: u64) -> u64 {
+    let (even, odd) = (text_of(alloc, text), text_of(alloc, text));
+    let mut sum = 0u64;
+    for round in 0..count {
+        let made = if round % 2 == 0 { &even } else { &odd };
+        if let Some(copy) = cloned(made) {
+            sum = sum.wrapping_add(seen(&copy));
+        }
+    }
+    sum
+}
+
+#[inline(never)]
+fn pushed(alloc: Global, c: char, times: usize) -> EcoString {
+    let mut made = EcoString::new(alloc);
+    for _ in 0..times {
+        let _done = made.push(c);
+    }
+    made
+}
+
+/// Fills a new value by pushes of one character.
+pub(crate) fn push(alloc: Global, c: char, text: &str, count: u64) -> u64 {
+    let mut sum = 0u64;
+    for _ in 0..count {
+        sum = sum.wrapping_add(pushed(alloc, c, text.len()).len() as u64);
+    }
+    sum
+}
+
+#[inline(never)]
+fn extended(alloc: Global, text: &str) -> EcoString {
+    let mut made = EcoString::new(alloc);
+    for _ in 0..10 {
+        let _done = made.push_str(text);
+    }
+    made
+}
+
+/// Appends the text ten times to a new value.
+pub(crate) fn push_str(alloc: Global, text: &str, count: u64) -> u64 {
+    let mut sum = 0u64;
+    for _ in 0..count {
+        sum = sum.wrapping_add(extended(alloc, text).len() as u64);
+    }
+    sum
+}
+
+#[inline(never)]
+fn popped(made: &mut EcoString) -> Option<char> {
+    made.pop().unwrap_or(None)
+}
+
+/// Takes the last character and puts it back.
+pub(crate) fn pop(alloc: Global, text: &str, count: u64) -> u64 {
+    let mut made = text_of(alloc, text);
+    let mut sum = 0u64;
+    for _ in 0..count {
+        if let Some(c) = popped(&mut made) {
+            sum = sum.wrapping_add(u32::from(c) as u64);
+            let _done = made.push(c);
+        }
+    }
+    sum
+}
+
+#[inline(never)]
+fn inserted(made: &mut EcoString) {
+    let middle = made.len() / 2;
+    if made.is_char_boundary(middle) {
+        let _done = made.insert_str(middle, "..");
+    }
+}
+
+/// Puts two characters into the middle, and keeps as many bytes as there were.
+pub(crate) fn insert_str(alloc: Global, text: &str, count: u64) -> u64 {
+    let mut made = text_of(alloc, text);
+    let mut sum = 0u64;
+    for _ in 0..count {
+        inserted(&mut made);
+        sum = sum.wrapping_add(made.len() as u64);
+        if made.is_char_boundary(text.len()) {
+            let _done = made.truncate(text.len());
+        }
+    }
+    sum
+}
+
+#[inline(never)]
+fn same(left: &EcoString, right: &EcoString) -> bool {
+    left == right
+}
+
+/// Compares a value with one and with another that equals it, by turns.
+pub(crate) fn eq(alloc: Global, text: &str, count: u64) -> u64 {
+    let made = text_of(alloc, text);
+    let (even, odd) = (text_of(alloc, text), text_of(alloc, text));
+    let mut sum = 0u64;
+    for round in 0..count {
+        let other = if round % 2 == 0 { &even } else { &odd };
+        if same(&made, other) {
+            sum = sum.wrapping_add(round);
+        }
+    }
+    sum
+}
+
+#[inline(never)]
+fn compared(left: &EcoString, right: &EcoString) -> Ordering {
+    left.cmp(right)
+}
+
+/// Orders a value and one or another that equals it, by turns.
+pub(crate) fn cmp(alloc: Global, text: &str, count: u64) -> u64 {
+    let made = text_of(alloc, text);
+    let (even, odd) = (text_of(alloc, text), text_of(alloc, text));
+    let mut sum = 0u64;
+    for round in 0..count {
+        let other = if round % 2 == 0 { &even } else { &odd };
+        if compared(&made, other).is_eq() {
+            sum = sum.wrapping_add(round);
+        }
+    }
+    sum
+}
+
+#[inline(never)]
+fn hashed(text: &EcoString) -> u64 {
+    let mut hasher = DefaultHasher::new();
+    text.hash(&mut hasher);
+    hasher.finish()
+}
+
+/// Hashes one value and another that equals it, by turns.
+pub(crate) fn hash(alloc: Global, text: &str, count: u64) -> u64 {
+    let (even, odd) = (text_of(alloc, text), text_of(alloc, text));
+    let mut sum = 0u64;
+    for round in 0..count {
+        let made = if round % 2 == 0 { &even } else { &odd };
+        sum = sum.wrapping_add(hashed(made));
+    }
+    sum
+}
+
+/// Puts three characters in place of each `pattern`.
+pub(crate) fn replace(alloc: Global, pattern: &str, text: &str, count: u64) -> u64 {
+    let made = text_of(alloc, text);
+    let mut sum = 0u64;
+    for _ in 0..count {
+        if let Ok(replaced) = made.replace(pattern, "...") {
+            sum = sum.wrapping_add(replaced.len() as u64);
+        }
+    }
+    sum
+}
+
+/// Makes a value in upper case.
+pub(crate) fn to_uppercase(alloc: Global, text: &str, count: u64) -> u64 {
+    let made = text_of(alloc, text);
+    let mut sum = 0u64;
+    for _ in 0..count {
+        if let Ok(upper) = made.to_uppercase() {
+            sum = sum.wrapping_add(upper.len() as u64);
+        }
+    }
+    sum
+}
+
+/// Makes a value of a thousand copies.
+pub(crate) fn repeat(alloc: Global, text: &str, count: u64) -> u64 {
+    let made = text_of(alloc, text);
+    let mut sum = 0u64;
+    for _ in 0..count {
+        if let Ok(copies) = made.repeat(1000) {
+            sum = sum.wrapping_add(copies.len() as u64);
+        }
+    }
+    sum
+}
+
+#[inline(never)]
+fn formatted(alloc: Global, text: &str, number: u64) -> usize {
+    match eco_format!(in alloc; "{text} {text} {number}") {
+        Ok(made) => made.len(),
+        Err(_) => 0,
+    }
+}
+
+/// Prints the text twice, and a number.
+pub(crate) fn format(alloc: Global, text: &str, count: u64) -> u64 {
+    let mut sum = 0u64;
+    for round in 0..count {
+        sum = sum.wrapping_add(formatted(alloc, text, round % 1000) as u64);
+    }
+    sum
+}
+
+#[inline(never)]
+fn printed(alloc: Global, number: u64) -> usize {
+    match number.to_eco_string(alloc) {
+        Ok(made) => made.len(),
+        Err(_) => 0,
+    }
+}
+
+/// Prints a number.
+pub(crate) fn to_eco_string(alloc: Global, count: u64) -> u64 {
+    let mut sum = 0u64;
+    for round in 0..count {
+        sum = sum.wrapping_add(printed(alloc, round % 1000000) as u64);
+    }
+    sum
+}
