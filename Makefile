@@ -1,9 +1,9 @@
-# Proves, builds, runs and tests. Everything but `make faults`, `make bench`, `make edits` and
-# `make times` needs the kit's `rt` on the path, make and git, and nothing else.
+# Proves, builds, runs and tests. Everything but `make faults`, `make fuzz`, `make bench`, `make edits`
+# and `make times` needs the kit's `rt` on the path, make and git, and nothing else.
 
 SOURCES := $(shell find crates -path '*/out' -prune -o \( -name '*.rt' -o -name '*.antt' \) -print) crates.txt
 
-.PHONY: help try build run test agree edits times faults bench clean
+.PHONY: help try build run test agree edits times faults fuzz bench clean
 
 help:
 	@echo "make try SCRIPT=FILE   runs the script with no proof, in half a minute"
@@ -14,7 +14,8 @@ help:
 	@echo "                       python3); CRATES=\"NAME ..\" those of some crates"
 	@echo "make times             runs the gate and says what each part of it costs (needs python3)"
 	@echo "make faults            refuses each request for memory in turn (needs a C compiler)"
-	@echo "make bench ECOW=FOLDER times the vector and bytes beside the original crate in FOLDER (needs cargo)"
+	@echo "make fuzz SECONDS=60   runs the program on changed examples (needs python3)"
+	@echo "make bench ECOW=FOLDER times vector, bytes and text beside the original crate in FOLDER (needs cargo)"
 	@echo "make clean             removes what was built"
 
 # SCRIPT may begin with --counted.
@@ -51,6 +52,10 @@ times: agree
 faults:
 	cd crates/ecow_faults && rt run
 	tools/refuse.sh crates/ecow_faults/out/ecow_faults
+
+SECONDS := 60
+fuzz: bin/ecow-run
+	tools/fuzz.py $(SECONDS)
 
 bench:
 	tools/bench.sh $(ECOW)
