@@ -27,6 +27,7 @@ fn main(rt: HostRuntime) -> io::Result<()> {
         ("makers of texts", texts::makers_hold(alloc)),
         ("texts of texts", texts::derived_texts_hold(alloc)),
         ("conversions of texts", texts::conversions_hold(alloc)),
+        ("texts handed back", texts::handed_back(alloc)),
         ("printed texts", texts::printing_holds(alloc)),
         (
             "commands",

@@ -217,7 +217,7 @@ pub(crate) fn derived_texts_hold(alloc: Global) -> bool {
     hold
 }
 
-/// A sum that is refused hands the text back, and so do a `String` and a vector that are not made.
+/// A sum that is refused hands the text back.
 pub(crate) fn conversions_hold(alloc: Global) -> bool {
     let mut hold = true;
     for spilled in [false, true] {
@@ -246,6 +246,38 @@ pub(crate) fn conversions_hold(alloc: Global) -> bool {
         hold = hold && !bytes.is_inline() && bytes.len() == 16;
     }
     hold
+}
+
+/// A `String` that makes no text comes back.
+fn string_holds(alloc: Global, want: &str) -> bool {
+    let Ok(string) = String::from_str(alloc, want) else {
+        return true;
+    };
+    match EcoString::from_string(alloc, string) {
+        Ok(made) => made.as_str() == want && !made.is_inline(),
+        Err(rejected) => rejected.error == EcoError::Memory && rejected.value.as_str() == want,
+    }
+}
+
+/// The vector of inline letters is new, and that of spilled ones is there; inline letters of which
+/// none is made come back.
+fn vector_holds(alloc: Global, spilled: bool) -> bool {
+    let Ok(text) = letters(alloc, spilled) else {
+        return true;
+    };
+    match text.into_eco_vec() {
+        Ok(vec) => vec.as_slice() == LETTERS.as_bytes(),
+        Err(rejected) => {
+            let error = rejected.error == EcoError::Memory && !spilled;
+            error && is_made(Ok(rejected.value), LETTERS, true)
+        }
+    }
+}
+
+pub(crate) fn handed_back(alloc: Global) -> bool {
+    string_holds(alloc, "abcdefghijklmnop")
+        && vector_holds(alloc, false)
+        && vector_holds(alloc, true)
 }
 
 /// Printed values make a text, or where memory is refused an error; short ones always a text.
