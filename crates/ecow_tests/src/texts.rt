@@ -1,6 +1,6 @@
 //! Texts at several limits: what std's text answers, what is shared, and the types around them.
 use ecow_bytes::EcoBytes;
-use ecow_list::{EcoError, EcoVec, eco_vec};
+use ecow_list::{EcoError, EcoVec};
 use ecow_text::{EcoString, SmallText, ToEcoString, eco_format};
 use std::alloc::Global;
 use std::collections::{BTreeMap, HashMap};
@@ -129,18 +129,39 @@ fn texts_are_keys_of_maps(rt: HostRuntime) -> Result<(), Fail> {
     Ok(())
 }
 
+/// A vector of three texts.
+fn words(alloc: Global, words: [&str; 3]) -> Result<EcoVec<EcoString>, Fail> {
+    let mut texts = EcoVec::new(alloc);
+    for word in words {
+        let text = EcoString::from_str(alloc, word)?;
+        if texts.push(text).is_err() {
+            return Err("room for three texts".into());
+        }
+    }
+    Ok(texts)
+}
+
+/// Whether the texts are these.
+fn read(texts: &[EcoString], words: [&str; 3]) -> bool {
+    let mut same = texts.len() == words.len();
+    for (text, word) in texts.iter().zip(words) {
+        same = same && text.as_str() == word;
+    }
+    same
+}
+
+fn sort(texts: &mut EcoVec<EcoString>) -> Result<(), EcoError> {
+    texts.make_mut()?.sort_unstable();
+    Ok(())
+}
+
 #[test]
 fn a_vector_of_texts_is_sorted(rt: HostRuntime) -> Result<(), Fail> {
-    let alloc = rt.alloc();
-    let foo = EcoString::from_str(alloc, "foo")?;
-    let bar = EcoString::from_str(alloc, "bar")?;
-    let mut sorted = eco_vec![in alloc; foo.clone()?, bar, foo]?;
+    let mut sorted = words(rt.alloc(), ["foo", "bar", "foo"])?;
     let before = sorted.clone()?;
-    sorted.make_mut()?.sort_unstable();
-    let words = sorted.iter().map(|text| text.as_str());
-    assert!(rt; words.eq(["bar", "foo", "foo"]));
-    let words = before.iter().map(|text| text.as_str());
-    assert!(rt; words.eq(["foo", "bar", "foo"]));
+    sort(&mut sorted)?;
+    assert!(rt; read(sorted.as_slice(), ["bar", "foo", "foo"]));
+    assert!(rt; read(before.as_slice(), ["foo", "bar", "foo"]));
     Ok(())
 }
 
