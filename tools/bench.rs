@@ -233,10 +233,17 @@ fn bytes_of(bytes: &[u8]) -> EcoBytes {
     EcoBytes::from(bytes)
 }
 
+#[inline(never)]
+fn seen_bytes(bytes: &EcoBytes) -> u64 {
+    bytes.last().map_or(0, |byte| bytes.len() as u64 + u64::from(*byte))
+}
+
 fn bytes_from_slice(bytes: &[u8], count: u64) -> u64 {
+    let odd = bytes_of(bytes);
     let mut sum = 0u64;
-    for _ in 0..count {
-        sum = sum.wrapping_add(bytes_of(bytes).len() as u64);
+    for round in 0..count {
+        let bytes = if round % 2 == 0 { bytes } else { odd.as_slice() };
+        sum = sum.wrapping_add(seen_bytes(&bytes_of(bytes)));
     }
     sum
 }
@@ -264,10 +271,11 @@ fn cloned_bytes(bytes: &EcoBytes) -> EcoBytes {
 }
 
 fn bytes_clone(bytes: &[u8], count: u64) -> u64 {
-    let made = bytes_of(bytes);
+    let (even, odd) = (bytes_of(bytes), bytes_of(bytes));
     let mut sum = 0u64;
-    for _ in 0..count {
-        sum = sum.wrapping_add(cloned_bytes(&made).len() as u64);
+    for round in 0..count {
+        let made = if round % 2 == 0 { &even } else { &odd };
+        sum = sum.wrapping_add(seen_bytes(&cloned_bytes(made)));
     }
     sum
 }

@@ -14,11 +14,26 @@ fn bytes_of(alloc: Global, bytes: &[u8]) -> EcoBytes {
     }
 }
 
-/// Makes a value from the slice and drops it.
+/// The length and the last byte of a value that stands in memory.
+#[inline(never)]
+fn seen(bytes: &EcoBytes) -> u64 {
+    match bytes.as_slice().last() {
+        Some(byte) => (bytes.len() as u64).wrapping_add(*byte as u64),
+        None => 0,
+    }
+}
+
+/// Makes a value from one slice or another that equals it, by turns, and drops it.
 pub(crate) fn from_slice(alloc: Global, bytes: &[u8], count: u64) -> u64 {
+    let odd = bytes_of(alloc, bytes);
     let mut sum = 0u64;
-    for _ in 0..count {
-        sum = sum.wrapping_add(bytes_of(alloc, bytes).len() as u64);
+    for round in 0..count {
+        let bytes = if round % 2 == 0 {
+            bytes
+        } else {
+            odd.as_slice()
+        };
+        sum = sum.wrapping_add(seen(&bytes_of(alloc, bytes)));
     }
     sum
 }
@@ -46,13 +61,14 @@ fn cloned(bytes: &EcoBytes) -> Option<EcoBytes> {
     bytes.clone().ok()
 }
 
-/// Makes a clone and drops it.
+/// Makes a clone of one value or another, by turns, and drops it.
 pub(crate) fn clone(alloc: Global, bytes: &[u8], count: u64) -> u64 {
-    let made = bytes_of(alloc, bytes);
+    let (even, odd) = (bytes_of(alloc, bytes), bytes_of(alloc, bytes));
     let mut sum = 0u64;
-    for _ in 0..count {
-        if let Some(copy) = cloned(&made) {
-            sum = sum.wrapping_add(copy.len() as u64);
+    for round in 0..count {
+        let made = if round % 2 == 0 { &even } else { &odd };
+        if let Some(copy) = cloned(made) {
+            sum = sum.wrapping_add(seen(&copy));
         }
     }
     sum

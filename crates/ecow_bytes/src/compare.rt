@@ -102,6 +102,7 @@ fn many_same(left: &[u8], right: &[u8]) -> bool
 }
 
 /// Whether the bytes are the same.
+#[inline]
 pub(crate) fn equal(left: &[u8], right: &[u8]) -> bool
     ensures { result ≡ pointwise nat_eq left.now right.now }
 {
@@ -139,6 +140,7 @@ fn order_many(left: &[u8], right: &[u8], len: usize) -> Ordering
 }
 
 /// The order of the first bytes that differ, and else that of the lengths.
+#[inline]
 pub(crate) fn order(left: &[u8], right: &[u8]) -> Ordering
     ensures { result ≡ slice_cmp nat_cmp left.now right.now }
 {

@@ -18,6 +18,7 @@ impl<const N: usize> PartialEq for SmallBytes<N> {
 
     ghost laws = { on_per (λ b. b.bytes) (partial_equiv_from_equiv nat_list_eq_equiv) };
 
+    #[inline]
     fn eq(&self, other: &Self) -> bool {
         equal(self.as_slice(), other.as_slice())
     }
@@ -32,6 +33,7 @@ impl<const N: usize> PartialOrd for SmallBytes<N> {
 
     ghost laws = { on_po (λ b. b.bytes) texts_po };
 
+    #[inline]
     fn partial_cmp(&self, other: &Self) -> Option<Ordering> {
         Some(self.cmp(other))
     }
@@ -46,6 +48,7 @@ impl<const N: usize> Ord for SmallBytes<N> {
 
     ghost matches_eq = { λ b c. texts_ties b.bytes c.bytes };
 
+    #[inline]
     fn cmp(&self, other: &Self) -> Ordering {
         order(self.as_slice(), other.as_slice())
     }

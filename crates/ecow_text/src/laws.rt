@@ -22,6 +22,7 @@ impl<const N: usize> PartialEq for SmallText<N> {
 
     ghost laws = { on_per (λ t. encode_utf8_all t.chars) (partial_equiv_from_equiv nat_list_eq_equiv) };
 
+    #[inline]
     fn eq(&self, other: &Self) -> bool {
         self.bytes == other.bytes
     }
@@ -36,6 +37,7 @@ impl<const N: usize> PartialOrd for SmallText<N> {
 
     ghost laws = { on_po (λ t. encode_utf8_all t.chars) texts_po };
 
+    #[inline]
     fn partial_cmp(&self, other: &Self) -> Option<Ordering> {
         Some(self.cmp(other))
     }
@@ -50,6 +52,7 @@ impl<const N: usize> Ord for SmallText<N> {
 
     ghost matches_eq = { λ t u. texts_ties (encode_utf8_all t.chars) (encode_utf8_all u.chars) };
 
+    #[inline]
     fn cmp(&self, other: &Self) -> Ordering {
         self.bytes.cmp(&other.bytes)
     }

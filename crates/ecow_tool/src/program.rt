@@ -3,9 +3,9 @@ ghost use Rattle.std.specs.Prelude.{◌≡◌, ◌<◌, length, IfSome};
 ghost use Rattle.ecow_tool.specs.Arguments.{asked, is_flag};
 
 use crate::answer::{write_answer, write_totals};
-use crate::script::{Fault, Reason, Scripted, read_script};
+use crate::script::{Fault, Reason, read_script};
 use ecow_counted::Counted;
-use ecow_model::{Command, Outcome, VecCommand};
+use ecow_model::Outcome;
 use ecow_store::Store;
 use std::alloc::{AllocError, Global};
 use std::fmt;
@@ -23,9 +23,9 @@ const PIECE: usize = 65536;
 pub enum End {
     /// The script was run to its end, and all answer lines are written.
     Done,
-    /// A line, counted from 1, doesn't fit; nothing was run.
+    /// A line, counted from 1, doesn't fit.
     Unreadable(usize, Reason),
-    /// The script isn't UTF-8; nothing was run.
+    /// The script isn't UTF-8.
     NotUtf8,
     /// The script can't be read.
     File,
@@ -103,37 +103,36 @@ pub fn run_counted<R: Read + Drop, W: Write + Drop>(alloc: Global, reader: R, wr
 }
 
 fn store_answers<R: Read>(alloc: Global, reader: &mut R) -> Result<String, End> {
-    let pieces = read_commands::<R, Command<i64>>(alloc, reader)?;
+    let script = read_limited(alloc, reader)?;
     let mut store = Store::new(alloc);
     let mut answers = String::new(alloc);
-    for commands in pieces {
+    read_script(alloc, text_of(script.as_slice())?, |commands| {
         let Ok(outcomes) = store.run(commands) else {
-            return Err(End::Memory);
+            return Err(AllocError);
         };
-        write_answers(&mut answers, outcomes.as_slice())?;
-    }
+        write_answers(&mut answers, outcomes.as_slice())
+    })?;
     Ok(answers)
 }
 
 fn counted_answers<R: Read>(alloc: Global, reader: &mut R) -> Result<String, End> {
-    let pieces = read_commands::<R, VecCommand<i64>>(alloc, reader)?;
+    let script = read_limited(alloc, reader)?;
     let mut counted = Counted::new(alloc);
     let mut answers = String::new(alloc);
-    for commands in pieces {
+    read_script(alloc, text_of(script.as_slice())?, |commands| {
         let Ok(outcomes) = counted.run(commands) else {
-            return Err(End::Memory);
+            return Err(AllocError);
         };
-        write_answers(&mut answers, outcomes.as_slice())?;
-    }
+        write_answers(&mut answers, outcomes.as_slice())
+    })?;
     write_totals(&mut answers, &counted)?;
     Ok(answers)
 }
 
-/// The commands of a script, in pieces.
-fn read_commands<R: Read, C: Scripted>(alloc: Global, reader: &mut R) -> Result<Vec<Vec<C>>, End> {
-    let script = read_limited(alloc, reader)?;
-    match str::from_utf8(script.as_slice()) {
-        Ok(text) => Ok(read_script::<C>(alloc, text)?),
+/// The bytes of a script as text.
+fn text_of(script: &[u8]) -> Result<&str, End> {
+    match str::from_utf8(script) {
+        Ok(text) => Ok(text),
         Err(_) => Err(End::NotUtf8),
     }
 }

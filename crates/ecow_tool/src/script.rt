@@ -2,15 +2,17 @@
 mod arguments;
 mod bytes;
 mod lists;
+mod names;
 mod quoted;
 mod texts;
 mod words;
 
 use crate::script::words::{Misfit, Reader};
 use ecow_model::{Command, VecCommand};
-use std::alloc::Global;
+use std::alloc::{AllocError, Global};
+use std::mem::replace;
 
-/// How many commands are carried out before their answer lines are made.
+/// How many commands are read before they are carried out.
 const PIECE: usize = 1024;
 
 /// What was expected at the first word of a line that doesn't fit.
@@ -45,64 +47,93 @@ pub(crate) enum Fault {
     Memory,
 }
 
+impl From<AllocError> for Fault {
+    ghost use Rattle.std.specs.Prelude.{◌≡◌};
+    ghost use Rattle.ecow_tool.specs.declared.script.Fault.{Fault};
+
+    ghost from_gives = { λ _ fault. fault ≡ Fault.Memory };
+
+    fn from(_: AllocError) -> Fault {
+        Fault::Memory
+    }
+}
+
 /// Commands that are read from a script.
 pub(crate) trait Scripted: Drop + Sized {
-    /// The command on a line, of which `kind` is the first word.
-    fn read<'a>(reader: &mut Reader<'a>, kind: &[u8]) -> Result<Self, Misfit>;
+    /// Puts the command on a line, of which `kind` is the first word, behind others.
+    fn read<'a>(
+        reader: &mut Reader<'a>,
+        kind: &[u8],
+        commands: &mut Vec<Self>,
+    ) -> Result<(), Misfit>;
 }
 
 /// Commands on lists alone: those of the counted keeping.
 impl Scripted for VecCommand<i64> {
-    fn read<'a>(reader: &mut Reader<'a>, kind: &[u8]) -> Result<VecCommand<i64>, Misfit> {
+    fn read<'a>(
+        reader: &mut Reader<'a>,
+        kind: &[u8],
+        commands: &mut Vec<VecCommand<i64>>,
+    ) -> Result<(), Misfit> {
         match kind {
-            b"vec" => reader.list_command(),
-            _ => Err(Misfit::Expected(Reason::Kind)),
+            b"vec" => commands.push(reader.list_command()?)?,
+            _ => return Err(Misfit::Expected(Reason::Kind)),
         }
+        Ok(())
     }
 }
 
 /// Commands on all kinds of value.
 impl Scripted for Command<i64> {
-    fn read<'a>(reader: &mut Reader<'a>, kind: &[u8]) -> Result<Command<i64>, Misfit> {
+    fn read<'a>(
+        reader: &mut Reader<'a>,
+        kind: &[u8],
+        commands: &mut Vec<Command<i64>>,
+    ) -> Result<(), Misfit> {
         match kind {
-            b"vec" => Ok(Command::Vec(reader.list_command()?)),
-            b"bytes" => Ok(Command::Bytes(reader.bytes_command()?)),
-            b"text" => Ok(Command::Text(reader.text_command()?)),
-            _ => Err(Misfit::Expected(Reason::Kind)),
+            b"vec" => commands.push(Command::Vec(reader.list_command()?))?,
+            b"bytes" => commands.push(Command::Bytes(reader.bytes_command()?))?,
+            b"text" => commands.push(Command::Text(reader.text_command()?))?,
+            _ => return Err(Misfit::Expected(Reason::Kind)),
         }
+        Ok(())
     }
 }
 
-/// The commands of a script, in order, in pieces of at most `PIECE`. Names are numbered from 0 in
-/// the order in which they are first read.
-pub(crate) fn read_script<C: Scripted>(alloc: Global, text: &str) -> Result<Vec<Vec<C>>, Fault> {
+/// Reads the commands of a script and gives them to `run`, in order, in pieces of at most `PIECE`.
+/// Names are numbered from 0 in the order in which they are first read.
+///
+/// Where `run` has no memory the rest is read all the same and given to nobody, so that a line that
+/// doesn't fit is told before a lack of memory.
+pub(crate) fn read_script<C: Scripted, F: FnMut(Vec<C>) -> Result<(), AllocError>>(
+    alloc: Global,
+    text: &str,
+    mut run: F,
+) -> Result<(), Fault>
+    requires { F.IsAlwaysCallable run }
+{
     let mut reader = Reader::new(alloc);
-    let mut pieces = Vec::new(alloc);
-    let mut piece = Vec::new(alloc);
+    let mut piece = Vec::with_capacity(alloc, PIECE)?;
+    let mut ran: Result<(), AllocError> = Ok(());
     let mut number: usize = 0;
     for line in text.split_inclusive('\n') {
         number = number.saturating_add(1);
-        match read_line::<C>(&mut reader, without_end(line)) {
-            Ok(None) => {}
-            Ok(Some(command)) => {
-                if piece.push(command).is_err() {
-                    return Err(Fault::Memory);
-                }
-            }
+        match read_line(&mut reader, without_end(line), &mut piece) {
+            Ok(()) => {}
             Err(Misfit::Expected(reason)) => return Err(Fault::Unreadable(number, reason)),
             Err(Misfit::Memory) => return Err(Fault::Memory),
         }
         if piece.len() == PIECE {
-            if pieces.push(piece).is_err() {
-                return Err(Fault::Memory);
+            let full = replace(&mut piece, Vec::with_capacity(alloc, PIECE)?);
+            if ran.is_ok() {
+                ran = run(full);
             }
-            piece = Vec::new(alloc);
         }
     }
-    if pieces.push(piece).is_err() {
-        return Err(Fault::Memory);
+    if ran.is_ok() {
+        ran = run(piece);
     }
-    Ok(pieces)
+    Ok(ran?)
 }
 
 /// A line without its line feed, and without a carriage return right before that.
@@ -111,18 +142,23 @@ fn without_end(line: &str) -> &str {
     line.strip_suffix('\r').unwrap_or(line)
 }
 
-/// The command on a line; none on a line of blanks, and none on a comment, which begins with `#`.
-fn read_line<'a, C: Scripted>(reader: &mut Reader<'a>, line: &'a str) -> Result<Option<C>, Misfit> {
+/// Puts the command on a line behind others; none on a line of blanks, and none on a comment, which
+/// begins with `#`.
+fn read_line<'a, C: Scripted>(
+    reader: &mut Reader<'a>,
+    line: &'a str,
+    commands: &mut Vec<C>,
+) -> Result<(), Misfit> {
     reader.begin(line);
     let Some(kind) = reader.next_word() else {
-        return Ok(None);
+        return Ok(());
     };
     if kind.starts_with(b"#") {
-        return Ok(None);
+        return Ok(());
     }
-    let command = C::read(reader, kind)?;
+    C::read(reader, kind, commands)?;
     match reader.next_word() {
-        None => Ok(Some(command)),
+        None => Ok(()),
         Some(_) => Err(Misfit::Expected(Reason::Arguments)),
     }
 }

@@ -79,6 +79,7 @@ impl<const N: usize> SmallBytes<N> {
     ///
     /// A refusal changes nothing: `Capacity` where the new length passes 2^63 - 1, and else
     /// `Memory`.
+    #[inline]
     #[tactic(auto, using(crate::proofs::Limits::past_limit))]
     pub fn insert_slice(&mut self, index: usize, bytes: &[u8]) -> Result<(), EcoError>
         requires { index ≤ length self.old.bytes }
@@ -92,14 +93,28 @@ impl<const N: usize> SmallBytes<N> {
             Form::Inline(inline) => inline,
             Form::Spilled(vec) => return vec.insert_slice(index, bytes),
         };
-        let len = inline.len();
         if let Ok(()) = inline.insert_slice(index, bytes) {
             return Ok(());
         }
-        if bytes.len() > MAX_LEN - len {
+        self.spill_around(index, bytes)
+    }
+
+    /// Spills inline bytes, and puts `bytes`, with which they don't fit inline, in at `index`.
+    #[cold]
+    #[inline(never)]
+    fn spill_around(&mut self, index: usize, bytes: &[u8]) -> Result<(), EcoError>
+        requires in_bounds { index ≤ length self.old.bytes }
+        requires inline { self.old.inline ≡ true }
+        requires full { N < length self.old.bytes + length bytes.now }
+        ensures bytes { OnOk result (self.new.bytes ≡ insert_slice self.old.bytes index bytes.now) }
+        ensures mode { OnOk result (self.new.inline ≡ false) }
+        ensures err { OnErr result (self.new ≡ self.old) }
+        ensures capacity { IsErrOf result EcoError.Capacity ↔ (MAX_LEN < length self.old.bytes + length bytes.now) }
+    {
+        if bytes.len() > MAX_LEN - self.len() {
             return Err(EcoError::Capacity);
         }
-        let mut vec = spilled(self.alloc, inline.as_slice(), bytes.len())?;
+        let mut vec = spilled(self.alloc, self.as_slice(), bytes.len())?;
         vec.insert_slice(index, bytes)?;
         self.form = Form::Spilled(vec);
         Ok(())

@@ -20,8 +20,8 @@ pub(super) fn spilled(
     ensures bytes { IfOk result (λ vec. vec ≡ bytes.now) }
     ensures memory { IfErr result (λ error. error ≡ EcoError.Memory) }
 {
-    let room = room_for(bytes.len(), additional, bytes.len());
-    let mut vec = EcoVec::with_capacity(alloc, room)?;
+    let room = room_for(bytes.len(), additional, bytes.len()).next_power_of_two();
+    let mut vec = EcoVec::with_capacity(alloc, room.min(MAX_LEN))?;
     vec.extend_from_slice(bytes)?;
     Ok(vec)
 }

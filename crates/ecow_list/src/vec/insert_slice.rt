@@ -24,6 +24,24 @@ impl<T: Clone + Copy> EcoVec<T> {
         ensures err { OnErr result (self.new ≡ self.old) }
         ensures capacity { IsErrOf result EcoError.Capacity ↔ (MAX_LEN < length self.old + length elements.now) }
     {
+        let (_len, added) = (self.len(), elements.len());
+        if let Some(block) = self.sole_block()
+            && added <= block.capacity() - block.len()
+        {
+            return Ok(insert_within(block, index, elements)?);
+        }
+        self.insert_slice_growing(index, elements)
+    }
+
+    /// The same where the block is too small, shared or not there.
+    #[inline(never)]
+    fn insert_slice_growing(&mut self, index: usize, elements: &[T]) -> Result<(), EcoError>
+        requires { index ≤ length self.old }
+        ensures ok { ClonesAreEqual T.is_clone → OnOk result (self.new ≡ insert_slice self.old index elements.now) }
+        ensures len { OnOk result (length self.new ≡ length self.old + length elements.now) }
+        ensures err { OnErr result (self.new ≡ self.old) }
+        ensures capacity { IsErrOf result EcoError.Capacity ↔ (MAX_LEN < length self.old + length elements.now) }
+    {
         let (len, added) = (self.len(), elements.len());
         if added > MAX_LEN - len {
             return Err(EcoError::Capacity);

@@ -74,6 +74,7 @@ impl<const N: usize> SmallText<N> {
     ///
     /// A refusal changes nothing: `Capacity` where the new length passes 2^63 - 1, and else
     /// `Memory`.
+    #[inline]
     pub fn insert_str(&mut self, index: usize, text: &str) -> Result<(), EcoError>
         requires { is_boundary self.old.chars index ≡ true }
         ensures chars { OnOk result (self.new.chars ≡ insert_slice self.old.chars (chars_before self.old.chars index) (chars text.now)) }

@@ -12,13 +12,13 @@ impl<'a> Reader<'a> {
     /// NAME: the number of a name.
     pub(super) fn name(&mut self) -> Result<Name, Misfit> {
         let word = self.argument()?;
-        if let Some(number) = self.number_of(word) {
+        if let Some(number) = self.names.get(word) {
             return Ok(number);
         }
         if !is_name(word) {
             return Err(Misfit::Expected(Reason::Name));
         }
-        self.add_name(word)
+        Ok(self.names.add(word)?)
     }
 
     /// COUNT: a number of 64 bits.

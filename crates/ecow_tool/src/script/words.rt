@@ -2,9 +2,8 @@
 ghost use Rattle.std.specs.Prelude.{◌≡◌, ◌↔◌, ◌⊎◌, IsTrue};
 
 use crate::script::Reason;
-use ecow_model::Name;
+use crate::script::names::Names;
 use std::alloc::{AllocError, AllocFailed, Global};
-use std::collections::HashMap;
 
 /// Why a line was not read.
 #[derive(Clone, Copy, Debug, PartialEq, Eq)]
@@ -42,7 +41,7 @@ impl From<AllocError> for Misfit {
 pub(crate) struct Reader<'a> {
     pub(super) alloc: Global,
     rest: &'a str,
-    names: HashMap<&'a [u8], Name>,
+    pub(super) names: Names<'a>,
 }
 
 impl<'a> Reader<'a> {
@@ -51,7 +50,7 @@ impl<'a> Reader<'a> {
         Reader {
             alloc,
             rest: "",
-            names: HashMap::new(alloc),
+            names: Names::new(alloc),
         }
     }
 
@@ -98,22 +97,6 @@ impl<'a> Reader<'a> {
     /// The next word of a line that must have one.
     pub(super) fn argument(&mut self) -> Result<&'a [u8], Misfit> {
         self.next_word().ok_or(Misfit::Expected(Reason::Arguments))
-    }
-
-    /// The number of a name that was read before.
-    pub(super) fn number_of(&self, word: &'a [u8]) -> Option<Name> {
-        self.names.get(&word).copied()
-    }
-
-    /// Gives a new name the next number.
-    pub(super) fn add_name(&mut self, word: &'a [u8]) -> Result<Name, Misfit> {
-        let Ok(number) = Name::try_from(self.names.len()) else {
-            return Err(Misfit::Memory);
-        };
-        match self.names.insert(word, number) {
-            Ok(_) => Ok(number),
-            Err(_) => Err(Misfit::Memory),
-        }
     }
 }
 

@@ -1,0 +1,58 @@
+//! The numbers of names.
+use ecow_model::Name;
+use std::alloc::{AllocError, Global};
+use std::collections::HashMap;
+
+/// The most bytes of a name that is kept as a number.
+const SHORT: usize = 7;
+
+/// The names that were read so far, numbered from 0 in the order in which they came.
+#[derive(Drop)]
+pub(super) struct Names<'a> {
+    short: HashMap<u64, Name>,
+    long: HashMap<&'a [u8], Name>,
+}
+
+impl<'a> Names<'a> {
+    /// No names. Takes no memory.
+    pub(super) fn new(alloc: Global) -> Self {
+        Names {
+            short: HashMap::new(alloc),
+            long: HashMap::new(alloc),
+        }
+    }
+
+    /// The number of a name that was read before.
+    pub(super) fn get(&self, word: &'a [u8]) -> Option<Name> {
+        match packed(word) {
+            Some(key) => self.short.get(&key).copied(),
+            None => self.long.get(&word).copied(),
+        }
+    }
+
+    /// Gives a new name the next number.
+    pub(super) fn add(&mut self, word: &'a [u8]) -> Result<Name, AllocError> {
+        let count = self.short.len().saturating_add(self.long.len());
+        let Ok(number) = Name::try_from(count) else {
+            return Err(AllocError);
+        };
+        match packed(word) {
+            Some(key) => self.short.insert(key, number)?,
+            None => self.long.insert(word, number)?,
+        };
+        Ok(number)
+    }
+}
+
+/// A short word as a number, which is found sooner than its bytes: the length, and then the bytes.
+/// So different words have different numbers.
+fn packed(word: &[u8]) -> Option<u64> {
+    if word.len() > SHORT {
+        return None;
+    }
+    let mut key = word.len() as u64;
+    for byte in word {
+        key = key << 8 | u64::from(*byte);
+    }
+    Some(key)
+}
