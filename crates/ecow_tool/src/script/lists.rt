@@ -7,78 +7,93 @@ impl<'a> Reader<'a> {
     /// The word of a command on lists, and its arguments.
     pub(super) fn list_command(&mut self) -> Result<VecCommand<i64>, Misfit> {
         match self.next_word() {
-            Some(b"new") => Ok(VecCommand::New { name: self.name()? }),
-            Some(b"with_capacity") => Ok(VecCommand::WithCapacity {
+            Some(word) => self.list_maker(word),
+            None => Err(Misfit::Expected(Reason::Command)),
+        }
+    }
+
+    /// A command that makes a list, or takes its name out; else one that changes it.
+    fn list_maker(&mut self, word: &[u8]) -> Result<VecCommand<i64>, Misfit> {
+        match word {
+            b"new" => Ok(VecCommand::New { name: self.name()? }),
+            b"with_capacity" => Ok(VecCommand::WithCapacity {
                 name: self.name()?,
                 capacity: self.count()?,
             }),
-            Some(b"from_list") => Ok(VecCommand::FromList {
+            b"from_list" => Ok(VecCommand::FromList {
                 name: self.name()?,
                 items: self.integers()?,
             }),
-            Some(b"from_elem") => Ok(VecCommand::FromElem {
+            b"from_elem" => Ok(VecCommand::FromElem {
                 name: self.name()?,
                 value: self.integer()?,
                 n: self.count()?,
             }),
-            Some(b"clone") => Ok(VecCommand::Clone {
+            b"clone" => Ok(VecCommand::Clone {
                 from: self.name()?,
                 to: self.name()?,
             }),
-            Some(b"drop") => Ok(VecCommand::Drop { name: self.name()? }),
-            Some(b"push") => Ok(VecCommand::Push {
+            b"drop" => Ok(VecCommand::Drop { name: self.name()? }),
+            _ => self.list_change(word),
+        }
+    }
+
+    /// A command that changes a list, or asks it something.
+    fn list_change(&mut self, word: &[u8]) -> Result<VecCommand<i64>, Misfit> {
+        match word {
+            b"push" => Ok(VecCommand::Push {
                 name: self.name()?,
                 value: self.integer()?,
             }),
-            Some(b"pop") => Ok(VecCommand::Pop { name: self.name()? }),
-            Some(b"insert") => Ok(VecCommand::Insert {
+            b"pop" => Ok(VecCommand::Pop { name: self.name()? }),
+            b"insert" => Ok(VecCommand::Insert {
                 name: self.name()?,
                 index: self.count()?,
                 value: self.integer()?,
             }),
-            Some(b"remove") => Ok(VecCommand::Remove {
+            b"remove" => Ok(VecCommand::Remove {
                 name: self.name()?,
                 index: self.count()?,
             }),
-            Some(b"truncate") => Ok(VecCommand::Truncate {
+            b"truncate" => Ok(VecCommand::Truncate {
                 name: self.name()?,
                 target: self.count()?,
             }),
-            Some(b"clear") => Ok(VecCommand::Clear { name: self.name()? }),
-            Some(b"retain") => Ok(VecCommand::Retain {
+            b"clear" => Ok(VecCommand::Clear { name: self.name()? }),
+            b"retain" => Ok(VecCommand::Retain {
                 name: self.name()?,
                 marks: self.marks()?,
             }),
-            Some(b"drain") => Ok(VecCommand::Drain {
+            b"drain" => Ok(VecCommand::Drain {
                 name: self.name()?,
                 bounds: self.bounds()?,
             }),
-            Some(b"splice") => Ok(VecCommand::Splice {
+            b"splice" => Ok(VecCommand::Splice {
                 name: self.name()?,
                 bounds: self.bounds()?,
                 items: self.integers()?,
             }),
-            Some(b"extend") => Ok(VecCommand::Extend {
+            b"extend" => Ok(VecCommand::Extend {
                 name: self.name()?,
                 items: self.integers()?,
             }),
-            Some(b"reserve") => Ok(VecCommand::Reserve {
+            b"reserve" => Ok(VecCommand::Reserve {
                 name: self.name()?,
                 additional: self.count()?,
             }),
-            Some(b"write") => Ok(VecCommand::Write {
+            b"write" => Ok(VecCommand::Write {
                 name: self.name()?,
                 index: self.count()?,
                 value: self.integer()?,
             }),
-            Some(b"read") => Ok(VecCommand::Read {
+            b"read" => Ok(VecCommand::Read {
                 name: self.name()?,
                 index: self.count()?,
             }),
-            Some(b"len") => Ok(VecCommand::Len { name: self.name()? }),
-            Some(b"contents") => Ok(VecCommand::Contents { name: self.name()? }),
-            Some(b"capacity") => Ok(VecCommand::Capacity { name: self.name()? }),
-            Some(b"unique") => Ok(VecCommand::Unique { name: self.name()? }),
+            b"len" => Ok(VecCommand::Len { name: self.name()? }),
+            b"contents" => Ok(VecCommand::Contents { name: self.name()? }),
+            b"capacity" => Ok(VecCommand::Capacity { name: self.name()? }),
+            b"unique" => Ok(VecCommand::Unique { name: self.name()? }),
             _ => Err(Misfit::Expected(Reason::Command)),
         }
     }
