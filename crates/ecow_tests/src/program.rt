@@ -1,5 +1,5 @@
-//! The program over readers and writers that fail or never end, and which words it takes. What it
-//! answers, scripts say.
+//! The program over readers and writers that are slow, fail or never end, and which words it takes.
+//! What it answers, scripts say.
 use ecow_tool::{End, Reason, read_arguments, run_store};
 use std::alloc::{AllocError, Global};
 use std::io;
@@ -118,5 +118,132 @@ fn a_script_that_is_cut_is_run_or_unreadable(rt: HostRuntime) {
             End::Unreadable(_, _) => assert_eq!(rt; answers.len(), 0),
             end => panic!(rt; "{end}"),
         }
+    }
+}
+
+/// A reader of so many bytes at a time. It may be interrupted before each piece, and one of its reads,
+/// counted from 1, may fail.
+#[derive(Drop)]
+struct Pieces {
+    left: &'static [u8],
+    size: usize,
+    interrupts: bool,
+    interrupted: bool,
+    failing: usize,
+}
+
+impl Pieces {
+    fn new(size: usize, interrupts: bool, failing: usize) -> Self {
+        Pieces {
+            left: SCRIPT,
+            size,
+            interrupts,
+            interrupted: false,
+            failing,
+        }
+    }
+}
+
+impl Read for Pieces {
+    fn read(&mut self, buf: &mut [u8]) -> io::Result<usize> {
+        if self.interrupts && !self.interrupted {
+            self.interrupted = true;
+            return Err(ErrorKind::Interrupted.into());
+        }
+        self.interrupted = false;
+        self.failing = self.failing.wrapping_sub(1);
+        if self.failing == 0 {
+            return Err(ErrorKind::Other.into());
+        }
+        let count = self.size.min(self.left.len()).min(buf.len());
+        buf[..count].copy_from_slice(&self.left[..count]);
+        self.left = &self.left[count..];
+        Ok(count)
+    }
+}
+
+/// What `SCRIPT` answers.
+const ANSWERS: &[u8] = b"ok
+refused boundary
+\"\xf0\x9f\x98\x80\"
+\"abcd\"
+ok
+refused not-utf8
+refused kind
+";
+
+#[test]
+fn a_script_may_come_in_pieces(rt: HostRuntime) {
+    for (size, interrupts) in [(1, false), (1, true), (7, true), (1000, true)] {
+        let mut answers = Vec::new(rt.alloc());
+        let end = run_store(rt.alloc(), Pieces::new(size, interrupts, 0), &mut answers);
+        assert_eq!(rt; end, End::Done);
+        assert_eq!(rt; answers.as_slice(), ANSWERS);
+    }
+}
+
+#[test]
+fn a_reader_that_fails_later_ends_the_program(rt: HostRuntime) {
+    for (failing, interrupts) in [(1, false), (2, false), (3, false), (3, true)] {
+        let mut answers = Vec::new(rt.alloc());
+        let end = run_store(
+            rt.alloc(),
+            Pieces::new(9, interrupts, failing),
+            &mut answers,
+        );
+        assert_eq!(rt; end, End::File);
+        assert_eq!(rt; answers.len(), 0);
+    }
+}
+
+/// A writer that takes so many bytes at a time, and refuses one write, counted from 1.
+#[derive(Drop)]
+struct Narrow {
+    taken: Vec<u8>,
+    size: usize,
+    refused: usize,
+}
+
+impl Narrow {
+    fn new(alloc: Global, size: usize, refused: usize) -> Self {
+        Narrow {
+            taken: Vec::new(alloc),
+            size,
+            refused,
+        }
+    }
+}
+
+impl Write for Narrow {
+    fn write(&mut self, buf: &[u8]) -> io::Result<usize> {
+        self.refused = self.refused.wrapping_sub(1);
+        if self.refused == 0 {
+            return Err(ErrorKind::Other.into());
+        }
+        let count = self.size.min(buf.len());
+        self.taken.extend_from_slice(&buf[..count])?;
+        Ok(count)
+    }
+
+    fn flush(&mut self) -> io::Result<()> {
+        Ok(())
+    }
+}
+
+#[test]
+fn answers_may_be_taken_in_pieces(rt: HostRuntime) {
+    for size in [1, 5, 1000] {
+        let mut writer = Narrow::new(rt.alloc(), size, 0);
+        assert_eq!(rt; run_store(rt.alloc(), SCRIPT, &mut writer), End::Done);
+        assert_eq!(rt; writer.taken.as_slice(), ANSWERS);
+    }
+}
+
+#[test]
+fn a_writer_that_refuses_later_ends_the_program(rt: HostRuntime) {
+    for (size, refused) in [(1, 1), (1, 2), (5, 2), (5, 3), (0, 0)] {
+        let mut writer = Narrow::new(rt.alloc(), size, refused);
+        assert_eq!(rt; run_store(rt.alloc(), SCRIPT, &mut writer), End::Output);
+        assert!(rt; ANSWERS.starts_with(writer.taken.as_slice()));
     }
 }
