@@ -3,6 +3,7 @@
 ghost use Rattle.std.specs.Iterator.{at_most};
 
 use crate::calls::of;
+use ecow_bytes::EcoBytes;
 use ecow_list::{EcoError, EcoVec, range_in};
 use std::cell::Cell;
 use std::test::Fail;
@@ -61,6 +62,36 @@ fn hints_are_not_asked(rt: HostRuntime) -> Result<(), Fail> {
     let mut list = EcoVec::new(rt.alloc());
     list.extend(&mut ones)?;
     assert!(rt; list.as_slice() == [1; 20].as_slice() && ones.is_left_alone());
+    Ok(())
+}
+
+/// Gives so many sevens, and says that there may be any number.
+#[derive(Drop)]
+struct Wide {
+    left: u8,
+}
+
+impl Iterator for &mut Wide {
+    type Item = u8;
+
+    ghost remaining = { λ w. at_most w.now.left };
+
+    fn next(&mut self) -> Option<u8> {
+        self.left = self.left.checked_sub(1)?;
+        Some(7)
+    }
+
+    fn size_hint(&self) -> (usize, Option<usize>) {
+        (0, Some(usize::MAX))
+    }
+}
+
+#[test]
+fn a_wide_hint_makes_no_room(rt: HostRuntime) -> Result<(), Fail> {
+    let mut bytes = EcoBytes::new(rt.alloc());
+    bytes.extend(&mut Wide { left: 3 })?;
+    assert!(rt; bytes.is_inline());
+    assert_eq!(rt; bytes.as_slice(), [7, 7, 7].as_slice());
     Ok(())
 }
 

@@ -39,6 +39,8 @@ fn arguments_name_one_file(rt: HostRuntime) -> Result<(), Fail> {
         (&["--counted"], None),
         (&["--counted", "file"], Some((true, 1))),
         (&["file", "--counted"], None),
+        (&["--counted", "--counted"], Some((true, 1))),
+        (&["--counted", "file", "file"], None),
     ] {
         assert_eq!(rt; arguments(rt.alloc(), words)?, wanted);
     }

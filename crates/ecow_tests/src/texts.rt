@@ -254,6 +254,15 @@ fn a_text_too_long_is_refused(rt: HostRuntime) -> Result<(), Fail> {
 }
 
 #[test]
+fn room_for_a_text_is_counted_in_bytes(rt: HostRuntime) -> Result<(), Fail> {
+    let mut face = EcoString::from_char(rt.alloc(), '😀')?;
+    assert_eq!(rt; face.reserve(9223372036854775803), Err(EcoError::Memory));
+    assert_eq!(rt; face.reserve(9223372036854775804), Err(EcoError::Capacity));
+    assert!(rt; face.is_inline() && face.as_str() == "😀");
+    Ok(())
+}
+
+#[test]
 fn a_text_goes_to_and_fro(rt: HostRuntime) -> Result<(), Fail> {
     let alloc = rt.alloc();
     let Ok(text) = EcoString::from_string(alloc, "grün".to_string(alloc)?) else {
