@@ -1,8 +1,8 @@
 //! The commands of both keepings, beside plain lists that take each command that was taken.
 use crate::examples::{EXAMPLES, example};
-use ecow_counted::Counted;
+use ecow_counted::{Counted, Filled};
 use ecow_list::EcoError;
-use ecow_model::{Command, Outcome, Refusal, VecCommand};
+use ecow_model::{Command, Items, Outcome, Refusal, VecCommand};
 use ecow_plain::PlainStore;
 use ecow_tests::commands::same;
 use ecow_tests::numbers::Numbers;
@@ -172,5 +172,72 @@ pub(crate) fn counted_runs_hold(alloc: Global) -> bool {
         Err(rejected) => {
             rejected.error == EcoError::Memory && rejected.value.len() == 3 && counted.blocks() == 0
         }
+    }
+}
+
+/// Carries a command out that needs no memory.
+fn is_done(counted: &mut Counted<i64>, command: VecCommand<i64>) -> bool {
+    matches!(&counted.step(command), Outcome::Done)
+}
+
+/// Room for four takes four pushes; the fifth is done, or lacks memory. What then needs no memory is
+/// done.
+pub(crate) fn room_holds(alloc: Global) -> bool {
+    let mut counted = Counted::new(alloc);
+    let (name, capacity) = (0, 4);
+    if lacks_memory(&counted.step(VecCommand::WithCapacity { name, capacity })) {
+        return true;
+    }
+    let mut hold = true;
+    for value in 0..4 {
+        hold = hold && is_done(&mut counted, VecCommand::Push { name, value });
+    }
+    let fifth = counted.step(VecCommand::Push { name, value: 4 });
+    let lacks = lacks_memory(&fifth) && size_of(&counted, name) == (Some(1), Some(4));
+    hold && (lacks || matches!(&fifth, Outcome::Done)) && cuts_hold(alloc, &mut counted)
+}
+
+/// Changes of a list that has its block alone, and its room.
+fn cuts_hold(alloc: Global, counted: &mut Counted<i64>) -> bool {
+    let name = 0;
+    is_done(
+        counted,
+        VecCommand::Reserve {
+            name,
+            additional: 0,
+        },
+    ) && is_done(
+        counted,
+        VecCommand::Write {
+            name,
+            index: 0,
+            value: 9,
+        },
+    ) && is_done(counted, VecCommand::Truncate { name, target: 3 })
+        && matches!(
+            &counted.step(VecCommand::Pop { name }),
+            Outcome::Popped(Some(2))
+        )
+        && match Items::from_slice(alloc, &[true, false]) {
+            Ok(marks) => is_done(counted, VecCommand::Retain { name, marks }),
+            Err(_) => true,
+        }
+        && is_done(counted, VecCommand::Clear { name })
+}
+
+/// A list is filled up to the item that is refused.
+pub(crate) fn filling_holds(alloc: Global) -> bool {
+    let Ok(items) = Vec::from_clones(alloc, [1, 2, 3, 4, 5, 6, 7, 8, 9].as_slice()) else {
+        return true;
+    };
+    let mut counted = Counted::new(alloc);
+    let Filled { accepted, refusal } = counted.fill(0, items);
+    let is_filled = match &counted.step(VecCommand::Len { name: 0 }) {
+        Outcome::Count(len) => *len == accepted,
+        _ => accepted == 0,
+    };
+    match refusal {
+        None => is_filled && accepted == 9,
+        Some(refusal) => is_filled && accepted < 9 && refusal == Refusal::Memory,
     }
 }

@@ -20,6 +20,8 @@ fn main(rt: HostRuntime) -> io::Result<()> {
         ("ranges", vectors::ranges_hold(alloc)),
         ("conversions", vectors::conversions_hold(alloc)),
         ("growth", vectors::growth_holds(alloc)),
+        ("extensions", vectors::extensions_hold(alloc)),
+        ("makers", vectors::makers_hold(alloc)),
         ("edits of bytes", bytes::edits_hold(alloc)),
         ("makers of bytes", bytes::makers_hold(alloc)),
         ("conversions of bytes", bytes::conversions_hold(alloc)),
@@ -40,6 +42,8 @@ fn main(rt: HostRuntime) -> io::Result<()> {
         ),
         ("counted examples", keepings::examples_hold(alloc)),
         ("counted runs", keepings::counted_runs_hold(alloc)),
+        ("counted room", keepings::room_holds(alloc)),
+        ("counted filling", keepings::filling_holds(alloc)),
     ] {
         if holds {
             println!(rt; "{name}: as before or done")?;

@@ -186,6 +186,16 @@ pub(crate) fn makers_hold(alloc: Global) -> bool {
         && is_made(EcoString::from_strs(alloc, [more, ""]), more, false)
         && is_made(EcoString::with_capacity(alloc, 16), "", false)
         && is_made(EcoString::from_char(alloc, '😀'), "😀", true)
+        && joined_hold(alloc)
+}
+
+/// The text of two texts.
+fn joined_hold(alloc: Global) -> bool {
+    let (Ok(first), Ok(second)) = (letters(alloc, true), letters(alloc, false)) else {
+        return true;
+    };
+    let joined = EcoString::from_eco_strings(alloc, [first, second]);
+    is_made(joined, "abcdefghijk😀abcdefghijk😀", false)
 }
 
 /// What is made of the letters, which stay as they are.
@@ -200,8 +210,12 @@ fn derived_hold(text: &EcoString, inline: bool) -> bool {
 
 /// Unicode case asks for a text of std's, also where the result is inline.
 fn case_holds(text: &EcoString) -> bool {
-    match text.to_uppercase() {
-        Ok(upper) => upper.as_str() == "ABCDEFGHIJK😀" && upper.is_inline(),
+    is_cased(text.to_uppercase(), "ABCDEFGHIJK😀") && is_cased(text.to_lowercase(), LETTERS)
+}
+
+fn is_cased(cased: Result<EcoString, EcoError>, want: &str) -> bool {
+    match cased {
+        Ok(text) => text.as_str() == want && text.is_inline(),
         Err(error) => error == EcoError::Memory,
     }
 }

@@ -1,6 +1,7 @@
 //! The calls of `EcoVec`.
 use ecow_list::{EcoError, EcoVec, IntoArray, range_in};
 use std::alloc::Global;
+use std::io::Write;
 
 /// Makes a list and a clone of it, and calls something on the list. Whether it then is what it is
 /// to be, or as it was where the call was refused, and the clone is as it was.
@@ -205,4 +206,66 @@ pub(crate) fn growth_holds(alloc: Global) -> bool {
                 && list.as_slice() == [0, 1, 2].as_slice()
         }
     }
+}
+
+/// What goes in one by one stays, up to the item that is refused.
+pub(crate) fn extensions_hold(alloc: Global) -> bool {
+    let whole = [1, 2, 3, 4, 5, 6, 7, 8, 9].as_slice();
+    let Ok(mut list) = EcoVec::from_slice(alloc, &[1, 2]) else {
+        return true;
+    };
+    match list.extend(3..10) {
+        Ok(()) => list.as_slice() == whole,
+        Err(error) => {
+            error == EcoError::Memory && list.len() > 1 && whole.starts_with(list.as_slice())
+        }
+    }
+}
+
+/// Whether a vector was made as it is to be, or for want of memory not at all.
+fn is_made(made: Result<EcoVec<i64>, EcoError>, want: &[i64]) -> bool {
+    match made {
+        Ok(list) => list.as_slice() == want,
+        Err(error) => error == EcoError::Memory,
+    }
+}
+
+/// A vector of an element, an array or a `Vec`, each of which comes back where it is refused.
+fn handed_over(alloc: Global) -> bool {
+    let of_elem = match EcoVec::from_elem(alloc, 7, 2) {
+        Ok(list) => list.as_slice() == [7, 7].as_slice(),
+        Err(rejected) => rejected.error == EcoError::Memory && rejected.value == 7,
+    };
+    let of_array = match EcoVec::from_array(alloc, [1, 2, 3]) {
+        Ok(list) => list.as_slice() == [1, 2, 3].as_slice(),
+        Err(rejected) => rejected.error == EcoError::Memory && rejected.value == [1, 2, 3],
+    };
+    let Ok(elements) = Vec::from_clones(alloc, [4, 5].as_slice()) else {
+        return of_elem && of_array;
+    };
+    let of_vec = match EcoVec::from_vec(alloc, elements) {
+        Ok(list) => list.as_slice() == [4, 5].as_slice(),
+        Err(rejected) => {
+            rejected.error == EcoError::Memory && rejected.value.as_slice() == [4, 5].as_slice()
+        }
+    };
+    of_elem && of_array && of_vec
+}
+
+/// A piece is written whole, or not at all.
+fn writes_hold(alloc: Global) -> bool {
+    let mut bytes = EcoVec::new(alloc);
+    match bytes.write(b"a piece") {
+        Ok(count) => count == 7 && bytes.as_slice() == b"a piece".as_slice(),
+        Err(_) => bytes.is_empty(),
+    }
+}
+
+pub(crate) fn makers_hold(alloc: Global) -> bool {
+    let four = [1, 2, 3, 4].as_slice();
+    is_made(EcoVec::from_slice(alloc, four), four)
+        && is_made(EcoVec::from_iter(alloc, 1..5), four)
+        && is_made(EcoVec::with_capacity(alloc, 3), &[])
+        && handed_over(alloc)
+        && writes_hold(alloc)
 }
