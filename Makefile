@@ -1,9 +1,9 @@
-# Proves, builds, runs and tests. Everything but `make faults`, `make fuzz`, `make bench`, `make edits`
-# and `make times` needs the kit's `rt` on the path, make and git, and nothing else.
+# Proves, builds, runs and tests. Everything but `make faults`, `make fuzz`, `make hostile`, `make bench`,
+# `make edits` and `make times` needs the kit's `rt` on the path, make and git, and nothing else.
 
 SOURCES := $(shell find crates -path '*/out' -prune -o \( -name '*.rt' -o -name '*.antt' \) -print) crates.txt
 
-.PHONY: help try build run test agree edits times faults fuzz bench clean
+.PHONY: help try build run test agree edits times faults fuzz hostile bench clean
 
 help:
 	@echo "make try SCRIPT=FILE   runs the script with no proof, in half a minute"
@@ -15,6 +15,9 @@ help:
 	@echo "make times             runs the gate and says what each part of it costs (needs python3)"
 	@echo "make faults            refuses each request for memory in turn (needs a C compiler)"
 	@echo "make fuzz SECONDS=60   runs the program on changed examples (needs python3)"
+	@echo "make hostile           runs the program with each request for memory refused in turn, with files and outputs"
+	@echo "                       that fail, and with scripts of 16 MiB (needs python3 and a C compiler); PEER=\"COMMAND\""
+	@echo "                       times another program beside it"
 	@echo "make bench ECOW=FOLDER times vector, bytes and text beside the original crate in FOLDER (needs cargo)"
 	@echo "make clean             removes what was built"
 
@@ -56,6 +59,9 @@ faults:
 SECONDS := 60
 fuzz: bin/ecow-run
 	tools/fuzz.py $(SECONDS)
+
+hostile: bin/ecow-run
+	tools/hostile.py --peer "$(PEER)"
 
 bench:
 	tools/bench.sh $(ECOW)
