@@ -15,6 +15,7 @@ with 1 where something did not hold."""
 import argparse
 import filecmp
 import glob
+import itertools
 import os
 import re
 import subprocess
@@ -27,6 +28,8 @@ TOP = os.path.dirname(os.path.dirname(os.path.abspath(__file__)))
 LIMIT = 16777216
 # Cases below this size run with each request refused.
 SHORT = 3000
+# How many names that collide are made: finding them takes a while.
+COLLIDING = 50000
 # How often a large script is run; the least of each measure counts.
 TIMES = 3
 NOBODY = 65534
@@ -208,6 +211,44 @@ def one_text():
         yield "aé€😀".encode()
 
 
+def many_names():
+    number = 0
+    while True:
+        number += 1
+        yield b"vec new abcdefgh%d\n" % number
+
+
+def copies():
+    """Each clone is written to."""
+    yield b"vec from_list a [1,2,3]\n"
+    number = 0
+    while True:
+        number += 1
+        yield b"vec clone a b%d\nvec push b%d 4\n" % (number, number)
+
+
+def folded(a, b):
+    """Both halves of a product of two numbers of 64 bits, joined."""
+    product = a * b
+    return product % 2**64 ^ product >> 64
+
+
+def colliding_names():
+    """Names of seven letters, packed into numbers, that std's hash with its fixed seed puts close together: each
+    into the first groups of a table, of which a run then is full."""
+    made = 0
+    for letters in itertools.product(b"abcdefghijklmnopqrstuvwxyz", repeat=7):
+        key = 7
+        for letter in letters:
+            key = key << 8 | letter
+        hashed = folded(0x243F6A8885A308D3 ^ key, 0x9E3779B97F4A7C15 ^ 16)
+        if (hashed ^ hashed >> 32) % 8192 < 128:
+            made += 1
+            yield b"vec new %s\n" % bytes(letters)
+        if made == COLLIDING:
+            return
+
+
 # Of each large script its name, its flags, its pieces, and what its last line ends with.
 LARGE = [
     ("pushes to one list", [], pushes, b""),
@@ -217,6 +258,10 @@ LARGE = [
     ("one long text", [], one_text, b'"\ntext len t\n'),
     ("pushes, counted", ["--counted"], pushes, b""),
     ("clones, counted", ["--counted"], clones, b""),
+    ("many long names", [], many_names, b""),
+    ("clones that are written to", [], copies, b""),
+    ("clones that are written to, counted", ["--counted"], copies, b""),
+    ("names that collide", [], colliding_names, b""),
 ]
 
 
@@ -243,10 +288,11 @@ def measured(words, out):
     return [seconds, usage.ru_utime + usage.ru_stime, usage.ru_maxrss / 1024], child.returncode == 0
 
 
-def least(words, out):
-    """The least of each measure, and whether all runs were done."""
-    runs = [measured(words, out) for _ in range(TIMES)]
-    return [min(measures) for measures in zip(*(run[0] for run in runs))], all(run[1] for run in runs)
+def least(commands, outs):
+    """For each command the least of each measure, and whether all its runs were done. They take turns, so that
+    what else the machine does meets all of them."""
+    rounds = [[measured(words, out) for words, out in zip(commands, outs)] for _ in range(TIMES)]
+    return [([min(measures) for measures in zip(*(run[0] for run in runs))], all(run[1] for run in runs)) for runs in zip(*rounds)]
 
 
 def row(name, cells):
@@ -259,12 +305,14 @@ def figures(measures):
 
 def compared(name, flags, folder, program, peer):
     """What doesn't hold of one large script; prints its row."""
-    ours, done = least([program, *flags, f"{folder}/script"], f"{folder}/ours")
+    words = [*flags, f"{folder}/script"]
+    commands = [[program, *words]] + ([[*peer, *words]] if peer else [])
+    (ours, done), *others = least(commands, [f"{folder}/ours", f"{folder}/theirs"])
     faults = [] if done else ["did not end with status 0"]
-    if not peer:
+    if not others:
         row(name, figures(ours))
         return faults
-    theirs, done = least([*peer, *flags, f"{folder}/script"], f"{folder}/theirs")
+    theirs, done = others[0]
     ratios = [one / max(other, 0.001) for one, other in zip(ours, theirs)]
     row(name, figures(ours) + figures(theirs) + [f"{ratio:.2f}" for ratio in ratios])
     if not done or not filecmp.cmp(f"{folder}/ours", f"{folder}/theirs", shallow=False):
