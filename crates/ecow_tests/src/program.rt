@@ -249,3 +249,32 @@ fn a_writer_that_refuses_later_ends_the_program(rt: HostRuntime) {
         assert!(rt; ANSWERS.starts_with(writer.taken.as_slice()));
     }
 }
+
+/// Appends the lines that make two lists of their own of each number, and those that show them; and
+/// what the latter answer.
+fn number_lists(script: &mut Vec<u8>, wanted: &mut Vec<u8>, most: u32) -> io::Result<()> {
+    for number in 1..most {
+        writeln!(script, "vec from_list a{number} [{number}]")?;
+        writeln!(script, "vec from_list a_long_name_{number} [-{number}]")?;
+        writeln!(wanted, "ok\nok")?;
+    }
+    for number in 1..most {
+        writeln!(
+            script,
+            "vec contents a_long_name_{number}\nvec contents a{number}"
+        )?;
+        writeln!(wanted, "[-{number}]\n[{number}]")?;
+    }
+    Ok(())
+}
+
+#[test]
+fn thousands_of_names_are_told_apart(rt: HostRuntime) -> Result<(), Fail> {
+    let (mut script, mut wanted) = (Vec::new(rt.alloc()), Vec::new(rt.alloc()));
+    number_lists(&mut script, &mut wanted, 2000)?;
+    let mut answers = Vec::new(rt.alloc());
+    let end = run_store(rt.alloc(), script.as_slice(), &mut answers);
+    assert_eq!(rt; end, End::Done);
+    assert!(rt; answers == wanted);
+    Ok(())
+}
