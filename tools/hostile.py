@@ -30,6 +30,8 @@ LIMIT = 16777216
 SHORT = 3000
 # How many names that collide are made: finding them takes a while.
 COLLIDING = 50000
+# How many names are numbered for those whose numbers collide.
+NUMBERED = 900000
 # How often a large script is run; the least of each measure counts.
 TIMES = 3
 NOBODY = 65534
@@ -227,26 +229,42 @@ def copies():
         yield b"vec clone a b%d\nvec push b%d 4\n" % (number, number)
 
 
-def folded(a, b):
-    """Both halves of a product of two numbers of 64 bits, joined."""
-    product = a * b
-    return product % 2**64 ^ product >> 64
+def place(key, size):
+    """Where std's hash with its fixed seed puts a number of so many bytes, among 8192 places. What lies close
+    together there is found one after another."""
+    product = (0x243F6A8885A308D3 ^ key) * (0x9E3779B97F4A7C15 ^ 2 * size)
+    hashed = product % 2**64 ^ product >> 64
+    return (hashed ^ hashed >> 32) % 8192
 
 
 def colliding_names():
-    """Names of seven letters, packed into numbers, that std's hash with its fixed seed puts close together: each
-    into the first groups of a table, of which a run then is full."""
+    """Names of seven letters that lie close together, packed into numbers with their length before them."""
     made = 0
     for letters in itertools.product(b"abcdefghijklmnopqrstuvwxyz", repeat=7):
-        key = 7
-        for letter in letters:
-            key = key << 8 | letter
-        hashed = folded(0x243F6A8885A308D3 ^ key, 0x9E3779B97F4A7C15 ^ 16)
-        if (hashed ^ hashed >> 32) % 8192 < 128:
+        if place(int.from_bytes(bytes([7, *letters]), "big"), 8) < 128:
             made += 1
             yield b"vec new %s\n" % bytes(letters)
         if made == COLLIDING:
             return
+
+
+def letters_of(number):
+    """The name of five letters that a number stands for."""
+    return bytes(97 + number // 26**at % 26 for at in range(5))
+
+
+def colliding_numbers():
+    """Names are numbered as they come. Of many that name nothing, those whose numbers lie close together are made,
+    and the last of them asked for again and again."""
+    for number in range(0, NUMBERED, 2):
+        yield b"vec clone %s %s\n" % (letters_of(number), letters_of(number + 1))
+    last = b""
+    for number in range(NUMBERED):
+        if place(number | number << 32, 4) < 512:
+            last = letters_of(number)
+            yield b"vec new %s\n" % last
+    while True:
+        yield b"vec len %s\n" % last
 
 
 # Of each large script its name, its flags, its pieces, and what its last line ends with.
@@ -262,6 +280,7 @@ LARGE = [
     ("clones that are written to", [], copies, b""),
     ("clones that are written to, counted", ["--counted"], copies, b""),
     ("names that collide", [], colliding_names, b""),
+    ("numbers of names that collide", [], colliding_numbers, b""),
 ]
 
 
