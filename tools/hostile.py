@@ -17,7 +17,6 @@ import filecmp
 import glob
 import itertools
 import os
-import re
 import subprocess
 import sys
 import tempfile
@@ -31,7 +30,7 @@ SHORT = 3000
 # How many names that collide are made: finding them takes a while.
 COLLIDING = 50000
 # How many names are numbered for those whose numbers collide.
-NUMBERED = 900000
+NUMBERED = 585000
 # How often a large script is run; the least of each measure counts.
 TIMES = 3
 NOBODY = 65534
@@ -229,19 +228,19 @@ def copies():
         yield b"vec clone a b%d\nvec push b%d 4\n" % (number, number)
 
 
-def place(key, size):
-    """Where std's hash with its fixed seed puts a number of so many bytes, among 8192 places. What lies close
-    together there is found one after another."""
+def place(key, size, places):
+    """Where std's hash with its fixed seed puts a number of so many bytes. What lies close together there is found
+    one after another."""
     product = (0x243F6A8885A308D3 ^ key) * (0x9E3779B97F4A7C15 ^ 2 * size)
     hashed = product % 2**64 ^ product >> 64
-    return (hashed ^ hashed >> 32) % 8192
+    return (hashed ^ hashed >> 32) % places
 
 
 def colliding_names():
     """Names of seven letters that lie close together, packed into numbers with their length before them."""
     made = 0
     for letters in itertools.product(b"abcdefghijklmnopqrstuvwxyz", repeat=7):
-        if place(int.from_bytes(bytes([7, *letters]), "big"), 8) < 128:
+        if place(int.from_bytes(bytes([7, *letters]), "big"), 8, 8192) < 128:
             made += 1
             yield b"vec new %s\n" % bytes(letters)
         if made == COLLIDING:
@@ -260,7 +259,7 @@ def colliding_numbers():
         yield b"vec clone %s %s\n" % (letters_of(number), letters_of(number + 1))
     last = b""
     for number in range(NUMBERED):
-        if place(number | number << 32, 4) < 512:
+        if place(number | number << 32, 4, 16384) < 4096:
             last = letters_of(number)
             yield b"vec new %s\n" % last
     while True:
