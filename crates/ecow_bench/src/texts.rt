@@ -45,8 +45,8 @@ pub(crate) fn clone(alloc: Global, text: &str, count: u64) -> u64 {
     let mut sum = 0u64;
     for round in 0..count {
         let made = if round % 2 == 0 { &even } else { &odd };
-        if let Some(copy) = cloned(made) {
-            sum = sum.wrapping_add(seen(&copy));
+        if let Some(copy) = &cloned(made) {
+            sum = sum.wrapping_add(seen(copy));
         }
     }
     sum
