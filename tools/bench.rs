@@ -265,17 +265,12 @@ fn bytes_push(bytes: &[u8], count: u64) -> u64 {
     sum
 }
 
-#[inline(never)]
-fn cloned_bytes(bytes: &EcoBytes) -> EcoBytes {
-    bytes.clone()
-}
-
 fn bytes_clone(bytes: &[u8], count: u64) -> u64 {
     let (even, odd) = (bytes_of(bytes), bytes_of(bytes));
     let mut sum = 0u64;
     for round in 0..count {
         let made = if round % 2 == 0 { &even } else { &odd };
-        sum = sum.wrapping_add(seen_bytes(&cloned_bytes(made)));
+        sum = sum.wrapping_add(seen_bytes(&made.clone()));
     }
     sum
 }
@@ -396,17 +391,12 @@ fn text_from_str(text: &str, count: u64) -> u64 {
     sum
 }
 
-#[inline(never)]
-fn cloned_text(text: &EcoString) -> EcoString {
-    text.clone()
-}
-
 fn text_clone(text: &str, count: u64) -> u64 {
     let (even, odd) = (text_of(text), text_of(text));
     let mut sum = 0u64;
     for round in 0..count {
         let made = if round % 2 == 0 { &even } else { &odd };
-        sum = sum.wrapping_add(seen(&cloned_text(made)));
+        sum = sum.wrapping_add(seen(&made.clone()));
     }
     sum
 }

@@ -56,19 +56,14 @@ pub(crate) fn push(alloc: Global, bytes: &[u8], count: u64) -> u64 {
     sum
 }
 
-#[inline(never)]
-fn cloned(bytes: &EcoBytes) -> Option<EcoBytes> {
-    bytes.clone().ok()
-}
-
 /// Makes a clone of one value or another, by turns, and drops it.
 pub(crate) fn clone(alloc: Global, bytes: &[u8], count: u64) -> u64 {
     let (even, odd) = (bytes_of(alloc, bytes), bytes_of(alloc, bytes));
     let mut sum = 0u64;
     for round in 0..count {
         let made = if round % 2 == 0 { &even } else { &odd };
-        if let Some(copy) = &cloned(made) {
-            sum = sum.wrapping_add(seen(copy));
+        if let Ok(copy) = made.clone() {
+            sum = sum.wrapping_add(seen(&copy));
         }
     }
     sum

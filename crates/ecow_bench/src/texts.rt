@@ -34,19 +34,14 @@ pub(crate) fn from_str(alloc: Global, text: &str, count: u64) -> u64 {
     sum
 }
 
-#[inline(never)]
-fn cloned(text: &EcoString) -> Option<EcoString> {
-    text.clone().ok()
-}
-
 /// Makes a clone of one value or another, by turns, and drops it.
 pub(crate) fn clone(alloc: Global, text: &str, count: u64) -> u64 {
     let (even, odd) = (text_of(alloc, text), text_of(alloc, text));
     let mut sum = 0u64;
     for round in 0..count {
         let made = if round % 2 == 0 { &even } else { &odd };
-        if let Some(copy) = &cloned(made) {
-            sum = sum.wrapping_add(seen(copy));
+        if let Ok(copy) = made.clone() {
+            sum = sum.wrapping_add(seen(&copy));
         }
     }
     sum

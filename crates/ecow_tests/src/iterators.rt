@@ -82,7 +82,7 @@ impl Iterator for &mut Wide {
     }
 
     fn size_hint(&self) -> (usize, Option<usize>) {
-        (0, Some(usize::MAX))
+        (0, Some(usize::MAX.max(usize::from(self.left))))
     }
 }
 
