@@ -31,9 +31,8 @@ SHORT = 3000
 COLLIDING = 50000
 # How many names are numbered for those whose numbers collide.
 NUMBERED = 585000
-# How many times the peer's time and memory a script may take, and its time the one that is known to take longer.
+# How many times the peer's time and memory a script may take.
 MOST = 2
-KNOWN = 30
 # How often a large script is run; the least of each measure counts.
 TIMES = 3
 NOBODY = 65534
@@ -256,8 +255,8 @@ def letters_of(number):
 
 
 def colliding_numbers():
-    """Names are numbered as they come. Of many that name nothing, those whose numbers lie close together are made,
-    and the last of them asked for again and again."""
+    """Names are numbered as they come. Of many that name nothing, those whose numbers std's hash puts close together
+    are made, and the last of them asked for again and again."""
     for number in range(0, NUMBERED, 2):
         yield b"vec clone %s %s\n" % (letters_of(number), letters_of(number + 1))
     last = b""
@@ -269,21 +268,20 @@ def colliding_numbers():
         yield b"vec len %s\n" % last
 
 
-# Of each large script its name, its flags, its pieces, what its last line ends with, and how many times the peer's
-# time it may take.
+# Of each large script its name, its flags, its pieces, and what its last line ends with.
 LARGE = [
-    ("pushes to one list", [], pushes, b"", MOST),
-    ("clones of one list", [], clones, b"", MOST),
-    ("contents of one list", [], contents, b"", MOST),
-    ("one long list", [], one_list, b"]\nvec len a\n", MOST),
-    ("one long text", [], one_text, b'"\ntext len t\n', MOST),
-    ("pushes, counted", ["--counted"], pushes, b"", MOST),
-    ("clones, counted", ["--counted"], clones, b"", MOST),
-    ("many long names", [], many_names, b"", MOST),
-    ("clones that are written to", [], copies, b"", MOST),
-    ("clones that are written to, counted", ["--counted"], copies, b"", MOST),
-    ("names that collide", [], colliding_names, b"", MOST),
-    ("numbers of names that collide", [], colliding_numbers, b"", KNOWN),
+    ("pushes to one list", [], pushes, b""),
+    ("clones of one list", [], clones, b""),
+    ("contents of one list", [], contents, b""),
+    ("one long list", [], one_list, b"]\nvec len a\n"),
+    ("one long text", [], one_text, b'"\ntext len t\n'),
+    ("pushes, counted", ["--counted"], pushes, b""),
+    ("clones, counted", ["--counted"], clones, b""),
+    ("many long names", [], many_names, b""),
+    ("clones that are written to", [], copies, b""),
+    ("clones that are written to, counted", ["--counted"], copies, b""),
+    ("names that collide", [], colliding_names, b""),
+    ("numbers of names that collide", [], colliding_numbers, b""),
 ]
 
 
@@ -325,7 +323,7 @@ def figures(measures):
     return [f"{measures[0]:.2f}", f"{measures[1]:.2f}", f"{measures[2]:.0f}"]
 
 
-def compared(name, flags, folder, program, peer, most):
+def compared(name, flags, folder, program, peer):
     """What doesn't hold of one large script; prints its row."""
     words = [*flags, f"{folder}/script"]
     commands = [[program, *words]] + ([[*peer, *words]] if peer else [])
@@ -339,8 +337,8 @@ def compared(name, flags, folder, program, peer, most):
     row(name, figures(ours) + figures(theirs) + [f"{ratio:.2f}" for ratio in ratios])
     if not done or not filecmp.cmp(f"{folder}/ours", f"{folder}/theirs", shallow=False):
         faults.append("other answers than the peer's")
-    for what, ratio, bound in zip(["time", "processor time", "memory"], ratios, [most, most, MOST]):
-        if ratio > bound:
+    for what, ratio in zip(["time", "processor time", "memory"], ratios):
+        if ratio > MOST:
             faults.append(f"{ratio:.2f} times the peer's {what}")
     return faults
 
@@ -351,9 +349,9 @@ def sizes(program, peer):
     row("---", ["---"] * (9 if peer else 3))
     found = []
     with tempfile.TemporaryDirectory(prefix="hostile-") as folder:
-        for name, flags, pieces, end, most in LARGE:
+        for name, flags, pieces, end in LARGE:
             large_script(f"{folder}/script", pieces, end)
-            found += [f"{name}: {fault}" for fault in compared(name, flags, folder, program, peer, most)]
+            found += [f"{name}: {fault}" for fault in compared(name, flags, folder, program, peer)]
     for fault in found:
         print(fault)
     print(f"sizes: {len(LARGE)} scripts, the least of {TIMES} runs, {len(found)} faults")

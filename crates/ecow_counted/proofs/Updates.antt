@@ -192,7 +192,7 @@ module _ {X : Type 0} (places : Places) (table : Slab (Entry X)) (is : IsTable p
       joined_table = block_shared_table places after table is x y free_place left p source (λ q. ap (λ m. finite.get m q) written ∙ get-insert_nat places y (Some p) q) counted others len
 
   -- an entry counts no more names than there are
-  pub owners_fit : (p : ℕ) (entry : Entry X) → get table p ≡ Some entry → finite.len places < 2 ^ 63 → entry.owners + 1 < 2 ^ 64
+  pub owners_fit : (p : ℕ) (entry : Entry X) → get table p ≡ Some entry → finite.len places + 1 < 2 ^ 64 → entry.owners + 1 < 2 ^ 64
   owners_fit p entry at small = let own = is.owned p entry at in omega (arith, own.counted, length-names_at p places)
 
 -- a table with no names and no blocks

@@ -189,7 +189,7 @@ impl<T> Blocks<T> {
     {
         let place = place_of(&self.places, from);
         // For the proof: an owner more fits its word.
-        let _fits = self.places.len();
+        self.places.is_countable();
         self.places.insert(to, place)?;
         if let Some(place) = place {
             add_owner(&mut self.table, place);

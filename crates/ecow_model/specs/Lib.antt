@@ -5,6 +5,7 @@ pub mod Replaced
 pub mod Refusing
 pub mod Values
 pub mod Uses
+pub mod Tables
 pub mod Loans
 pub mod Lists
 pub mod Bytes

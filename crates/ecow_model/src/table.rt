@@ -1,31 +1,40 @@
 //! A finite map from names to values.
-ghost use Rattle.std.specs.Prelude.{◌≡◌, ◌<◌, ◌^◌, OnOk, OnErr, is_some};
+ghost use Rattle.std.specs.Prelude.{◌≡◌, ◌+◌, ◌<◌, ◌^◌, ℕ, None, OnOk, OnErr, get_or, length};
 ghost use Rattle.std.specs.Borrow.{sem};
 ghost use Rattle.std.specs.FinMap as map;
 ghost use Rattle.std.specs.Option.{option_copied, option_copied_mut};
 ghost use Rattle.ecow_model.specs.Loans.{LendsValue};
+ghost use Rattle.ecow_model.specs.Tables.{values_of};
 
 use crate::command::Name;
 use std::alloc::{AllocError, Global};
-use std::collections::HashMap;
+use std::collections::BTreeMap;
 use std::marker::Model;
 
-/// A finite map from names: a `HashMap` of which contracts see what stands under each name.
+/// How many names have slots: those below it.
+const SLOTS: Name = 65536;
+
+/// A finite map from names, of which contracts see what stands under each.
+///
+/// A small name's value stands in the slot of its number, so that names that are numbered from 0 are
+/// found at once, whoever chose them. The others stand in a tree.
 #[derive(Drop)]
 pub struct Table<V> {
-    values: HashMap<Name, V>,
+    slots: Vec<Option<V>>,
+    others: BTreeMap<Name, V>,
 }
 
 impl<V> Model for Table<V> {
     ghost use Rattle.std.specs.Coded.{coded_ℕ};
     ghost use Rattle.std.specs.FinMap as map;
     ghost use Rattle.std.specs.Ordering.{nat_cmp};
+    ghost use Rattle.ecow_model.specs.Tables.{values_of};
 
     ghost Value = { map.FinMap nat_cmp V };
 
     ghost coded = { map.code coded_ℕ V.code };
 
-    ghost view = { λ a. map.from_entries a.values.entries };
+    ghost view = { λ a. values_of a.slots.items a.others.entries };
 }
 
 impl<V> Table<V> {
@@ -34,57 +43,101 @@ impl<V> Table<V> {
         ensures { result ≡ map.empty }
     {
         Table {
-            values: HashMap::new(alloc),
+            slots: Vec::new(alloc),
+            others: BTreeMap::new(alloc),
         }
     }
 
-    /// The number of names.
-    pub fn len(&self) -> usize
-        ensures len { result ≡ map.len self.now }
-        ensures small { result < 2 ^ 63 }
-    {
-        self.values.len()
-    }
-
     /// Whether the name is there.
+    #[inline]
     pub fn contains(&self, name: Name) -> bool
         ensures { result ≡ map.contains_key self.now name }
     {
-        self.values.contains_key(&name)
+        self.get(name).is_some()
     }
 
     /// What stands under the name.
+    #[inline]
     pub fn get(&self, name: Name) -> Option<&V>
         ensures { option_copied result ≡ map.get self.now name }
     {
-        self.values.get(&name)
+        if name < SLOTS {
+            match self.slots.as_slice().get(name as usize) {
+                Some(slot) => slot.as_ref(),
+                None => None,
+            }
+        } else {
+            self.others.get(&name)
+        }
     }
 
     /// What stands under the name, for writing.
+    #[inline]
     pub fn get_mut(&mut self, name: Name) -> Option<&mut V>
         ensures* writes_back { sem 𝓛 (LendsValue V.row self.entry name result) }
         ensures value { option_copied_mut result ≡ map.get self.old name }
     {
-        self.values.get_mut(&name)
+        if name < SLOTS {
+            match self.slots.get_mut(name as usize) {
+                Some(slot) => slot.as_mut(),
+                None => None,
+            }
+        } else {
+            self.others.get_mut(&name)
+        }
+    }
+
+    /// For proofs: names are fewer than numbers of 64 bits.
+    #[inline]
+    pub fn is_countable(&self)
+        ensures { map.len self.now + 1 < 2 ^ 64 }
+    {
+        let _others = self.others.len();
     }
 }
 
 impl<V: Drop> Table<V> {
     /// Puts `value` under the name, in place of what stood there. Where there is no memory for
     /// the name, nothing changes and `value` is dropped.
+    #[inline]
     pub fn insert(&mut self, name: Name, value: V) -> Result<(), AllocError>
         ensures ok { OnOk result (self.new ≡ map.insert self.old name value) }
         ensures err { OnErr result (self.new ≡ self.old) }
     {
-        self.values.insert(name, value)?;
+        if name < SLOTS {
+            reach(&mut self.slots, name as usize)?;
+            self.slots[name as usize] = Some(value);
+        } else {
+            self.others.insert(name, value)?;
+        }
         Ok(())
     }
 
     /// Takes the name out, with what stood under it. Takes no memory.
+    #[inline]
     pub fn remove(&mut self, name: Name) -> Option<V>
         ensures value { result ≡ map.get self.old name }
         ensures removed { self.new ≡ map.remove self.old name }
     {
-        self.values.remove(&name)
+        if name < SLOTS {
+            match self.slots.get_mut(name as usize) {
+                Some(slot) => slot.take(),
+                None => None,
+            }
+        } else {
+            self.others.remove(&name)
+        }
     }
+}
+
+/// Makes empty slots up to this place.
+#[inline]
+fn reach<V: Drop>(slots: &mut Vec<Option<V>>, place: usize) -> Result<(), AllocError>
+    ensures there { OnOk result (place < length slots.new.items) }
+    ensures kept { (name : ℕ) → get_or slots.new.items name None ≡ get_or slots.old.items name None }
+{
+    while slots.len() <= place {
+        slots.push(None)?;
+    }
+    Ok(())
 }

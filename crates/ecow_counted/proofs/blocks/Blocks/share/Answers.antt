@@ -6,7 +6,7 @@ use Rattle.ecow_counted.proofs.Updates.{has_place}
 use Rattle.ecow_counted.proofs.blocks.Blocks.share.Goals as goal
 
 pub add_owner-requires-clause-room : goal.add_owner-requires-clause-room
-add_owner-requires-clause-room g c = λ entry at. owners_fit c.self.inside.places c.self.inside.table c.self.invariant c.args.self.now.names (ap (λ s. s.names) c.self.view_is) c.in-Some.place entry at (let P : ℕ → Type 0 = λ n. n < 2 ^ 63 in subst P c.len-fits.ensures.len c.len-fits.ensures.small)
+add_owner-requires-clause-room g c = λ entry at. owners_fit c.self.inside.places c.self.inside.table c.self.invariant c.args.self.now.names (ap (λ s. s.names) c.self.view_is) c.in-Some.place entry at c.is_countable.ensures
 
 pub invariant_of-self-in-Some : goal.invariant_of-self-in-Some
 invariant_of-self-in-Some g c = joined_table c.self.inside.places c.self.inside.table c.self.invariant c.args.self.now.names (ap (λ s. s.names) c.self.view_is) c.args.from c.args.to c.requires.free c.insert.new.self c.add_owner.new.table c.in-Some.place (c.place_of-place.ensures ∙ ap Some c.in-Some.is) (c.in_ok-insert.ensures.ok ∙ ap (finite.insert c.self.inside.places c.args.to) c.in-Some.is) c.add_owner.ensures.counted c.add_owner.ensures.others c.add_owner.ensures.len
