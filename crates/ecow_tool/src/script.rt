@@ -1,12 +1,14 @@
 //! Scripts: the text of a file, read into commands. `docs/SCRIPT.md` has the form.
 mod arguments;
 mod bytes;
+mod lines;
 mod lists;
 mod names;
 mod quoted;
 mod texts;
 mod words;
 
+use crate::script::lines::Lines;
 use crate::script::words::{Misfit, Reader};
 use ecow_model::{Command, VecCommand};
 use std::alloc::{AllocError, Global};
@@ -115,10 +117,12 @@ pub(crate) fn read_script<C: Scripted, F: FnMut(Vec<C>) -> Result<(), AllocError
     let mut reader = Reader::new(alloc);
     let mut piece = Vec::with_capacity(alloc, PIECE)?;
     let mut ran: Result<(), AllocError> = Ok(());
-    let mut number: usize = 0;
-    for line in text.split_inclusive('\n') {
-        number = number.saturating_add(1);
-        match read_line(&mut reader, without_end(line), &mut piece) {
+    let mut lines = Lines::new(text);
+    for number in 1..usize::MAX {
+        let Some(line) = lines.next_line() else {
+            break;
+        };
+        match read_line(&mut reader, line, &mut piece) {
             Ok(()) => {}
             Err(Misfit::Expected(reason)) => return Err(Fault::Unreadable(number, reason)),
             Err(Misfit::Memory) => return Err(Fault::Memory),
@@ -134,12 +138,6 @@ pub(crate) fn read_script<C: Scripted, F: FnMut(Vec<C>) -> Result<(), AllocError
         ran = run(piece);
     }
     Ok(ran?)
-}
-
-/// A line without its line feed, and without a carriage return right before that.
-fn without_end(line: &str) -> &str {
-    let line = line.strip_suffix('\n').unwrap_or(line);
-    line.strip_suffix('\r').unwrap_or(line)
 }
 
 /// Puts the command on a line behind others; none on a line of blanks, and none on a comment, which

@@ -101,7 +101,7 @@ impl<'a> Reader<'a> {
 }
 
 /// The text before a byte index, and that from it on: all before it where there is none.
-fn parted(text: &str, index: Option<usize>) -> (&str, &str) {
+pub(super) fn parted(text: &str, index: Option<usize>) -> (&str, &str) {
     match index {
         Some(index) => text.split_at_checked(index).unwrap_or((text, "")),
         None => (text, ""),
