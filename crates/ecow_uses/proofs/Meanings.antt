@@ -1,7 +1,6 @@
 -- What a name means behind one more binding.
-use Rattle.std.proofs.Common.{◌≡◌, ℕ, Bool, true, false, List, [], ◌∷◌, ◌++◌, Option, None, Some, cond, nat_eq, ap, ◌∙◌}
-use Rattle.std.specs.List.{fold}
-use Rattle.std.specs.Cmp.Lexicographic.{pointwise, nat_list_eq_equiv}
+use Rattle.std.proofs.Common.{◌≡◌, ℕ, false, List, [], ◌∷◌, ◌++◌, Option, None, Some, cond, ap, ◌∙◌}
+use Rattle.std.specs.Cmp.Lexicographic.{nat_list_eq_equiv}
 use Rattle.std.specs.Str.{encode_utf8_all}
 use Rattle.std.proofs.lemmas.List.Sums.{fold-append}
 use Rattle.ecow_uses.specs.Scopes.{meaning, same_name}

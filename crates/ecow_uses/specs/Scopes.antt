@@ -1,8 +1,7 @@
 -- What names mean in a scope.
-use Rattle.std.specs.Prelude.{◌≡◌, ℕ, Bool, List, [], ◌++◌, Option, None, Some, cond, nat_eq, fold}
+use Rattle.std.specs.Prelude.{ℕ, Bool, List, Option, None, Some, cond, nat_eq, fold}
 use Rattle.std.specs.Cmp.Lexicographic.{pointwise}
 use Rattle.std.specs.Str.{encode_utf8_all}
-use Rattle.ecow_model.specs.declared.value.PlainText.{PlainText}
 use Rattle.ecow_uses.specs.declared.symbols.Binding.{Binding}
 
 -- whether two names have the same bytes

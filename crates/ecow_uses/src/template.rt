@@ -1,7 +1,7 @@
 //! Templates: texts with holes, as `Dear {name},`, that are filled from a map.
-ghost use Rattle.std.specs.Prelude.{◌≡◌, IfOk, IfSome, IfNone, flat_map};
+ghost use Rattle.std.specs.Prelude.{◌≡◌, IfOk, IfSome, IfNone, IsSomeAnd, flat_map};
 ghost use Rattle.std.specs.Str.{chars};
-ghost use Rattle.ecow_uses.specs.Template.{IsUnclosed, Spells, filled};
+ghost use Rattle.ecow_uses.specs.Template.{IsUnclosed, Lacks, Spells, filled, opening};
 
 use ecow_list::{EcoError, EcoVec};
 use ecow_text::EcoString;
@@ -81,4 +81,22 @@ pub fn render(
         }
     }
     Ok(text)
+}
+
+/// The text of a template, each hole filled; `None` where its last hole isn't closed.
+///
+/// The law: a template without `{` is its own text, whatever the values.
+#[tactic(auto, using(crate::proofs::Holes::no_open_end))]
+pub fn fill(
+    alloc: Global,
+    template: &str,
+    values: &BTreeMap<EcoString, EcoString>,
+) -> Result<Option<EcoString>, EcoError>
+    ensures unclosed { IfOk result (λ text. IfNone text (IsUnclosed (chars template.now))) }
+    ensures no_hole { Lacks opening (chars template.now) → IfOk result (λ text. IsSomeAnd text (λ text. text.chars ≡ chars template.now)) }
+{
+    match parse(alloc, template)? {
+        Some(pieces) => Ok(Some(render(alloc, &pieces, values)?)),
+        None => Ok(None),
+    }
 }
