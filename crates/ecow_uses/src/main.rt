@@ -7,7 +7,7 @@ mod symbols;
 mod template;
 mod undo;
 
-use crate::symbols::Scope;
+use crate::symbols::{Names, Scope};
 use crate::undo::History;
 use anyhow::Result;
 use ecow_counted::Counted;
@@ -78,9 +78,11 @@ fn fill_a_letter(rt: &HostRuntime) -> Result<()> {
 
 fn shadow_a_name(rt: &HostRuntime) -> Result<()> {
     let alloc = rt.alloc();
+    let mut names = Names::new(alloc);
     let mut outer = Scope::new(alloc);
-    let name = EcoString::from_str(alloc, "x")?;
-    outer.bind(name.clone()?, 1)?;
+    outer.bind(names.intern("x")?, 1)?;
+    let name = names.intern("x")?;
+    println!(rt; "names: {}", names.len())?;
     let (inside, outside) = symbols::shadow(&outer, &name, 2)?;
     println!(rt; "{name} inside: {inside:?}, outside: {outside:?}")?;
     Ok(())

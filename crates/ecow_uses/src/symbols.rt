@@ -1,13 +1,63 @@
 //! A symbol table: the names of a program are interned as texts, and scopes bind them. An inner scope
 //! shares the bindings of the outer one until it binds a name of its own.
-ghost use Rattle.std.specs.Prelude.{◌≡◌, ℕ, List, [], IfOk, OnOk, OnErr, Some, false};
-ghost use Rattle.std.specs.Str.{encode_utf8_all};
+ghost use Rattle.std.specs.Prelude.{◌≡◌, ◌⊎◌, ℕ, List, [], ◌∷◌, ◌++◌, length, Contains, IfOk, OnOk, OnErr, Some, false};
+ghost use Rattle.std.specs.Str.{chars, encode_utf8_all};
 ghost use Rattle.ecow_uses.specs.Scopes.{meaning, same_name};
 
 use ecow_list::{EcoError, EcoVec};
 use ecow_text::EcoString;
 use std::alloc::{AllocError, Global};
 use std::marker::Model;
+
+/// The names of a program. One that is interned again is given as it is known, and shares its bytes.
+#[derive(Drop)]
+pub struct Names {
+    names: EcoVec<EcoString>,
+}
+
+impl Model for Names {
+    ghost use Rattle.std.specs.Prelude.{List};
+    ghost use Rattle.ecow_model.specs.declared.value.PlainText.{PlainText};
+
+    ghost Value = { List PlainText };
+
+    ghost view = { λ a. a.names };
+}
+
+impl Names {
+    /// No name. Takes no memory.
+    pub fn new(alloc: Global) -> Self
+        ensures { result ≡ [] }
+    {
+        Names {
+            names: EcoVec::new(alloc),
+        }
+    }
+
+    /// How many names are known.
+    pub fn len(&self) -> usize
+        ensures { result ≡ length self.now }
+    {
+        self.names.len()
+    }
+
+    /// The name as a text that is known from now on. A refusal changes nothing.
+    pub fn intern(&mut self, name: &str) -> Result<EcoString, EcoError>
+        ensures text { IfOk result (λ symbol. symbol.chars ≡ chars name.now) }
+        ensures there { IfOk result (λ symbol. Contains self.new symbol) }
+        ensures kept { IfOk result (λ symbol. (self.new ≡ self.old) ⊎ (self.new ≡ self.old ++ symbol ∷ [])) }
+        ensures err { OnErr result (self.new ≡ self.old) }
+    {
+        for known in &self.names {
+            if known.as_str() == name {
+                return Ok(known.clone()?);
+            }
+        }
+        let symbol = EcoString::from_str(self.names.allocator(), name)?;
+        self.names.push(symbol.clone()?)?;
+        Ok(symbol)
+    }
+}
 
 /// A name with its value.
 #[derive(Drop)]
