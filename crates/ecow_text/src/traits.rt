@@ -48,7 +48,7 @@ impl<const N: usize> FromIterator<char> for SmallText<N> {
 
     fn from_iter<I: IntoIterator<Item = char>>(alloc: Global, iter: I) -> Result<Self, AllocError> {
         match SmallText::from_chars(alloc, iter) {
-            Ok(made) => Ok(made),
+            Ok(text) => Ok(text),
             Err(_) => Err(AllocError),
         }
     }

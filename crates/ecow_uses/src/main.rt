@@ -6,11 +6,13 @@ mod settings;
 mod symbols;
 mod template;
 mod undo;
+mod writing;
 
 use crate::symbols::{Names, Scope};
 use crate::undo::History;
 use anyhow::Result;
 use ecow_counted::Counted;
+use ecow_list::eco_vec;
 use ecow_text::EcoString;
 use std::collections::BTreeMap;
 
@@ -18,7 +20,8 @@ fn main(rt: HostRuntime) -> Result<()> {
     edit_a_document(&rt)?;
     try_out_settings(&rt)?;
     fill_a_letter(&rt)?;
-    shadow_a_name(&rt)
+    shadow_a_name(&rt)?;
+    write_in_place(&rt)
 }
 
 fn edit_a_document(rt: &HostRuntime) -> Result<()> {
@@ -85,5 +88,16 @@ fn shadow_a_name(rt: &HostRuntime) -> Result<()> {
     println!(rt; "names: {}", names.len())?;
     let (inside, outside) = symbols::shadow(&outer, &name, 2)?;
     println!(rt; "{name} inside: {inside:?}, outside: {outside:?}")?;
+    Ok(())
+}
+
+fn write_in_place(rt: &HostRuntime) -> Result<()> {
+    let mut list = eco_vec![in rt.alloc(); 30u64, 10, 20]?;
+    let kept = list.clone()?;
+    writing::sort(&mut list)?;
+    if !list.is_empty() && list[0] < 1000 {
+        writing::count_up(&mut list, 0)?;
+    }
+    println!(rt; "sorted and counted up: {list:?}, before: {kept:?}")?;
     Ok(())
 }
