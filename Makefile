@@ -3,13 +3,17 @@
 
 SOURCES := $(shell find crates -path '*/out' -prune -o \( -name '*.rt' -o -name '*.antt' \) -print) crates.txt
 
-.PHONY: help try build run test agree edits times faults fuzz hostile bench clean
+.PHONY: help try build run test agree vendor vendor-test contracts edits times faults fuzz hostile bench clean
 
 help:
 	@echo "make try SCRIPT=FILE   runs the script with no proof, in half a minute"
 	@echo "make run SCRIPT=FILE   proves and builds what it must, says how far it is, and runs the script"
 	@echo "make build             leaves the proved program at bin/ecow-run"
 	@echo "make test              the whole gate: every proof from nothing, must-fail edits, tests, programs"
+	@echo "make vendor TO=FOLDER  copies the crates of the vector into another repository, with their rows, so that its"
+	@echo "                       gate proves them; KIND=text: of all three types, KIND=store: of both keepings too"
+	@echo "make vendor-test       tries that on a new repository, whose gate it runs; KIND as above"
+	@echo "make contracts         writes docs/CONTRACTS.md, the public calls quoted with their clauses"
 	@echo "make edits             tries each edit that must be refused, those beside the gate's too (needs"
 	@echo "                       python3); CRATES=\"NAME ..\" those of some crates"
 	@echo "make times             runs the gate and says what each part of it costs (needs python3)"
@@ -45,6 +49,16 @@ test: agree
 agree:
 	@for file in examples/*.eco; do cmp $$file crates/ecow_cases/data/$$(basename $$file) || exit 1; done
 	@cmp examples/first.eco crates/ecow_run/data/first.eco
+
+KIND := vector
+vendor:
+	@tools/vendor.sh "$(TO)" $(KIND)
+
+contracts:
+	tools/contracts.sh
+
+vendor-test:
+	tools/vendor_test.sh $(KIND)
 
 edits:
 	tools/edits.py $(CRATES)

@@ -3,19 +3,7 @@
 # tools/prove.sh CRATE. What hasn't changed since it was proved is skipped.
 set -eu
 cd "$(dirname "$0")/.."
-below=$(awk -F: -v top="$1" '
-    /^#/ || NF < 2 { next }
-    { order[++count] = $1; needs[$1] = $2 }
-    END {
-        needed[top] = 1
-        for (i = count; i >= 1; i--)
-            if (order[i] in needed) {
-                split(needs[order[i]], names, " ")
-                for (k in names) needed[names[k]] = 1
-            }
-        for (i = 1; i <= count; i++)
-            if (order[i] in needed && order[i] != top) print order[i]
-    }' crates.txt)
+below=$(awk -F: -v tops="$1" -f tools/below.awk crates.txt | sed '$d')
 mkdir -p bin
 left=$(echo "$below" | wc -l)
 changed=no

@@ -6,6 +6,7 @@ mod cells;
 mod compare;
 mod inline;
 pub mod laws;
+pub mod traits;
 pub mod write;
 
 pub use bytes::{EcoBytes, SmallBytes};

@@ -12,6 +12,8 @@ ghost use Rattle.ecow_model.specs.Run.{RunBy};
 ghost use Rattle.ecow_model.specs.declared.lists.VecCommand.{VecCommand};
 ghost use Rattle.ecow_counted.specs.Totals.{CopiedIsSum, CopiedIsPaid, MovedIsSum, MovedIsPaid};
 
+mod read;
+
 use crate::blocks::Blocks;
 use crate::commands::Carried;
 use ecow_list::{EcoError, Rejected};

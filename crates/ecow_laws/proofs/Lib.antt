@@ -9,3 +9,4 @@ pub mod Lengths
 pub mod Steps
 pub mod Bounds
 pub mod Agreement
+pub mod CallerLemmas

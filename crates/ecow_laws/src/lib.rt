@@ -1,4 +1,5 @@
 //! The laws of the counted keeping: what sharing copies and what growing moves, over every run.
 #![tactic(auto)]
 
+pub mod callers;
 pub mod laws;

@@ -6,6 +6,8 @@ ghost use Rattle.ecow_list.specs.declared.error.EcoError.{EcoError};
 ghost use Rattle.ecow_model.specs.Refusing.{OnRefused};
 ghost use Rattle.ecow_model.specs.Run.{Run, RunBy, Step, StepVerdict};
 
+mod read;
+
 use crate::{bytes, lists, texts};
 use ecow_bytes::SmallBytes;
 use ecow_list::{EcoError, EcoVec, Rejected};

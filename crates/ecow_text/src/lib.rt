@@ -7,6 +7,7 @@ pub mod display;
 pub mod laws;
 mod macros;
 pub mod text;
+pub mod traits;
 
 pub use display::ToEcoString;
 pub use text::{EcoString, SmallText};

@@ -33,9 +33,15 @@ impl<T: Clone> EcoVec<T> {
         }
     }
 
-    /// The block, which no vector shares any more; `Err(None)` where there is no element.
+    /// The block of the elements, which no other vector shares any more, for writing through its
+    /// `as_mut_slice`. A shared vector copies its elements first. `Err(None)` where there is no
+    /// element, and then nothing takes memory; the one other error is `Memory`, where the copy was
+    /// refused, and then nothing has changed.
+    ///
+    /// This project's own: `make_mut` for callers that are proved, who learn of this borrow what was
+    /// written.
     #[inline]
-    pub(crate) fn own_mut(&mut self) -> Result<&mut Block<T>, Option<EcoError>>
+    pub fn own_mut(&mut self) -> Result<&mut Block<T>, Option<EcoError>>
         ensures* writes_back { sem 𝓛 (lends_own_block T.row T.is_clone self.entry result) }
         ensures kept { IfOk result (λ block. IsKept T.is_clone self.old block.now.items) }
         ensures len { IfOk result (λ block. length block.now.items ≡ length self.old) }

@@ -1,0 +1,61 @@
+//! std's traits by which bytes are used as the slice that they are, and are collected from an
+//! iterator, as a `Vec<u8>` is.
+ghost use Rattle.std.specs.Prelude.{◌≡◌, ◌<◌, ◌^◌, ℕ, length};
+ghost use Rattle.std.specs.Iterator.Runs.{EveryRun, ItemsMapTo};
+ghost use Rattle.std.specs.Slice.Iter.{iter_rest, iter_steps};
+ghost use Rattle.ecow_model.specs.Inline.{inline_for};
+
+use crate::bytes::SmallBytes;
+use std::alloc::{AllocError, Global};
+use std::convert::AsSlice;
+use std::ops::DerefSlice;
+use std::slice;
+
+/// The bytes: so `bytes[i]`, `bytes.last()` and all other calls of a slice that only read.
+impl<const N: usize> DerefSlice for SmallBytes<N> {
+    type Elem = u8;
+
+    ghost deref_gives = { λ value bytes. bytes ≡ value.bytes };
+
+    #[inline]
+    fn deref(&self) -> &[u8] {
+        self.as_slice()
+    }
+}
+
+impl<const N: usize> AsSlice<u8> for SmallBytes<N> {
+    ghost items = { λ value. value.bytes };
+
+    #[inline]
+    fn as_slice(&self) -> &[u8] {
+        SmallBytes::as_slice(self)
+    }
+}
+
+/// Goes over the bytes by reference, in order.
+impl<'a, const N: usize> IntoIterator for &'a SmallBytes<N> {
+    type Item = &'a u8;
+
+    type IntoIter = slice::Iter<'a, u8>;
+
+    ghost into_iter_gives = { λ value it. (iter_rest it ≡ value.now.bytes) × (length (iter_rest it) < 2 ^ 64) × EveryRun (iter_steps {A = ℕ}) (λ p. ItemsMapTo p (λ byte. byte.now) (iter_rest p.from)) };
+
+    #[inline]
+    fn into_iter(self) -> slice::Iter<'a, u8> {
+        SmallBytes::as_slice(self).iter()
+    }
+}
+
+/// The bytes, as `SmallBytes::from_iter` makes them; its two errors are one here.
+impl<const N: usize> FromIterator<u8> for SmallBytes<N> {
+    type Alloc = Global;
+
+    ghost from_iter_gives = { λ items made. (made.bytes ≡ items) × (made.inline ≡ inline_for N (length items)) };
+
+    fn from_iter<I: IntoIterator<Item = u8>>(alloc: Global, iter: I) -> Result<Self, AllocError> {
+        match SmallBytes::from_iter(alloc, iter) {
+            Ok(made) => Ok(made),
+            Err(_) => Err(AllocError),
+        }
+    }
+}

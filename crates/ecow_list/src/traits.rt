@@ -1,0 +1,70 @@
+//! std's traits by which a vector is used as the slice of its elements, is collected from an
+//! iterator, and by which `?` takes a refusal whose value isn't wanted back.
+ghost use Rattle.std.specs.Prelude.{◌≡◌, ◌<◌, ◌^◌, length};
+ghost use Rattle.std.specs.Iterator.Runs.{EveryRun, ItemsMapTo};
+ghost use Rattle.std.specs.Slice.Iter.{iter_rest, iter_steps};
+
+use crate::error::{EcoError, Rejected};
+use crate::vec::EcoVec;
+use std::alloc::{AllocError, Global};
+use std::convert::AsSlice;
+use std::ops::DerefSlice;
+use std::slice;
+
+/// The elements: so `v[i]`, `v.last()` and all other calls of a slice that only read.
+impl<T> DerefSlice for EcoVec<T> {
+    type Elem = T;
+
+    ghost deref_gives = { λ v elements. elements ≡ v };
+
+    #[inline]
+    fn deref(&self) -> &[T] {
+        self.as_slice()
+    }
+}
+
+impl<T> AsSlice<T> for EcoVec<T> {
+    ghost items = { λ v. v };
+
+    #[inline]
+    fn as_slice(&self) -> &[T] {
+        EcoVec::as_slice(self)
+    }
+}
+
+/// Goes over the elements by reference, in order, as `iter` does.
+impl<'a, T> IntoIterator for &'a EcoVec<T> {
+    type Item = &'a T;
+
+    type IntoIter = slice::Iter<'a, T>;
+
+    ghost into_iter_gives = { λ v it. (iter_rest it ≡ v.now) × (length (iter_rest it) < 2 ^ 64) × EveryRun (iter_steps {A = T}) (λ p. ItemsMapTo p (λ element. element.now) (iter_rest p.from)) };
+
+    #[inline]
+    fn into_iter(self) -> slice::Iter<'a, T> {
+        self.iter()
+    }
+}
+
+/// The items, none of them cloned, as `EcoVec::from_iter` makes them; its two errors are one here.
+impl<T: Drop> FromIterator<T> for EcoVec<T> {
+    type Alloc = Global;
+
+    ghost from_iter_gives = { λ items v. v ≡ items };
+
+    fn from_iter<I: IntoIterator<Item = T>>(alloc: Global, iter: I) -> Result<Self, AllocError> {
+        match EcoVec::from_iter(alloc, iter) {
+            Ok(vec) => Ok(vec),
+            Err(_) => Err(AllocError),
+        }
+    }
+}
+
+/// The reason alone: what was handed in is dropped.
+impl<V: Drop> From<Rejected<V>> for EcoError {
+    ghost from_gives = { λ rejected error. error ≡ rejected.error };
+
+    fn from(rejected: Rejected<V>) -> Self {
+        rejected.error
+    }
+}

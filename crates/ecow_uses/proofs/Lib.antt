@@ -1,0 +1,4 @@
+pub mod Pieces
+pub mod Written
+pub mod Meanings
+pub mod Holes

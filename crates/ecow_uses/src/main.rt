@@ -1,0 +1,103 @@
+//! Small programs over the vector, the text and the counted keeping, each with a law that its user
+//! cares about. This one runs each of them on an example.
+#![tactic(auto)]
+
+mod settings;
+mod symbols;
+mod template;
+mod undo;
+mod writing;
+
+use crate::symbols::{Names, Scope};
+use crate::undo::History;
+use anyhow::Result;
+use ecow_counted::Counted;
+use ecow_list::eco_vec;
+use ecow_text::EcoString;
+use std::collections::BTreeMap;
+
+fn main(rt: HostRuntime) -> Result<()> {
+    edit_a_document(&rt)?;
+    try_out_settings(&rt)?;
+    fill_a_letter(&rt)?;
+    shadow_a_name(&rt)?;
+    write_in_place(&rt)
+}
+
+fn edit_a_document(rt: &HostRuntime) -> Result<()> {
+    let alloc = rt.alloc();
+    let mut history = History::new(alloc);
+    history.insert(0, EcoString::from_str(alloc, "a line of the document")?)?;
+    let kept = history.snapshot()?;
+    if !history.lines().is_empty() {
+        let other = EcoString::from_str(alloc, "another line")?;
+        let undone = undo::replace_and_undo(&mut history, 0, other)?;
+        println!(rt; "undone: {undone}, made again: {}", history.redo()?)?;
+        println!(rt;
+            "the same after undo and redo: {}",
+            undo::undo_and_redo(&mut history)?
+        )?;
+    }
+    for line in history.lines() {
+        println!(rt; "now: {line}")?;
+    }
+    for line in &kept {
+        println!(rt; "in the snapshot: {line}")?;
+    }
+    Ok(())
+}
+
+fn try_out_settings(rt: &HostRuntime) -> Result<()> {
+    let mut settings = Counted::new(rt.alloc());
+    let filled = settings.fill(1, vec![in rt.alloc(); 10u64, 20, 30]?);
+    let tried = settings::try_out(&mut settings, 1, 2, 0, 11).is_ok();
+    println!(rt; "settings: {}, tried out: {tried}", filled.accepted)?;
+    for version in 1..=2 {
+        if let Some(value) = settings::value(&settings, version, 0) {
+            println!(rt; "version {version}: {value}")?;
+        }
+    }
+    println!(rt;
+        "copied: {}, blocks: {}",
+        settings.copied(),
+        settings.blocks()
+    )?;
+    Ok(())
+}
+
+fn fill_a_letter(rt: &HostRuntime) -> Result<()> {
+    let alloc = rt.alloc();
+    let mut values = BTreeMap::new(alloc);
+    let name = EcoString::from_str(alloc, "name")?;
+    values.insert(name, EcoString::from_str(alloc, "Ada")?)?;
+    for text in ["Dear {name},", "no hole", "a {hole that stays open"] {
+        match template::fill(alloc, text, &values)? {
+            Some(filled) => println!(rt; "{text} -> {filled}")?,
+            None => println!(rt; "{text} -> a hole isn't closed")?,
+        }
+    }
+    Ok(())
+}
+
+fn shadow_a_name(rt: &HostRuntime) -> Result<()> {
+    let alloc = rt.alloc();
+    let mut names = Names::new(alloc);
+    let mut outer = Scope::new(alloc);
+    outer.bind(names.intern("x")?, 1)?;
+    let name = names.intern("x")?;
+    println!(rt; "names: {}", names.len())?;
+    let (inside, outside) = symbols::shadow(&outer, &name, 2)?;
+    println!(rt; "{name} inside: {inside:?}, outside: {outside:?}")?;
+    Ok(())
+}
+
+fn write_in_place(rt: &HostRuntime) -> Result<()> {
+    let mut list = eco_vec![in rt.alloc(); 30u64, 10, 20]?;
+    let kept = list.clone()?;
+    writing::sort(&mut list)?;
+    if !list.is_empty() && list[0] < 1000 {
+        writing::count_up(&mut list, 0)?;
+    }
+    println!(rt; "sorted and counted up: {list:?}, before: {kept:?}")?;
+    Ok(())
+}

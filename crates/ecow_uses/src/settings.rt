@@ -1,0 +1,72 @@
+//! Numbered settings in versions, on the counted keeping. A fork copies nothing, and a write to it
+//! copies the settings once, where another version still shares them.
+ghost use Rattle.std.specs.Prelude.{◌≡◌, ◌≢◌, ℕ, OnErr, OnOk, slice_get, slice_set};
+ghost use Rattle.std.specs.Option.{option_and_then, option_map};
+ghost use Rattle.ecow_laws.specs.Callers.{list_of};
+
+use ecow_counted::Counted;
+use ecow_model::{Name, Outcome, Refusal, VecCommand};
+
+/// What one setting of a version is; `None` where there is no such version or setting.
+pub fn value(settings: &Counted<u64>, version: Name, setting: usize) -> Option<u64>
+    ensures { result ≡ option_and_then (λ values. slice_get values setting) (list_of settings.now.names version) }
+{
+    settings.get(version)?.get(setting).copied()
+}
+
+/// Makes the version `to` of the settings of `from`. It copies and moves nothing. A refusal changes
+/// nothing.
+#[tactic(auto, using(ecow_laws::proofs::CallerLemmas::share_reads))]
+pub fn fork(settings: &mut Counted<u64>, from: Name, to: Name) -> Result<(), Refusal>
+    ensures reads { OnOk result (list_of settings.new.names to ≡ list_of settings.old.names from) }
+    ensures others { (version : ℕ) → version ≢ to → list_of settings.new.names version ≡ list_of settings.old.names version }
+    ensures copied { settings.new.copied ≡ settings.old.copied }
+    ensures moved { settings.new.moved ≡ settings.old.moved }
+    ensures err { OnErr result (settings.new ≡ settings.old) }
+{
+    match settings.share(from, to) {
+        Outcome::Done => Ok(()),
+        Outcome::Refused(refusal) => Err(refusal),
+        _ => Err(Refusal::Memory),
+    }
+}
+
+/// Sets one setting of a version. A refusal changes nothing.
+#[tactic(auto, using(ecow_laws::proofs::CallerLemmas::shared_write_sets))]
+pub fn set(
+    settings: &mut Counted<u64>,
+    version: Name,
+    setting: usize,
+    value: u64,
+) -> Result<(), Refusal>
+    ensures sets { OnOk result (list_of settings.new.names version ≡ option_map (λ values. slice_set values setting value) (list_of settings.old.names version)) }
+    ensures others { (other : ℕ) → other ≢ version → list_of settings.new.names other ≡ list_of settings.old.names other }
+    ensures err { OnErr result (settings.new ≡ settings.old) }
+{
+    let command = VecCommand::Write {
+        name: version,
+        index: setting,
+        value,
+    };
+    match settings.step(command) {
+        Outcome::Done => Ok(()),
+        Outcome::Refused(refusal) => Err(refusal),
+        _ => Err(Refusal::Memory),
+    }
+}
+
+/// The law: whatever becomes of a fork that is written to, the version that it was made of stays.
+pub fn try_out(
+    settings: &mut Counted<u64>,
+    from: Name,
+    to: Name,
+    setting: usize,
+    value: u64,
+) -> Result<(), Refusal>
+    requires { from ≢ to }
+    ensures stays { list_of settings.new.names from ≡ list_of settings.old.names from }
+    ensures tried { OnOk result (list_of settings.new.names to ≡ option_map (λ values. slice_set values setting value) (list_of settings.old.names from)) }
+{
+    fork(settings, from, to)?;
+    set(settings, to, setting, value)
+}

@@ -1,0 +1,153 @@
+//! A symbol table: the names of a program are interned as texts, and scopes bind them. An inner scope
+//! shares the bindings of the outer one until it binds a name of its own.
+ghost use Rattle.std.specs.Prelude.{◌≡◌, ◌⊎◌, ℕ, List, [], ◌∷◌, ◌++◌, length, Contains, IfOk, OnOk, OnErr, Some, false};
+ghost use Rattle.std.specs.Str.{chars, encode_utf8_all};
+ghost use Rattle.ecow_uses.specs.Scopes.{meaning, same_name};
+
+use ecow_list::{EcoError, EcoVec};
+use ecow_text::EcoString;
+use std::alloc::{AllocError, Global};
+use std::marker::Model;
+
+/// The names of a program. One that is interned again is given as it is known, and shares its bytes.
+#[derive(Drop)]
+pub struct Names {
+    names: EcoVec<EcoString>,
+}
+
+impl Model for Names {
+    ghost use Rattle.std.specs.Prelude.{List};
+    ghost use Rattle.ecow_model.specs.declared.value.PlainText.{PlainText};
+
+    ghost Value = { List PlainText };
+
+    ghost view = { λ a. a.names };
+}
+
+impl Names {
+    /// No name. Takes no memory.
+    pub fn new(alloc: Global) -> Self
+        ensures { result ≡ [] }
+    {
+        Names {
+            names: EcoVec::new(alloc),
+        }
+    }
+
+    /// How many names are known.
+    pub fn len(&self) -> usize
+        ensures { result ≡ length self.now }
+    {
+        self.names.len()
+    }
+
+    /// The name as a text that is known from now on. A refusal changes nothing.
+    pub fn intern(&mut self, name: &str) -> Result<EcoString, EcoError>
+        ensures text { IfOk result (λ symbol. symbol.chars ≡ chars name.now) }
+        ensures there { IfOk result (λ symbol. Contains self.new symbol) }
+        ensures kept { IfOk result (λ symbol. (self.new ≡ self.old) ⊎ (self.new ≡ self.old ++ symbol ∷ [])) }
+        ensures err { OnErr result (self.new ≡ self.old) }
+    {
+        for known in &self.names {
+            if known.as_str() == name {
+                return Ok(known.clone()?);
+            }
+        }
+        let symbol = EcoString::from_str(self.names.allocator(), name)?;
+        self.names.push(symbol.clone()?)?;
+        Ok(symbol)
+    }
+}
+
+/// A name with its value.
+#[derive(Drop)]
+pub struct Binding {
+    name: EcoString,
+    value: u64,
+}
+
+impl Clone for Binding {
+    ghost is_clone = { λ binding copy. copy ≡ binding };
+
+    fn clone(&self) -> Result<Self, AllocError> {
+        Ok(Binding {
+            name: self.name.clone()?,
+            value: self.value,
+        })
+    }
+}
+
+/// What the names of a scope mean.
+#[derive(Drop)]
+pub struct Scope {
+    bindings: EcoVec<Binding>,
+}
+
+impl Model for Scope {
+    ghost use Rattle.std.specs.Prelude.{List};
+    ghost use Rattle.ecow_uses.specs.declared.symbols.Binding.{Binding};
+
+    ghost Value = { List Binding };
+
+    ghost view = { λ scope. scope.bindings };
+}
+
+impl Scope {
+    /// No name means anything. Takes no memory.
+    pub fn new(alloc: Global) -> Self
+        ensures { result ≡ [] }
+    {
+        Scope {
+            bindings: EcoVec::new(alloc),
+        }
+    }
+
+    /// A scope within this one, in which all names mean the same. It shares the bindings, and takes
+    /// no memory.
+    pub fn inner(&self) -> Result<Self, AllocError>
+        ensures { IfOk result (λ inner. inner ≡ self.now) }
+    {
+        Ok(Scope {
+            bindings: self.bindings.clone()?,
+        })
+    }
+
+    /// What a name means; `None` where it isn't bound.
+    pub fn lookup(&self, name: &str) -> Option<u64>
+        ensures { result ≡ meaning self.now name.now }
+    {
+        let mut value = None;
+        for binding in &self.bindings {
+            if binding.name.as_str() == name {
+                value = Some(binding.value);
+            }
+        }
+        value
+    }
+
+    /// Gives a name a value here, whatever it means outside. A refusal changes nothing.
+    #[tactic(auto, using(crate::proofs::Meanings::bound, crate::proofs::Meanings::others))]
+    pub fn bind(&mut self, name: EcoString, value: u64) -> Result<(), EcoError>
+        ensures bound { OnOk result (meaning self.new (encode_utf8_all name.chars) ≡ Some value) }
+        ensures others { OnOk result ((other : List ℕ) → same_name (encode_utf8_all name.chars) other ≡ false → meaning self.new other ≡ meaning self.old other) }
+        ensures err { OnErr result (self.new ≡ self.old) }
+    {
+        self.bindings.push(Binding { name, value })?;
+        Ok(())
+    }
+}
+
+/// The law: what is bound in an inner scope is seen there, and the outer scope means by the name what
+/// it meant before.
+pub fn shadow(
+    outer: &Scope,
+    name: &EcoString,
+    value: u64,
+) -> Result<(Option<u64>, Option<u64>), EcoError>
+    ensures inside { IfOk result (λ seen. seen.0 ≡ Some value) }
+    ensures outside { IfOk result (λ seen. seen.1 ≡ meaning outer.now (encode_utf8_all name.now.chars)) }
+{
+    let mut inner = outer.inner()?;
+    inner.bind(name.clone()?, value)?;
+    Ok((inner.lookup(name.as_str()), outer.lookup(name.as_str())))
+}

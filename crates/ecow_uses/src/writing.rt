@@ -1,0 +1,40 @@
+//! Writing to a vector's elements where they stand.
+ghost use Rattle.std.specs.Prelude.{◌≡◌, ◌+◌, ◌<◌, length, slice_index, slice_set, OnErr, OnOk};
+ghost use Rattle.std.specs.List.Sorted.{IsNonDecreasing, IsPermutation};
+
+use ecow_list::{EcoError, EcoVec};
+
+/// Adds one to the number at `at`. A refusal changes nothing.
+#[tactic(auto, using(crate::proofs::Written::kept_numbers, crate::proofs::Written::refilled))]
+pub fn count_up(list: &mut EcoVec<u64>, at: usize) -> Result<(), EcoError>
+    requires bound { at < length list.old }
+    requires small { slice_index list.old at < 1000 }
+    ensures ok { OnOk result (list.new ≡ slice_set list.old at (slice_index list.old at + 1)) }
+    ensures err { OnErr result (list.new ≡ list.old) }
+{
+    match list.own_mut() {
+        Ok(block) => {
+            block.as_mut_slice()[at] += 1;
+            Ok(())
+        }
+        Err(Some(error)) => Err(error),
+        Err(None) => Ok(()),
+    }
+}
+
+/// Sorts the numbers in place. A refusal changes nothing.
+#[tactic(auto, using(crate::proofs::Written::kept_numbers, crate::proofs::Written::refilled))]
+pub fn sort(list: &mut EcoVec<u64>) -> Result<(), EcoError>
+    ensures ok { OnOk result (IsNonDecreasing list.new) }
+    ensures permutation { OnOk result (IsPermutation list.old list.new) }
+    ensures err { OnErr result (list.new ≡ list.old) }
+{
+    match list.own_mut() {
+        Ok(block) => {
+            block.as_mut_slice().sort_unstable();
+            Ok(())
+        }
+        Err(Some(error)) => Err(error),
+        Err(None) => Ok(()),
+    }
+}
