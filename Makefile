@@ -45,17 +45,18 @@ run:
 test: agree
 	rt ci
 
-# The examples are cases too, and the gate runs the program on the first.
+# The examples are cases too, and the gate runs the program on the first; the contracts quoted are those of the code.
 agree:
 	@for file in examples/*.eco; do cmp $$file crates/ecow_cases/data/$$(basename $$file) || exit 1; done
 	@cmp examples/first.eco crates/ecow_run/data/first.eco
+	@tools/contracts.sh | cmp - docs/CONTRACTS.md
 
 KIND := vector
 vendor:
 	@tools/vendor.sh "$(TO)" $(KIND)
 
 contracts:
-	tools/contracts.sh
+	tools/contracts.sh > docs/CONTRACTS.md
 
 vendor-test:
 	tools/vendor_test.sh $(KIND)

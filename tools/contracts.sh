@@ -1,21 +1,20 @@
 #!/bin/sh
-# Writes docs/CONTRACTS.md: the public calls of the types and the keepings, quoted with their clauses.
+# Prints docs/CONTRACTS.md: the public calls of the types and the keepings, quoted with their clauses.
 set -eu
 cd "$(dirname "$0")/.."
-{
-    echo "# The contracts"
-    echo
-    echo "The public calls with their clauses, quoted from the files by \`make contracts\`; \`docs/CALLING.md\`"
-    echo "says what they mean for a caller, and \`docs/DEFINITIONS.md\` what their words do. \`x.now\` is what stands"
-    echo "behind a \`&\`, \`x.old\` and \`x.new\` what stands behind a \`&mut\` before and after the call, and \`x.entry\` a"
-    echo "value at the call."
-    echo
-    awk -f tools/contracts.awk crates/ecow_base/src/range.rt \
-        crates/ecow_list/src/vec.rt crates/ecow_list/src/vec/*.rt crates/ecow_list/src/error.rt crates/ecow_list/src/comparisons.rt \
-        crates/ecow_list/src/iter.rt crates/ecow_list/src/traits.rt crates/ecow_list/src/write.rt \
-        crates/ecow_bytes/src/bytes.rt crates/ecow_bytes/src/bytes/*.rt crates/ecow_bytes/src/traits.rt crates/ecow_bytes/src/write.rt \
-        crates/ecow_text/src/text.rt crates/ecow_text/src/text/*.rt crates/ecow_text/src/display.rt crates/ecow_text/src/traits.rt \
-        crates/ecow_store/src/store.rt crates/ecow_store/src/store/*.rt \
-        crates/ecow_counted/src/counted.rt crates/ecow_counted/src/counted/*.rt crates/ecow_counted/src/fill.rt \
-        crates/ecow_laws/src/*.rt
-} > docs/CONTRACTS.md
+export LC_ALL=C
+echo "# The contracts"
+echo
+echo "The public calls with their clauses, quoted from the files by \`make contracts\`; \`docs/CALLING.md\`"
+echo "says what they mean for a caller, and \`docs/DEFINITIONS.md\` what their words do. \`x.now\` is what stands"
+echo "behind a \`&\`, \`x.old\` and \`x.new\` what stands behind a \`&mut\` before and after the call, and \`x.entry\` a"
+echo "value at the call."
+echo
+awk -f tools/contracts.awk crates/ecow_base/src/range.rt \
+    crates/ecow_list/src/vec.rt crates/ecow_list/src/vec/*.rt crates/ecow_list/src/error.rt crates/ecow_list/src/comparisons.rt \
+    crates/ecow_list/src/iter.rt crates/ecow_list/src/traits.rt crates/ecow_list/src/write.rt \
+    crates/ecow_bytes/src/bytes.rt crates/ecow_bytes/src/bytes/*.rt crates/ecow_bytes/src/traits.rt crates/ecow_bytes/src/write.rt \
+    crates/ecow_text/src/text.rt crates/ecow_text/src/text/*.rt crates/ecow_text/src/display.rt crates/ecow_text/src/traits.rt \
+    crates/ecow_store/src/store.rt crates/ecow_store/src/store/*.rt \
+    crates/ecow_counted/src/counted.rt crates/ecow_counted/src/counted/*.rt crates/ecow_counted/src/fill.rt \
+    crates/ecow_laws/src/*.rt

@@ -95,7 +95,7 @@ fn write_in_place(rt: &HostRuntime) -> Result<()> {
     let mut list = eco_vec![in rt.alloc(); 30u64, 10, 20]?;
     let kept = list.clone()?;
     writing::sort(&mut list)?;
-    if !list.is_empty() && list[0] < 1000 {
+    if !list.is_empty() && list[0] < u64::MAX {
         writing::count_up(&mut list, 0)?;
     }
     println!(rt; "sorted and counted up: {list:?}, before: {kept:?}")?;

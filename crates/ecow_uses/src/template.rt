@@ -1,5 +1,6 @@
 //! Templates: texts with holes, as `Dear {name},`, that are filled from a map.
-ghost use Rattle.std.specs.Prelude.{◌≡◌, IfOk, IfSome, IfNone, IsSomeAnd, flat_map};
+ghost use Rattle.std.specs.Prelude.{◌≡◌, List, IfOk, IfSome, IfNone, IsSomeAnd, flat_map};
+ghost use Rattle.ecow_uses.specs.declared.template.Piece.{Piece};
 ghost use Rattle.std.specs.Str.{chars};
 ghost use Rattle.ecow_uses.specs.Template.{IsUnclosed, Lacks, Spells, filled, opening};
 
@@ -93,6 +94,7 @@ pub fn fill(
     values: &BTreeMap<EcoString, EcoString>,
 ) -> Result<Option<EcoString>, EcoError>
     ensures unclosed { IfOk result (λ text. IfNone text (IsUnclosed (chars template.now))) }
+    ensures filled { IfOk result (λ text. IfSome text (λ text. (pieces : List Piece) × Spells pieces (chars template.now) × (text.chars ≡ flat_map (filled values.now) pieces))) }
     ensures no_hole { Lacks opening (chars template.now) → IfOk result (λ text. IsSomeAnd text (λ text. text.chars ≡ chars template.now)) }
 {
     match parse(alloc, template)? {

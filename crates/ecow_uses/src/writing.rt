@@ -1,5 +1,5 @@
 //! Writing to a vector's elements where they stand.
-ghost use Rattle.std.specs.Prelude.{◌≡◌, ◌+◌, ◌<◌, length, slice_index, slice_set, OnErr, OnOk};
+ghost use Rattle.std.specs.Prelude.{◌≡◌, ◌+◌, ◌<◌, ◌^◌, length, slice_index, slice_set, OnErr, OnOk};
 ghost use Rattle.std.specs.List.Sorted.{IsNonDecreasing, IsPermutation};
 
 use ecow_list::{EcoError, EcoVec};
@@ -8,7 +8,7 @@ use ecow_list::{EcoError, EcoVec};
 #[tactic(auto, using(crate::proofs::Written::kept_numbers, crate::proofs::Written::refilled))]
 pub fn count_up(list: &mut EcoVec<u64>, at: usize) -> Result<(), EcoError>
     requires bound { at < length list.old }
-    requires small { slice_index list.old at < 1000 }
+    requires small { slice_index list.old at + 1 < 2 ^ 64 }
     ensures ok { OnOk result (list.new ≡ slice_set list.old at (slice_index list.old at + 1)) }
     ensures err { OnErr result (list.new ≡ list.old) }
 {
