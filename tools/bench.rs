@@ -1,14 +1,19 @@
-//! Times the loops of `ecow_bench` beside the same loops on the original crate. Each is run in a process of its own, by
-//! turns, and what counts is the least processor time of so many runs, less that of a run of no rounds.
-//! `bench PROGRAM [SAMPLES [WORD]]`: PROGRAM is the built `ecow_bench`; WORD keeps the calls whose name holds it.
-//! `bench CALL LENGTH COUNT` goes round one loop on the original, as PROGRAM does, and prints what it saw.
-use ecow::{EcoBytes, EcoString, EcoVec, eco_format};
+//! Times the loops of `ecow_bench` beside the same loops on the original crate, those of lists also on `Rc<Vec<T>>`. Each is
+//! run in a process of its own, by turns, and what counts is the least processor time of so many runs, less that of a run of
+//! no rounds.
+//! `bench PROGRAM [SAMPLES [WORD [CURVES]]]`: PROGRAM is the built `ecow_bench`; WORD keeps the calls whose name holds it;
+//! CURVES is a file that gets a picture of how times grow with the length.
+//! `bench WHICH CALL ELEMENT LENGTH COUNT` goes round one loop, as PROGRAM does without the first word, and prints what it
+//! saw; WHICH is `ecow` or `rc`.
+mod curves;
+mod lists;
+
+use ecow::{EcoBytes, EcoString, eco_format};
 use std::cmp::Ordering;
 use std::hash::{DefaultHasher, Hash, Hasher};
 use std::hint::black_box;
 use std::process::{Command, Stdio};
 
-type Loop = fn(&[u64], u64) -> u64;
 type ByteLoop = fn(&[u8], u64) -> u64;
 type TextLoop = fn(&str, u64) -> u64;
 
@@ -44,189 +49,6 @@ const TEXT_CALLS: [(&str, &str, &[usize], TextLoop); 16] = [
     ("text_format", "text: eco_format! of three", &[6], text_format),
     ("text_to_eco_string", "text: to_eco_string", &[1], text_to_eco_string),
 ];
-
-/// What the calls of the vector are named on the command line and in the table.
-const CALLS: [(&str, &str, Loop); 13] = [
-    ("push", "push each to a new one", push),
-    ("clone", "clone and drop", clone),
-    ("clone_push", "clone, push, drop", clone_push),
-    ("pop", "pop each, refill", pop),
-    ("insert_remove", "insert, remove in the middle", insert_remove),
-    ("extend", "extend a new one by all", extend),
-    ("extend_pieces", "extend a new one by eights", extend_pieces),
-    ("sort", "clone, make_mut, sort", sort),
-    ("write", "clone, make_mut, write one", write),
-    ("retain", "from slice, retain the odd", retain),
-    ("splice", "from slice, splice a quarter", splice),
-    ("iter", "iter", iter),
-    ("into_iter", "from slice, into_iter", into_iter),
-];
-
-fn push(items: &[u64], count: u64) -> u64 {
-    let mut sum = 0u64;
-    for _ in 0..count {
-        let mut list = EcoVec::new();
-        for item in items {
-            list.push(*item);
-        }
-        sum = sum.wrapping_add(list.len() as u64);
-    }
-    sum
-}
-
-#[inline(never)]
-fn cloned(list: &EcoVec<u64>) -> EcoVec<u64> {
-    list.clone()
-}
-
-fn clone(items: &[u64], count: u64) -> u64 {
-    let list = EcoVec::from(items);
-    let mut sum = 0u64;
-    for _ in 0..count {
-        sum = sum.wrapping_add(cloned(&list).len() as u64);
-    }
-    sum
-}
-
-fn clone_push(items: &[u64], count: u64) -> u64 {
-    let list = EcoVec::from(items);
-    let mut sum = 0u64;
-    for round in 0..count {
-        let mut copy = cloned(&list);
-        copy.push(round);
-        sum = sum.wrapping_add(copy.len() as u64);
-    }
-    sum
-}
-
-fn pop(items: &[u64], count: u64) -> u64 {
-    let mut list = EcoVec::from(items);
-    let mut sum = 0u64;
-    for _ in 0..count {
-        for _ in 0..items.len() {
-            if let Some(item) = list.pop() {
-                sum = sum.wrapping_add(item);
-            }
-        }
-        list.extend_from_slice(items);
-    }
-    sum
-}
-
-fn insert_remove(items: &[u64], count: u64) -> u64 {
-    let mut list = EcoVec::from(items);
-    let middle = items.len() / 2;
-    let mut sum = 0u64;
-    for round in 0..count {
-        list.insert(middle, round);
-        sum = sum.wrapping_add(list.remove(middle));
-    }
-    sum
-}
-
-fn extend(items: &[u64], count: u64) -> u64 {
-    let mut sum = 0u64;
-    for _ in 0..count {
-        let mut list = EcoVec::new();
-        list.extend_from_slice(items);
-        sum = sum.wrapping_add(list.len() as u64);
-    }
-    sum
-}
-
-fn extend_pieces(items: &[u64], count: u64) -> u64 {
-    let mut sum = 0u64;
-    for _ in 0..count {
-        let mut list = EcoVec::new();
-        for piece in items.chunks(8) {
-            list.extend_from_slice(piece);
-        }
-        sum = sum.wrapping_add(list.len() as u64);
-    }
-    sum
-}
-
-fn sort(items: &[u64], count: u64) -> u64 {
-    let list = EcoVec::from(items);
-    let mut sum = 0u64;
-    for round in 0..count {
-        let mut copy = cloned(&list);
-        let slice = copy.make_mut();
-        if let Some(first) = slice.first_mut() {
-            *first = round;
-        }
-        slice.sort_unstable();
-        sum = sum.wrapping_add(copy.last().copied().unwrap_or(0));
-    }
-    sum
-}
-
-fn write(items: &[u64], count: u64) -> u64 {
-    let list = EcoVec::from(items);
-    let mut sum = 0u64;
-    for round in 0..count {
-        let mut copy = cloned(&list);
-        if let Some(first) = copy.make_mut().first_mut() {
-            *first = round;
-        }
-        sum = sum.wrapping_add(copy.first().copied().unwrap_or(0));
-    }
-    sum
-}
-
-fn retain(items: &[u64], count: u64) -> u64 {
-    let mut sum = 0u64;
-    for _ in 0..count {
-        let mut list = EcoVec::from(items);
-        list.retain(|item| *item % 2 == 1);
-        sum = sum.wrapping_add(list.len() as u64);
-    }
-    sum
-}
-
-fn splice(items: &[u64], count: u64) -> u64 {
-    let added = &items[items.len() - items.len() / 3..];
-    let start = items.len() / 2;
-    let end = start + items.len() / 4;
-    let mut sum = 0u64;
-    for _ in 0..count {
-        let mut list = EcoVec::from(items);
-        for item in list.splice(start..end, added.iter().copied()) {
-            sum = sum.wrapping_add(item);
-        }
-        sum = sum.wrapping_add(list.len() as u64);
-    }
-    sum
-}
-
-#[inline(never)]
-fn total(list: &EcoVec<u64>) -> u64 {
-    let mut sum = 0u64;
-    for item in list.iter() {
-        sum = sum.wrapping_add(*item);
-    }
-    sum
-}
-
-fn iter(items: &[u64], count: u64) -> u64 {
-    let (even, odd) = (EcoVec::from(items), EcoVec::from(items));
-    let mut sum = 0u64;
-    for round in 0..count {
-        let list = if round % 2 == 0 { &even } else { &odd };
-        sum = sum.wrapping_add(total(list));
-    }
-    sum
-}
-
-fn into_iter(items: &[u64], count: u64) -> u64 {
-    let mut sum = 0u64;
-    for _ in 0..count {
-        for item in EcoVec::from(items) {
-            sum = sum.wrapping_add(item);
-        }
-    }
-    sum
-}
 
 #[inline(never)]
 fn bytes_of(bytes: &[u8]) -> EcoBytes {
@@ -621,10 +443,11 @@ fn processor_time() -> f64 {
 }
 
 /// What one run of a program printed, and its processor time.
-fn run(program: &str, call: &str, length: usize, count: u64) -> (String, f64) {
+fn run(program: &[&str], words: &[String]) -> (String, f64) {
     let before = processor_time();
-    let output = Command::new(program)
-        .args([call, &length.to_string(), &count.to_string()])
+    let output = Command::new(program[0])
+        .args(&program[1..])
+        .args(words)
         .stderr(Stdio::inherit())
         .output()
         .unwrap();
@@ -632,22 +455,24 @@ fn run(program: &str, call: &str, length: usize, count: u64) -> (String, f64) {
     (String::from_utf8(output.stdout).unwrap(), processor_time() - before)
 }
 
-/// The least processor times of one round, of this and of the original, in nanoseconds.
-fn least(programs: [&str; 2], call: &str, length: usize, samples: u32) -> [f64; 2] {
+/// The least processor times of one round of each program, in nanoseconds. The first program is this, the second the original.
+fn least(programs: &[&[&str]], call: &str, element: &str, length: usize, samples: u32) -> Vec<f64> {
+    let words = |count: u64| [call, element, &length.to_string(), &count.to_string()].map(str::to_string);
     let mut count = 1u64;
-    while run(programs[1], call, length, count).1 - run(programs[1], call, length, 0).1 < 2e7 {
+    let none = run(programs[1], &words(0)).1;
+    while run(programs[1], &words(count)).1 - none < 2e7f64.max(none / 2.0) {
         count *= 2;
     }
-    let answers = programs.map(|program| run(program, call, length, count).0);
-    assert_eq!(answers[0], answers[1], "{call} saw something else");
-    let mut least = [[f64::INFINITY; 2]; 2];
+    let answers: Vec<String> = programs.iter().map(|program| run(program, &words(count)).0).collect();
+    assert!(answers.iter().all(|answer| *answer == answers[0]), "{call} saw something else: {answers:?}");
+    let mut least = vec![[f64::INFINITY; 2]; programs.len()];
     for _ in 0..samples {
         for (program, least) in programs.iter().zip(&mut least) {
-            least[0] = least[0].min(run(program, call, length, 0).1);
-            least[1] = least[1].min(run(program, call, length, count).1);
+            least[0] = least[0].min(run(program, &words(0)).1);
+            least[1] = least[1].min(run(program, &words(count)).1);
         }
     }
-    least.map(|[none, all]| (all - none) / count as f64)
+    least.iter().map(|[none, all]| (all - none) / count as f64).collect()
 }
 
 fn report(what: &str, ratios: &[(f64, String)]) {
@@ -657,29 +482,49 @@ fn report(what: &str, ratios: &[(f64, String)]) {
     }
 }
 
-fn compare(program: &str, samples: u32, word: &str) {
-    let own = std::env::current_exe().unwrap();
-    let programs = [program, own.to_str().unwrap()];
-    println!("{:<30} {:>8} {:>14} {:>14} {:>6}", "call", "length", "original ns", "this ns", "ratio");
-    let row = |call: &str, name: &str, length: usize| {
-        let [this, original] = least(programs, call, length, samples);
-        let ratio = this / original;
-        println!("{name:<30} {length:>8} {original:>14.2} {this:>14.2} {ratio:>6.2}");
-        (ratio, format!("{name}, {length}"))
+/// Times a call and prints a line of the table.
+fn row(programs: &[&[&str]], samples: u32, call: &str, name: &str, element: &str, length: usize) -> (f64, String) {
+    let times = least(programs, call, element, length, samples);
+    let ratio = times[0] / times[1];
+    let rc = times.get(2).map_or(String::new(), |time| format!("{time:.2}"));
+    println!("{name:<30} {element:>8} {length:>8} {:>14.2} {rc:>14} {:>14.2} {ratio:>6.2}", times[1], times[0]);
+    (ratio, format!("{name}, {length} of {element}"))
+}
+
+/// Times some calls at lengths that grow, prints them, and leaves a picture of them in `file`.
+fn draw(programs: &[&[&str]], samples: u32, file: &str) {
+    let curve = |call: &str| -> curves::Curve {
+        let times = |length: &usize| {
+            let times = least(programs, call, "u64", *length, samples);
+            println!("{call:<30} {:>8} {length:>8} {:>14.2} {:>14.2} {:>14.2} {:>6.2}", "u64", times[1], times[2], times[0], times[0] / times[1]);
+            [times[0], times[1], times[2]]
+        };
+        curves::LENGTHS.iter().map(times).collect()
     };
+    let curves: Vec<_> = curves::CALLS.iter().map(|(call, _)| curve(call)).collect();
+    std::fs::write(file, curves::picture(&curves)).unwrap();
+}
+
+fn compare(program: &str, samples: u32, word: &str, picture: Option<&String>) {
+    let own = std::env::current_exe().unwrap();
+    let own = own.to_str().unwrap();
+    let programs: [&[&str]; 3] = [&[program], &[own, "ecow"], &[own, "rc"]];
     let (mut short, mut long) = (Vec::new(), Vec::new());
     let (mut bytes, mut texts) = (Vec::new(), Vec::new());
-    for length in [8usize, 1000, 1_000_000] {
-        for (call, name, _) in CALLS.iter().filter(|call| call.1.contains(word)) {
-            let ratios = if length < 10 { &mut short } else { &mut long };
-            ratios.push(row(call, name, length));
+    println!("{:<30} {:>8} {:>8} {:>14} {:>14} {:>14} {:>6}", "call", "element", "length", "original ns", "Rc<Vec> ns", "this ns", "ratio");
+    for (call, name, elements, lengths) in lists::CALLS.iter().filter(|call| call.1.contains(word)) {
+        for element in *elements {
+            for length in *lengths {
+                let ratios = if *length < 10 { &mut short } else { &mut long };
+                ratios.push(row(&programs, samples, call, name, element, *length));
+            }
         }
     }
     for (call, name, lengths, _) in BYTE_CALLS.iter().filter(|call| call.1.contains(word)) {
-        bytes.extend(lengths.iter().map(|length| row(call, name, *length)));
+        bytes.extend(lengths.iter().map(|length| row(&programs[..2], samples, call, name, "byte", *length)));
     }
     for (call, name, lengths, _) in TEXT_CALLS.iter().filter(|call| call.1.contains(word)) {
-        texts.extend(lengths.iter().map(|length| row(call, name, *length)));
+        texts.extend(lengths.iter().map(|length| row(&programs[..2], samples, call, name, "letter", *length)));
     }
     report("the vector, fewer than ten elements", &short);
     report("the vector, ten elements and more", &long);
@@ -687,27 +532,30 @@ fn compare(program: &str, samples: u32, word: &str) {
     report("the vector, all", &short);
     report("bytes", &bytes);
     report("texts", &texts);
+    short.append(&mut bytes);
+    short.append(&mut texts);
+    report("all", &short);
+    if let Some(file) = picture {
+        draw(&programs, samples, file);
+    }
 }
 
 fn main() {
     let words: Vec<String> = std::env::args().skip(1).collect();
-    if let [word, length, count] = words.as_slice()
+    if let [which, word, element, length, count] = words.as_slice()
         && let (Ok(length), Ok(count)) = (length.parse(), count.parse())
     {
-        let items = numbers(length);
-        if let Some(call) = CALLS.iter().find(|call| call.0 == word) {
-            println!("{}", call.2(&items, count));
-            return;
-        }
-        if let Some(call) = BYTE_CALLS.iter().find(|call| call.0 == word) {
-            println!("{}", call.3(&letters(&items), count));
-            return;
-        }
-        if let Some(call) = TEXT_CALLS.iter().find(|call| call.0 == word) {
-            println!("{}", call.3(&prose(&items), count));
-            return;
-        }
+        let numbers = numbers(length);
+        let sum = if let Some(call) = BYTE_CALLS.iter().find(|call| call.0 == word) {
+            call.3(&letters(&numbers), count)
+        } else if let Some(call) = TEXT_CALLS.iter().find(|call| call.0 == word) {
+            call.3(&prose(&numbers), count)
+        } else {
+            lists::sum_of_lists(which == "rc", word, element, &numbers, count)
+        };
+        println!("{sum}");
+        return;
     }
     let samples = words.get(1).and_then(|word| word.parse().ok()).unwrap_or(9);
-    compare(&words[0], samples, words.get(2).map_or("", |word| word));
+    compare(&words[0], samples, words.get(2).map_or("", |word| word), words.get(3));
 }

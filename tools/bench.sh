@@ -1,7 +1,8 @@
 #!/bin/sh
-# Times the calls of the vector and of bytes beside those of the original crate.
+# Times the calls of vectors, bytes and texts beside those of the original crate, those of vectors also beside Rc<Vec<T>>.
 # usage: tools/bench.sh FOLDER [SAMPLES [WORD]]
-# FOLDER is that of the original crate. SAMPLES (9) are taken of each call whose name holds WORD.
+# FOLDER is that of the original crate. SAMPLES (9) are taken of each call whose name holds WORD. Without WORD it also shows
+# how times grow with the length, and leaves a picture of that at bin/bench/curves.svg.
 # Needs cargo beside the kit's rt. What cargo makes stays below bin/.
 set -eu
 root=$(cd "$(dirname "$0")/.." && pwd)
@@ -11,6 +12,8 @@ build=$root/bin/bench
 mkdir -p "$build/src"
 (cd "$root/crates/ecow_bench" && rt run) > "$build/rt.log" 2>&1 || { cat "$build/rt.log"; exit 1; }
 cp "$root/tools/bench.rs" "$build/src/main.rs"
+cp "$root/tools/bench_lists.rs" "$build/src/lists.rs"
+cp "$root/tools/bench_curves.rs" "$build/src/curves.rs"
 cat > "$build/Cargo.toml" <<MANIFEST
 [package]
 name = "bench"
@@ -29,4 +32,6 @@ lto = true
 MANIFEST
 # The processor that rt compiles for, where nothing else is said.
 (cd "$build" && RUSTFLAGS="-C target-cpu=x86-64-v2" cargo build --quiet --release)
-exec "$build/target/release/bench" "$root/crates/ecow_bench/out/ecow_bench" "$@"
+picture=
+[ -n "${2:-}" ] || picture=$build/curves.svg
+exec "$build/target/release/bench" "$root/crates/ecow_bench/out/ecow_bench" "${1:-9}" "${2:-}" $picture

@@ -1,11 +1,14 @@
-//! Loops of one call of `EcoVec` each, over elements of eight bytes. `items` are the elements of the
-//! list, and the loop goes round `count` times; a function returns a sum of what it saw. Where memory
-//! is refused a loop does less, and its sum tells.
+//! Loops of one call of `EcoVec` each, or of a few. `items` are the elements of the list, and the loop
+//! goes round `count` times; a function returns a sum of what it saw. Where memory is refused a loop
+//! does less, and its sum tells.
 
+use crate::elements::Element;
 use ecow_list::{EcoVec, range_in};
 use std::alloc::Global;
+use std::cmp::Ordering;
+use std::hash::{DefaultHasher, Hash, Hasher};
 
-fn list_of(alloc: Global, items: &[u64]) -> EcoVec<u64> {
+fn list_of<T: Element>(alloc: Global, items: &[T]) -> EcoVec<T> {
     match EcoVec::from_slice(alloc, items) {
         Ok(list) => list,
         Err(_) => EcoVec::new(alloc),
@@ -13,7 +16,7 @@ fn list_of(alloc: Global, items: &[u64]) -> EcoVec<u64> {
 }
 
 /// Fills a new vector by pushes.
-pub(crate) fn push(alloc: Global, items: &[u64], count: u64) -> u64 {
+pub(crate) fn push<T: Element + Copy>(alloc: Global, items: &[T], count: u64) -> u64 {
     let mut sum = 0u64;
     for _ in 0..count {
         let mut list = EcoVec::new(alloc);
@@ -26,12 +29,12 @@ pub(crate) fn push(alloc: Global, items: &[u64], count: u64) -> u64 {
 }
 
 #[inline(never)]
-fn cloned(list: &EcoVec<u64>) -> Option<EcoVec<u64>> {
+fn cloned<T: Element>(list: &EcoVec<T>) -> Option<EcoVec<T>> {
     list.clone().ok()
 }
 
 /// Makes a clone and drops it.
-pub(crate) fn clone(alloc: Global, items: &[u64], count: u64) -> u64 {
+pub(crate) fn clone<T: Element>(alloc: Global, items: &[T], count: u64) -> u64 {
     let list = list_of(alloc, items);
     let mut sum = 0u64;
     for _ in 0..count {
@@ -43,12 +46,14 @@ pub(crate) fn clone(alloc: Global, items: &[u64], count: u64) -> u64 {
 }
 
 /// Makes a clone, pushes one element to it and drops it.
-pub(crate) fn clone_push(alloc: Global, items: &[u64], count: u64) -> u64 {
+pub(crate) fn clone_push<T: Element + Copy>(alloc: Global, items: &[T], count: u64) -> u64 {
     let list = list_of(alloc, items);
     let mut sum = 0u64;
-    for round in 0..count {
+    for _ in 0..count {
         if let Some(mut copy) = cloned(&list) {
-            let _done = copy.push(round);
+            if let Some(first) = items.first() {
+                let _done = copy.push(*first);
+            }
             sum = sum.wrapping_add(copy.len() as u64);
         }
     }
@@ -56,13 +61,13 @@ pub(crate) fn clone_push(alloc: Global, items: &[u64], count: u64) -> u64 {
 }
 
 /// Fills a vector, which has room, from the slice, and pops all.
-pub(crate) fn pop(alloc: Global, items: &[u64], count: u64) -> u64 {
+pub(crate) fn pop<T: Element>(alloc: Global, items: &[T], count: u64) -> u64 {
     let mut list = list_of(alloc, items);
     let mut sum = 0u64;
     for _ in 0..count {
         for _ in 0..items.len() {
             if let Ok(Some(item)) = list.pop() {
-                sum = sum.wrapping_add(item);
+                sum = sum.wrapping_add(item.seen());
             }
         }
         let _done = list.extend_from_slice(items);
@@ -70,26 +75,50 @@ pub(crate) fn pop(alloc: Global, items: &[u64], count: u64) -> u64 {
     sum
 }
 
-/// Puts an element into the middle and takes it out again.
-pub(crate) fn insert_remove(alloc: Global, items: &[u64], count: u64) -> u64 {
+/// Takes the element in the middle out and puts it in again.
+pub(crate) fn insert_remove<T: Element>(alloc: Global, items: &[T], count: u64) -> u64 {
     let mut list = list_of(alloc, items);
     let middle = items.len() / 2;
     let mut sum = 0u64;
-    for round in 0..count {
-        if middle <= list.len() {
-            let _done = list.insert(middle, round);
-        }
+    for _ in 0..count {
         if middle < list.len()
             && let Ok(item) = list.remove(middle)
         {
-            sum = sum.wrapping_add(item);
+            sum = sum.wrapping_add(item.seen());
+            if middle <= list.len() {
+                let _done = list.insert(middle, item);
+            }
         }
     }
     sum
 }
 
+/// Takes the first element out and appends it.
+pub(crate) fn remove_first<T: Element>(alloc: Global, items: &[T], count: u64) -> u64 {
+    let mut list = list_of(alloc, items);
+    let mut sum = 0u64;
+    for _ in 0..count {
+        if list.len() > 0
+            && let Ok(item) = list.remove(0)
+        {
+            sum = sum.wrapping_add(item.seen());
+            let _done = list.push(item);
+        }
+    }
+    sum
+}
+
+/// Makes a vector of the slice.
+pub(crate) fn from_slice<T: Element>(alloc: Global, items: &[T], count: u64) -> u64 {
+    let mut sum = 0u64;
+    for _ in 0..count {
+        sum = sum.wrapping_add(list_of(alloc, items).len() as u64);
+    }
+    sum
+}
+
 /// Appends the slice to a new vector.
-pub(crate) fn extend(alloc: Global, items: &[u64], count: u64) -> u64 {
+pub(crate) fn extend<T: Element>(alloc: Global, items: &[T], count: u64) -> u64 {
     let mut sum = 0u64;
     for _ in 0..count {
         let mut list = EcoVec::new(alloc);
@@ -100,7 +129,7 @@ pub(crate) fn extend(alloc: Global, items: &[u64], count: u64) -> u64 {
 }
 
 /// Appends the slice to a new vector in pieces of at most eight.
-pub(crate) fn extend_pieces(alloc: Global, items: &[u64], count: u64) -> u64 {
+pub(crate) fn extend_pieces<T: Element>(alloc: Global, items: &[T], count: u64) -> u64 {
     let mut sum = 0u64;
     for _ in 0..count {
         let mut list = EcoVec::new(alloc);
@@ -112,47 +141,61 @@ pub(crate) fn extend_pieces(alloc: Global, items: &[u64], count: u64) -> u64 {
     sum
 }
 
-/// Makes a clone, borrows it for writing, writes one element and sorts it.
-pub(crate) fn sort(alloc: Global, items: &[u64], count: u64) -> u64 {
+/// Appends the slice to a vector of at most a thousand elements, which is emptied now and then.
+pub(crate) fn extend_few<T: Element>(alloc: Global, items: &[T], count: u64) -> u64 {
+    let mut list = EcoVec::new(alloc);
+    let mut sum = 0u64;
+    for _ in 0..count {
+        if list.len() > 1000 {
+            list.clear();
+        }
+        let _done = list.extend_from_slice(items);
+        sum = sum.wrapping_add(list.len() as u64);
+    }
+    sum
+}
+
+/// Makes a clone, borrows it for writing, exchanges two elements and sorts it.
+pub(crate) fn sort<T: Element>(alloc: Global, items: &[T], count: u64) -> u64 {
     let list = list_of(alloc, items);
     let mut sum = 0u64;
-    for round in 0..count {
+    for _ in 0..count {
         if let Some(mut copy) = cloned(&list) {
             if let Ok(slice) = copy.make_mut() {
-                if let Some(first) = slice.first_mut() {
-                    *first = round;
+                if slice.len() > 1 {
+                    slice.swap(0, 1);
                 }
                 slice.sort_unstable();
             }
-            sum = sum.wrapping_add(copy.as_slice().last().copied().unwrap_or(0));
+            sum = sum.wrapping_add(copy.as_slice().last().map_or(0, |item| item.seen()));
         }
     }
     sum
 }
 
-/// Makes a clone, borrows it for writing and writes one element.
-pub(crate) fn write(alloc: Global, items: &[u64], count: u64) -> u64 {
+/// Makes a clone, borrows it for writing and exchanges two elements.
+pub(crate) fn write<T: Element>(alloc: Global, items: &[T], count: u64) -> u64 {
     let list = list_of(alloc, items);
     let mut sum = 0u64;
-    for round in 0..count {
+    for _ in 0..count {
         if let Some(mut copy) = cloned(&list) {
             if let Ok(slice) = copy.make_mut()
-                && let Some(first) = slice.first_mut()
+                && slice.len() > 1
             {
-                *first = round;
+                slice.swap(0, 1);
             }
-            sum = sum.wrapping_add(copy.as_slice().first().copied().unwrap_or(0));
+            sum = sum.wrapping_add(copy.as_slice().first().map_or(0, |item| item.seen()));
         }
     }
     sum
 }
 
 /// Fills a vector from the slice and keeps the odd elements.
-pub(crate) fn retain(alloc: Global, items: &[u64], count: u64) -> u64 {
+pub(crate) fn retain<T: Element>(alloc: Global, items: &[T], count: u64) -> u64 {
     let mut sum = 0u64;
     for _ in 0..count {
         let mut list = list_of(alloc, items);
-        let _done = list.retain(|item| *item % 2 == 1);
+        let _done = list.retain(|item| item.seen() % 2 == 1);
         sum = sum.wrapping_add(list.len() as u64);
     }
     sum
@@ -160,7 +203,7 @@ pub(crate) fn retain(alloc: Global, items: &[u64], count: u64) -> u64 {
 
 /// Fills a vector from the slice, and puts the last third of the slice in place of the quarter of it
 /// that begins at its middle.
-pub(crate) fn splice(alloc: Global, items: &[u64], count: u64) -> u64 {
+pub(crate) fn splice<T: Element + Copy>(alloc: Global, items: &[T], count: u64) -> u64 {
     let added = &items[items.len() - items.len() / 3..];
     let start = items.len() / 2;
     let end = start + items.len() / 4;
@@ -171,7 +214,26 @@ pub(crate) fn splice(alloc: Global, items: &[u64], count: u64) -> u64 {
             && let Ok(removed) = list.splice(start..end, added.iter().copied())
         {
             for item in removed {
-                sum = sum.wrapping_add(item);
+                sum = sum.wrapping_add(item.seen());
+            }
+        }
+        sum = sum.wrapping_add(list.len() as u64);
+    }
+    sum
+}
+
+/// Fills a vector from the slice, and takes the quarter out that begins at its middle.
+pub(crate) fn drain<T: Element>(alloc: Global, items: &[T], count: u64) -> u64 {
+    let start = items.len() / 2;
+    let end = start + items.len() / 4;
+    let mut sum = 0u64;
+    for _ in 0..count {
+        let mut list = list_of(alloc, items);
+        if range_in(&(start..end), list.len())
+            && let Ok(removed) = list.drain(start..end)
+        {
+            for item in removed {
+                sum = sum.wrapping_add(item.seen());
             }
         }
         sum = sum.wrapping_add(list.len() as u64);
@@ -180,16 +242,16 @@ pub(crate) fn splice(alloc: Global, items: &[u64], count: u64) -> u64 {
 }
 
 #[inline(never)]
-fn total(list: &EcoVec<u64>) -> u64 {
+fn total<T: Element>(list: &EcoVec<T>) -> u64 {
     let mut sum = 0u64;
     for item in list.iter() {
-        sum = sum.wrapping_add(*item);
+        sum = sum.wrapping_add(item.seen());
     }
     sum
 }
 
 /// Adds up the elements of the one and of the other of two vectors by reference, by turns.
-pub(crate) fn iter(alloc: Global, items: &[u64], count: u64) -> u64 {
+pub(crate) fn iter<T: Element>(alloc: Global, items: &[T], count: u64) -> u64 {
     let (even, odd) = (list_of(alloc, items), list_of(alloc, items));
     let mut sum = 0u64;
     for round in 0..count {
@@ -200,14 +262,70 @@ pub(crate) fn iter(alloc: Global, items: &[u64], count: u64) -> u64 {
 }
 
 /// Fills a vector from the slice and adds its elements up by value.
-pub(crate) fn into_iter(alloc: Global, items: &[u64], count: u64) -> u64 {
+pub(crate) fn into_iter<T: Element>(alloc: Global, items: &[T], count: u64) -> u64 {
     let mut sum = 0u64;
     for _ in 0..count {
         if let Ok(rest) = list_of(alloc, items).into_iter() {
             for item in rest {
-                sum = sum.wrapping_add(item);
+                sum = sum.wrapping_add(item.seen());
             }
         }
+    }
+    sum
+}
+
+#[inline(never)]
+fn same<T: Element>(left: &EcoVec<T>, right: &EcoVec<T>) -> bool {
+    left == right
+}
+
+/// Compares a vector with one and with another that equals it, by turns.
+pub(crate) fn eq<T: Element>(alloc: Global, items: &[T], count: u64) -> u64 {
+    let list = list_of(alloc, items);
+    let (even, odd) = (list_of(alloc, items), list_of(alloc, items));
+    let mut sum = 0u64;
+    for round in 0..count {
+        let other = if round % 2 == 0 { &even } else { &odd };
+        if same(&list, other) {
+            sum = sum.wrapping_add(round);
+        }
+    }
+    sum
+}
+
+#[inline(never)]
+fn compared<T: Element>(left: &EcoVec<T>, right: &EcoVec<T>) -> Ordering {
+    left.cmp(right)
+}
+
+/// Orders a vector and one or another that equals it, by turns.
+pub(crate) fn cmp<T: Element>(alloc: Global, items: &[T], count: u64) -> u64 {
+    let list = list_of(alloc, items);
+    let (even, odd) = (list_of(alloc, items), list_of(alloc, items));
+    let mut sum = 0u64;
+    for round in 0..count {
+        let other = if round % 2 == 0 { &even } else { &odd };
+        if compared(&list, other).is_eq() {
+            sum = sum.wrapping_add(round);
+        }
+    }
+    sum
+}
+
+#[inline(never)]
+fn hashed<T: Element>(list: &EcoVec<T>) -> u64 {
+    let mut hasher = DefaultHasher::new();
+    list.hash(&mut hasher);
+    hasher.finish()
+}
+
+/// Hashes one vector and another that equals it, by turns.
+pub(crate) fn hash<T: Element>(alloc: Global, items: &[T], count: u64) -> u64 {
+    let (even, odd) = (list_of(alloc, items), list_of(alloc, items));
+    let mut sum = 0u64;
+    for round in 0..count {
+        let list = if round % 2 == 0 { &even } else { &odd };
+        sum = sum.wrapping_add(hashed(list));
     }
     sum
 }

@@ -4,27 +4,37 @@
 #![tactic(auto)]
 
 mod bytes;
+mod elements;
 mod loops;
 mod texts;
 
+use ecow_list::EcoVec;
+use elements::Element;
 use std::alloc::{AllocError, Global};
 use std::env::Env;
 use std::{env, io};
 
-const CALLS: [&str; 38] = [
+const CALLS: [&str; 45] = [
     "push",
     "clone",
     "clone_push",
     "pop",
     "insert_remove",
+    "remove_first",
+    "from_slice",
     "extend",
     "extend_pieces",
+    "extend_few",
     "sort",
     "write",
     "retain",
     "splice",
+    "drain",
     "iter",
     "into_iter",
+    "eq",
+    "cmp",
+    "hash",
     "bytes_from_slice",
     "bytes_push",
     "bytes_clone",
@@ -55,16 +65,22 @@ const CALLS: [&str; 38] = [
 fn main(rt: HostRuntime) -> io::Result<()> {
     let words = arguments(&rt)?;
     match words.as_slice() {
-        [call, length, count] => {
+        [call, element, length, count] => {
             if let (Ok(length), Ok(count)) = (length.parse(), count.parse()) {
-                let items = numbers(rt.alloc(), length)?;
-                println!(rt; "{}", sum(rt.alloc(), call, items.as_slice(), count)?)?;
+                let numbers = numbers(rt.alloc(), length)?;
+                println!(rt;
+                    "{}",
+                    sum(rt.alloc(), call, element, numbers.as_slice(), count)?
+                )?;
             }
         }
         _ => {
-            let items = numbers(rt.alloc(), 8)?;
+            let numbers = numbers(rt.alloc(), 8)?;
             for call in CALLS {
-                println!(rt; "{call} {}", sum(rt.alloc(), call, items.as_slice(), 3)?)?;
+                println!(rt;
+                    "{call} {}",
+                    sum(rt.alloc(), call, "u64", numbers.as_slice(), 3)?
+                )?;
             }
         }
     }
@@ -95,16 +111,22 @@ fn numbers(alloc: Global, length: usize) -> Result<Vec<u64>, AllocError> {
 }
 
 /// What a loop saw, or 0 where there is no such call.
-fn sum(alloc: Global, call: &str, items: &[u64], count: u64) -> Result<u64, AllocError> {
+fn sum(
+    alloc: Global,
+    call: &str,
+    element: &str,
+    numbers: &[u64],
+    count: u64,
+) -> Result<u64, AllocError> {
     if call.starts_with("bytes_") {
-        let bytes = letters(alloc, items)?;
+        let bytes = letters(alloc, numbers)?;
         return Ok(sum_of_bytes(alloc, call, bytes.as_slice(), count));
     }
     if call.starts_with("text_") {
-        let text = prose(alloc, items)?;
+        let text = prose(alloc, numbers)?;
         return Ok(sum_of_texts(alloc, call, text.as_str(), count));
     }
-    Ok(sum_of_items(alloc, call, items, count))
+    sum_of_lists(alloc, call, element, numbers, count)
 }
 
 /// As many lower case letters as there are numbers.
@@ -162,21 +184,77 @@ fn sum_of_bytes(alloc: Global, call: &str, bytes: &[u8], count: u64) -> u64 {
     }
 }
 
-fn sum_of_items(alloc: Global, call: &str, items: &[u64], count: u64) -> u64 {
+/// The list's elements, made of the numbers.
+fn made<T: Element>(alloc: Global, numbers: &[u64]) -> Result<Vec<T>, AllocError> {
+    let mut items = Vec::with_capacity(alloc, numbers.len())?;
+    for number in numbers {
+        items.push(T::made(alloc, *number)?)?;
+    }
+    Ok(items)
+}
+
+/// What a loop on a list of some element saw.
+fn sum_of_lists(
+    alloc: Global,
+    call: &str,
+    element: &str,
+    numbers: &[u64],
+    count: u64,
+) -> Result<u64, AllocError> {
+    Ok(match element {
+        "u8" => sum_of_copies::<u8>(alloc, call, made(alloc, numbers)?.as_slice(), count),
+        "u64" => sum_of_copies::<u64>(alloc, call, made(alloc, numbers)?.as_slice(), count),
+        "[u64;3]" => sum_of_copies::<[u64; 3]>(
+            alloc,
+            call,
+            made(alloc, numbers)?.as_slice(),
+            count,
+        ),
+        "[u64;8]" => sum_of_copies::<[u64; 8]>(
+            alloc,
+            call,
+            made(alloc, numbers)?.as_slice(),
+            count,
+        ),
+        "vector" => sum_of_items::<EcoVec<u64>>(
+            alloc,
+            call,
+            made(alloc, numbers)?.as_slice(),
+            count,
+        ),
+        "String" => sum_of_items::<String>(alloc, call, made(alloc, numbers)?.as_slice(), count),
+        _ => 0,
+    })
+}
+
+fn sum_of_copies<T: Element + Copy>(alloc: Global, call: &str, items: &[T], count: u64) -> u64 {
     match call {
         "push" => loops::push(alloc, items, count),
-        "clone" => loops::clone(alloc, items, count),
         "clone_push" => loops::clone_push(alloc, items, count),
+        "splice" => loops::splice(alloc, items, count),
+        _ => sum_of_items(alloc, call, items, count),
+    }
+}
+
+fn sum_of_items<T: Element>(alloc: Global, call: &str, items: &[T], count: u64) -> u64 {
+    match call {
+        "clone" => loops::clone(alloc, items, count),
         "pop" => loops::pop(alloc, items, count),
         "insert_remove" => loops::insert_remove(alloc, items, count),
+        "remove_first" => loops::remove_first(alloc, items, count),
+        "from_slice" => loops::from_slice(alloc, items, count),
         "extend" => loops::extend(alloc, items, count),
         "extend_pieces" => loops::extend_pieces(alloc, items, count),
+        "extend_few" => loops::extend_few(alloc, items, count),
         "sort" => loops::sort(alloc, items, count),
         "write" => loops::write(alloc, items, count),
         "retain" => loops::retain(alloc, items, count),
-        "splice" => loops::splice(alloc, items, count),
+        "drain" => loops::drain(alloc, items, count),
         "iter" => loops::iter(alloc, items, count),
         "into_iter" => loops::into_iter(alloc, items, count),
+        "eq" => loops::eq(alloc, items, count),
+        "cmp" => loops::cmp(alloc, items, count),
+        "hash" => loops::hash(alloc, items, count),
         _ => 0,
     }
 }

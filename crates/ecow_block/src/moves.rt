@@ -28,16 +28,7 @@ fn are_small<T>(elements: &[T]) -> bool
     }
 }
 
-/// Moves the first of many items behind the others. Out of line the compiler knows that nothing else lies where they do.
-#[inline(never)]
-fn first_to_last<T>(items: &mut [T])
-    requires { 0 < length items.old }
-    ensures { items.new ≡ drop 1 items.old ++ take 1 items.old }
-{
-    items.rotate_left(1);
-}
-
-/// Moves the last of many items before the others.
+/// Moves the last of many items before the others. Out of line the compiler knows that nothing else lies where they do.
 #[inline(never)]
 pub(crate) fn last_to_first<T>(items: &mut [T])
     requires { 0 < length items.old }
@@ -59,19 +50,42 @@ impl<T> Room<T> {
         (item, replace(self, rest))
     }
 
-    /// Takes the first item, and moves the others, all of which were `len`, down by a place: one by one where they are few.
+    /// Takes the first item, and moves the others, all of which were `len`, down by a place: in place where they are few.
     pub(crate) fn shift_first(&mut self, base: Base<T>, start: usize, len: usize) -> T
-        requires { (base.ptr ≡ self.old.at) × (start ≡ self.old.start) × (len ≡ length self.old.items) × (0 < len) × (start + len < 2 ^ 64) }
+        requires { (base.ptr ≡ self.old.at) × (start ≡ self.old.start) × (len ≡ length self.old.items) × (0 < len) }
         ensures items { self.old.items ≡ result ∷ self.new.items }
         ensures places { SamePlaces self.old self.new }
     {
-        if len > FEW {
-            first_to_last(self.as_mut_slice(base, start, len));
-            return self.take_last(base, start + len - 1);
-        }
+        let here = self.begin_here(base, start);
+        let item = if len > FEW {
+            self.shift_many(here, len)
+        } else {
+            self.shift(here, len)
+        };
+        self.begin_back(base, start);
+        item
+    }
+
+    /// The same of places that are numbered from 0 on, out of line. Where all that is given is a pointer to the first item, the
+    /// compiler knows the loop as one move of memory, whatever the items are; for that it has to see the loop inlined once before.
+    #[inline(never)]
+    fn shift_many(&mut self, base: Base<T>, len: usize) -> T
+        requires { (base.ptr ≡ self.old.at) × (self.old.start ≡ 0) × (len ≡ length self.old.items) × (0 < len) }
+        ensures items { self.old.items ≡ result ∷ self.new.items }
+        ensures places { SamePlaces self.old self.new }
+    {
+        self.shift(base, len)
+    }
+
+    /// The same item by item.
+    fn shift(&mut self, base: Base<T>, len: usize) -> T
+        requires { (base.ptr ≡ self.old.at) × (self.old.start ≡ 0) × (len ≡ length self.old.items) × (0 < len) }
+        ensures items { self.old.items ≡ result ∷ self.new.items }
+        ensures places { SamePlaces self.old self.new }
+    {
         let mut rest = self.split_off(0);
-        let (item, place) = rest.take_first(base, start);
-        self.append(place.close_gap(base, start, 1, len - 1, rest));
+        let (item, place) = rest.take_first(base, 0);
+        self.append(place.close_gap(base, 0, 1, len - 1, rest));
         item
     }
 

@@ -1,3 +1,4 @@
+pub mod Equals
 pub mod Fronts
 pub mod Items
 pub mod Kept

@@ -1,6 +1,7 @@
 //! Equality, order, hash and debug text of an `EcoVec`: those of its elements in order, shared or
 //! not. A front comes before what it begins.
-ghost use Rattle.std.specs.Prelude.{◌≡◌};
+ghost use Rattle.std.specs.Prelude.{◌≡◌, ◌≤◌, IsTrue};
+ghost use Rattle.std.specs.Mem.{type_size};
 ghost use Rattle.std.specs.Cmp.Lexicographic.{pointwise, slice_cmp, slice_partial_cmp, lists_per, lists_equiv, lists_po, lists_total, lists_agrees, lists_ties};
 ghost use Rattle.std.specs.Hash as fed;
 ghost use Rattle.std.specs.Hash.{items_Alike};
@@ -9,6 +10,63 @@ use crate::vec::EcoVec;
 use std::cmp::Ordering;
 use std::fmt;
 use std::hash::{Hash, Hasher};
+use std::mem::size_of_val;
+
+/// How many elements make a group, which is compared at once.
+const GROUP: usize = 16;
+
+/// Whether the elements of two groups are equal, with no branch between them.
+fn groups_equal<T: PartialEq>(left: &[T; GROUP], right: &[T; GROUP]) -> bool
+    requires { type_size T.row ≤ 8 }
+    ensures { result ≡ pointwise T.eq left.now right.now }
+{
+    let mut equal = true;
+    let mut i = 0;
+    while i < GROUP {
+        equal &= left[i] == right[i];
+        i += 1;
+    }
+    equal
+}
+
+/// Whether there are elements, and they are words of eight bytes.
+fn are_words<T>(elements: &[T]) -> bool
+    ensures { IsTrue result → type_size T.row ≤ 8 }
+{
+    match elements.first() {
+        Some(first) => size_of_val(first) == 8,
+        None => false,
+    }
+}
+
+/// Whether the elements are equal: group by group while there are some of each.
+#[inline(never)]
+fn words_equal<T: PartialEq>(left: &[T], right: &[T]) -> bool
+    requires { type_size T.row ≤ 8 }
+    ensures { result ≡ pointwise T.eq left.now right.now }
+{
+    let (mut ours, mut theirs) = (left, right);
+    while let Some((group, rest)) = ours.split_first_chunk::<GROUP>()
+        && let Some((other, others)) = theirs.split_first_chunk::<GROUP>()
+    {
+        if !groups_equal(group, other) {
+            return false;
+        }
+        ours = rest;
+        theirs = others;
+    }
+    ours == theirs
+}
+
+/// Whether the elements are equal. Words are compared by groups, for which the processor has means.
+fn all_equal<T: PartialEq>(left: &[T], right: &[T]) -> bool
+    ensures { result ≡ pointwise T.eq left.now right.now }
+{
+    if left.len() == right.len() && left.len() >= GROUP && are_words(left) {
+        return words_equal(left, right);
+    }
+    left == right
+}
 
 impl<T: PartialEq> PartialEq for EcoVec<T> {
     ghost eq = { pointwise T.eq };
@@ -16,7 +74,7 @@ impl<T: PartialEq> PartialEq for EcoVec<T> {
     ghost laws = { lists_per T.laws };
 
     fn eq(&self, other: &Self) -> bool {
-        self.as_slice() == other.as_slice()
+        all_equal(self.as_slice(), other.as_slice())
     }
 }
 

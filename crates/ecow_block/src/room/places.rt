@@ -1,6 +1,8 @@
 //! What is done with the places.
-ghost use Rattle.std.specs.Prelude.{◌≡◌, ◌+◌, ◌<◌, ◌≤◌, [], ◌∷◌, ◌++◌, length, take, drop};
+ghost use Rattle.std.specs.Prelude.{◌≡◌, ◌+◌, ◌*◌, ◌^◌, ◌<◌, ◌≤◌, [], ◌∷◌, ◌++◌, length, take, drop};
 ghost use Rattle.std.specs.Borrow.{sem};
+ghost use Rattle.std.specs.Mem.{type_size};
+ghost use Rattle.ecow_block.specs.Ownership.{place};
 ghost use Rattle.ecow_block.specs.Rooms.{SamePlaces, Follows};
 
 use super::{Base, CHUNK, Room};
@@ -82,4 +84,25 @@ impl<T> Room<T> {
     {
         let Room { mark: _ } = spare;
     }
+
+    /// Numbers the places from 0 on, as if the block began with them, and returns where that is. Before, the first was numbered
+    /// `start`.
+    pub(crate) fn begin_here(&mut self, base: Base<T>, start: usize) -> Base<T>
+        requires { (base.ptr ≡ self.old.at) × (start ≡ self.old.start) }
+        ensures items { self.new.items ≡ self.old.items }
+        ensures places { (result.ptr ≡ place T.row base.ptr start) × (self.new.at ≡ result.ptr) × (self.new.start ≡ 0) × (self.new.capacity ≡ self.old.capacity) × ((start + self.old.capacity) * type_size T.row < 2 ^ 63) }
+    {
+        unsafe {
+            Base {
+                ptr: base.ptr.add(start),
+            }
+        }
+    }
+
+    /// Numbers the places from `start` on, as before `begin_here`.
+    pub(crate) fn begin_back(&mut self, _base: Base<T>, _start: usize)
+        requires { (self.old.at ≡ place T.row _base.ptr _start) × (self.old.start ≡ 0) × ((_start + self.old.capacity) * type_size T.row < 2 ^ 63) }
+        ensures items { self.new.items ≡ self.old.items }
+        ensures places { (self.new.at ≡ _base.ptr) × (self.new.start ≡ _start) × (self.new.capacity ≡ self.old.capacity) }
+    {}
 }
