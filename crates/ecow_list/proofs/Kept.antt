@@ -1,5 +1,5 @@
 -- Elements that stayed, or in whose places clones stand.
-use Rattle.std.proofs.Common.{◌≡◌, List, [], ◌∷◌, length, refl, ap, arith, inl, inr}
+use Rattle.std.proofs.Common.{◌≡◌, List, [], ◌∷◌, map, length, refl, ap, arith, inl, inr}
 use Rattle.std.specs.List.{AllZip}
 use Rattle.ecow_base.specs.Clones.{ClonesAreEqual}
 use Rattle.ecow_list.specs.Vectors.{IsKept}
@@ -22,3 +22,14 @@ module _ {X : Type 0} (is_clone : X → X → Type 0) where
   none_kept [] [] e (inr clones) = refl
   none_kept [] (y ∷ ys) e (inr clones) = absurd clones
   none_kept (x ∷ xs) new e is = absurd (omega (arith, ap length e))
+
+  zipped_alike : {Y : Type 0} (f : X → Y) → ((x y : X) → is_clone x y → f y ≡ f x) → (old new : List X) → AllZip is_clone old new → map f new ≡ map f old
+  zipped_alike f alike [] [] all = refl
+  zipped_alike f alike [] (y ∷ ys) all = absurd all
+  zipped_alike f alike (x ∷ xs) [] all = absurd all
+  zipped_alike f alike (x ∷ xs) (y ∷ ys) all = let head = alike x y all.0 in let tail = zipped_alike f alike xs ys all.1 in cc (head, tail)
+
+  -- what an element shares with its clones stays of each, as the bytes of a `String`
+  pub kept_alike : {Y : Type 0} (f : X → Y) → ((x y : X) → is_clone x y → f y ≡ f x) → (old new : List X) → IsKept is_clone old new → map f new ≡ map f old
+  kept_alike f alike old new (inl same) = ap (map f) same
+  kept_alike f alike old new (inr clones) = zipped_alike f alike old new clones

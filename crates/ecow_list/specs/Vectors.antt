@@ -23,3 +23,15 @@ module _ {C I T : Type 0} (gives : C → I → Type 0) (steps : I → Option T �
   -- xs are the items that it gave first
   abbrev pub GivesFirst : C → List T → Type 0
   GivesFirst c xs = (it : I) × (rest : I) × gives c it × Yields steps it xs rest
+
+-- new is what `change` makes of the old elements, or of a clone of each
+abbrev pub IsKeptIn : {T : Type 0} → (T → T → Type 0) → List T → (List T → List T) → List T → Type 0
+IsKeptIn {T} is_clone old change new = (kept : List T) × IsKept is_clone old kept × (new ≡ change kept)
+
+-- new is that, and `item` is what `taken` finds in them
+abbrev pub IsTakenOf : {T : Type 0} → (T → T → Type 0) → List T → (List T → Option T) → Option T → (List T → List T) → List T → Type 0
+IsTakenOf {T} is_clone old taken item change new = (kept : List T) × IsKept is_clone old kept × (item ≡ taken kept) × (new ≡ change kept)
+
+-- new is the old elements, or a clone of each, and then a clone of each of xs
+abbrev pub IsKeptBefore : {T : Type 0} → (T → T → Type 0) → List T → List T → List T → Type 0
+IsKeptBefore {T} is_clone old xs new = (kept : List T) × (added : List T) × IsKept is_clone old kept × AllZip is_clone xs added × (new ≡ kept ++ added)

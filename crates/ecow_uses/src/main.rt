@@ -2,6 +2,7 @@
 //! cares about. This one runs each of them on an example.
 #![tactic(auto)]
 
+mod lines;
 mod settings;
 mod symbols;
 mod template;
@@ -12,7 +13,7 @@ use crate::symbols::{Names, Scope};
 use crate::undo::History;
 use anyhow::Result;
 use ecow_counted::Counted;
-use ecow_list::eco_vec;
+use ecow_list::{EcoVec, eco_vec};
 use ecow_text::EcoString;
 use std::collections::BTreeMap;
 
@@ -21,7 +22,8 @@ fn main(rt: HostRuntime) -> Result<()> {
     try_out_settings(&rt)?;
     fill_a_letter(&rt)?;
     shadow_a_name(&rt)?;
-    write_in_place(&rt)
+    write_in_place(&rt)?;
+    append_to_lines(&rt)
 }
 
 fn edit_a_document(rt: &HostRuntime) -> Result<()> {
@@ -99,5 +101,14 @@ fn write_in_place(rt: &HostRuntime) -> Result<()> {
         writing::count_up(&mut list, 0)?;
     }
     println!(rt; "sorted and counted up: {list:?}, before: {kept:?}")?;
+    Ok(())
+}
+
+fn append_to_lines(rt: &HostRuntime) -> Result<()> {
+    let mut lines = EcoVec::new(rt.alloc());
+    lines::append(&mut lines, String::from_str(rt.alloc(), "a first line")?)?;
+    let before = lines.clone()?;
+    lines::append(&mut lines, String::from_str(rt.alloc(), "a second")?)?;
+    println!(rt; "lines: {lines:?}, before: {before:?}")?;
     Ok(())
 }

@@ -5,6 +5,7 @@ ghost use Rattle.std.specs.Prelude.{◌≡◌, ◌+◌, ◌-◌, ◌<◌, ◌≤
 ghost use Rattle.std.specs.Fn.{CalledAtMut};
 ghost use Rattle.std.specs.List.Retain.{RetainsInTurn};
 ghost use Rattle.ecow_base.specs.Clones.{ClonesAreEqual};
+ghost use Rattle.ecow_list.specs.Vectors.{IsKept, IsKeptBefore, IsKeptIn, IsTakenOf};
 
 use crate::error::{EcoError, Rejected};
 use crate::vec::EcoVec;
@@ -18,6 +19,7 @@ impl<T: Clone> EcoVec<T> {
     /// Never refused in these two cases; else the one error is `Memory`, which changes nothing.
     pub fn truncate(&mut self, len: usize) -> Result<(), EcoError>
         ensures ok { ClonesAreEqual T.is_clone → OnOk result (self.new ≡ take len self.old) }
+        ensures kept { OnOk result (IsKept T.is_clone (take len self.old) self.new) }
         ensures len { OnOk result (length self.new ≡ min len (length self.old)) }
         ensures err { IfErr result (λ error. error ≡ EcoError.Memory) }
         ensures unchanged { OnErr result (self.new ≡ self.old) }
@@ -46,6 +48,7 @@ impl<T: Clone> EcoVec<T> {
     pub fn pop(&mut self) -> Result<Option<T>, EcoError>
         ensures value { ClonesAreEqual T.is_clone → IfOk result (λ last. last ≡ slice_get self.old (length self.old - 1)) }
         ensures ok { ClonesAreEqual T.is_clone → OnOk result (self.new ≡ take (length self.old - 1) self.old) }
+        ensures kept { IfOk result (λ last. IsTakenOf T.is_clone self.old (λ kept. slice_get kept (length kept - 1)) last (λ kept. take (length kept - 1) kept) self.new) }
         ensures some { IfOk result (λ last. IsSome last ↔ (0 < length self.old)) }
         ensures len { OnOk result (length self.new ≡ length self.old - 1) }
         ensures err { IfErr result (λ error. error ≡ EcoError.Memory) }
@@ -68,6 +71,7 @@ impl<T: Clone> EcoVec<T> {
         requires { 0 < length self.old }
         ensures value { ClonesAreEqual T.is_clone → IfOk result (λ last. slice_get self.old (length self.old - 1) ≡ Some last) }
         ensures ok { ClonesAreEqual T.is_clone → OnOk result (self.new ≡ take (length self.old - 1) self.old) }
+        ensures kept { IfOk result (λ last. IsTakenOf T.is_clone self.old (λ kept. slice_get kept (length kept - 1)) (Some last) (λ kept. take (length kept - 1) kept) self.new) }
         ensures len { OnOk result (length self.new ≡ length self.old - 1) }
         ensures err { IfErr result (λ error. error ≡ EcoError.Memory) }
         ensures unchanged { OnErr result (self.new ≡ self.old) }
@@ -92,6 +96,7 @@ impl<T: Clone> EcoVec<T> {
     pub fn insert(&mut self, index: usize, value: T) -> Result<(), Rejected<T>>
         requires { index ≤ length self.old }
         ensures ok { ClonesAreEqual T.is_clone → OnOk result (self.new ≡ insert self.old index value) }
+        ensures kept { OnOk result (IsKeptIn T.is_clone self.old (λ kept. insert kept index value) self.new) }
         ensures len { OnOk result (length self.new ≡ length self.old + 1) }
         ensures err { OnErr result (self.new ≡ self.old) }
         ensures value_returned { IfErr result (λ rejected. rejected.value ≡ value) }
@@ -112,6 +117,7 @@ impl<T: Clone> EcoVec<T> {
     fn insert_growing(&mut self, index: usize, value: T) -> Result<(), Rejected<T>>
         requires { index ≤ length self.old }
         ensures ok { ClonesAreEqual T.is_clone → OnOk result (self.new ≡ insert self.old index value) }
+        ensures kept { OnOk result (IsKeptIn T.is_clone self.old (λ kept. insert kept index value) self.new) }
         ensures len { OnOk result (length self.new ≡ length self.old + 1) }
         ensures err { OnErr result (self.new ≡ self.old) }
         ensures value_returned { IfErr result (λ rejected. rejected.value ≡ value) }
@@ -154,6 +160,7 @@ impl<T: Clone> EcoVec<T> {
         requires { index < length self.old }
         ensures value { ClonesAreEqual T.is_clone → IfOk result (λ value. slice_get self.old index ≡ Some value) }
         ensures ok { ClonesAreEqual T.is_clone → OnOk result (self.new ≡ remove self.old index) }
+        ensures kept { IfOk result (λ value. IsTakenOf T.is_clone self.old (λ kept. slice_get kept index) (Some value) (λ kept. remove kept index) self.new) }
         ensures len { OnOk result (length self.new + 1 ≡ length self.old) }
         ensures err { IfErr result (λ error. error ≡ EcoError.Memory) }
         ensures unchanged { OnErr result (self.new ≡ self.old) }
@@ -179,6 +186,7 @@ impl<T: Clone> EcoVec<T> {
     pub fn set(&mut self, index: usize, value: T) -> Result<(), Rejected<T>>
         requires { index < length self.old }
         ensures ok { ClonesAreEqual T.is_clone → OnOk result (self.new ≡ slice_set self.old index value) }
+        ensures kept { OnOk result (IsKeptIn T.is_clone self.old (λ kept. slice_set kept index value) self.new) }
         ensures len { OnOk result (length self.new ≡ length self.old) }
         ensures err { OnErr result (self.new ≡ self.old) }
         ensures value_returned { IfErr result (λ rejected. rejected.value ≡ value) }
@@ -208,6 +216,7 @@ impl<T: Clone> EcoVec<T> {
     /// `additional` together pass 2^63 - 1, and else `Memory`.
     pub fn reserve(&mut self, additional: usize) -> Result<(), EcoError>
         ensures ok { ClonesAreEqual T.is_clone → OnOk result (self.new ≡ self.old) }
+        ensures kept { OnOk result (IsKept T.is_clone self.old self.new) }
         ensures len { OnOk result (length self.new ≡ length self.old) }
         ensures err { OnErr result (self.new ≡ self.old) }
         ensures capacity { IsErrOf result EcoError.Capacity ↔ (MAX_LEN < length self.old + additional) }
@@ -233,6 +242,7 @@ impl<T: Clone> EcoVec<T> {
     #[inline]
     pub fn extend_from_slice(&mut self, elements: &[T]) -> Result<(), EcoError>
         ensures ok { ClonesAreEqual T.is_clone → OnOk result (self.new ≡ self.old ++ elements.now) }
+        ensures kept { OnOk result (IsKeptBefore T.is_clone self.old elements.now self.new) }
         ensures len { OnOk result (length self.new ≡ length self.old + length elements.now) }
         ensures err { OnErr result (self.new ≡ self.old) }
         ensures capacity { IsErrOf result EcoError.Capacity ↔ (MAX_LEN < length self.old + length elements.now) }
@@ -255,6 +265,7 @@ impl<T: Clone> EcoVec<T> {
     fn extend_growing(&mut self, elements: &[T]) -> Result<(), EcoError>
         requires { 0 < length elements.now }
         ensures ok { ClonesAreEqual T.is_clone → OnOk result (self.new ≡ self.old ++ elements.now) }
+        ensures kept { OnOk result (IsKeptBefore T.is_clone self.old elements.now self.new) }
         ensures len { OnOk result (length self.new ≡ length self.old + length elements.now) }
         ensures err { OnErr result (self.new ≡ self.old) }
         ensures capacity { IsErrOf result EcoError.Capacity ↔ (MAX_LEN < length self.old + length elements.now) }

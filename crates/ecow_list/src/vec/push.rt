@@ -2,6 +2,7 @@
 //! the others are out of line.
 ghost use Rattle.std.specs.Prelude.{◌≡◌, ◌+◌, ◌≤◌, ◌↔◌, [], ◌∷◌, ◌++◌, length, IfErr, OnOk, OnErr, IsErrAnd};
 ghost use Rattle.ecow_base.specs.Clones.{ClonesAreEqual};
+ghost use Rattle.ecow_list.specs.Vectors.{IsKeptIn};
 
 use crate::error::{EcoError, Rejected};
 use crate::vec::EcoVec;
@@ -17,6 +18,7 @@ impl<T: Clone> EcoVec<T> {
     #[inline]
     pub fn push(&mut self, value: T) -> Result<(), Rejected<T>>
         ensures ok { ClonesAreEqual T.is_clone → OnOk result (self.new ≡ self.old ++ value ∷ []) }
+        ensures kept { OnOk result (IsKeptIn T.is_clone self.old (λ kept. kept ++ value ∷ []) self.new) }
         ensures len { OnOk result (length self.new ≡ length self.old + 1) }
         ensures err { OnErr result (self.new ≡ self.old) }
         ensures value_returned { IfErr result (λ rejected. rejected.value ≡ value) }
@@ -36,6 +38,7 @@ impl<T: Clone> EcoVec<T> {
     #[inline(never)]
     fn push_growing(&mut self, value: T) -> Result<(), Rejected<T>>
         ensures ok { ClonesAreEqual T.is_clone → OnOk result (self.new ≡ self.old ++ value ∷ []) }
+        ensures kept { OnOk result (IsKeptIn T.is_clone self.old (λ kept. kept ++ value ∷ []) self.new) }
         ensures len { OnOk result (length self.new ≡ length self.old + 1) }
         ensures err { OnErr result (self.new ≡ self.old) }
         ensures value_returned { IfErr result (λ rejected. rejected.value ≡ value) }
