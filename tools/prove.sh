@@ -7,10 +7,11 @@ below=$(awk -F: -v tops="$1" -f tools/below.awk crates.txt | sed '$d')
 mkdir -p bin
 left=$(echo "$below" | wc -l)
 changed=no
+stamps=
 for crate in $below; do
     stamp=bin/$crate.proved
     if [ $changed = no ] && [ -d "crates/$crate/out/rlib" ] && [ -f "$stamp" ] &&
-        [ -z "$(find "crates/$crate" crates.txt \( -name out -o -name must-fail -o -name edits \) -prune -o -type f -newer "$stamp" -print)" ]; then
+        [ -z "$(find $stamps "crates/$crate" crates.txt \( -name out -o -name must-fail -o -name edits \) -prune -o -type f -newer "$stamp" -print)" ]; then
         echo "$crate is proved"
     else
         changed=yes
@@ -18,6 +19,7 @@ for crate in $below; do
         (cd "crates/$crate" && rt lib) > bin/build.log 2>&1 || { cat bin/build.log; exit 1; }
         touch "$stamp"
     fi
+    stamps="$stamps $stamp"
     left=$((left - 1))
 done
 echo "proving and linking $1"
