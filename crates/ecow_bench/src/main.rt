@@ -193,7 +193,7 @@ fn made<T: Element>(alloc: Global, numbers: &[u64]) -> Result<Vec<T>, AllocError
     Ok(items)
 }
 
-/// What a loop on a list of some element saw.
+/// What a loop on a list of some element saw. All loops are for numbers, and some for other elements.
 fn sum_of_lists(
     alloc: Global,
     call: &str,
@@ -203,7 +203,7 @@ fn sum_of_lists(
 ) -> Result<u64, AllocError> {
     Ok(match element {
         "u8" => sum_of_copies::<u8>(alloc, call, made(alloc, numbers)?.as_slice(), count),
-        "u64" => sum_of_copies::<u64>(alloc, call, made(alloc, numbers)?.as_slice(), count),
+        "u64" => sum_of_numbers(alloc, call, numbers, count),
         "[u64;3]" => sum_of_copies::<[u64; 3]>(
             alloc,
             call,
@@ -227,10 +227,28 @@ fn sum_of_lists(
     })
 }
 
+fn sum_of_numbers(alloc: Global, call: &str, numbers: &[u64], count: u64) -> u64 {
+    match call {
+        "push" => loops::push(alloc, numbers, count),
+        "clone" => loops::clone(alloc, numbers, count),
+        "clone_push" => loops::clone_push(alloc, numbers, count),
+        "pop" => loops::pop(alloc, numbers, count),
+        "from_slice" => loops::from_slice(alloc, numbers, count),
+        "extend" => loops::extend(alloc, numbers, count),
+        "extend_pieces" => loops::extend_pieces(alloc, numbers, count),
+        "extend_few" => loops::extend_few(alloc, numbers, count),
+        "sort" => loops::sort(alloc, numbers, count),
+        "retain" => loops::retain(alloc, numbers, count),
+        "iter" => loops::iter(alloc, numbers, count),
+        "into_iter" => loops::into_iter(alloc, numbers, count),
+        "cmp" => loops::cmp(alloc, numbers, count),
+        "hash" => loops::hash(alloc, numbers, count),
+        _ => sum_of_copies(alloc, call, numbers, count),
+    }
+}
+
 fn sum_of_copies<T: Element + Copy>(alloc: Global, call: &str, items: &[T], count: u64) -> u64 {
     match call {
-        "push" => loops::push(alloc, items, count),
-        "clone_push" => loops::clone_push(alloc, items, count),
         "splice" => loops::splice(alloc, items, count),
         _ => sum_of_items(alloc, call, items, count),
     }
@@ -238,23 +256,11 @@ fn sum_of_copies<T: Element + Copy>(alloc: Global, call: &str, items: &[T], coun
 
 fn sum_of_items<T: Element>(alloc: Global, call: &str, items: &[T], count: u64) -> u64 {
     match call {
-        "clone" => loops::clone(alloc, items, count),
-        "pop" => loops::pop(alloc, items, count),
         "insert_remove" => loops::insert_remove(alloc, items, count),
         "remove_first" => loops::remove_first(alloc, items, count),
-        "from_slice" => loops::from_slice(alloc, items, count),
-        "extend" => loops::extend(alloc, items, count),
-        "extend_pieces" => loops::extend_pieces(alloc, items, count),
-        "extend_few" => loops::extend_few(alloc, items, count),
-        "sort" => loops::sort(alloc, items, count),
         "write" => loops::write(alloc, items, count),
-        "retain" => loops::retain(alloc, items, count),
         "drain" => loops::drain(alloc, items, count),
-        "iter" => loops::iter(alloc, items, count),
-        "into_iter" => loops::into_iter(alloc, items, count),
         "eq" => loops::eq(alloc, items, count),
-        "cmp" => loops::cmp(alloc, items, count),
-        "hash" => loops::hash(alloc, items, count),
         _ => 0,
     }
 }
