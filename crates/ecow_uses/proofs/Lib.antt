@@ -2,4 +2,4 @@ pub mod Pieces
 pub mod Written
 pub mod Meanings
 pub mod Holes
-pub mod Lines
+pub mod Said
