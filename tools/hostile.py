@@ -9,8 +9,8 @@ tools/hostile.py [--program FILE] [--peer "COMMAND"] [PART ..], where PART is on
   leaks    the examples and all cases under valgrind (needs valgrind)
 
 All but the last, where none is named. The program is bin/ecow-run. Each run must end as docs/SCRIPT.md says,
-and none may take more than twice the peer's time or memory, but for the one that docs/HOSTILE.md names.
-Prints what did not, and how much was run. Ends with 1 where something did not hold."""
+and none may take more than twice the peer's time or memory. Prints what did not, and how much was run. Ends with 1
+where something did not hold."""
 
 import argparse
 import filecmp
