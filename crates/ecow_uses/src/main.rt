@@ -12,6 +12,7 @@ mod writing;
 use crate::symbols::{Names, Scope};
 use crate::undo::History;
 use anyhow::Result;
+use ecow_bytes::EcoBytes;
 use ecow_counted::Counted;
 use ecow_list::{EcoVec, eco_vec};
 use ecow_text::EcoString;
@@ -23,7 +24,8 @@ fn main(rt: HostRuntime) -> Result<()> {
     fill_a_letter(&rt)?;
     shadow_a_name(&rt)?;
     write_in_place(&rt)?;
-    append_to_lines(&rt)
+    append_to_lines(&rt)?;
+    collect_items(&rt)
 }
 
 fn edit_a_document(rt: &HostRuntime) -> Result<()> {
@@ -110,5 +112,16 @@ fn append_to_lines(rt: &HostRuntime) -> Result<()> {
     let before = lines.clone()?;
     lines::append(&mut lines, String::from_str(rt.alloc(), "a second")?)?;
     println!(rt; "lines: {lines:?}, before: {before:?}")?;
+    Ok(())
+}
+
+fn collect_items(rt: &HostRuntime) -> Result<()> {
+    let alloc = rt.alloc();
+    let numbers: EcoVec<u64> = (1..=3u64).map(|n| n.saturating_mul(n)).collect(alloc)?;
+    let bytes: EcoBytes = [1u8, 2].into_iter().collect(alloc)?;
+    let letters: EcoString = "a b".chars().filter(|c| *c != ' ').collect(alloc)?;
+    let words: EcoString = ["one ", "two"].into_iter().collect(alloc)?;
+    let twice: EcoString = [letters.clone()?, letters].into_iter().collect(alloc)?;
+    println!(rt; "collected: {numbers:?}, {bytes:?}, {words}, {twice}")?;
     Ok(())
 }
