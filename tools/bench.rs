@@ -57,7 +57,8 @@ fn bytes_of(bytes: &[u8]) -> EcoBytes {
 
 #[inline(never)]
 fn seen_bytes(bytes: &EcoBytes) -> u64 {
-    bytes.last().map_or(0, |byte| bytes.len() as u64 + u64::from(*byte))
+    let all = bytes.as_slice();
+    all.last().map_or(0, |byte| all.len() as u64 + u64::from(*byte))
 }
 
 fn bytes_from_slice(bytes: &[u8], count: u64) -> u64 {
@@ -200,7 +201,8 @@ fn text_of(text: &str) -> EcoString {
 
 #[inline(never)]
 fn seen(text: &EcoString) -> u64 {
-    text.as_bytes().last().map_or(0, |byte| text.len() as u64 + u64::from(*byte))
+    let all = text.as_bytes();
+    all.last().map_or(0, |byte| all.len() as u64 + u64::from(*byte))
 }
 
 fn text_from_str(text: &str, count: u64) -> u64 {

@@ -3,6 +3,7 @@
 # usage: tools/bench.sh FOLDER [SAMPLES [WORD]]
 # FOLDER is that of the original crate. SAMPLES (9) are taken of each call whose name holds WORD. Without WORD it also shows
 # how times grow with the length, and leaves a picture of that at bin/bench/curves.svg.
+# CPU=x86-64-v3 in the environment has both compiled for a processor with AVX2.
 # Needs cargo beside the kit's rt. What cargo makes stays below bin/.
 set -eu
 root=$(cd "$(dirname "$0")/.." && pwd)
@@ -10,7 +11,9 @@ original=$(cd "${1:?the folder of the original crate is missing}" && pwd)
 shift
 build=$root/bin/bench
 mkdir -p "$build/src"
-(cd "$root/crates/ecow_bench" && rt run) > "$build/rt.log" 2>&1 || { cat "$build/rt.log"; exit 1; }
+# The processor that rt compiles for, where nothing else is said.
+cpu=${CPU:-x86-64-v2}
+(cd "$root/crates/ecow_bench" && rt run --cpu "$cpu") > "$build/rt.log" 2>&1 || { cat "$build/rt.log"; exit 1; }
 cp "$root/tools/bench.rs" "$build/src/main.rs"
 cp "$root/tools/bench_lists.rs" "$build/src/lists.rs"
 cp "$root/tools/bench_curves.rs" "$build/src/curves.rs"
@@ -30,8 +33,7 @@ lto = true
 
 [workspace]
 MANIFEST
-# The processor that rt compiles for, where nothing else is said.
-(cd "$build" && RUSTFLAGS="-C target-cpu=x86-64-v2" cargo build --quiet --release)
+(cd "$build" && RUSTFLAGS="-C target-cpu=$cpu" cargo build --quiet --release)
 picture=
 [ -n "${2:-}" ] || picture=$build/curves.svg
 exec "$build/target/release/bench" "$root/crates/ecow_bench/out/ecow_bench" "${1:-9}" "${2:-}" $picture

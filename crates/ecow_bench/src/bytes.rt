@@ -17,8 +17,9 @@ fn bytes_of(alloc: Global, bytes: &[u8]) -> EcoBytes {
 /// The length and the last byte of a value that stands in memory.
 #[inline(never)]
 fn seen(bytes: &EcoBytes) -> u64 {
-    match bytes.as_slice().last() {
-        Some(byte) => (bytes.len() as u64).wrapping_add(*byte as u64),
+    let all = bytes.as_slice();
+    match all.last() {
+        Some(byte) => (all.len() as u64).wrapping_add(*byte as u64),
         None => 0,
     }
 }

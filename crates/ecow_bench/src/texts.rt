@@ -17,8 +17,9 @@ fn text_of(alloc: Global, text: &str) -> EcoString {
 /// The length and the last byte of a value that stands in memory.
 #[inline(never)]
 fn seen(text: &EcoString) -> u64 {
-    match text.as_str().as_bytes().last() {
-        Some(byte) => (text.len() as u64).wrapping_add(*byte as u64),
+    let all = text.as_str().as_bytes();
+    match all.last() {
+        Some(byte) => (all.len() as u64).wrapping_add(*byte as u64),
         None => 0,
     }
 }
