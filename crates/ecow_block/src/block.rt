@@ -10,7 +10,6 @@ ghost use Rattle.ecow_block.specs.Clones.{AppendsClones};
 ghost use Rattle.ecow_block.specs.Contents.{contents};
 ghost use Rattle.ecow_block.specs.Ownership.{has_bytes};
 
-use crate::moves::{FEW, last_to_first};
 use crate::rest::Rest;
 use crate::room::{Base, Deed, Room, give_back, grow, make, nowhere};
 use ecow_base::MAX_LEN;
@@ -154,16 +153,9 @@ impl<T> Block<T> {
         ensures { self.new ≡ contents (insert self.old.items index item) self.old.capacity }
     {
         let behind = self.len - index;
-        if behind > FEW {
-            self.push_within(item);
-            last_to_first(&mut self.as_mut_slice()[index..]);
-            return;
-        }
-        let mut gap = self.room.split_off(index);
-        let rest = gap.open_gap(self.base, index, behind, 1);
-        gap.put(self.base, index, item);
-        gap.append(rest);
-        self.room.append(gap);
+        let mut tail = self.room.split_off(index);
+        tail.insert_first(self.base, index, behind, item);
+        self.room.append(tail);
         self.len += 1;
     }
 
