@@ -13,7 +13,7 @@ use std::alloc::AllocError;
 use std::mem::{replace, size_of_val};
 
 /// How many bytes a small element takes at most.
-const SMALL: usize = 16;
+const SMALL: usize = 64;
 
 /// How many items are moved by a place one by one, at most.
 pub(crate) const FEW: usize = 16;
