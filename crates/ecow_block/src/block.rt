@@ -1,13 +1,15 @@
 //! A list of elements with a capacity number, over raw memory. Nothing here touches a pointer.
-ghost use Rattle.std.specs.Prelude.{◌≡◌, ◌+◌, ◌*◌, ◌-◌, ◌<◌, ◌≤◌, ◌==◌, [], ◌∷◌, ◌++◌, length, take, drop, slice_get, Some, IfOk, OnOk, OnErr, IsOk, insert, remove, slice_range, slice_set, if◌then◌else◌, is_ok, vec_len};
+ghost use Rattle.std.specs.Prelude.{◌≡◌, ◌+◌, ◌*◌, ◌-◌, ◌<◌, ◌≤◌, ◌==◌, [], ◌∷◌, ◌++◌, length, take, drop, slice_get, Some, IfOk, OnOk, OnErr, IsOk, insert, remove, slice_range, slice_set, if◌then◌else◌, is_ok, vec_len, false};
 ghost use Rattle.std.specs.Borrow.{sem};
 ghost use Rattle.std.specs.Fn.{CalledAtMut};
+ghost use Rattle.std.specs.Iterator.{IsFinite};
 ghost use Rattle.std.specs.List.{AllZip, insert_slice, remove_range, splice};
 ghost use Rattle.std.specs.List.Retain.{RetainsInTurn};
 ghost use Rattle.std.specs.Vec.Ownership.{FitsInBlock};
 ghost use Rattle.ecow_base.specs.Clones.{ClonesAreEqual};
 ghost use Rattle.ecow_block.specs.Clones.{AppendsClones};
 ghost use Rattle.ecow_block.specs.Contents.{contents};
+ghost use Rattle.ecow_block.specs.Iterators.{GivesOn};
 ghost use Rattle.ecow_block.specs.Ownership.{has_bytes};
 
 use crate::rest::Rest;
@@ -132,6 +134,22 @@ impl<T> Block<T> {
     {
         self.room.put(self.base, self.len, item);
         self.len += 1;
+    }
+
+    /// Appends the next items of `iter` while there is room and there are fewer than `most` elements. Returns whether `iter`
+    /// ended.
+    pub fn fill_from<I: Iterator<Item = T>>(&mut self, most: usize, iter: &mut I) -> bool
+        requires within { length self.old.items ≤ most }
+        requires callable { I.can_next iter.old × IsFinite (I.remaining iter.old) }
+        ensures items { GivesOn I.next_gives iter.old self.old.items iter.new self.new.items result }
+        ensures len { (length self.old.items ≤ length self.new.items) × (length self.new.items ≤ most) }
+        ensures capacity { self.new.capacity ≡ self.old.capacity }
+        ensures callable { result ≡ false → I.can_next iter.new × IsFinite (I.remaining iter.new) }
+    {
+        let room = most.min(self.capacity) - self.len;
+        let (added, ended) = self.room.append_items(self.base, self.len, room, iter);
+        self.len += added;
+        ended
     }
 
     /// Takes the last element.

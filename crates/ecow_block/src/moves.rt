@@ -1,11 +1,13 @@
 //! Moves of items within a room and between rooms, with no pointer in sight. What is cut and glued here is gone when the
 //! program runs: what is left are reads and writes, which the compiler knows as moves of memory.
-ghost use Rattle.std.specs.Prelude.{◌≡◌, ◌+◌, ◌-◌, ◌^◌, ◌<◌, ◌≤◌, [], ◌∷◌, ◌++◌, drop, length, take, vec_len, OnOk, OnErr, IfOk, IsTrue};
+ghost use Rattle.std.specs.Prelude.{◌≡◌, ◌+◌, ◌-◌, ◌^◌, ◌<◌, ◌≤◌, [], ◌∷◌, ◌++◌, drop, length, take, vec_len, OnOk, OnErr, IfOk, IsTrue, false};
 ghost use Rattle.std.specs.Fn.{CalledAtMut};
+ghost use Rattle.std.specs.Iterator.{IsFinite};
 ghost use Rattle.std.specs.Mem.{type_size};
 ghost use Rattle.std.specs.List.Retain.{RetainsInTurn};
 ghost use Rattle.ecow_base.specs.Clones.{ClonesAreEqual};
 ghost use Rattle.ecow_block.specs.Clones.{AppendsClones};
+ghost use Rattle.ecow_block.specs.Iterators.{GivesOn};
 ghost use Rattle.ecow_block.specs.Rooms.{SamePlaces, Follows};
 
 use crate::room::{Base, CHUNK, Room};
@@ -370,6 +372,33 @@ impl<T> Room<T> {
             done += 1;
         }
         Ok(())
+    }
+
+    /// Appends the next items of `iter`, `most` of them or all, the first in the place numbered `at`. Returns how many these
+    /// are, and whether `iter` ended.
+    pub(crate) fn append_items<I: Iterator<Item = T>>(
+        &mut self,
+        base: Base<T>,
+        at: usize,
+        most: usize,
+        iter: &mut I,
+    ) -> (usize, bool)
+        requires room { (base.ptr ≡ self.old.at) × (at ≡ self.old.start + length self.old.items) × (length self.old.items + most ≤ self.old.capacity) × (at + most < 2 ^ 64) }
+        requires callable { I.can_next iter.old × IsFinite (I.remaining iter.old) }
+        ensures items { GivesOn I.next_gives iter.old self.old.items iter.new self.new.items result.1 }
+        ensures len { (length self.new.items ≡ length self.old.items + result.0) × (result.0 ≤ most) }
+        ensures callable { result.1 ≡ false → I.can_next iter.new × IsFinite (I.remaining iter.new) }
+        ensures places { SamePlaces self.old self.new }
+    {
+        let mut done = 0;
+        while done < most {
+            match iter.next() {
+                Some(item) => self.put(base, at + done, item),
+                None => return (done, true),
+            }
+            done += 1;
+        }
+        (done, false)
     }
 
     /// Keeps the items, as `f` leaves them, at which it answers `true`, and returns how many these are. The others are dropped.
