@@ -6,3 +6,4 @@ pub mod Ownership
 pub mod Rooms
 pub mod RestFields
 pub mod Clones
+pub mod Iterators

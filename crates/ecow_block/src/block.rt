@@ -1,16 +1,17 @@
 //! A list of elements with a capacity number, over raw memory. Nothing here touches a pointer.
-ghost use Rattle.std.specs.Prelude.{◌≡◌, ◌+◌, ◌*◌, ◌-◌, ◌<◌, ◌≤◌, ◌==◌, [], ◌∷◌, ◌++◌, length, take, drop, slice_get, Some, IfOk, OnOk, OnErr, IsOk, insert, remove, slice_range, slice_set, if◌then◌else◌, is_ok, vec_len};
+ghost use Rattle.std.specs.Prelude.{◌≡◌, ◌+◌, ◌*◌, ◌-◌, ◌<◌, ◌≤◌, ◌==◌, [], ◌∷◌, ◌++◌, length, take, drop, slice_get, Some, IfOk, OnOk, OnErr, IsOk, insert, remove, slice_range, slice_set, if◌then◌else◌, is_ok, vec_len, false};
 ghost use Rattle.std.specs.Borrow.{sem};
 ghost use Rattle.std.specs.Fn.{CalledAtMut};
+ghost use Rattle.std.specs.Iterator.{IsFinite};
 ghost use Rattle.std.specs.List.{AllZip, insert_slice, remove_range, splice};
 ghost use Rattle.std.specs.List.Retain.{RetainsInTurn};
 ghost use Rattle.std.specs.Vec.Ownership.{FitsInBlock};
 ghost use Rattle.ecow_base.specs.Clones.{ClonesAreEqual};
 ghost use Rattle.ecow_block.specs.Clones.{AppendsClones};
 ghost use Rattle.ecow_block.specs.Contents.{contents};
+ghost use Rattle.ecow_block.specs.Iterators.{GivesOn};
 ghost use Rattle.ecow_block.specs.Ownership.{has_bytes};
 
-use crate::moves::{FEW, last_to_first};
 use crate::rest::Rest;
 use crate::room::{Base, Deed, Room, give_back, grow, make, nowhere};
 use ecow_base::MAX_LEN;
@@ -135,6 +136,22 @@ impl<T> Block<T> {
         self.len += 1;
     }
 
+    /// Appends the next items of `iter` while there is room and there are fewer than `most` elements. Returns whether `iter`
+    /// ended.
+    pub fn fill_from<I: Iterator<Item = T>>(&mut self, most: usize, iter: &mut I) -> bool
+        requires within { length self.old.items ≤ most }
+        requires callable { I.can_next iter.old × IsFinite (I.remaining iter.old) }
+        ensures items { GivesOn I.next_gives iter.old self.old.items iter.new self.new.items result }
+        ensures len { (length self.old.items ≤ length self.new.items) × (length self.new.items ≤ most) }
+        ensures capacity { self.new.capacity ≡ self.old.capacity }
+        ensures callable { result ≡ false → I.can_next iter.new × IsFinite (I.remaining iter.new) }
+    {
+        let room = most.min(self.capacity) - self.len;
+        let (added, ended) = self.room.append_items(self.base, self.len, room, iter);
+        self.len += added;
+        ended
+    }
+
     /// Takes the last element.
     pub fn pop(&mut self) -> Option<T>
         ensures value { result ≡ slice_get self.old.items (length self.old.items - 1) }
@@ -154,16 +171,9 @@ impl<T> Block<T> {
         ensures { self.new ≡ contents (insert self.old.items index item) self.old.capacity }
     {
         let behind = self.len - index;
-        if behind > FEW {
-            self.push_within(item);
-            last_to_first(&mut self.as_mut_slice()[index..]);
-            return;
-        }
-        let mut gap = self.room.split_off(index);
-        let rest = gap.open_gap(self.base, index, behind, 1);
-        gap.put(self.base, index, item);
-        gap.append(rest);
-        self.room.append(gap);
+        let mut tail = self.room.split_off(index);
+        tail.insert_first(self.base, index, behind, item);
+        self.room.append(tail);
         self.len += 1;
     }
 

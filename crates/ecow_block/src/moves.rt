@@ -1,11 +1,13 @@
 //! Moves of items within a room and between rooms, with no pointer in sight. What is cut and glued here is gone when the
 //! program runs: what is left are reads and writes, which the compiler knows as moves of memory.
-ghost use Rattle.std.specs.Prelude.{◌≡◌, ◌+◌, ◌-◌, ◌^◌, ◌<◌, ◌≤◌, [], ◌∷◌, ◌++◌, drop, length, take, vec_len, OnOk, OnErr, IfOk, IsTrue};
+ghost use Rattle.std.specs.Prelude.{◌≡◌, ◌+◌, ◌-◌, ◌^◌, ◌<◌, ◌≤◌, [], ◌∷◌, ◌++◌, drop, length, take, vec_len, OnOk, OnErr, IfOk, IsTrue, false};
 ghost use Rattle.std.specs.Fn.{CalledAtMut};
+ghost use Rattle.std.specs.Iterator.{IsFinite};
 ghost use Rattle.std.specs.Mem.{type_size};
 ghost use Rattle.std.specs.List.Retain.{RetainsInTurn};
 ghost use Rattle.ecow_base.specs.Clones.{ClonesAreEqual};
 ghost use Rattle.ecow_block.specs.Clones.{AppendsClones};
+ghost use Rattle.ecow_block.specs.Iterators.{GivesOn};
 ghost use Rattle.ecow_block.specs.Rooms.{SamePlaces, Follows};
 
 use crate::room::{Base, CHUNK, Room};
@@ -13,7 +15,7 @@ use std::alloc::AllocError;
 use std::mem::{replace, size_of_val};
 
 /// How many bytes a small element takes at most.
-const SMALL: usize = 16;
+const SMALL: usize = 64;
 
 /// How many items are moved by a place one by one, at most.
 pub(crate) const FEW: usize = 16;
@@ -28,15 +30,6 @@ fn are_small<T>(elements: &[T]) -> bool
     }
 }
 
-/// Moves the last of many items before the others. Out of line the compiler knows that nothing else lies where they do.
-#[inline(never)]
-pub(crate) fn last_to_first<T>(items: &mut [T])
-    requires { 0 < length items.old }
-    ensures { items.new ≡ drop (length items.old - 1) items.old ++ take (length items.old - 1) items.old }
-{
-    items.rotate_right(1);
-}
-
 impl<T> Room<T> {
     /// Takes the first item, from the place numbered `at`. That place comes back too.
     pub(crate) fn take_first(&mut self, base: Base<T>, at: usize) -> (T, Room<T>)
@@ -47,6 +40,19 @@ impl<T> Room<T> {
     {
         let rest = self.split_off(1);
         let item = self.take_last(base, at);
+        (item, replace(self, rest))
+    }
+
+    /// The same as an array of one, for a move of memory.
+    fn take_first_one(&mut self, base: Base<T>, at: usize) -> ([T; 1], Room<T>)
+        requires { (base.ptr ≡ self.old.at) × (at ≡ self.old.start) × (0 < length self.old.items) }
+        ensures items { self.old.items ≡ result.0 ++ self.new.items }
+        ensures one { length result.0 ≡ 1 }
+        ensures rest { (self.new.at ≡ self.old.at) × (self.new.start ≡ self.old.start + 1) × (self.new.capacity + 1 ≡ self.old.capacity) }
+        ensures place { (result.1.at ≡ self.old.at) × (result.1.start ≡ self.old.start) × (result.1.capacity ≡ 1) × (result.1.items ≡ []) }
+    {
+        let rest = self.split_off(1);
+        let item = self.take_last_one(base, at);
         (item, replace(self, rest))
     }
 
@@ -89,6 +95,45 @@ impl<T> Room<T> {
         item
     }
 
+    /// Puts an item before the others, which are `len`, and moves these up by a place: in place where they are few.
+    pub(crate) fn insert_first(&mut self, base: Base<T>, start: usize, len: usize, item: T)
+        requires { (base.ptr ≡ self.old.at) × (start ≡ self.old.start) × (len ≡ length self.old.items) × (len < self.old.capacity) × (len < 2 ^ 63) }
+        ensures items { self.new.items ≡ item ∷ self.old.items }
+        ensures places { SamePlaces self.old self.new }
+    {
+        let here = self.begin_here(base, start);
+        let others = if len > FEW {
+            self.unshift_many(here, len)
+        } else {
+            self.unshift(here, len)
+        };
+        self.put(here, 0, item);
+        self.append(others);
+        self.begin_back(base, start);
+    }
+
+    /// Moves the items up by a place, out of line as in `shift_many`. The first place stays, and they come back as a room of
+    /// their own.
+    #[inline(never)]
+    fn unshift_many(&mut self, base: Base<T>, len: usize) -> Room<T>
+        requires { (base.ptr ≡ self.old.at) × (self.old.start ≡ 0) × (len ≡ length self.old.items) × (len < self.old.capacity) × (len < 2 ^ 63) }
+        ensures left { (self.new.at ≡ self.old.at) × (self.new.start ≡ 0) × (self.new.capacity ≡ 1) × (self.new.items ≡ []) }
+        ensures items { result.items ≡ self.old.items }
+        ensures places { Follows self.new result × (result.capacity + 1 ≡ self.old.capacity) }
+    {
+        self.unshift(base, len)
+    }
+
+    /// The same item by item.
+    fn unshift(&mut self, base: Base<T>, len: usize) -> Room<T>
+        requires { (base.ptr ≡ self.old.at) × (self.old.start ≡ 0) × (len ≡ length self.old.items) × (len < self.old.capacity) × (len < 2 ^ 63) }
+        ensures left { (self.new.at ≡ self.old.at) × (self.new.start ≡ 0) × (self.new.capacity ≡ 1) × (self.new.items ≡ []) }
+        ensures items { result.items ≡ self.old.items }
+        ensures places { Follows self.new result × (result.capacity + 1 ≡ self.old.capacity) }
+    {
+        self.open_gap(base, 0, len, 1)
+    }
+
     /// Lets all items, of which there are `len`, and those of `other`, of which there are as many, change places.
     pub(crate) fn swap(
         &mut self,
@@ -108,13 +153,13 @@ impl<T> Room<T> {
             .swap_with_slice(other.as_mut_slice(other_base, other_start, len));
     }
 
-    /// Puts an item into an empty place, numbered `at`, and that place before the others.
-    pub(crate) fn put_first(&mut self, base: Base<T>, at: usize, mut place: Room<T>, item: T)
+    /// Puts an item, as an array of one, into an empty place, numbered `at`, and that place before the others.
+    pub(crate) fn put_first(&mut self, base: Base<T>, at: usize, mut place: Room<T>, item: [T; 1])
         requires { (base.ptr ≡ place.at) × (at ≡ place.start) × (place.capacity ≡ 1) × (place.items ≡ []) × Follows place self.old }
-        ensures items { self.new.items ≡ item ∷ self.old.items }
+        ensures items { self.new.items ≡ item ++ self.old.items }
         ensures places { (self.new.at ≡ self.old.at) × (self.new.start + 1 ≡ self.old.start) × (self.new.capacity ≡ self.old.capacity + 1) }
     {
-        place.put(base, at, item);
+        place.put_one(base, at, item);
         let others = replace(self, place);
         self.append(others);
     }
@@ -139,9 +184,9 @@ impl<T> Room<T> {
         let mut rest = self.split_off(0);
         let mut moved = 0;
         while moved < len {
-            let (item, place) = rest.take_first(base, from + moved);
+            let (item, place) = rest.take_first_one(base, from + moved);
             self.widen(place);
-            other.put(other_base, to + moved, item);
+            other.put_one(other_base, to + moved, item);
             moved += 1;
         }
         self.widen(rest);
@@ -164,9 +209,9 @@ impl<T> Room<T> {
     {
         let mut moved = 0;
         while moved < len {
-            let (item, place) = rest.take_first(base, start + gap + moved);
+            let (item, place) = rest.take_first_one(base, start + gap + moved);
             self.widen(place);
-            self.put(base, start + moved, item);
+            self.put_one(base, start + moved, item);
             moved += 1;
         }
         self.widen(rest);
@@ -188,13 +233,12 @@ impl<T> Room<T> {
         ensures places { Follows self.new result × (result.capacity + gap ≡ self.old.capacity) }
     {
         let mut moved = self.split_off(len + gap);
-        let mut done = 0;
-        while done < len {
-            let left = len - 1 - done;
-            let item = self.take_last(base, start + left);
+        let mut left = len;
+        while left > 0 {
+            left -= 1;
+            let item = self.take_last_one(base, start + left);
             let place = self.split_off(left + gap);
             moved.put_first(base, start + left + gap, place, item);
-            done += 1;
         }
         moved
     }
@@ -209,7 +253,7 @@ impl<T> Room<T> {
         let mut moved = self.split_off(elements.len());
         while let Some(item) = elements.pop() {
             let place = self.split_off(elements.len());
-            moved.put_first(base, start + elements.len(), place, item);
+            moved.put_first(base, start + elements.len(), place, [item]);
         }
         self.append(moved);
     }
@@ -328,6 +372,33 @@ impl<T> Room<T> {
             done += 1;
         }
         Ok(())
+    }
+
+    /// Appends the next items of `iter`, `most` of them or all, the first in the place numbered `at`. Returns how many these
+    /// are, and whether `iter` ended.
+    pub(crate) fn append_items<I: Iterator<Item = T>>(
+        &mut self,
+        base: Base<T>,
+        at: usize,
+        most: usize,
+        iter: &mut I,
+    ) -> (usize, bool)
+        requires room { (base.ptr ≡ self.old.at) × (at ≡ self.old.start + length self.old.items) × (length self.old.items + most ≤ self.old.capacity) × (at + most < 2 ^ 64) }
+        requires callable { I.can_next iter.old × IsFinite (I.remaining iter.old) }
+        ensures items { GivesOn I.next_gives iter.old self.old.items iter.new self.new.items result.1 }
+        ensures len { (length self.new.items ≡ length self.old.items + result.0) × (result.0 ≤ most) }
+        ensures callable { result.1 ≡ false → I.can_next iter.new × IsFinite (I.remaining iter.new) }
+        ensures places { SamePlaces self.old self.new }
+    {
+        let mut done = 0;
+        while done < most {
+            match iter.next() {
+                Some(item) => self.put(base, at + done, item),
+                None => return (done, true),
+            }
+            done += 1;
+        }
+        (done, false)
     }
 
     /// Keeps the items, as `f` leaves them, at which it answers `true`, and returns how many these are. The others are dropped.

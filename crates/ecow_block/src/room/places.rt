@@ -21,6 +21,15 @@ impl<T> Room<T> {
         unsafe { base.ptr.add(at).write(item) }
     }
 
+    /// The same of an item as an array of one, which the compiler moves as memory, and not part by part.
+    pub(crate) fn put_one(&mut self, base: Base<T>, at: usize, item: [T; 1])
+        requires { (base.ptr ≡ self.old.at) × (at ≡ self.old.start + length self.old.items) × (length self.old.items < self.old.capacity) }
+        ensures items { self.new.items ≡ self.old.items ++ item }
+        ensures places { SamePlaces self.old self.new }
+    {
+        unsafe { base.ptr.add(at).cast::<[T; 1]>().write(item) }
+    }
+
     /// Puts items into the first empty places, of which the first is numbered `at`.
     pub(crate) fn put_chunk(&mut self, base: Base<T>, at: usize, items: [T; CHUNK])
         requires { (base.ptr ≡ self.old.at) × (at ≡ self.old.start + length self.old.items) × (length self.old.items + CHUNK ≤ self.old.capacity) }
@@ -37,6 +46,16 @@ impl<T> Room<T> {
         ensures places { SamePlaces self.old self.new }
     {
         unsafe { base.ptr.add(at).read() }
+    }
+
+    /// The same as an array of one, for a move of memory.
+    pub(crate) fn take_last_one(&mut self, base: Base<T>, at: usize) -> [T; 1]
+        requires { (base.ptr ≡ self.old.at) × (at + 1 ≡ self.old.start + length self.old.items) × (0 < length self.old.items) }
+        ensures items { self.old.items ≡ self.new.items ++ result }
+        ensures one { length result ≡ 1 }
+        ensures places { SamePlaces self.old self.new }
+    {
+        unsafe { base.ptr.add(at).cast::<[T; 1]>().read() }
     }
 
     /// The items, of which there are `len`, from the place numbered `start` on.

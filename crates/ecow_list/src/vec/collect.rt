@@ -25,16 +25,17 @@ pub(super) fn collected<T: Drop, I: IntoIterator<Item = T>>(
     ensures room { IfOk result (λ block. least ≤ block.capacity) }
     ensures refused { OnErr result ((items : List T) × GivesFirst I.into_iter_gives I.IntoIter.next_gives iter items × (least ≡ 0 → 0 < length items) × (IsErrOf result EcoError.Capacity ↔ (most < length items))) }
 {
-    let iter = iter.into_iter();
+    let mut rest = iter.into_iter();
     let mut items = Block::with_capacity(alloc, least)?;
-    for item in iter {
+    while !items.fill_from(most, &mut rest) {
+        let Some(item) = rest.next() else {
+            return Ok(items);
+        };
         let (len, capacity) = (items.len(), items.capacity());
         if len >= most {
             return Err(EcoError::Capacity);
         }
-        if len == capacity {
-            items.grow(room_for(len, 1, capacity.max(ample)))?;
-        }
+        items.grow(room_for(len, 1, capacity.max(ample)))?;
         items.push_within(item);
     }
     Ok(items)
