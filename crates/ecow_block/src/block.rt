@@ -312,6 +312,9 @@ impl<T> Block<T> {
         ensures block { self.new ≡ contents (splice self.old.items start (start + count) (take count other.old.items)) self.old.capacity }
         ensures other { other.new ≡ contents (slice_range self.old.items start (start + count) ++ drop count other.old.items) other.old.capacity }
     {
+        if count == 0 {
+            return;
+        }
         let mut middle = self.room.split_off(start);
         let tail = middle.split_off(count);
         let rest = other.room.split_off(count);
