@@ -152,5 +152,10 @@ by_lengths (suc n) (x ∷ xs) (y ∷ ys) front short =
 pub order_by_lengths : (n : ℕ) (xs ys : List ℕ) → take n xs ≡ take n ys → (length xs ≤ n) ⊎ (length ys ≤ n) → nat_cmp (length xs) (length ys) ≡ slice_cmp nat_cmp xs ys
 order_by_lengths n xs ys front short = sym (nat_cmp_is (length xs) (length ys) (slice_cmp nat_cmp xs ys) (by_lengths n xs ys front short))
 
+pub order_of_same : (xs ys : List ℕ) → xs ≡ ys → Equal ≡ slice_cmp nat_cmp xs ys
+order_of_same xs ys e =
+    let n = length xs in
+    tied n (length ys) (ap length e) ∙ order_by_lengths n xs ys (ap (take n) e) (inl (omega arith))
+
 pub shortest : (a b n : ℕ) → n ≡ min a b → (a ≤ n) ⊎ (b ≤ n)
 shortest a b n e = elim (cases_lt a b) [ inl l ↦ inl (omega (arith, e)) | inr g ↦ inr (omega (arith, e)) ]

@@ -139,17 +139,26 @@ fn order_many(left: &[u8], right: &[u8], len: usize) -> Ordering
     order_past(left, right, same)
 }
 
-/// The order of the first bytes that differ, and else that of the lengths.
-#[inline]
-pub(crate) fn order(left: &[u8], right: &[u8]) -> Ordering
+/// The order of bytes that are too many or differ, or are not as many.
+#[inline(never)]
+fn order_apart(left: &[u8], right: &[u8]) -> Ordering
     ensures { result ≡ slice_cmp nat_cmp left.now right.now }
 {
     let len = left.len().min(right.len());
     if len > GROUP {
         return order_many(left, right, len);
     }
-    if few_same(&left[..len], &right[..len]) {
-        return left.len().cmp(&right.len());
+    left.cmp(right)
+}
+
+/// The order of the first bytes that differ, and else that of the lengths. As many bytes that are
+/// the same, at most a group, take no call.
+#[inline]
+pub(crate) fn order(left: &[u8], right: &[u8]) -> Ordering
+    ensures { result ≡ slice_cmp nat_cmp left.now right.now }
+{
+    if left.len() == right.len() && left.len() <= GROUP && few_same(left, right) {
+        return Ordering::Equal;
     }
-    order_past(left, right, 0)
+    order_apart(left, right)
 }
