@@ -1,5 +1,5 @@
 //! A list of elements with a capacity number, over raw memory. Nothing here touches a pointer.
-ghost use Rattle.std.specs.Prelude.{◌≡◌, ◌+◌, ◌*◌, ◌-◌, ◌<◌, ◌≤◌, ◌==◌, [], ◌∷◌, ◌++◌, length, take, drop, slice_get, Some, IfOk, OnOk, OnErr, IsOk, insert, remove, slice_range, slice_set, if◌then◌else◌, is_ok, vec_len, false};
+ghost use Rattle.std.specs.Prelude.{◌≡◌, ◌+◌, ◌*◌, ◌-◌, ◌<◌, ◌≤◌, ◌==◌, [], ◌∷◌, ◌++◌, length, take, drop, slice_get, Some, IfOk, OnOk, OnErr, IsOk, insert, remove, slice_range, slice_set, if◌then◌else◌, is_ok, vec_len, false, min};
 ghost use Rattle.std.specs.Borrow.{sem};
 ghost use Rattle.std.specs.Fn.{CalledAtMut};
 ghost use Rattle.std.specs.Iterator.{IsFinite};
@@ -143,6 +143,7 @@ impl<T> Block<T> {
         requires callable { I.can_next iter.old × IsFinite (I.remaining iter.old) }
         ensures items { GivesOn I.next_gives iter.old self.old.items iter.new self.new.items result }
         ensures len { (length self.old.items ≤ length self.new.items) × (length self.new.items ≤ most) }
+        ensures full { result ≡ false → length self.new.items ≡ min most self.old.capacity }
         ensures capacity { self.new.capacity ≡ self.old.capacity }
         ensures callable { result ≡ false → I.can_next iter.new × IsFinite (I.remaining iter.new) }
     {

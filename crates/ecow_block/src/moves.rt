@@ -387,6 +387,7 @@ impl<T> Room<T> {
         requires callable { I.can_next iter.old × IsFinite (I.remaining iter.old) }
         ensures items { GivesOn I.next_gives iter.old self.old.items iter.new self.new.items result.1 }
         ensures len { (length self.new.items ≡ length self.old.items + result.0) × (result.0 ≤ most) }
+        ensures full { result.1 ≡ false → result.0 ≡ most }
         ensures callable { result.1 ≡ false → I.can_next iter.new × IsFinite (I.remaining iter.new) }
         ensures places { SamePlaces self.old self.new }
     {
