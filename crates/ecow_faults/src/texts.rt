@@ -1,4 +1,5 @@
 //! The calls of `EcoString`.
+use crate::bytes::for_a_copy;
 use ecow_bytes::EcoBytes;
 use ecow_list::{EcoError, EcoVec};
 use ecow_text::{EcoString, ToEcoString, eco_format};
@@ -135,31 +136,44 @@ fn changes_hold(alloc: Global, kept: (bool, bool)) -> bool {
         kept,
         "abcdefghijk",
         inline,
-        |text| text.pop().map(|_| ()),
-    ) && holds(alloc, kept, "ab", inline, |text| truncate(text, 2))
-        && holds(
-            alloc,
-            kept,
-            "bcdefghijk😀",
-            inline,
-            |text| remove(text, 0, 'a'),
-        )
-        && holds(
-            alloc,
-            kept,
-            "ABCDEFGHIJK😀",
-            inline,
-            |text| text.make_ascii_uppercase(),
-        )
-        && holds(
-            alloc,
-            kept,
-            LETTERS,
-            inline,
-            |text| text.make_ascii_lowercase(),
-        )
-        && holds(alloc, kept, LETTERS, inline, |text| text.reserve(0))
-        && holds(alloc, kept, LETTERS, true, shrink)
+        |text| for_a_copy(kept, text.pop().map(|_| ())),
+    ) && holds(
+        alloc,
+        kept,
+        "ab",
+        inline,
+        |text| for_a_copy(kept, truncate(text, 2)),
+    ) && holds(
+        alloc,
+        kept,
+        "bcdefghijk😀",
+        inline,
+        |text| for_a_copy(kept, remove(text, 0, 'a')),
+    ) && holds(
+        alloc,
+        kept,
+        "ABCDEFGHIJK😀",
+        inline,
+        |text| for_a_copy(kept, text.make_ascii_uppercase()),
+    ) && holds(
+        alloc,
+        kept,
+        LETTERS,
+        inline,
+        |text| for_a_copy(kept, text.make_ascii_lowercase()),
+    ) && holds(
+        alloc,
+        kept,
+        LETTERS,
+        inline,
+        |text| for_a_copy(kept, text.reserve(0)),
+    ) && holds(
+        alloc,
+        kept,
+        LETTERS,
+        true,
+        |text| for_a_copy(kept, shrink(text)),
+    )
 }
 
 pub(crate) fn edits_hold(alloc: Global) -> bool {

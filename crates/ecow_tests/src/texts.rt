@@ -44,6 +44,19 @@ fn texts_are_added_one_by_one(rt: HostRuntime) -> Result<(), Fail> {
 }
 
 #[test]
+fn letters_of_a_text_of_its_own_change_where_they_stand(rt: HostRuntime) -> Result<(), Fail> {
+    let mut text = EcoString::with_capacity(rt.alloc(), 100)?;
+    text.push_str("Über den Bergen")?;
+    text.make_ascii_uppercase()?;
+    assert!(rt; text.capacity() >= 100);
+    let clone = text.clone()?;
+    text.make_ascii_lowercase()?;
+    assert_eq!(rt; clone.as_str(), "ÜBER DEN BERGEN");
+    assert_eq!(rt; text.as_str(), "Über den bergen");
+    Ok(())
+}
+
+#[test]
 fn case_past_ascii_is_that_of_unicode(rt: HostRuntime) -> Result<(), Fail> {
     let alloc = rt.alloc();
     for (text, lower, upper) in [

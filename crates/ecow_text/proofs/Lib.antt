@@ -3,6 +3,7 @@ mod Chars
 mod Enough
 mod Joined
 mod Limits
+mod Moved
 mod Occurrences
 pub mod Places
 mod Printed

@@ -3,6 +3,7 @@ ghost use Rattle.std.specs.Prelude.{◌≡◌, ◌+◌, ◌≤◌, ◌++◌, len
 ghost use Rattle.ecow_model.specs.Inline.{inline_for};
 ghost use Rattle.ecow_text.specs.Case.{in_case};
 
+use crate::spilled::{map_vec, take_vec};
 use ecow_base::MAX_LEN;
 use ecow_bytes::SmallBytes;
 use ecow_list::{EcoError, EcoVec};
@@ -20,7 +21,7 @@ pub(crate) enum Case {
 
 impl Case {
     /// Maps the letters among `bytes`, in place.
-    fn map(self, bytes: &mut [u8])
+    pub(crate) fn map(self, bytes: &mut [u8])
         ensures { bytes.new ≡ map (in_case self) bytes.old }
     {
         match self {
@@ -28,6 +29,29 @@ impl Case {
             Case::Upper => bytes.make_ascii_uppercase(),
         }
     }
+}
+
+/// Puts the letters into one case where they stand, in their mode. Spilled bytes that are shared are
+/// copied first, and no others take memory. The one error is `Memory`, which changes nothing.
+pub(crate) fn map_in_place<const N: usize>(
+    bytes: &mut SmallBytes<N>,
+    case: Case,
+) -> Result<(), EcoError>
+    ensures bytes { OnOk result (bytes.new.bytes ≡ map (in_case case) bytes.old.bytes) }
+    ensures mode { bytes.new.inline ≡ bytes.old.inline }
+    ensures memory { IfErr result (λ error. error ≡ EcoError.Memory) }
+    ensures err { OnErr result (bytes.new ≡ bytes.old) }
+    ensures free { OnErr result (bytes.old.inline ≡ false) }
+{
+    let _len = bytes.len();
+    if bytes.is_inline() {
+        *bytes = mapped_inline(bytes.allocator(), bytes.as_slice(), case);
+        return Ok(());
+    }
+    let mut vec = take_vec(bytes);
+    let outcome = map_vec(&mut vec, case);
+    *bytes = SmallBytes::from(vec);
+    outcome
 }
 
 /// The bytes with their letters in one case, in their mode. Never refused of inline bytes; the one

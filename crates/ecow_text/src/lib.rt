@@ -6,6 +6,7 @@ mod cut;
 pub mod display;
 pub mod laws;
 mod macros;
+mod spilled;
 pub mod text;
 pub mod traits;
 

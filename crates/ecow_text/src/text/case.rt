@@ -7,15 +7,15 @@ ghost use Rattle.std.specs.StrCase.Upper.{str_to_uppercase};
 ghost use Rattle.ecow_model.specs.Inline.{inline_for};
 ghost use Rattle.ecow_model.specs.Utf8.{utf8_len};
 
-use crate::case::{Case, mapped, mapped_by_length};
+use crate::case::{Case, map_in_place, mapped, mapped_by_length};
 use crate::text::SmallText;
 use ecow_base::MAX_LEN;
 use ecow_list::EcoError;
 
 impl<const N: usize> SmallText<N> {
-    /// Maps the letters `A` to `Z` to lower case and leaves all others, in the mode. Never refused
-    /// for an inline text. A spilled one gets a new block, which nothing shares, and the one error
-    /// is `Memory`, which changes nothing.
+    /// Maps the letters `A` to `Z` to lower case where they stand, and leaves all others and the mode.
+    /// Never refused for an inline text. A spilled text that is shared is copied first, and the one
+    /// error is `Memory`, which changes nothing.
     pub fn make_ascii_lowercase(&mut self) -> Result<(), EcoError>
         ensures chars { OnOk result (self.new.chars ≡ map to_ascii_lowercase self.old.chars) }
         ensures mode { self.new.inline ≡ self.old.inline }
@@ -23,7 +23,7 @@ impl<const N: usize> SmallText<N> {
         ensures err { OnErr result (self.new ≡ self.old) }
         ensures free { OnErr result (self.old.inline ≡ false) }
     {
-        *self = self.to_ascii_lowercase()?;
+        map_in_place(&mut self.bytes, Case::Lower)?;
         Ok(())
     }
 
@@ -35,7 +35,7 @@ impl<const N: usize> SmallText<N> {
         ensures err { OnErr result (self.new ≡ self.old) }
         ensures free { OnErr result (self.old.inline ≡ false) }
     {
-        *self = self.to_ascii_uppercase()?;
+        map_in_place(&mut self.bytes, Case::Upper)?;
         Ok(())
     }
 
