@@ -275,10 +275,10 @@ impl<T> Block<T> {
         let mut middle = self.room.split_off(start);
         let tail = middle.split_off(count);
         let (base, len) = (other.base, other.len);
-        let gap = middle.pour(self.base, start, count, &mut other.room, base, len);
+        middle.move_run(self.base, start, count, &mut other.room, base, len);
         let behind = self.len - end;
         self.room
-            .append(gap.close_gap(self.base, start, count, behind, tail));
+            .append(middle.close_gap(self.base, start, count, behind, tail));
         self.len -= count;
         other.len += count;
     }
@@ -297,9 +297,9 @@ impl<T> Block<T> {
         }
         let mut gap = self.room.split_off(index);
         let behind = gap.open_gap(self.base, index, self.len - index, count);
-        let rest = other.room.split_off(from);
-        let places = rest.pour(other.base, from, count, &mut gap, self.base, index);
-        other.room.widen(places);
+        let mut rest = other.room.split_off(from);
+        rest.move_run(other.base, from, count, &mut gap, self.base, index);
+        other.room.widen(rest);
         gap.append(behind);
         self.room.append(gap);
         self.len += count;

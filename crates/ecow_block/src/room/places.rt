@@ -7,6 +7,7 @@ ghost use Rattle.ecow_block.specs.Rooms.{SamePlaces, Follows};
 
 use super::{Base, CHUNK, Room};
 use std::marker::PhantomData;
+use std::ptr::copy_nonoverlapping;
 use std::slice;
 
 impl<T> Room<T> {
@@ -37,6 +38,24 @@ impl<T> Room<T> {
         ensures places { SamePlaces self.old self.new }
     {
         unsafe { base.ptr.add(at).cast::<[T; CHUNK]>().write(items) }
+    }
+
+    /// Moves all items, of which there are `count`, behind those of `other`, whose first empty place is numbered `to`, in one
+    /// move of memory. Their own first place is numbered `from`.
+    pub(crate) fn move_run(
+        &mut self,
+        base: Base<T>,
+        from: usize,
+        count: usize,
+        other: &mut Room<T>,
+        other_base: Base<T>,
+        to: usize,
+    )
+        requires { (base.ptr ≡ self.old.at) × (from ≡ self.old.start) × (count ≡ length self.old.items) × (other_base.ptr ≡ other.old.at) × (to ≡ other.old.start + length other.old.items) × (length other.old.items + count ≤ other.old.capacity) }
+        ensures left { (self.new.items ≡ []) × SamePlaces self.old self.new }
+        ensures moved { (other.new.items ≡ other.old.items ++ self.old.items) × SamePlaces other.old other.new }
+    {
+        unsafe { copy_nonoverlapping(base.ptr.add(from), other_base.ptr.add(to), count) }
     }
 
     /// Takes the last item, from the place numbered `at`.
