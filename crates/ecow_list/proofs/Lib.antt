@@ -3,4 +3,5 @@ pub mod Fronts
 pub mod Items
 pub mod Kept
 pub mod Loans
+pub mod Pieces
 pub mod ResultTyped

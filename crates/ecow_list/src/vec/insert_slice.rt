@@ -1,6 +1,7 @@
 //! Putting several elements in at once.
-ghost use Rattle.std.specs.Prelude.{◌≡◌, ◌+◌, ◌<◌, ◌≤◌, ◌↔◌, length, OnOk, OnErr, IsErrOf};
-ghost use Rattle.std.specs.List.{insert_slice};
+ghost use Rattle.std.specs.Prelude.{◌≡◌, ◌+◌, ◌*◌, ◌-◌, ◌^◌, ◌<◌, ◌≤◌, ◌↔◌, length, OnOk, OnErr, IsErrOf, IsTrue};
+ghost use Rattle.std.specs.List.{copy_within, insert_slice};
+ghost use Rattle.std.specs.Mem.{type_size};
 ghost use Rattle.ecow_base.specs.Clones.{ClonesAreEqual};
 
 use crate::error::EcoError;
@@ -8,6 +9,7 @@ use crate::vec::EcoVec;
 use ecow_base::{MAX_LEN, room_for};
 use ecow_block::Block;
 use std::alloc::AllocError;
+use std::mem::size_of_val;
 use std::rc::Rc;
 
 impl<T: Clone + Copy> EcoVec<T> {
@@ -81,7 +83,56 @@ fn insert_within<T: Clone + Copy>(
     let (len, added) = (block.len(), elements.len());
     block.extend_within(elements)?;
     let all = block.as_mut_slice();
-    all.copy_within(index..len, index + added);
+    copy_up(all, index, len, index + added);
     all[index..index + added].copy_from_slice(elements);
     Ok(())
+}
+
+/// Whether there are elements, and each is a byte.
+fn are_bytes<T>(elements: &[T]) -> bool
+    ensures { IsTrue result → type_size T.row ≤ 1 }
+{
+    match elements.first() {
+        Some(first) => size_of_val(first) == 1,
+        None => false,
+    }
+}
+
+/// Copies the elements from `start` up to `end` over those from `to` on. Where they are 8 to 64 bytes,
+/// two reads and two writes do: with a loop, the next call waits for the bytes it wrote one by one.
+fn copy_up<T: Copy>(all: &mut [T], start: usize, end: usize, to: usize)
+    requires in_order { start ≤ end }
+    requires in_bounds { end ≤ length all.old }
+    requires room { to + (end - start) ≤ length all.old }
+    ensures { all.new ≡ copy_within all.old start end to }
+{
+    if !are_bytes(all) {
+        return all.copy_within(start..end, to);
+    }
+    match end - start {
+        ..=16 => copy_pieces::<T, 8>(all, start, end, to),
+        ..=32 => copy_pieces::<T, 16>(all, start, end, to),
+        ..=64 => copy_pieces::<T, 32>(all, start, end, to),
+        _ => all.copy_within(start..end, to),
+    }
+}
+
+/// The same by the first and the last `K` elements, which together are all of them and may overlap.
+/// Fewer than `K` are copied one by one.
+fn copy_pieces<T: Copy, const K: usize>(all: &mut [T], start: usize, end: usize, to: usize)
+    requires small { K * type_size T.row < 2 ^ 63 }
+    requires in_order { start ≤ end }
+    requires in_bounds { end ≤ length all.old }
+    requires room { to + (end - start) ≤ length all.old }
+    requires covered { end - start ≤ K + K }
+    ensures { all.new ≡ copy_within all.old start end to }
+{
+    let moved = &all[start..end];
+    let (Some(first), Some(last)) = (moved.first_chunk::<K>(), moved.last_chunk::<K>()) else {
+        return all.copy_within(start..end, to);
+    };
+    let (first, last) = (*first, *last);
+    let behind = to + (end - start);
+    all[to..to + K].copy_from_slice(&first);
+    all[behind - K..behind].copy_from_slice(&last);
 }
