@@ -19,6 +19,7 @@ impl<T: Clone + Copy> EcoVec<T> {
     /// length passes 2^63 - 1, and else `Memory`.
     ///
     /// This project's own: the original has it for bytes alone.
+    #[inline(never)]
     pub fn insert_slice(&mut self, index: usize, elements: &[T]) -> Result<(), EcoError>
         requires { index ≤ length self.old }
         ensures ok { ClonesAreEqual T.is_clone → OnOk result (self.new ≡ insert_slice self.old index elements.now) }
