@@ -1,15 +1,16 @@
 -- How many bytes a text has after an edit.
-use Rattle.std.proofs.Common.{◌≡◌, ℕ, ◌+◌, Bool, true, false, List, [], ◌∷◌, ◌++◌, ◌^◌, nat_lt, length, take, drop, refl, sym, ap, ◌∙◌, arith, append_assoc, length-append, take-append-drop}
+use Rattle.std.proofs.Common.{◌≡◌, ℕ, ◌+◌, true, List, [], ◌∷◌, ◌++◌, ◌^◌, nat_lt, length, take, drop, sym, ap, ◌∙◌, arith, append_assoc, length-append, take-append-drop}
 use Rattle.std.specs.Prelude.{◌==◌}
 use Rattle.std.specs.List.{insert, insert_slice}
 use Rattle.std.specs.Char.{len_utf8}
-use Rattle.std.specs.Str.{IsUtf8, encode_utf8_all, is_utf8}
+use Rattle.std.specs.Str.{encode_utf8_all}
 use Rattle.std.proofs.lemmas.Bool.{eqb-true, lt-ltb}
 use Rattle.std.proofs.lemmas.List.{nil_from_length}
-use Rattle.std.proofs.lemmas.Str.{encodes-append, len_utf8_bounds, IsUtf8-from_is_utf8, is_utf8-from_IsUtf8}
+use Rattle.std.proofs.lemmas.Str.{encodes-append, len_utf8_bounds, is_utf8-from_IsUtf8}
 use Rattle.ecow_model.specs.Utf8.{utf8_len}
 use Rattle.ecow_model.proofs.Boundaries.{width}
 use Rattle.ecow_text.proofs.Places.{nothing_at_end}
+use Rattle.ecow_text.proofs.Texts.{not_utf8}
 
 pub utf8_len-append : (cs ds : List ℕ) → utf8_len (cs ++ ds) ≡ utf8_len cs + utf8_len ds
 utf8_len-append cs ds = ap length (encodes-append cs ds) ∙ length-append (encode_utf8_all cs) (encode_utf8_all ds)
@@ -36,8 +37,4 @@ one_fits c = let small = len_utf8_bounds c in let size = utf8_len-one c in lt-lt
 pub no_bytes : (cs bs : List ℕ) → encode_utf8_all cs ≡ bs → (length cs == 0) ≡ true → bs ≡ []
 no_bytes cs bs e none = sym e ∙ ap encode_utf8_all (nil_from_length cs (eqb-true (length cs) 0 none))
 
--- bytes that are not UTF-8 fail the test
-pub fails : (bs : List ℕ) → ¬ (IsUtf8 bs) → is_utf8 bs ≡ false
-fails bs never = elim (is_utf8 bs) as (λ b. is_utf8 bs ≡ b → b ≡ false) [ true ↦ λ e. absurd (never (IsUtf8-from_is_utf8 bs e)) | false ↦ λ _. refl ] refl
-
-pub ruleset texts = (utf8_len-append, utf8_len-one, utf8_len-insert_slice, utf8_len-insert, nothing_at_end, no_bytes, one_fits, is_utf8-from_IsUtf8, fails)
+pub ruleset texts = (utf8_len-append, utf8_len-one, utf8_len-insert_slice, utf8_len-insert, nothing_at_end, no_bytes, one_fits, is_utf8-from_IsUtf8, not_utf8)

@@ -10,4 +10,4 @@ mod Printed
 mod Removal
 mod Repeats
 mod Steps
-mod Texts
+pub mod Texts

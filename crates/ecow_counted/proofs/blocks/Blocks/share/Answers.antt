@@ -1,4 +1,4 @@
-use Rattle.std.proofs.Common.{ap, ◌∙◌, Some, subst, ◌<◌, ◌^◌, ℕ}
+use Rattle.std.proofs.Common.{ap, ◌∙◌, Some}
 use Rattle.std.specs.FinMap as finite
 use Rattle.ecow_counted.proofs.Updates.{owners_fit, joined_names, joined_table, bare_joined_names, bare_joined_table}
 use Rattle.ecow_counted.proofs.Placing.{sharing-table}

@@ -1,4 +1,4 @@
-use Rattle.std.proofs.Common.{arith, ap, ◌+◌, ◌<◌, ◌^◌, subst}
+use Rattle.std.proofs.Common.{arith, ◌+◌, ◌<◌, ◌^◌, subst}
 use Rattle.std.specs.FinMap as map
 use Rattle.ecow_model.proofs.Maps.{len-values}
 use Rattle.ecow_model.proofs.table.Table.is_countable.Goals as goal
