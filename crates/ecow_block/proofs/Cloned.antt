@@ -1,8 +1,7 @@
 -- Clones that are appended, one or some at a time.
 use Rattle.std.proofs.Common.{◌≡◌, List, [], ◌∷◌, ◌++◌, sym, ap, ◌∙◌, subst, append_assoc}
-use Rattle.std.proofs.lemmas.List.Elements.{AllZip-push, same_from_all_zip}
+use Rattle.std.proofs.lemmas.List.Elements.{AllZip-push}
 use Rattle.std.specs.List.{AllZip}
-use Rattle.ecow_base.specs.Clones.{ClonesAreEqual}
 use Rattle.ecow_block.specs.Clones.{AppendsClones}
 
 side_by_side : {T : Type 0} (R : T → T → Type 0) (xs xs' ys ys' : List T) → AllZip R xs xs' → AllZip R ys ys' → AllZip R (xs ++ ys) (xs' ++ ys')
@@ -25,6 +24,3 @@ module _ {T : Type 0} (R : T → T → Type 0) (old : List T) where
     items = k.items ∙ ap (λ l. l ++ k.copies) h.items ∙ append_assoc old h.copies k.copies;
     each = side_by_side R xs h.copies ys k.copies h.each k.each;
   }
-
-  pub equal_clones : (xs now : List T) → AppendsClones R old xs now → ClonesAreEqual R → now ≡ old ++ xs
-  equal_clones xs now h equal = h.items ∙ ap (λ l. old ++ l) (same_from_all_zip R xs h.copies h.each equal)

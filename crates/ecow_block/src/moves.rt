@@ -347,7 +347,7 @@ impl<T> Room<T> {
     /// Appends clones of `elements`, the first of them in the place numbered `at`. If a clone is refused, those before it are
     /// dropped again.
     ///
-    /// Small elements are cloned some at a time, which the compiler knows as a move of memory where a clone is a copy.
+    /// Few are cloned one by one where the call stands, and more by a call.
     pub(crate) fn append_clones(
         &mut self,
         base: Base<T>,
@@ -359,6 +359,24 @@ impl<T> Room<T> {
         requires { (base.ptr ≡ self.old.at) × (at ≡ self.old.start + length self.old.items) × (length self.old.items + length elements.now ≤ self.old.capacity) × (at + length elements.now < 2 ^ 64) }
         ensures clones { OnOk result (AppendsClones T.is_clone self.old.items elements.now self.new.items) }
         ensures items { ClonesAreEqual T.is_clone → OnOk result (self.new.items ≡ self.old.items ++ elements.now) }
+        ensures len { OnOk result (length self.new.items ≡ length self.old.items + length elements.now) }
+        ensures places { SamePlaces self.old self.new }
+        ensures err { OnErr result (self.new.items ≡ self.old.items) }
+    {
+        if elements.len() < CHUNK {
+            return self.append_each(base, at, elements);
+        }
+        self.append_many(base, at, elements)
+    }
+
+    /// The same of many elements. Small ones are cloned some at a time, which the compiler knows as a move of memory where a
+    /// clone is a copy.
+    #[inline(never)]
+    fn append_many(&mut self, base: Base<T>, at: usize, elements: &[T]) -> Result<(), AllocError>
+    where
+        T: Clone,
+        requires { (base.ptr ≡ self.old.at) × (at ≡ self.old.start + length self.old.items) × (length self.old.items + length elements.now ≤ self.old.capacity) × (at + length elements.now < 2 ^ 64) }
+        ensures clones { OnOk result (AppendsClones T.is_clone self.old.items elements.now self.new.items) }
         ensures len { OnOk result (length self.new.items ≡ length self.old.items + length elements.now) }
         ensures places { SamePlaces self.old self.new }
         ensures err { OnErr result (self.new.items ≡ self.old.items) }

@@ -111,6 +111,7 @@ impl<T: Clone> EcoVec<T> {
 
     /// Clones of the elements of a slice; without a block, and never refused, where there are none.
     /// Answers `Capacity` past 2^63 - 1 elements, and else `Memory`.
+    #[inline]
     pub fn from_slice(alloc: Global, elements: &[T]) -> Result<Self, EcoError>
         ensures ok { ClonesAreEqual T.is_clone → IfOk result (λ v. v ≡ elements.now) }
         ensures len { IfOk result (λ v. length v ≡ length elements.now) }

@@ -59,6 +59,7 @@ impl<const N: usize> SmallText<N> {
 
     /// A copy of `text`: inline where it has at most `N` bytes, which is never refused, and else
     /// spilled. Answers `Capacity` past 2^63 - 1 bytes, and else `Memory`.
+    #[inline]
     pub fn from_str(alloc: Global, text: &str) -> Result<Self, EcoError>
         ensures chars { IfOk result (λ made. made.chars ≡ chars text.now) }
         ensures mode { IfOk result (λ made. made.inline ≡ inline_for N (length text.now)) }

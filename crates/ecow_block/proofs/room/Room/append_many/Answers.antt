@@ -1,7 +1,7 @@
 use Rattle.std.proofs.Common.{rules, arith, ◌≡◌, ◌-◌, ◌++◌, length, length-drop, take, drop, ap, ◌∙◌}
 use Rattle.std.proofs.lemmas.List.{take-append-drop, take_all}
-use Rattle.ecow_block.proofs.Cloned.{some_more, equal_clones}
-use Rattle.ecow_block.proofs.room.Room.append_clones.Goals as goal
+use Rattle.ecow_block.proofs.Cloned.{some_more}
+use Rattle.ecow_block.proofs.room.Room.append_many.Goals as goal
 
 pub returns-clause-clones : goal.returns-clause-clones
 returns-clause-clones g c =
@@ -9,6 +9,3 @@ returns-clause-clones g c =
     let all : take done xs ++ rest ≡ xs = ap (λ l. take done xs ++ l) (take_all (length xs - done) (drop done xs) (omega (arith, length-drop done xs))) ∙ take-append-drop done xs in
     let grown = some_more g.T.Clone.is_clone c.args.self.now.items (take done xs) rest c.append_chunks.new.self.items c.append_each.new.self.items (search rules) (search rules) in
     rw all at grown
-
-pub returns-clause-items : goal.returns-clause-items
-returns-clause-items g c = equal_clones g.T.Clone.is_clone c.args.self.now.items c.args.elements.now c.append_each.new.self.items (returns-clause-clones g c)
