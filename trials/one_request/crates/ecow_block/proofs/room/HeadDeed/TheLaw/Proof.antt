@@ -1,0 +1,17 @@
+-- A `&` to the right to give a head and its places back holds nothing. Assumes `Logic`.
+use denote.Param.Laws.{Laws}
+use denote.Param.Shared.{copy_shared}
+use denote.RattleType.{RattleType}
+use denote.RawPtr.{RawPtr}
+use denote.SharingLaws.{nothing_shr_laws}
+use denote.Struct.Laws.{field_copy}
+use denote.Struct.Lending.{of_Lends, Lends-nothing}
+use Rattle.core.specs.contracts.marker.PhantomData as marker
+use Rattle.core.specs.declared.alloc.Allocator.{Ghosts}
+use Rattle.ecow_block.specs.contracts.room.HeadDeed as D
+use Rattle.ecow_block.proofs.room.HeadDeed.TheLaw.Statement.{statement}
+
+pub shares : (R A H : RattleType) (g : Ghosts A.Denot) (L : Laws R) (K : Laws A) (N : Laws H) → statement R A H g L K N
+shares R A H g L K N = of_Lends (D.struct R A H g) (D.the_codes R.Denot A.Denot H.Denot R.coded A.coded H.coded (marker.the_row RawPtr).coded) (D.the_heap R A H g) (D.the_lent R A H g) (λ d p. nothing_shr_laws)
+    (copy_shared (marker.the_field RawPtr) (field_copy (marker.the_type RawPtr) tt), tt)
+    (λ M 𝓤 𝓛 d p. Lends-nothing 𝓛 (D.the_heap R A H g d) (D.the_row R A H g).lives)

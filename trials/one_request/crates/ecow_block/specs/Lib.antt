@@ -1,0 +1,10 @@
+pub mod BlockLends
+pub mod Contents
+pub mod Fields
+pub mod Lends
+pub mod Ownership
+pub mod Rooms
+pub mod RestFields
+pub mod Clones
+pub mod Iterators
+pub mod Heads

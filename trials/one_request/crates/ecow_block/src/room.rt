@@ -1,0 +1,93 @@
+//! Raw room for elements: this module and its parts are the only code of the crate that touches pointers.
+ghost use Rattle.std.specs.Prelude.{◌≡◌, ℕ, ◌≤◌, List, length, ⊤};
+ghost use base.Fml.{ftrue};
+ghost use denote.RawPtr.{Ptr};
+ghost use Rattle.ecow_block.specs.Heads.{vacancy_owns, head_deed_owns};
+ghost use Rattle.ecow_block.specs.Ownership.{deed_owns, room_owns, room_shares};
+
+use std::alloc::{AllocError, Allocator};
+use std::marker::{Model, PhantomData};
+
+mod head;
+mod heap;
+mod places;
+
+pub(crate) use head::{fits_behind, give_back_with_head, make_with_head};
+pub(crate) use heap::{give_back, grow, make, nowhere};
+
+/// How many items are put at a time.
+pub(crate) const CHUNK: usize = 128;
+
+/// Where a block begins. It owns nothing.
+pub(crate) struct Base<T> {
+    ptr: *mut T,
+}
+
+impl<T> Clone for Base<T> {
+    ghost is_clone = { λ x y. y ≡ x };
+
+    ghost is_infallible = { λ _. ⊤ };
+
+    fn clone(&self) -> Result<Base<T>, AllocError> {
+        Ok(*self)
+    }
+}
+
+impl<T> Copy for Base<T> {}
+
+/// Some places of a block, side by side: the first of them hold the items, the others are empty.
+/// `at` is where the block begins, and `start` the number of the first place. It takes no space.
+pub(crate) struct Room<T> {
+    mark: PhantomData<*const T>,
+    ghost at: { Ptr },
+    ghost start: { ℕ },
+    ghost items: { List T },
+    ghost capacity: { ℕ },
+    ghost within: { length items ≤ capacity },
+}
+
+impl<T> Model for Room<T> {
+    ghost also_owns = { λ r. room_owns T.row r.at r.start r.capacity r.items };
+
+    ghost also_shares = { λ r _ κ. room_shares T.row r.at r.start r.capacity r.items κ };
+}
+
+/// The right to give a block of `capacity` places back to `alloc`, if it was asked of it. It takes no space.
+pub(crate) struct Deed<T, A: Allocator> {
+    mark: PhantomData<*const (T, A)>,
+    ghost at: { Ptr },
+    ghost capacity: { ℕ },
+    ghost alloc: { A },
+}
+
+impl<T, A: Allocator> Model for Deed<T, A> {
+    ghost also_owns = { λ d. deed_owns (A.dealloc_token d.alloc) T.row d.at d.capacity };
+
+    ghost also_shares = { λ _ _ _. ftrue };
+}
+
+/// Memory for a head, a value of type `H`, with nothing in it.
+pub(crate) struct Vacancy<H> {
+    pub ptr: *mut H,
+}
+
+impl<H> Model for Vacancy<H> {
+    ghost also_owns = { λ v. vacancy_owns H.row v.ptr };
+
+    ghost also_shares = { λ _ _ _. ftrue };
+}
+
+/// The right to give back the memory of a head at `head` and of `capacity` places at `at`. It takes no space.
+pub(crate) struct HeadDeed<T, A: Allocator, H> {
+    mark: PhantomData<*const (T, A, H)>,
+    ghost head: { Ptr },
+    ghost at: { Ptr },
+    ghost capacity: { ℕ },
+    ghost alloc: { A },
+}
+
+impl<T, A: Allocator, H> Model for HeadDeed<T, A, H> {
+    ghost also_owns = { λ d. head_deed_owns H.row T.row d.capacity (A.dealloc_token d.alloc) d.head d.at };
+
+    ghost also_shares = { λ _ _ _. ftrue };
+}
