@@ -1,6 +1,5 @@
 pub mod Memory
 pub mod Places
-pub mod Slots
 pub mod Deeds
 pub mod Lists
 pub mod Splices

@@ -18,9 +18,9 @@ use crate::error::EcoError;
 pub use conversions::IntoArray;
 use ecow_base::MAX_LEN;
 use ecow_block::Block;
-use ecow_shared::Shared;
 use std::alloc::{AllocError, Global};
 use std::marker::Model;
+use std::rc::Rc;
 use std::slice;
 
 /// A vector whose clones share its elements until one of them is written to.
@@ -29,7 +29,7 @@ use std::slice;
 /// its elements into a block of its own first, element by element; no other vector sees the change.
 #[derive(Drop)]
 pub struct EcoVec<T> {
-    block: Option<Shared<Block<T>, Global>>,
+    block: Option<Rc<Block<T>>>,
     alloc: Global,
 }
 
@@ -123,7 +123,7 @@ impl<T> EcoVec<T> {
         ensures items { IfSome result (λ b. b.now.items ≡ self.old) }
     {
         match &mut self.block {
-            Some(shared) => Shared::get_mut(shared),
+            Some(shared) => Rc::get_mut(shared),
             None => None,
         }
     }
@@ -145,7 +145,7 @@ impl<T: Drop> EcoVec<T> {
         }
         let block = Block::with_capacity(alloc, capacity)?;
         Ok(EcoVec {
-            block: Some(Shared::new(alloc, block)?),
+            block: Some(Rc::new(alloc, block)?),
             alloc,
         })
     }
@@ -168,7 +168,7 @@ impl<T: Drop> EcoVec<T> {
 impl<T: Clone> EcoVec<T> {
     /// A block that no vector shares, with clones of the first `len` elements and room for
     /// `capacity`.
-    fn copied(&self, len: usize, capacity: usize) -> Result<Shared<Block<T>, Global>, AllocError>
+    fn copied(&self, len: usize, capacity: usize) -> Result<Rc<Block<T>>, AllocError>
         requires in_bounds { len ≤ length self.now }
         requires room { len ≤ capacity }
         requires bounded { capacity ≤ MAX_LEN }
@@ -178,7 +178,7 @@ impl<T: Clone> EcoVec<T> {
         ensures capacity { IfOk result (λ shared. shared.value.capacity ≡ capacity) }
     {
         let block = Block::from_clones(self.alloc, &self.as_slice()[..len], capacity)?;
-        Ok(Shared::new(self.alloc, block)?)
+        Ok(Rc::new(self.alloc, block)?)
     }
 }
 

@@ -10,8 +10,8 @@ use crate::vec::EcoVec;
 use crate::vec::collect::collected;
 use ecow_base::{MAX_LEN, fresh_capacity};
 use ecow_block::Block;
-use ecow_shared::Shared;
 use std::alloc::{AllocError, Global};
+use std::rc::Rc;
 
 /// Why a vector was not made an array. The vector comes back as it was.
 #[derive(Drop)]
@@ -41,8 +41,8 @@ impl<T: Drop> EcoVec<T> {
             return Ok(EcoVec::new(alloc));
         }
         if let Ok(block) = Block::with_capacity(alloc, fresh_capacity(len))
-            && let Ok(mut shared) = Shared::new(alloc, block)
-            && let Some(block) = Shared::get_mut(&mut shared)
+            && let Ok(mut shared) = Rc::new(alloc, block)
+            && let Some(block) = Rc::get_mut(&mut shared)
         {
             block.fill_within(elements);
             return Ok(EcoVec {
@@ -100,7 +100,7 @@ impl<T: Drop> EcoVec<T> {
             return Ok(EcoVec::new(alloc));
         }
         Ok(EcoVec {
-            block: Some(Shared::new(alloc, items)?),
+            block: Some(Rc::new(alloc, items)?),
             alloc,
         })
     }
@@ -127,7 +127,7 @@ impl<T: Clone> EcoVec<T> {
         }
         let block = Block::from_clones(alloc, elements, fresh_capacity(len))?;
         Ok(EcoVec {
-            block: Some(Shared::new(alloc, block)?),
+            block: Some(Rc::new(alloc, block)?),
             alloc,
         })
     }
@@ -171,7 +171,7 @@ impl<T: Clone> EcoVec<T> {
             block.push_within(value.clone()?);
         }
         Ok(EcoVec {
-            block: Some(Shared::new(alloc, block)?),
+            block: Some(Rc::new(alloc, block)?),
             alloc,
         })
     }
@@ -209,7 +209,7 @@ impl<T: Clone> EcoVec<T> {
         let Some(mut shared) = block else {
             return Ok(Vec::new(alloc));
         };
-        let taken = match Shared::get_mut(&mut shared) {
+        let taken = match Rc::get_mut(&mut shared) {
             Some(block) => block.take_vec(),
             None => Vec::from_clones(alloc, shared.as_slice()),
         };
@@ -237,7 +237,7 @@ impl<T: Clone> EcoVec<T> {
         let Some(shared) = block else {
             return Ok(IntoIter::new(Block::new(alloc).into_rest()));
         };
-        match Shared::try_unwrap(shared) {
+        match Rc::try_unwrap(shared) {
             Ok(block) => Ok(IntoIter::new(block.into_rest())),
             Err(shared) => match Block::from_clones(alloc, shared.as_slice(), shared.len()) {
                 Ok(copy) => Ok(IntoIter::new(copy.into_rest())),

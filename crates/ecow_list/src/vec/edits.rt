@@ -11,7 +11,7 @@ use crate::error::{EcoError, Rejected};
 use crate::vec::EcoVec;
 use ecow_base::{MAX_LEN, fresh_capacity, room_for};
 use ecow_block::Block;
-use ecow_shared::Shared;
+use std::rc::Rc;
 
 impl<T: Clone> EcoVec<T> {
     /// Keeps the first `len` elements, or all where there are fewer. A shared vector copies only
@@ -78,7 +78,7 @@ impl<T: Clone> EcoVec<T> {
     {
         let len = self.len();
         let mut fresh = self.copied(len, fresh_capacity(len))?;
-        if let Some(block) = Shared::get_mut(&mut fresh)
+        if let Some(block) = Rc::get_mut(&mut fresh)
             && let Some(last) = block.pop()
         {
             self.block = Some(fresh);
@@ -142,7 +142,7 @@ impl<T: Clone> EcoVec<T> {
             return Ok(());
         }
         if let Ok(mut fresh) = self.copied(len, room)
-            && let Some(block) = Shared::get_mut(&mut fresh)
+            && let Some(block) = Rc::get_mut(&mut fresh)
         {
             block.insert_within(index, value);
             self.block = Some(fresh);
@@ -170,7 +170,7 @@ impl<T: Clone> EcoVec<T> {
             return Ok(block.remove(index));
         }
         let mut fresh = self.copied(len, fresh_capacity(len))?;
-        let Some(block) = Shared::get_mut(&mut fresh) else {
+        let Some(block) = Rc::get_mut(&mut fresh) else {
             return Err(EcoError::Memory);
         };
         let value = block.remove(index);
@@ -198,7 +198,7 @@ impl<T: Clone> EcoVec<T> {
             return Ok(());
         }
         if let Ok(mut fresh) = self.copied(len, fresh_capacity(len))
-            && let Some(block) = Shared::get_mut(&mut fresh)
+            && let Some(block) = Rc::get_mut(&mut fresh)
         {
             block.set(index, value);
             self.block = Some(fresh);
@@ -282,11 +282,11 @@ impl<T: Clone> EcoVec<T> {
         }
         if len == 0 {
             let block = Block::from_clones(self.alloc, elements, room)?;
-            self.block = Some(Shared::new(self.alloc, block)?);
+            self.block = Some(Rc::new(self.alloc, block)?);
             return Ok(());
         }
         let mut fresh = self.copied(len, room)?;
-        let Some(block) = Shared::get_mut(&mut fresh) else {
+        let Some(block) = Rc::get_mut(&mut fresh) else {
             return Err(EcoError::Memory);
         };
         block.extend_within(elements)?;
@@ -315,7 +315,7 @@ impl<T: Clone> EcoVec<T> {
             return Ok(());
         }
         let mut fresh = self.copied(len, fresh_capacity(len))?;
-        let Some(own) = Shared::get_mut(&mut fresh) else {
+        let Some(own) = Rc::get_mut(&mut fresh) else {
             return Err(EcoError::Memory);
         };
         own.retain(f);

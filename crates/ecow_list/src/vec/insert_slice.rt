@@ -8,9 +8,9 @@ use crate::error::EcoError;
 use crate::vec::EcoVec;
 use ecow_base::{MAX_LEN, room_for};
 use ecow_block::Block;
-use ecow_shared::Shared;
 use std::alloc::AllocError;
 use std::mem::size_of_val;
+use std::rc::Rc;
 
 impl<T: Clone + Copy> EcoVec<T> {
     /// Puts copies of `elements` in at `index`, before the element that stands there, in moves of
@@ -59,7 +59,7 @@ impl<T: Clone + Copy> EcoVec<T> {
             return Ok(());
         }
         let mut fresh = self.copied(len, room)?;
-        let Some(block) = Shared::get_mut(&mut fresh) else {
+        let Some(block) = Rc::get_mut(&mut fresh) else {
             return Err(EcoError::Memory);
         };
         insert_within(block, index, elements)?;

@@ -7,7 +7,7 @@ ghost use Rattle.ecow_list.specs.Vectors.{IsKeptIn};
 use crate::error::{EcoError, Rejected};
 use crate::vec::EcoVec;
 use ecow_base::{MAX_LEN, room_for};
-use ecow_shared::Shared;
+use std::rc::Rc;
 
 impl<T: Clone> EcoVec<T> {
     /// Appends `value`. A vector that is shared copies its elements into a block of its own first,
@@ -63,7 +63,7 @@ impl<T: Clone> EcoVec<T> {
             return Ok(());
         }
         if let Ok(mut fresh) = self.copied(len, room)
-            && let Some(block) = Shared::get_mut(&mut fresh)
+            && let Some(block) = Rc::get_mut(&mut fresh)
         {
             block.push_within(value);
             self.block = Some(fresh);

@@ -13,9 +13,9 @@ use crate::vec::EcoVec;
 use crate::vec::collect::collected;
 use ecow_base::{MAX_LEN, fresh_capacity, resolve, room_for};
 use ecow_block::{Block, Rest};
-use ecow_shared::Shared;
 use std::alloc::AllocError;
 use std::ops::RangeBounds;
+use std::rc::Rc;
 
 impl<T: Clone> EcoVec<T> {
     /// Takes out the elements of `range`, which `range_in` tests; the vector is final when the call
@@ -97,7 +97,7 @@ impl<T: Clone> EcoVec<T> {
             return Ok(replacement.into_rest());
         }
         let mut fresh = self.copied(len, room)?;
-        let Some(block) = Shared::get_mut(&mut fresh) else {
+        let Some(block) = Rc::get_mut(&mut fresh) else {
             return Err(AllocError);
         };
         let removed = block.splice_within(start, end, replacement);

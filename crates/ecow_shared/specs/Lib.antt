@@ -1,2 +1,0 @@
-pub mod Ownership
-pub mod Lends

@@ -1,9 +1,0 @@
-pub mod Memory
-pub mod Places
-pub mod Deeds
-pub mod Heads
-pub mod Lists
-pub mod Splices
-pub mod Retained
-pub mod Bytes
-pub mod Cloned
