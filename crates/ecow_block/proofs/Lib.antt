@@ -1,5 +1,6 @@
 pub mod Memory
 pub mod Places
+pub mod Slots
 pub mod Deeds
 pub mod Lists
 pub mod Splices

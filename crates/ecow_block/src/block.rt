@@ -418,6 +418,29 @@ impl<T: Clone> Block<T> {
     }
 }
 
+impl<T: Copy> Block<T> {
+    /// Appends copies of `elements`, for which there is room, in one move of memory.
+    pub fn extend_copies(&mut self, elements: &[T])
+        requires { length self.old.items + length elements.now ≤ self.old.capacity }
+        ensures { self.new ≡ contents (self.old.items ++ elements.now) self.old.capacity }
+    {
+        let len = self.len + elements.len();
+        self.room.put_copies(self.base, self.len, elements);
+        self.len = len;
+    }
+
+    /// A block with room for `capacity` elements, and copies of `elements` in it.
+    pub fn from_copies(alloc: Global, elements: &[T], capacity: usize) -> Result<Self, AllocError>
+        requires room { length elements.now ≤ capacity }
+        requires bounded { capacity ≤ MAX_LEN }
+        ensures { IfOk result (λ block. block ≡ contents elements.now capacity) }
+    {
+        let mut block = Block::with_capacity(alloc, capacity)?;
+        block.extend_copies(elements);
+        Ok(block)
+    }
+}
+
 impl<T: Drop> Block<T> {
     /// Puts `value` in place of the element at `index`, which is dropped.
     pub fn set(&mut self, index: usize, value: T)

@@ -329,6 +329,23 @@ impl<T> Room<T> {
         self.append(moved);
     }
 
+    /// Appends copies of `items` in one move of memory. The places are numbered from 0 on, and before the call there are `len`
+    /// items.
+    pub(crate) fn put_copies(&mut self, base: Base<T>, len: usize, items: &[T])
+    where
+        T: Copy,
+        requires { (base.ptr ≡ self.old.at) × (self.old.start ≡ 0) × (len ≡ length self.old.items) × (len + length items.now ≤ self.old.capacity) }
+        ensures items { self.new.items ≡ self.old.items ++ items.now }
+        ensures places { SamePlaces self.old self.new }
+    {
+        let mut places = self.split_off(len);
+        let spare = places.split_off(items.len());
+        let mut slots = places.into_slots(base, len, items);
+        slots.copy_in(0, items);
+        self.append(Room::of_slots(slots, base, len));
+        self.widen(spare);
+    }
+
     /// Drops the last `count` items, the first of which lies in the place numbered `at`.
     pub(crate) fn drop_last(&mut self, base: Base<T>, at: usize, count: usize)
     where

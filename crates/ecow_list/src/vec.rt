@@ -8,6 +8,7 @@ ghost use Rattle.ecow_base.specs.Clones.{ClonesAreEqual};
 
 mod collect;
 mod conversions;
+mod copies;
 mod edits;
 mod insert_slice;
 mod make_mut;

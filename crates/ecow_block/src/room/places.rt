@@ -2,10 +2,12 @@
 ghost use Rattle.std.specs.Prelude.{◌≡◌, ◌+◌, ◌*◌, ◌^◌, ◌<◌, ◌≤◌, [], ◌∷◌, ◌++◌, length, take, drop};
 ghost use Rattle.std.specs.Borrow.{sem};
 ghost use Rattle.std.specs.Mem.{type_size};
+ghost use Rattle.std.specs.Mem.Slots.{slots_items, slots_ptr, slots_len, IsFull};
 ghost use Rattle.ecow_block.specs.Ownership.{place};
 ghost use Rattle.ecow_block.specs.Rooms.{SamePlaces, Follows};
 
 use super::{Base, CHUNK, Room};
+use core::slots::Slots;
 use std::marker::PhantomData;
 use std::ptr::copy_nonoverlapping;
 use std::slice;
@@ -121,6 +123,27 @@ impl<T> Room<T> {
         ensures places { (self.new.at ≡ self.old.at) × (self.new.start ≡ self.old.start) × (self.new.capacity ≡ self.old.capacity + spare.capacity) }
     {
         let Room { mark: _ } = spare;
+    }
+
+    /// Empty places, the first of them numbered `at`, as slots. There are as many as `like` has items, which stand for what they
+    /// hold.
+    pub(crate) fn into_slots(self, base: Base<T>, at: usize, like: &[T]) -> Slots<T>
+        requires { (base.ptr ≡ self.at) × (at ≡ self.start) × (self.items ≡ []) × (self.capacity ≡ length like.now) }
+        ensures items { (slots_items result ≡ like.now) × (slots_len result ≡ length like.now) }
+        ensures places { (slots_ptr result ≡ place T.row base.ptr at) × ((at + slots_len result) * type_size T.row < 2 ^ 63) }
+    {
+        let Room { mark: _ } = self;
+        unsafe { Slots::from_raw_parts(base.ptr.add(at), like.len()) }
+    }
+
+    /// The same places again, once all of them are filled.
+    pub(crate) fn of_slots(slots: Slots<T>, _base: Base<T>, _at: usize) -> Room<T>
+        requires { (slots_ptr slots ≡ place T.row _base.ptr _at) × ((_at + slots_len slots) * type_size T.row < 2 ^ 63) × IsFull slots }
+        ensures items { result.items ≡ slots_items slots }
+        ensures places { (result.at ≡ _base.ptr) × (result.start ≡ _at) × (result.capacity ≡ slots_len slots) }
+    {
+        let _parts = unsafe { slots.into_raw_parts() };
+        Room { mark: PhantomData }
     }
 
     /// Numbers the places from 0 on, as if the block began with them, and returns where that is. Before, the first was numbered

@@ -68,7 +68,7 @@ impl<const N: usize> SmallBytes<N> {
         let mut inline = InlineVec::new();
         let form = match inline.extend_from_slice(bytes) {
             Ok(()) => Form::Inline(inline),
-            Err(_) => Form::Spilled(EcoVec::from_slice(alloc, bytes)?),
+            Err(_) => Form::Spilled(EcoVec::from_copied(alloc, bytes)?),
         };
         Ok(SmallBytes { form, alloc })
     }

@@ -22,7 +22,7 @@ pub(super) fn spilled(
 {
     let room = room_for(bytes.len(), additional, bytes.len()).next_power_of_two();
     let mut vec = EcoVec::with_capacity(alloc, room.min(MAX_LEN))?;
-    vec.extend_from_slice(bytes)?;
+    vec.extend_from_copied(bytes)?;
     Ok(vec)
 }
 
@@ -76,7 +76,7 @@ impl<const N: usize> SmallBytes<N> {
         }
         let inline = match &mut self.form {
             Form::Inline(inline) => inline,
-            Form::Spilled(vec) => return vec.extend_from_slice(bytes),
+            Form::Spilled(vec) => return vec.extend_from_copied(bytes),
         };
         if let Ok(()) = inline.extend_from_slice(bytes) {
             return Ok(());
@@ -120,7 +120,7 @@ impl<const N: usize> SmallBytes<N> {
             return Err(EcoError::Capacity);
         }
         let mut vec = spilled(self.alloc, self.as_slice(), bytes.len())?;
-        vec.extend_from_slice(bytes)?;
+        vec.extend_from_copied(bytes)?;
         self.form = Form::Spilled(vec);
         Ok(())
     }

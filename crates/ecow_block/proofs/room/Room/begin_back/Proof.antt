@@ -25,7 +25,7 @@ use types.ByLocal.{alloc_all, pass_all, free_all, look_at, sets}
 use denote.Builtin.{usize}
 use denote.Exit.{yes, no}
 use denote.RattleType.{owns}
-use denote.RawPtr.{Ptr, InBlock, block_ptr, null_ptr, block_of, count_of, ◌+ₚ◌}
+use denote.RawPtr.{count_of, ◌+ₚ◌}
 use denote.Signature.{plain, types_at}
 use denote.Steps.{heard, nothing}
 use denote.Triple.Clauses.{Clauses, Ended, closing}
@@ -36,15 +36,11 @@ use Rattle.core.proofs.mem.Facts.{says_two}
 use Rattle.core.proofs.mem.Param.{El, args}
 use Rattle.std_alloc.proofs.RcSteps.{word, word-Good}
 use Rattle.ecow_block.proofs.Memory.{Rm, Bs, room_d, sz, Held, Spare, base_had, room_opens, room_closes}
+use Rattle.ecow_block.proofs.Slots.{below}
 use Rattle.ecow_block.specs.contracts.room.Room.begin_back as F
 use Rattle.ecow_block.specs.contracts.room.Room.begin_back.Key.{name as #self}
 use Rattle.ecow_block.proofs.room.Room.begin_back.Statement.{statement}
 use Rattle.ecow_block.proofs.room.Room.begin_back.Code as code
-
--- what lies n bytes below a place of a block
-below : (p : Ptr) (n b o : ℕ) → p +ₚ n ≡ block_ptr b o → (p ≡ block_ptr b (count_of p)) × (count_of p + n ≡ o)
-below (block_ptr b' o') n b o e = (ap (λ k. block_ptr k o') (ap block_of e), ap count_of e)
-below null_ptr n b o e = absurd (subst InBlock (sym e) tt)
 
 module _ (E : El) where
   abbrev here : Fn

@@ -1,0 +1,86 @@
+//! What takes elements of a slice as memory, all of them in one move, where the others clone each.
+//! No clone is refused then, and a result is exact for every such element.
+ghost use Rattle.std.specs.Prelude.{◌≡◌, ◌+◌, ◌<◌, ◌≤◌, ◌↔◌, [], ◌++◌, length, IsOk, IfOk, OnOk, OnErr, IsErrOf};
+
+use crate::error::EcoError;
+use crate::vec::EcoVec;
+use ecow_base::{MAX_LEN, fresh_capacity, room_for};
+use ecow_block::Block;
+use std::alloc::Global;
+use std::rc::Rc;
+
+impl<T: Clone + Copy> EcoVec<T> {
+    /// Copies of the elements of a slice; without a block, and never refused, where there are none.
+    /// Answers `Capacity` past 2^63 - 1 elements, and else `Memory`.
+    ///
+    /// This project's own: `from_slice` of the original chooses so by the type.
+    #[inline]
+    pub fn from_copied(alloc: Global, elements: &[T]) -> Result<Self, EcoError>
+        ensures ok { IfOk result (λ v. v ≡ elements.now) }
+        ensures capacity { IsErrOf result EcoError.Capacity ↔ (MAX_LEN < length elements.now) }
+        ensures nothing { elements.now ≡ [] → IsOk result }
+    {
+        let len = elements.len();
+        if len > MAX_LEN {
+            return Err(EcoError::Capacity);
+        }
+        if len == 0 {
+            return Ok(EcoVec::new(alloc));
+        }
+        let block = Block::from_copies(alloc, elements, fresh_capacity(len))?;
+        Ok(EcoVec {
+            block: Some(Rc::new(alloc, block)?),
+            alloc,
+        })
+    }
+
+    /// Appends copies of `elements`: all, or none where it is refused. A vector that is shared
+    /// copies its own elements first, and one that is too full gets a larger block. For no elements
+    /// it is never refused and changes nothing, sharing included. Else a refusal changes nothing:
+    /// `Capacity` where the new length passes 2^63 - 1, and `Memory` where that isn't so.
+    ///
+    /// This project's own: `extend_from_slice` of the original chooses so by the type.
+    #[inline]
+    pub fn extend_from_copied(&mut self, elements: &[T]) -> Result<(), EcoError>
+        ensures ok { OnOk result (self.new ≡ self.old ++ elements.now) }
+        ensures err { OnErr result (self.new ≡ self.old) }
+        ensures capacity { IsErrOf result EcoError.Capacity ↔ (MAX_LEN < length self.old + length elements.now) }
+        ensures nothing { elements.now ≡ [] → IsOk result × (self.new ≡ self.old) }
+    {
+        let (_len, added) = (self.len(), elements.len());
+        if added == 0 {
+            return Ok(());
+        }
+        if let Some(block) = self.sole_block()
+            && added <= block.capacity() - block.len()
+        {
+            block.extend_copies(elements);
+            return Ok(());
+        }
+        self.copied_growing(elements)
+    }
+
+    /// The same where the block is too small, shared or not there.
+    #[inline(never)]
+    fn copied_growing(&mut self, elements: &[T]) -> Result<(), EcoError>
+        requires { 0 < length elements.now }
+        ensures ok { OnOk result (self.new ≡ self.old ++ elements.now) }
+        ensures err { OnErr result (self.new ≡ self.old) }
+        ensures capacity { IsErrOf result EcoError.Capacity ↔ (MAX_LEN < length self.old + length elements.now) }
+    {
+        let (len, added) = (self.len(), elements.len());
+        if added > MAX_LEN - len {
+            return Err(EcoError::Capacity);
+        }
+        let room = room_for(len, added, self.capacity());
+        if let Some(block) = self.sole_block() {
+            block.grow(room_for(len, added, block.capacity()))?;
+            block.extend_copies(elements);
+            return Ok(());
+        }
+        let mut block = Block::from_copies(self.alloc, self.as_slice(), room)?;
+        block.extend_copies(elements);
+        self.block = Some(Rc::new(self.alloc, block)?);
+        Ok(())
+    }
+}
