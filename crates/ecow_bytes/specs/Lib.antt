@@ -1,2 +1,3 @@
 pub mod Form
+pub mod Hashes
 pub mod Lends

@@ -33,7 +33,7 @@ fn same_ends<const M: usize>(left: &[u8], right: &[u8]) -> bool
     same_at::<M>(left, right, 0) & same_at::<M>(left, right, left.len() - M)
 }
 
-/// Whether as many bytes are the same, at most a group. No loop is gone round.
+/// Whether as many bytes are the same, at most a group. No loop is gone round, and nothing is called.
 #[inline(always)]
 fn few_same(left: &[u8], right: &[u8]) -> bool
     requires as_many { length left.now ≡ length right.now }
@@ -53,7 +53,13 @@ fn few_same(left: &[u8], right: &[u8]) -> bool
     if len >= 4 {
         return same_ends::<4>(left, right);
     }
-    left == right
+    if len >= 2 {
+        return same_ends::<2>(left, right);
+    }
+    if len == 1 {
+        return same_ends::<1>(left, right);
+    }
+    true
 }
 
 /// Whether the groups from `first` and from `second` on are the same.

@@ -21,7 +21,7 @@ impl io::Write for EcoVec<u8> {
         ensures memory { IfErr result (λ error. error_kind error ≡ OutOfMemory) }
         ensures unchanged { OnErr result (self.new ≡ self.old) }
     {
-        match self.extend_from_slice(buf) {
+        match self.extend_from_copied(buf) {
             Ok(()) => Ok(buf.len()),
             Err(_) => Err(AllocError.into()),
         }

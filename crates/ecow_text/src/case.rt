@@ -130,6 +130,6 @@ fn push_mapped(made: &mut EcoVec<u8>, piece: &[u8], case: Case) -> Result<(), Ec
     let front = &mut buffer[..piece.len()];
     front.copy_from_slice(piece);
     case.map(front);
-    made.extend_from_slice(front)?;
+    made.extend_from_copied(front)?;
     Ok(())
 }
