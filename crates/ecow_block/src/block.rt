@@ -232,8 +232,7 @@ impl<T> Block<T> {
     }
 
     /// The same where there may be less room.
-    #[cold]
-    #[inline(never)]
+    #[inline]
     fn enlarge(&mut self, capacity: usize) -> Result<(), AllocError>
         requires { self.old.capacity ≤ capacity }
         ensures { self.new ≡ contents self.old.items (if is_ok result then capacity else self.old.capacity) }
@@ -254,6 +253,16 @@ impl<T> Block<T> {
             self.capacity = capacity;
             return Ok(());
         }
+        self.renew(capacity)
+    }
+
+    /// The same with places of their own, where the block has none that could be enlarged.
+    #[cold]
+    #[inline(never)]
+    fn renew(&mut self, capacity: usize) -> Result<(), AllocError>
+        requires { self.old.capacity ≤ capacity }
+        ensures { self.new ≡ contents self.old.items (if is_ok result then capacity else self.old.capacity) }
+    {
         let mut larger = Block::with_capacity(self.alloc, capacity)?;
         self.drain_into(0, self.len, &mut larger);
         replace(self, larger).destroy_empty();
@@ -427,6 +436,18 @@ impl<T: Copy> Block<T> {
         let len = self.len + elements.len();
         self.room.put_copies(self.base, self.len, elements);
         self.len = len;
+    }
+
+    /// Appends copies of the elements from `start` up to `end`, for which there is room, in one move of memory.
+    pub fn extend_from_within(&mut self, start: usize, end: usize)
+        requires ordered { start ≤ end }
+        requires in_bounds { end ≤ length self.old.items }
+        requires room { length self.old.items + (end - start) ≤ self.old.capacity }
+        ensures { self.new ≡ contents (self.old.items ++ slice_range self.old.items start end) self.old.capacity }
+    {
+        let len = self.len;
+        self.room.put_copies_within(self.base, len, start, end);
+        self.len = len + (end - start);
     }
 
     /// A block with room for `capacity` elements, and copies of `elements` in it.

@@ -1,4 +1,4 @@
-//! The array behind an `InlineVec`.
+//! The memory of an `InlineVec`.
 ghost use Rattle.std.specs.Prelude.{◌≡◌, ◌≤◌, length, take};
 ghost use Rattle.std.specs.Borrow.{sem};
 ghost use Rattle.ecow_bytes.specs.Lends.{lends_first};
@@ -8,6 +8,14 @@ ghost use Rattle.ecow_bytes.specs.Lends.{lends_first};
 #[derive(Clone, Copy, Drop)]
 pub(crate) struct Cells<const N: usize> {
     pub(crate) bytes: [u8; N],
+}
+
+/// An array, and how many bytes at its front count. It is a struct of its own, with no model, so that
+/// a copy of it is one of memory.
+#[derive(Clone, Copy, Drop)]
+pub(crate) struct Buffer<const N: usize> {
+    pub(crate) cells: Cells<N>,
+    pub(crate) len: usize,
 }
 
 impl<const N: usize> Cells<N> {

@@ -2,15 +2,14 @@
 ghost use Rattle.std.specs.Prelude.{◌≡◌, ◌+◌, ◌-◌, ◌<◌, ◌≤◌, ◌↔◌, [], ◌∷◌, ◌++◌, length, take, IsOk, OnOk, OnErr, slice_get, slice_set, Some};
 ghost use Rattle.std.specs.List.{remove, insert_slice};
 
-use crate::cells::Cells;
+use crate::cells::{Buffer, Cells};
 use ecow_base::MAX_LEN;
 use std::marker::Model;
 
 /// A list of at most `N` bytes. It takes no memory.
 #[derive(Drop)]
 pub(crate) struct InlineVec<const N: usize> {
-    cells: Cells<N>,
-    len: usize,
+    buffer: Buffer<N>,
 }
 
 /// There is no room for what was to go in; nothing has changed.
@@ -22,9 +21,9 @@ impl<const N: usize> Model for InlineVec<N> {
 
     ghost Value = { List ℕ };
 
-    ghost view = { λ v. take v.len v.cells.bytes };
+    ghost view = { λ v. take v.buffer.len v.buffer.cells.bytes };
 
-    ghost invariant = { λ v. (v.len ≤ N) × (length v.cells.bytes ≡ N) };
+    ghost invariant = { λ v. (v.buffer.len ≤ N) × (length v.buffer.cells.bytes ≡ N) };
 }
 
 impl<const N: usize> InlineVec<N> {
@@ -37,8 +36,10 @@ impl<const N: usize> InlineVec<N> {
         ensures bounded { N ≤ MAX_LEN }
     {
         InlineVec {
-            cells: Cells { bytes: [0; N] },
-            len: 0,
+            buffer: Buffer {
+                cells: Cells { bytes: [0; N] },
+                len: 0,
+            },
         }
     }
 
@@ -48,7 +49,7 @@ impl<const N: usize> InlineVec<N> {
         ensures fits { result ≤ N }
         ensures bounded { N ≤ MAX_LEN }
     {
-        self.len
+        self.buffer.len
     }
 
     /// For how many bytes there is room.
@@ -57,7 +58,7 @@ impl<const N: usize> InlineVec<N> {
         ensures fits { length self.now ≤ result }
         ensures bounded { result ≤ MAX_LEN }
     {
-        self.cells.bytes[..].len()
+        self.buffer.cells.bytes[..].len()
     }
 
     /// The bytes, in order.
@@ -65,7 +66,7 @@ impl<const N: usize> InlineVec<N> {
         ensures value { result.now ≡ self.now }
         ensures fits { length result.now ≤ N }
     {
-        &self.cells.bytes[..self.len]
+        &self.buffer.cells.bytes[..self.buffer.len]
     }
 
     /// The same bytes once more.
@@ -74,8 +75,7 @@ impl<const N: usize> InlineVec<N> {
         ensures { result ≡ self.now }
     {
         InlineVec {
-            cells: self.cells,
-            len: self.len,
+            buffer: self.buffer,
         }
     }
 
@@ -86,12 +86,12 @@ impl<const N: usize> InlineVec<N> {
         ensures ok { OnOk result (self.new ≡ self.old ++ byte ∷ []) }
         ensures err { OnErr result (self.new ≡ self.old) }
     {
-        let len = self.len;
+        let len = self.buffer.len;
         if len == N {
             return Err(Full);
         }
-        self.cells.bytes[len] = byte;
-        self.len = len + 1;
+        self.buffer.cells.bytes[len] = byte;
+        self.buffer.len = len + 1;
         Ok(())
     }
 
@@ -101,19 +101,19 @@ impl<const N: usize> InlineVec<N> {
         ensures value { result ≡ slice_get self.old (length self.old - 1) }
         ensures bytes { self.new ≡ take (length self.old - 1) self.old }
     {
-        if self.len == 0 {
+        if self.buffer.len == 0 {
             return None;
         }
-        self.len -= 1;
-        Some(self.cells.bytes[self.len])
+        self.buffer.len -= 1;
+        Some(self.buffer.cells.bytes[self.buffer.len])
     }
 
     /// Keeps the first `target` bytes, or all where there are fewer.
     pub(crate) fn truncate(&mut self, target: usize)
         ensures { self.new ≡ take target self.old }
     {
-        if target < self.len {
-            self.len = target;
+        if target < self.buffer.len {
+            self.buffer.len = target;
         }
     }
 
@@ -121,7 +121,7 @@ impl<const N: usize> InlineVec<N> {
     pub(crate) fn clear(&mut self)
         ensures { self.new ≡ [] }
     {
-        self.len = 0;
+        self.buffer.len = 0;
     }
 
     /// Appends `bytes`. Refused where there were more than `N` then.
@@ -132,13 +132,13 @@ impl<const N: usize> InlineVec<N> {
         ensures ok { OnOk result (self.new ≡ self.old ++ bytes.now) }
         ensures err { OnErr result (self.new ≡ self.old) }
     {
-        if N - self.len < bytes.len() {
+        if N - self.buffer.len < bytes.len() {
             return Err(Full);
         }
-        let end = self.len + bytes.len();
-        let all = &mut self.cells.bytes[..];
-        all[self.len..end].copy_from_slice(bytes);
-        self.len = end;
+        let end = self.buffer.len + bytes.len();
+        let all = &mut self.buffer.cells.bytes[..];
+        all[self.buffer.len..end].copy_from_slice(bytes);
+        self.buffer.len = end;
         Ok(())
     }
 
@@ -149,14 +149,14 @@ impl<const N: usize> InlineVec<N> {
         ensures ok { OnOk result (self.new ≡ insert_slice self.old index bytes.now) }
         ensures err { OnErr result (self.new ≡ self.old) }
     {
-        if N - self.len < bytes.len() {
+        if N - self.buffer.len < bytes.len() {
             return Err(Full);
         }
-        let end = self.len;
-        let all = &mut self.cells.bytes[..];
+        let end = self.buffer.len;
+        let all = &mut self.buffer.cells.bytes[..];
         all.copy_within(index..end, index + bytes.len());
         all[index..index + bytes.len()].copy_from_slice(bytes);
-        self.len = end + bytes.len();
+        self.buffer.len = end + bytes.len();
         Ok(())
     }
 
@@ -166,10 +166,10 @@ impl<const N: usize> InlineVec<N> {
         ensures value { slice_get self.old index ≡ Some result }
         ensures bytes { self.new ≡ remove self.old index }
     {
-        let byte = self.cells.bytes[index];
-        let end = self.len;
-        self.cells.bytes.copy_within(index + 1..end, index);
-        self.len = end - 1;
+        let byte = self.buffer.cells.bytes[index];
+        let end = self.buffer.len;
+        self.buffer.cells.bytes.copy_within(index + 1..end, index);
+        self.buffer.len = end - 1;
         byte
     }
 
@@ -178,7 +178,7 @@ impl<const N: usize> InlineVec<N> {
         requires { index < length self.old }
         ensures { self.new ≡ slice_set self.old index byte }
     {
-        self.cells.bytes[index] = byte;
+        self.buffer.cells.bytes[index] = byte;
     }
 
     /// The bytes, for writing.
@@ -186,6 +186,8 @@ impl<const N: usize> InlineVec<N> {
         ensures* writes_back { sem 𝓛 (lends_inline N.row self.entry result) }
         ensures value { result.now ≡ self.old }
     {
-        self.cells.front_mut(self.len)
+        let len = self.buffer.len;
+        let buffer = &mut self.buffer;
+        buffer.cells.front_mut(len)
     }
 }

@@ -25,7 +25,7 @@ impl<const N: usize> SmallBytes<N> {
         let SmallBytes { form, alloc } = self;
         match form {
             Form::Spilled(vec) => Ok(vec),
-            Form::Inline(inline) => match EcoVec::from_slice(alloc, inline.as_slice()) {
+            Form::Inline(inline) => match EcoVec::from_copied(alloc, inline.as_slice()) {
                 Ok(vec) => Ok(vec),
                 Err(error) => Err(Rejected {
                     error,

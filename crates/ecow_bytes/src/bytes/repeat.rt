@@ -3,16 +3,13 @@ ghost use Rattle.std.specs.Prelude.{◌≡◌, ◌+◌, ◌*◌, ◌<◌, ◌≤
 ghost use Rattle.std.specs.List.{repeat};
 ghost use Rattle.ecow_model.specs.Inline.{inline_after, inline_for};
 
-use crate::bytes::SmallBytes;
+use crate::bytes::{Form, SmallBytes};
 use ecow_base::MAX_LEN;
 use ecow_list::EcoError;
 
-/// How many bytes are copied at once, at most, unless one copy has more.
-const PIECE: usize = 4096;
-
 impl<const N: usize> SmallBytes<N> {
     /// The bytes `count` times over: inline where they come to at most `N`, which is never refused,
-    /// and else spilled. Each step appends as many copies as there are, up to some 4096 bytes. Of no
+    /// and else spilled. Each step appends as many copies as there are, in one move of memory. Of no
     /// bytes it returns at once, however often.
     ///
     /// Answers `Capacity` where they come to more than 2^63 - 1, and else `Memory`.
@@ -33,7 +30,7 @@ impl<const N: usize> SmallBytes<N> {
         made.extend_from_slice(self.as_slice())?;
         let mut copies = 1;
         while copies < count {
-            let more = copies.min(count - copies).min(PIECE.div_ceil(len));
+            let more = copies.min(count - copies);
             made.append_front(more * len)?;
             copies += more;
         }
@@ -50,6 +47,9 @@ impl<const N: usize> SmallBytes<N> {
         ensures memory { IfErr result (λ error. error ≡ EcoError.Memory) }
         ensures free { OnErr result (inline_after N self.old.inline (length self.old.bytes) len ≡ false) }
     {
+        if let Form::Spilled(vec) = &mut self.form {
+            return vec.extend_from_within(..len);
+        }
         let front = Self::from_slice(self.alloc, &self.as_slice()[..len])?;
         self.extend_from_slice(front.as_slice())?;
         Ok(())

@@ -1,12 +1,15 @@
 //! What takes elements of a slice as memory, all of them in one move, where the others clone each.
 //! No clone is refused then, and a result is exact for every such element.
-ghost use Rattle.std.specs.Prelude.{◌≡◌, ◌+◌, ◌<◌, ◌≤◌, ◌↔◌, [], ◌++◌, length, IsOk, IfOk, OnOk, OnErr, IsErrOf};
+ghost use Rattle.std.specs.Prelude.{◌≡◌, ◌+◌, ◌-◌, ◌<◌, ◌≤◌, ◌↔◌, [], ◌++◌, length, slice_range, IsOk, IfOk, OnOk, OnErr, IsErrOf, IsSome};
+ghost use Rattle.ecow_base.specs.Range.{range_of};
+ghost use Rattle.ecow_list.specs.Ranges.{AtRange};
 
 use crate::error::EcoError;
 use crate::vec::EcoVec;
-use ecow_base::{MAX_LEN, fresh_capacity, room_for};
+use ecow_base::{MAX_LEN, fresh_capacity, resolve, room_for};
 use ecow_block::Block;
 use std::alloc::Global;
+use std::ops::RangeBounds;
 use std::rc::Rc;
 
 impl<T: Clone + Copy> EcoVec<T> {
@@ -72,15 +75,61 @@ impl<T: Clone + Copy> EcoVec<T> {
         if added > MAX_LEN - len {
             return Err(EcoError::Capacity);
         }
-        let room = room_for(len, added, self.capacity());
         if let Some(block) = self.sole_block() {
             block.grow(room_for(len, added, block.capacity()))?;
             block.extend_copies(elements);
             return Ok(());
         }
+        let room = room_for(len, added, self.capacity());
         let mut block = Block::from_copies(self.alloc, self.as_slice(), room)?;
         block.extend_copies(elements);
         self.block = Some(Rc::new(self.alloc, block)?);
+        Ok(())
+    }
+
+    /// Appends copies of the elements of `range`, which `range_in` tests, in one move of memory: all,
+    /// or none where it is refused. A vector that is shared copies its elements into a block of its
+    /// own first, and one that is too full gets a larger block. For an empty range it is never
+    /// refused and changes nothing, sharing included. Else a refusal changes nothing: `Capacity`
+    /// where the new length passes 2^63 - 1, and `Memory` where that isn't so.
+    ///
+    /// This project's own: the original has no such call, and the standard library's vector has.
+    pub fn extend_from_within<R: RangeBounds<usize>>(&mut self, range: R) -> Result<(), EcoError>
+        requires known { R.has_bounds range }
+        requires in_range { IsSome (range_of (R.start_bound range, R.end_bound range) (length self.old)) }
+        ensures ok { OnOk result (AtRange (R.start_bound range, R.end_bound range) (length self.old) (λ start end. self.new ≡ self.old ++ slice_range self.old start end)) }
+        ensures err { OnErr result (self.new ≡ self.old) }
+        ensures capacity { AtRange (R.start_bound range, R.end_bound range) (length self.old) (λ start end. IsErrOf result EcoError.Capacity ↔ (MAX_LEN < length self.old + (end - start))) }
+        ensures nothing { AtRange (R.start_bound range, R.end_bound range) (length self.old) (λ start end. start ≡ end → IsOk result × (self.new ≡ self.old)) }
+    {
+        let (start, end) = resolve(&range, self.len()).unwrap();
+        if start == end {
+            return Ok(());
+        }
+        self.extend_within(start, end)
+    }
+
+    /// The same of the elements from `start` up to `end`.
+    fn extend_within(&mut self, start: usize, end: usize) -> Result<(), EcoError>
+        requires some { start < end }
+        requires in_bounds { end ≤ length self.old }
+        ensures ok { OnOk result (self.new ≡ self.old ++ slice_range self.old start end) }
+        ensures err { OnErr result (self.new ≡ self.old) }
+        ensures capacity { IsErrOf result EcoError.Capacity ↔ (MAX_LEN < length self.old + (end - start)) }
+    {
+        let (len, added) = (self.len(), end - start);
+        if added > MAX_LEN - len {
+            return Err(EcoError::Capacity);
+        }
+        if let Some(block) = self.sole_block() {
+            block.grow(room_for(len, added, block.capacity()))?;
+            block.extend_from_within(start, end);
+            return Ok(());
+        }
+        let room = room_for(len, added, self.capacity());
+        let mut fresh = Block::from_copies(self.alloc, self.as_slice(), room)?;
+        fresh.extend_from_within(start, end);
+        self.block = Some(Rc::new(self.alloc, fresh)?);
         Ok(())
     }
 }

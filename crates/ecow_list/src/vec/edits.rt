@@ -130,7 +130,6 @@ impl<T: Clone> EcoVec<T> {
                 value,
             });
         }
-        let room = room_for(len, 1, self.capacity());
         if let Some(block) = self.sole_block() {
             if block.grow(room_for(len, 1, block.capacity())).is_err() {
                 return Err(Rejected {
@@ -141,6 +140,7 @@ impl<T: Clone> EcoVec<T> {
             block.insert_within(index, value);
             return Ok(());
         }
+        let room = room_for(len, 1, self.capacity());
         if let Ok(mut fresh) = self.copied(len, room)
             && let Some(block) = Rc::get_mut(&mut fresh)
         {
@@ -225,10 +225,10 @@ impl<T: Clone> EcoVec<T> {
         if additional > MAX_LEN - len {
             return Err(EcoError::Capacity);
         }
-        let room = room_for(len, additional, self.capacity());
         if let Some(block) = self.sole_block() {
             return Ok(block.grow(room_for(len, additional, block.capacity()))?);
         }
+        let room = room_for(len, additional, self.capacity());
         if room > 0 {
             self.block = Some(self.copied(len, room)?);
         }
@@ -274,12 +274,12 @@ impl<T: Clone> EcoVec<T> {
         if added > MAX_LEN - len {
             return Err(EcoError::Capacity);
         }
-        let room = room_for(len, added, self.capacity());
         if let Some(block) = self.sole_block() {
             block.grow(room_for(len, added, block.capacity()))?;
             block.extend_within(elements)?;
             return Ok(());
         }
+        let room = room_for(len, added, self.capacity());
         if len == 0 {
             let block = Block::from_clones(self.alloc, elements, room)?;
             self.block = Some(Rc::new(self.alloc, block)?);

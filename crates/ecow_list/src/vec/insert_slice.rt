@@ -2,13 +2,11 @@
 ghost use Rattle.std.specs.Prelude.{◌≡◌, ◌+◌, ◌*◌, ◌-◌, ◌^◌, ◌<◌, ◌≤◌, ◌↔◌, length, OnOk, OnErr, IsErrOf, IsTrue};
 ghost use Rattle.std.specs.List.{copy_within, insert_slice};
 ghost use Rattle.std.specs.Mem.{type_size};
-ghost use Rattle.ecow_base.specs.Clones.{ClonesAreEqual};
 
 use crate::error::EcoError;
 use crate::vec::EcoVec;
 use ecow_base::{MAX_LEN, room_for};
 use ecow_block::Block;
-use std::alloc::AllocError;
 use std::mem::size_of_val;
 use std::rc::Rc;
 
@@ -22,7 +20,7 @@ impl<T: Clone + Copy> EcoVec<T> {
     #[inline(never)]
     pub fn insert_slice(&mut self, index: usize, elements: &[T]) -> Result<(), EcoError>
         requires { index ≤ length self.old }
-        ensures ok { ClonesAreEqual T.is_clone → OnOk result (self.new ≡ insert_slice self.old index elements.now) }
+        ensures ok { OnOk result (self.new ≡ insert_slice self.old index elements.now) }
         ensures len { OnOk result (length self.new ≡ length self.old + length elements.now) }
         ensures err { OnErr result (self.new ≡ self.old) }
         ensures capacity { IsErrOf result EcoError.Capacity ↔ (MAX_LEN < length self.old + length elements.now) }
@@ -31,7 +29,8 @@ impl<T: Clone + Copy> EcoVec<T> {
         if let Some(block) = self.sole_block()
             && added <= block.capacity() - block.len()
         {
-            return Ok(insert_within(block, index, elements)?);
+            insert_within(block, index, elements);
+            return Ok(());
         }
         self.insert_slice_growing(index, elements)
     }
@@ -40,8 +39,7 @@ impl<T: Clone + Copy> EcoVec<T> {
     #[inline(never)]
     fn insert_slice_growing(&mut self, index: usize, elements: &[T]) -> Result<(), EcoError>
         requires { index ≤ length self.old }
-        ensures ok { ClonesAreEqual T.is_clone → OnOk result (self.new ≡ insert_slice self.old index elements.now) }
-        ensures len { OnOk result (length self.new ≡ length self.old + length elements.now) }
+        ensures ok { OnOk result (self.new ≡ insert_slice self.old index elements.now) }
         ensures err { OnErr result (self.new ≡ self.old) }
         ensures capacity { IsErrOf result EcoError.Capacity ↔ (MAX_LEN < length self.old + length elements.now) }
     {
@@ -49,44 +47,33 @@ impl<T: Clone + Copy> EcoVec<T> {
         if added > MAX_LEN - len {
             return Err(EcoError::Capacity);
         }
-        let room = room_for(len, added, self.capacity());
         if let Some(block) = self.sole_block() {
             block.grow(room_for(len, added, block.capacity()))?;
-            insert_within(block, index, elements)?;
+            insert_within(block, index, elements);
             return Ok(());
         }
+        let room = room_for(len, added, self.capacity());
         if room == 0 {
             return Ok(());
         }
-        let mut fresh = self.copied(len, room)?;
-        let Some(block) = Rc::get_mut(&mut fresh) else {
-            return Err(EcoError::Memory);
-        };
-        insert_within(block, index, elements)?;
-        self.block = Some(fresh);
+        let mut block = Block::from_copies(self.alloc, self.as_slice(), room)?;
+        insert_within(&mut block, index, elements);
+        self.block = Some(Rc::new(self.alloc, block)?);
         Ok(())
     }
 }
 
-/// Puts copies of `elements`, for which there is room, in at `index`. If it is refused, nothing
-/// changes.
-fn insert_within<T: Clone + Copy>(
-    block: &mut Block<T>,
-    index: usize,
-    elements: &[T],
-) -> Result<(), AllocError>
+/// Puts copies of `elements`, for which there is room, in at `index`.
+fn insert_within<T: Copy>(block: &mut Block<T>, index: usize, elements: &[T])
     requires in_bounds { index ≤ length block.old.items }
     requires room { length block.old.items + length elements.now ≤ block.old.capacity }
-    ensures ok { OnOk result (block.new.items ≡ insert_slice block.old.items index elements.now) }
-    ensures len { OnOk result (length block.new.items ≡ length block.old.items + length elements.now) }
-    ensures err { OnErr result (block.new ≡ block.old) }
+    ensures { block.new.items ≡ insert_slice block.old.items index elements.now }
 {
     let (len, added) = (block.len(), elements.len());
-    block.extend_within(elements)?;
+    block.extend_copies(elements);
     let all = block.as_mut_slice();
     copy_up(all, index, len, index + added);
     all[index..index + added].copy_from_slice(elements);
-    Ok(())
 }
 
 /// Whether there are elements, and each is a byte.

@@ -51,7 +51,6 @@ impl<T: Clone> EcoVec<T> {
                 value,
             });
         }
-        let room = room_for(len, 1, self.capacity());
         if let Some(block) = self.sole_block() {
             if block.grow(room_for(len, 1, block.capacity())).is_err() {
                 return Err(Rejected {
@@ -62,6 +61,7 @@ impl<T: Clone> EcoVec<T> {
             block.push_within(value);
             return Ok(());
         }
+        let room = room_for(len, 1, self.capacity());
         if let Ok(mut fresh) = self.copied(len, room)
             && let Some(block) = Rc::get_mut(&mut fresh)
         {
