@@ -17,6 +17,7 @@ fn main(rt: HostRuntime) -> io::Result<()> {
     let alloc = rt.alloc();
     for (name, holds) in [
         ("edits", vectors::edits_hold(alloc)),
+        ("copies", vectors::copies_hold(alloc)),
         ("ranges", vectors::ranges_hold(alloc)),
         ("conversions", vectors::conversions_hold(alloc)),
         ("growth", vectors::growth_holds(alloc)),

@@ -116,6 +116,47 @@ pub(crate) fn edits_hold(alloc: Global) -> bool {
     hold
 }
 
+fn extend_from_within(list: &mut EcoVec<i64>, start: usize, end: usize) -> Result<(), EcoError> {
+    if !range_in(&(start..end), list.len()) {
+        return Err(EcoError::Capacity);
+    }
+    list.extend_from_within(start..end)
+}
+
+fn insert_slice(list: &mut EcoVec<i64>, index: usize, values: &[i64]) -> Result<(), EcoError> {
+    if index > list.len() {
+        return Err(EcoError::Capacity);
+    }
+    list.insert_slice(index, values)
+}
+
+/// The calls that take elements as memory.
+pub(crate) fn copies_hold(alloc: Global) -> bool {
+    let four = [1, 2, 3, 4].as_slice();
+    let mut hold = true;
+    for shared in [false, true] {
+        hold = hold
+            && holds(alloc, shared, four, &[1, 2, 3, 4, 7, 8], |list| {
+                list.extend_from_copied(&[7, 8])
+            })
+            && holds(
+                alloc,
+                shared,
+                four,
+                &[1, 2, 3, 4, 2, 3],
+                |list| extend_from_within(list, 1, 3),
+            )
+            && holds(
+                alloc,
+                shared,
+                four,
+                &[1, 7, 8, 2, 3, 4],
+                |list| insert_slice(list, 1, &[7, 8]),
+            );
+    }
+    hold
+}
+
 fn drain(list: &mut EcoVec<i64>, start: usize, end: usize) -> Result<(), EcoError> {
     if !range_in(&(start..end), list.len()) {
         return Err(EcoError::Capacity);

@@ -69,6 +69,17 @@ pub(crate) fn drain<T: Clone>(
     list.drain(start..end).map(drop)
 }
 
+pub(crate) fn extend_from_within<T: Clone + Copy>(
+    list: &mut EcoVec<T>,
+    start: usize,
+    end: usize,
+) -> Result<(), EcoError> {
+    if !range_in(&(start..end), list.len()) {
+        return Ok(());
+    }
+    list.extend_from_within(start..end)
+}
+
 pub(crate) fn splice<T: Clone>(
     list: &mut EcoVec<T>,
     start: usize,

@@ -1,5 +1,5 @@
 //! Who shares a block, and what is cloned and dropped, where no script says it.
-use crate::calls::{error_of, reverse, shared};
+use crate::calls::{error_of, extend_from_within, reverse, shared};
 use crate::elements::{Single, Tally};
 use ecow_list::{EcoError, EcoVec};
 use ecow_model::{Command, Items, Outcome, VecCommand};
@@ -29,6 +29,19 @@ fn calls_that_only_read(rt: HostRuntime) -> Result<(), EcoError> {
     first.extend(None)?;
     let read = first == second && first.iter().count() == 3 && first.capacity() == 3;
     assert!(rt; read && !first.is_unique() && !second.is_unique());
+    Ok(())
+}
+
+#[test]
+fn only_what_is_copied_unshares(rt: HostRuntime) -> Result<(), Fail> {
+    let (mut first, second) = with_clone(rt.alloc(), &[1, 2, 3])?;
+    first.extend_from_copied(&[])?;
+    extend_from_within(&mut first, 2, 2)?;
+    assert!(rt; !first.is_unique());
+    extend_from_within(&mut first, 0, 2)?;
+    assert_eq!(rt; room_of_a_unique(&mut first), Some(6));
+    assert_eq!(rt; first.as_slice(), [1, 2, 3, 1, 2].as_slice());
+    assert_eq!(rt; second.as_slice(), [1, 2, 3].as_slice());
     Ok(())
 }
 
