@@ -1,10 +1,9 @@
 //! Loops of one call of `EcoBytes` each, in the form of those of the vector: `bytes` are what the
 //! value is made of.
 
+use crate::pairs;
 use ecow_bytes::EcoBytes;
 use std::alloc::Global;
-use std::cmp::Ordering;
-use std::hash::{DefaultHasher, Hash, Hasher};
 
 #[inline(never)]
 fn bytes_of(alloc: Global, bytes: &[u8]) -> EcoBytes {
@@ -88,42 +87,26 @@ pub(crate) fn extend(alloc: Global, bytes: &[u8], count: u64) -> u64 {
     sum
 }
 
-#[inline(never)]
-fn same(left: &EcoBytes, right: &EcoBytes) -> bool {
-    left == right
-}
-
 /// Compares a value with one and with another that equals it, by turns.
 pub(crate) fn eq(alloc: Global, bytes: &[u8], count: u64) -> u64 {
     let made = bytes_of(alloc, bytes);
-    let (even, odd) = (bytes_of(alloc, bytes), bytes_of(alloc, bytes));
-    let mut sum = 0u64;
-    for round in 0..count {
-        let other = if round % 2 == 0 { &even } else { &odd };
-        if same(&made, other) {
-            sum = sum.wrapping_add(round);
-        }
-    }
-    sum
-}
-
-#[inline(never)]
-fn compared(left: &EcoBytes, right: &EcoBytes) -> Ordering {
-    left.cmp(right)
+    pairs::eq(
+        &made,
+        &bytes_of(alloc, bytes),
+        &bytes_of(alloc, bytes),
+        count,
+    )
 }
 
 /// Orders a value and one or another that equals it, by turns.
 pub(crate) fn cmp(alloc: Global, bytes: &[u8], count: u64) -> u64 {
     let made = bytes_of(alloc, bytes);
-    let (even, odd) = (bytes_of(alloc, bytes), bytes_of(alloc, bytes));
-    let mut sum = 0u64;
-    for round in 0..count {
-        let other = if round % 2 == 0 { &even } else { &odd };
-        if compared(&made, other).is_eq() {
-            sum = sum.wrapping_add(round);
-        }
-    }
-    sum
+    pairs::cmp(
+        &made,
+        &bytes_of(alloc, bytes),
+        &bytes_of(alloc, bytes),
+        count,
+    )
 }
 
 /// Makes a value of a thousand copies.
@@ -156,20 +139,7 @@ pub(crate) fn insert_slice(alloc: Global, bytes: &[u8], count: u64) -> u64 {
     sum
 }
 
-#[inline(never)]
-fn hashed(bytes: &EcoBytes) -> u64 {
-    let mut hasher = DefaultHasher::new();
-    bytes.hash(&mut hasher);
-    hasher.finish()
-}
-
-/// Hashes one and another value, by turns.
+/// Hashes one value and another that equals it, by turns.
 pub(crate) fn hash(alloc: Global, bytes: &[u8], count: u64) -> u64 {
-    let (even, odd) = (bytes_of(alloc, bytes), bytes_of(alloc, bytes));
-    let mut sum = 0u64;
-    for round in 0..count {
-        let made = if round % 2 == 0 { &even } else { &odd };
-        sum = sum.wrapping_add(hashed(made));
-    }
-    sum
+    pairs::hash(&bytes_of(alloc, bytes), &bytes_of(alloc, bytes), count)
 }

@@ -3,10 +3,9 @@
 //! does less, and its sum tells.
 
 use crate::elements::Element;
+use crate::pairs;
 use ecow_list::{EcoVec, range_in};
 use std::alloc::Global;
-use std::cmp::Ordering;
-use std::hash::{DefaultHasher, Hash, Hasher};
 
 fn list_of<T: Element>(alloc: Global, items: &[T]) -> EcoVec<T> {
     match EcoVec::from_slice(alloc, items) {
@@ -274,58 +273,19 @@ pub(crate) fn into_iter<T: Element>(alloc: Global, items: &[T], count: u64) -> u
     sum
 }
 
-#[inline(never)]
-fn same<T: Element>(left: &EcoVec<T>, right: &EcoVec<T>) -> bool {
-    left == right
-}
-
 /// Compares a vector with one and with another that equals it, by turns.
 pub(crate) fn eq<T: Element>(alloc: Global, items: &[T], count: u64) -> u64 {
     let list = list_of(alloc, items);
-    let (even, odd) = (list_of(alloc, items), list_of(alloc, items));
-    let mut sum = 0u64;
-    for round in 0..count {
-        let other = if round % 2 == 0 { &even } else { &odd };
-        if same(&list, other) {
-            sum = sum.wrapping_add(round);
-        }
-    }
-    sum
-}
-
-#[inline(never)]
-fn compared<T: Element>(left: &EcoVec<T>, right: &EcoVec<T>) -> Ordering {
-    left.cmp(right)
+    pairs::eq(&list, &list_of(alloc, items), &list_of(alloc, items), count)
 }
 
 /// Orders a vector and one or another that equals it, by turns.
 pub(crate) fn cmp<T: Element>(alloc: Global, items: &[T], count: u64) -> u64 {
     let list = list_of(alloc, items);
-    let (even, odd) = (list_of(alloc, items), list_of(alloc, items));
-    let mut sum = 0u64;
-    for round in 0..count {
-        let other = if round % 2 == 0 { &even } else { &odd };
-        if compared(&list, other).is_eq() {
-            sum = sum.wrapping_add(round);
-        }
-    }
-    sum
-}
-
-#[inline(never)]
-fn hashed<T: Element>(list: &EcoVec<T>) -> u64 {
-    let mut hasher = DefaultHasher::new();
-    list.hash(&mut hasher);
-    hasher.finish()
+    pairs::cmp(&list, &list_of(alloc, items), &list_of(alloc, items), count)
 }
 
 /// Hashes one vector and another that equals it, by turns.
 pub(crate) fn hash<T: Element>(alloc: Global, items: &[T], count: u64) -> u64 {
-    let (even, odd) = (list_of(alloc, items), list_of(alloc, items));
-    let mut sum = 0u64;
-    for round in 0..count {
-        let list = if round % 2 == 0 { &even } else { &odd };
-        sum = sum.wrapping_add(hashed(list));
-    }
-    sum
+    pairs::hash(&list_of(alloc, items), &list_of(alloc, items), count)
 }

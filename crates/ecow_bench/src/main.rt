@@ -6,6 +6,7 @@
 mod bytes;
 mod elements;
 mod loops;
+mod pairs;
 mod texts;
 
 use ecow_list::EcoVec;

@@ -1,10 +1,9 @@
 //! Loops of one call of `EcoString` each, in the form of those of the vector: `text` is what the value
 //! is made of.
 
+use crate::pairs;
 use ecow_text::{EcoString, ToEcoString, eco_format};
 use std::alloc::Global;
-use std::cmp::Ordering;
-use std::hash::{DefaultHasher, Hash, Hasher};
 
 #[inline(never)]
 fn text_of(alloc: Global, text: &str) -> EcoString {
@@ -124,60 +123,21 @@ pub(crate) fn insert_str(alloc: Global, text: &str, count: u64) -> u64 {
     sum
 }
 
-#[inline(never)]
-fn same(left: &EcoString, right: &EcoString) -> bool {
-    left == right
-}
-
 /// Compares a value with one and with another that equals it, by turns.
 pub(crate) fn eq(alloc: Global, text: &str, count: u64) -> u64 {
     let made = text_of(alloc, text);
-    let (even, odd) = (text_of(alloc, text), text_of(alloc, text));
-    let mut sum = 0u64;
-    for round in 0..count {
-        let other = if round % 2 == 0 { &even } else { &odd };
-        if same(&made, other) {
-            sum = sum.wrapping_add(round);
-        }
-    }
-    sum
-}
-
-#[inline(never)]
-fn compared(left: &EcoString, right: &EcoString) -> Ordering {
-    left.cmp(right)
+    pairs::eq(&made, &text_of(alloc, text), &text_of(alloc, text), count)
 }
 
 /// Orders a value and one or another that equals it, by turns.
 pub(crate) fn cmp(alloc: Global, text: &str, count: u64) -> u64 {
     let made = text_of(alloc, text);
-    let (even, odd) = (text_of(alloc, text), text_of(alloc, text));
-    let mut sum = 0u64;
-    for round in 0..count {
-        let other = if round % 2 == 0 { &even } else { &odd };
-        if compared(&made, other).is_eq() {
-            sum = sum.wrapping_add(round);
-        }
-    }
-    sum
-}
-
-#[inline(never)]
-fn hashed(text: &EcoString) -> u64 {
-    let mut hasher = DefaultHasher::new();
-    text.hash(&mut hasher);
-    hasher.finish()
+    pairs::cmp(&made, &text_of(alloc, text), &text_of(alloc, text), count)
 }
 
 /// Hashes one value and another that equals it, by turns.
 pub(crate) fn hash(alloc: Global, text: &str, count: u64) -> u64 {
-    let (even, odd) = (text_of(alloc, text), text_of(alloc, text));
-    let mut sum = 0u64;
-    for round in 0..count {
-        let made = if round % 2 == 0 { &even } else { &odd };
-        sum = sum.wrapping_add(hashed(made));
-    }
-    sum
+    pairs::hash(&text_of(alloc, text), &text_of(alloc, text), count)
 }
 
 /// Puts three characters in place of each `pattern`.
