@@ -460,9 +460,13 @@ fn run(program: &[&str], words: &[String]) -> (String, f64) {
 /// The least processor times of one round of each program, in nanoseconds. The first program is this, the second the original.
 fn least(programs: &[&[&str]], call: &str, element: &str, length: usize, samples: u32) -> Vec<f64> {
     let words = |count: u64| [call, element, &length.to_string(), &count.to_string()].map(str::to_string);
+    // The fastest program goes round for some milliseconds too: what a run takes without a call differs by one or two.
+    let lasts = |program: &[&str], count: u64, long: f64| {
+        let none = run(program, &words(0)).1;
+        run(program, &words(count)).1 - none >= long.max(none / 2.0)
+    };
     let mut count = 1u64;
-    let none = run(programs[1], &words(0)).1;
-    while run(programs[1], &words(count)).1 - none < 2e7f64.max(none / 2.0) {
+    while !lasts(programs[1], count, 2e7) || !programs.iter().all(|program| lasts(program, count, 8e6)) {
         count *= 2;
     }
     let answers: Vec<String> = programs.iter().map(|program| run(program, &words(count)).0).collect();
