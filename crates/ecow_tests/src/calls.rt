@@ -20,6 +20,10 @@ pub(crate) fn shared<T: Drop>(list: &EcoVec<T>) -> Result<EcoVec<T>, EcoError> {
     Ok(list.clone()?)
 }
 
+pub(crate) fn is_unique<T: Drop>(list: &mut EcoVec<T>) -> bool {
+    list.is_unique()
+}
+
 pub(crate) fn push<T: Clone>(list: &mut EcoVec<T>, value: T) -> Result<(), Rejected<T>> {
     list.push(value)
 }

@@ -17,11 +17,7 @@ fn numbers(
     values: &[i64],
     left: &Rc<Cell<u64>>,
 ) -> Result<Items<Refusing>, AllocError> {
-    let mut elements = Vec::new(alloc);
-    for value in values {
-        elements.push(Refusing::new(*value, left)?)?;
-    }
-    Ok(Items::new(elements))
+    Ok(Items::new(Refusing::several(alloc, values, left)?))
 }
 
 /// The names 0 and 1 share a block of three numbers, of which no clone was made.
@@ -110,37 +106,40 @@ fn the_second_clone_is_refused(rt: HostRuntime) -> Result<(), Fail> {
     Ok(())
 }
 
-/// Commands of which some copy, some grow and some clone what they bring.
-fn script(alloc: Global, left: &Rc<Cell<u64>>) -> Result<Vec<VecCommand<Refusing>>, AllocError> {
-    let bounds = (Bound::Included(1), Bound::Excluded(2));
-    let nothing = (Bound::Included(1), Bound::Excluded(1));
-    let items = numbers(alloc, &[1, 2, 3, 4, 5], left)?;
-    let replacement = numbers(alloc, &[7, 8, 9], left)?;
-    let added = numbers(alloc, &[6, 7], left)?;
-    let value = Refusing::new(8, left)?;
-    let commands = vec![in alloc;
-        VecCommand::FromList { name: 0, items },
-        VecCommand::Clone { from: 0, to: 1 },
-        VecCommand::Splice {
-            name: 1,
-            bounds,
-            items: replacement
-        },
-        VecCommand::Clone { from: 1, to: 2 },
-        VecCommand::Truncate { name: 2, target: 4 },
-        VecCommand::Clone { from: 0, to: 3 },
-        VecCommand::Drain {
-            name: 3,
-            bounds: nothing
-        },
-        VecCommand::Extend {
+/// The commands of a script, of which some copy, some grow and some clone what they bring.
+fn command(
+    alloc: Global,
+    index: usize,
+    left: &Rc<Cell<u64>>,
+) -> Result<VecCommand<Refusing>, AllocError> {
+    Ok(match index {
+        0 => VecCommand::FromList {
             name: 0,
-            items: added
+            items: numbers(alloc, &[1, 2, 3, 4, 5], left)?,
         },
-        VecCommand::Clone { from: 0, to: 4 },
-        VecCommand::Push { name: 4, value },
-    ]?;
-    Ok(commands)
+        1 => VecCommand::Clone { from: 0, to: 1 },
+        2 => VecCommand::Splice {
+            name: 1,
+            bounds: (Bound::Included(1), Bound::Excluded(2)),
+            items: numbers(alloc, &[7, 8, 9], left)?,
+        },
+        3 => VecCommand::Clone { from: 1, to: 2 },
+        4 => VecCommand::Truncate { name: 2, target: 4 },
+        5 => VecCommand::Clone { from: 0, to: 3 },
+        6 => VecCommand::Drain {
+            name: 3,
+            bounds: (Bound::Included(1), Bound::Excluded(1)),
+        },
+        7 => VecCommand::Extend {
+            name: 0,
+            items: numbers(alloc, &[6, 7], left)?,
+        },
+        8 => VecCommand::Clone { from: 0, to: 4 },
+        _ => VecCommand::Push {
+            name: 4,
+            value: Refusing::new(8, left)?,
+        },
+    })
 }
 
 /// How many of the commands are refused where so many clones succeed; each of these leaves all as it was.
@@ -148,8 +147,9 @@ fn refused(rt: &impl Abort, alloc: Global, clones: u64) -> Result<u64, AllocErro
     let left = Rc::new(alloc, Cell::new(clones))?;
     let mut table = Counted::new(alloc);
     let mut count = 0u64;
-    for command in script(alloc, &left)? {
+    for index in 0..10 {
         let before = seen(alloc, &mut table, &left)?;
+        let command = command(alloc, index, &left)?;
         if let Outcome::Refused(refusal) = step(&mut table, command) {
             assert_eq!(rt; refusal, Refusal::Memory);
             assert_eq!(rt; seen(alloc, &mut table, &left)?, before);

@@ -4,27 +4,44 @@ use std::alloc::{AllocError, Global};
 use std::cell::Cell;
 use std::rc::Rc;
 
-/// How often elements were cloned and dropped.
+/// How often elements were cloned, refused clones among them, and how often dropped. The clone with
+/// this number, counted from 1, is refused.
+#[derive(Drop)]
+struct Counts {
+    clones: Cell<u64>,
+    drops: Cell<u64>,
+    refused: u64,
+}
+
+/// What was done to the elements that count here.
 #[derive(Drop)]
 pub(crate) struct Tally {
-    clones: Rc<Cell<u64>>,
-    drops: Rc<Cell<u64>>,
+    counts: Rc<Counts>,
 }
 
 impl Tally {
     pub(crate) fn new(alloc: Global) -> Result<Self, AllocError> {
+        Tally::refusing(alloc, 0)
+    }
+
+    /// Elements that count here refuse the clone with this number, counted from 1.
+    pub(crate) fn refusing(alloc: Global, refused: u64) -> Result<Self, AllocError> {
+        let counts = Counts {
+            clones: Cell::new(0),
+            drops: Cell::new(0),
+            refused,
+        };
         Ok(Tally {
-            clones: Rc::new(alloc, Cell::new(0))?,
-            drops: Rc::new(alloc, Cell::new(0))?,
+            counts: Rc::new(alloc, counts)?,
         })
     }
 
     pub(crate) fn clones(&self) -> u64 {
-        self.clones.get()
+        self.counts.clones.get()
     }
 
     pub(crate) fn drops(&self) -> u64 {
-        self.drops.get()
+        self.counts.drops.get()
     }
 
     /// Whether so many clones were made, and so many elements dropped.
@@ -35,8 +52,7 @@ impl Tally {
     /// An element that counts here.
     pub(crate) fn element(&self) -> Result<Counting, AllocError> {
         Ok(Counting {
-            clones: self.clones.clone()?,
-            drops: self.drops.clone()?,
+            counts: self.counts.clone()?,
         })
     }
 
@@ -57,25 +73,26 @@ impl Tally {
 
 /// An element that counts its clones and its drop.
 pub(crate) struct Counting {
-    clones: Rc<Cell<u64>>,
-    drops: Rc<Cell<u64>>,
+    counts: Rc<Counts>,
 }
 
 impl Clone for Counting {
     fn clone(&self) -> Result<Self, AllocError> {
-        let copy = Counting {
-            clones: self.clones.clone()?,
-            drops: self.drops.clone()?,
-        };
-        self.clones.set(self.clones.get().wrapping_add(1));
-        Ok(copy)
+        let number = self.counts.clones.get().wrapping_add(1);
+        self.counts.clones.set(number);
+        if number == self.counts.refused {
+            return Err(AllocError);
+        }
+        Ok(Counting {
+            counts: self.counts.clone()?,
+        })
     }
 }
 
 impl Drop for Counting {
     fn drop(self) {
-        let Counting { clones: _, drops } = self;
-        drops.set(drops.get().wrapping_add(1));
+        let Counting { counts } = self;
+        counts.drops.set(counts.drops.get().wrapping_add(1));
     }
 }
 
@@ -92,6 +109,29 @@ impl Refusing {
             value,
             left: left.clone()?,
         })
+    }
+
+    /// Numbers that share what is left of their clones.
+    pub(crate) fn several(
+        alloc: Global,
+        values: &[i64],
+        left: &Rc<Cell<u64>>,
+    ) -> Result<Vec<Self>, AllocError> {
+        let mut elements = Vec::new(alloc);
+        for value in values {
+            elements.push(Refusing::new(*value, left)?)?;
+        }
+        Ok(elements)
+    }
+
+    /// A vector of such numbers.
+    pub(crate) fn list(
+        alloc: Global,
+        values: &[i64],
+        left: &Rc<Cell<u64>>,
+    ) -> Result<EcoVec<Self>, EcoError> {
+        let elements = Refusing::several(alloc, values, left)?;
+        EcoVec::from_vec(alloc, elements).map_err(|rejected| rejected.error)
     }
 
     /// A number of which no clone succeeds.

@@ -7,7 +7,6 @@ ghost use Rattle.std.specs.Hash as fed;
 ghost use Rattle.std.specs.Ordering.{as_partial_cmp, nat_cmp, on};
 
 use crate::calls::{error_of, of, push, shared};
-use ecow_list::EcoVec;
 use std::alloc::{AllocError, Global};
 use std::cmp::{Ordering, Reverse};
 use std::collections::{BTreeMap, HashMap};
@@ -35,12 +34,23 @@ fn reversed_elements_reverse_the_order(rt: HostRuntime) -> Result<(), Fail> {
 }
 
 /// Whether a map that holds one key finds another.
-fn is_found<T: Eq + Hash + Drop>(
+pub(crate) fn is_found<K: Eq + Hash + Drop>(
     alloc: Global,
-    kept: EcoVec<T>,
-    key: &EcoVec<T>,
+    kept: K,
+    key: &K,
 ) -> Result<bool, AllocError> {
     let mut map = HashMap::new(alloc);
+    map.insert(kept, ())?;
+    Ok(map.contains_key(key))
+}
+
+/// Whether a map in order that holds one key finds another.
+pub(crate) fn is_found_in_order<K: Ord + Drop>(
+    alloc: Global,
+    kept: K,
+    key: &K,
+) -> Result<bool, AllocError> {
+    let mut map = BTreeMap::new(alloc);
     map.insert(kept, ())?;
     Ok(map.contains_key(key))
 }
@@ -51,9 +61,8 @@ fn vectors_are_keys_of_maps(rt: HostRuntime) -> Result<(), Fail> {
     let mut key = of(rt.alloc(), &[1u8, 2, 3])?;
     let _clone = shared(&key)?;
     key.truncate(2)?;
-    let mut ordered = BTreeMap::new(rt.alloc());
-    ordered.insert(shared(&kept)?, ())?;
-    assert!(rt; ordered.contains_key(&key) && is_found(rt.alloc(), kept, &key)?);
+    assert!(rt; is_found_in_order(rt.alloc(), shared(&kept)?, &key)?);
+    assert!(rt; is_found(rt.alloc(), kept, &key)?);
     Ok(())
 }
 

@@ -1,38 +1,16 @@
 //! Calls on a shared vector while clones of its elements are refused: the first of them, the second
 //! and so on. Each leaves both vectors as they were, sharing their block, and hands its value back.
 //! Once all clones succeed, the call is done and the other vector is as it was.
-use crate::calls::{drain, error_of, insert, push, remove, reverse, shared, splice, write};
+use crate::calls::{drain, insert, is_unique, push, remove, reverse, shared, splice, write};
 use crate::elements::Refusing;
 use crate::outcomes::refusal_of;
 use ecow_list::{EcoError, EcoVec, IntoArray, Rejected};
 use ecow_model::{Command, Items, Outcome, Refusal, VecCommand};
 use ecow_tool::Store;
-use std::alloc::{AllocError, Global};
 use std::cell::Cell;
 use std::process::Abort;
 use std::rc::Rc;
 use std::test::Fail;
-
-/// Numbers that share what is left of their clones.
-fn numbers(
-    alloc: Global,
-    values: &[i64],
-    left: &Rc<Cell<u64>>,
-) -> Result<Vec<Refusing>, AllocError> {
-    let mut elements = Vec::new(alloc);
-    for value in values {
-        elements.push(Refusing::new(*value, left)?)?;
-    }
-    Ok(elements)
-}
-
-fn list_of(
-    alloc: Global,
-    values: &[i64],
-    left: &Rc<Cell<u64>>,
-) -> Result<EcoVec<Refusing>, EcoError> {
-    EcoVec::from_vec(alloc, numbers(alloc, values, left)?).map_err(error_of)
-}
 
 fn holds(list: &EcoVec<Refusing>, values: &[i64]) -> bool {
     list.len() == values.len()
@@ -44,12 +22,12 @@ fn holds(list: &EcoVec<Refusing>, values: &[i64]) -> bool {
 
 /// Whether both hold 1, 2 and 3, in one block.
 fn is_unchanged(list: &mut EcoVec<Refusing>, clone: &EcoVec<Refusing>) -> bool {
-    holds(list, &[1, 2, 3]) && holds(clone, &[1, 2, 3]) && !list.is_unique()
+    holds(list, &[1, 2, 3]) && holds(clone, &[1, 2, 3]) && !is_unique(list)
 }
 
 /// Whether the first holds the values, in a block of its own, and the clone still 1, 2 and 3.
 fn is_apart(list: &mut EcoVec<Refusing>, values: &[i64], clone: &EcoVec<Refusing>) -> bool {
-    holds(list, values) && holds(clone, &[1, 2, 3]) && list.is_unique()
+    holds(list, values) && holds(clone, &[1, 2, 3]) && is_unique(list)
 }
 
 /// The calls that copy what is shared.
@@ -108,7 +86,7 @@ fn made(
     after: Option<&[i64]>,
 ) -> Result<(), Fail> {
     let left = Rc::new(rt.alloc(), Cell::new(clones))?;
-    let mut list = list_of(rt.alloc(), &[1, 2, 3], &left)?;
+    let mut list = Refusing::list(rt.alloc(), &[1, 2, 3], &left)?;
     let clone = shared(&list)?;
     let outcome = call.make(&mut list, Refusing::new(9, &left)?);
     match after {
@@ -155,8 +133,8 @@ fn each_clone_is_refused_in_turn(rt: HostRuntime) -> Result<(), Fail> {
 #[test]
 fn a_slice_goes_in_whole_or_not_at_all(rt: HostRuntime) -> Result<(), Fail> {
     let left = Rc::new(rt.alloc(), Cell::new(1))?;
-    let mut list = list_of(rt.alloc(), &[1, 2], &left)?;
-    let added = numbers(rt.alloc(), &[3, 4, 5], &left)?;
+    let mut list = Refusing::list(rt.alloc(), &[1, 2], &left)?;
+    let added = Refusing::several(rt.alloc(), &[3, 4, 5], &left)?;
     assert!(rt; list.extend_from_slice(added.as_slice()).is_err() && holds(&list, &[1, 2]));
     left.set(3);
     list.extend_from_slice(added.as_slice())?;
@@ -179,7 +157,7 @@ fn a_refused_retain_asks_nothing(rt: HostRuntime) -> Result<(), Fail> {
     let values = [1i64; 40];
     for len in [1, 2, 3, 17, 40] {
         let left = Rc::new(rt.alloc(), Cell::new(0))?;
-        let mut list = list_of(rt.alloc(), &values[..len], &left)?;
+        let mut list = Refusing::list(rt.alloc(), &values[..len], &left)?;
         let clone = shared(&list)?;
         for clones in 0..=len as u64 {
             left.set(clones);
@@ -196,23 +174,9 @@ fn a_refused_retain_asks_nothing(rt: HostRuntime) -> Result<(), Fail> {
 }
 
 #[test]
-fn a_refused_extension_asks_for_no_more(rt: HostRuntime) -> Result<(), Fail> {
-    for clones in 0..3 {
-        let left = Rc::new(rt.alloc(), Cell::new(clones))?;
-        let mut list = list_of(rt.alloc(), &[1, 2, 3], &left)?;
-        let clone = shared(&list)?;
-        let added = numbers(rt.alloc(), &[4, 5, 6], &left)?;
-        let mut asked = 0u32;
-        let refused = list.extend(added.into_iter().inspect(|_| asked = asked.wrapping_add(1)));
-        assert!(rt; refused.is_err() && asked == 1 && is_unchanged(&mut list, &clone));
-    }
-    Ok(())
-}
-
-#[test]
 fn a_vector_is_made_whole_or_not_at_all(rt: HostRuntime) -> Result<(), Fail> {
     let left = Rc::new(rt.alloc(), Cell::new(0))?;
-    let items = numbers(rt.alloc(), &[1, 2, 3], &left)?;
+    let items = Refusing::several(rt.alloc(), &[1, 2, 3], &left)?;
     for clones in 0..3 {
         left.set(clones);
         assert!(rt; EcoVec::from_slice(rt.alloc(), items.as_slice()).is_err());
@@ -236,7 +200,7 @@ fn handed_back(list: EcoVec<Refusing>) -> Option<EcoVec<Refusing>> {
 fn a_shared_vector_is_given_away_whole_or_comes_back(rt: HostRuntime) -> Result<(), Fail> {
     for clones in 0..3 {
         let left = Rc::new(rt.alloc(), Cell::new(0))?;
-        let list = list_of(rt.alloc(), &[1, 2, 3], &left)?;
+        let list = Refusing::list(rt.alloc(), &[1, 2, 3], &left)?;
         let clone = shared(&list)?;
         left.set(clones);
         let Some(mut list) = handed_back(list) else {
@@ -250,7 +214,7 @@ fn a_shared_vector_is_given_away_whole_or_comes_back(rt: HostRuntime) -> Result<
 #[test]
 fn a_refused_command_changes_nothing(rt: HostRuntime) -> Result<(), Fail> {
     let left = Rc::new(rt.alloc(), Cell::new(2))?;
-    let items = Items::new(numbers(rt.alloc(), &[1, 2, 3], &left)?);
+    let items = Items::new(Refusing::several(rt.alloc(), &[1, 2, 3], &left)?);
     let mut store = Store::new(rt.alloc());
     drop(store.step(Command::Vec(VecCommand::FromList { name: 0, items })));
     drop(store.step(Command::Vec(VecCommand::Clone { from: 0, to: 1 })));

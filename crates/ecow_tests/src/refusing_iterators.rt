@@ -1,14 +1,13 @@
-//! How often an iterator is asked for an item, and a closure called: no item is asked for after the
-//! first `None` nor after a refused one, and no closure is called where a copy is refused. The
-//! assertions also hold where any request for memory is refused.
+//! How often an iterator is asked for an item: for none after the first `None` nor after a refused
+//! one. The assertions also hold where any request for memory is refused.
 ghost use Rattle.std.specs.Prelude.{vec_len};
 ghost use Rattle.std.specs.Iterator.{at_most};
 
+use crate::calls::{is_unique, shared};
 use crate::elements::Refusing;
 use ecow_list::{EcoError, EcoVec, range_in};
 use std::alloc::{AllocError, Global};
 use std::cell::Cell;
-use std::process::Abort;
 use std::rc::Rc;
 use std::test::Fail;
 
@@ -42,20 +41,6 @@ fn sevens(alloc: Global, n: usize) -> Result<Asked<i64>, AllocError> {
         items.push(7)?;
     }
     Ok(Asked::new(items))
-}
-
-/// So many numbers, of which as many clones succeed as `left` says.
-fn numbers(alloc: Global, n: usize, left: &Rc<Cell<u64>>) -> Result<Vec<Refusing>, AllocError> {
-    let mut items = Vec::new(alloc);
-    for _ in 0..n {
-        items.push(Refusing::new(7, left)?)?;
-    }
-    Ok(items)
-}
-
-/// A list of so many numbers.
-fn list_of(alloc: Global, n: usize, left: &Rc<Cell<u64>>) -> Result<EcoVec<Refusing>, EcoError> {
-    EcoVec::from_vec(alloc, numbers(alloc, n, left)?).map_err(|rejected| rejected.error)
 }
 
 #[test]
@@ -108,28 +93,28 @@ fn splice_asks_up_to_the_end_or_a_refused_item(rt: HostRuntime) -> Result<(), Fa
     Ok(())
 }
 
-/// A list of so many numbers that shares its block, and the number of clones that succeed from now
-/// on.
-fn shared(
-    alloc: Global,
-    n: usize,
-    clones: u64,
-) -> Result<(EcoVec<Refusing>, EcoVec<Refusing>), EcoError> {
+/// Two vectors over one block of three numbers, of which so many clones succeed.
+fn two(alloc: Global, clones: u64) -> Result<(EcoVec<Refusing>, EcoVec<Refusing>), EcoError> {
     let left = Rc::new(alloc, Cell::new(clones))?;
-    let list = list_of(alloc, n, &left)?;
-    let clone = list.clone()?;
+    let list = Refusing::list(alloc, &[1, 2, 3], &left)?;
+    let clone = shared(&list)?;
     Ok((list, clone))
+}
+
+/// An iterator over two numbers.
+fn pair(alloc: Global) -> Result<Asked<Refusing>, AllocError> {
+    let left = Rc::new(alloc, Cell::new(9))?;
+    Ok(Asked::new(Refusing::several(alloc, &[4, 5], &left)?))
 }
 
 #[test]
 fn extend_asks_for_nothing_after_a_refused_copy(rt: HostRuntime) -> Result<(), Fail> {
     for clones in 0..3 {
-        let (mut list, _clone) = shared(rt.alloc(), 3, clones)?;
-        let left = Rc::new(rt.alloc(), Cell::new(9))?;
-        let mut items = Asked::new(numbers(rt.alloc(), 2, &left)?);
+        let (mut list, _clone) = two(rt.alloc(), clones)?;
+        let mut items = pair(rt.alloc())?;
         assert_eq!(rt; list.extend(&mut items), Err(EcoError::Memory));
         assert_eq!(rt; (items.times, list.len()), (1, 3));
-        assert!(rt; !list.is_unique());
+        assert!(rt; !is_unique(&mut list));
     }
     Ok(())
 }
@@ -137,48 +122,15 @@ fn extend_asks_for_nothing_after_a_refused_copy(rt: HostRuntime) -> Result<(), F
 #[test]
 fn splice_copies_after_the_last_item(rt: HostRuntime) -> Result<(), Fail> {
     for clones in 0..3 {
-        let (mut list, _clone) = shared(rt.alloc(), 3, clones)?;
-        let left = Rc::new(rt.alloc(), Cell::new(9))?;
-        let mut items = Asked::new(numbers(rt.alloc(), 2, &left)?);
+        let (mut list, _clone) = two(rt.alloc(), clones)?;
+        let mut items = pair(rt.alloc())?;
         if !range_in(&(1..), list.len()) {
             return Err("three elements".into());
         }
         assert!(rt; list.splice(1.., &mut items).is_err());
         assert!(rt; matches!(items.times, 0 | 2 | 3));
         assert_eq!(rt; list.len(), 3);
-        assert!(rt; !list.is_unique());
-    }
-    Ok(())
-}
-
-/// Calls `retain` on a shared list of so many numbers, of which so many clones succeed. The closure
-/// is called at each, or not at all where the copy is refused.
-fn retain_shared(rt: &(impl Abort + AllocGlobal), n: usize, clones: u64) -> Result<(), Fail> {
-    let (mut list, clone) = shared(rt.alloc(), n, clones)?;
-    let mut calls = 0usize;
-    let done = list.retain(|_| {
-        calls = calls.wrapping_add(1);
-        false
-    });
-    match done {
-        Ok(()) => assert_eq!(rt; (calls, list.len()), (n, 0)),
-        Err(error) => {
-            assert_eq!(rt; error, EcoError::Memory);
-            assert_eq!(rt; (calls, list.len()), (0, n));
-            assert!(rt; !list.is_unique());
-        }
-    }
-    assert_eq!(rt; clone.len(), n);
-    Ok(())
-}
-
-#[test]
-fn a_refused_retain_calls_nothing_at_any_length(rt: HostRuntime) -> Result<(), Fail> {
-    for (n, clones) in [(1, 0), (2, 0), (2, 1), (4, 3), (5, 0), (5, 4), (9, 8)] {
-        retain_shared(&rt, n, clones)?;
-    }
-    for (n, clones) in [(0, 0), (1, 1), (2, 2), (5, 5)] {
-        retain_shared(&rt, n, clones)?;
+        assert!(rt; !is_unique(&mut list));
     }
     Ok(())
 }

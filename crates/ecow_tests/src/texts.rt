@@ -1,14 +1,19 @@
-//! Texts at several limits: what std's text answers, what is shared, and the types around them.
+//! Texts at several limits: what std's text answers, what is shared, and the types around them. Calls
+//! stand in functions that say nothing of what they answer: a test of many is proved faster over these.
+use crate::laws::{is_found, is_found_in_order};
 use ecow_bytes::EcoBytes;
 use ecow_list::{EcoError, EcoVec};
 use ecow_text::{EcoString, SmallText, ToEcoString, eco_format};
-use std::alloc::Global;
-use std::collections::{BTreeMap, HashMap};
+use std::alloc::{AllocError, Global};
+use std::fmt;
 use std::fmt::Write;
-use std::hash::{BuildHasher, RandomState};
 use std::test::Fail;
 
-/// A text that `from_bytes` of a vector leaves spilled, however short it is.
+fn text<const N: usize>(alloc: Global, text: &str) -> Result<SmallText<N>, EcoError> {
+    SmallText::from_str(alloc, text)
+}
+
+/// A text that `try_from` of a vector leaves spilled, however short it is.
 fn spilled(alloc: Global, text: &str) -> Result<EcoString, Fail> {
     let bytes = EcoVec::from_slice(alloc, text.as_bytes())?;
     match EcoString::try_from(bytes) {
@@ -17,57 +22,51 @@ fn spilled(alloc: Global, text: &str) -> Result<EcoString, Fail> {
     }
 }
 
-#[test]
-fn a_clone_of_a_text_is_changed_apart(rt: HostRuntime) -> Result<(), Fail> {
-    let welcome = EcoString::from_str(rt.alloc(), "Welcome")?;
-    let Ok(whole) = welcome.add(" to earth! 🌱") else {
-        return Err("a sum of texts".into());
-    };
-    let mut clone = whole.clone()?;
-    assert_eq!(rt; clone.pop()?, Some('🌱'));
-    assert_eq!(rt; clone.as_str(), "Welcome to earth! ");
-    assert_eq!(rt; whole.as_str(), "Welcome to earth! 🌱");
-    assert!(rt; !clone.is_inline() && !whole.is_inline());
-    Ok(())
+/// Whether the text is this one, inline or spilled.
+fn holds<const N: usize>(text: &SmallText<N>, wanted: &str, inline: bool) -> bool {
+    text.as_str() == wanted && text.is_inline() == inline
+}
+
+fn pop<const N: usize>(text: &mut SmallText<N>) -> Result<Option<char>, EcoError> {
+    text.pop()
+}
+
+fn added<const N: usize>(text: SmallText<N>, more: &str) -> Result<SmallText<N>, EcoError> {
+    text.add(more).map_err(|rejected| rejected.error)
+}
+
+/// The text with another one at its first boundaries.
+fn spread<const N: usize>(text: &SmallText<N>, to: &str) -> Result<SmallText<N>, EcoError> {
+    text.replacen("", to, 9)
 }
 
 #[test]
 fn texts_are_added_one_by_one(rt: HostRuntime) -> Result<(), Fail> {
-    let mut text = EcoString::from_str(rt.alloc(), "Hello, ")?;
-    text.extend_chars("world!".chars())?;
-    text.extend_strs([" How ", "are ", "you", "?"])?;
-    assert_eq!(rt; text.as_str(), "Hello, world! How are you?");
+    let mut hello: EcoString = text(rt.alloc(), "Hello, ")?;
+    hello.extend_chars("world!".chars())?;
+    hello.extend_strs([" How ", "are ", "you", "?"])?;
+    assert!(rt; holds(&hello, "Hello, world! How are you?", false));
     let again = EcoString::from_strs(rt.alloc(), ["Hello, ", "world!"])?;
-    assert!(rt; again.is_inline());
-    assert_eq!(rt; again.as_str(), "Hello, world!");
+    assert!(rt; holds(&again, "Hello, world!", true));
     Ok(())
 }
 
-#[test]
-fn letters_of_a_text_of_its_own_change_where_they_stand(rt: HostRuntime) -> Result<(), Fail> {
-    let mut text = EcoString::with_capacity(rt.alloc(), 100)?;
-    text.push_str("Über den Bergen")?;
-    text.make_ascii_uppercase()?;
-    assert!(rt; text.capacity() >= 100);
-    let clone = text.clone()?;
-    text.make_ascii_lowercase()?;
-    assert_eq!(rt; clone.as_str(), "ÜBER DEN BERGEN");
-    assert_eq!(rt; text.as_str(), "Über den bergen");
-    Ok(())
+/// The text in lower and in upper case.
+fn cased(text: &EcoString) -> Result<(EcoString, EcoString), EcoError> {
+    Ok((text.to_lowercase()?, text.to_uppercase()?))
 }
 
 #[test]
 fn case_past_ascii_is_that_of_unicode(rt: HostRuntime) -> Result<(), Fail> {
-    let alloc = rt.alloc();
-    for (text, lower, upper) in [
+    for (of, lower, upper) in [
         ("AΣ", "aς", "AΣ"),
         ("Straße", "straße", "STRASSE"),
         ("İstanbul", "i\u{307}stanbul", "İSTANBUL"),
         ("ǅ", "ǆ", "Ǆ"),
     ] {
-        let text = EcoString::from_str(alloc, text)?;
-        assert_eq!(rt; text.to_lowercase()?.as_str(), lower);
-        assert_eq!(rt; text.to_uppercase()?.as_str(), upper);
+        let (lowercase, uppercase) = cased(&text(rt.alloc(), of)?)?;
+        assert_eq!(rt; lowercase.as_str(), lower);
+        assert_eq!(rt; uppercase.as_str(), upper);
     }
     Ok(())
 }
@@ -75,70 +74,57 @@ fn case_past_ascii_is_that_of_unicode(rt: HostRuntime) -> Result<(), Fail> {
 #[test]
 fn case_of_ascii_goes_by_the_length(rt: HostRuntime) -> Result<(), Fail> {
     let text = spilled(rt.alloc(), "ABC")?;
-    let mapped = text.to_ascii_lowercase()?;
-    assert!(rt; !mapped.is_inline());
-    assert_eq!(rt; mapped.as_str(), "abc");
-    let cased = text.to_lowercase()?;
-    assert!(rt; cased.is_inline());
-    assert_eq!(rt; cased.as_str(), "abc");
+    assert!(rt; holds(&text.to_ascii_lowercase()?, "abc", false));
+    assert!(rt; holds(&text.to_lowercase()?, "abc", true));
     Ok(())
+}
+
+/// The text as it is debugged, and as it is padded.
+fn printed(alloc: Global, text: &EcoString) -> Result<(String, String), AllocError> {
+    let debug = format!(in alloc; "{text:?}")?;
+    let padded = format!(in alloc; "{text:>5}|{text:-^6}|{text:.1}|{text:<3}|")?;
+    Ok((debug, padded))
 }
 
 #[test]
 fn texts_are_printed_as_str_is(rt: HostRuntime) -> Result<(), Fail> {
-    let alloc = rt.alloc();
-    let text = EcoString::from_str(alloc, "é\t\"")?;
-    let debug = format!(in alloc; "{text:?}")?;
+    let (debug, _) = printed(rt.alloc(), &text(rt.alloc(), "é\t\"")?)?;
     assert_eq!(rt; debug.as_str(), "\"é\\t\\\"\"");
-    let short = EcoString::from_str(alloc, "ab")?;
-    let padded = format!(in alloc; "{short:>5}|{short:-^6}|{short:.1}|{short:<3}|")?;
+    let (_, padded) = printed(rt.alloc(), &text(rt.alloc(), "ab")?)?;
     assert_eq!(rt; padded.as_str(), "   ab|--ab--|a|ab |");
     Ok(())
 }
 
+/// A number in a greeting, by itself and behind blanks.
+fn greeted(alloc: Global, number: u32) -> Result<(EcoString, EcoString, EcoString), fmt::Error> {
+    let hello = eco_format!(in alloc; "Hello, {}!", number)?;
+    let far = eco_format!(in alloc; "{:>20}", number)?;
+    Ok((hello, number.to_eco_string(alloc)?, far))
+}
+
 #[test]
 fn values_are_printed_to_texts(rt: HostRuntime) -> Result<(), Fail> {
-    let alloc = rt.alloc();
-    let hello = eco_format!(in alloc; "Hello, {}!", 123)?;
-    assert!(rt; hello.is_inline());
-    assert_eq!(rt; hello.as_str(), "Hello, 123!");
-    assert_eq!(rt; 123456789.to_eco_string(alloc)?.as_str(), "123456789");
-    let long = eco_format!(in alloc; "{:>20}", "x")?;
-    assert!(rt; !long.is_inline() && long.len() == 20);
+    let (hello, alone, far) = greeted(rt.alloc(), 123)?;
+    assert!(rt; holds(&hello, "Hello, 123!", true) && holds(&alone, "123", true));
+    assert!(rt; holds(&far, "                 123", false));
     Ok(())
 }
 
 #[test]
 fn a_piece_is_written_behind_a_text(rt: HostRuntime) -> Result<(), Fail> {
-    let mut text = EcoString::from_str(rt.alloc(), "one")?;
-    text.write_str(" two")?;
-    write!(text, " {}", 3)?;
-    assert_eq!(rt; text.as_str(), "one two 3");
-    assert!(rt; text.is_inline());
+    let mut one: EcoString = text(rt.alloc(), "one")?;
+    one.write_str(" two")?;
+    write!(one, " {}", 3)?;
+    assert!(rt; holds(&one, "one two 3", true));
     Ok(())
 }
 
 #[test]
-fn equality_and_hash_of_texts_see_no_mode(rt: HostRuntime) -> Result<(), Fail> {
-    let alloc = rt.alloc();
-    let (inline, far) = (EcoString::from_str(alloc, "foo")?, spilled(alloc, "foo")?);
-    let state = RandomState::new(&rt)?;
-    assert!(rt; inline.is_inline() && !far.is_inline());
-    assert!(rt; inline == far);
-    assert_eq!(rt; state.hash_one(&inline), state.hash_one(&far));
-    Ok(())
-}
-
-#[test]
-fn texts_are_keys_of_maps(rt: HostRuntime) -> Result<(), Fail> {
-    let alloc = rt.alloc();
-    let mut hashed = HashMap::new(alloc);
-    let mut ordered = BTreeMap::new(alloc);
-    hashed.insert(EcoString::from_str(alloc, "foo")?, 1)?;
-    ordered.insert(EcoString::from_str(alloc, "foo")?, 2)?;
-    let far = spilled(alloc, "foo")?;
-    assert_eq!(rt; hashed.get(&far).copied(), Some(1));
-    assert_eq!(rt; ordered.get(&far).copied(), Some(2));
+fn keys_of_maps_have_no_mode(rt: HostRuntime) -> Result<(), Fail> {
+    let (inline, far) = (text(rt.alloc(), "foo")?, spilled(rt.alloc(), "foo")?);
+    assert!(rt; holds(&inline, "foo", true) && holds(&far, "foo", false));
+    assert!(rt; is_found(rt.alloc(), spilled(rt.alloc(), "foo")?, &inline)?);
+    assert!(rt; is_found_in_order(rt.alloc(), inline, &far)?);
     Ok(())
 }
 
@@ -146,8 +132,7 @@ fn texts_are_keys_of_maps(rt: HostRuntime) -> Result<(), Fail> {
 fn words(alloc: Global, words: [&str; 3]) -> Result<EcoVec<EcoString>, Fail> {
     let mut texts = EcoVec::new(alloc);
     for word in words {
-        let text = EcoString::from_str(alloc, word)?;
-        if texts.push(text).is_err() {
+        if texts.push(text(alloc, word)?).is_err() {
             return Err("room for three texts".into());
         }
     }
@@ -180,43 +165,38 @@ fn a_vector_of_texts_is_sorted(rt: HostRuntime) -> Result<(), Fail> {
 
 #[test]
 fn texts_are_ordered_by_their_bytes(rt: HostRuntime) -> Result<(), Fail> {
-    let alloc = rt.alloc();
     for (less, more) in [
         ("Z", "a"),
         ("\u{ffff}", "\u{10000}"),
         ("a", "ab"),
         ("", "a"),
     ] {
-        let (less, more) = (
-            EcoString::from_str(alloc, less)?,
-            EcoString::from_str(alloc, more)?,
-        );
-        assert!(rt; less < more);
+        let less: EcoString = text(rt.alloc(), less)?;
+        assert!(rt; less < text(rt.alloc(), more)?);
     }
     Ok(())
 }
 
+fn of_char<const N: usize>(alloc: Global, letter: char) -> Result<SmallText<N>, EcoError> {
+    SmallText::from_char(alloc, letter)
+}
+
 #[test]
 fn a_character_spills_where_it_has_more_bytes(rt: HostRuntime) -> Result<(), Fail> {
-    let alloc = rt.alloc();
-    assert!(rt; !SmallText::<3>::from_char(alloc, '😀')?.is_inline());
-    assert!(rt; SmallText::<4>::from_char(alloc, '😀')?.is_inline());
-    let ab = SmallText::<3>::from_str(alloc, "ab")?;
-    assert!(rt; !ab.replacen("", "-", 9)?.is_inline());
-    let ab = SmallText::<5>::from_str(alloc, "ab")?;
-    let spread = ab.replacen("", "-", 9)?;
-    assert!(rt; spread.is_inline());
-    assert_eq!(rt; spread.as_str(), "-a-b-");
+    assert!(rt; holds(&of_char::<3>(rt.alloc(), '😀')?, "😀", false));
+    assert!(rt; holds(&of_char::<4>(rt.alloc(), '😀')?, "😀", true));
+    assert!(rt; holds(&spread(&text::<3>(rt.alloc(), "ab")?, "-")?, "-a-b-", false));
+    assert!(rt; holds(&spread(&text::<5>(rt.alloc(), "ab")?, "-")?, "-a-b-", true));
     Ok(())
 }
 
 #[test]
 fn no_character_fits_within_a_limit_of_none(rt: HostRuntime) -> Result<(), Fail> {
-    let mut text = SmallText::<0>::new(rt.alloc());
-    assert!(rt; text.is_inline() && text.capacity() == 0);
+    let mut text = text::<0>(rt.alloc(), "")?;
+    assert!(rt; holds(&text, "", true) && text.capacity() == 0);
     text.push('a')?;
-    assert_eq!(rt; text.pop()?, Some('a'));
-    assert!(rt; text.is_empty() && !text.is_inline());
+    assert_eq!(rt; pop(&mut text)?, Some('a'));
+    assert!(rt; holds(&text, "", false));
     text.shrink_to_fit();
     assert!(rt; text.is_inline());
     Ok(())
@@ -224,13 +204,10 @@ fn no_character_fits_within_a_limit_of_none(rt: HostRuntime) -> Result<(), Fail>
 
 #[test]
 fn a_longer_text_fits_within_twenty_three(rt: HostRuntime) -> Result<(), Fail> {
-    let welcome = SmallText::<23>::from_str(rt.alloc(), "Welcome")?;
-    let Ok(mut whole) = welcome.add(" to earth! 🌱") else {
-        return Err("a sum of texts".into());
-    };
-    assert!(rt; whole.is_inline());
-    assert_eq!(rt; whole.pop()?, Some('🌱'));
-    assert!(rt; whole.is_inline() && whole.len() == 18);
+    let mut whole = added(text::<23>(rt.alloc(), "Welcome")?, " to earth! 🌱")?;
+    assert!(rt; holds(&whole, "Welcome to earth! 🌱", true));
+    assert_eq!(rt; pop(&mut whole)?, Some('🌱'));
+    assert!(rt; holds(&whole, "Welcome to earth! ", true));
     Ok(())
 }
 
@@ -249,56 +226,31 @@ fn bytes_that_are_no_text_are_told(rt: HostRuntime) -> Result<(), Fail> {
     }
     let face = EcoBytes::from_array(rt.alloc(), [0xf0, 0x9f, 0x98, 0x80])?;
     match EcoString::try_from(face) {
-        Ok(face) => assert!(rt; face.as_str() == "😀" && face.is_inline()),
+        Ok(face) => assert!(rt; holds(&face, "😀", true)),
         Err(_) => return Err("a character of four bytes".into()),
     }
     Ok(())
 }
 
-#[test]
-fn a_text_too_long_is_refused(rt: HostRuntime) -> Result<(), Fail> {
-    let mut text = EcoString::from_str(rt.alloc(), "ab")?;
-    assert_eq!(rt; text.reserve(9223372036854775805), Err(EcoError::Memory));
-    assert_eq!(rt; text.reserve(9223372036854775806), Err(EcoError::Capacity));
-    assert_eq!(rt; text.repeat(4611686018427387904), Err(EcoError::Capacity));
-    assert_eq!(rt; text.repeat(4611686018427387903), Err(EcoError::Memory));
-    assert_eq!(rt; text.as_str(), "ab");
-    Ok(())
-}
-
-#[test]
-fn room_for_a_text_is_counted_in_bytes(rt: HostRuntime) -> Result<(), Fail> {
-    let mut face = EcoString::from_char(rt.alloc(), '😀')?;
-    assert_eq!(rt; face.reserve(9223372036854775803), Err(EcoError::Memory));
-    assert_eq!(rt; face.reserve(9223372036854775804), Err(EcoError::Capacity));
-    assert!(rt; face.is_inline() && face.as_str() == "😀");
-    Ok(())
+/// A text made of a `String`, the `String` made of it again, and its bytes as a vector.
+fn to_and_fro(alloc: Global, of: &str) -> Result<(EcoString, String, EcoVec<u8>), EcoError> {
+    let of = of.to_string(alloc)?;
+    let text = EcoString::from_string(alloc, of).map_err(|rejected| rejected.error)?;
+    let string = text.to_std_string()?;
+    let bytes = text
+        .clone()?
+        .into_eco_vec()
+        .map_err(|rejected| rejected.error)?;
+    Ok((text, string, bytes))
 }
 
 #[test]
 fn a_text_goes_to_and_fro(rt: HostRuntime) -> Result<(), Fail> {
-    let alloc = rt.alloc();
-    let Ok(text) = EcoString::from_string(alloc, "grün".to_string(alloc)?) else {
-        return Err("the text of a String".into());
-    };
-    assert_eq!(rt; text.to_std_string()?.as_str(), "grün");
-    let Ok(vec) = text.clone()?.into_eco_vec() else {
-        return Err("the vector of a text".into());
-    };
-    assert_eq!(rt; vec.as_slice(), "grün".as_bytes());
+    let (text, string, bytes) = to_and_fro(rt.alloc(), "grün")?;
+    assert!(rt; holds(&text, "grün", true));
+    assert_eq!(rt; string.as_str(), "grün");
+    assert_eq!(rt; bytes.as_slice(), "grün".as_bytes());
     let bytes = EcoBytes::from(text);
     assert!(rt; bytes.is_inline() && bytes.len() == 5);
-    Ok(())
-}
-
-#[test]
-fn what_a_text_holds_is_replaced(rt: HostRuntime) -> Result<(), Fail> {
-    let text = EcoString::from_str(rt.alloc(), "a haystack with needles, needles, needles")?;
-    let all = text.replace("needles", "straw")?;
-    assert_eq!(rt; all.as_str(), "a haystack with straw, straw, straw");
-    let first = text.replacen("needles", "", 1)?;
-    assert_eq!(rt; first.as_str(), "a haystack with , needles, needles");
-    let none = text.replace("pins", "needles")?;
-    assert!(rt; none == text);
     Ok(())
 }
