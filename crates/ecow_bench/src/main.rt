@@ -65,26 +65,36 @@ const CALLS: [&str; 45] = [
 
 fn main(rt: HostRuntime) -> io::Result<()> {
     let words = arguments(&rt)?;
-    match words.as_slice() {
-        [call, element, length, count] => {
-            if let (Ok(length), Ok(count)) = (length.parse(), count.parse()) {
-                let numbers = numbers(rt.alloc(), length)?;
-                println!(rt;
-                    "{}",
-                    sum(rt.alloc(), call, element, numbers.as_slice(), count)?
-                )?;
-            }
-        }
-        _ => {
-            let numbers = numbers(rt.alloc(), 8)?;
-            for call in CALLS {
-                println!(rt;
-                    "{call} {}",
-                    sum(rt.alloc(), call, "u64", numbers.as_slice(), 3)?
-                )?;
-            }
-        }
+    let [call, element, length, count] = words.as_slice() else {
+        return print_all(&rt);
+    };
+    match (length.parse(), count.parse()) {
+        (Ok(length), Ok(count)) => print_one(&rt, call, element, length, count),
+        _ => Ok(()),
     }
+}
+
+/// Prints what the loop of each call saw, three times on eight numbers.
+fn print_all(rt: &HostRuntime) -> io::Result<()> {
+    let numbers = numbers(rt.alloc(), 8)?;
+    for call in CALLS {
+        let seen = sum(rt.alloc(), call, "u64", numbers.as_slice(), 3)?;
+        println!(rt; "{call} {seen}")?;
+    }
+    Ok(())
+}
+
+/// Prints what the loop of one call saw, `count` times on so many elements.
+fn print_one(
+    rt: &HostRuntime,
+    call: &str,
+    element: &str,
+    length: usize,
+    count: u64,
+) -> io::Result<()> {
+    let numbers = numbers(rt.alloc(), length)?;
+    let seen = sum(rt.alloc(), call, element, numbers.as_slice(), count)?;
+    println!(rt; "{seen}")?;
     Ok(())
 }
 

@@ -12,10 +12,7 @@ pub(crate) fn example(alloc: Global, number: u32) -> Result<Vec<VecCommand<i64>>
     match number {
         0 => {
             share(&mut commands, alloc, &[1, 2, 3])?;
-            commands.push(VecCommand::Push { name: 1, value: 4 })?;
-            commands.push(VecCommand::Clone { from: 0, to: 2 })?;
-            commands.push(VecCommand::Truncate { name: 2, target: 1 })?;
-            commands.push(VecCommand::Clear { name: 0 })?;
+            leave(&mut commands)?;
         }
         1 => {
             share(&mut commands, alloc, &[1, 2, 3, 4, 5])?;
@@ -48,9 +45,9 @@ pub(crate) fn example(alloc: Global, number: u32) -> Result<Vec<VecCommand<i64>>
         }
         _ => {
             share(&mut commands, alloc, &[1, 2, 3])?;
-            reserve(&mut commands, 0)?;
-            reserve(&mut commands, 10)?;
-            reserve(&mut commands, 9223372036854775805)?;
+            for additional in [0, 10, 9223372036854775805] {
+                reserve(&mut commands, additional)?;
+            }
             extend(&mut commands, alloc, &[4])?;
         }
     }
@@ -66,6 +63,15 @@ fn share(
     let items = Items::from_slice(alloc, elements)?;
     commands.push(VecCommand::FromList { name: 0, items })?;
     commands.push(VecCommand::Clone { from: 0, to: 1 })?;
+    Ok(())
+}
+
+/// Commands of which each leaves the block of two names, or of three.
+fn leave(commands: &mut Vec<VecCommand<i64>>) -> Result<(), AllocError> {
+    commands.push(VecCommand::Push { name: 1, value: 4 })?;
+    commands.push(VecCommand::Clone { from: 0, to: 2 })?;
+    commands.push(VecCommand::Truncate { name: 2, target: 1 })?;
+    commands.push(VecCommand::Clear { name: 0 })?;
     Ok(())
 }
 

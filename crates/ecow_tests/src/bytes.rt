@@ -31,11 +31,6 @@ fn pop<const N: usize>(bytes: &mut SmallBytes<N>) -> Result<Option<u8>, EcoError
     bytes.pop()
 }
 
-fn reverse(bytes: &mut EcoBytes) -> Result<(), EcoError> {
-    bytes.make_mut()?.reverse();
-    Ok(())
-}
-
 #[test]
 fn keys_of_maps_have_no_mode(rt: HostRuntime) -> Result<(), Fail> {
     let (inline, spilled) = (letters(rt.alloc())?, spilled_letters(rt.alloc())?);
@@ -123,13 +118,18 @@ fn few_bytes_are_put_inline(rt: HostRuntime) {
     assert_eq!(rt; EcoBytes::INLINE_LIMIT, 15);
 }
 
+/// The bytes in reverse, where they stood.
+fn reversed(mut bytes: EcoBytes) -> Result<EcoBytes, EcoError> {
+    bytes.make_mut()?.reverse();
+    Ok(bytes)
+}
+
 #[test]
 fn bytes_are_written_where_they_stand(rt: HostRuntime) -> Result<(), Fail> {
-    let (mut inline, mut spilled) = (letters(rt.alloc())?, spilled_letters(rt.alloc())?);
-    let shared = spilled.clone()?;
-    reverse(&mut inline)?;
-    reverse(&mut spilled)?;
+    let inline = reversed(letters(rt.alloc())?)?;
     assert!(rt; holds(&inline, b"onmlkjihgfedcba", true));
+    let shared = spilled_letters(rt.alloc())?;
+    let spilled = reversed(shared.clone()?)?;
     assert!(rt; holds(&spilled, b"onmlkjihgfedcba", false) && holds(&shared, &LETTERS, false));
     Ok(())
 }

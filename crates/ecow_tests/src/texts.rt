@@ -35,11 +35,6 @@ fn added<const N: usize>(text: SmallText<N>, more: &str) -> Result<SmallText<N>,
     text.add(more).map_err(|rejected| rejected.error)
 }
 
-/// The text with another one at its first boundaries.
-fn spread<const N: usize>(text: &SmallText<N>, to: &str) -> Result<SmallText<N>, EcoError> {
-    text.replacen("", to, 9)
-}
-
 #[test]
 fn texts_are_added_one_by_one(rt: HostRuntime) -> Result<(), Fail> {
     let mut hello: EcoString = text(rt.alloc(), "Hello, ")?;
@@ -56,14 +51,17 @@ fn cased(text: &EcoString) -> Result<(EcoString, EcoString), EcoError> {
     Ok((text.to_lowercase()?, text.to_uppercase()?))
 }
 
+/// A text, and it in lower and in upper case.
+const CASES: [(&str, &str, &str); 4] = [
+    ("AΣ", "aς", "AΣ"),
+    ("Straße", "straße", "STRASSE"),
+    ("İstanbul", "i\u{307}stanbul", "İSTANBUL"),
+    ("ǅ", "ǆ", "Ǆ"),
+];
+
 #[test]
 fn case_past_ascii_is_that_of_unicode(rt: HostRuntime) -> Result<(), Fail> {
-    for (of, lower, upper) in [
-        ("AΣ", "aς", "AΣ"),
-        ("Straße", "straße", "STRASSE"),
-        ("İstanbul", "i\u{307}stanbul", "İSTANBUL"),
-        ("ǅ", "ǆ", "Ǆ"),
-    ] {
+    for (of, lower, upper) in CASES {
         let (lowercase, uppercase) = cased(&text(rt.alloc(), of)?)?;
         assert_eq!(rt; lowercase.as_str(), lower);
         assert_eq!(rt; uppercase.as_str(), upper);
@@ -71,11 +69,16 @@ fn case_past_ascii_is_that_of_unicode(rt: HostRuntime) -> Result<(), Fail> {
     Ok(())
 }
 
+fn in_ascii_lowercase(text: &EcoString) -> Result<EcoString, EcoError> {
+    text.to_ascii_lowercase()
+}
+
 #[test]
 fn case_of_ascii_goes_by_the_length(rt: HostRuntime) -> Result<(), Fail> {
     let text = spilled(rt.alloc(), "ABC")?;
-    assert!(rt; holds(&text.to_ascii_lowercase()?, "abc", false));
-    assert!(rt; holds(&text.to_lowercase()?, "abc", true));
+    let mapped = in_ascii_lowercase(&text)?;
+    let (lowercase, _) = cased(&text)?;
+    assert!(rt; holds(&mapped, "abc", false) && holds(&lowercase, "abc", true));
     Ok(())
 }
 
@@ -183,10 +186,23 @@ fn of_char<const N: usize>(alloc: Global, letter: char) -> Result<SmallText<N>, 
 
 #[test]
 fn a_character_spills_where_it_has_more_bytes(rt: HostRuntime) -> Result<(), Fail> {
-    assert!(rt; holds(&of_char::<3>(rt.alloc(), '😀')?, "😀", false));
-    assert!(rt; holds(&of_char::<4>(rt.alloc(), '😀')?, "😀", true));
-    assert!(rt; holds(&spread(&text::<3>(rt.alloc(), "ab")?, "-")?, "-a-b-", false));
-    assert!(rt; holds(&spread(&text::<5>(rt.alloc(), "ab")?, "-")?, "-a-b-", true));
+    let (three, four) = (
+        of_char::<3>(rt.alloc(), '😀')?,
+        of_char::<4>(rt.alloc(), '😀')?,
+    );
+    assert!(rt; holds(&three, "😀", false) && holds(&four, "😀", true));
+    Ok(())
+}
+
+/// Two letters with a dash at each boundary.
+fn spread<const N: usize>(alloc: Global) -> Result<SmallText<N>, EcoError> {
+    text::<N>(alloc, "ab")?.replacen("", "-", 9)
+}
+
+#[test]
+fn a_replacement_spills_where_it_has_more_bytes(rt: HostRuntime) -> Result<(), Fail> {
+    let (three, five) = (spread::<3>(rt.alloc())?, spread::<5>(rt.alloc())?);
+    assert!(rt; holds(&three, "-a-b-", false) && holds(&five, "-a-b-", true));
     Ok(())
 }
 

@@ -25,7 +25,8 @@ fn main(rt: HostRuntime) -> Result<()> {
     shadow_a_name(&rt)?;
     write_in_place(&rt)?;
     append_to_lines(&rt)?;
-    collect_items(&rt)
+    collect_items(&rt)?;
+    collect_texts(&rt)
 }
 
 fn edit_a_document(rt: &HostRuntime) -> Result<()> {
@@ -33,20 +34,28 @@ fn edit_a_document(rt: &HostRuntime) -> Result<()> {
     let mut history = History::new(alloc);
     history.insert(0, EcoString::from_str(alloc, "a line of the document")?)?;
     let kept = history.snapshot()?;
-    if !history.lines().is_empty() {
-        let other = EcoString::from_str(alloc, "another line")?;
-        let undone = undo::replace_and_undo(&mut history, 0, other)?;
-        println!(rt; "undone: {undone}, made again: {}", history.redo()?)?;
-        println!(rt;
-            "the same after undo and redo: {}",
-            undo::undo_and_redo(&mut history)?
-        )?;
+    replace_a_line(rt, &mut history)?;
+    print_lines(rt, "now", history.lines())?;
+    print_lines(rt, "in the snapshot", &kept)
+}
+
+fn replace_a_line(rt: &HostRuntime, history: &mut History) -> Result<()> {
+    if history.lines().is_empty() {
+        return Ok(());
     }
-    for line in history.lines() {
-        println!(rt; "now: {line}")?;
-    }
-    for line in &kept {
-        println!(rt; "in the snapshot: {line}")?;
+    let other = EcoString::from_str(rt.alloc(), "another line")?;
+    let undone = undo::replace_and_undo(history, 0, other)?;
+    println!(rt; "undone: {undone}, made again: {}", history.redo()?)?;
+    println!(rt;
+        "the same after undo and redo: {}",
+        undo::undo_and_redo(history)?
+    )?;
+    Ok(())
+}
+
+fn print_lines(rt: &HostRuntime, place: &str, lines: &[EcoString]) -> Result<()> {
+    for line in lines {
+        println!(rt; "{place}: {line}")?;
     }
     Ok(())
 }
@@ -75,10 +84,19 @@ fn fill_a_letter(rt: &HostRuntime) -> Result<()> {
     let name = EcoString::from_str(alloc, "name")?;
     values.insert(name, EcoString::from_str(alloc, "Ada")?)?;
     for text in ["Dear {name},", "no hole", "a {hole that stays open"] {
-        match template::fill(alloc, text, &values)? {
-            Some(filled) => println!(rt; "{text} -> {filled}")?,
-            None => println!(rt; "{text} -> a hole isn't closed")?,
-        }
+        print_filled(rt, text, &values)?;
+    }
+    Ok(())
+}
+
+fn print_filled(
+    rt: &HostRuntime,
+    text: &str,
+    values: &BTreeMap<EcoString, EcoString>,
+) -> Result<()> {
+    match template::fill(rt.alloc(), text, values)? {
+        Some(filled) => println!(rt; "{text} -> {filled}")?,
+        None => println!(rt; "{text} -> a hole isn't closed")?,
     }
     Ok(())
 }
@@ -119,9 +137,15 @@ fn collect_items(rt: &HostRuntime) -> Result<()> {
     let alloc = rt.alloc();
     let numbers: EcoVec<u64> = (1..=3u64).map(|n| n.saturating_mul(n)).collect(alloc)?;
     let bytes: EcoBytes = [1u8, 2].into_iter().collect(alloc)?;
+    println!(rt; "collected: {numbers:?}, {bytes:?}")?;
+    Ok(())
+}
+
+fn collect_texts(rt: &HostRuntime) -> Result<()> {
+    let alloc = rt.alloc();
     let letters: EcoString = "a b".chars().filter(|c| *c != ' ').collect(alloc)?;
     let words: EcoString = ["one ", "two"].into_iter().collect(alloc)?;
     let twice: EcoString = [letters.clone()?, letters].into_iter().collect(alloc)?;
-    println!(rt; "collected: {numbers:?}, {bytes:?}, {words}, {twice}")?;
+    println!(rt; "collected: {words}, {twice}")?;
     Ok(())
 }

@@ -12,7 +12,7 @@ impl<'a> Reader<'a> {
         }
     }
 
-    /// A command that makes bytes, or takes their name out; else one that changes them.
+    /// A command that makes bytes, or takes their name out; else one that needs some.
     fn bytes_maker(&mut self, word: &[u8]) -> Result<BytesCommand, Misfit> {
         match word {
             b"new" => Ok(BytesCommand::New { name: self.name()? }),
@@ -32,6 +32,14 @@ impl<'a> Reader<'a> {
                 name: self.name()?,
                 bytes: self.bytes()?,
             }),
+            b"drop" => Ok(BytesCommand::Drop { name: self.name()? }),
+            _ => self.bytes_derived(word),
+        }
+    }
+
+    /// A command that makes bytes of others; else one that changes or asks them.
+    fn bytes_derived(&mut self, word: &[u8]) -> Result<BytesCommand, Misfit> {
+        match word {
             b"from_text" => Ok(BytesCommand::FromText {
                 from: self.name()?,
                 to: self.name()?,
@@ -40,18 +48,17 @@ impl<'a> Reader<'a> {
                 from: self.name()?,
                 to: self.name()?,
             }),
-            b"drop" => Ok(BytesCommand::Drop { name: self.name()? }),
             b"repeat" => Ok(BytesCommand::Repeat {
                 from: self.name()?,
                 to: self.name()?,
                 n: self.count()?,
             }),
-            _ => self.bytes_change(word),
+            _ => self.byte_edit(word),
         }
     }
 
-    /// A command that changes bytes, or asks them something.
-    fn bytes_change(&mut self, word: &[u8]) -> Result<BytesCommand, Misfit> {
+    /// A command that puts one byte in, writes it over or takes it out; else another.
+    fn byte_edit(&mut self, word: &[u8]) -> Result<BytesCommand, Misfit> {
         match word {
             b"push" => Ok(BytesCommand::Push {
                 name: self.name()?,
@@ -67,6 +74,18 @@ impl<'a> Reader<'a> {
                 name: self.name()?,
                 index: self.count()?,
             }),
+            b"write" => Ok(BytesCommand::Write {
+                name: self.name()?,
+                index: self.count()?,
+                byte: self.byte()?,
+            }),
+            _ => self.bytes_edit(word),
+        }
+    }
+
+    /// Another command that changes bytes; else one that asks them something.
+    fn bytes_edit(&mut self, word: &[u8]) -> Result<BytesCommand, Misfit> {
+        match word {
             b"extend" => Ok(BytesCommand::Extend {
                 name: self.name()?,
                 bytes: self.bytes()?,
@@ -85,16 +104,18 @@ impl<'a> Reader<'a> {
                 name: self.name()?,
                 additional: self.count()?,
             }),
-            b"write" => Ok(BytesCommand::Write {
-                name: self.name()?,
-                index: self.count()?,
-                byte: self.byte()?,
-            }),
+            b"shrink_to_fit" => Ok(BytesCommand::ShrinkToFit { name: self.name()? }),
+            _ => self.bytes_ask(word),
+        }
+    }
+
+    /// A command that asks bytes something.
+    fn bytes_ask(&mut self, word: &[u8]) -> Result<BytesCommand, Misfit> {
+        match word {
             b"read" => Ok(BytesCommand::Read {
                 name: self.name()?,
                 index: self.count()?,
             }),
-            b"shrink_to_fit" => Ok(BytesCommand::ShrinkToFit { name: self.name()? }),
             b"len" => Ok(BytesCommand::Len { name: self.name()? }),
             b"capacity" => Ok(BytesCommand::Capacity { name: self.name()? }),
             b"contents" => Ok(BytesCommand::Contents { name: self.name()? }),

@@ -12,7 +12,7 @@ impl<'a> Reader<'a> {
         }
     }
 
-    /// A command that makes a list, or takes its name out; else one that changes it.
+    /// A command that makes a list, or takes its name out; else one that changes or asks it.
     fn list_maker(&mut self, word: &[u8]) -> Result<VecCommand<i64>, Misfit> {
         match word {
             b"new" => Ok(VecCommand::New { name: self.name()? }),
@@ -34,12 +34,12 @@ impl<'a> Reader<'a> {
                 to: self.name()?,
             }),
             b"drop" => Ok(VecCommand::Drop { name: self.name()? }),
-            _ => self.list_change(word),
+            _ => self.element_edit(word),
         }
     }
 
-    /// A command that changes a list, or asks it something.
-    fn list_change(&mut self, word: &[u8]) -> Result<VecCommand<i64>, Misfit> {
+    /// A command that puts one element in, writes it over or takes it out; else another.
+    fn element_edit(&mut self, word: &[u8]) -> Result<VecCommand<i64>, Misfit> {
         match word {
             b"push" => Ok(VecCommand::Push {
                 name: self.name()?,
@@ -55,6 +55,18 @@ impl<'a> Reader<'a> {
                 name: self.name()?,
                 index: self.count()?,
             }),
+            b"write" => Ok(VecCommand::Write {
+                name: self.name()?,
+                index: self.count()?,
+                value: self.integer()?,
+            }),
+            _ => self.list_edit(word),
+        }
+    }
+
+    /// Another command that changes a list; else one that asks it something.
+    fn list_edit(&mut self, word: &[u8]) -> Result<VecCommand<i64>, Misfit> {
+        match word {
             b"truncate" => Ok(VecCommand::Truncate {
                 name: self.name()?,
                 target: self.count()?,
@@ -81,11 +93,13 @@ impl<'a> Reader<'a> {
                 name: self.name()?,
                 additional: self.count()?,
             }),
-            b"write" => Ok(VecCommand::Write {
-                name: self.name()?,
-                index: self.count()?,
-                value: self.integer()?,
-            }),
+            _ => self.list_ask(word),
+        }
+    }
+
+    /// A command that asks a list something.
+    fn list_ask(&mut self, word: &[u8]) -> Result<VecCommand<i64>, Misfit> {
+        match word {
             b"read" => Ok(VecCommand::Read {
                 name: self.name()?,
                 index: self.count()?,

@@ -12,7 +12,7 @@ impl<'a> Reader<'a> {
         }
     }
 
-    /// A command that makes a text, or takes its name out; else one that changes it.
+    /// A command that makes a text, or takes its name out; else one that needs a text.
     fn text_maker(&mut self, word: &[u8]) -> Result<TextCommand, Misfit> {
         match word {
             b"new" => Ok(TextCommand::New { name: self.name()? }),
@@ -32,6 +32,14 @@ impl<'a> Reader<'a> {
                 name: self.name()?,
                 c: self.character()?,
             }),
+            b"drop" => Ok(TextCommand::Drop { name: self.name()? }),
+            _ => self.text_derived(word),
+        }
+    }
+
+    /// A command that makes a text of another; else one that changes or asks it.
+    fn text_derived(&mut self, word: &[u8]) -> Result<TextCommand, Misfit> {
+        match word {
             b"from_bytes" => Ok(TextCommand::FromBytes {
                 from: self.name()?,
                 to: self.name()?,
@@ -40,14 +48,7 @@ impl<'a> Reader<'a> {
                 from: self.name()?,
                 to: self.name()?,
             }),
-            b"drop" => Ok(TextCommand::Drop { name: self.name()? }),
-            b"replace" => Ok(TextCommand::Replace {
-                from: self.name()?,
-                to: self.name()?,
-                pattern: self.text()?,
-                replacement: self.text()?,
-                count: self.count()?,
-            }),
+            b"replace" => self.text_replacement(),
             b"repeat" => Ok(TextCommand::Repeat {
                 from: self.name()?,
                 to: self.name()?,
@@ -61,35 +62,53 @@ impl<'a> Reader<'a> {
                 from: self.name()?,
                 to: self.name()?,
             }),
-            _ => self.text_change(word),
+            _ => self.character_edit(word),
         }
     }
 
-    /// A command that changes a text, or asks it something.
-    fn text_change(&mut self, word: &[u8]) -> Result<TextCommand, Misfit> {
+    /// The arguments of `replace`: FROM and TO, what is replaced, by what, and how often.
+    fn text_replacement(&mut self) -> Result<TextCommand, Misfit> {
+        Ok(TextCommand::Replace {
+            from: self.name()?,
+            to: self.name()?,
+            pattern: self.text()?,
+            replacement: self.text()?,
+            count: self.count()?,
+        })
+    }
+
+    /// A command that puts one character in or takes it out; else another.
+    fn character_edit(&mut self, word: &[u8]) -> Result<TextCommand, Misfit> {
         match word {
             b"push" => Ok(TextCommand::Push {
                 name: self.name()?,
                 c: self.character()?,
             }),
             b"pop" => Ok(TextCommand::Pop { name: self.name()? }),
-            b"push_str" => Ok(TextCommand::PushStr {
-                name: self.name()?,
-                text: self.text()?,
-            }),
             b"insert" => Ok(TextCommand::Insert {
                 name: self.name()?,
                 index: self.count()?,
                 c: self.character()?,
             }),
+            b"remove" => Ok(TextCommand::Remove {
+                name: self.name()?,
+                index: self.count()?,
+            }),
+            _ => self.text_edit(word),
+        }
+    }
+
+    /// Another command that changes a text; else one that asks it something.
+    fn text_edit(&mut self, word: &[u8]) -> Result<TextCommand, Misfit> {
+        match word {
+            b"push_str" => Ok(TextCommand::PushStr {
+                name: self.name()?,
+                text: self.text()?,
+            }),
             b"insert_str" => Ok(TextCommand::InsertStr {
                 name: self.name()?,
                 index: self.count()?,
                 text: self.text()?,
-            }),
-            b"remove" => Ok(TextCommand::Remove {
-                name: self.name()?,
-                index: self.count()?,
             }),
             b"truncate" => Ok(TextCommand::Truncate {
                 name: self.name()?,
@@ -103,6 +122,13 @@ impl<'a> Reader<'a> {
             b"ascii_lower" => Ok(TextCommand::AsciiLower { name: self.name()? }),
             b"ascii_upper" => Ok(TextCommand::AsciiUpper { name: self.name()? }),
             b"shrink_to_fit" => Ok(TextCommand::ShrinkToFit { name: self.name()? }),
+            _ => self.text_ask(word),
+        }
+    }
+
+    /// A command that asks a text something.
+    fn text_ask(&mut self, word: &[u8]) -> Result<TextCommand, Misfit> {
+        match word {
             b"len" => Ok(TextCommand::Len { name: self.name()? }),
             b"capacity" => Ok(TextCommand::Capacity { name: self.name()? }),
             b"contents" => Ok(TextCommand::Contents { name: self.name()? }),
