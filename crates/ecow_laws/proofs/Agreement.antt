@@ -1,17 +1,18 @@
 -- Runs of plain lists and of lists in shared blocks over the same commands agree.
-use Rattle.std.proofs.Common.{◌≡◌, ℕ, Bool, List, [], ◌∷◌, max, length, Some, Result, Ok, Err, refl, sym, ◌∙◌, ap, subst, arith, inl, inr}
+use Rattle.std.proofs.Common.{◌≡◌, ℕ, Bool, List, [], ◌∷◌, map, max, length, Some, Result, Ok, Err, refl, sym, ◌∙◌, ap, subst, arith, inl, inr}
 use Rattle.std.specs.FinMap as finite
 use Rattle.ecow_model.specs.State.{State}
 use Rattle.ecow_model.specs.Refusing.{◌>>=◌}
 use Rattle.ecow_model.specs.Uses.{Reading, Gives, used, use_is_free, value_at, reading_in}
 use Rattle.ecow_model.specs.Lists.{ListUsage, list_rules, list_asked, vec_usage}
-use Rattle.ecow_model.specs.Run.{IsVecStep, RunBy}
+use Rattle.ecow_model.specs.Run.{IsVecStep, Run, RunBy}
 use Rattle.ecow_model.specs.Names.{Names, Held, IsSharing, contents}
 use Rattle.ecow_model.specs.CountedRun.{CountedRun, ContentsStep, counted_used, counted_is_free, reading_at}
 use Rattle.ecow_model.specs.Agreement.{plain_answer, SameAnswers, LacksNoMemory}
 use Rattle.ecow_model.specs.declared.usage.Usage.TheVariants.{Make, Derive, Drop, Change as Edit, Ask}
 use Rattle.ecow_model.specs.declared.lists.ListAsk.{ListAsk}
 use Rattle.ecow_model.specs.declared.lists.ListAsk.TheVariants.{Read, Len, Contents, Capacity, Unique}
+use Rattle.ecow_model.specs.declared.command.Command.TheVariants.{Vec}
 use Rattle.ecow_model.specs.declared.lists.VecCommand.{VecCommand}
 use Rattle.ecow_model.specs.declared.command.Outcome.{Outcome}
 use Rattle.ecow_model.specs.declared.command.Outcome.TheVariants.{Count, Refused}
@@ -71,6 +72,16 @@ module _ {T : Type 0} where
 
   pub keepings_agree : (cs : List (VecCommand T)) (ours theirs : List (Outcome T)) (old new : State T) (names later : Names T) → contents names ≡ old → RunBy IsVecStep old cs ours new → CountedRun names cs theirs later → LacksNoMemory ours → LacksNoMemory theirs → SameAnswers cs ours theirs × (contents later ≡ new)
   keepings_agree cs ours theirs old new names later at run counted some more = runs_agree cs ours theirs old new names later at run (run_of_contents cs theirs names later counted) some more
+
+  -- a run of a store by commands on lists alone
+  list_run : (limit : ℕ) (cs : List (VecCommand T)) (outs : List (Outcome T)) (old new : State T) → Run limit old (map (λ c. Vec c) cs) outs new → RunBy IsVecStep old cs outs new
+  list_run limit [] [] old new run = run
+  list_run limit (c ∷ cs) (a ∷ outs) old new run = (run.0, run.1, list_run limit cs outs run.0 new run.2)
+  list_run limit [] (a ∷ outs) old new run = absurd run
+  list_run limit (c ∷ cs) [] old new run = absurd run
+
+  pub stores_agree : (limit : ℕ) (cs : List (VecCommand T)) (ours theirs : List (Outcome T)) (old new : State T) (names later : Names T) → contents names ≡ old → Run limit old (map (λ c. Vec c) cs) ours new → CountedRun names cs theirs later → LacksNoMemory ours → LacksNoMemory theirs → SameAnswers cs ours theirs × (contents later ≡ new)
+  stores_agree limit cs ours theirs old new names later at run counted some more = keepings_agree cs ours theirs old new names later at (list_run limit cs ours old new run) counted some more
 
   -- a capacity is not below the length, so it is read as it is
   pub capacity_read : (names : Names T) (x : ℕ) (h : Held T) → IsSharing names → finite.get names x ≡ Some h → counted_used names (Ask x Capacity) ≡ Ok (Count h.capacity, names)

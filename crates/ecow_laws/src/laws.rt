@@ -1,12 +1,13 @@
 //! Laws of runs in shared blocks.
-ghost use Rattle.std.specs.Prelude.{◌≡◌, ℕ, ◌+◌, ◌*◌, ◌≤◌, List, Some, Ok};
+ghost use Rattle.std.specs.Prelude.{◌≡◌, ℕ, ◌+◌, ◌*◌, ◌≤◌, List, Some, Ok, map};
 ghost use Rattle.std.specs.FinMap as finite;
 ghost use Rattle.ecow_model.specs.Agreement.{LacksNoMemory, SameAnswers};
 ghost use Rattle.ecow_model.specs.CountedRun.{CountedRun, CopiesAtMostEagerly, MovesArePaid, copied_in_run, counted_used, eager_in_run, input_in_run, moved_in_run};
 ghost use Rattle.ecow_model.specs.Names.{Held, IsSharing, Names, contents};
-ghost use Rattle.ecow_model.specs.Run.{IsVecStep, RunBy};
+ghost use Rattle.ecow_model.specs.Run.{IsVecStep, Run, RunBy};
 ghost use Rattle.ecow_model.specs.State.{State};
 ghost use Rattle.ecow_model.specs.declared.command.Outcome.{Outcome};
+ghost use Rattle.ecow_model.specs.declared.command.Command.{Command};
 ghost use Rattle.ecow_model.specs.declared.lists.ListAsk.{ListAsk};
 ghost use Rattle.ecow_model.specs.declared.lists.VecCommand.{VecCommand};
 ghost use Rattle.ecow_model.specs.declared.usage.Usage.{Usage};
@@ -26,6 +27,15 @@ pub fn runs_are_paid<T>()
 pub fn keepings_agree<T>()
     ensures answers { (commands : List (VecCommand T)) (ours : List (Outcome T)) (theirs : List (Outcome T)) (old : State T) (new : State T) (names : Names T) (later : Names T) → contents names ≡ old → RunBy IsVecStep old commands ours new → CountedRun names commands theirs later → LacksNoMemory ours → LacksNoMemory theirs → SameAnswers commands ours theirs }
     ensures contents { (commands : List (VecCommand T)) (ours : List (Outcome T)) (theirs : List (Outcome T)) (old : State T) (new : State T) (names : Names T) (later : Names T) → contents names ≡ old → RunBy IsVecStep old commands ours new → CountedRun names commands theirs later → LacksNoMemory ours → LacksNoMemory theirs → contents later ≡ new }
+    // `Run` is what the contract of a store's `run` says, for every inline limit.
+    ensures stores { (limit : ℕ) (commands : List (VecCommand T)) (ours : List (Outcome T)) (theirs : List (Outcome T))
+        (old : State T) (new : State T) (names : Names T) (later : Names T)
+        → contents names ≡ old
+        → Run limit old (map (λ c. Command.Vec c) commands) ours new
+        → CountedRun names commands theirs later
+        → LacksNoMemory ours
+        → LacksNoMemory theirs
+        → SameAnswers commands ours theirs × (contents later ≡ new) }
 {}
 
 /// In shared blocks Capacity answers exactly the capacity of the name's block.

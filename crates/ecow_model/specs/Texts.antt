@@ -1,4 +1,5 @@
 -- What each command on texts does. A text is a list of characters, and `limit` the greatest number of UTF-8 bytes that stand in the value itself.
+-- A character is a Unicode scalar value: a number below 1114112, outside 55296 to 57343.
 use Rattle.std.specs.Prelude.{ℕ, ◌+◌, ◌-◌, ◌*◌, Bool, true, false, ◌||◌, ◌==◌, if◌then◌else◌, nat_le, nat_lt, max, Some, None, List, [], ◌∷◌, ◌++◌, map, length, take, slice_get, Result, Ok}
 use Rattle.std.specs.List.{insert as insert_at, remove as remove_at, insert_slice, repeat}
 use Rattle.std.specs.Char.{len_utf8, to_ascii_lowercase, to_ascii_uppercase}

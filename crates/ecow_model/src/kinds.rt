@@ -2,7 +2,6 @@
 ghost use Rattle.std.specs.Prelude.{◌≡◌, ◌⊎◌, MatchResult, Ok, Err};
 ghost use Rattle.std.specs.Borrow.{sem};
 ghost use Rattle.std.specs.FinMap as map;
-ghost use Rattle.ecow_base.specs.Clones.{ClonesAreEqual};
 ghost use Rattle.ecow_model.specs.Loans.{LendsSeen, LendsKept};
 ghost use Rattle.ecow_model.specs.Refusing.{OnRefused};
 ghost use Rattle.ecow_model.specs.Uses.{Rules, Keeps, IsMade, IsMadeOrRefused, IsDerived, IsDerivedOrRefused, IsEdit, IsEditVerdict, IsAnswer, IsAnswerVerdict, IsUse, IsUseVerdict, value_at};
@@ -16,7 +15,7 @@ use crate::usage::{Made, Usage};
 use std::alloc::Global;
 
 /// A kind of value, where values of type `V` stand under names: what the parts of a command do with
-/// one of its values. `rules` are the definitions that it keeps.
+/// one of its values. `rules` are the definitions that it keeps, where `premise` holds.
 pub trait Kind<T: Clone, V: Drop> {
     /// A value of the kind.
     type Held: Drop;
@@ -35,25 +34,27 @@ pub trait Kind<T: Clone, V: Drop> {
 
     ghost rules: { Rules T V Self.Held Self.Make Self.Derive Self.Edit Self.Ask };
 
+    ghost premise: { Type 0 };
+
     /// A value that is made, or why it is not.
     fn make(alloc: Global, how: Self::Make) -> Result<Made<Self::Held>, Refusal>
-        ensures made { ClonesAreEqual T.is_clone → IsMade rules how result }
+        ensures made { premise → IsMade rules how result }
         ensures verdict { IsMadeOrRefused rules how result };
 
     /// A value that is made from another one, or why it is not.
     fn derive(alloc: Global, how: Self::Derive, source: &V) -> Result<Self::Held, Refusal>
-        ensures derived { ClonesAreEqual T.is_clone → IsDerived rules how source.now result }
+        ensures derived { premise → IsDerived rules how source.now result }
         ensures verdict { IsDerivedOrRefused rules how source.now result };
 
     /// Carries out one change. A refused one changes nothing.
     fn edit(alloc: Global, held: &mut Self::Held, edit: Self::Edit) -> Outcome<T>
-        ensures step { ClonesAreEqual T.is_clone → IsEdit rules edit held.old result held.new }
+        ensures step { premise → IsEdit rules edit held.old result held.new }
         ensures verdict { IsEditVerdict rules edit held.old result }
         ensures refused { OnRefused result (held.new ≡ held.old) };
 
     /// Answers one question.
     fn ask(alloc: Global, held: &mut Self::Held, question: Self::Ask) -> Outcome<T>
-        ensures answer { ClonesAreEqual T.is_clone → IsAnswer rules question held.old result }
+        ensures answer { premise → IsAnswer rules question held.old result }
         ensures verdict { IsAnswerVerdict rules question held.old result }
         ensures kept { held.new ≡ held.old };
 
@@ -105,7 +106,7 @@ pub fn carry_out<T: Clone, V: Drop, K: Kind<T, V>>(
     values: &mut Table<V>,
     usage: Usage<K::Make, K::Derive, K::Edit, K::Ask>,
 ) -> Outcome<T>
-    ensures step { ClonesAreEqual T.is_clone → IsUse K.rules values.old usage result values.new }
+    ensures step { K.premise → IsUse K.rules values.old usage result values.new }
     ensures verdict { IsUseVerdict K.rules values.old usage result }
     ensures refused { OnRefused result (values.new ≡ values.old) }
 {

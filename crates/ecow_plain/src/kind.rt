@@ -1,5 +1,6 @@
 //! What the plain store does with a list: each table of the definitions is one `match`.
 ghost use Rattle.std.specs.Prelude.{◌≡◌, Ok, MatchResult};
+ghost use Rattle.ecow_base.specs.Clones.{ClonesAreEqual};
 ghost use Rattle.ecow_model.specs.Lists.{list_edited, list_rules};
 ghost use Rattle.ecow_model.specs.Refusing.{OnRefused, verdict};
 ghost use Rattle.ecow_model.specs.Uses.{IsEdit, IsEditVerdict};
@@ -33,6 +34,8 @@ impl<T: Clone> Kind<T, Stored<T>> for ListKind {
     type Ask = ListAsk;
 
     ghost rules = { list_rules };
+
+    ghost premise = { ClonesAreEqual T.is_clone };
 
     fn make(alloc: Global, how: ListMake<T>) -> Result<Made<PlainList<T>>, Refusal> {
         match how {
