@@ -24,6 +24,14 @@ module _ {C I T : Type 0} (gives : C → I → Type 0) (steps : I → Option T �
   abbrev pub GivesFirst : C → List T → Type 0
   GivesFirst c xs = (it : I) × (rest : I) × gives c it × Yields steps it xs rest
 
+  -- P holds of items that it gave first
+  abbrev pub SomeFirst : C → (List T → Type 0) → Type 0
+  SomeFirst c P = (xs : List T) × GivesFirst c xs × P xs
+
+-- P holds of the old elements, or of a clone of each
+abbrev pub SomeKept : {T : Type 0} → (T → T → Type 0) → List T → (List T → Type 0) → Type 0
+SomeKept {T} is_clone old P = (kept : List T) × IsKept is_clone old kept × P kept
+
 -- new is what `change` makes of the old elements, or of a clone of each
 abbrev pub IsKeptIn : {T : Type 0} → (T → T → Type 0) → List T → (List T → List T) → List T → Type 0
 IsKeptIn {T} is_clone old change new = (kept : List T) × IsKept is_clone old kept × (new ≡ change kept)

@@ -3,6 +3,7 @@ ghost use Rattle.std.specs.Prelude.{◌≡◌};
 ghost use Rattle.ecow_list.specs.declared.error.EcoError.TheVariants.{Memory};
 
 use std::alloc::{AllocError, AllocFailed};
+use std::fmt;
 use std::fmt::Debug;
 use thiserror::Error;
 
@@ -30,6 +31,16 @@ impl<V: Drop> From<AllocFailed<V>> for EcoError {
     ghost from_gives = { λ _ error. error ≡ Memory };
 
     fn from(_refused: AllocFailed<V>) -> Self {
+        EcoError::Memory
+    }
+}
+
+/// A text that can't be printed is for want of memory, so that `eco_format!` and the calls of a vector
+/// are used in one function by `?`.
+impl From<fmt::Error> for EcoError {
+    ghost from_gives = { λ _ error. error ≡ Memory };
+
+    fn from(_refused: fmt::Error) -> Self {
         EcoError::Memory
     }
 }

@@ -1,7 +1,6 @@
 //! The items of an iterator, in a block.
-ghost use Rattle.std.specs.Prelude.{◌≡◌, ◌<◌, ◌≤◌, ◌↔◌, List, length, IfOk, OnErr, IsErrOf};
-ghost use Rattle.std.specs.Iterator.{IsFinite};
-ghost use Rattle.ecow_list.specs.Vectors.{GivesFirst, GivesItems};
+ghost use Rattle.std.specs.Prelude.{◌≡◌, ◌+◌, ◌<◌, ◌≤◌, ◌↔◌, List, length, IfOk, OnErr, IsErrOf};
+ghost use Rattle.std.specs.Iterator.{Drains, IsFinite, Yields};
 
 use crate::error::EcoError;
 use ecow_base::{MAX_LEN, room_for};
@@ -11,24 +10,28 @@ use std::alloc::Global;
 /// The items of `iter`, in order, in a block with room for no fewer than `least`. A block that has
 /// to grow gets room for `ample` at least. At the item past `most` it answers `Capacity`. After a
 /// refusal no further item is asked for.
-pub(super) fn collected<T: Drop, I: IntoIterator<Item = T>>(
+pub(super) fn collected<T: Drop, I: Iterator<Item = T>>(
     alloc: Global,
     least: usize,
     ample: usize,
     most: usize,
-    iter: I,
+    iter: &mut I,
 ) -> Result<Block<T>, EcoError>
     requires bounded { (least ≤ MAX_LEN) × (ample ≤ MAX_LEN) × (most ≤ MAX_LEN) }
-    requires ends { (it : I.IntoIter) → I.into_iter_gives iter it → I.IntoIter.can_next it × IsFinite (I.IntoIter.remaining it) }
-    ensures items { IfOk result (λ block. GivesItems I.into_iter_gives I.IntoIter.next_gives iter block.items) }
+    requires ends { I.can_next iter.old × IsFinite (I.remaining iter.old) }
+    ensures items { IfOk result (λ block. Drains I.next_gives iter.old block.items) }
     ensures fits { IfOk result (λ block. length block.items ≤ most) }
     ensures room { IfOk result (λ block. least ≤ block.capacity) }
-    ensures refused { OnErr result ((items : List T) × GivesFirst I.into_iter_gives I.IntoIter.next_gives iter items × (least ≡ 0 → 0 < length items) × (IsErrOf result EcoError.Capacity ↔ (most < length items))) }
+    ensures refused { OnErr result
+        ((items : List T)
+        × Yields I.next_gives iter.old items iter.new
+        × (least ≡ 0 → 0 < length items)
+        × (length items ≤ most + 1)
+        × (IsErrOf result EcoError.Capacity ↔ (length items ≡ most + 1))) }
 {
-    let mut rest = iter.into_iter();
     let mut items = Block::with_capacity(alloc, least)?;
-    while !items.fill_from(most, &mut rest) {
-        let Some(item) = rest.next() else {
+    while !items.fill_from(most, iter) {
+        let Some(item) = iter.next() else {
             return Ok(items);
         };
         let (len, capacity) = (items.len(), items.capacity());

@@ -1,8 +1,9 @@
 //! The calls that make a vector of other collections, or other collections of a vector.
-ghost use Rattle.std.specs.Prelude.{◌≡◌, ◌≢◌, ◌+◌, ◌<◌, ◌≤◌, ◌↔◌, [], List, length, replicate, vec_len, IsOk, IfOk, IfErr, OnErr, IsErrAnd, IsErrOf};
+ghost use Rattle.std.specs.Prelude.{◌≡◌, ◌≢◌, ◌+◌, ◌<◌, ◌≤◌, ◌↔◌, [], All, List, length, replicate, vec_len, IsOk, IfOk, IfErr, OnErr, IsErrAnd, IsErrOf};
 ghost use Rattle.std.specs.Iterator.{IsFinite, ExtendsWithItems};
+ghost use Rattle.std.specs.List.{AllZip};
 ghost use Rattle.ecow_base.specs.Clones.{ClonesAreEqual};
-ghost use Rattle.ecow_list.specs.Vectors.{Appends, GivesFirst, GivesItems, Lengthens};
+ghost use Rattle.ecow_list.specs.Vectors.{Appends, GivesFirst, GivesItems, IsKept, Lengthens, SomeFirst};
 
 use crate::error::{EcoError, Rejected};
 use crate::iter::IntoIter;
@@ -12,13 +13,16 @@ use ecow_base::{MAX_LEN, fresh_capacity};
 use ecow_block::Block;
 use std::alloc::{AllocError, Global};
 use std::rc::Rc;
+use thiserror::Error;
 
 /// Why a vector was not made an array. The vector comes back as it was.
-#[derive(Drop)]
+#[derive(Debug, Drop, Error)]
 pub enum IntoArray<T> {
     /// It has another length.
+    #[error("the vector has another length than the array")]
     Length(EcoVec<T>),
     /// There was no memory, or the clone of an element was refused.
+    #[error("{0}")]
     Refused(EcoError, EcoVec<T>),
 }
 
@@ -93,9 +97,14 @@ impl<T: Drop> EcoVec<T> {
     pub fn from_iter<I: IntoIterator<Item = T>>(alloc: Global, iter: I) -> Result<Self, EcoError>
         requires { (it : I.IntoIter) → I.into_iter_gives iter it → I.IntoIter.can_next it × IsFinite (I.IntoIter.remaining it) }
         ensures ok { IfOk result (λ v. GivesItems I.into_iter_gives I.IntoIter.next_gives iter v) }
-        ensures refused { OnErr result ((items : List T) × GivesFirst I.into_iter_gives I.IntoIter.next_gives iter items × (0 < length items) × (IsErrOf result EcoError.Capacity ↔ (MAX_LEN < length items))) }
+        ensures refused { OnErr result
+            (SomeFirst I.into_iter_gives I.IntoIter.next_gives iter
+            (λ items.
+            (0 < length items)
+            × (length items ≤ MAX_LEN + 1)
+            × (IsErrOf result EcoError.Capacity ↔ (length items ≡ MAX_LEN + 1)))) }
     {
-        let items = collected(alloc, 0, 4, MAX_LEN, iter)?;
+        let items = collected(alloc, 0, 4, MAX_LEN, &mut iter.into_iter())?;
         if items.len() == 0 {
             return Ok(EcoVec::new(alloc));
         }
@@ -114,6 +123,7 @@ impl<T: Clone> EcoVec<T> {
     #[inline]
     pub fn from_slice(alloc: Global, elements: &[T]) -> Result<Self, EcoError>
         ensures ok { ClonesAreEqual T.is_clone → IfOk result (λ v. v ≡ elements.now) }
+        ensures clones { IfOk result (λ v. AllZip T.is_clone elements.now v) }
         ensures len { IfOk result (λ v. length v ≡ length elements.now) }
         ensures capacity { IsErrOf result EcoError.Capacity ↔ (MAX_LEN < length elements.now) }
         ensures nothing { elements.now ≡ [] → IsOk result }
@@ -137,6 +147,7 @@ impl<T: Clone> EcoVec<T> {
     /// 2^63 - 1, and else with `Memory`.
     pub fn from_elem(alloc: Global, value: T, n: usize) -> Result<Self, Rejected<T>>
         ensures ok { ClonesAreEqual T.is_clone → IfOk result (λ v. v ≡ replicate n value) }
+        ensures clones { IfOk result (All (T.is_clone value)) }
         ensures len { IfOk result (λ v. length v ≡ n) }
         ensures value_returned { IfErr result (λ rejected. rejected.value ≡ value) }
         ensures capacity { IsErrAnd result (λ rejected. rejected.error ≡ EcoError.Capacity) ↔ (MAX_LEN < n) }
@@ -160,6 +171,7 @@ impl<T: Clone> EcoVec<T> {
     fn repeated(alloc: Global, value: &T, n: usize) -> Result<Self, AllocError>
         requires { n ≤ MAX_LEN }
         ensures ok { ClonesAreEqual T.is_clone → IfOk result (λ v. v ≡ replicate n value.now) }
+        ensures clones { IfOk result (All (T.is_clone value.now)) }
         ensures len { IfOk result (λ v. length v ≡ n) }
         ensures nothing { n ≡ 0 → IsOk result }
     {
@@ -201,6 +213,7 @@ impl<T: Clone> EcoVec<T> {
     /// error is `Memory`, with which the vector comes back as it was.
     pub fn into_vec(self) -> Result<Vec<T>, Rejected<Self>>
         ensures ok { ClonesAreEqual T.is_clone → IfOk result (λ elements. elements.items ≡ self) }
+        ensures kept { IfOk result (λ elements. IsKept T.is_clone self elements.items) }
         ensures len { IfOk result (λ elements. vec_len elements ≡ length self) }
         ensures value_returned { IfErr result (λ rejected. rejected.value ≡ self) }
         ensures memory { IfErr result (λ rejected. rejected.error ≡ EcoError.Memory) }
@@ -229,6 +242,7 @@ impl<T: Clone> EcoVec<T> {
     /// clones them all first. The one error is `Memory`, with which the vector comes back as it was.
     pub fn into_iter(self) -> Result<IntoIter<T>, Rejected<Self>>
         ensures ok { ClonesAreEqual T.is_clone → IfOk result (λ rest. rest ≡ self) }
+        ensures kept { IfOk result (IsKept T.is_clone self) }
         ensures len { IfOk result (λ rest. length rest ≡ length self) }
         ensures value_returned { IfErr result (λ rejected. rejected.value ≡ self) }
         ensures memory { IfErr result (λ rejected. rejected.error ≡ EcoError.Memory) }
@@ -257,6 +271,7 @@ impl<T: Clone> EcoVec<T> {
     /// vector comes back as it was with either.
     pub fn into_array<const N: usize>(self) -> Result<[T; N], IntoArray<T>>
         ensures ok { ClonesAreEqual T.is_clone → IfOk result (λ elements. elements ≡ self) }
+        ensures kept { IfOk result (IsKept T.is_clone self) }
         ensures length { IsErrAnd result IsLength ↔ (length self ≢ N) }
         ensures value_returned { IfErr result (λ error. HandsBack error self) }
         ensures memory { IfErr result IsForMemory }

@@ -5,7 +5,7 @@ ghost use Rattle.std.specs.Prelude.{◌≡◌, ◌+◌, ◌-◌, ◌<◌, ◌≤
 ghost use Rattle.std.specs.Fn.{CalledAtMut};
 ghost use Rattle.std.specs.List.Retain.{RetainsInTurn};
 ghost use Rattle.ecow_base.specs.Clones.{ClonesAreEqual};
-ghost use Rattle.ecow_list.specs.Vectors.{IsKept, IsKeptBefore, IsKeptIn, IsTakenOf};
+ghost use Rattle.ecow_list.specs.Vectors.{IsKept, IsKeptBefore, IsKeptIn, IsTakenOf, SomeKept};
 
 use crate::error::{EcoError, Rejected};
 use crate::vec::EcoVec;
@@ -301,6 +301,8 @@ impl<T: Clone> EcoVec<T> {
     pub fn retain<F: FnMut(&mut T) -> bool>(&mut self, f: F) -> Result<(), EcoError>
         requires { F.IsAlwaysCallable f }
         ensures ok { ClonesAreEqual T.is_clone → OnOk result (RetainsInTurn (CalledAtMut F.FnMut) f self.old self.new) }
+        ensures kept { OnOk result
+            (SomeKept T.is_clone self.old (λ kept. RetainsInTurn (CalledAtMut F.FnMut) f kept self.new)) }
         ensures len { OnOk result (length self.new ≤ length self.old) }
         ensures err { IfErr result (λ error. error ≡ EcoError.Memory) }
         ensures unchanged { OnErr result (self.new ≡ self.old) }

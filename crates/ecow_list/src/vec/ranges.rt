@@ -5,7 +5,7 @@ ghost use Rattle.std.specs.Iterator.{IsFinite};
 ghost use Rattle.ecow_base.specs.Clones.{ClonesAreEqual};
 ghost use Rattle.ecow_base.specs.Range.{range_of};
 ghost use Rattle.ecow_list.specs.Ranges.{AtRange};
-ghost use Rattle.ecow_list.specs.Vectors.{GivesFirst, GivesItems};
+ghost use Rattle.ecow_list.specs.Vectors.{GivesFirst, GivesItems, SomeFirst, SomeKept};
 
 use crate::error::EcoError;
 use crate::iter::{Drain, Splice};
@@ -27,6 +27,13 @@ impl<T: Clone> EcoVec<T> {
         requires in_range { IsSome (range_of (R.start_bound range, R.end_bound range) (length self.old)) }
         ensures ok { ClonesAreEqual T.is_clone → OnOk result (AtRange (R.start_bound range, R.end_bound range) (length self.old) (λ start end. self.new ≡ remove_range self.old start end)) }
         ensures removed { ClonesAreEqual T.is_clone → IfOk result (λ removed. AtRange (R.start_bound range, R.end_bound range) (length self.old) (λ start end. removed ≡ slice_range self.old start end)) }
+        ensures kept { IfOk result
+            (λ removed.
+            SomeKept T.is_clone self.old
+            (λ kept.
+            AtRange (R.start_bound range, R.end_bound range) (length self.old)
+            (λ start end.
+            (self.new ≡ remove_range kept start end) × (removed ≡ slice_range kept start end)))) }
         ensures len { OnOk result (AtRange (R.start_bound range, R.end_bound range) (length self.old) (λ start end. length self.new + (end - start) ≡ length self.old)) }
         ensures removed_len { IfOk result (λ removed. AtRange (R.start_bound range, R.end_bound range) (length self.old) (λ start end. length removed ≡ end - start)) }
         ensures err { IfErr result (λ error. error ≡ EcoError.Memory) }
@@ -58,12 +65,29 @@ impl<T: Clone> EcoVec<T> {
         ensures removed { ClonesAreEqual T.is_clone → IfOk result (λ removed. AtRange (R.start_bound range, R.end_bound range) (length self.old) (λ start end. removed ≡ slice_range self.old start end)) }
         ensures len { OnOk result ((items : List T) × GivesItems I.into_iter_gives I.IntoIter.next_gives replace_with items × AtRange (R.start_bound range, R.end_bound range) (length self.old) (λ start end. length self.new + (end - start) ≡ length self.old + length items)) }
         ensures removed_len { IfOk result (λ removed. AtRange (R.start_bound range, R.end_bound range) (length self.old) (λ start end. length removed ≡ end - start)) }
-        ensures capacity { OnErr result ((items : List T) × GivesFirst I.into_iter_gives I.IntoIter.next_gives replace_with items × AtRange (R.start_bound range, R.end_bound range) (length self.old) (λ start end. IsErrOf result EcoError.Capacity ↔ (MAX_LEN < length self.old - (end - start) + length items))) }
+        ensures kept { IfOk result
+            (λ removed.
+            SomeKept T.is_clone self.old
+            (λ kept.
+            (items : List T)
+            × GivesItems I.into_iter_gives I.IntoIter.next_gives replace_with items
+            × AtRange (R.start_bound range, R.end_bound range) (length self.old)
+            (λ start end.
+            (self.new ≡ splice kept start end items) × (removed ≡ slice_range kept start end)))) }
+        ensures refused { OnErr result
+            (SomeFirst I.into_iter_gives I.IntoIter.next_gives replace_with
+            (λ items.
+            AtRange (R.start_bound range, R.end_bound range) (length self.old)
+            (λ start end.
+            (length self.old - (end - start) + length items ≤ MAX_LEN + 1)
+            × (IsErrOf result EcoError.Capacity
+            ↔ (length self.old - (end - start) + length items ≡ MAX_LEN + 1))))) }
         ensures unchanged { OnErr result (self.new ≡ self.old) }
     {
         let (start, end) = resolve(&range, self.len()).unwrap();
         let most = MAX_LEN - (self.len() - (end - start));
-        let replacement = collected(self.alloc, end - start, 16, most, replace_with)?;
+        let mut items = replace_with.into_iter();
+        let replacement = collected(self.alloc, end - start, 16, most, &mut items)?;
         Ok(Splice::new(self.replaced(start, end, replacement)?))
     }
 
@@ -81,6 +105,12 @@ impl<T: Clone> EcoVec<T> {
         requires spare { end - start ≤ replacement.capacity }
         ensures ok { ClonesAreEqual T.is_clone → OnOk result (self.new ≡ splice self.old start end replacement.items) }
         ensures removed { ClonesAreEqual T.is_clone → IfOk result (λ removed. removed ≡ slice_range self.old start end) }
+        ensures kept { IfOk result
+            (λ removed.
+            SomeKept T.is_clone self.old
+            (λ kept.
+            (self.new ≡ splice kept start end replacement.items)
+            × (removed ≡ slice_range kept start end))) }
         ensures len { OnOk result (length self.new + (end - start) ≡ length self.old + length replacement.items) }
         ensures removed_len { IfOk result (λ removed. length removed ≡ end - start) }
         ensures unchanged { OnErr result (self.new ≡ self.old) }
