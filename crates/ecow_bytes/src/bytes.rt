@@ -37,6 +37,9 @@ enum Form<const N: usize> {
 /// Bytes of which at most 15 stand in the value itself.
 pub type EcoBytes = SmallBytes<15>;
 
+/// The greatest number of bytes that stand in an `EcoBytes` itself, or in an `EcoString`.
+pub const INLINE_LIMIT: usize = 15;
+
 impl<const N: usize> Model for SmallBytes<N> {
     ghost use Rattle.ecow_model.specs.declared.value.PlainBytes.{PlainBytes};
     ghost use Rattle.ecow_bytes.specs.Form.{plain_of};

@@ -1,11 +1,11 @@
 //! Equality, order, hash and debug text of bytes: those of the bytes in order, inline or spilled,
 //! shared or not. A front comes before what it begins.
-ghost use Rattle.std.specs.Prelude.{◌≡◌, ◌≤◌, length, Some, nat_eq, refl};
+ghost use Rattle.std.specs.Prelude.{Some, nat_eq, refl};
 ghost use Rattle.std.specs.Ordering.{nat_cmp};
 ghost use Rattle.std.specs.Cmp.{on_equiv, on_total, on_po, on_per, partial_equiv_from_equiv};
 ghost use Rattle.std.specs.Cmp.Lexicographic.{pointwise, slice_cmp, nat_list_eq_equiv, nat_list_cmp_total, texts_po, texts_ties, bytes_decides};
 ghost use Rattle.std.specs.Hash.{on_Alike, same_Alike};
-ghost use Rattle.ecow_bytes.specs.Hashes.{are_few, both_ends, hash_writes};
+ghost use Rattle.ecow_bytes.specs.Hashes.{hash_writes};
 
 use crate::bytes::SmallBytes;
 use crate::compare::{equal, order};
@@ -54,8 +54,7 @@ impl<const N: usize> Ord for SmallBytes<N> {
     }
 }
 
-// The length, and then all bytes in one write: a hasher takes them by words. What doesn't make a word
-// it takes byte by byte, so that few bytes are handed to it as one.
+// The number of bytes, and then all of them in one write: as Rust's standard library hashes a slice.
 impl<const N: usize> Hash for SmallBytes<N> {
     ghost hash_input = { λ b. hash_writes b.bytes };
 
@@ -64,31 +63,8 @@ impl<const N: usize> Hash for SmallBytes<N> {
     fn hash<H: Hasher>(&self, state: &mut H) {
         let bytes = self.as_slice();
         state.write_usize(bytes.len());
-        if are_few(bytes) {
-            state.write_u64(both_ends(bytes));
-        } else {
-            state.write(bytes);
-        }
+        state.write(bytes);
     }
-}
-
-/// Whether there are four to seven bytes.
-fn are_few(bytes: &[u8]) -> bool
-    ensures { result ≡ are_few bytes.now }
-{
-    4 <= bytes.len() && bytes.len() <= 7
-}
-
-/// The first four bytes as a number, and the last four above it.
-fn both_ends(bytes: &[u8]) -> u64
-    requires { 4 ≤ length bytes.now }
-    ensures { result ≡ both_ends bytes.now }
-{
-    let (Some(first), Some(last)) = (bytes.first_chunk::<4>(), bytes.last_chunk::<4>()) else {
-        return 0;
-    };
-    let (low, high) = (u32::from_le_bytes(*first), u32::from_le_bytes(*last));
-    low as u64 + 0x1_0000_0000 * high as u64
 }
 
 impl<const N: usize> fmt::Debug for SmallBytes<N> {

@@ -9,4 +9,4 @@ pub mod laws;
 pub mod traits;
 pub mod write;
 
-pub use bytes::{EcoBytes, SmallBytes};
+pub use bytes::{EcoBytes, INLINE_LIMIT, SmallBytes};
