@@ -4,7 +4,7 @@
 //! The paths are those of the original crate.
 #![tactic(auto)]
 
-pub use ecow_bytes::{EcoBytes, SmallBytes};
+pub use ecow_bytes::{EcoBytes, INLINE_LIMIT, SmallBytes};
 pub use ecow_list::{EcoError, EcoVec, IntoArray, Rejected, eco_vec, range_in, resolve};
 pub use ecow_text::{EcoString, SmallText, ToEcoString, eco_format};
 

@@ -85,7 +85,8 @@ pub fn texts_are_their_bytes()
     ensures again { (text : PlainText) → AreChars text.chars → text_of (bytes_of text) ≡ text }
 {}
 
-/// Texts are equal exactly where they have the same characters.
+/// Texts are equal exactly where they have the same characters. A text has Unicode scalar values alone;
+/// the law holds at all numbers.
 pub fn equal_texts_have_the_same_characters()
     ensures same { (t : PlainText) (u : PlainText) → pointwise nat_eq (encode_utf8_all t.chars) (encode_utf8_all u.chars) ≡ true → t.chars ≡ u.chars }
     ensures equal { (t : PlainText) (u : PlainText) → t.chars ≡ u.chars → pointwise nat_eq (encode_utf8_all t.chars) (encode_utf8_all u.chars) ≡ true }

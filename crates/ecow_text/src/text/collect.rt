@@ -7,7 +7,7 @@ ghost use Rattle.ecow_list.specs.Vectors.{Appends, GivesFirst, GivesItems};
 ghost use Rattle.ecow_model.specs.Inline.{inline_after, inline_for};
 ghost use Rattle.ecow_model.specs.Utf8.{utf8_len};
 ghost use Rattle.ecow_model.specs.declared.value.PlainText.{PlainText};
-ghost use Rattle.ecow_text.specs.Appends.{AppendsBy, AppendsStrs, joined_by, joined_strs, joined_texts};
+ghost use Rattle.ecow_text.specs.Appends.{AppendsBy, AppendsStrs, LeavesLastOut, joined_by, joined_strs, joined_texts};
 
 use crate::text::SmallText;
 use ecow_base::MAX_LEN;
@@ -121,7 +121,12 @@ impl<const N: usize> SmallText<N> {
         requires { (it : I.IntoIter) → I.into_iter_gives iter it → I.IntoIter.can_next it × IsFinite (I.IntoIter.remaining it) }
         ensures chars { ExtendsWithItems I.into_iter_gives I.IntoIter.next_gives AppendsStrs iter self.old.chars self.new.chars result }
         ensures mode { self.new.inline ≡ inline_after N self.old.inline (utf8_len self.new.chars) 0 }
-        ensures refused { OnErr result ((items : List (Bor (List ℕ))) × GivesFirst I.into_iter_gives I.IntoIter.next_gives iter items × (inline_after N self.old.inline (utf8_len (self.old.chars ++ joined_strs items)) 0 ≡ false) × (IsErrOf result EcoError.Capacity ↔ (MAX_LEN < utf8_len (self.old.chars ++ joined_strs items)))) }
+        ensures refused { OnErr result
+            ((items : List (Bor (List ℕ)))
+            × GivesFirst I.into_iter_gives I.IntoIter.next_gives iter items
+            × (inline_after N self.old.inline (utf8_len (self.old.chars ++ joined_strs items)) 0 ≡ false)
+            × (IsErrOf result EcoError.Capacity ↔ (MAX_LEN < utf8_len (self.old.chars ++ joined_strs items)))
+            × LeavesLastOut (λ text. chars text.now) self.old.chars items self.new.chars) }
     {
         self.extend_texts(iter)?;
         Ok(())
@@ -135,7 +140,12 @@ impl<const N: usize> SmallText<N> {
         requires { (it : I.IntoIter) → I.into_iter_gives iter it → I.IntoIter.can_next it × IsFinite (I.IntoIter.remaining it) }
         ensures chars { ExtendsWithItems I.into_iter_gives I.IntoIter.next_gives (AppendsBy T.text_of) iter self.old.chars self.new.chars result }
         ensures mode { self.new.inline ≡ inline_after N self.old.inline (utf8_len self.new.chars) 0 }
-        ensures refused { OnErr result ((items : List T) × GivesFirst I.into_iter_gives I.IntoIter.next_gives iter items × (inline_after N self.old.inline (utf8_len (self.old.chars ++ joined_by T.text_of items)) 0 ≡ false) × (IsErrOf result EcoError.Capacity ↔ (MAX_LEN < utf8_len (self.old.chars ++ joined_by T.text_of items)))) }
+        ensures refused { OnErr result
+            ((items : List T)
+            × GivesFirst I.into_iter_gives I.IntoIter.next_gives iter items
+            × (inline_after N self.old.inline (utf8_len (self.old.chars ++ joined_by T.text_of items)) 0 ≡ false)
+            × (IsErrOf result EcoError.Capacity ↔ (MAX_LEN < utf8_len (self.old.chars ++ joined_by T.text_of items)))
+            × LeavesLastOut T.text_of self.old.chars items self.new.chars) }
     {
         let _len = self.len();
         for text in iter {
