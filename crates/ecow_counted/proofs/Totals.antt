@@ -1,13 +1,14 @@
 -- The totals over a run.
-use Rattle.std.proofs.Common.{◌≡◌, ℕ, ◌+◌, ◌*◌, ◌^◌, ◌<◌, ◌≤◌, List, ◌∷◌, sym, ◌∙◌, ap, arith}
+use Rattle.std.proofs.Common.{◌≡◌, ℕ, ◌+◌, ◌*◌, ◌^◌, ◌<◌, ◌≤◌, List, ◌∷◌, sym, ◌∙◌, ap, subst, arith}
+use Rattle.std.specs.FinMap as finite
 use Rattle.ecow_model.specs.CountedRun.{CountedStep, CountedRun, saturating, if_accepted, sum_in_run, copied_in_run, moved_in_run, eager_in_run, input_in_run}
 use Rattle.ecow_model.specs.Lists.{ListUsage, vec_usage}
 use Rattle.ecow_model.specs.Names.{Names, IsSharing, debt, strain}
 use Rattle.ecow_model.specs.declared.command.Outcome.{Outcome}
 use Rattle.ecow_model.specs.declared.lists.VecCommand.{VecCommand}
-use Rattle.ecow_laws.proofs.Bounds.{step_paid, copies_at_most_eagerly, moves_are_paid}
+use Rattle.ecow_laws.proofs.Bounds.{step_paid, copies_at_most_eagerly, moves_are_paid, copies_from_nothing, moves_from_nothing}
 use Rattle.ecow_counted.specs.Keeping.{Keeping}
-use Rattle.ecow_counted.specs.Totals.{CopiedIsSum, MovedIsSum, CopiedIsPaid, MovedIsPaid}
+use Rattle.ecow_counted.specs.Totals.{CopiedIsSum, MovedIsSum, CopiedIsPaid, MovedIsPaid, CopiesFromNew, MovesFromNew}
 
 pub saturating_twice : (n a b : ℕ) → saturating (saturating n a) b ≡ saturating n (a + b)
 saturating_twice n a b = omega arith
@@ -35,3 +36,18 @@ module _ {T : Type 0} (old : Keeping T) (cs : List (VecCommand T)) (outcomes : L
   pub moves_paid : MovedIsPaid old cs outcomes new
   moves_paid fits = let paid : moved_in_run old.names cs outcomes + strain new.names ≤ strain old.names + copied_in_run old.names cs outcomes + 2 * input_in_run old.names cs outcomes = moves_are_paid cs outcomes old.names new.names groups run in
       omega (arith, paid, copies, moves, fits)
+
+  pub copies_from_new : CopiesFromNew old cs outcomes new
+  copies_from_new is =
+      let ours : CountedRun finite.empty cs outcomes new.names = subst (λ names. CountedRun names cs outcomes new.names) is.0 run in
+      let sum : new.copied ≡ saturating 0 (copied_in_run finite.empty cs outcomes) = rw (is.1, is.0) at copies in
+      let most : copied_in_run finite.empty cs outcomes ≤ eager_in_run finite.empty cs outcomes = copies_from_nothing cs outcomes new.names ours in
+      rw is.0 (omega (arith, sum, most))
+
+  pub moves_from_new : MovesFromNew old cs outcomes new
+  moves_from_new is =
+      let ours : CountedRun finite.empty cs outcomes new.names = subst (λ names. CountedRun names cs outcomes new.names) is.0 run in
+      let copied : new.copied ≡ saturating 0 (copied_in_run finite.empty cs outcomes) = rw (is.1, is.0) at copies in
+      let moved : new.moved ≡ saturating 0 (moved_in_run finite.empty cs outcomes) = rw (is.2, is.0) at moves in
+      let most : moved_in_run finite.empty cs outcomes ≤ copied_in_run finite.empty cs outcomes + 2 * input_in_run finite.empty cs outcomes = moves_from_nothing cs outcomes new.names ours in
+      rw is.0 (omega (arith, copied, moved, most))

@@ -1,5 +1,6 @@
 -- What a run adds to the totals, and what pays for it.
 use Rattle.std.specs.Prelude.{◌≡◌, ◌+◌, ◌-◌, ◌*◌, ◌<◌, ◌≤◌, ◌^◌, List}
+use Rattle.std.specs.FinMap as finite
 use Rattle.ecow_model.specs.CountedRun.{saturating, copied_in_run, moved_in_run, eager_in_run, input_in_run}
 use Rattle.ecow_model.specs.Names.{debt, strain}
 use Rattle.ecow_model.specs.declared.command.Outcome.{Outcome}
@@ -21,3 +22,15 @@ module _ {T : Type 0} (old : Keeping T) (cs : List (VecCommand T)) (outcomes : L
   -- with the strain counted in, what is moved is paid by what is copied and twice the input, unless the total of copies stops
   abbrev pub MovedIsPaid : Type 0
   MovedIsPaid = old.copied + copied_in_run old.names cs outcomes < 2 ^ 64 → new.moved + strain new.names ≤ old.moved + strain old.names + (new.copied - old.copied) + 2 * input_in_run old.names cs outcomes
+
+  -- the table is as it is made
+  abbrev pub IsNew : Type 0
+  IsNew = (old.names ≡ finite.empty) × (old.copied ≡ 0) × (old.moved ≡ 0)
+
+  -- from a new table, no more is copied than copying at each clone would
+  abbrev pub CopiesFromNew : Type 0
+  CopiesFromNew = IsNew → new.copied ≤ eager_in_run old.names cs outcomes
+
+  -- from a new table, no more is moved than what is copied and twice what is put in
+  abbrev pub MovesFromNew : Type 0
+  MovesFromNew = IsNew → new.moved ≤ new.copied + 2 * input_in_run old.names cs outcomes

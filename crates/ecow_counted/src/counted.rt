@@ -10,7 +10,7 @@ ghost use Rattle.ecow_model.specs.Names.{IsSharing, blocks, is_shared, owners_of
 ghost use Rattle.ecow_model.specs.Refusing.{OnRefused};
 ghost use Rattle.ecow_model.specs.Run.{RunBy};
 ghost use Rattle.ecow_model.specs.declared.lists.VecCommand.{VecCommand};
-ghost use Rattle.ecow_counted.specs.Totals.{CopiedIsSum, CopiedIsPaid, MovedIsSum, MovedIsPaid};
+ghost use Rattle.ecow_counted.specs.Totals.{CopiedIsSum, CopiedIsPaid, CopiesFromNew, MovedIsSum, MovedIsPaid, MovesFromNew};
 
 mod read;
 
@@ -167,6 +167,10 @@ impl<T: Clone> Counted<T> {
         ensures moved { ClonesAreEqual T.is_clone → IfOk result (λ outcomes. MovedIsSum self.old commands.items outcomes.items self.new) }
         ensures copies_paid { ClonesAreEqual T.is_clone → IfOk result (λ outcomes. CopiedIsPaid self.old commands.items outcomes.items self.new) }
         ensures moves_paid { ClonesAreEqual T.is_clone → IfOk result (λ outcomes. MovedIsPaid self.old commands.items outcomes.items self.new) }
+        ensures copies_from_new { ClonesAreEqual T.is_clone
+            → IfOk result (λ outcomes. CopiesFromNew self.old commands.items outcomes.items self.new) }
+        ensures moves_from_new { ClonesAreEqual T.is_clone
+            → IfOk result (λ outcomes. MovesFromNew self.old commands.items outcomes.items self.new) }
         ensures err { OnErr result (self.new ≡ self.old) }
         ensures value_returned { IfErr result (λ rejected. rejected.value ≡ commands) }
         ensures memory { IfErr result (λ rejected. rejected.error ≡ EcoError.Memory) }

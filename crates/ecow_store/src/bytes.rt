@@ -1,6 +1,5 @@
 //! What the store does with bytes: each table of the definitions is one `match`.
-ghost use Rattle.std.specs.Prelude.{◌≡◌};
-ghost use Rattle.ecow_base.specs.Clones.{ClonesAreEqual};
+ghost use Rattle.std.specs.Prelude.{◌≡◌, ⊤};
 ghost use Rattle.ecow_model.specs.Bytes.{bytes_rules};
 ghost use Rattle.ecow_model.specs.Refusing.{OnRefused};
 ghost use Rattle.ecow_model.specs.Run.{IsBytesStep, IsBytesVerdict};
@@ -25,7 +24,7 @@ pub(crate) fn step<T: Clone, const N: usize>(
     values: &mut Table<Stored<T, N>>,
     command: BytesCommand,
 ) -> Outcome<T>
-    ensures step { ClonesAreEqual T.is_clone → IsBytesStep N values.old command result values.new }
+    ensures step { IsBytesStep N values.old command result values.new }
     ensures verdict { IsBytesVerdict N values.old command result values.new }
     ensures refused { OnRefused result (values.new ≡ values.old) }
 {
@@ -47,6 +46,8 @@ impl<T: Clone, const N: usize> Kind<T, Stored<T, N>> for BytesKind {
     type Ask = BytesAsk;
 
     ghost rules = { bytes_rules N };
+
+    ghost premise = { ⊤ };
 
     fn make(alloc: Global, how: BytesMake) -> Result<Made<SmallBytes<N>>, Refusal> {
         match how {

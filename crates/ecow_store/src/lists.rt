@@ -53,6 +53,8 @@ impl<T: Clone, const N: usize> Kind<T, Stored<T, N>> for ListKind {
 
     ghost rules = { list_rules };
 
+    ghost premise = { ClonesAreEqual T.is_clone };
+
     fn make(alloc: Global, how: ListMake<T>) -> Result<Made<EcoVec<T>>, Refusal> {
         let made = match how {
             ListMake::New => Ok(EcoVec::new(alloc)),

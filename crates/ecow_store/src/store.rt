@@ -4,7 +4,7 @@ ghost use Rattle.std.specs.FinMap as map;
 ghost use Rattle.ecow_base.specs.Clones.{ClonesAreEqual};
 ghost use Rattle.ecow_list.specs.declared.error.EcoError.{EcoError};
 ghost use Rattle.ecow_model.specs.Refusing.{OnRefused};
-ghost use Rattle.ecow_model.specs.Run.{Run, RunBy, Step, StepVerdict};
+ghost use Rattle.ecow_model.specs.Run.{Run, RunBy, Step, StepVerdict, StepWhere};
 
 mod read;
 
@@ -63,6 +63,7 @@ impl<T: Clone, const N: usize> NamedValues<Stored<T, N>> {
     /// Carries out one command. A refused command changes nothing; what it carried is dropped.
     pub fn step(&mut self, command: Command<T>) -> Outcome<T>
         ensures step { ClonesAreEqual T.is_clone → Step N self.old command result self.new }
+        ensures bytes_and_texts { StepWhere N (ClonesAreEqual T.is_clone) self.old command result self.new }
         ensures verdict { StepVerdict N self.old command result self.new }
         ensures refused { OnRefused result (self.new ≡ self.old) }
     {
@@ -80,6 +81,9 @@ impl<T: Clone, const N: usize> NamedValues<Stored<T, N>> {
         commands: Vec<Command<T>>,
     ) -> Result<Vec<Outcome<T>>, Rejected<Vec<Command<T>>>>
         ensures run { ClonesAreEqual T.is_clone → IfOk result (λ outcomes. Run N self.old commands.items outcomes.items self.new) }
+        ensures bytes_and_texts { IfOk result
+            (λ outcomes.
+            RunBy (StepWhere N (ClonesAreEqual T.is_clone)) self.old commands.items outcomes.items self.new) }
         ensures verdicts { IfOk result (λ outcomes. RunBy (StepVerdict N) self.old commands.items outcomes.items self.new) }
         ensures err { OnErr result (self.new ≡ self.old) }
         ensures value_returned { IfErr result (λ rejected. rejected.value ≡ commands) }

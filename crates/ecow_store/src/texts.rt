@@ -1,6 +1,5 @@
 //! What the store does with texts: each table of the definitions is one `match`.
-ghost use Rattle.std.specs.Prelude.{◌≡◌};
-ghost use Rattle.ecow_base.specs.Clones.{ClonesAreEqual};
+ghost use Rattle.std.specs.Prelude.{◌≡◌, ⊤};
 ghost use Rattle.ecow_model.specs.Refusing.{OnRefused, verdict};
 ghost use Rattle.ecow_model.specs.Run.{IsTextStep, IsTextVerdict};
 ghost use Rattle.ecow_model.specs.Texts.{text_edited, text_rules, text_spelled};
@@ -26,7 +25,7 @@ pub(crate) fn step<T: Clone, const N: usize>(
     values: &mut Table<Stored<T, N>>,
     command: TextCommand,
 ) -> Outcome<T>
-    ensures step { ClonesAreEqual T.is_clone → IsTextStep N values.old command result values.new }
+    ensures step { IsTextStep N values.old command result values.new }
     ensures verdict { IsTextVerdict N values.old command result values.new }
     ensures refused { OnRefused result (values.new ≡ values.old) }
 {
@@ -48,6 +47,8 @@ impl<T: Clone, const N: usize> Kind<T, Stored<T, N>> for TextKind {
     type Ask = TextAsk;
 
     ghost rules = { text_rules N };
+
+    ghost premise = { ⊤ };
 
     #[tactic(auto, using(crate::proofs::Characters::texts))]
     fn make(alloc: Global, how: TextMake) -> Result<Made<SmallText<N>>, Refusal> {

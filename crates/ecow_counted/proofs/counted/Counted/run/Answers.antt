@@ -5,7 +5,7 @@ use Rattle.ecow_model.specs.CountedRun.{CountedStep, CountedVerdict, saturating,
 use Rattle.ecow_model.proofs.Contents.{run_of_contents}
 use Rattle.ecow_model.proofs.Runs.{goes_further, gone_through}
 use Rattle.ecow_counted.specs.Keeping.{IsKept}
-use Rattle.ecow_counted.proofs.Totals.{total_goes_on, saturating_none, saturating_small, copies_paid, moves_paid}
+use Rattle.ecow_counted.proofs.Totals.{total_goes_on, saturating_none, saturating_small, copies_paid, moves_paid, copies_from_new, moves_from_new}
 use Rattle.ecow_counted.proofs.counted.Counted.run.Goals as goal
 
 pub loop-command-preserved : goal.loop-command-preserved
@@ -69,3 +69,9 @@ returns-clause-copies_paid g c = λ clones. copies_paid c.args.self.now c.args.c
 
 pub returns-clause-moves_paid : goal.returns-clause-moves_paid
 returns-clause-moves_paid g c = λ clones. moves_paid c.args.self.now c.args.commands.items c.loop-command.outcomes.items c.loop-command.self (subst IsKept c.self.view_is c.self.invariant).sharing (returns-clause-run g c clones) (returns-clause-copied g c clones) (returns-clause-moved g c clones)
+
+pub returns-clause-copies_from_new : goal.returns-clause-copies_from_new
+returns-clause-copies_from_new g c = λ clones. copies_from_new c.args.self.now c.args.commands.items c.loop-command.outcomes.items c.loop-command.self (subst IsKept c.self.view_is c.self.invariant).sharing (returns-clause-run g c clones) (returns-clause-copied g c clones) (returns-clause-moved g c clones)
+
+pub returns-clause-moves_from_new : goal.returns-clause-moves_from_new
+returns-clause-moves_from_new g c = λ clones. moves_from_new c.args.self.now c.args.commands.items c.loop-command.outcomes.items c.loop-command.self (subst IsKept c.self.view_is c.self.invariant).sharing (returns-clause-run g c clones) (returns-clause-copied g c clones) (returns-clause-moved g c clones)

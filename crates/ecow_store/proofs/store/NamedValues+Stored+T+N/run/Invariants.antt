@@ -1,7 +1,7 @@
 use Rattle.std.proofs.Common.{◌+◌, ◌≤◌, vec_len, vec_capacity}
 use Rattle.std.specs.Vec.Iter.{into_iter_items, into_iter_len}
 use Rattle.ecow_base.specs.Clones.{ClonesAreEqual}
-use Rattle.ecow_model.specs.Run.{Step, StepVerdict}
+use Rattle.ecow_model.specs.Run.{Step, StepVerdict, StepWhere}
 use Rattle.ecow_model.proofs.Runs.{GoesOn}
 use Rattle.ecow_store.proofs.store.NamedValues+Stored+T+N.run.Given as goal
 
@@ -10,6 +10,7 @@ abbrev pub invariant-loop-command : goal.invariant-loop-command
 invariant-loop-command g l = record {
   room : vec_len l.outcomes + into_iter_len l.rest ≤ vec_capacity l.outcomes;
   steps : ClonesAreEqual g.T.Clone.is_clone → GoesOn (Step g.row.N) l.fn.self l.fn.commands.items l.outcomes.items (into_iter_items l.rest) l.self;
+  bytes_and_texts : GoesOn (StepWhere g.row.N (ClonesAreEqual g.T.Clone.is_clone)) l.fn.self l.fn.commands.items l.outcomes.items (into_iter_items l.rest) l.self;
   verdicts : GoesOn (StepVerdict g.row.N) l.fn.self l.fn.commands.items l.outcomes.items (into_iter_items l.rest) l.self;
 }
 

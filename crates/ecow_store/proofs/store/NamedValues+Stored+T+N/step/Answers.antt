@@ -3,17 +3,26 @@ use Rattle.ecow_store.proofs.store.NamedValues+Stored+T+N.step.Goals as goal
 pub returns-in-Vec-clause-step : goal.returns-in-Vec-clause-step
 returns-in-Vec-clause-step g c = λ clones. rw (c.in-Vec.is, ← c.self.view_is) (c.step.ensures.step clones)
 
+pub returns-in-Vec-clause-bytes_and_texts : goal.returns-in-Vec-clause-bytes_and_texts
+returns-in-Vec-clause-bytes_and_texts g c = rw (c.in-Vec.is, ← c.self.view_is) c.step.ensures.step
+
 pub returns-in-Vec-clause-verdict : goal.returns-in-Vec-clause-verdict
 returns-in-Vec-clause-verdict g c = rw (c.in-Vec.is, ← c.self.view_is) c.step.ensures.verdict
 
 pub returns-in-Bytes-clause-step : goal.returns-in-Bytes-clause-step
-returns-in-Bytes-clause-step g c = λ clones. rw (c.in-Bytes.is, ← c.self.view_is) (c.step-in-Bytes.ensures.step clones)
+returns-in-Bytes-clause-step g c = λ clones. rw (c.in-Bytes.is, ← c.self.view_is) c.step-in-Bytes.ensures.step
+
+pub returns-in-Bytes-clause-bytes_and_texts : goal.returns-in-Bytes-clause-bytes_and_texts
+returns-in-Bytes-clause-bytes_and_texts g c = rw (c.in-Bytes.is, ← c.self.view_is) c.step-in-Bytes.ensures.step
 
 pub returns-in-Bytes-clause-verdict : goal.returns-in-Bytes-clause-verdict
 returns-in-Bytes-clause-verdict g c = rw (c.in-Bytes.is, ← c.self.view_is) c.step-in-Bytes.ensures.verdict
 
 pub returns-in-Text-clause-step : goal.returns-in-Text-clause-step
-returns-in-Text-clause-step g c = λ clones. rw (c.in-Text.is, ← c.self.view_is) (c.step-in-Text.ensures.step clones)
+returns-in-Text-clause-step g c = λ clones. rw (c.in-Text.is, ← c.self.view_is) c.step-in-Text.ensures.step
+
+pub returns-in-Text-clause-bytes_and_texts : goal.returns-in-Text-clause-bytes_and_texts
+returns-in-Text-clause-bytes_and_texts g c = rw (c.in-Text.is, ← c.self.view_is) c.step-in-Text.ensures.step
 
 pub returns-in-Text-clause-verdict : goal.returns-in-Text-clause-verdict
 returns-in-Text-clause-verdict g c = rw (c.in-Text.is, ← c.self.view_is) c.step-in-Text.ensures.verdict
