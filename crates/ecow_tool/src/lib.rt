@@ -10,6 +10,6 @@ pub use ecow_list::{EcoError, Rejected};
 pub use ecow_model::{
     Bounds, BytesCommand, Command, Items, Name, Outcome, Refusal, Text, TextCommand, VecCommand,
 };
-pub use ecow_store::Store;
-pub use program::{End, read_arguments, run_counted, run_store};
+pub use ecow_store::{SmallStore, Store};
+pub use program::{End, Exit, read_arguments, run_counted, run_store};
 pub use script::Reason;

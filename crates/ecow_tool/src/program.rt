@@ -1,6 +1,7 @@
 //! The program over any reader and writer.
-ghost use Rattle.std.specs.Prelude.{◌≡◌, ◌<◌, length, IfSome};
+ghost use Rattle.std.specs.Prelude.{◌≡◌, ◌<◌, length, IfSome, Some};
 ghost use Rattle.ecow_tool.specs.Arguments.{asked, is_flag};
+ghost use Rattle.ecow_tool.specs.Ends.{end_text, exit_text, reason_text, status_after, status_of};
 
 use crate::answer::{write_answer, write_totals};
 use crate::script::{Fault, Reason, read_script};
@@ -35,6 +36,15 @@ pub enum End {
     Memory,
     /// The answer lines can't be written.
     Output,
+}
+
+/// How the program ends. Its `Display` is all that is printed to standard error.
+#[derive(Clone, Copy, Debug, PartialEq, Eq)]
+pub enum Exit {
+    /// The words after the program's name are no use of it.
+    Usage,
+    /// They were read, and the script was taken up.
+    After(End),
 }
 
 impl From<AllocError> for End {
@@ -172,7 +182,46 @@ fn read_limited<R: Read>(alloc: Global, reader: &mut R) -> Result<Vec<u8>, End> 
     Err(End::File)
 }
 
+impl End {
+    /// The program's exit status.
+    pub fn status(self) -> u8
+        ensures { result ≡ status_after self }
+    {
+        match self {
+            End::Done => 0,
+            End::Unreadable(_, _) | End::NotUtf8 => 1,
+            End::File | End::TooLarge | End::Memory | End::Output => 3,
+        }
+    }
+}
+
+impl Exit {
+    /// The program's exit status.
+    pub fn status(self) -> u8
+        ensures { result ≡ status_of self }
+    {
+        match self {
+            Exit::Usage => 2,
+            Exit::After(end) => end.status(),
+        }
+    }
+}
+
+impl fmt::Display for Exit {
+    ghost output = { λ exit. Some (exit_text exit) };
+
+    fn fmt<W: fmt::Write>(&self, f: &mut fmt::Formatter<W>) -> fmt::Result {
+        match self {
+            Exit::Usage => f.write_str("usage: ecow-run [--counted] FILE\n"),
+            Exit::After(End::Done) => Ok(()),
+            Exit::After(end) => write!(f, "ecow-run: {end}\n"),
+        }
+    }
+}
+
 impl fmt::Display for End {
+    ghost output = { λ end. Some (end_text end) };
+
     fn fmt<W: fmt::Write>(&self, f: &mut fmt::Formatter<W>) -> fmt::Result {
         match self {
             End::Done => Ok(()),
@@ -187,6 +236,8 @@ impl fmt::Display for End {
 }
 
 impl fmt::Display for Reason {
+    ghost output = { λ reason. Some (reason_text reason) };
+
     fn fmt<W: fmt::Write>(&self, f: &mut fmt::Formatter<W>) -> fmt::Result {
         f.write_str(match self {
             Reason::Kind => "kind",
