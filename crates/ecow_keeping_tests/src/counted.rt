@@ -1,12 +1,12 @@
 //! Lists in counted blocks: commands succeed with ample memory, each copied element is one clone,
 //! and elements are dropped with the last name of their block.
 use crate::calls::{done, held, step, totals};
-use crate::elements::{Counting, Single, Tally};
-use crate::numbers::Numbers;
-use crate::outcomes::{is_done, refusal_of};
 use crate::scripts::is_plain_run;
 use ecow_counted::{Counted, Filled};
 use ecow_model::{Items, Outcome, Refusal, VecCommand};
+use ecow_testing::elements::{Counting, Single, Tally};
+use ecow_testing::numbers::Numbers;
+use ecow_testing::outcomes::{is_done, refusal_of};
 use std::alloc::{AllocError, Global};
 use std::ops::Bound;
 use std::process::Abort;

@@ -2,11 +2,9 @@
 //! and so on. Each leaves both vectors as they were, sharing their block, and hands its value back.
 //! Once all clones succeed, the call is done and the other vector is as it was.
 use crate::calls::{drain, insert, is_unique, push, remove, reverse, shared, splice, write};
-use crate::elements::Refusing;
-use crate::outcomes::refusal_of;
 use ecow_list::{EcoError, EcoVec, IntoArray, Rejected};
-use ecow_model::{Command, Items, Outcome, Refusal, VecCommand};
-use ecow_tool::Store;
+use ecow_testing::elements::Refusing;
+use std::alloc::{AllocError, Global};
 use std::cell::Cell;
 use std::process::Abort;
 use std::rc::Rc;
@@ -173,54 +171,83 @@ fn a_refused_retain_asks_nothing(rt: HostRuntime) -> Result<(), Fail> {
     Ok(())
 }
 
+/// Whether the vector of three clones of an element comes to be while so many clones are left, and
+/// whether the element comes back where it doesn't.
+fn repeated(alloc: Global, clones: u64) -> Result<(bool, bool), AllocError> {
+    let left = Rc::new(alloc, Cell::new(clones))?;
+    Ok(
+        match EcoVec::from_elem(alloc, Refusing::new(7, &left)?, 3) {
+            Ok(list) => (holds(&list, &[7, 7, 7]) && left.get() == 0, false),
+            Err(rejected) => (
+                false,
+                rejected.value.value == 7 && rejected.error == EcoError::Memory,
+            ),
+        },
+    )
+}
+
+/// Whether the vector of clones of three elements comes to be while so many clones are left.
+fn copied(alloc: Global, clones: u64) -> Result<bool, AllocError> {
+    let left = Rc::new(alloc, Cell::new(clones))?;
+    let items = Refusing::several(alloc, &[1, 2, 3], &left)?;
+    Ok(match EcoVec::from_slice(alloc, items.as_slice()) {
+        Ok(list) => holds(&list, &[1, 2, 3]) && left.get() == 0,
+        Err(_) => false,
+    })
+}
+
 #[test]
 fn a_vector_is_made_whole_or_not_at_all(rt: HostRuntime) -> Result<(), Fail> {
-    let left = Rc::new(rt.alloc(), Cell::new(0))?;
-    let items = Refusing::several(rt.alloc(), &[1, 2, 3], &left)?;
     for clones in 0..3 {
-        left.set(clones);
-        assert!(rt; EcoVec::from_slice(rt.alloc(), items.as_slice()).is_err());
-        left.set(clones);
-        let made = EcoVec::from_elem(rt.alloc(), Refusing::new(7, &left)?, 3);
-        assert!(rt; matches!(&made, Err(rejected) if rejected.value.value == 7));
+        assert_eq!(rt; copied(rt.alloc(), clones)?, false);
+        assert_eq!(rt; repeated(rt.alloc(), clones)?, (false, true));
     }
+    assert_eq!(rt; copied(rt.alloc(), 3)?, true);
+    assert_eq!(rt; repeated(rt.alloc(), 3)?, (true, false));
     Ok(())
 }
 
-/// The vector that comes back from a conversion into an array, a `Vec` and an iterator in turn.
-fn handed_back(list: EcoVec<Refusing>) -> Option<EcoVec<Refusing>> {
-    let Err(IntoArray::Refused(EcoError::Memory, list)) = list.into_array::<3>() else {
-        return None;
+/// The calls that give a vector away.
+#[derive(Clone, Copy, Debug)]
+enum Gift {
+    IntoVec,
+    IntoIter,
+    IntoArray,
+}
+
+impl Gift {
+    /// The vector that comes back; none where its elements are given away.
+    fn refused(self, list: EcoVec<Refusing>) -> Option<EcoVec<Refusing>> {
+        match self {
+            Gift::IntoVec => Some(list.into_vec().err()?.value),
+            Gift::IntoIter => Some(list.into_iter().err()?.value),
+            Gift::IntoArray => match list.into_array::<3>() {
+                Err(IntoArray::Refused(EcoError::Memory, list)) => Some(list),
+                _ => None,
+            },
+        }
+    }
+}
+
+/// Whether a shared vector comes back as it was while so many clones are left; not where it is given
+/// away.
+fn comes_back(alloc: Global, gift: Gift, clones: u64) -> Result<bool, EcoError> {
+    let left = Rc::new(alloc, Cell::new(clones))?;
+    let list = Refusing::list(alloc, &[1, 2, 3], &left)?;
+    let clone = shared(&list)?;
+    let Some(mut list) = gift.refused(list) else {
+        return Ok(false);
     };
-    let list = list.into_vec().err()?.value;
-    Some(list.into_iter().err()?.value)
+    Ok(is_unchanged(&mut list, &clone))
 }
 
 #[test]
 fn a_shared_vector_is_given_away_whole_or_comes_back(rt: HostRuntime) -> Result<(), Fail> {
-    for clones in 0..3 {
-        let left = Rc::new(rt.alloc(), Cell::new(0))?;
-        let list = Refusing::list(rt.alloc(), &[1, 2, 3], &left)?;
-        let clone = shared(&list)?;
-        left.set(clones);
-        let Some(mut list) = handed_back(list) else {
-            return Err("clones that are refused were given away".into());
-        };
-        assert!(rt; is_unchanged(&mut list, &clone));
+    for gift in [Gift::IntoVec, Gift::IntoIter, Gift::IntoArray] {
+        for clones in 0..4 {
+            let back = comes_back(rt.alloc(), gift, clones)?;
+            assert_eq!(rt; back, clones < 3, "{gift:?} {clones}");
+        }
     }
-    Ok(())
-}
-
-#[test]
-fn a_refused_command_changes_nothing(rt: HostRuntime) -> Result<(), Fail> {
-    let left = Rc::new(rt.alloc(), Cell::new(2))?;
-    let items = Items::new(Refusing::several(rt.alloc(), &[1, 2, 3], &left)?);
-    let mut store = Store::new(rt.alloc());
-    drop(store.step(Command::Vec(VecCommand::FromList { name: 0, items })));
-    drop(store.step(Command::Vec(VecCommand::Clone { from: 0, to: 1 })));
-    let popped = store.step(Command::Vec(VecCommand::Pop { name: 1 }));
-    assert!(rt; refusal_of(popped) == Some(Refusal::Memory));
-    let len = store.step(Command::Vec(VecCommand::Len { name: 1 }));
-    assert!(rt; matches!(&len, Outcome::Count(3)));
     Ok(())
 }

@@ -1,7 +1,7 @@
 //! A block over raw memory: its edits, and what is dropped and cloned.
-use crate::elements::{Counting, Tally};
 use ecow_base::MAX_LEN;
 use ecow_block::Block;
+use ecow_testing::elements::{Counting, Tally};
 use std::alloc::{AllocError, Global};
 use std::process::Abort;
 

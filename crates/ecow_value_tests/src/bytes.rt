@@ -3,6 +3,7 @@ use crate::laws::{is_found, is_found_in_order};
 use ecow_bytes::{EcoBytes, SmallBytes};
 use ecow_list::{EcoError, EcoVec, eco_vec};
 use std::alloc::Global;
+use std::hash::{DefaultHasher, Hash, Hasher};
 use std::io::Write;
 use std::test::Fail;
 
@@ -142,12 +143,25 @@ fn the_paths_of_the_original_lead_here(rt: HostRuntime) -> Result<(), Fail> {
     Ok(())
 }
 
+/// The hash of a value by the standard library's hasher.
+fn hashed<T: Hash>(value: &T) -> u64 {
+    let mut hasher = DefaultHasher::new();
+    value.hash(&mut hasher);
+    hasher.finish()
+}
+
 #[test]
-fn no_bytes_are_written(rt: HostRuntime) -> Result<(), Fail> {
-    assert!(rt; EcoBytes::new(rt.alloc()).make_mut()?.is_empty());
-    let mut spilled: EcoBytes = SmallBytes::from(EcoVec::with_capacity(rt.alloc(), 3)?);
-    let _shared = spilled.clone()?;
-    assert!(rt; spilled.make_mut()?.is_empty());
-    assert!(rt; !spilled.is_inline());
+fn bytes_of_each_length_hash_as_their_slice(rt: HostRuntime) -> Result<(), Fail> {
+    let letters = b"abcdefghijklmnopqrst".as_slice();
+    for len in 0..=20 {
+        let bytes = &letters[..len];
+        let spilled = EcoBytes::from(EcoVec::from_slice(rt.alloc(), bytes)?);
+        assert_eq!(rt;
+            hashed(&EcoBytes::from_slice(rt.alloc(), bytes)?),
+            hashed(&bytes),
+            "{len}"
+        );
+        assert_eq!(rt; hashed(&spilled), hashed(&bytes), "{len} spilled");
+    }
     Ok(())
 }

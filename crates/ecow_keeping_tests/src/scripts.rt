@@ -1,8 +1,8 @@
 //! The store beside the plain program, on lists of commands that a seed decides.
-use crate::commands::same;
-use crate::numbers::Numbers;
 use ecow_model::Outcome;
 use ecow_plain::PlainStore;
+use ecow_testing::commands::same;
+use ecow_testing::numbers::Numbers;
 use ecow_tool::Store;
 use std::alloc::{AllocError, Global};
 use std::process::Abort;

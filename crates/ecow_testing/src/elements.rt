@@ -15,17 +15,17 @@ struct Counts {
 
 /// What was done to the elements that count here.
 #[derive(Drop)]
-pub(crate) struct Tally {
+pub struct Tally {
     counts: Rc<Counts>,
 }
 
 impl Tally {
-    pub(crate) fn new(alloc: Global) -> Result<Self, AllocError> {
+    pub fn new(alloc: Global) -> Result<Self, AllocError> {
         Tally::refusing(alloc, 0)
     }
 
     /// Elements that count here refuse the clone with this number, counted from 1.
-    pub(crate) fn refusing(alloc: Global, refused: u64) -> Result<Self, AllocError> {
+    pub fn refusing(alloc: Global, refused: u64) -> Result<Self, AllocError> {
         let counts = Counts {
             clones: Cell::new(0),
             drops: Cell::new(0),
@@ -36,28 +36,28 @@ impl Tally {
         })
     }
 
-    pub(crate) fn clones(&self) -> u64 {
+    pub fn clones(&self) -> u64 {
         self.counts.clones.get()
     }
 
-    pub(crate) fn drops(&self) -> u64 {
+    pub fn drops(&self) -> u64 {
         self.counts.drops.get()
     }
 
     /// Whether so many clones were made, and so many elements dropped.
-    pub(crate) fn has(&self, clones: u64, drops: u64) -> bool {
+    pub fn has(&self, clones: u64, drops: u64) -> bool {
         self.clones() == clones && self.drops() == drops
     }
 
     /// An element that counts here.
-    pub(crate) fn element(&self) -> Result<Counting, AllocError> {
+    pub fn element(&self) -> Result<Counting, AllocError> {
         Ok(Counting {
             counts: self.counts.clone()?,
         })
     }
 
     /// Elements that count here.
-    pub(crate) fn elements(&self, alloc: Global, n: usize) -> Result<Vec<Counting>, AllocError> {
+    pub fn elements(&self, alloc: Global, n: usize) -> Result<Vec<Counting>, AllocError> {
         let mut elements = Vec::new(alloc);
         for _ in 0..n {
             elements.push(self.element()?)?;
@@ -66,13 +66,13 @@ impl Tally {
     }
 
     /// A vector of elements that count here.
-    pub(crate) fn list(&self, alloc: Global, n: usize) -> Result<EcoVec<Counting>, EcoError> {
+    pub fn list(&self, alloc: Global, n: usize) -> Result<EcoVec<Counting>, EcoError> {
         EcoVec::from_vec(alloc, self.elements(alloc, n)?).map_err(|rejected| rejected.error)
     }
 }
 
 /// An element that counts its clones and its drop.
-pub(crate) struct Counting {
+pub struct Counting {
     counts: Rc<Counts>,
 }
 
@@ -98,13 +98,13 @@ impl Drop for Counting {
 
 /// A number of which only so many clones succeed.
 #[derive(Drop)]
-pub(crate) struct Refusing {
-    pub(crate) value: i64,
+pub struct Refusing {
+    pub value: i64,
     left: Rc<Cell<u64>>,
 }
 
 impl Refusing {
-    pub(crate) fn new(value: i64, left: &Rc<Cell<u64>>) -> Result<Self, AllocError> {
+    pub fn new(value: i64, left: &Rc<Cell<u64>>) -> Result<Self, AllocError> {
         Ok(Refusing {
             value,
             left: left.clone()?,
@@ -112,7 +112,7 @@ impl Refusing {
     }
 
     /// Numbers that share what is left of their clones.
-    pub(crate) fn several(
+    pub fn several(
         alloc: Global,
         values: &[i64],
         left: &Rc<Cell<u64>>,
@@ -125,7 +125,7 @@ impl Refusing {
     }
 
     /// A vector of such numbers.
-    pub(crate) fn list(
+    pub fn list(
         alloc: Global,
         values: &[i64],
         left: &Rc<Cell<u64>>,
@@ -135,7 +135,7 @@ impl Refusing {
     }
 
     /// A number of which no clone succeeds.
-    pub(crate) fn never(alloc: Global, value: i64) -> Result<Self, AllocError> {
+    pub fn never(alloc: Global, value: i64) -> Result<Self, AllocError> {
         Ok(Refusing {
             value,
             left: Rc::new(alloc, Cell::new(0))?,
@@ -155,4 +155,4 @@ impl Clone for Refusing {
 
 /// An element that can't be cloned.
 #[derive(Drop)]
-pub(crate) struct Single;
+pub struct Single;

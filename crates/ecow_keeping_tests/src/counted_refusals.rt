@@ -1,9 +1,9 @@
 //! Lists in counted blocks whose elements refuse their clones: everything stays as it was.
 use crate::calls::{held, step, totals};
-use crate::elements::Refusing;
-use crate::outcomes::{is_done, refusal_of};
 use ecow_counted::Counted;
 use ecow_model::{Items, Outcome, Refusal, VecCommand};
+use ecow_testing::elements::Refusing;
+use ecow_testing::outcomes::{is_done, refusal_of};
 use std::alloc::{AllocError, Global};
 use std::cell::Cell;
 use std::ops::Bound;

@@ -9,12 +9,12 @@ use std::fmt;
 use std::fmt::Write;
 use std::test::Fail;
 
-fn text<const N: usize>(alloc: Global, text: &str) -> Result<SmallText<N>, EcoError> {
+pub(crate) fn text<const N: usize>(alloc: Global, text: &str) -> Result<SmallText<N>, EcoError> {
     SmallText::from_str(alloc, text)
 }
 
 /// A text that `try_from` of a vector leaves spilled, however short it is.
-fn spilled(alloc: Global, text: &str) -> Result<EcoString, Fail> {
+pub(crate) fn spilled(alloc: Global, text: &str) -> Result<EcoString, Fail> {
     let bytes = EcoVec::from_slice(alloc, text.as_bytes())?;
     match EcoString::try_from(bytes) {
         Ok(text) => Ok(text),
@@ -23,15 +23,18 @@ fn spilled(alloc: Global, text: &str) -> Result<EcoString, Fail> {
 }
 
 /// Whether the text is this one, inline or spilled.
-fn holds<const N: usize>(text: &SmallText<N>, wanted: &str, inline: bool) -> bool {
+pub(crate) fn holds<const N: usize>(text: &SmallText<N>, wanted: &str, inline: bool) -> bool {
     text.as_str() == wanted && text.is_inline() == inline
 }
 
-fn pop<const N: usize>(text: &mut SmallText<N>) -> Result<Option<char>, EcoError> {
+pub(crate) fn pop<const N: usize>(text: &mut SmallText<N>) -> Result<Option<char>, EcoError> {
     text.pop()
 }
 
-fn added<const N: usize>(text: SmallText<N>, more: &str) -> Result<SmallText<N>, EcoError> {
+pub(crate) fn added<const N: usize>(
+    text: SmallText<N>,
+    more: &str,
+) -> Result<SmallText<N>, EcoError> {
     text.add(more).map_err(|rejected| rejected.error)
 }
 
@@ -52,49 +55,69 @@ fn cased(text: &EcoString) -> Result<(EcoString, EcoString), EcoError> {
 }
 
 /// A text, and it in lower and in upper case.
-const CASES: [(&str, &str, &str); 4] = [
+const CASES: [(&str, &str, &str); 8] = [
     ("AΣ", "aς", "AΣ"),
     ("Straße", "straße", "STRASSE"),
     ("İstanbul", "i\u{307}stanbul", "İSTANBUL"),
     ("ǅ", "ǆ", "Ǆ"),
+    (
+        "Die Straße heißt GRÜN",
+        "die straße heißt grün",
+        "DIE STRASSE HEISST GRÜN",
+    ),
+    ("ΟΔΥΣΣΕΥΣ ΣΟΦΟΣ", "οδυσσευς σοφος", "ΟΔΥΣΣΕΥΣ ΣΟΦΟΣ"),
+    ("ßßßßßßß7", "ßßßßßßß7", "SSSSSSSSSSSSSS7"),
+    ("Sixteen Letters!", "sixteen letters!", "SIXTEEN LETTERS!"),
 ];
 
+/// Whether a text is another's, inline where it fits.
+fn is_by_length(text: &EcoString, wanted: &str) -> bool {
+    holds(text, wanted, wanted.len() <= 15)
+}
+
 #[test]
-fn case_past_ascii_is_that_of_unicode(rt: HostRuntime) -> Result<(), Fail> {
+fn case_is_that_of_unicode(rt: HostRuntime) -> Result<(), Fail> {
     for (of, lower, upper) in CASES {
-        let (lowercase, uppercase) = cased(&text(rt.alloc(), of)?)?;
-        assert_eq!(rt; lowercase.as_str(), lower);
-        assert_eq!(rt; uppercase.as_str(), upper);
+        for of in [text(rt.alloc(), of)?, spilled(rt.alloc(), of)?] {
+            let (lowercase, uppercase) = cased(&of)?;
+            assert!(rt; is_by_length(&lowercase, lower), "{lower}");
+            assert!(rt; is_by_length(&uppercase, upper), "{upper}");
+        }
     }
     Ok(())
 }
 
-fn in_ascii_lowercase(text: &EcoString) -> Result<EcoString, EcoError> {
-    text.to_ascii_lowercase()
+/// A text in ASCII lower and upper case, and put into these where it stands.
+fn in_ascii_case(text: &EcoString) -> Result<[EcoString; 4], EcoError> {
+    let (mut lower, mut upper) = (text.clone()?, text.clone()?);
+    lower.make_ascii_lowercase()?;
+    upper.make_ascii_uppercase()?;
+    Ok([
+        text.to_ascii_lowercase()?,
+        text.to_ascii_uppercase()?,
+        lower,
+        upper,
+    ])
 }
+
+/// A text, and its ASCII letters in lower and in upper case.
+const LETTERS: [(&str, &str, &str); 4] = [
+    ("", "", ""),
+    ("aZ[`{@ß", "az[`{@ß", "AZ[`{@ß"),
+    ("FifteenLetters!", "fifteenletters!", "FIFTEENLETTERS!"),
+    ("Sixteen ÄÖ Σ ßab", "sixteen ÄÖ Σ ßab", "SIXTEEN ÄÖ Σ ßAB"),
+];
 
 #[test]
-fn case_of_ascii_goes_by_the_length(rt: HostRuntime) -> Result<(), Fail> {
-    let text = spilled(rt.alloc(), "ABC")?;
-    let mapped = in_ascii_lowercase(&text)?;
-    let (lowercase, _) = cased(&text)?;
-    assert!(rt; holds(&mapped, "abc", false) && holds(&lowercase, "abc", true));
-    Ok(())
-}
-
-/// The text as it is debugged, and as it is padded.
-fn printed(alloc: Global, text: &EcoString) -> Result<(String, String), AllocError> {
-    let debug = format!(in alloc; "{text:?}")?;
-    let padded = format!(in alloc; "{text:>5}|{text:-^6}|{text:.1}|{text:<3}|")?;
-    Ok((debug, padded))
-}
-
-#[test]
-fn texts_are_printed_as_str_is(rt: HostRuntime) -> Result<(), Fail> {
-    let (debug, _) = printed(rt.alloc(), &text(rt.alloc(), "é\t\"")?)?;
-    assert_eq!(rt; debug.as_str(), "\"é\\t\\\"\"");
-    let (_, padded) = printed(rt.alloc(), &text(rt.alloc(), "ab")?)?;
-    assert_eq!(rt; padded.as_str(), "   ab|--ab--|a|ab |");
+fn ascii_case_leaves_all_else_and_the_mode(rt: HostRuntime) -> Result<(), Fail> {
+    for (of, lower, upper) in LETTERS {
+        for of in [text(rt.alloc(), of)?, spilled(rt.alloc(), of)?] {
+            let inline = of.is_inline();
+            for (made, wanted) in in_ascii_case(&of)?.iter().zip([lower, upper, lower, upper]) {
+                assert!(rt; holds(made, wanted, inline), "{wanted}");
+            }
+        }
+    }
     Ok(())
 }
 
@@ -228,18 +251,7 @@ fn a_longer_text_fits_within_twenty_three(rt: HostRuntime) -> Result<(), Fail> {
 }
 
 #[test]
-fn bytes_that_are_no_text_are_told(rt: HostRuntime) -> Result<(), Fail> {
-    for bytes in [
-        [0x61, 0xff, 0, 0],
-        [0xc0, 0x80, 0, 0],
-        [0xed, 0xa0, 0x80, 0],
-    ] {
-        let tried = EcoString::try_from(EcoBytes::from_array(rt.alloc(), bytes)?);
-        let Err(error) = tried else {
-            return Err("no UTF-8".into());
-        };
-        assert!(rt; error.valid_up_to() <= 1);
-    }
+fn a_character_of_four_bytes_is_a_text(rt: HostRuntime) -> Result<(), Fail> {
     let face = EcoBytes::from_array(rt.alloc(), [0xf0, 0x9f, 0x98, 0x80])?;
     match EcoString::try_from(face) {
         Ok(face) => assert!(rt; holds(&face, "😀", true)),

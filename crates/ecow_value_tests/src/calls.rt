@@ -1,10 +1,7 @@
-//! Calls of vectors and tables, without what their contracts say: a test of many calls is proved
-//! faster over these. Where a call has a condition that doesn't hold, nothing is done.
-use ecow_counted::Counted;
+//! Calls of vectors, without what their contracts say: a test of many calls is proved faster over
+//! these. Where a call has a condition that doesn't hold, nothing is done.
 use ecow_list::{EcoError, EcoVec, Rejected, range_in};
-use ecow_model::{Name, Outcome, VecCommand};
 use std::alloc::Global;
-use std::process::Abort;
 
 /// What a refusal says, without the value.
 pub(crate) fn error_of<V: Drop>(rejected: Rejected<V>) -> EcoError {
@@ -73,17 +70,6 @@ pub(crate) fn drain<T: Clone>(
     list.drain(start..end).map(drop)
 }
 
-pub(crate) fn extend_from_within<T: Clone + Copy>(
-    list: &mut EcoVec<T>,
-    start: usize,
-    end: usize,
-) -> Result<(), EcoError> {
-    if !range_in(&(start..end), list.len()) {
-        return Ok(());
-    }
-    list.extend_from_within(start..end)
-}
-
 pub(crate) fn splice<T: Clone>(
     list: &mut EcoVec<T>,
     start: usize,
@@ -94,24 +80,4 @@ pub(crate) fn splice<T: Clone>(
         return Ok(());
     }
     list.splice(start..end, Some(value)).map(drop)
-}
-
-/// What a table answers to a command.
-pub(crate) fn step<T: Clone>(table: &mut Counted<T>, command: VecCommand<T>) -> Outcome<T> {
-    table.step(command)
-}
-
-/// Carries a command out, which is done.
-pub(crate) fn done<T: Clone>(rt: &impl Abort, table: &mut Counted<T>, command: VecCommand<T>) {
-    assert!(rt; matches!(&step(table, command), Outcome::Done));
-}
-
-/// How many names share a name's block, and for how many elements it has room.
-pub(crate) fn held<T: Drop>(table: &Counted<T>, name: Name) -> (Option<usize>, Option<usize>) {
-    (table.owners(name), table.capacity(name))
-}
-
-/// How many elements were copied and moved, and the number of blocks.
-pub(crate) fn totals<T: Drop>(table: &Counted<T>) -> (u64, u64, usize) {
-    (table.copied(), table.moved(), table.blocks())
 }

@@ -1,0 +1,37 @@
+//! Tests of vectors, bytes and texts: what no contract says and no script can. What is cloned and
+//! dropped, what a refusal leaves, iterators, writers and elements of other kinds. Scripts with their
+//! answers stand in `ecow_cases`.
+#![tactic(auto)]
+
+#[cfg(test)]
+mod asked;
+#[cfg(test)]
+mod blocks;
+#[cfg(test)]
+mod bytes;
+#[cfg(test)]
+mod callers;
+#[cfg(test)]
+mod calls;
+#[cfg(test)]
+mod drops;
+#[cfg(test)]
+mod examples;
+#[cfg(test)]
+mod iterators;
+#[cfg(test)]
+mod laws;
+#[cfg(test)]
+mod printing;
+#[cfg(test)]
+mod ranges;
+#[cfg(test)]
+mod refusals;
+#[cfg(test)]
+mod sharing;
+#[cfg(test)]
+mod texts;
+#[cfg(test)]
+mod twins;
+#[cfg(test)]
+mod vectors;

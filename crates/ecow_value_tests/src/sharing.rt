@@ -1,0 +1,98 @@
+//! Who shares a block, and what is cloned and dropped, where no script says it.
+use crate::calls::{error_of, is_unique, reverse, shared};
+use ecow_bytes::EcoBytes;
+use ecow_list::{EcoError, EcoVec};
+use ecow_testing::elements::{Single, Tally};
+use ecow_text::EcoString;
+use std::alloc::Global;
+use std::test::Fail;
+
+/// A vector with room for three that shares its block.
+fn with_clone(alloc: Global, values: &[u8]) -> Result<(EcoVec<u8>, EcoVec<u8>), EcoError> {
+    let mut first = EcoVec::with_capacity(alloc, 3)?;
+    first.extend_from_slice(values)?;
+    let second = shared(&first)?;
+    Ok((first, second))
+}
+
+/// The room of a vector that shares no block.
+fn room_of_a_unique(list: &mut EcoVec<u8>) -> Option<usize> {
+    if list.is_unique() {
+        return Some(list.capacity());
+    }
+    None
+}
+
+#[test]
+fn a_loan_for_writing_unshares(rt: HostRuntime) -> Result<(), Fail> {
+    for (values, after, room) in [
+        ([].as_slice(), [].as_slice(), 0),
+        (&[1, 2, 3], &[3, 2, 1], 4),
+    ] {
+        let (mut first, second) = with_clone(rt.alloc(), values)?;
+        reverse(&mut first)?;
+        assert_eq!(rt; room_of_a_unique(&mut first), Some(room));
+        assert_eq!(rt; first.as_slice(), after);
+        assert_eq!(rt; second.as_slice(), values);
+    }
+    Ok(())
+}
+
+#[test]
+fn elements_without_a_clone_are_shared(rt: HostRuntime) -> Result<(), Fail> {
+    let mut two = Vec::new(rt.alloc());
+    two.push(Single)?;
+    two.push(Single)?;
+    let mut first = EcoVec::from_vec(rt.alloc(), two).map_err(error_of)?;
+    let mut second = shared(&first)?;
+    assert!(rt; first.len() == 2 && second.len() == 2 && second.capacity() == 4);
+    assert!(rt; !is_unique(&mut first) && !is_unique(&mut second));
+    Ok(())
+}
+
+/// Whether bytes stand in the block that a vector has, which is made of so many bytes.
+fn is_block_of(list: &mut EcoVec<u8>, bytes: EcoBytes) -> bool {
+    match bytes.into_eco_vec() {
+        Ok(block) => !is_unique(list) && block.capacity() == list.capacity(),
+        Err(_) => false,
+    }
+}
+
+#[test]
+fn bytes_and_texts_of_a_vector_share_its_block(rt: HostRuntime) -> Result<(), Fail> {
+    let mut list = EcoVec::with_capacity(rt.alloc(), 9)?;
+    list.extend_from_slice(b"abc")?;
+    assert!(rt; is_unique(&mut list));
+    let bytes = EcoBytes::from(shared(&list)?);
+    assert!(rt; is_block_of(&mut list, bytes));
+    let Ok(text) = EcoString::try_from(shared(&list)?) else {
+        return Err("three letters".into());
+    };
+    assert!(rt; is_block_of(&mut list, EcoBytes::from(text)) && is_unique(&mut list));
+    Ok(())
+}
+
+#[test]
+fn drops_come_at_once_and_once(rt: HostRuntime) -> Result<(), Fail> {
+    let tally = Tally::new(rt.alloc())?;
+    let mut first = tally.list(rt.alloc(), 1000)?;
+    first.truncate(900)?;
+    let second = shared(&first)?;
+    drop(first);
+    assert!(rt; tally.has(0, 100));
+    drop(second);
+    assert!(rt; tally.has(0, 1000));
+    Ok(())
+}
+
+#[test]
+fn no_memory_is_a_capacity_within_the_limit(rt: HostRuntime) {
+    for (capacity, want) in [
+        (9223372036854775807, EcoError::Memory),
+        (9223372036854775808, EcoError::Capacity),
+        (18446744073709551615, EcoError::Capacity),
+    ] {
+        let made = EcoVec::<u8>::with_capacity(rt.alloc(), capacity);
+        assert!(rt; matches!(&made, Err(error) if *error == want));
+    }
+}
