@@ -1,0 +1,171 @@
+//! Where values stand, and the rows of the tables.
+use ecow_list::EcoError;
+use std::alloc::{AllocError, Global};
+
+/// Where a value's elements stand.
+#[derive(Clone, Copy, PartialEq)]
+pub(crate) enum Form {
+    /// There is no such value.
+    Absent,
+    /// In the value itself.
+    Inline,
+    /// In a block that no other value shares, or there is no block.
+    Sole,
+    /// In a block that another shares.
+    Shared,
+}
+
+impl Form {
+    /// How it is now that it was `before`.
+    fn now(self, before: Form) -> &'static str {
+        if self == before {
+            return "same";
+        }
+        match self {
+            Form::Absent => "–",
+            Form::Inline => "inline",
+            Form::Sole => "sole",
+            Form::Shared => "shared",
+        }
+    }
+}
+
+/// Where a value and its twin, or what it was made of, stand, and for how many elements the value has
+/// room.
+#[derive(Clone, Copy)]
+pub(crate) struct Standing {
+    pub(crate) form: Form,
+    pub(crate) twin: Form,
+    pub(crate) capacity: usize,
+}
+
+/// What a call does with the value.
+#[derive(Clone, Copy, PartialEq)]
+pub(crate) enum Kind {
+    /// It changes it, reads it or gives it away.
+    Change,
+    /// It makes another of it.
+    Derive,
+    /// It needs none, and makes one.
+    Make,
+}
+
+impl Kind {
+    /// What stands before the call where the value stands so: what is to be made, isn't there.
+    pub(crate) fn before(self, value: Standing) -> Standing {
+        let twin = match self {
+            Kind::Change => return value,
+            Kind::Derive => value.form,
+            Kind::Make => Form::Absent,
+        };
+        Standing {
+            form: Form::Absent,
+            twin,
+            capacity: value.capacity,
+        }
+    }
+
+    /// What stands after the call, where the value stands so that was made, and its source so.
+    pub(crate) fn after(self, made: Form, source: Form, capacity: usize) -> Standing {
+        Standing {
+            form: made,
+            twin: if self == Kind::Make {
+                Form::Absent
+            } else {
+                source
+            },
+            capacity,
+        }
+    }
+
+    /// The state in which the value was; none where there was no value.
+    fn state(self, name: &'static str) -> &'static str {
+        if self == Kind::Make {
+            return "–";
+        }
+        name
+    }
+}
+
+/// A call, the state before it, and what it cost. Clones and drops are counted of some elements.
+#[derive(Clone, Copy)]
+pub(crate) struct Cost {
+    pub(crate) kind: Kind,
+    pub(crate) call: &'static str,
+    pub(crate) state: &'static str,
+    pub(crate) counts: Option<(u64, u64)>,
+    pub(crate) before: Standing,
+    pub(crate) after: Standing,
+}
+
+impl Cost {
+    /// Whether the value stands as before, and has as much room.
+    fn keeps_room(&self) -> bool {
+        let keeps = self.after.form == self.before.form || self.after.form == Form::Shared;
+        keeps && self.after.capacity == self.before.capacity
+    }
+
+    fn twin(&self) -> &'static str {
+        if self.kind == Kind::Make {
+            return "–";
+        }
+        self.after.twin.now(self.before.twin)
+    }
+
+    fn room(&self, alloc: Global) -> Result<String, AllocError> {
+        if self.after.form == Form::Absent {
+            return format!(in alloc; "–");
+        }
+        if self.keeps_room() {
+            return format!(in alloc; "same");
+        }
+        format!(in alloc; "{}", self.after.capacity)
+    }
+
+    fn counted(&self, alloc: Global) -> Result<String, AllocError> {
+        match self.counts {
+            Some((clones, drops)) => format!(in alloc; " {clones} | {drops} |"),
+            None => Ok(String::new(alloc)),
+        }
+    }
+
+    fn line(&self, alloc: Global) -> Result<String, AllocError> {
+        let (room, counted) = (self.room(alloc)?, self.counted(alloc)?);
+        let (call, state, twin) = (self.call, self.kind.state(self.state), self.twin());
+        let form = if self.after.form == Form::Absent {
+            "–"
+        } else {
+            self.after.form.now(self.before.form)
+        };
+        format!(in alloc; "| `{call}` | {state} |{counted} {form} | {twin} | {room} |\n")
+    }
+}
+
+/// The rows so far.
+#[derive(Drop)]
+pub(crate) struct Rows {
+    pub(crate) text: String,
+    alloc: Global,
+}
+
+impl Rows {
+    pub(crate) fn new(alloc: Global) -> Self {
+        Rows {
+            text: String::new(alloc),
+            alloc,
+        }
+    }
+
+    /// Adds the row of a call, or what was refused.
+    pub(crate) fn add(&mut self, cost: Result<Cost, EcoError>) {
+        let _done = match cost {
+            Ok(cost) => self.add_line(cost),
+            Err(_) => self.text.push_str("out of memory\n"),
+        };
+    }
+
+    fn add_line(&mut self, cost: Cost) -> Result<(), AllocError> {
+        let line = cost.line(self.alloc)?;
+        self.text.push_str(line.as_str())
+    }
+}

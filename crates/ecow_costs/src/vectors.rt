@@ -1,0 +1,446 @@
+//! The calls of vectors, over elements that count their clones and drops.
+use crate::marks::Meter;
+use crate::rows::{Cost, Form, Kind, Rows, Standing};
+use crate::states::{Pair, State, error_of, form_of, kept_pair, vectors};
+use ecow_list::{Drain, EcoError, EcoVec, IntoArray, IntoIter, Splice, range_in};
+use ecow_testing::elements::{Counting, Tally};
+use std::alloc::{AllocError, Global};
+use std::mem;
+
+/// A call, with the numbers that it is given.
+#[derive(Clone, Copy)]
+enum Call {
+    Read,
+    Push,
+    Insert,
+    Set,
+    Pop,
+    Remove,
+    Truncate(usize),
+    Clear,
+    Retain,
+    Reserve(usize),
+    ExtendFromSlice,
+    Extend,
+    Drain(usize, usize),
+    Splice(usize, usize),
+    MakeMut,
+    OwnMut,
+    IntoVec,
+    IntoIter,
+    IntoArray,
+    Drop,
+    Clone,
+    WithCapacity(usize),
+    FromVec,
+    FromArray,
+    FromNoArray,
+    FromSlice,
+    FromElem(usize),
+    FromIter,
+    Collect,
+}
+
+/// How a call is written, how many elements it is given, and how many there must be.
+#[derive(Clone, Copy)]
+struct Row {
+    call: Call,
+    name: &'static str,
+    brings: usize,
+    needs: usize,
+}
+
+fn row_of(call: Call, name: &'static str, brings: usize, needs: usize) -> Row {
+    Row {
+        call,
+        name,
+        brings,
+        needs,
+    }
+}
+
+fn first_rows() -> [Row; 13] {
+    [
+        row_of(
+            Call::Read,
+            "as_slice, iter, len, is_empty, capacity, is_unique",
+            0,
+            0,
+        ),
+        row_of(Call::Push, "push(x)", 1, 0),
+        row_of(Call::Insert, "insert(0, x)", 1, 0),
+        row_of(Call::Set, "set(0, x)", 1, 1),
+        row_of(Call::Pop, "pop()", 0, 0),
+        row_of(Call::Remove, "remove(0)", 0, 1),
+        row_of(Call::Truncate(3), "truncate(3)", 0, 3),
+        row_of(Call::Truncate(0), "truncate(0)", 0, 0),
+        row_of(Call::Truncate(9), "truncate(9)", 0, 0),
+        row_of(Call::Clear, "clear()", 0, 0),
+        row_of(Call::Retain, "retain(3 of 5)", 0, 0),
+        row_of(Call::MakeMut, "make_mut()", 0, 0),
+        row_of(Call::OwnMut, "own_mut()", 0, 0),
+    ]
+}
+
+fn last_rows() -> [Row; 17] {
+    [
+        row_of(Call::Reserve(0), "reserve(0)", 0, 0),
+        row_of(Call::Reserve(1), "reserve(1)", 0, 0),
+        row_of(Call::Reserve(20), "reserve(20)", 0, 0),
+        row_of(Call::ExtendFromSlice, "extend_from_slice(2)", 2, 0),
+        row_of(Call::ExtendFromSlice, "extend_from_slice(none)", 0, 0),
+        row_of(Call::Extend, "extend(2)", 2, 0),
+        row_of(Call::Extend, "extend(none)", 0, 0),
+        row_of(Call::Drain(1, 3), "drain(1..3)", 0, 3),
+        row_of(Call::Drain(0, 0), "drain(0..0)", 0, 0),
+        row_of(Call::Splice(1, 3), "splice(1..3, 2)", 2, 3),
+        row_of(Call::Splice(1, 3), "splice(1..3, 4)", 4, 3),
+        row_of(Call::Splice(0, 0), "splice(0..0, none)", 0, 0),
+        row_of(Call::Splice(0, 0), "splice(0..0, 2)", 2, 0),
+        row_of(Call::IntoVec, "into_vec()", 0, 0),
+        row_of(Call::IntoIter, "into_iter()", 0, 0),
+        row_of(Call::IntoArray, "into_array::<5>()", 0, 5),
+        row_of(Call::Drop, "drop(v)", 0, 0),
+    ]
+}
+
+fn makers() -> [Row; 16] {
+    [
+        row_of(Call::FromVec, "EcoVec::from_vec(none)", 0, 0),
+        row_of(Call::FromVec, "EcoVec::from_vec(5)", 5, 0),
+        row_of(Call::WithCapacity(0), "EcoVec::with_capacity(0)", 0, 0),
+        row_of(Call::WithCapacity(3), "EcoVec::with_capacity(3)", 0, 0),
+        row_of(Call::FromNoArray, "EcoVec::from_array(none)", 0, 0),
+        row_of(Call::FromArray, "EcoVec::from_array(5)", 5, 0),
+        row_of(Call::FromSlice, "EcoVec::from_slice(none)", 0, 0),
+        row_of(Call::FromSlice, "EcoVec::from_slice(2)", 2, 0),
+        row_of(Call::FromSlice, "EcoVec::from_slice(5)", 5, 0),
+        row_of(Call::FromElem(0), "EcoVec::from_elem(x, 0)", 1, 0),
+        row_of(Call::FromElem(2), "EcoVec::from_elem(x, 2)", 1, 0),
+        row_of(Call::FromElem(5), "EcoVec::from_elem(x, 5)", 1, 0),
+        row_of(Call::FromIter, "EcoVec::from_iter(none)", 0, 0),
+        row_of(Call::FromIter, "EcoVec::from_iter(5)", 5, 0),
+        row_of(Call::Collect, "collect(5)", 5, 0),
+        row_of(Call::Read, "EcoVec::new()", 0, 0),
+    ]
+}
+
+/// What a call hands out.
+#[derive(Drop)]
+enum Out {
+    Nothing,
+    One(Counting),
+    Drained(Drain<Counting>),
+    Spliced(Splice<Counting>),
+    Made(EcoVec<Counting>),
+    Given(Given),
+}
+
+/// What a vector is given away as.
+#[derive(Drop)]
+enum Given {
+    Nothing,
+    Vec(Vec<Counting>),
+    Iter(IntoIter<Counting>),
+    Array([Counting; 5]),
+}
+
+type Outcome = Result<Out, EcoError>;
+
+fn nothing(done: Result<(), EcoError>) -> Outcome {
+    done.map(|()| Out::Nothing)
+}
+
+fn made(made: Result<EcoVec<Counting>, EcoError>) -> Outcome {
+    made.map(|list| Out::Made(list))
+}
+
+fn of_one(one: Option<Counting>) -> Out {
+    match one {
+        Some(one) => Out::One(one),
+        None => Out::Nothing,
+    }
+}
+
+fn read(list: &mut EcoVec<Counting>) -> Out {
+    let _seen = list.as_slice().len() == list.iter().count()
+        && list.is_empty() == (list.len() == 0);
+    let _room = list.capacity();
+    let _sole = list.is_unique();
+    Out::Nothing
+}
+
+fn insert(list: &mut EcoVec<Counting>, value: Counting) -> Result<(), EcoError> {
+    list.insert(0, value).map_err(error_of)
+}
+
+fn set(list: &mut EcoVec<Counting>, value: Counting) -> Result<(), EcoError> {
+    if list.len() == 0 {
+        return Ok(());
+    }
+    list.set(0, value).map_err(error_of)
+}
+
+fn remove(list: &mut EcoVec<Counting>) -> Outcome {
+    if list.len() == 0 {
+        return Ok(Out::Nothing);
+    }
+    list.remove(0).map(|one| Out::One(one))
+}
+
+/// Drops the first two.
+fn retain(list: &mut EcoVec<Counting>) -> Result<(), EcoError> {
+    let mut given = 0u64;
+    list.retain(|_| {
+        given = given.wrapping_add(1);
+        given > 2
+    })
+}
+
+fn loan(list: &mut EcoVec<Counting>) -> Result<(), EcoError> {
+    list.make_mut()?.reverse();
+    Ok(())
+}
+
+fn own_loan(list: &mut EcoVec<Counting>) -> Result<(), EcoError> {
+    match list.own_mut() {
+        Ok(block) => {
+            block.as_mut_slice().reverse();
+            Ok(())
+        }
+        Err(Some(error)) => Err(error),
+        Err(None) => Ok(()),
+    }
+}
+
+fn drain(list: &mut EcoVec<Counting>, start: usize, end: usize) -> Outcome {
+    if !range_in(&(start..end), list.len()) {
+        return Ok(Out::Nothing);
+    }
+    list.drain(start..end).map(|drained| Out::Drained(drained))
+}
+
+fn splice(list: &mut EcoVec<Counting>, start: usize, end: usize, items: Vec<Counting>) -> Outcome {
+    if !range_in(&(start..end), list.len()) {
+        return Ok(Out::Nothing);
+    }
+    list.splice(start..end, items)
+        .map(|spliced| Out::Spliced(spliced))
+}
+
+/// All that a call is given.
+fn taken(gift: &mut Vec<Counting>, alloc: Global) -> Vec<Counting> {
+    mem::replace(gift, Vec::new(alloc))
+}
+
+/// Makes a call that is given an element.
+fn put(call: Call, list: &mut EcoVec<Counting>, value: Counting) -> Outcome {
+    nothing(match call {
+        Call::Insert => insert(list, value),
+        Call::Set => set(list, value),
+        _ => list.push(value).map_err(error_of),
+    })
+}
+
+/// Makes a call that changes a vector and is given none.
+fn change(call: Call, list: &mut EcoVec<Counting>) -> Result<(), EcoError> {
+    match call {
+        Call::Truncate(len) => list.truncate(len),
+        Call::Retain => retain(list),
+        Call::Reserve(more) => list.reserve(more),
+        Call::MakeMut => loan(list),
+        Call::OwnMut => own_loan(list),
+        _ => {
+            list.clear();
+            Ok(())
+        }
+    }
+}
+
+/// Makes a call on a vector.
+fn call_on(
+    call: Call,
+    list: &mut EcoVec<Counting>,
+    gift: &mut Vec<Counting>,
+    alloc: Global,
+) -> Outcome {
+    match call {
+        Call::Read => Ok(read(list)),
+        Call::Push | Call::Insert | Call::Set => match gift.pop() {
+            Some(value) => put(call, list, value),
+            None => Ok(Out::Nothing),
+        },
+        Call::Pop => list.pop().map(of_one),
+        Call::Remove => remove(list),
+        Call::Drain(start, end) => drain(list, start, end),
+        Call::Splice(start, end) => splice(list, start, end, taken(gift, alloc)),
+        Call::ExtendFromSlice => nothing(list.extend_from_slice(gift.as_slice())),
+        Call::Extend => nothing(list.extend(taken(gift, alloc))),
+        _ => nothing(change(call, list)),
+    }
+}
+
+/// Gives a vector away. One that has another length than the array is dropped.
+fn give(call: Call, list: EcoVec<Counting>) -> Result<Given, EcoError> {
+    match call {
+        Call::IntoVec => list.into_vec().map(|all| Given::Vec(all)).map_err(error_of),
+        Call::IntoIter => list
+            .into_iter()
+            .map(|rest| Given::Iter(rest))
+            .map_err(error_of),
+        Call::IntoArray => array_of(list),
+        _ => {
+            drop(list);
+            Ok(Given::Nothing)
+        }
+    }
+}
+
+fn array_of(list: EcoVec<Counting>) -> Result<Given, EcoError> {
+    match list.into_array::<5>() {
+        Ok(array) => Ok(Given::Array(array)),
+        Err(IntoArray::Length(_)) => Ok(Given::Nothing),
+        Err(IntoArray::Refused(error, _)) => Err(error),
+    }
+}
+
+fn clone(list: &EcoVec<Counting>) -> Result<EcoVec<Counting>, EcoError> {
+    match list.clone() {
+        Ok(clone) => Ok(clone),
+        Err(error) => Err(error.into()),
+    }
+}
+
+fn from_array(alloc: Global, gift: Vec<Counting>) -> Result<EcoVec<Counting>, EcoError> {
+    if gift.len() != 5 {
+        return Ok(EcoVec::new(alloc));
+    }
+    let elements: [Counting; 5] = gift.try_into().unwrap();
+    EcoVec::from_array(alloc, elements).map_err(error_of)
+}
+
+fn from_no_array(alloc: Global) -> Result<EcoVec<Counting>, EcoError> {
+    let elements: [Counting; 0] = [];
+    EcoVec::from_array(alloc, elements).map_err(error_of)
+}
+
+fn from_elem(
+    alloc: Global,
+    gift: &mut Vec<Counting>,
+    n: usize,
+) -> Result<EcoVec<Counting>, EcoError> {
+    match gift.pop() {
+        Some(value) => EcoVec::from_elem(alloc, value, n).map_err(error_of),
+        None => Ok(EcoVec::new(alloc)),
+    }
+}
+
+fn collected(alloc: Global, gift: Vec<Counting>) -> Result<EcoVec<Counting>, EcoError> {
+    match gift.into_iter().collect(alloc) {
+        Ok(list) => Ok(list),
+        Err(error) => Err(error.into()),
+    }
+}
+
+/// Makes a vector of what is given.
+fn make(call: Call, gift: &mut Vec<Counting>, alloc: Global) -> Result<EcoVec<Counting>, EcoError> {
+    match call {
+        Call::WithCapacity(n) => EcoVec::with_capacity(alloc, n),
+        Call::FromVec => EcoVec::from_vec(alloc, taken(gift, alloc)).map_err(error_of),
+        Call::FromArray => from_array(alloc, taken(gift, alloc)),
+        Call::FromNoArray => from_no_array(alloc),
+        Call::FromSlice => EcoVec::from_slice(alloc, gift.as_slice()),
+        Call::FromElem(n) => from_elem(alloc, gift, n),
+        Call::FromIter => EcoVec::from_iter(alloc, taken(gift, alloc)),
+        Call::Collect => collected(alloc, taken(gift, alloc)),
+        _ => Ok(EcoVec::new(alloc)),
+    }
+}
+
+/// Makes any call.
+fn call_any(
+    kind: Kind,
+    call: Call,
+    kept: &mut Pair<Counting>,
+    gift: &mut Vec<Counting>,
+    alloc: Global,
+) -> Outcome {
+    match (kind, call) {
+        (Kind::Derive, _) => made(clone(&kept.list)),
+        (Kind::Make, _) => made(make(call, gift, alloc)),
+        (_, Call::IntoVec | Call::IntoIter | Call::IntoArray | Call::Drop) => {
+            let list = mem::replace(&mut kept.list, EcoVec::new(alloc));
+            give(call, list).map(|given| Out::Given(given))
+        }
+        _ => call_on(call, &mut kept.list, gift, alloc),
+    }
+}
+
+/// What stands after a call.
+fn after(kind: Kind, kept: &mut Pair<Counting>, out: &mut Out) -> Standing {
+    match out {
+        Out::Made(list) => kind.after(form_of(list), form_of(&mut kept.list), list.capacity()),
+        Out::Given(_) => kind.after(Form::Absent, kept.form_of_twin(), 0),
+        _ => kept.standing(),
+    }
+}
+
+fn counts(tally: &Tally) -> (u64, u64) {
+    (tally.clones(), tally.drops())
+}
+
+/// What has been counted since.
+fn since(tally: &Tally, before: (u64, u64)) -> Option<(u64, u64)> {
+    let (clones, drops) = counts(tally);
+    Some((clones.wrapping_sub(before.0), drops.wrapping_sub(before.1)))
+}
+
+/// A vector in a state, of elements that count.
+fn counted(alloc: Global, tally: &Tally, state: State) -> Result<Pair<Counting>, EcoError> {
+    let elements = tally.elements(alloc, state.len)?;
+    kept_pair(alloc, state, elements)
+}
+
+fn cost(kind: Kind, meter: Meter, row: Row, state: State) -> Result<Cost, EcoError> {
+    let tally = Tally::new(meter.alloc)?;
+    let mut kept = counted(meter.alloc, &tally, state)?;
+    let mut gift = tally.elements(meter.alloc, row.brings)?;
+    let before = kind.before(kept.standing());
+    let counted = counts(&tally);
+    let _begun = meter.begin();
+    let mut out = call_any(kind, row.call, &mut kept, &mut gift, meter.alloc)?;
+    let _ended = meter.end();
+    Ok(Cost {
+        kind,
+        call: row.name,
+        state: state.name,
+        counts: since(&tally, counted),
+        before,
+        after: after(kind, &mut kept, &mut out),
+    })
+}
+
+/// Adds a row of each call in each of the states.
+fn add_each(kind: Kind, meter: Meter, rows: &mut Rows, calls: &[Row], states: &[State]) {
+    for row in calls {
+        for state in states {
+            if row.needs <= state.len {
+                rows.add(cost(kind, meter, *row, *state));
+            }
+        }
+    }
+}
+
+pub(crate) fn add_rows(meter: Meter, rows: &mut Rows) {
+    let states = vectors();
+    add_each(Kind::Change, meter, rows, &first_rows(), &states);
+    add_each(Kind::Change, meter, rows, &last_rows(), &states);
+    add_each(
+        Kind::Derive,
+        meter,
+        rows,
+        &[row_of(Call::Clone, "clone()", 0, 0)],
+        &states,
+    );
+    add_each(Kind::Make, meter, rows, &makers(), &states[..1]);
+}

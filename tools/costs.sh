@@ -1,0 +1,33 @@
+#!/bin/sh
+# Compares docs/COSTS.md with crates/ecow_costs: its rows without the last column with what the program is
+# to print, and whole rows with what PROGRAM, the program built, costs while its requests for memory are
+# counted. Says what differs.
+# usage: tools/costs.sh PROGRAM
+set -eu
+program=$(realpath "$1")
+cd "$(dirname "$0")/.."
+work=$(mktemp -d)
+trap 'rm -r "$work"' EXIT
+export LC_ALL=C
+
+awk -f tools/costs.awk docs/COSTS.md | sort > "$work/said"
+sed 's/ [^|]* |$//' "$work/said" | sort > "$work/said_of_all_but_requests"
+sort crates/ecow_costs/stdout | diff "$work/said_of_all_but_requests" - > "$work/apart" || {
+    echo "docs/COSTS.md (<) and crates/ecow_costs/stdout (>) differ:"
+    cat "$work/apart"
+    exit 1
+}
+
+tools/shim.sh "$work/shim.so"
+COUNT=1 LD_PRELOAD=$work/shim.so "$program" marked > "$work/rows" 2> "$work/counts"
+if [ "$(wc -l < "$work/rows")" -ne "$(wc -l < "$work/counts")" ]; then
+    echo "$(wc -l < "$work/rows") rows and $(wc -l < "$work/counts") counts"
+    exit 1
+fi
+paste -d ' ' "$work/rows" "$work/counts" | sed 's/$/ |/' | sort > "$work/counted"
+diff "$work/said" "$work/counted" > "$work/apart" || {
+    echo "docs/COSTS.md (<) and what was counted (>) differ:"
+    cat "$work/apart"
+    exit 1
+}
+echo "$(wc -l < "$work/counted") costs are as docs/COSTS.md says"
