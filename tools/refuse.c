@@ -1,32 +1,100 @@
-/* Refuses one request for memory: the one whose number stands in the variable REFUSE, counted from 1.
-   Built as a library that is loaded before the C library's (LD_PRELOAD). It ends with a line on standard
-   error where the program made fewer requests. */
-#define _GNU_SOURCE
-#include <dlfcn.h>
-#include <stdlib.h>
-#include <unistd.h>
+/* A library that is loaded before the C library's (LD_PRELOAD) and sees each request for memory.
+   REFUSE=K refuses the request with that number, counted from 1. Where the program made fewer
+   requests, a line on standard error says so at its end.
+   COUNT=1 counts requests. A request of 5555551 bytes sets the count to 0; one of 5555553 bytes
+   writes it, in digits and a line feed, to standard error. These two are not counted themselves.
+   TOTAL=1 writes, at the program's end, how many requests it made in all.
+   tools/shim.sh builds it without any header, so its names of the C library are declared here. */
+typedef unsigned long size;
 
-static long refused, made;
+extern void *dlsym(void *library, const char *name);
+extern char *getenv(const char *name);
+extern long write(int file, const void *bytes, size length);
 
-static int is_refused(void) { return refused && ++made == refused; }
+#define NEXT ((void *)-1l)
+#define SETS_TO_ZERO 5555551ul
+#define WRITES 5555553ul
+#define OUT_OF_MEMORY 12
+
+static long refused, made, counted;
+static int counts, totals;
+
+static long number_of(const char *digits) {
+  long number = 0;
+  while (digits && *digits >= '0' && *digits <= '9') number = number * 10 + (*digits++ - '0');
+  return number;
+}
+
+static void write_number(long number) {
+  char line[24];
+  size start = sizeof line;
+  long rest = number;
+  line[--start] = '\n';
+  do line[--start] = (char)('0' + rest % 10); while (rest /= 10);
+  (void)!write(2, line + start, sizeof line - start);
+}
+
+/* Sees a request, and says whether it is refused. */
+static int is_refused(size bytes) {
+  if (counts && bytes == SETS_TO_ZERO) counted = 0;
+  else if (counts && bytes == WRITES) write_number(counted);
+  else counted++;
+  return ++made == refused;
+}
 
 __attribute__((constructor)) static void begin(void) {
-  const char *number = getenv("REFUSE");
-  refused = number ? atol(number) : 0;
+  refused = number_of(getenv("REFUSE"));
+  counts = number_of(getenv("COUNT")) != 0;
+  totals = number_of(getenv("TOTAL")) != 0;
+  made = 0;
+  counted = 0;
 }
 
 __attribute__((destructor)) static void end(void) {
+  if (totals) write_number(made);
   if (made < refused) (void)!write(2, "fewer requests\n", 15);
 }
 
-void *malloc(size_t size) {
-  static void *(*next)(size_t);
-  if (!next) next = (void *(*)(size_t))dlsym(RTLD_NEXT, "malloc");
-  return is_refused() ? 0 : next(size);
+void *malloc(size bytes) {
+  static void *(*next)(size);
+  if (!next) next = (void *(*)(size))dlsym(NEXT, "malloc");
+  return is_refused(bytes) ? 0 : next(bytes);
 }
 
-void *realloc(void *block, size_t size) {
-  static void *(*next)(void *, size_t);
-  if (!next) next = (void *(*)(void *, size_t))dlsym(RTLD_NEXT, "realloc");
-  return is_refused() ? 0 : next(block, size);
+/* dlsym itself may ask for memory before the C library's own function is known: it gets this. */
+static char early[4096];
+static size early_taken;
+
+void *calloc(size count, size bytes) {
+  static void *(*next)(size, size);
+  static int is_asking;
+  if (!next && is_asking) {
+    void *block = early + early_taken;
+    early_taken += (count * bytes + 15) & ~15ul;
+    return early_taken <= sizeof early ? block : 0;
+  }
+  if (!next) {
+    is_asking = 1;
+    next = (void *(*)(size, size))dlsym(NEXT, "calloc");
+    is_asking = 0;
+  }
+  return is_refused(count * bytes) ? 0 : next(count, bytes);
+}
+
+void *realloc(void *block, size bytes) {
+  static void *(*next)(void *, size);
+  if (!next) next = (void *(*)(void *, size))dlsym(NEXT, "realloc");
+  return is_refused(bytes) ? 0 : next(block, bytes);
+}
+
+void *aligned_alloc(size alignment, size bytes) {
+  static void *(*next)(size, size);
+  if (!next) next = (void *(*)(size, size))dlsym(NEXT, "aligned_alloc");
+  return is_refused(bytes) ? 0 : next(alignment, bytes);
+}
+
+int posix_memalign(void **block, size alignment, size bytes) {
+  static int (*next)(void **, size, size);
+  if (!next) next = (int (*)(void **, size, size))dlsym(NEXT, "posix_memalign");
+  return is_refused(bytes) ? OUT_OF_MEMORY : next(block, alignment, bytes);
 }

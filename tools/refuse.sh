@@ -1,24 +1,49 @@
 #!/bin/sh
-# Runs a program again and again, each time with one more request for memory refused, until it makes fewer
-# requests than that. It must end with status 0 and the same output each time.
+# Runs each part of a program again and again, each time with another one of its requests for memory
+# refused, from the first to the last. It must end with status 0 and the output that it has where none
+# is refused. A program that finds a number on standard input runs the part with that number alone,
+# counted from 1; where it finds none, it runs all, and prints a line for each.
 # usage: tools/refuse.sh PROGRAM
 set -eu
 program=$1
 work=$(mktemp -d)
 trap 'rm -r "$work"' EXIT
-cc -O2 -shared -fPIC -o "$work/refuse.so" "$(dirname "$0")/refuse.c" -ldl
-"$program" > "$work/want"
-number=0
-wrong=0
-while number=$((number + 1)); do
-    status=0
-    REFUSE=$number LD_PRELOAD=$work/refuse.so "$program" > "$work/got" 2> "$work/error" || status=$?
-    if grep -q 'fewer requests' "$work/error"; then break; fi
-    if [ "$status" -ne 0 ] || ! cmp -s "$work/want" "$work/got"; then
-        wrong=$((wrong + 1))
-        echo "request $number: status $status"
-        diff "$work/want" "$work/got" || true
-    fi
+"$(dirname "$0")/shim.sh" "$work/refuse.so"
+processors=$(getconf _NPROCESSORS_ONLN 2> "$work/none" || echo 1)
+"$program" < /dev/null > "$work/lines"
+parts=$(grep -c '' < "$work/lines")
+if grep wrong "$work/lines"; then exit 1; fi
+
+# Refuses the request with this number, and each that comes so many processors later.
+refuse_from() {
+    number=$1
+    while [ "$number" -le "$total" ]; do
+        status=0
+        got=$(REFUSE=$number LD_PRELOAD=$work/refuse.so "$program" < "$work/part" 2>&1) || status=$?
+        if [ "$status" -ne 0 ] || [ "$got" != "$want" ]; then
+            echo "part $part, request $number: status $status"
+            echo "$got" > "$work/got.$1"
+            echo "$want" | diff - "$work/got.$1" || true
+        fi
+        number=$((number + processors))
+    done >> "$work/wrong.$1"
+}
+
+part=0
+all=0
+while part=$((part + 1)) && [ "$part" -le "$parts" ]; do
+    echo "$part" > "$work/part"
+    want=$(sed -n "${part}p" "$work/lines")
+    total=$(TOTAL=1 LD_PRELOAD=$work/refuse.so "$program" < "$work/part" 2>&1 > "$work/none")
+    all=$((all + total))
+    first=1
+    while [ "$first" -le "$processors" ]; do
+        refuse_from "$first" &
+        first=$((first + 1))
+    done
+    wait
 done
-echo "$((number - 1)) requests refused in turn, $wrong wrong"
-[ "$wrong" -eq 0 ]
+cat "$work"/wrong.*
+wrong=$(cat "$work"/wrong.* | grep -c '^part ' || true)
+echo "$all requests refused in turn, $wrong wrong"
+[ "$wrong" -eq 0 ] && [ "$all" -gt 0 ]

@@ -1,253 +1,327 @@
-//! The calls of `EcoBytes`.
-use ecow_bytes::{EcoBytes, SmallBytes};
+//! The calls of `SmallBytes`.
+use crate::short::Short;
+use crate::small::{Call, Small, State, states};
+use crate::steps::{Row, Word};
+use crate::watch::Watch;
+use ecow_bytes::SmallBytes;
 use ecow_list::{EcoError, EcoVec};
 use std::alloc::Global;
 use std::io::Write;
 
-const LETTERS: [u8; 15] = *b"abcdefghijklmno";
+/// The bytes that calls bring.
+const ADDED: [u8; 12] = [46, 47, 48, 49, 50, 51, 52, 53, 54, 55, 56, 57];
 
-/// The letters, as many as stand inline.
-fn letters(alloc: Global, spilled: bool) -> Result<EcoBytes, EcoError> {
-    if spilled {
-        Ok(SmallBytes::from(EcoVec::from_slice(alloc, &LETTERS)?))
-    } else {
-        EcoBytes::from_slice(alloc, &LETTERS)
+const LETTERS: [u8; 40] = *b"abcdefghijklmnopqrstuvwxyz{|}~ABCDEFGHIJ";
+
+pub(crate) const STEPS: [Row; 34] = [
+    (Word::Push, 0, 0, 1),
+    (Word::Insert, 0, 0, 1),
+    (Word::Insert, 2, 2, 1),
+    (Word::Write, 0, 1, 1),
+    (Word::Write, 2, 3, 1),
+    (Word::MakeMut, 0, 0, 0),
+    (Word::Pop, 0, 0, 0),
+    (Word::Remove, 0, 1, 0),
+    (Word::Remove, 2, 3, 0),
+    (Word::Truncate, 0, 0, 0),
+    (Word::Truncate, 2, 0, 0),
+    (Word::Truncate, 100, 0, 0),
+    (Word::Clear, 0, 0, 0),
+    (Word::Shrink, 0, 0, 0),
+    (Word::Reserve, 0, 0, 0),
+    (Word::Reserve, 0, 0, 1),
+    (Word::Reserve, 0, 0, 2),
+    (Word::Reserve, 0, 0, 20),
+    (Word::Extend, 0, 0, 0),
+    (Word::Extend, 0, 0, 1),
+    (Word::Extend, 0, 0, 2),
+    (Word::Extend, 0, 0, 12),
+    (Word::ExtendEach, 0, 0, 0),
+    (Word::ExtendEach, 0, 0, 1),
+    (Word::ExtendEach, 0, 0, 2),
+    (Word::ExtendEach, 0, 0, 12),
+    (Word::Put, 0, 0, 0),
+    (Word::Put, 0, 0, 1),
+    (Word::Put, 0, 0, 12),
+    (Word::InsertSlice, 0, 0, 0),
+    (Word::InsertSlice, 0, 0, 1),
+    (Word::InsertSlice, 2, 2, 1),
+    (Word::InsertSlice, 2, 2, 2),
+    (Word::InsertSlice, 0, 0, 12),
+];
+
+pub(crate) fn first(bytes: &[u8], count: usize) -> &[u8] {
+    match bytes.get(..count) {
+        Some(first) => first,
+        None => &[],
     }
 }
 
-/// Makes the letters, spilled or not, and a clone of them or none, and calls something on the letters. Whether they then are
-/// what they are to be, or as they were where the call was refused, mode included, and the clone is
-/// as it was.
-fn holds<F: FnOnce(&mut EcoBytes) -> Result<(), EcoError> + Drop>(
-    alloc: Global,
-    kept: (bool, bool),
-    after: &[u8],
-    inline: bool,
-    call: F,
-) -> bool
-    requires { F.IsAlwaysCallable call }
-{
-    let (spilled, shared) = kept;
-    let Ok(mut bytes) = letters(alloc, spilled) else {
-        return true;
-    };
-    let mut clone = EcoBytes::new(alloc);
-    if shared {
-        match bytes.clone() {
-            Ok(copy) => clone = copy,
-            Err(_) => return false,
+impl<const N: usize> Small for SmallBytes<N> {
+    fn limit() -> usize {
+        N
+    }
+
+    fn letters(len: usize) -> Short {
+        Short::of_bytes(first(&LETTERS, len))
+    }
+
+    fn added(count: usize) -> Short {
+        Short::of_bytes(first(&ADDED, count))
+    }
+
+    fn made(alloc: Global, state: State) -> Result<Self, EcoError> {
+        let letters = first(&LETTERS, state.len);
+        if !state.spilled {
+            return SmallBytes::from_slice(alloc, letters);
+        }
+        let mut vector = EcoVec::with_capacity(alloc, state.room)?;
+        vector.extend_from_slice(letters)?;
+        Ok(SmallBytes::from(vector))
+    }
+
+    fn call(&mut self, call: &Call) -> Result<bool, EcoError> {
+        match call.step.word {
+            Word::Push | Word::Insert | Word::Write | Word::MakeMut => one(self, call),
+            Word::Pop | Word::Remove => take(self, call),
+            Word::Extend | Word::ExtendEach | Word::Put | Word::InsertSlice => several(self, call),
+            _ => shorten(self, call),
         }
     }
-    let (wanted, mode) = match call(&mut bytes) {
-        Ok(()) => (after, inline),
-        Err(EcoError::Memory) => (LETTERS.as_slice(), !spilled),
-        Err(EcoError::Capacity) => return false,
-    };
-    let is_kept = clone.as_slice() == LETTERS.as_slice() && clone.is_inline() != spilled;
-    bytes.as_slice() == wanted && bytes.is_inline() == mode && (!shared || is_kept)
-}
 
-/// What a call answered that asks for memory for a copy alone. Where the letters are inline or their
-/// own there is none to make, and a refusal is answered as an error that `holds` takes as wrong.
-pub(crate) fn for_a_copy(kept: (bool, bool), done: Result<(), EcoError>) -> Result<(), EcoError> {
-    let (spilled, shared) = kept;
-    if done == Err(EcoError::Memory) && !(spilled && shared) {
-        return Err(EcoError::Capacity);
+    fn bytes(&self) -> Short {
+        Short::of_bytes(self.as_slice())
     }
-    done
-}
 
-fn insert(bytes: &mut EcoBytes, index: usize, byte: u8) -> Result<(), EcoError> {
-    if index > bytes.len() {
-        return Err(EcoError::Capacity);
+    fn is_inline(&self) -> bool {
+        self.is_inline()
     }
-    bytes.insert(index, byte)
-}
 
-fn insert_slice(bytes: &mut EcoBytes, index: usize, added: &[u8]) -> Result<(), EcoError> {
-    if index > bytes.len() {
-        return Err(EcoError::Capacity);
+    fn capacity(&self) -> usize {
+        self.capacity()
     }
-    bytes.insert_slice(index, added)
-}
 
-fn remove(bytes: &mut EcoBytes, index: usize, want: u8) -> Result<(), EcoError> {
-    if index >= bytes.len() {
-        return Err(EcoError::Capacity);
-    }
-    if bytes.remove(index)? == want {
-        Ok(())
-    } else {
-        Err(EcoError::Capacity)
+    fn spilled(self) -> Option<EcoVec<u8>> {
+        if self.is_inline() {
+            return None;
+        }
+        match self.into_eco_vec() {
+            Ok(vector) => Some(vector),
+            Err(_) => None,
+        }
     }
 }
 
-fn set(bytes: &mut EcoBytes, index: usize, byte: u8) -> Result<(), EcoError> {
-    if index >= bytes.len() {
-        return Err(EcoError::Capacity);
+/// A call that is handed a byte.
+fn one<const N: usize>(bytes: &mut SmallBytes<N>, call: &Call) -> Result<bool, EcoError> {
+    let start = call.step.start;
+    match call.step.word {
+        Word::Push => bytes.push(46)?,
+        Word::Insert if start <= bytes.len() => bytes.insert(start, 46)?,
+        Word::Write if start < bytes.len() => bytes.set(start, 46)?,
+        Word::MakeMut => {
+            let places = bytes.make_mut()?;
+            if let Some(place) = places.get_mut(0) {
+                *place = 46;
+            }
+        }
+        _ => return Ok(false),
     }
-    bytes.set(index, byte)
+    Ok(true)
 }
 
-fn write(bytes: &mut EcoBytes, added: &[u8]) -> Result<(), EcoError> {
-    match bytes.write(added) {
-        Ok(_) => Ok(()),
-        Err(_) => Err(EcoError::Memory),
+/// A call that answers what it takes out.
+fn take<const N: usize>(bytes: &mut SmallBytes<N>, call: &Call) -> Result<bool, EcoError> {
+    let removed = SmallBytes::<N>::letters(call.state.len).part(call.change.start, call.change.end);
+    match call.step.word {
+        Word::Pop => match bytes.pop()? {
+            Some(byte) => Ok(removed.is_bytes(&[byte])),
+            None => Ok(removed.is_bytes(&[])),
+        },
+        _ if call.step.start < bytes.len() => {
+            let byte = bytes.remove(call.step.start)?;
+            Ok(removed.is_bytes(&[byte]))
+        }
+        _ => Ok(false),
     }
 }
 
-fn reverse(bytes: &mut EcoBytes) -> Result<(), EcoError> {
-    bytes.make_mut()?.reverse();
-    Ok(())
-}
-
-fn shrink(bytes: &mut EcoBytes) -> Result<(), EcoError> {
-    bytes.shrink_to_fit();
-    Ok(())
-}
-
-/// Inline letters spill, and spilled ones get a larger block.
-fn additions_hold(alloc: Global, kept: (bool, bool)) -> bool {
-    let more = b"abcdefghijklmnop".as_slice();
-    holds(alloc, kept, more, false, |bytes| bytes.push(b'p'))
-        && holds(alloc, kept, more, false, |bytes| bytes.extend(b'p'..b'q'))
-        && holds(alloc, kept, more, false, |bytes| write(bytes, b"p"))
-        && holds(
-            alloc,
-            kept,
-            b"abc.defghijklmno",
-            false,
-            |bytes| insert(bytes, 3, b'.'),
-        )
-        && holds(
-            alloc,
-            kept,
-            b"abcdefghijklmnopq",
-            false,
-            |bytes| bytes.extend_from_slice(b"pq"),
-        )
-        && holds(
-            alloc,
-            kept,
-            b"..abcdefghijklmno",
-            false,
-            |bytes| insert_slice(bytes, 0, b".."),
-        )
-        && holds(alloc, kept, &LETTERS, false, |bytes| bytes.reserve(1))
-}
-
-/// Letters stay in the mode that they have.
-fn changes_hold(alloc: Global, kept: (bool, bool)) -> bool {
-    let inline = !kept.0;
-    holds(
-        alloc,
-        kept,
-        b"abcdefghijklmn",
-        inline,
-        |bytes| for_a_copy(kept, bytes.pop().map(|_| ())),
-    ) && holds(
-        alloc,
-        kept,
-        b"ab",
-        inline,
-        |bytes| for_a_copy(kept, bytes.truncate(2)),
-    ) && holds(
-        alloc,
-        kept,
-        b"bcdefghijklmno",
-        inline,
-        |bytes| for_a_copy(kept, remove(bytes, 0, b'a')),
-    ) && holds(
-        alloc,
-        kept,
-        b"a.cdefghijklmno",
-        inline,
-        |bytes| for_a_copy(kept, set(bytes, 1, b'.')),
-    ) && holds(
-        alloc,
-        kept,
-        b"onmlkjihgfedcba",
-        inline,
-        |bytes| for_a_copy(kept, reverse(bytes)),
-    ) && holds(
-        alloc,
-        kept,
-        &LETTERS,
-        inline,
-        |bytes| for_a_copy(kept, bytes.reserve(0)),
-    ) && holds(
-        alloc,
-        kept,
-        &LETTERS,
-        true,
-        |bytes| for_a_copy(kept, shrink(bytes)),
-    )
-}
-
-pub(crate) fn edits_hold(alloc: Global) -> bool {
-    let mut hold = true;
-    for kept in [(false, false), (false, true), (true, false), (true, true)] {
-        hold = hold && additions_hold(alloc, kept) && changes_hold(alloc, kept);
+fn several<const N: usize>(bytes: &mut SmallBytes<N>, call: &Call) -> Result<bool, EcoError> {
+    let given = first(&ADDED, call.change.count);
+    match call.step.word {
+        Word::Extend => bytes.extend_from_slice(given)?,
+        Word::ExtendEach => bytes.extend(given.iter().copied())?,
+        Word::InsertSlice if call.step.start <= bytes.len() => {
+            bytes.insert_slice(call.step.start, given)?
+        }
+        Word::Put => {
+            return match bytes.write(given) {
+                Ok(count) => Ok(count == given.len()),
+                Err(_) => Err(EcoError::Memory),
+            };
+        }
+        _ => return Ok(false),
     }
-    hold
+    Ok(true)
+}
+
+fn shorten<const N: usize>(bytes: &mut SmallBytes<N>, call: &Call) -> Result<bool, EcoError> {
+    match call.step.word {
+        Word::Truncate => bytes.truncate(call.step.start)?,
+        Word::Clear => bytes.clear(),
+        Word::Shrink => bytes.shrink_to_fit(),
+        Word::Reserve => bytes.reserve(call.step.count)?,
+        _ => return Ok(false),
+    }
+    Ok(true)
 }
 
 /// Whether bytes were made as they are to be, or for want of memory not at all.
-fn is_made(made: Result<EcoBytes, EcoError>, want: &[u8], inline: bool) -> bool {
+pub(crate) fn is_made<const N: usize>(
+    watch: &Watch,
+    made: Result<SmallBytes<N>, EcoError>,
+    want: &[u8],
+    inline: bool,
+) -> bool {
     match made {
-        Ok(bytes) => bytes.as_slice() == want && bytes.is_inline() == inline,
-        Err(error) => error == EcoError::Memory && !inline,
-    }
-}
-
-/// The letters and one more, of a `Vec`, which comes back where it is refused.
-fn vec_holds(alloc: Global, want: &[u8]) -> bool {
-    let Ok(bytes) = Vec::from_clones(alloc, want) else {
-        return true;
-    };
-    match EcoBytes::from_vec(alloc, bytes) {
-        Ok(made) => made.as_slice() == want && !made.is_inline(),
-        Err(rejected) => rejected.error == EcoError::Memory && rejected.value.as_slice() == want,
-    }
-}
-
-pub(crate) fn makers_hold(alloc: Global) -> bool {
-    let more = b"abcdefghijklmnop".as_slice();
-    let Ok(four) = EcoBytes::from_slice(alloc, b"abcd") else {
-        return false;
-    };
-    is_made(EcoBytes::from_slice(alloc, &LETTERS), &LETTERS, true)
-        && is_made(EcoBytes::from_slice(alloc, more), more, false)
-        && is_made(
-            EcoBytes::from_array(alloc, *b"abcdefghijklmnop"),
-            more,
-            false,
-        )
-        && is_made(EcoBytes::from_iter(alloc, b'a'..b'q'), more, false)
-        && is_made(EcoBytes::with_capacity(alloc, 16), b"", false)
-        && is_made(four.repeat(4), b"abcdabcdabcdabcd", false)
-        && is_made(four.repeat(1), b"abcd", true)
-        && vec_holds(alloc, more)
-}
-
-/// The vector of inline letters is new, and that of spilled ones is there.
-pub(crate) fn conversions_hold(alloc: Global) -> bool {
-    let mut hold = true;
-    for spilled in [false, true] {
-        let Ok(bytes) = letters(alloc, spilled) else {
-            return hold;
-        };
-        if let Ok(copy) = bytes.to_vec() {
-            hold = hold && copy.as_slice() == LETTERS.as_slice();
+        Ok(bytes) => {
+            bytes.as_slice() == want
+                && bytes.is_inline() == inline
+                && (!inline || bytes.capacity() == N)
         }
-        hold = hold
-            && match bytes.into_eco_vec() {
-                Ok(vec) => vec.as_slice() == LETTERS.as_slice(),
-                Err(rejected) => {
-                    let error = rejected.error == EcoError::Memory && !spilled;
-                    error && is_made(Ok(rejected.value), &LETTERS, true)
-                }
-            };
+        Err(error) => error == EcoError::Memory && !inline && watch.may_refuse(),
+    }
+}
+
+/// `none` names the type in which values are made: a proof knows then that they have a size.
+pub(crate) fn makers_hold<const N: usize>(
+    alloc: Global,
+    watch: &Watch,
+    none: &SmallBytes<N>,
+) -> bool {
+    let mut hold = arrays_hold(alloc, watch, none);
+    for len in [0, 1, N, N.saturating_add(1), N.saturating_add(9)] {
+        let (want, inline) = (first(&LETTERS, len), len <= N);
+        hold = is_made(
+            watch,
+            SmallBytes::<N>::from_slice(alloc, want),
+            want,
+            inline,
+        ) && hold;
+        let bytes = want.iter().copied();
+        hold = is_made(
+            watch,
+            SmallBytes::<N>::from_iter(alloc, bytes),
+            want,
+            inline,
+        ) && hold;
+        hold = is_made(
+            watch,
+            SmallBytes::<N>::with_capacity(alloc, len),
+            &[],
+            inline,
+        ) && hold;
+        hold = collected_holds(alloc, watch, none, want)
+            && vec_holds(alloc, watch, none, want)
+            && hold;
     }
     hold
+}
+
+fn arrays_hold<const N: usize>(alloc: Global, watch: &Watch, _none: &SmallBytes<N>) -> bool {
+    let long = b"abcdefghijklmnopqrstuvwxyz";
+    is_made(
+        watch,
+        SmallBytes::<N>::from_array(alloc, *b"ab"),
+        b"ab",
+        N >= 2,
+    ) && is_made(
+        watch,
+        SmallBytes::<N>::from_array(alloc, *long),
+        long,
+        false,
+    )
+}
+
+fn collected_holds<const N: usize>(
+    alloc: Global,
+    watch: &Watch,
+    _none: &SmallBytes<N>,
+    want: &[u8],
+) -> bool {
+    match want.iter().copied().collect::<SmallBytes<N>>(alloc) {
+        Ok(bytes) => is_made(watch, Ok(bytes), want, want.len() <= N),
+        Err(_) => is_made::<N>(watch, Err(EcoError::Memory), want, want.len() <= N),
+    }
+}
+
+/// Bytes of a `Vec`, which comes back where it is refused.
+fn vec_holds<const N: usize>(
+    alloc: Global,
+    watch: &Watch,
+    _none: &SmallBytes<N>,
+    want: &[u8],
+) -> bool {
+    let Ok(bytes) = Vec::from_clones(alloc, want) else {
+        return watch.may_refuse();
+    };
+    match SmallBytes::<N>::from_vec(alloc, bytes) {
+        Ok(bytes) => is_made(watch, Ok(bytes), want, want.len() <= N),
+        Err(rejected) => {
+            rejected.value.as_slice() == want
+                && is_made::<N>(watch, Err(rejected.error), want, want.len() <= N)
+        }
+    }
+}
+
+/// What is made of bytes in each state, which stay as they are.
+pub(crate) fn derived_hold<const N: usize>(
+    alloc: Global,
+    watch: &Watch,
+    _none: &SmallBytes<N>,
+) -> bool {
+    let mut hold = true;
+    for state in states(N) {
+        let Ok(bytes) = SmallBytes::<N>::made(alloc, state) else {
+            return state.spilled && watch.may_refuse() && hold;
+        };
+        hold = repeated_hold(watch, &bytes) && hold;
+        hold = match bytes.to_vec() {
+            Ok(copy) => copy.as_slice() == first(&LETTERS, state.len),
+            Err(error) => error == EcoError::Memory && state.len > 0 && watch.may_refuse(),
+        } && hold;
+        hold = into_holds(watch, state, bytes) && hold;
+    }
+    hold
+}
+
+fn repeated_hold<const N: usize>(watch: &Watch, bytes: &SmallBytes<N>) -> bool {
+    let mut hold = true;
+    let mut want = Short::new();
+    for count in 0..3 {
+        let inline = want.len() <= N;
+        hold = match bytes.repeat(count) {
+            Ok(repeated) => {
+                repeated.bytes().is(want.as_slice()) && repeated.is_inline() == inline
+            }
+            Err(error) => error == EcoError::Memory && !inline && watch.may_refuse(),
+        } && hold;
+        want.append(bytes.bytes().as_slice());
+    }
+    hold
+}
+
+/// The vector of spilled bytes is there; inline ones come back where there is none.
+fn into_holds<const N: usize>(watch: &Watch, state: State, bytes: SmallBytes<N>) -> bool {
+    let want = first(&LETTERS, state.len);
+    match bytes.into_eco_vec() {
+        Ok(vector) => vector.as_slice() == want,
+        Err(rejected) => {
+            rejected.error == EcoError::Memory
+                && !state.spilled
+                && state.len > 0
+                && watch.may_refuse()
+                && is_made(watch, Ok(rejected.value), want, true)
+        }
+    }
 }

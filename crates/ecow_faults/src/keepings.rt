@@ -1,243 +1,496 @@
-//! The commands of both keepings, beside plain lists that take each command that was taken.
-use crate::examples::{EXAMPLES, example};
-use ecow_counted::{Counted, Filled};
+//! The commands of both keepings, each in each state of its value. The test keeps the same names
+//! by itself, and compares.
+use crate::model::{Held, Model, Want};
+use crate::orders::{Kind, Order, Verb, command, list_command};
+use crate::steps::{Row, Word, step_of};
+use crate::watch::Watch;
+use crate::{bytes, texts, vectors};
+use ecow_counted::Counted;
 use ecow_list::EcoError;
-use ecow_model::{Command, Items, Outcome, Refusal, VecCommand};
-use ecow_plain::PlainStore;
-use ecow_tests::commands::same;
-use ecow_tests::numbers::Numbers;
-use ecow_tool::Store;
-use std::alloc::Global;
+use ecow_model::{BytesCommand, Command, Outcome, Refusal, TextCommand, VecCommand};
+use ecow_store::SmallStore;
+use std::alloc::{AllocError, Global};
 
-/// The names that `Numbers` gives to commands.
 const NAMES: [u32; 4] = [0, 1, 2, 3];
 
-/// How many names share a block, and what it has room for.
-type Size = (Option<usize>, Option<usize>);
+/// What a keeping says of its blocks.
+type Account = [(Option<usize>, Option<usize>); 4];
 
-/// The sizes at each name, and the number of blocks with both totals.
-type Account = ([Size; 4], (usize, u64, u64));
-
-fn size_of(counted: &Counted<i64>, name: u32) -> Size {
-    (counted.owners(name), counted.capacity(name))
+/// What a run of several commands came to.
+pub(crate) enum Run {
+    /// The test itself lacks memory for the commands.
+    Lacking,
+    /// Why, and how many commands came back.
+    Refused(EcoError, usize),
+    Done(Vec<Outcome<i64>>),
 }
 
-/// A store of named lists.
-pub(crate) trait Keeping {
-    fn carry_out(&mut self, command: VecCommand<i64>) -> Outcome<i64>;
+/// A store of named values.
+pub(crate) trait Keeping: Drop {
+    fn start(alloc: Global) -> Self;
 
-    /// What it tells of its blocks.
-    fn account(&self) -> Option<Account>;
+    /// How many bytes stand inline.
+    fn limit() -> usize;
+
+    /// Carries a command out; `None` where the keeping has no such one.
+    fn carry_out(
+        &mut self,
+        alloc: Global,
+        order: &Order,
+    ) -> Result<Option<Outcome<i64>>, AllocError>;
+
+    fn run_orders(&mut self, alloc: Global, orders: &[Order]) -> Run;
+
+    /// For how many items there is room under a name, and how many names share it, where a keeping
+    /// tells that.
+    fn room(&mut self, name: u32) -> (Option<usize>, Option<usize>);
+
+    /// Whether the room is as the test keeps it.
+    fn has_room(&mut self, name: u32, model: &Model, held: &Held) -> bool;
+
+    fn is_held(&mut self, name: u32, held: &Held) -> bool;
+
+    /// Whether the number of blocks and both totals are as the test keeps them.
+    fn has_totals(&self, model: &Model) -> bool;
 }
 
-impl Keeping for Store<i64> {
-    fn carry_out(&mut self, command: VecCommand<i64>) -> Outcome<i64> {
-        self.step(Command::Vec(command))
+fn commands(alloc: Global, orders: &[Order]) -> Result<Vec<Command<i64>>, AllocError> {
+    let mut commands = Vec::new(alloc);
+    for order in orders {
+        if let Some(command) = command(alloc, order)? {
+            commands.push(command)?;
+        }
+    }
+    Ok(commands)
+}
+
+fn list_commands(alloc: Global, orders: &[Order]) -> Result<Vec<VecCommand<i64>>, AllocError> {
+    let mut commands = Vec::new(alloc);
+    for order in orders {
+        if let Some(command) = list_command(alloc, order)? {
+            commands.push(command)?;
+        }
+    }
+    Ok(commands)
+}
+
+fn count_of(outcome: Outcome<i64>) -> Option<usize> {
+    match outcome {
+        Outcome::Count(count) => Some(count),
+        _ => None,
+    }
+}
+
+fn flag_of(outcome: Outcome<i64>) -> Option<bool> {
+    match outcome {
+        Outcome::Flag(flag) => Some(flag),
+        _ => None,
+    }
+}
+
+impl<const N: usize> Keeping for SmallStore<i64, N> {
+    fn start(alloc: Global) -> Self {
+        SmallStore::new(alloc)
     }
 
-    fn account(&self) -> Option<Account> {
-        None
+    fn limit() -> usize {
+        N
+    }
+
+    fn carry_out(
+        &mut self,
+        alloc: Global,
+        order: &Order,
+    ) -> Result<Option<Outcome<i64>>, AllocError> {
+        match command(alloc, order)? {
+            Some(command) => Ok(Some(self.step(command))),
+            None => Ok(None),
+        }
+    }
+
+    fn run_orders(&mut self, alloc: Global, orders: &[Order]) -> Run {
+        let Ok(commands) = commands(alloc, orders) else {
+            return Run::Lacking;
+        };
+        match self.run(commands) {
+            Ok(outcomes) => Run::Done(outcomes),
+            Err(rejected) => Run::Refused(rejected.error, rejected.value.len()),
+        }
+    }
+
+    fn room(&mut self, name: u32) -> (Option<usize>, Option<usize>) {
+        let list = count_of(self.step(Command::Vec(VecCommand::Capacity { name })));
+        let bytes = count_of(self.step(Command::Bytes(BytesCommand::Capacity { name })));
+        let text = count_of(self.step(Command::Text(TextCommand::Capacity { name })));
+        (list.or(bytes).or(text), None)
+    }
+
+    /// The room over `Rc` is what fits at least, and inline the limit.
+    fn has_room(&mut self, name: u32, model: &Model, held: &Held) -> bool {
+        let (room, _) = self.room(name);
+        let Some(room) = room else {
+            return false;
+        };
+        if held.inline {
+            return room == N;
+        }
+        let unique = flag_of(self.step(Command::Vec(VecCommand::Unique { name })));
+        let is_unique = held.kind != Kind::List || unique == Some(!model.is_shared(held));
+        room >= held.items.len() && is_unique
+    }
+
+    fn is_held(&mut self, name: u32, held: &Held) -> bool {
+        match held.kind {
+            Kind::List => match self.get(name) {
+                Some(items) => held.items.is(items),
+                None => false,
+            },
+            Kind::Bytes => {
+                let inline = flag_of(self.step(Command::Bytes(BytesCommand::IsInline { name })));
+                match self.get_bytes(name) {
+                    Some(bytes) => held.items.is_bytes(bytes) && inline == Some(held.inline),
+                    None => false,
+                }
+            }
+            Kind::Text => {
+                let inline = flag_of(self.step(Command::Text(TextCommand::IsInline { name })));
+                match self.get_str(name) {
+                    Some(text) => {
+                        held.items.is_bytes(text.as_bytes()) && inline == Some(held.inline)
+                    }
+                    None => false,
+                }
+            }
+        }
+    }
+
+    fn has_totals(&self, _model: &Model) -> bool {
+        true
     }
 }
 
 impl Keeping for Counted<i64> {
-    fn carry_out(&mut self, command: VecCommand<i64>) -> Outcome<i64> {
-        self.step(command)
+    fn start(alloc: Global) -> Self {
+        Counted::new(alloc)
     }
 
-    fn account(&self) -> Option<Account> {
-        let sizes = [
-            size_of(self, 0),
-            size_of(self, 1),
-            size_of(self, 2),
-            size_of(self, 3),
-        ];
-        Some((sizes, (self.blocks(), self.copied(), self.moved())))
+    fn limit() -> usize {
+        0
     }
+
+    /// Every second name is given by `share`, which is the command `Clone`.
+    fn carry_out(
+        &mut self,
+        alloc: Global,
+        order: &Order,
+    ) -> Result<Option<Outcome<i64>>, AllocError> {
+        if order.kind != Kind::List {
+            return Ok(None);
+        }
+        if order.verb == Verb::Clone && order.count > 0 {
+            return Ok(Some(self.share(order.name, order.to)));
+        }
+        match list_command(alloc, order)? {
+            Some(command) => Ok(Some(self.step(command))),
+            None => Ok(None),
+        }
+    }
+
+    fn run_orders(&mut self, alloc: Global, orders: &[Order]) -> Run {
+        let Ok(commands) = list_commands(alloc, orders) else {
+            return Run::Lacking;
+        };
+        match self.run(commands) {
+            Ok(outcomes) => Run::Done(outcomes),
+            Err(rejected) => Run::Refused(rejected.error, rejected.value.len()),
+        }
+    }
+
+    fn room(&mut self, name: u32) -> (Option<usize>, Option<usize>) {
+        (self.capacity(name), self.owners(name))
+    }
+
+    fn has_room(&mut self, name: u32, model: &Model, held: &Held) -> bool {
+        let owners = model.owners(held);
+        let owned = if owners > 0 { Some(owners) } else { None };
+        self.room(name) == (Some(held.capacity), owned) && self.is_unique(name) == Some(owners <= 1)
+    }
+
+    fn is_held(&mut self, name: u32, held: &Held) -> bool {
+        match self.get(name) {
+            Some(items) => held.items.is(items),
+            None => false,
+        }
+    }
+
+    fn has_totals(&self, model: &Model) -> bool {
+        self.blocks() == model.blocks()
+            && self.copied() == model.copied
+            && self.moved() == model.moved
+    }
+}
+
+fn account<K: Keeping>(keeping: &mut K) -> Account {
+    [
+        keeping.room(0),
+        keeping.room(1),
+        keeping.room(2),
+        keeping.room(3),
+    ]
+}
+
+/// Whether the keeping has under each name what the test keeps there.
+pub(crate) fn agrees<K: Keeping>(keeping: &mut K, model: &Model) -> bool {
+    let mut hold = keeping.has_totals(model);
+    for name in NAMES {
+        hold = hold
+            && match model.held(name) {
+                Some(held) => {
+                    keeping.is_held(name, &held) && keeping.has_room(name, model, &held)
+                }
+                None => keeping.room(name) == (None, None),
+            };
+    }
+    hold
 }
 
 fn lacks_memory(outcome: &Outcome<i64>) -> bool {
     matches!(outcome, Outcome::Refused(Refusal::Memory))
 }
 
-/// Whether both have the same under a name.
-fn agree<K: Keeping>(keeping: &mut K, plain: &mut PlainStore<i64, 15>, name: u32) -> bool {
-    // At most one request is refused, so the second time there is memory.
-    for _ in 0..2 {
-        let one = keeping.carry_out(VecCommand::Contents { name });
-        let other = plain.step(VecCommand::Contents { name });
-        if !lacks_memory(&one) && !lacks_memory(&other) {
-            return same(&one, &other);
-        }
+/// Whether an outcome is what the command is to answer. `room` is the room under the name.
+pub(crate) fn fits(want: &Want, outcome: &Outcome<i64>, limit: usize, room: Option<usize>) -> bool {
+    match (want, outcome) {
+        (Want::Done, Outcome::Done) => true,
+        (Want::Item(item), Outcome::Element(element)) => *item == *element,
+        (Want::Item(item), Outcome::Byte(byte)) => *item == i64::from(*byte),
+        (Want::Item(item), Outcome::Char(c)) => *item == i64::from(u32::from(*c)),
+        (Want::Items(items), Outcome::Elements(elements)) => items.is(elements.as_slice()),
+        (Want::Items(items), Outcome::Bytes(bytes)) => items.is_bytes(bytes.as_slice()),
+        (Want::Items(items), Outcome::Text(text)) => items.is_bytes(text.as_str().as_bytes()),
+        (Want::Count(count), Outcome::Count(counted)) => *count == *counted,
+        (Want::Room(held), Outcome::Count(counted)) if held.inline => *counted == limit,
+        (Want::Room(_), Outcome::Count(counted)) => Some(*counted) == room,
+        (Want::Flag(flag), Outcome::Flag(said)) => *flag == *said,
+        (Want::Refused(refusal), Outcome::Refused(said)) => *refusal == *said,
+        (Want::Popped(item), popped) => is_popped(*item, popped),
+        _ => false,
     }
-    false
 }
 
-/// Carries a command out on both, on the plain lists only where the other took it; `None` where the
-/// plain lists lack memory.
-fn step_holds<K: Keeping>(
-    keeping: &mut K,
-    plain: &mut PlainStore<i64, 15>,
-    command: VecCommand<i64>,
-    again: VecCommand<i64>,
-) -> Option<bool> {
-    let before = keeping.account();
-    let one = keeping.carry_out(command);
-    if lacks_memory(&one) {
-        return Some(keeping.account() == before);
+fn is_popped(item: Option<i64>, outcome: &Outcome<i64>) -> bool {
+    match outcome {
+        Outcome::Popped(popped) => *popped == item,
+        Outcome::PoppedByte(None) => item.is_none(),
+        Outcome::PoppedByte(Some(byte)) => item == Some(i64::from(*byte)),
+        Outcome::PoppedChar(None) => item.is_none(),
+        Outcome::PoppedChar(Some(c)) => item == Some(i64::from(u32::from(*c))),
+        _ => false,
     }
-    let other = plain.step(again);
-    if lacks_memory(&other) {
-        return None;
-    }
-    Some(same(&one, &other))
 }
 
-/// Carries commands out on both, one by one; `None` where the plain lists lack memory.
-fn steps_hold<K: Keeping>(
+/// Carries a command out, again where memory was refused; says whether all is then as it is to be.
+/// `None` where the test itself lacks memory.
+fn order_holds<K: Keeping>(
+    alloc: Global,
+    watch: &Watch,
     keeping: &mut K,
-    plain: &mut PlainStore<i64, 15>,
-    commands: Vec<VecCommand<i64>>,
-    again: Vec<VecCommand<i64>>,
+    model: &mut Model,
+    order: &Order,
 ) -> Option<bool> {
-    for (command, repeated) in commands.into_iter().zip(again) {
-        if !step_holds(keeping, plain, command, repeated)? {
+    let mut next = *model;
+    let Some(want) = next.carry_out(order) else {
+        return Some(true);
+    };
+    let before = account(keeping);
+    let (room, _) = keeping.room(order.name);
+    let Some(outcome) = keeping.carry_out(alloc, order).ok()? else {
+        return Some(true);
+    };
+    let mut outcome = outcome;
+    if lacks_memory(&outcome) {
+        let is_free = model.is_free(order, room.unwrap_or(0));
+        let is_refused = matches!(&want, Want::Refused(_));
+        if is_free || is_refused || !watch.may_refuse() {
             return Some(false);
         }
-    }
-    for name in NAMES {
-        if !agree(keeping, plain, name) {
+        if account(keeping) != before || !agrees(keeping, model) {
             return Some(false);
         }
+        match keeping.carry_out(alloc, order).ok()? {
+            Some(again) => outcome = again,
+            None => return Some(false),
+        }
     }
-    Some(true)
+    if !matches!(&want, Want::Refused(_)) {
+        *model = next;
+    }
+    Some(fits(&want, &outcome, K::limit(), room) && agrees(keeping, model))
 }
 
-/// Steps both by the same commands, which a seed decides.
-pub(crate) fn commands_hold<K: Keeping + Drop>(alloc: Global, keeping: K) -> bool {
-    let mut keeping = keeping;
-    let (mut numbers, mut again) = (Numbers::new(7), Numbers::new(7));
-    let mut plain: PlainStore<i64, 15> = PlainStore::new(alloc);
-    for _ in 0..30 {
-        let (Ok(commands), Ok(repeated)) = (numbers.commands(alloc, 4), again.commands(alloc, 4))
-        else {
-            return true;
-        };
-        match steps_hold(&mut keeping, &mut plain, commands, repeated) {
+/// Carries commands out, one by one, on a new keeping.
+pub(crate) fn orders_hold<K: Keeping>(alloc: Global, watch: &Watch, orders: &[Order]) -> bool {
+    let mut keeping = K::start(alloc);
+    let mut model = Model::new(K::limit());
+    for order in orders {
+        match order_holds(alloc, watch, &mut keeping, &mut model, order) {
             Some(true) => {}
             Some(false) => return false,
-            None => return true,
+            None => return watch.may_refuse(),
         }
     }
     true
 }
 
-/// Steps a new table and plain lists by the commands of each example.
-pub(crate) fn examples_hold(alloc: Global) -> bool {
-    for number in 0..EXAMPLES {
-        let (Ok(commands), Ok(again)) = (example(alloc, number), example(alloc, number)) else {
-            return true;
-        };
-        let mut counted = Counted::new(alloc);
-        let mut plain: PlainStore<i64, 15> = PlainStore::new(alloc);
-        match steps_hold(&mut counted, &mut plain, commands, again) {
-            Some(true) => {}
-            Some(false) => return false,
-            None => return true,
-        }
-    }
-    true
-}
-
-/// A run whose room for the outcomes is refused hands its commands back, and runs nothing.
-pub(crate) fn runs_hold(alloc: Global) -> bool {
-    let mut store = Store::new(alloc);
-    let Ok(commands) = Numbers::new(1).store_commands(alloc, 3) else {
-        return true;
+/// The commands that make a value in the state with a number.
+fn setup(kind: Kind, state: usize, limit: usize) -> [Order; 3] {
+    let (verb, count) = match (kind, state) {
+        (_, 0) => (Verb::New, 0),
+        (Kind::List, 1) => (Verb::WithCapacity, 3),
+        (Kind::List, 2) => (Verb::WithCapacity, 8),
+        (Kind::List, _) => (Verb::FromItems, 4),
+        (_, 1) => (Verb::FromItems, limit.saturating_sub(1)),
+        (_, 2) => (Verb::FromItems, limit),
+        (_, 3) => (Verb::FromItems, limit.saturating_add(5)),
+        (_, 4) => (Verb::WithCapacity, limit.saturating_add(8)),
+        _ => return spilled(kind, limit),
     };
-    match store.run(commands) {
-        Ok(outcomes) => outcomes.len() == 3,
-        Err(rejected) => rejected.error == EcoError::Memory && rejected.value.len() == 3,
-    }
-}
-
-/// The same of a run in a table of blocks.
-pub(crate) fn counted_runs_hold(alloc: Global) -> bool {
-    let mut counted = Counted::new(alloc);
-    let Ok(commands) = Numbers::new(1).commands(alloc, 3) else {
-        return true;
+    let none = Order::of(kind, Verb::Len, 3, 0);
+    let filled = match (kind, state) {
+        (Kind::List, 2) => extended(kind, 4),
+        (Kind::Bytes | Kind::Text, 4) => extended(kind, limit.min(12)),
+        _ => none,
     };
-    match counted.run(commands) {
-        Ok(outcomes) => outcomes.len() == 3,
-        Err(rejected) => {
-            rejected.error == EcoError::Memory && rejected.value.len() == 3 && counted.blocks() == 0
-        }
-    }
+    [Order::of(kind, verb, 0, count), filled, none]
 }
 
-/// Carries a command out that needs no memory.
-fn is_done(counted: &mut Counted<i64>, command: VecCommand<i64>) -> bool {
-    matches!(&counted.step(command), Outcome::Done)
+fn extended(kind: Kind, count: usize) -> Order {
+    let mut order = Order::of(kind, Verb::Edit(Word::Extend), 0, count);
+    order.start = 0;
+    order
 }
 
-/// Room for four takes four pushes; the fifth is done, or lacks memory. What then needs no memory is
-/// done.
-pub(crate) fn room_holds(alloc: Global) -> bool {
-    let mut counted = Counted::new(alloc);
-    let (name, capacity) = (0, 4);
-    if lacks_memory(&counted.step(VecCommand::WithCapacity { name, capacity })) {
-        return true;
+/// Spilled bytes that would fit inline, or the text of such.
+fn spilled(kind: Kind, limit: usize) -> [Order; 3] {
+    let none = Order::of(kind, Verb::Len, 3, 0);
+    if kind == Kind::Bytes {
+        return [Order::of(kind, Verb::FromEcoVec, 0, limit), none, none];
     }
+    let bytes = Order::of(Kind::Bytes, Verb::FromEcoVec, 3, limit);
+    let mut text = Order::of(Kind::Text, Verb::FromOther, 3, 0);
+    text.to = 0;
+    [bytes, text, Order::of(Kind::Bytes, Verb::Drop, 3, 0)]
+}
+
+/// Makes values in each state, shared or not, and carries one command out on each.
+pub(crate) fn kind_holds<K: Keeping>(alloc: Global, watch: &Watch, kind: Kind) -> bool {
+    let (states, rows) = match kind {
+        Kind::List => (4, vectors::STEPS.as_slice()),
+        Kind::Bytes => (6, bytes::STEPS.as_slice()),
+        Kind::Text => (6, texts::STEPS.as_slice()),
+    };
     let mut hold = true;
-    for value in 0..4 {
-        hold = hold && is_done(&mut counted, VecCommand::Push { name, value });
-    }
-    let fifth = counted.step(VecCommand::Push { name, value: 4 });
-    let lacks = lacks_memory(&fifth) && size_of(&counted, name) == (Some(1), Some(4));
-    hold && (lacks || matches!(&fifth, Outcome::Done)) && cuts_hold(alloc, &mut counted)
-}
-
-/// Changes of a list that has its block alone, and its room.
-fn cuts_hold(alloc: Global, counted: &mut Counted<i64>) -> bool {
-    let name = 0;
-    is_done(
-        counted,
-        VecCommand::Reserve {
-            name,
-            additional: 0,
-        },
-    ) && is_done(
-        counted,
-        VecCommand::Write {
-            name,
-            index: 0,
-            value: 9,
-        },
-    ) && is_done(counted, VecCommand::Truncate { name, target: 3 })
-        && matches!(
-            &counted.step(VecCommand::Pop { name }),
-            Outcome::Popped(Some(2))
-        )
-        && match Items::from_slice(alloc, &[true, false]) {
-            Ok(marks) => is_done(counted, VecCommand::Retain { name, marks }),
-            Err(_) => true,
+    for state in 0..states {
+        for shared in [false, true] {
+            // An inline value shares nothing.
+            if shared && kind != Kind::List && state < 3 {
+                continue;
+            }
+            hold = state_holds::<K>(alloc, watch, (kind, state, shared), rows) && hold;
         }
-        && is_done(counted, VecCommand::Clear { name })
+    }
+    hold
 }
 
-/// A list is filled up to the item that is refused.
-pub(crate) fn filling_holds(alloc: Global) -> bool {
-    let Ok(items) = Vec::from_clones(alloc, [1, 2, 3, 4, 5, 6, 7, 8, 9].as_slice()) else {
-        return true;
-    };
-    let mut counted = Counted::new(alloc);
-    let Filled { accepted, refusal } = counted.fill(0, items);
-    let is_filled = match &counted.step(VecCommand::Len { name: 0 }) {
-        Outcome::Count(len) => *len == accepted,
-        _ => accepted == 0,
-    };
-    match refusal {
-        None => is_filled && accepted == 9,
-        Some(refusal) => is_filled && accepted < 9 && refusal == Refusal::Memory,
+fn state_holds<K: Keeping>(
+    alloc: Global,
+    watch: &Watch,
+    made: (Kind, usize, bool),
+    rows: &[Row],
+) -> bool {
+    let (kind, _, _) = made;
+    let mut hold = true;
+    for row in rows {
+        if is_command(kind, row) {
+            let mut order = Order::edit(kind, step_of(row));
+            if row.0 == Word::Retain {
+                order.count = 4;
+            }
+            hold = case_holds::<K>(alloc, watch, made, order) && hold;
+        }
     }
+    for (verb, count) in OTHERS {
+        hold = case_holds::<K>(alloc, watch, made, Order::of(kind, verb, 0, count)) && hold;
+    }
+    hold
+}
+
+/// The commands that don't change a value, and those that make another of it.
+const OTHERS: [(Verb, usize); 17] = [
+    (Verb::Read, 0),
+    (Verb::Len, 0),
+    (Verb::Contents, 0),
+    (Verb::Capacity, 0),
+    (Verb::Unique, 0),
+    (Verb::IsInline, 0),
+    (Verb::Clone, 0),
+    (Verb::Clone, 1),
+    (Verb::Drop, 0),
+    (Verb::New, 0),
+    (Verb::Repeat, 0),
+    (Verb::Repeat, 1),
+    (Verb::Repeat, 2),
+    (Verb::Replace, 9),
+    (Verb::ToUpper, 0),
+    (Verb::ToLower, 0),
+    (Verb::FromOther, 0),
+];
+
+/// Whether a row says a command; of those that bring several items the shortest and the longest
+/// do.
+fn is_command(kind: Kind, row: &Row) -> bool {
+    let (word, _, _, count) = *row;
+    match word {
+        Word::MakeMut | Word::ExtendEach | Word::ExtendPieces | Word::Put => false,
+        Word::Reserve | Word::InsertSlice => kind == Kind::List || count != 2,
+        _ => true,
+    }
+}
+
+/// Makes a value in a state, and carries a command out on it.
+fn case_holds<K: Keeping>(
+    alloc: Global,
+    watch: &Watch,
+    made: (Kind, usize, bool),
+    order: Order,
+) -> bool {
+    let (kind, state, shared) = made;
+    let [first, second, third] = setup(kind, state, K::limit());
+    let mut twin = Order::of(kind, Verb::Len, 3, 0);
+    if shared {
+        twin = Order::of(kind, Verb::Clone, 0, state % 2);
+        twin.to = 1;
+    }
+    orders_hold::<K>(alloc, watch, &[first, second, third, twin, order])
+}
+
+/// The makers, at lengths about the inline limit.
+pub(crate) fn makers_hold<K: Keeping>(alloc: Global, watch: &Watch, kind: Kind) -> bool {
+    let mut hold = true;
+    let limit = K::limit();
+    for verb in [
+        Verb::New,
+        Verb::TryInline,
+        Verb::WithCapacity,
+        Verb::FromItems,
+        Verb::FromElem,
+        Verb::FromEcoVec,
+        Verb::FromChar,
+    ] {
+        for count in [0, limit, limit.saturating_add(1), limit.saturating_add(7)] {
+            let order = Order::of(kind, verb, 0, count);
+            hold = orders_hold::<K>(alloc, watch, &[order]) && hold;
+        }
+    }
+    hold
 }

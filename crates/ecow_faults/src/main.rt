@@ -1,52 +1,169 @@
-//! What is left where a request for memory is refused. Run with one request refused in turn
-//! (`make faults`), the program must print the same each time: every call either does its work, or
-//! hands its value back and leaves all as it was.
+//! What is left where a request for memory is refused. Each call does its work, or hands its
+//! value back and leaves all as it was. With the argument `strict` no call may say that memory is
+//! wanting, since none is refused then. `make test` runs the program so, and then refuses its
+//! requests in turn.
 #![tactic(auto)]
 
 mod bytes;
-mod examples;
+mod elements;
 mod keepings;
+mod makers;
+mod model;
+mod orders;
+mod prints;
+mod scripts;
+mod seeds;
+mod short;
+mod small;
+mod steps;
 mod texts;
 mod vectors;
+mod watch;
 
+use crate::elements::Named;
+use crate::keepings::Keeping;
+use crate::orders::Kind;
+use crate::watch::Watch;
+use ecow_bytes::SmallBytes;
 use ecow_counted::Counted;
-use ecow_tool::Store;
-use std::io;
+use ecow_store::SmallStore;
+use ecow_text::SmallText;
+use std::alloc::Global;
+use std::env::Env;
+use std::io::Read;
+use std::{env, io};
+
+/// Whether the run is strict, as its one argument says.
+fn is_strict(rt: &(impl Env + AllocGlobal)) -> bool {
+    let Ok(words) = env::args(rt) else {
+        return false;
+    };
+    for word in words {
+        if word.as_str() == "strict" {
+            return true;
+        }
+    }
+    false
+}
+
+/// `none` names the type of the values: a proof knows then that they have a size.
+fn bytes_hold<const N: usize>(alloc: Global, watch: &Watch, none: &SmallBytes<N>) -> bool {
+    small::calls_hold::<SmallBytes<N>>(alloc, watch, &bytes::STEPS)
+        && bytes::makers_hold(alloc, watch, none)
+        && bytes::derived_hold(alloc, watch, none)
+}
+
+fn texts_hold<const N: usize>(alloc: Global, watch: &Watch, none: &SmallText<N>) -> bool {
+    small::calls_hold::<SmallText<N>>(alloc, watch, &texts::STEPS)
+        && texts::makers_hold(alloc, watch, none)
+        && texts::derived_hold(alloc, watch, none)
+}
+
+fn store_holds<const N: usize>(alloc: Global, watch: &Watch, _none: &SmallStore<i64, N>) -> bool {
+    keepings::kind_holds::<SmallStore<i64, N>>(alloc, watch, Kind::Bytes)
+        && keepings::kind_holds::<SmallStore<i64, N>>(alloc, watch, Kind::Text)
+        && keepings::makers_hold::<SmallStore<i64, N>>(alloc, watch, Kind::Bytes)
+        && keepings::makers_hold::<SmallStore<i64, N>>(alloc, watch, Kind::Text)
+}
+
+fn lists_hold<K: Keeping>(alloc: Global, watch: &Watch) -> bool {
+    keepings::kind_holds::<K>(alloc, watch, Kind::List)
+        && keepings::makers_hold::<K>(alloc, watch, Kind::List)
+}
+
+/// The parts of the program, each of which holds or is wrong.
+const PARTS: [&str; 24] = [
+    "vectors of numbers",
+    "vectors of names",
+    "bytes, none inline",
+    "bytes, 3 inline",
+    "bytes, 15 inline",
+    "bytes, 23 inline",
+    "texts, none inline",
+    "texts, 3 inline",
+    "texts, 15 inline",
+    "texts, 23 inline",
+    "printed texts",
+    "lists of a store",
+    "counted lists",
+    "a store, none inline",
+    "a store, 3 inline",
+    "a store, 15 inline",
+    "a store, 23 inline",
+    "a store by a seed, 3 inline",
+    "a store by a seed, 15 inline",
+    "counted lists by a seed",
+    "runs",
+    "filled lists",
+    "scripts",
+    "makers of vectors",
+];
+
+fn is_right(part: usize, alloc: Global, watch: &Watch) -> bool {
+    let holds = match part {
+        0 => vectors::calls_hold::<i64>(alloc, watch),
+        1 => vectors::calls_hold::<Named>(alloc, watch),
+        2 => bytes_hold::<0>(alloc, watch, &SmallBytes::new(alloc)),
+        3 => bytes_hold::<3>(alloc, watch, &SmallBytes::new(alloc)),
+        4 => bytes_hold::<15>(alloc, watch, &SmallBytes::new(alloc)),
+        5 => bytes_hold::<23>(alloc, watch, &SmallBytes::new(alloc)),
+        6 => texts_hold::<0>(alloc, watch, &SmallText::new(alloc)),
+        7 => texts_hold::<3>(alloc, watch, &SmallText::new(alloc)),
+        8 => texts_hold::<15>(alloc, watch, &SmallText::new(alloc)),
+        9 => texts_hold::<23>(alloc, watch, &SmallText::new(alloc)),
+        10 => prints::printing_holds(alloc, watch),
+        23 => makers::makers_hold::<i64>(alloc, watch)
+            && makers::makers_hold::<Named>(alloc, watch),
+        _ => is_right_keeping(part, alloc, watch),
+    };
+    holds && watch.is_kept()
+}
+
+fn is_right_keeping(part: usize, alloc: Global, watch: &Watch) -> bool {
+    match part {
+        11 => lists_hold::<SmallStore<i64, 15>>(alloc, watch),
+        12 => lists_hold::<Counted<i64>>(alloc, watch),
+        13 => store_holds::<0>(alloc, watch, &SmallStore::new(alloc)),
+        14 => store_holds::<3>(alloc, watch, &SmallStore::new(alloc)),
+        15 => store_holds::<15>(alloc, watch, &SmallStore::new(alloc)),
+        16 => store_holds::<23>(alloc, watch, &SmallStore::new(alloc)),
+        17 => seeds::commands_hold::<SmallStore<i64, 3>>(alloc, watch, 3),
+        18 => seeds::commands_hold::<SmallStore<i64, 15>>(alloc, watch, 3),
+        19 => seeds::commands_hold::<Counted<i64>>(alloc, watch, 1),
+        20 => {
+            seeds::runs_hold::<SmallStore<i64, 15>>(alloc, watch)
+                && seeds::runs_hold::<Counted<i64>>(alloc, watch)
+        }
+        21 => seeds::filling_holds(alloc, watch),
+        _ => scripts::store_holds(alloc, watch) && scripts::counted_holds(alloc, watch),
+    }
+}
+
+/// The one part whose number stands on standard input, counted from 1; all where none does.
+fn wanted_part(rt: &HostRuntime) -> usize {
+    let mut word = [0u8; 4];
+    let mut number = 0usize;
+    if rt.reader().read(&mut word).is_ok() {
+        for byte in word {
+            if byte.is_ascii_digit() {
+                number = number
+                    .wrapping_mul(10)
+                    .wrapping_add(usize::from(byte.wrapping_sub(48)));
+            }
+        }
+    }
+    number
+}
 
 fn main(rt: HostRuntime) -> io::Result<()> {
-    let alloc = rt.alloc();
-    for (name, holds) in [
-        ("edits", vectors::edits_hold(alloc)),
-        ("copies", vectors::copies_hold(alloc)),
-        ("ranges", vectors::ranges_hold(alloc)),
-        ("conversions", vectors::conversions_hold(alloc)),
-        ("growth", vectors::growth_holds(alloc)),
-        ("extensions", vectors::extensions_hold(alloc)),
-        ("makers", vectors::makers_hold(alloc)),
-        ("edits of bytes", bytes::edits_hold(alloc)),
-        ("makers of bytes", bytes::makers_hold(alloc)),
-        ("conversions of bytes", bytes::conversions_hold(alloc)),
-        ("edits of texts", texts::edits_hold(alloc)),
-        ("makers of texts", texts::makers_hold(alloc)),
-        ("texts of texts", texts::derived_texts_hold(alloc)),
-        ("conversions of texts", texts::conversions_hold(alloc)),
-        ("texts handed back", texts::handed_back(alloc)),
-        ("printed texts", texts::printing_holds(alloc)),
-        (
-            "commands",
-            keepings::commands_hold(alloc, Store::new(alloc)),
-        ),
-        ("runs", keepings::runs_hold(alloc)),
-        (
-            "counted commands",
-            keepings::commands_hold(alloc, Counted::new(alloc)),
-        ),
-        ("counted examples", keepings::examples_hold(alloc)),
-        ("counted runs", keepings::counted_runs_hold(alloc)),
-        ("counted room", keepings::room_holds(alloc)),
-        ("counted filling", keepings::filling_holds(alloc)),
-    ] {
-        if holds {
+    let strict = is_strict(&rt);
+    let wanted = wanted_part(&rt);
+    for (part, name) in PARTS.iter().enumerate() {
+        if wanted > 0 && part.wrapping_add(1) != wanted {
+            continue;
+        }
+        let watch = Watch::new(strict);
+        if is_right(part, rt.alloc(), &watch) {
             println!(rt; "{name}: as before or done")?;
         } else {
             println!(rt; "{name}: wrong")?;

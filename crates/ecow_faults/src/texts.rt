@@ -1,324 +1,522 @@
-//! The calls of `EcoString`.
-use crate::bytes::for_a_copy;
-use ecow_bytes::EcoBytes;
+//! The calls of `SmallText`.
+use crate::short::Short;
+use crate::small::{Call, Small, State, states};
+use crate::steps::{Change, Row, Word};
+use crate::watch::Watch;
+use ecow_bytes::SmallBytes;
 use ecow_list::{EcoError, EcoVec};
-use ecow_text::{EcoString, ToEcoString, eco_format};
+use ecow_text::SmallText;
 use std::alloc::Global;
 use std::fmt::Write;
 
-/// As many bytes as stand inline.
-const LETTERS: &str = "abcdefghijk😀";
+const LETTERS: &str = "abécdefghijklmnopqrstuvwxyz{|}~{|}~{|}~";
 
-/// The letters, inline or spilled.
-fn letters(alloc: Global, spilled: bool) -> Result<EcoString, EcoError> {
-    if !spilled {
-        return EcoString::from_str(alloc, LETTERS);
-    }
-    let bytes = EcoVec::from_slice(alloc, LETTERS.as_bytes())?;
-    match EcoString::try_from(bytes) {
-        Ok(text) => Ok(text),
-        Err(_) => Err(EcoError::Capacity),
+const FEW: &str = "abcd";
+
+const DOTS: &str = "............";
+
+pub(crate) const STEPS: [Row; 39] = [
+    (Word::Push, 0, 0, 1),
+    (Word::Push, 0, 0, 4),
+    (Word::Insert, 0, 0, 1),
+    (Word::Insert, 2, 2, 1),
+    (Word::Insert, 2, 2, 4),
+    (Word::Pop, 0, 0, 0),
+    (Word::Remove, 0, 1, 0),
+    (Word::Remove, 2, 4, 0),
+    (Word::Truncate, 0, 0, 0),
+    (Word::Truncate, 2, 0, 0),
+    (Word::Truncate, 4, 0, 0),
+    (Word::Truncate, 100, 0, 0),
+    (Word::Clear, 0, 0, 0),
+    (Word::Shrink, 0, 0, 0),
+    (Word::Upper, 0, 0, 0),
+    (Word::Lower, 0, 0, 0),
+    (Word::Reserve, 0, 0, 0),
+    (Word::Reserve, 0, 0, 1),
+    (Word::Reserve, 0, 0, 2),
+    (Word::Reserve, 0, 0, 20),
+    (Word::Extend, 0, 0, 0),
+    (Word::Extend, 0, 0, 1),
+    (Word::Extend, 0, 0, 4),
+    (Word::Extend, 0, 0, 12),
+    (Word::ExtendEach, 0, 0, 0),
+    (Word::ExtendEach, 0, 0, 1),
+    (Word::ExtendEach, 0, 0, 12),
+    (Word::ExtendPieces, 0, 0, 0),
+    (Word::ExtendPieces, 0, 0, 2),
+    (Word::ExtendPieces, 0, 0, 12),
+    (Word::Put, 0, 0, 0),
+    (Word::Put, 0, 0, 1),
+    (Word::Put, 0, 0, 12),
+    (Word::InsertSlice, 0, 0, 0),
+    (Word::InsertSlice, 0, 0, 1),
+    (Word::InsertSlice, 2, 2, 1),
+    (Word::InsertSlice, 2, 2, 4),
+    (Word::InsertSlice, 0, 0, 12),
+    (Word::InsertSlice, 2, 2, 12),
+];
+
+/// So many bytes of letters; from five on one letter has two.
+pub(crate) fn letters(len: usize) -> &'static str {
+    let letters = if len < 5 { FEW } else { LETTERS };
+    match letters.get(..len) {
+        Some(text) => text,
+        None => "",
     }
 }
 
-/// Makes the letters, spilled or not, and a clone of them or none, and calls something on the letters.
-/// Whether they then are what they are to be, or as they were where the call was refused, mode
-/// included, and the clone is as it was.
-fn holds<F: FnOnce(&mut EcoString) -> Result<(), EcoError> + Drop>(
-    alloc: Global,
-    kept: (bool, bool),
-    after: &str,
-    inline: bool,
-    call: F,
-) -> bool
-    requires { F.IsAlwaysCallable call }
-{
-    let (spilled, shared) = kept;
-    let Ok(mut text) = letters(alloc, spilled) else {
-        return true;
-    };
-    let mut clone = EcoString::new(alloc);
-    if shared {
-        match text.clone() {
-            Ok(copy) => clone = copy,
-            Err(_) => return false,
+/// So many bytes: four are one character.
+pub(crate) fn added(count: usize) -> &'static str {
+    if count == 4 {
+        return "😀";
+    }
+    match DOTS.get(..count) {
+        Some(text) => text,
+        None => "",
+    }
+}
+
+impl<const N: usize> Small for SmallText<N> {
+    fn limit() -> usize {
+        N
+    }
+
+    fn letters(len: usize) -> Short {
+        Short::of_bytes(letters(len).as_bytes())
+    }
+
+    fn added(count: usize) -> Short {
+        Short::of_bytes(added(count).as_bytes())
+    }
+
+    fn made(alloc: Global, state: State) -> Result<Self, EcoError> {
+        let text = letters(state.len);
+        if !state.spilled {
+            return SmallText::from_str(alloc, text);
+        }
+        let mut vector = EcoVec::with_capacity(alloc, state.room)?;
+        vector.extend_from_slice(text.as_bytes())?;
+        match SmallText::try_from(vector) {
+            Ok(text) => Ok(text),
+            Err(_) => Err(EcoError::Capacity),
         }
     }
-    let (wanted, mode) = match call(&mut text) {
-        Ok(()) => (after, inline),
-        Err(EcoError::Memory) => (LETTERS, !spilled),
-        Err(EcoError::Capacity) => return false,
+
+    fn call(&mut self, call: &Call) -> Result<bool, EcoError> {
+        match call.step.word {
+            Word::Push | Word::Insert => one(self, call),
+            Word::Pop | Word::Remove => take(self, call),
+            Word::Extend | Word::Put | Word::InsertSlice => several(self, call),
+            Word::ExtendEach | Word::ExtendPieces => pieces(self, call),
+            _ => shorten(self, call),
+        }
+    }
+
+    fn bytes(&self) -> Short {
+        Short::of_bytes(self.as_str().as_bytes())
+    }
+
+    fn is_inline(&self) -> bool {
+        self.is_inline()
+    }
+
+    fn capacity(&self) -> usize {
+        self.capacity()
+    }
+
+    fn spilled(self) -> Option<EcoVec<u8>> {
+        SmallBytes::<N>::from(self).spilled()
+    }
+}
+
+/// A call that is handed a character.
+fn one<const N: usize>(text: &mut SmallText<N>, call: &Call) -> Result<bool, EcoError> {
+    let start = call.step.start;
+    let c = if call.change.count == 4 { '😀' } else { '.' };
+    match call.step.word {
+        Word::Push => text.push(c)?,
+        Word::Insert if text.is_char_boundary(start) => text.insert(start, c)?,
+        _ => return Ok(false),
+    }
+    Ok(true)
+}
+
+/// Whether a character is that whose bytes were to be taken.
+fn is_taken(c: char, call: &Call) -> bool {
+    let width = call.change.end.saturating_sub(call.change.start);
+    let Some(rest) = letters(call.state.len).get(call.change.start..) else {
+        return false;
     };
-    let is_kept = clone.as_str() == LETTERS && clone.is_inline() != spilled;
-    text.as_str() == wanted && text.is_inline() == mode && (!shared || is_kept)
+    c.len_utf8() == width && rest.chars().next() == Some(c)
 }
 
-fn insert(text: &mut EcoString, index: usize, c: char) -> Result<(), EcoError> {
-    if !text.is_char_boundary(index) {
-        return Err(EcoError::Capacity);
-    }
-    text.insert(index, c)
-}
-
-fn insert_str(text: &mut EcoString, index: usize, added: &str) -> Result<(), EcoError> {
-    if !text.is_char_boundary(index) {
-        return Err(EcoError::Capacity);
-    }
-    text.insert_str(index, added)
-}
-
-fn remove(text: &mut EcoString, index: usize, want: char) -> Result<(), EcoError> {
-    if index >= text.len() || !text.is_char_boundary(index) {
-        return Err(EcoError::Capacity);
-    }
-    if text.remove(index)? == want {
-        Ok(())
-    } else {
-        Err(EcoError::Capacity)
+/// A call that answers what it takes out.
+fn take<const N: usize>(text: &mut SmallText<N>, call: &Call) -> Result<bool, EcoError> {
+    let start = call.step.start;
+    match call.step.word {
+        Word::Pop => match text.pop()? {
+            Some(c) => Ok(is_taken(c, call)),
+            None => Ok(call.state.len == 0),
+        },
+        _ if start < text.len() && text.is_char_boundary(start) => {
+            let c = text.remove(start)?;
+            Ok(is_taken(c, call))
+        }
+        _ => Ok(false),
     }
 }
 
-fn truncate(text: &mut EcoString, target: usize) -> Result<(), EcoError> {
-    if !text.is_char_boundary(target) {
-        return Err(EcoError::Capacity);
+fn several<const N: usize>(text: &mut SmallText<N>, call: &Call) -> Result<bool, EcoError> {
+    let start = call.step.start;
+    let given = added(call.change.count);
+    match call.step.word {
+        Word::Extend => text.push_str(given)?,
+        Word::InsertSlice if text.is_char_boundary(start) => text.insert_str(start, given)?,
+        Word::Put => {
+            if text.write_str(given).is_err() {
+                return Err(EcoError::Memory);
+            }
+        }
+        _ => return Ok(false),
     }
-    text.truncate(target)
+    Ok(true)
 }
 
-fn write(text: &mut EcoString, added: &str) -> Result<(), EcoError> {
-    match text.write_str(added) {
-        Ok(()) => Ok(()),
-        Err(_) => Err(EcoError::Memory),
+fn pieces<const N: usize>(text: &mut SmallText<N>, call: &Call) -> Result<bool, EcoError> {
+    match call.step.word {
+        Word::ExtendEach => text.extend_chars(added(call.change.count).chars())?,
+        _ => {
+            let half = added(call.change.count / 2);
+            text.extend_strs([half, "", half])?
+        }
     }
+    Ok(true)
 }
 
-fn shrink(text: &mut EcoString) -> Result<(), EcoError> {
-    text.shrink_to_fit();
-    Ok(())
-}
-
-/// Inline letters spill, and spilled ones get a larger block.
-fn additions_hold(alloc: Global, kept: (bool, bool)) -> bool {
-    let more = "abcdefghijk😀!";
-    holds(alloc, kept, more, false, |text| text.push('!'))
-        && holds(alloc, kept, more, false, |text| text.push_str("!"))
-        && holds(
-            alloc,
-            kept,
-            more,
-            false,
-            |text| text.extend_chars("!".chars()),
-        )
-        && holds(alloc, kept, more, false, |text| text.extend_strs(["", "!"]))
-        && holds(alloc, kept, more, false, |text| write(text, "!"))
-        && holds(
-            alloc,
-            kept,
-            "abcédefghijk😀",
-            false,
-            |text| insert(text, 3, 'é'),
-        )
-        && holds(
-            alloc,
-            kept,
-            "..abcdefghijk😀",
-            false,
-            |text| insert_str(text, 0, ".."),
-        )
-        && holds(alloc, kept, LETTERS, false, |text| text.reserve(1))
-}
-
-/// Letters stay in the mode that they have.
-fn changes_hold(alloc: Global, kept: (bool, bool)) -> bool {
-    let inline = !kept.0;
-    holds(
-        alloc,
-        kept,
-        "abcdefghijk",
-        inline,
-        |text| for_a_copy(kept, text.pop().map(|_| ())),
-    ) && holds(
-        alloc,
-        kept,
-        "ab",
-        inline,
-        |text| for_a_copy(kept, truncate(text, 2)),
-    ) && holds(
-        alloc,
-        kept,
-        "bcdefghijk😀",
-        inline,
-        |text| for_a_copy(kept, remove(text, 0, 'a')),
-    ) && holds(
-        alloc,
-        kept,
-        "ABCDEFGHIJK😀",
-        inline,
-        |text| for_a_copy(kept, text.make_ascii_uppercase()),
-    ) && holds(
-        alloc,
-        kept,
-        LETTERS,
-        inline,
-        |text| for_a_copy(kept, text.make_ascii_lowercase()),
-    ) && holds(
-        alloc,
-        kept,
-        LETTERS,
-        inline,
-        |text| for_a_copy(kept, text.reserve(0)),
-    ) && holds(
-        alloc,
-        kept,
-        LETTERS,
-        true,
-        |text| for_a_copy(kept, shrink(text)),
-    )
-}
-
-pub(crate) fn edits_hold(alloc: Global) -> bool {
-    let mut hold = true;
-    for kept in [(false, false), (false, true), (true, false), (true, true)] {
-        hold = hold && additions_hold(alloc, kept) && changes_hold(alloc, kept);
+fn shorten<const N: usize>(text: &mut SmallText<N>, call: &Call) -> Result<bool, EcoError> {
+    match call.step.word {
+        Word::Truncate if text.is_char_boundary(call.step.start) => {
+            text.truncate(call.step.start)?
+        }
+        Word::Truncate if call.step.start > text.len() => text.truncate(call.step.start)?,
+        Word::Clear => text.clear(),
+        Word::Shrink => text.shrink_to_fit(),
+        Word::Reserve => text.reserve(call.step.count)?,
+        Word::Upper => text.make_ascii_uppercase()?,
+        Word::Lower => text.make_ascii_lowercase()?,
+        _ => return Ok(false),
     }
-    hold
+    Ok(true)
 }
 
 /// Whether a text was made as it is to be, or for want of memory not at all.
-fn is_made(made: Result<EcoString, EcoError>, want: &str, inline: bool) -> bool {
+pub(crate) fn is_made<const N: usize>(
+    watch: &Watch,
+    made: Result<SmallText<N>, EcoError>,
+    want: &[i64],
+    inline: bool,
+) -> bool {
     match made {
-        Ok(text) => text.as_str() == want && text.is_inline() == inline,
-        Err(error) => error == EcoError::Memory && !inline,
+        Ok(text) => {
+            text.bytes().is(want) && text.is_inline() == inline && (!inline || text.capacity() == N)
+        }
+        Err(error) => error == EcoError::Memory && !inline && watch.may_refuse(),
     }
 }
 
-pub(crate) fn makers_hold(alloc: Global) -> bool {
-    let more = "abcdefghijklmnop";
-    is_made(EcoString::from_str(alloc, LETTERS), LETTERS, true)
-        && is_made(EcoString::from_str(alloc, more), more, false)
-        && is_made(EcoString::from_chars(alloc, more.chars()), more, false)
-        && is_made(EcoString::from_strs(alloc, [more, ""]), more, false)
-        && is_made(EcoString::with_capacity(alloc, 16), "", false)
-        && is_made(EcoString::from_char(alloc, '😀'), "😀", true)
-        && joined_hold(alloc)
+/// `none` names the type in which values are made: a proof knows then that they have a size.
+pub(crate) fn makers_hold<const N: usize>(
+    alloc: Global,
+    watch: &Watch,
+    none: &SmallText<N>,
+) -> bool {
+    let mut hold = chars_hold(alloc, watch, none);
+    for len in [0, 1, N, N.saturating_add(1), N.saturating_add(9)] {
+        let (text, inline) = (letters(len), text_fits(len, N));
+        let bytes = SmallText::<N>::letters(len);
+        let want = bytes.as_slice();
+        hold = is_made(watch, SmallText::<N>::from_str(alloc, text), want, inline) && hold;
+        hold = is_made(
+            watch,
+            SmallText::<N>::from_chars(alloc, text.chars()),
+            want,
+            inline,
+        ) && hold;
+        hold = is_made(
+            watch,
+            SmallText::<N>::with_capacity(alloc, len),
+            &[],
+            len <= N,
+        ) && hold;
+        hold = strs_hold(alloc, watch, none, text)
+            && string_holds(alloc, watch, none, text)
+            && hold;
+        hold = joined_holds(alloc, watch, none, text) && hold;
+    }
+    hold
+}
+
+fn text_fits(len: usize, limit: usize) -> bool {
+    letters(len).len() <= limit
+}
+
+fn chars_hold<const N: usize>(alloc: Global, watch: &Watch, _none: &SmallText<N>) -> bool {
+    let four = SmallText::<N>::added(4);
+    is_made(watch, SmallText::<N>::from_char(alloc, 'a'), &[97], N > 0)
+        && is_made(
+            watch,
+            SmallText::<N>::from_char(alloc, '😀'),
+            four.as_slice(),
+            N > 3,
+        )
+}
+
+fn strs_hold<const N: usize>(
+    alloc: Global,
+    watch: &Watch,
+    _none: &SmallText<N>,
+    text: &str,
+) -> bool {
+    let bytes = Short::of_bytes(text.as_bytes());
+    let (want, inline) = (bytes.as_slice(), text.len() <= N);
+    let made = SmallText::<N>::from_strs(alloc, ["", text]);
+    let collected = match text.chars().collect::<SmallText<N>>(alloc) {
+        Ok(text) => Ok(text),
+        Err(_) => Err(EcoError::Memory),
+    };
+    is_made(watch, made, want, inline) && is_made(watch, collected, want, inline)
+}
+
+/// A text of a `String`, which comes back where it is refused.
+fn string_holds<const N: usize>(
+    alloc: Global,
+    watch: &Watch,
+    _none: &SmallText<N>,
+    want: &str,
+) -> bool {
+    let Ok(string) = String::from_str(alloc, want) else {
+        return watch.may_refuse();
+    };
+    let bytes = Short::of_bytes(want.as_bytes());
+    let inline = want.len() <= N;
+    match SmallText::<N>::from_string(alloc, string) {
+        Ok(text) => is_made(watch, Ok(text), bytes.as_slice(), inline),
+        Err(rejected) => {
+            rejected.value.as_str() == want
+                && is_made::<N>(watch, Err(rejected.error), bytes.as_slice(), inline)
+        }
+    }
 }
 
 /// The text of two texts.
-fn joined_hold(alloc: Global) -> bool {
-    let (Ok(first), Ok(second)) = (letters(alloc, true), letters(alloc, false)) else {
-        return true;
-    };
-    let joined = EcoString::from_eco_strings(alloc, [first, second]);
-    is_made(joined, "abcdefghijk😀abcdefghijk😀", false)
-}
-
-/// What is made of the letters, which stay as they are.
-fn derived_hold(text: &EcoString, inline: bool) -> bool {
-    is_made(text.repeat(2), "abcdefghijk😀abcdefghijk😀", false)
-        && is_made(text.replace("b", "bb"), "abbcdefghijk😀", false)
-        && is_made(text.replace("😀", ""), "abcdefghijk", true)
-        && is_made(text.to_ascii_uppercase(), "ABCDEFGHIJK😀", inline)
-        && text.as_str() == LETTERS
-        && text.is_inline() == inline
-}
-
-/// Unicode case asks for a text of std's, also where the result is inline.
-fn case_holds(text: &EcoString) -> bool {
-    is_cased(text.to_uppercase(), "ABCDEFGHIJK😀") && is_cased(text.to_lowercase(), LETTERS)
-}
-
-fn is_cased(cased: Result<EcoString, EcoError>, want: &str) -> bool {
-    match cased {
-        Ok(text) => text.as_str() == want && text.is_inline(),
-        Err(error) => error == EcoError::Memory,
-    }
-}
-
-pub(crate) fn derived_texts_hold(alloc: Global) -> bool {
-    let mut hold = true;
-    for spilled in [false, true] {
-        let Ok(text) = letters(alloc, spilled) else {
-            return hold;
+fn joined_holds<const N: usize>(
+    alloc: Global,
+    watch: &Watch,
+    _none: &SmallText<N>,
+    text: &str,
+) -> bool {
+    let mut parts = Vec::new(alloc);
+    for part in [text, "!"] {
+        let Ok(part) = SmallText::<N>::from_str(alloc, part) else {
+            return watch.may_refuse();
         };
-        hold = hold && derived_hold(&text, !spilled) && case_holds(&text);
+        if parts.push(part).is_err() {
+            return watch.may_refuse();
+        }
+    }
+    let mut want = Short::of_bytes(text.as_bytes());
+    want.push(33);
+    let made = SmallText::<N>::from_eco_strings(alloc, parts);
+    is_made(watch, made, want.as_slice(), want.len() <= N)
+}
+
+/// What is made of a text in each state, which stays as it is.
+pub(crate) fn derived_hold<const N: usize>(
+    alloc: Global,
+    watch: &Watch,
+    none: &SmallText<N>,
+) -> bool {
+    let mut hold = true;
+    for state in states(N) {
+        let Ok(text) = SmallText::<N>::made(alloc, state) else {
+            return state.spilled && watch.may_refuse() && hold;
+        };
+        hold = repeated_hold(watch, &text) && replaced_hold(watch, &text) && hold;
+        hold = cased_hold(watch, &text, state.spilled)
+            && printed_holds(alloc, watch, &text)
+            && hold;
+        hold = text
+            .bytes()
+            .is(SmallText::<N>::letters(state.len).as_slice())
+            && hold;
+        hold = text.is_inline() != state.spilled && into_holds(watch, state, text) && hold;
+        hold = sums_hold(alloc, watch, none, state) && hold;
     }
     hold
+}
+
+fn repeated_hold<const N: usize>(watch: &Watch, text: &SmallText<N>) -> bool {
+    let mut hold = true;
+    let mut want = Short::new();
+    for count in 0..3 {
+        let inline = want.len() <= N;
+        hold = is_made(watch, text.repeat(count), want.as_slice(), inline) && hold;
+        want.append(text.bytes().as_slice());
+    }
+    hold
+}
+
+/// The text with other bytes where the letter `a` stands, which it does first.
+fn with_other<const N: usize>(text: &SmallText<N>, other: &str) -> Short {
+    let bytes = text.bytes();
+    let first = Change {
+        start: 0,
+        end: bytes.len().min(1),
+        count: other.len(),
+    };
+    if bytes.len() == 0 {
+        return bytes;
+    }
+    bytes.replaced(first, &Short::of_bytes(other.as_bytes()))
+}
+
+fn replaced_hold<const N: usize>(watch: &Watch, text: &SmallText<N>) -> bool {
+    let mut hold = true;
+    for (pattern, replacement, count) in [
+        ("a", "", 9),
+        ("a", "é.😀", 9),
+        ("a", "a", 1),
+        ("a", "é", 0),
+        ("!", "é", 9),
+    ] {
+        let want = if pattern == "a" && count > 0 {
+            with_other(text, replacement)
+        } else {
+            text.bytes()
+        };
+        let made = text.replacen(pattern, replacement, count);
+        hold = is_made(watch, made, want.as_slice(), want.len() <= N) && hold;
+    }
+    let want = with_other(text, "a😀");
+    let made = text.replace("a", "a😀");
+    hold && is_made(watch, made, want.as_slice(), want.len() <= N) && spread_holds(watch, text)
+}
+
+/// Nothing is found before the first letter.
+fn spread_holds<const N: usize>(watch: &Watch, text: &SmallText<N>) -> bool {
+    let mut want = Short::of_bytes(b"..");
+    want.append(text.bytes().as_slice());
+    is_made(
+        watch,
+        text.replacen("", "..", 1),
+        want.as_slice(),
+        want.len() <= N,
+    )
+}
+
+/// The letters in upper case; past ASCII those that `other` stands for in place of `é`.
+fn upper(letters: &Short, other: i64) -> Short {
+    let mut upper = Short::new();
+    for letter in letters.as_slice() {
+        let is_small = *letter >= 97 && *letter <= 122;
+        upper.push(match *letter {
+            169 => other,
+            _ if is_small => letter.wrapping_sub(32),
+            _ => *letter,
+        });
+    }
+    upper
+}
+
+/// In ASCII case a text keeps its mode. In Unicode case it is inline where it fits; past ASCII
+/// memory for std's text may be refused.
+fn cased_hold<const N: usize>(watch: &Watch, text: &SmallText<N>, spilled: bool) -> bool {
+    let lower = text.bytes();
+    let ascii = upper(&lower, 169);
+    is_made(watch, text.to_ascii_lowercase(), lower.as_slice(), !spilled)
+        && is_made(watch, text.to_ascii_uppercase(), ascii.as_slice(), !spilled)
+        && is_cased(watch, text.to_lowercase(), &lower)
+        && is_cased(watch, text.to_uppercase(), &upper(&lower, 137))
+}
+
+fn is_cased<const N: usize>(
+    watch: &Watch,
+    made: Result<SmallText<N>, EcoError>,
+    want: &Short,
+) -> bool {
+    let inline = want.len() <= N;
+    match made {
+        Err(EcoError::Memory) if want.len() > 4 => watch.may_refuse(),
+        made => is_made(watch, made, want.as_slice(), inline),
+    }
+}
+
+/// A `String` of the text, and the text printed.
+fn printed_holds<const N: usize>(alloc: Global, watch: &Watch, text: &SmallText<N>) -> bool {
+    let copied = match text.to_std_string() {
+        Ok(copy) => copy.as_str() == text.as_str(),
+        Err(error) => error == EcoError::Memory && text.len() > 0 && watch.may_refuse(),
+    };
+    let printed = match text.to_string(alloc) {
+        Ok(copy) => copy.as_str() == text.as_str(),
+        Err(_) => text.len() > 0 && watch.may_refuse(),
+    };
+    copied && printed
+}
+
+/// The vector of a spilled text is there; an inline one comes back where there is none.
+fn into_holds<const N: usize>(watch: &Watch, state: State, text: SmallText<N>) -> bool {
+    let want = SmallText::<N>::letters(state.len);
+    match text.into_eco_vec() {
+        Ok(vector) => want.is_bytes(vector.as_slice()),
+        Err(rejected) => {
+            rejected.error == EcoError::Memory
+                && !state.spilled
+                && state.len > 0
+                && watch.may_refuse()
+                && is_made(watch, Ok(rejected.value), want.as_slice(), true)
+        }
+    }
 }
 
 /// A sum that is refused hands the text back.
-pub(crate) fn conversions_hold(alloc: Global) -> bool {
+fn sums_hold<const N: usize>(
+    alloc: Global,
+    watch: &Watch,
+    _none: &SmallText<N>,
+    state: State,
+) -> bool {
     let mut hold = true;
-    for spilled in [false, true] {
-        let Ok(text) = letters(alloc, spilled) else {
-            return hold;
+    for count in [0, 1, 4, 12] {
+        let Ok(text) = SmallText::<N>::made(alloc, state) else {
+            return state.spilled && watch.may_refuse() && hold;
         };
-        let text = match text.add("") {
-            Ok(text) => text,
-            Err(_) => return false,
-        };
-        if let Ok(copy) = text.to_std_string() {
-            hold = hold && copy.as_str() == LETTERS;
-        }
-        let text = match text.add("!") {
-            Ok(sum) => {
-                hold = hold && sum.as_str() == "abcdefghijk😀!" && !sum.is_inline();
-                sum
-            }
-            Err(rejected) => {
-                hold = hold && rejected.error == EcoError::Memory;
-                hold = hold && is_made(Ok(rejected.value), LETTERS, !spilled);
-                return hold;
-            }
-        };
-        let bytes = EcoBytes::from(text);
-        hold = hold && !bytes.is_inline() && bytes.len() == 16;
+        hold = sum_holds(watch, state, text, count) && hold;
     }
     hold
 }
 
-/// A `String` that makes no text comes back.
-fn string_holds(alloc: Global, want: &str) -> bool {
-    let Ok(string) = String::from_str(alloc, want) else {
-        return true;
-    };
-    match EcoString::from_string(alloc, string) {
-        Ok(made) => made.as_str() == want && !made.is_inline(),
-        Err(rejected) => rejected.error == EcoError::Memory && rejected.value.as_str() == want,
-    }
-}
-
-/// The vector of inline letters is new, and that of spilled ones is there; inline letters of which
-/// none is made come back.
-fn vector_holds(alloc: Global, spilled: bool) -> bool {
-    let Ok(text) = letters(alloc, spilled) else {
-        return true;
-    };
-    match text.into_eco_vec() {
-        Ok(vec) => vec.as_slice() == LETTERS.as_bytes(),
+fn sum_holds<const N: usize>(
+    watch: &Watch,
+    state: State,
+    text: SmallText<N>,
+    count: usize,
+) -> bool {
+    let (letters, capacity) = (text.bytes(), text.capacity());
+    let mut want = letters;
+    want.append(SmallText::<N>::added(count).as_slice());
+    let inline = !state.spilled && want.len() <= N;
+    match text.add(added(count)) {
+        Ok(sum) => sum.bytes().is(want.as_slice()) && sum.is_inline() == inline,
         Err(rejected) => {
-            let error = rejected.error == EcoError::Memory && !spilled;
-            error && is_made(Ok(rejected.value), LETTERS, true)
+            rejected.error == EcoError::Memory
+                && !inline
+                && (!state.spilled || want.len() > state.room)
+                && watch.may_refuse()
+                && rejected.value.bytes().is(letters.as_slice())
+                && rejected.value.is_inline() != state.spilled
+                && rejected.value.capacity() == capacity
         }
     }
-}
-
-pub(crate) fn handed_back(alloc: Global) -> bool {
-    string_holds(alloc, "abcdefghijklmnop")
-        && vector_holds(alloc, false)
-        && vector_holds(alloc, true)
-}
-
-/// Printed values make a text, or where memory is refused an error; short ones always a text.
-pub(crate) fn printing_holds(alloc: Global) -> bool {
-    let Ok(short) = 12345.to_eco_string(alloc) else {
-        return false;
-    };
-    let Ok(joined) = eco_format!(in alloc; "{short}, {}", 6) else {
-        return false;
-    };
-    let long = match eco_format!(in alloc; "{joined}, and {joined}") {
-        Ok(long) => long.as_str() == "12345, 6, and 12345, 6",
-        Err(_) => true,
-    };
-    long && short.is_inline() && joined.as_str() == "12345, 6"
 }

@@ -1,312 +1,368 @@
-//! The calls of `EcoVec`.
-use ecow_list::{EcoError, EcoVec, IntoArray, range_in};
+//! The calls that change an `EcoVec`, on vectors in each state.
+use crate::elements::{Element, elements, numbers};
+use crate::short::Short;
+use crate::steps::{Change, Row, Step, Word, step_of};
+use crate::watch::Watch;
+use ecow_list::{EcoError, EcoVec, range_in};
 use std::alloc::Global;
-use std::io::Write;
 
-/// Makes a list and a clone of it, and calls something on the list. Whether it then is what it is
-/// to be, or as it was where the call was refused, and the clone is as it was.
-fn holds<F: FnOnce(&mut EcoVec<i64>) -> Result<(), EcoError> + Drop>(
+/// Room, elements, and whether a twin shares the block. Without room there is no block.
+pub(crate) type State = (usize, usize, bool);
+
+pub(crate) const STATES: [State; 7] = [
+    (0, 0, false),
+    (3, 0, false),
+    (8, 4, false),
+    (4, 4, false),
+    (3, 0, true),
+    (8, 4, true),
+    (4, 4, true),
+];
+
+pub(crate) const STEPS: [Row; 32] = [
+    (Word::Push, 0, 0, 1),
+    (Word::Insert, 0, 0, 1),
+    (Word::Insert, 3, 3, 1),
+    (Word::Write, 0, 1, 1),
+    (Word::Write, 3, 4, 1),
+    (Word::MakeMut, 0, 0, 0),
+    (Word::Pop, 0, 0, 0),
+    (Word::Remove, 0, 1, 0),
+    (Word::Remove, 3, 4, 0),
+    (Word::Truncate, 0, 0, 0),
+    (Word::Truncate, 2, 0, 0),
+    (Word::Truncate, 4, 0, 0),
+    (Word::Clear, 0, 0, 0),
+    (Word::Retain, 0, 0, 0),
+    (Word::Retain, 1, 3, 0),
+    (Word::Retain, 0, 4, 0),
+    (Word::Reserve, 0, 0, 0),
+    (Word::Reserve, 0, 0, 2),
+    (Word::Reserve, 0, 0, 20),
+    (Word::Drain, 0, 0, 0),
+    (Word::Drain, 1, 3, 0),
+    (Word::Drain, 0, 4, 0),
+    (Word::Splice, 0, 0, 0),
+    (Word::Splice, 1, 2, 3),
+    (Word::Splice, 1, 3, 1),
+    (Word::Splice, 0, 0, 9),
+    (Word::Extend, 0, 0, 0),
+    (Word::Extend, 0, 0, 2),
+    (Word::Extend, 0, 0, 6),
+    (Word::ExtendEach, 0, 0, 0),
+    (Word::ExtendEach, 0, 0, 3),
+    (Word::ExtendEach, 0, 0, 9),
+];
+
+/// The calls that copy elements as memory.
+const COPIES: [Row; 9] = [
+    (Word::ExtendCopied, 0, 0, 0),
+    (Word::ExtendCopied, 0, 0, 2),
+    (Word::ExtendCopied, 0, 0, 6),
+    (Word::ExtendWithin, 0, 0, 0),
+    (Word::ExtendWithin, 0, 2, 0),
+    (Word::ExtendWithin, 0, 4, 0),
+    (Word::InsertSlice, 0, 0, 0),
+    (Word::InsertSlice, 1, 1, 2),
+    (Word::InsertSlice, 0, 0, 6),
+];
+
+pub(crate) fn calls_hold<T: Element>(alloc: Global, watch: &Watch) -> bool {
+    let mut hold = rows_hold::<T>(alloc, watch, &STEPS);
+    if T::is_plain() {
+        hold = rows_hold::<T>(alloc, watch, &COPIES) && hold;
+    }
+    hold
+}
+
+fn rows_hold<T: Element>(alloc: Global, watch: &Watch, rows: &[Row]) -> bool {
+    let mut hold = true;
+    for state in STATES {
+        for row in rows {
+            hold = call_holds::<T>(alloc, watch, state, step_of(row)) && hold;
+        }
+    }
+    hold
+}
+
+/// Makes a vector in a state; its elements have the numbers from 1 on.
+pub(crate) fn made<T: Element>(
     alloc: Global,
-    shared: bool,
-    before: &[i64],
-    after: &[i64],
-    call: F,
-) -> bool
-    requires { F.IsAlwaysCallable call }
-{
-    let Ok(mut list) = EcoVec::from_slice(alloc, before) else {
+    room: usize,
+    len: usize,
+) -> Result<EcoVec<T>, EcoError> {
+    let mut list = EcoVec::with_capacity(alloc, room)?;
+    for element in elements(alloc, 1, len)? {
+        if list.push(element).is_err() {
+            return Err(EcoError::Memory);
+        }
+    }
+    Ok(list)
+}
+
+/// What stood before a call, and what it is to do.
+#[derive(Clone, Copy)]
+struct Call {
+    state: State,
+    step: Step,
+    change: Change,
+    capacity: usize,
+    given: Short,
+}
+
+impl Call {
+    fn before(&self) -> Short {
+        Short::from(1, self.state.1)
+    }
+
+    /// What the call takes out.
+    fn removed(&self) -> Short {
+        self.before().part(self.change.start, self.change.end)
+    }
+
+    fn room(&self) -> usize {
+        self.step.room(self.state.1, self.change)
+    }
+
+    /// Whether the call needs no memory, nor a clone that does.
+    fn is_free(&self, is_plain: bool) -> bool {
+        let (room, len, shared) = self.state;
+        match self.step.word {
+            _ if shared => self.step.is_free_shared(len),
+            // What they take out or put in stands in a block of its own meanwhile.
+            Word::Drain => self.change.start == self.change.end,
+            Word::Splice => self.change.start == self.change.end && self.change.count == 0,
+            Word::Extend => self.change.count == 0 || is_plain && self.room() <= room,
+            _ => self.room() <= room,
+        }
+    }
+}
+
+fn call_holds<T: Element>(alloc: Global, watch: &Watch, state: State, step: Step) -> bool {
+    let (room, len, shared) = state;
+    let Some(change) = step.change(len) else {
         return true;
     };
-    let mut clone = EcoVec::new(alloc);
+    let (Ok(list), Ok(given)) = (
+        made::<T>(alloc, room, len),
+        elements::<T>(alloc, 91, change.count),
+    ) else {
+        return watch.may_refuse();
+    };
+    let mut twin = EcoVec::new(alloc);
     if shared {
         match list.clone() {
-            Ok(copy) => clone = copy,
+            Ok(copy) => twin = copy,
             Err(_) => return false,
         }
     }
-    let wanted = match call(&mut list) {
-        Ok(()) => after,
-        Err(EcoError::Memory) => before,
-        Err(EcoError::Capacity) => return false,
+    let call = Call {
+        state,
+        step,
+        change,
+        capacity: list.capacity(),
+        given: match step.word {
+            Word::ExtendWithin => Short::from(1, len).part(step.start, step.end),
+            _ => Short::from(91, change.count),
+        },
     };
-    list.as_slice() == wanted && (!shared || clone.as_slice() == before)
+    let mut list = list;
+    let answer = called(&mut list, &call, given);
+    is_right(watch, &call, answer, list, twin)
 }
 
-/// A refused push or insert hands its value back.
-fn returned(pushed: Result<(), ecow_list::Rejected<i64>>, value: i64) -> Result<(), EcoError> {
-    match pushed {
-        Ok(()) => Ok(()),
-        Err(rejected) if rejected.value == value => Err(rejected.error),
-        Err(_) => Err(EcoError::Capacity),
+/// Makes a call. Answers whether what it gave is right.
+fn called<T: Element>(list: &mut EcoVec<T>, call: &Call, given: Vec<T>) -> Result<bool, EcoError> {
+    match call.step.word {
+        Word::Push | Word::Insert | Word::Write | Word::MakeMut => with_one(list, call, given),
+        Word::Extend | Word::ExtendEach | Word::Splice => with_several(list, call, given),
+        Word::Pop | Word::Remove | Word::Drain => taking(list, call),
+        Word::ExtendCopied | Word::ExtendWithin | Word::InsertSlice => {
+            T::take_copied(list, call.step, given.as_slice())
+        }
+        _ => shortening(list, call),
     }
 }
 
-fn insert(list: &mut EcoVec<i64>, index: usize, value: i64) -> Result<(), EcoError> {
-    if index > list.len() {
-        return Err(EcoError::Capacity);
+/// A call that is handed an element, which comes back where it is refused.
+fn with_one<T: Element>(
+    list: &mut EcoVec<T>,
+    call: &Call,
+    given: Vec<T>,
+) -> Result<bool, EcoError> {
+    let mut given = given;
+    let Some(value) = given.pop() else {
+        list.make_mut()?;
+        return Ok(true);
+    };
+    let start = call.step.start;
+    let done = match call.step.word {
+        Word::Push => list.push(value),
+        Word::Insert if start <= list.len() => list.insert(start, value),
+        Word::Write if start < list.len() => list.set(start, value),
+        _ => return written(list, value),
+    };
+    match done {
+        Ok(()) => Ok(true),
+        Err(rejected) if rejected.value.number() == 91 => Err(rejected.error),
+        Err(_) => Ok(false),
     }
-    returned(list.insert(index, value), value)
 }
 
-fn remove(list: &mut EcoVec<i64>, index: usize, want: i64) -> Result<(), EcoError> {
-    if index >= list.len() {
-        return Err(EcoError::Capacity);
+fn written<T: Element>(list: &mut EcoVec<T>, value: T) -> Result<bool, EcoError> {
+    let elements = list.make_mut()?;
+    match elements.get_mut(0) {
+        Some(place) => {
+            *place = value;
+            Ok(true)
+        }
+        None => Ok(false),
     }
-    if list.remove(index)? == want {
-        Ok(())
+}
+
+fn with_several<T: Element>(
+    list: &mut EcoVec<T>,
+    call: &Call,
+    given: Vec<T>,
+) -> Result<bool, EcoError> {
+    let (start, end) = (call.step.start, call.step.end);
+    match call.step.word {
+        Word::Extend => list.extend_from_slice(given.as_slice())?,
+        Word::ExtendEach => list.extend(given)?,
+        _ if range_in(&(start..end), list.len()) => {
+            let removed = list.splice(start..end, given)?;
+            return Ok(numbers(removed.as_slice()).is(call.removed().as_slice()));
+        }
+        _ => return Ok(false),
+    }
+    Ok(true)
+}
+
+/// A call that answers what it takes out.
+fn taking<T: Element>(list: &mut EcoVec<T>, call: &Call) -> Result<bool, EcoError> {
+    let (start, end) = (call.step.start, call.step.end);
+    let removed = call.removed();
+    match call.step.word {
+        Word::Pop => match list.pop()? {
+            Some(element) => Ok(removed.is(&[element.number()])),
+            None => Ok(removed.is(&[])),
+        },
+        Word::Remove if start < list.len() => {
+            let element = list.remove(start)?;
+            Ok(removed.is(&[element.number()]))
+        }
+        Word::Drain if range_in(&(start..end), list.len()) => {
+            let taken = list.drain(start..end)?;
+            Ok(numbers(taken.as_slice()).is(removed.as_slice()))
+        }
+        _ => Ok(false),
+    }
+}
+
+fn shortening<T: Element>(list: &mut EcoVec<T>, call: &Call) -> Result<bool, EcoError> {
+    let step = call.step;
+    match step.word {
+        Word::Truncate => list.truncate(step.start)?,
+        Word::Clear => list.clear(),
+        Word::Reserve => list.reserve(step.count)?,
+        Word::Retain => {
+            let mut place = 0usize;
+            list.retain(|_| {
+                let is_kept = place < step.start || place >= step.end;
+                place = place.wrapping_add(1);
+                is_kept
+            })?
+        }
+        _ => return Ok(false),
+    }
+    Ok(true)
+}
+
+/// Whether a call did all that it is to do, or was refused and left all as it was.
+fn is_right<T: Element>(
+    watch: &Watch,
+    call: &Call,
+    answer: Result<bool, EcoError>,
+    list: EcoVec<T>,
+    twin: EcoVec<T>,
+) -> bool {
+    let mut list = list;
+    let (_, len, shared) = call.state;
+    let (after, left) = match answer {
+        Ok(true) => (
+            call.before().replaced(call.change, &call.given),
+            shared && !call.step.is_nothing(len),
+        ),
+        Err(EcoError::Memory) if !call.is_free(T::is_plain()) && watch.may_refuse() => {
+            // What went in one by one stays.
+            let count = match call.step.word {
+                Word::ExtendEach => list.len().saturating_sub(len),
+                _ => 0,
+            };
+            if !is_cut(call, count) {
+                return false;
+            }
+            let end = Change {
+                start: len,
+                end: len,
+                count,
+            };
+            (
+                call.before().replaced(end, &call.given.part(0, count)),
+                shared && count > 0,
+            )
+        }
+        _ => return false,
+    };
+    let is_own = left || !shared;
+    numbers(list.as_slice()).is(after.as_slice())
+        && has_room(call, answer, left, T::is_plain(), list.capacity())
+        && list.is_unique() == is_own
+        && twin_holds(call, left, twin)
+}
+
+/// Whether an extension may have ended behind so many items: before the last, and not before the
+/// block was full.
+fn is_cut(call: &Call, count: usize) -> bool {
+    let (room, len, shared) = call.state;
+    match call.step.word {
+        Word::ExtendEach => {
+            count < call.change.count && (shared && count == 0 || len.saturating_add(count) >= room)
+        }
+        _ => true,
+    }
+}
+
+/// Whether the capacity is as it was where the call was refused or had its room, and else enough.
+fn has_room(
+    call: &Call,
+    answer: Result<bool, EcoError>,
+    left: bool,
+    is_plain: bool,
+    capacity: usize,
+) -> bool {
+    let (room, len, shared) = call.state;
+    if answer.is_err() && !shared && !is_plain && matches!(call.step.word, Word::Extend) {
+        // The block has grown before the first clone, and stays so where a clone is refused.
+        return capacity == call.capacity || capacity >= call.room();
+    }
+    if answer.is_err() && !left && !matches!(call.step.word, Word::ExtendEach) {
+        return capacity == call.capacity;
+    }
+    let is_kept = !shared && call.room() <= room || shared && call.step.is_nothing(len);
+    if is_kept {
+        capacity == call.capacity
     } else {
-        Err(EcoError::Capacity)
+        answer.is_err() || capacity >= call.room()
     }
 }
 
-fn write(list: &mut EcoVec<i64>, index: usize, value: i64) -> Result<(), EcoError> {
-    if index >= list.len() {
-        return Err(EcoError::Capacity);
-    }
-    returned(list.set(index, value), value)
-}
-
-fn reverse(list: &mut EcoVec<i64>) -> Result<(), EcoError> {
-    list.make_mut()?.reverse();
-    Ok(())
-}
-
-pub(crate) fn edits_hold(alloc: Global) -> bool {
-    let four = [1, 2, 3, 4].as_slice();
-    let mut hold = true;
-    for shared in [false, true] {
-        hold = hold
-            && holds(
-                alloc,
-                shared,
-                four,
-                &[1, 2, 3, 4, 5],
-                |list| returned(list.push(5), 5),
-            )
-            && holds(
-                alloc,
-                shared,
-                four,
-                &[1, 9, 2, 3, 4],
-                |list| insert(list, 1, 9),
-            )
-            && holds(alloc, shared, four, &[1, 2, 4], |list| remove(list, 2, 3))
-            && holds(
-                alloc,
-                shared,
-                four,
-                &[1, 2, 3],
-                |list| list.pop().map(|_| ()),
-            )
-            && holds(alloc, shared, four, &[1, 2], |list| list.truncate(2))
-            && holds(alloc, shared, four, &[1, 2, 8, 4], |list| write(list, 2, 8))
-            && holds(alloc, shared, four, &[4, 3, 2, 1], reverse)
-            && holds(
-                alloc,
-                shared,
-                four,
-                &[2, 4],
-                |list| list.retain(|x| *x % 2 == 0),
-            )
-            && holds(alloc, shared, four, four, |list| list.reserve(100))
-            && holds(alloc, shared, four, &[1, 2, 3, 4, 7, 8], |list| {
-                list.extend_from_slice(&[7, 8])
-            });
-    }
-    hold
-}
-
-fn extend_from_within(list: &mut EcoVec<i64>, start: usize, end: usize) -> Result<(), EcoError> {
-    if !range_in(&(start..end), list.len()) {
-        return Err(EcoError::Capacity);
-    }
-    list.extend_from_within(start..end)
-}
-
-fn insert_slice(list: &mut EcoVec<i64>, index: usize, values: &[i64]) -> Result<(), EcoError> {
-    if index > list.len() {
-        return Err(EcoError::Capacity);
-    }
-    list.insert_slice(index, values)
-}
-
-/// The calls that take elements as memory.
-pub(crate) fn copies_hold(alloc: Global) -> bool {
-    let four = [1, 2, 3, 4].as_slice();
-    let mut hold = true;
-    for shared in [false, true] {
-        hold = hold
-            && holds(alloc, shared, four, &[1, 2, 3, 4, 7, 8], |list| {
-                list.extend_from_copied(&[7, 8])
-            })
-            && holds(
-                alloc,
-                shared,
-                four,
-                &[1, 2, 3, 4, 2, 3],
-                |list| extend_from_within(list, 1, 3),
-            )
-            && holds(
-                alloc,
-                shared,
-                four,
-                &[1, 7, 8, 2, 3, 4],
-                |list| insert_slice(list, 1, &[7, 8]),
-            );
-    }
-    hold
-}
-
-fn drain(list: &mut EcoVec<i64>, start: usize, end: usize) -> Result<(), EcoError> {
-    if !range_in(&(start..end), list.len()) {
-        return Err(EcoError::Capacity);
-    }
-    let removed = list.drain(start..end)?;
-    if removed.len() == end.saturating_sub(start) {
-        Ok(())
-    } else {
-        Err(EcoError::Capacity)
-    }
-}
-
-fn splice(list: &mut EcoVec<i64>, start: usize, end: usize) -> Result<(), EcoError> {
-    if !range_in(&(start..end), list.len()) {
-        return Err(EcoError::Capacity);
-    }
-    let removed = list.splice(start..end, 10..16)?;
-    if removed.len() == end.saturating_sub(start) {
-        Ok(())
-    } else {
-        Err(EcoError::Capacity)
-    }
-}
-
-pub(crate) fn ranges_hold(alloc: Global) -> bool {
-    let four = [1, 2, 3, 4].as_slice();
-    let mut hold = true;
-    for shared in [false, true] {
-        hold = hold
-            && holds(alloc, shared, four, &[1, 4], |list| drain(list, 1, 3))
-            && holds(alloc, shared, four, four, |list| drain(list, 2, 2))
-            && holds(
-                alloc,
-                shared,
-                four,
-                &[1, 10, 11, 12, 13, 14, 15, 4],
-                |list| splice(list, 1, 3),
-            );
-    }
-    hold
-}
-
-/// Conversions hand the vector back where they are refused.
-pub(crate) fn conversions_hold(alloc: Global) -> bool {
-    let four = [1, 2, 3, 4].as_slice();
-    let Ok(list) = EcoVec::from_slice(alloc, four) else {
-        return true;
-    };
-    let Ok(shared) = list.clone() else {
-        return false;
-    };
-    let list = match shared.into_vec() {
-        Ok(elements) if elements.as_slice() == four => list,
-        Ok(_) => return false,
-        Err(rejected) => rejected.value,
-    };
-    let Ok(shared) = list.clone() else {
-        return false;
-    };
-    let list = match shared.into_iter() {
-        Ok(rest) if rest.as_slice() == four => list,
-        Ok(_) => return false,
-        Err(rejected) => rejected.value,
-    };
-    match list.into_array::<4>() {
-        Ok(array) => array.as_slice() == four,
-        Err(IntoArray::Length(_)) => false,
-        Err(IntoArray::Refused(error, list)) => error == EcoError::Memory
-            && list.as_slice() == four,
-    }
-}
-
-/// Three pushes fit into room for three; the fourth is done, or hands its value back.
-pub(crate) fn growth_holds(alloc: Global) -> bool {
-    let Ok(mut list) = EcoVec::with_capacity(alloc, 3) else {
-        return true;
-    };
-    for value in 0..3 {
-        if list.push(value).is_err() {
-            return false;
-        }
-    }
-    match list.push(3) {
-        Ok(()) => list.as_slice() == [0, 1, 2, 3].as_slice(),
-        Err(rejected) => {
-            rejected.error == EcoError::Memory
-                && rejected.value == 3
-                && list.as_slice() == [0, 1, 2].as_slice()
-        }
-    }
-}
-
-/// What goes in one by one stays, up to the item that is refused.
-pub(crate) fn extensions_hold(alloc: Global) -> bool {
-    let whole = [1, 2, 3, 4, 5, 6, 7, 8, 9].as_slice();
-    let Ok(mut list) = EcoVec::from_slice(alloc, &[1, 2]) else {
-        return true;
-    };
-    match list.extend(3..10) {
-        Ok(()) => list.as_slice() == whole,
-        Err(error) => {
-            error == EcoError::Memory && list.len() > 1 && whole.starts_with(list.as_slice())
-        }
-    }
-}
-
-/// Whether a vector was made as it is to be, or for want of memory not at all.
-fn is_made(made: Result<EcoVec<i64>, EcoError>, want: &[i64]) -> bool {
-    match made {
-        Ok(list) => list.as_slice() == want,
-        Err(error) => error == EcoError::Memory,
-    }
-}
-
-/// A vector of an element, an array or a `Vec`, each of which comes back where it is refused.
-fn handed_over(alloc: Global) -> bool {
-    let of_elem = match EcoVec::from_elem(alloc, 7, 2) {
-        Ok(list) => list.as_slice() == [7, 7].as_slice(),
-        Err(rejected) => rejected.error == EcoError::Memory && rejected.value == 7,
-    };
-    let of_array = match EcoVec::from_array(alloc, [1, 2, 3]) {
-        Ok(list) => list.as_slice() == [1, 2, 3].as_slice(),
-        Err(rejected) => rejected.error == EcoError::Memory && rejected.value == [1, 2, 3],
-    };
-    let Ok(elements) = Vec::from_clones(alloc, [4, 5].as_slice()) else {
-        return of_elem && of_array;
-    };
-    let of_vec = match EcoVec::from_vec(alloc, elements) {
-        Ok(list) => list.as_slice() == [4, 5].as_slice(),
-        Err(rejected) => {
-            rejected.error == EcoError::Memory && rejected.value.as_slice() == [4, 5].as_slice()
-        }
-    };
-    of_elem && of_array && of_vec
-}
-
-/// A piece is written whole, or not at all.
-fn writes_hold(alloc: Global) -> bool {
-    let mut bytes = EcoVec::new(alloc);
-    match bytes.write(b"a piece") {
-        Ok(count) => count == 7 && bytes.as_slice() == b"a piece".as_slice(),
-        Err(_) => bytes.is_empty(),
-    }
-}
-
-pub(crate) fn makers_hold(alloc: Global) -> bool {
-    let four = [1, 2, 3, 4].as_slice();
-    is_made(EcoVec::from_slice(alloc, four), four)
-        && is_made(EcoVec::from_iter(alloc, 1..5), four)
-        && is_made(EcoVec::with_capacity(alloc, 3), &[])
-        && handed_over(alloc)
-        && writes_hold(alloc)
+/// Whether the twin is as it was, and alone where the list has left it.
+fn twin_holds<T: Element>(call: &Call, left: bool, twin: EcoVec<T>) -> bool {
+    let mut twin = twin;
+    let (_, len, shared) = call.state;
+    !shared
+        || numbers(twin.as_slice()).is(Short::from(1, len).as_slice())
+            && twin.capacity() == call.capacity
+            && twin.is_unique() == left
 }

@@ -1,0 +1,263 @@
+//! The calls that change bytes or a text of which so many stand in the value itself, in each
+//! state.
+use crate::short::Short;
+use crate::steps::{Change, Row, Step, Word, step_of};
+use crate::watch::Watch;
+use ecow_list::{EcoError, EcoVec};
+use std::alloc::Global;
+
+/// In which form a value stands, with how many bytes, and whether a twin shares its block.
+#[derive(Clone, Copy)]
+pub(crate) struct State {
+    pub(crate) spilled: bool,
+    pub(crate) len: usize,
+    pub(crate) room: usize,
+    pub(crate) shared: bool,
+}
+
+fn in_state(spilled: bool, len: usize, room: usize, shared: bool) -> State {
+    State {
+        spilled,
+        len,
+        room,
+        shared,
+    }
+}
+
+/// Inline with a place left, inline and full, spilled with room, spilled and full, and shared
+/// ones.
+pub(crate) fn states(limit: usize) -> [State; 7] {
+    let (more, roomy) = (limit.saturating_add(5), limit.saturating_add(8));
+    [
+        in_state(false, limit.saturating_sub(1), limit, false),
+        in_state(false, limit, limit, false),
+        in_state(true, limit, roomy, false),
+        in_state(true, more, more, false),
+        in_state(true, limit, roomy, true),
+        in_state(true, more, more, true),
+        in_state(true, 0, roomy, true),
+    ]
+}
+
+/// A call, what it is to do, and what stood there before.
+#[derive(Clone, Copy)]
+pub(crate) struct Call {
+    pub(crate) state: State,
+    pub(crate) step: Step,
+    pub(crate) change: Change,
+    limit: usize,
+    capacity: usize,
+}
+
+impl Call {
+    fn room(&self) -> usize {
+        self.step.room(self.state.len, self.change)
+    }
+
+    /// Whether the call needs no memory: it stays inline or in its own block, or copies nothing.
+    fn is_free(&self) -> bool {
+        if !self.state.spilled {
+            self.room() <= self.limit
+        } else if self.state.shared {
+            self.step.is_free_shared(self.state.len)
+        } else {
+            self.room() <= self.capacity
+        }
+    }
+
+    /// Whether a value that was shared is alone behind the call that was done.
+    fn leaves(&self) -> bool {
+        match self.step.word {
+            Word::Shrink => self.state.len <= self.limit,
+            _ => !self.step.is_nothing(self.state.len),
+        }
+    }
+
+    /// Whether the value is inline behind the call that was done.
+    fn is_inline_after(&self) -> bool {
+        if self.state.spilled {
+            self.step.word == Word::Shrink && self.state.len <= self.limit
+        } else {
+            self.room() <= self.limit
+        }
+    }
+
+    /// Whether pieces went in up to one that there was no room for.
+    fn is_cut(&self, count: usize) -> bool {
+        let len = self.state.len.saturating_add(count);
+        match self.step.word {
+            Word::ExtendEach if self.state.shared && count == 0 => true,
+            Word::ExtendEach => count < self.change.count && len >= self.state.room,
+            Word::ExtendPieces => count == 0 || count == self.change.count / 2,
+            _ => count == 0,
+        }
+    }
+}
+
+/// Bytes or a text.
+pub(crate) trait Small: Clone + Drop {
+    /// How many bytes stand inline.
+    fn limit() -> usize;
+
+    /// What the values are made of.
+    fn letters(len: usize) -> Short;
+
+    /// What calls bring.
+    fn added(count: usize) -> Short;
+
+    /// The letters, in the form of the state.
+    fn made(alloc: Global, state: State) -> Result<Self, EcoError>;
+
+    /// Makes a call. Answers whether what it gave is right.
+    fn call(&mut self, call: &Call) -> Result<bool, EcoError>;
+
+    fn bytes(&self) -> Short;
+
+    fn is_inline(&self) -> bool;
+
+    fn capacity(&self) -> usize;
+
+    /// The vector of spilled bytes, which takes no memory.
+    fn spilled(self) -> Option<EcoVec<u8>>;
+}
+
+pub(crate) fn calls_hold<S: Small>(alloc: Global, watch: &Watch, rows: &[Row]) -> bool {
+    let mut hold = true;
+    for state in states(S::limit()) {
+        for row in rows {
+            hold = call_holds::<S>(alloc, watch, state, step_of(row)) && hold;
+        }
+    }
+    hold
+}
+
+fn call_holds<S: Small>(alloc: Global, watch: &Watch, state: State, step: Step) -> bool {
+    let Some(change) = step.change(state.len) else {
+        return true;
+    };
+    let Ok(value) = S::made(alloc, state) else {
+        return state.spilled && watch.may_refuse();
+    };
+    let mut twin = None;
+    if state.shared {
+        match value.clone() {
+            Ok(copy) => twin = Some(copy),
+            Err(_) => return false,
+        }
+    }
+    let call = Call {
+        state,
+        step,
+        change,
+        limit: S::limit(),
+        capacity: value.capacity(),
+    };
+    let mut value = value;
+    let answer = value.call(&call);
+    let (hold, left) = is_right(watch, &call, answer, &value);
+    hold && match twin {
+        Some(twin) => twin_holds(&call, left, twin),
+        None => true,
+    }
+}
+
+/// What a call is to leave: the bytes, whether they are inline, and whether the value is alone.
+fn wanted<S: Small>(
+    watch: &Watch,
+    call: &Call,
+    answer: Result<bool, EcoError>,
+    len: usize,
+) -> Option<(Short, bool, bool)> {
+    let letters = S::letters(call.state.len);
+    match answer {
+        Ok(true) => Some((
+            changed::<S>(call, &letters),
+            call.is_inline_after(),
+            call.leaves(),
+        )),
+        Err(EcoError::Memory) if !call.is_free() && watch.may_refuse() => {
+            let count = len.saturating_sub(call.state.len);
+            if !call.is_cut(count) {
+                return None;
+            }
+            let end = Change {
+                start: call.state.len,
+                end: call.state.len,
+                count,
+            };
+            let after = letters.replaced(end, &S::added(call.change.count).part(0, count));
+            Some((after, !call.state.spilled && len <= call.limit, count > 0))
+        }
+        _ => None,
+    }
+}
+
+/// The bytes behind a call that was done.
+fn changed<S: Small>(call: &Call, letters: &Short) -> Short {
+    match call.step.word {
+        Word::Upper => {
+            let mut upper = Short::new();
+            for letter in letters.as_slice() {
+                let is_small = *letter >= 97 && *letter <= 122;
+                upper.push(if is_small {
+                    letter.wrapping_sub(32)
+                } else {
+                    *letter
+                });
+            }
+            upper
+        }
+        _ => letters.replaced(call.change, &S::added(call.change.count)),
+    }
+}
+
+/// Whether a call did all that it is to do, or was refused and left all as it was; and whether the
+/// value is alone behind it.
+fn is_right<S: Small>(
+    watch: &Watch,
+    call: &Call,
+    answer: Result<bool, EcoError>,
+    value: &S,
+) -> (bool, bool) {
+    let bytes = value.bytes();
+    let Some((after, inline, left)) = wanted::<S>(watch, call, answer, bytes.len()) else {
+        return (false, false);
+    };
+    let hold = bytes.is(after.as_slice())
+        && value.is_inline() == inline
+        && has_room(call, answer, inline, left, value.capacity());
+    (hold, left)
+}
+
+/// Whether the twin is as it was, and its block its own where the value has left it.
+fn twin_holds<S: Small>(call: &Call, left: bool, twin: S) -> bool {
+    let is_kept = twin.bytes().is(S::letters(call.state.len).as_slice())
+        && !twin.is_inline()
+        && twin.capacity() == call.capacity;
+    match twin.spilled() {
+        Some(vector) => {
+            let mut vector = vector;
+            is_kept && vector.is_unique() == left
+        }
+        None => false,
+    }
+}
+
+/// Whether the capacity is as it was where the call was refused or had its room, and else enough.
+fn has_room(
+    call: &Call,
+    answer: Result<bool, EcoError>,
+    inline: bool,
+    left: bool,
+    capacity: usize,
+) -> bool {
+    if inline {
+        return capacity == call.limit;
+    }
+    let is_own = call.state.spilled && !call.state.shared && call.room() <= call.capacity;
+    if is_own || !left && call.state.shared || answer.is_err() && !left {
+        capacity == call.capacity
+    } else {
+        answer.is_err() || capacity >= call.room()
+    }
+}

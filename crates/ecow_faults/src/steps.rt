@@ -1,0 +1,129 @@
+//! The calls that change a list, as data: each puts something in place of a part.
+
+/// What is called.
+#[derive(Clone, Copy, PartialEq, Eq)]
+pub(crate) enum Word {
+    Push,
+    Insert,
+    Write,
+    MakeMut,
+    Pop,
+    Remove,
+    Truncate,
+    Clear,
+    Retain,
+    Reserve,
+    Drain,
+    Splice,
+    /// Clones or copies of a slice go in behind.
+    Extend,
+    /// The items of an iterator go in behind, one by one.
+    ExtendEach,
+    /// Pieces go in behind, one by one.
+    ExtendPieces,
+    /// A writer's piece goes in behind.
+    Put,
+    InsertSlice,
+    /// What goes in behind is taken as memory.
+    ExtendCopied,
+    ExtendWithin,
+    Shrink,
+    Upper,
+    Lower,
+}
+
+/// A call on a list: the part that it is about, and how many items it brings or asks room for.
+#[derive(Clone, Copy)]
+pub(crate) struct Step {
+    pub(crate) word: Word,
+    pub(crate) start: usize,
+    pub(crate) end: usize,
+    pub(crate) count: usize,
+}
+
+/// A part of a list, and how many items come in its place.
+#[derive(Clone, Copy)]
+pub(crate) struct Change {
+    pub(crate) start: usize,
+    pub(crate) end: usize,
+    pub(crate) count: usize,
+}
+
+/// A call as a row of a table: what is called, start, end and count.
+pub(crate) type Row = (Word, usize, usize, usize);
+
+pub(crate) fn step_of(row: &Row) -> Step {
+    let (word, start, end, count) = *row;
+    Step {
+        word,
+        start,
+        end,
+        count,
+    }
+}
+
+impl Step {
+    /// What the call changes in a list of this length; `None` where it doesn't fit.
+    pub(crate) fn change(&self, len: usize) -> Option<Change> {
+        let (start, end) = self.part(len);
+        if start > end || end > len {
+            return None;
+        }
+        let count = match self.word {
+            Word::Reserve | Word::Truncate | Word::Pop | Word::Retain => 0,
+            Word::ExtendWithin => self.end.saturating_sub(self.start),
+            Word::MakeMut => len.min(1),
+            Word::Upper | Word::Lower | Word::Shrink => 0,
+            _ => self.count,
+        };
+        Some(Change { start, end, count })
+    }
+
+    fn part(&self, len: usize) -> (usize, usize) {
+        match self.word {
+            Word::Push | Word::Extend | Word::ExtendEach | Word::ExtendPieces => (len, len),
+            Word::Put | Word::ExtendCopied | Word::Reserve => (len, len),
+            Word::ExtendWithin if self.end <= len => (len, len),
+            Word::Upper | Word::Lower | Word::Shrink => (len, len),
+            Word::Pop => (len.saturating_sub(1), len),
+            Word::Truncate => (self.start.min(len), len),
+            Word::Clear => (0, len),
+            Word::MakeMut => (0, len.min(1)),
+            _ => (self.start, self.end),
+        }
+    }
+
+    /// For how many items there must be room in a list of this length.
+    pub(crate) fn room(&self, len: usize, change: Change) -> usize {
+        match self.word {
+            Word::Reserve => len.saturating_add(self.count),
+            _ => len
+                .saturating_sub(change.end)
+                .saturating_add(change.start)
+                .saturating_add(change.count),
+        }
+    }
+
+    /// Whether a call changes nothing, and leaves a value shared.
+    pub(crate) fn is_nothing(&self, len: usize) -> bool {
+        match self.word {
+            Word::Pop | Word::Clear => len == 0,
+            Word::Truncate => self.start >= len,
+            Word::Extend | Word::ExtendEach | Word::ExtendPieces => self.count == 0,
+            Word::ExtendCopied | Word::Put => self.count == 0,
+            Word::ExtendWithin => self.start == self.end,
+            _ => false,
+        }
+    }
+
+    /// Whether a call on a value that shares its block needs no memory.
+    pub(crate) fn is_free_shared(&self, len: usize) -> bool {
+        match self.word {
+            Word::Clear | Word::Shrink => true,
+            Word::Truncate if self.start == 0 => true,
+            // What is empty is made its own by giving the block up.
+            Word::Retain | Word::MakeMut | Word::Upper | Word::Lower => len == 0,
+            _ => self.is_nothing(len),
+        }
+    }
+}
