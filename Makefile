@@ -1,15 +1,16 @@
-# Proves, builds, runs and tests. Everything but `make faults`, `make fuzz`, `make hostile`, `make bench`,
-# `make edits` and `make times` needs the kit's `rt` on the path, make and git, and nothing else.
+# Proves, builds, runs and tests. Everything but `make fuzz`, `make hostile`, `make bench`, `make edits` and
+# `make times` needs the kit's `rt` on the path, make, git and the usual POSIX tools, and nothing else.
 
 SOURCES := $(shell find crates -path '*/out' -prune -o \( -name '*.rt' -o -name '*.antt' \) -print) crates.txt
 
-.PHONY: help try build run test agree vendor vendor-test contracts edits times faults fuzz hostile bench clean
+.PHONY: help try build run test agree costs vendor vendor-test contracts edits times faults fuzz hostile bench clean
 
 help:
 	@echo "make try SCRIPT=FILE   runs the script with no proof, in half a minute"
 	@echo "make run SCRIPT=FILE   proves and builds what it must, says how far it is, and runs the script"
 	@echo "make build             leaves the proved program at bin/ecow-run"
-	@echo "make test              the whole gate: every proof from nothing, must-fail edits, tests, programs"
+	@echo "make test              the whole gate: every proof from nothing, must-fail edits, tests, programs, the table"
+	@echo "                       of costs, and each request for memory refused in turn"
 	@echo "make vendor TO=FOLDER  copies the crates of the vector into another repository, with their rows, so that its"
 	@echo "                       gate proves them; KIND=text: of all three types, KIND=store: of both keepings too"
 	@echo "make vendor-test       tries that on a new repository, whose gate it runs; KIND as above"
@@ -17,7 +18,8 @@ help:
 	@echo "make edits             tries each edit that must be refused, those beside the gate's too (needs"
 	@echo "                       python3); CRATES=\"NAME ..\" those of some crates"
 	@echo "make times             runs the gate and says what each part of it costs (needs python3)"
-	@echo "make faults            refuses each request for memory in turn (needs a C compiler)"
+	@echo "make costs             counts what each call costs, and compares docs/COSTS.md"
+	@echo "make faults            refuses each request for memory in turn, without the rest of the gate"
 	@echo "make fuzz SECONDS=60   runs the program on changed examples (needs python3)"
 	@echo "make hostile           runs the program with each request for memory refused in turn, with files and outputs"
 	@echo "                       that fail, and with scripts of 16 MiB (needs python3 and a C compiler); PEER=\"COMMAND\""
@@ -43,8 +45,14 @@ run:
 	@$(MAKE) --no-print-directory --silent bin/ecow-run >&2
 	@bin/ecow-run $(SCRIPT)
 
+COSTS := crates/ecow_costs/out/ecow_costs
+FAULTS := crates/ecow_faults/out/ecow_faults
+
+# `rt ci` leaves both programs built: what calls cost is counted, and requests for memory are refused in turn.
 test: agree
 	rt ci
+	tools/costs.sh $(COSTS)
+	tools/refuse.sh $(FAULTS)
 
 # The examples are cases too, and the gate runs the program on the first; the contracts quoted are those of the code.
 agree:
@@ -68,9 +76,13 @@ edits:
 times: agree
 	tools/times.py
 
+costs:
+	cd crates/ecow_costs && rt run > /dev/null
+	tools/costs.sh $(COSTS)
+
 faults:
-	cd crates/ecow_faults && rt run
-	tools/refuse.sh crates/ecow_faults/out/ecow_faults
+	cd crates/ecow_faults && rt run -- strict
+	tools/refuse.sh $(FAULTS)
 
 SECONDS := 60
 fuzz: bin/ecow-run

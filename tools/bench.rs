@@ -43,7 +43,7 @@ const TEXT_CALLS: [(&str, &str, &[usize], TextLoop); 16] = [
     ("text_cmp", "text: order", &[7, 40], text_cmp),
     ("text_hash", "text: hash", &[7, 40], text_hash),
     ("text_replace_rare", "text: replace what is rare", &[1_000_000], |text, count| text_replace("qzx", text, count)),
-    ("text_replace_often", "text: replace what is frequent", &[1_000_000], |text, count| text_replace("e", text, count)),
+    ("text_replace_often", "text: replace what is frequent", &[1_000_000], |text, count| text_replace("v", text, count)),
     ("text_to_uppercase", "text: to_uppercase", &[1_000_000], text_to_uppercase),
     ("text_repeat", "text: repeat 1000 times", &[40], text_repeat),
     ("text_format", "text: eco_format! of three", &[6], text_format),

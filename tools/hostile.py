@@ -162,8 +162,10 @@ def output_ends(program, _folder):
 def word_ends(program, _folder):
     """Words that are no use of the program: too few, too many, and one that is no text."""
     file = f"{TOP}/examples/first.eco"
-    for words in [[], ["--counted"], [file, "--counted"], [file, file], ["--counted", file, file], [file, file, file], [b"\xff"]]:
+    for words in [[], ["--counted"], [file, "--counted"], [file, file], ["--counted", file, file], [file, file, file], [b"\xff", file]]:
         yield f"the words {words}", ended([program, *words]), (2, b"", USAGE)
+    for words in [[b"\xff"], ["--counted", b"\xff"], ["x" * 5000]]:
+        yield f"the words {words}", ended([program, *words]), (3, b"", b"ecow-run: file\n")
 
 
 def ends(program, _peer):

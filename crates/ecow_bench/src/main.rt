@@ -162,7 +162,7 @@ fn sum_of_texts(alloc: Global, call: &str, text: &str, count: u64) -> u64 {
         "text_cmp" => texts::cmp(alloc, text, count),
         "text_hash" => texts::hash(alloc, text, count),
         "text_replace_rare" => texts::replace(alloc, "qzx", text, count),
-        "text_replace_often" => texts::replace(alloc, "e", text, count),
+        "text_replace_often" => texts::replace(alloc, "v", text, count),
         "text_to_uppercase" => texts::to_uppercase(alloc, text, count),
         "text_repeat" => texts::repeat(alloc, text, count),
         "text_format" => texts::format(alloc, text, count),
