@@ -4,6 +4,7 @@
 //! requests in turn.
 #![tactic(auto)]
 
+mod asked;
 mod bytes;
 mod elements;
 mod keepings;
@@ -72,7 +73,7 @@ fn lists_hold<K: Keeping>(alloc: Global, watch: &Watch) -> bool {
 }
 
 /// The parts of the program, each of which holds or is wrong.
-const PARTS: [&str; 24] = [
+const PARTS: [&str; 25] = [
     "vectors of numbers",
     "vectors of names",
     "bytes, none inline",
@@ -97,6 +98,7 @@ const PARTS: [&str; 24] = [
     "filled lists",
     "scripts",
     "makers of vectors",
+    "items that are asked for",
 ];
 
 fn is_right(part: usize, alloc: Global, watch: &Watch) -> bool {
@@ -112,6 +114,7 @@ fn is_right(part: usize, alloc: Global, watch: &Watch) -> bool {
         8 => texts_hold::<15>(alloc, watch, &SmallText::new(alloc)),
         9 => texts_hold::<23>(alloc, watch, &SmallText::new(alloc)),
         10 => prints::printing_holds(alloc, watch),
+        24 => asked::items_hold(alloc, watch),
         23 => makers::makers_hold::<i64>(alloc, watch)
             && makers::makers_hold::<Named>(alloc, watch),
         _ => is_right_keeping(part, alloc, watch),

@@ -100,6 +100,47 @@ fn sizes_up_to_the_limit_are_read_with_counts(rt: HostRuntime) {
     limited(&rt, true, "blocks 0 copied 0 moved 0\n".len());
 }
 
+/// A reader of as many bytes as are left, which counts how often it says that it is at its end.
+#[derive(Drop)]
+struct Watched {
+    left: usize,
+    ends: usize,
+}
+
+impl Read for &mut Watched {
+    fn read(&mut self, buf: &mut [u8]) -> io::Result<usize> {
+        let count = self.left.min(buf.len());
+        buf[..count].fill(b'#');
+        self.left -= count;
+        if count == 0 {
+            self.ends = self.ends.wrapping_add(1);
+        }
+        Ok(count)
+    }
+}
+
+#[test]
+fn a_reader_is_asked_no_more_once_the_end_is_known(rt: HostRuntime) {
+    for counted in [false, true] {
+        for (size, wanted, ends) in [
+            (0, End::Done, 1),
+            (1, End::Done, 1),
+            (16777216, End::Done, 1),
+            (33554432, End::TooLarge, 0),
+        ] {
+            let mut reader = Watched {
+                left: size,
+                ends: 0,
+            };
+            let mut written = Vec::new(rt.alloc());
+            let end = ended(rt.alloc(), counted, &mut reader, &mut written);
+            assert_eq!(rt; end, wanted);
+            assert_eq!(rt; reader.ends, ends);
+            assert_eq!(rt; reader.left == 0, wanted == End::Done);
+        }
+    }
+}
+
 #[test]
 fn bytes_that_are_no_text_are_told_where_they_are_few_enough(rt: HostRuntime) {
     for counted in [false, true] {

@@ -135,14 +135,6 @@ fn bytes_are_written_where_they_stand(rt: HostRuntime) -> Result<(), Fail> {
     Ok(())
 }
 
-#[test]
-fn the_paths_of_the_original_lead_here(rt: HostRuntime) -> Result<(), Fail> {
-    let list: ecow::vec::EcoVec<u8> = ecow::eco_vec![in rt.alloc(); 1u8, 2]?;
-    let bytes: ecow::bytes::EcoBytes = ecow::EcoBytes::from(list);
-    assert!(rt; bytes == EcoBytes::from_slice(rt.alloc(), &[1, 2])?);
-    Ok(())
-}
-
 /// The hash of a value by the standard library's hasher.
 fn hashed<T: Hash>(value: &T) -> u64 {
     let mut hasher = DefaultHasher::new();
