@@ -7,3 +7,5 @@ pub mod Rooms
 pub mod RestFields
 pub mod Clones
 pub mod Iterators
+pub mod Updates
+pub mod formers

@@ -11,6 +11,7 @@ ghost use Rattle.ecow_block.specs.Clones.{AppendsClones};
 ghost use Rattle.ecow_block.specs.Contents.{contents};
 ghost use Rattle.ecow_block.specs.Iterators.{GivesOn};
 ghost use Rattle.ecow_block.specs.Ownership.{has_bytes};
+ghost use Rattle.ecow_block.specs.Updates.{TakesAt, UpdatesAt};
 
 use crate::rest::Rest;
 use crate::room::{Base, Deed, Room, give_back, grow, make, nowhere};
@@ -125,6 +126,16 @@ impl<T> Block<T> {
     {
         let (base, len) = (self.base, self.len);
         self.room.as_mut_slice(base, 0, len)
+    }
+
+    /// Lends the element at `index` to `f`, once, and returns what `f` answers.
+    pub fn update<R, F: FnOnce(&mut T) -> R>(&mut self, index: usize, f: F) -> R
+        requires in_bounds { index < length self.old.items }
+        requires callable { TakesAt F.FnOnce f self.old.items index }
+        ensures updates { UpdatesAt F.FnOnce f index self.old.items self.new.items result }
+        ensures capacity { self.new.capacity ≡ self.old.capacity }
+    {
+        f(&mut self.as_mut_slice()[index])
     }
 
     /// Appends an element, for which there is room.

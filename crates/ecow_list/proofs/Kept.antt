@@ -1,6 +1,7 @@
 -- Elements that stayed, or in whose places clones stand.
-use Rattle.std.proofs.Common.{◌≡◌, List, [], ◌∷◌, map, length, refl, ap, arith, inl, inr}
+use Rattle.std.proofs.Common.{◌≡◌, ℕ, zero, suc, List, [], ◌∷◌, Some, map, length, slice_get, refl, ap, subst, arith, inl, inr}
 use Rattle.std.specs.List.{AllZip}
+use Rattle.std.proofs.lemmas.Option.{none-some, same_Some}
 use Rattle.ecow_base.specs.Clones.{ClonesAreEqual}
 use Rattle.ecow_list.specs.Vectors.{IsKept}
 
@@ -33,3 +34,11 @@ module _ {X : Type 0} (is_clone : X → X → Type 0) where
   pub kept_alike : {Y : Type 0} (f : X → Y) → ((x y : X) → is_clone x y → f y ≡ f x) → (old new : List X) → IsKept is_clone old new → map f new ≡ map f old
   kept_alike f alike old new (inl same) = ap (map f) same
   kept_alike f alike old new (inr clones) = zipped_alike f alike old new clones
+
+  -- an element of the list of clones is a clone of the element in its place
+  pub zipped_at : (old new : List X) (i : ℕ) (y : X) → AllZip is_clone old new → slice_get new i ≡ Some y → (x : X) × (slice_get old i ≡ Some x) × is_clone x y
+  zipped_at [] [] i y all found = absurd (none-some y found)
+  zipped_at [] (z ∷ zs) i y all found = absurd all
+  zipped_at (x ∷ xs) [] i y all found = absurd all
+  zipped_at (x ∷ xs) (z ∷ zs) zero y all found = (x, refl, subst (is_clone x) (same_Some _ _ found) all.0)
+  zipped_at (x ∷ xs) (z ∷ zs) (suc i) y all found = zipped_at xs zs i y all.1 found

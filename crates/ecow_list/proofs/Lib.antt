@@ -5,3 +5,4 @@ pub mod Kept
 pub mod Loans
 pub mod Pieces
 pub mod ResultTyped
+pub mod Views

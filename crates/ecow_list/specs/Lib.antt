@@ -2,3 +2,4 @@ pub mod IntoArray
 pub mod Lends
 pub mod Ranges
 pub mod Vectors
+pub mod formers

@@ -5,6 +5,7 @@ ghost use Rattle.std.specs.Prelude.{◌≡◌, ◌+◌, ◌-◌, ◌<◌, ◌≤
 ghost use Rattle.std.specs.Fn.{CalledAtMut};
 ghost use Rattle.std.specs.List.Retain.{RetainsInTurn};
 ghost use Rattle.ecow_base.specs.Clones.{ClonesAreEqual};
+ghost use Rattle.ecow_block.specs.Updates.{TakesKeptAt, UpdatesAt};
 ghost use Rattle.ecow_list.specs.Vectors.{IsKept, IsKeptBefore, IsKeptIn, IsTakenOf, SomeKept};
 
 use crate::error::{EcoError, Rejected};
@@ -208,6 +209,35 @@ impl<T: Clone> EcoVec<T> {
             error: EcoError::Memory,
             value,
         })
+    }
+
+    /// Lends the element at `index` to `f`, once, and returns what `f` answers. A shared vector
+    /// copies its elements first. The one error is `Memory`, where that copy was refused: then `f`
+    /// wasn't called, and nothing has changed.
+    ///
+    /// This project's own: the original writes through `make_mut`, of whose borrow a proved caller
+    /// learns less.
+    pub fn update<R, F: FnOnce(&mut T) -> R>(&mut self, index: usize, f: F) -> Result<R, EcoError>
+        requires in_bounds { index < length self.old }
+        requires callable { TakesKeptAt F.FnOnce f T.is_clone self.old index }
+        ensures ok { ClonesAreEqual T.is_clone → IfOk result (λ answer. UpdatesAt F.FnOnce f index self.old self.new answer) }
+        ensures kept { IfOk result
+            (λ answer. SomeKept T.is_clone self.old (λ kept. UpdatesAt F.FnOnce f index kept self.new answer)) }
+        ensures len { OnOk result (length self.new ≡ length self.old) }
+        ensures err { IfErr result (λ error. error ≡ EcoError.Memory) }
+        ensures unchanged { OnErr result (self.new ≡ self.old) }
+    {
+        let len = self.len();
+        if let Some(block) = self.sole_block() {
+            return Ok(block.update(index, f));
+        }
+        let mut fresh = self.copied(len, fresh_capacity(len))?;
+        let Some(block) = Rc::get_mut(&mut fresh) else {
+            return Err(EcoError::Memory);
+        };
+        let answer = block.update(index, f);
+        self.block = Some(fresh);
+        Ok(answer)
     }
 
     /// Asks for room for `additional` more elements; no capacity is promised. A shared vector copies

@@ -43,6 +43,7 @@ impl<T: Clone> EcoVec<T> {
     #[inline]
     pub fn own_mut(&mut self) -> Result<&mut Block<T>, Option<EcoError>>
         ensures* writes_back { sem 𝓛 (lends_own_block T.row T.is_clone self.entry result) }
+        ensures value { ClonesAreEqual T.is_clone → IfOk result (λ block. block.now.items ≡ self.old) }
         ensures kept { IfOk result (λ block. IsKept T.is_clone self.old block.now.items) }
         ensures len { IfOk result (λ block. length block.now.items ≡ length self.old) }
         ensures some { OnOk result (0 < length self.old) }

@@ -178,6 +178,9 @@ module _ (X : RattleType) (g : Ghosts X.Denot) (dc dd : Dict) where
       abbrev SliceStays : Answer → List X.Denot → Type 0
       SliceStays r n = OnErr r (IsKept g.is_clone d n) × (d ≡ [] → n ≡ [])
 
+      abbrev HasValue : Given → Type 0
+      HasValue r = ClonesAreEqual g.is_clone → IfOk r (λ x. x.now.items ≡ d)
+
       abbrev HasItems : Given → Type 0
       HasItems r = IfOk r (λ x. IsKept g.is_clone d x.now.items)
 
@@ -314,11 +317,11 @@ module _ (X : RattleType) (g : Ghosts X.Denot) (dc dd : Dict) where
             calls_at ! (fm_of 𝓤 H 𝓛.laws 𝓣) Own own z (and_then ! (get ! refl) (no_more !)) (λ v.
             use1 𝓛 (later (some' (λ (r : Given). ((‵ (flft κ q) ⊛ ‵ (flft κT qT) ⊛ ‵ ftrue) ⊛ ‵ ((result_row Lent (option_row error_row)).own_val r (v ∷ []))) ⊛
             some' (λ (ws : Unit {0} × Unit {0}). ‵ (lasts (O.ended Y g dc dd) z.0.0 z.0.3 ws) ⊛ ‵ (follows_so V B γ (name_if_ok (λ x. x.ghost_name) r) (BlockIs r) (BlockStays r)) ⊛
-            (raw (fact 𝓤 (HasItems r)) ⊛ raw (fact 𝓤 (HasLength r)) ⊛ raw (fact 𝓤 (HasSome r)) ⊛ raw (fact 𝓤 (IsRefusal r))))))) (id⊢ 𝓤 _) $
+            (raw (fact 𝓤 (HasValue r)) ⊛ raw (fact 𝓤 (HasItems r)) ⊛ raw (fact 𝓤 (HasLength r)) ⊛ raw (fact 𝓤 (HasSome r)) ⊛ raw (fact 𝓤 (IsRefusal r))))))) (id⊢ 𝓤 _) $
             await ! tt $ pick ! (λ r. split ! $ split ! $ split3 ! $ move ! (4 ∷ []) $ pick ! (λ ws. split3 ! $ drop ! $ move ! (1 ∷ []) $
-            split3 ! $ heard ! _ (λ items. heard ! _ (λ long. split ! $ heard ! _ (λ nonempty. heard ! _ (λ refusal.
+            split3 ! $ heard ! _ (λ value. heard ! _ (λ items. split3 ! $ heard ! _ (λ long. heard ! _ (λ nonempty. heard ! _ (λ refusal.
             -- [the clause; the tokens; nothing; the result]
-            move ! (3 ∷ []) $ drop ! $ move ! (3 ∷ 1 ∷ 2 ∷ 0 ∷ []) $ lent 𝓣 own slice alive l r v (items, (long, (nonempty, refusal))))))))))))
+            move ! (3 ∷ []) $ drop ! $ move ! (3 ∷ 1 ∷ 2 ∷ 0 ∷ []) $ lent 𝓣 own slice alive l r v (items, (long, (nonempty, refusal)))))))))))))
 
     meets : (𝓣 : Tables 𝓤 H) → Triple 𝓤 (𝓣.C own_key) Own → Triple 𝓤 (𝓣.C slice_key) Slice → Meets 𝓛 ended.signature (WpFn 𝓤 H 𝓣.C 𝓣.Λ function) (closing 𝓛 ended held)
     meets 𝓣 own slice =
