@@ -9,5 +9,6 @@ pub mod Places
 mod Printed
 mod Removal
 mod Repeats
+pub mod Replaced
 mod Steps
 pub mod Texts

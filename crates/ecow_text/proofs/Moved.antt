@@ -1,19 +1,8 @@
 -- What is left of bytes that were lent and changed where they stand.
 use Rattle.std.proofs.Common.{◌≡◌, ℕ, ◌+◌, ◌-◌, ◌≤◌, List, ◌++◌, length, take, drop, sym, ap, ◌∙◌, arith, length-drop}
 use Rattle.std.proofs.lemmas.List.Edits.{take-paste}
-use Rattle.std.specs.List.{copy_within, remove_range, refill}
-use lib.Seq.{take_at}
+use Rattle.std.specs.List.{copy_within, remove_range}
 use Rattle.std.proofs.lemmas.List.{take_all}
-use Rattle.ecow_list.specs.Vectors.{IsKept}
-use Rattle.ecow_list.proofs.Kept.{kept_equal}
-
--- clones of bytes are the bytes
-pub kept_bytes : (old new : List ℕ) → IsKept (λ x y. y ≡ x) old new → new ≡ old
-kept_bytes old new kept = kept_equal (λ x y. y ≡ x) (λ x y same. same) old new kept
-
--- bytes that were lent come back as they were written
-pub refilled : (n : ℕ) (xs ws : List ℕ) → n ≡ length ws → refill n xs ws ≡ ws
-refilled n xs ws e = take_at ws (drop (length ws) xs) n (sym e)
 
 -- where those from place j on move down to place i, those before place i stand before them
 pub cut_in_front : (d : List ℕ) (i j n : ℕ) → i ≤ j → j ≤ n → n ≡ length d → take (n - (j - i)) (copy_within d j n i) ≡ remove_range d i j

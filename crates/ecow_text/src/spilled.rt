@@ -19,7 +19,6 @@ pub(crate) fn take_vec<const N: usize>(bytes: &mut SmallBytes<N>) -> EcoVec<u8>
 
 /// Takes out the bytes from `start` up to `end`. A vector that is shared copies its bytes first, and
 /// no other takes memory. The one error is `Memory`, which changes nothing.
-#[tactic(auto, using(crate::proofs::Moved::kept_bytes))]
 pub(crate) fn cut_vec(vec: &mut EcoVec<u8>, start: usize, end: usize) -> Result<(), EcoError>
     requires ordered { start ≤ end }
     requires within { end ≤ length vec.old }
