@@ -1,5 +1,5 @@
 pub mod Pieces
-pub mod Written
 pub mod Meanings
 pub mod Holes
 pub mod Said
+pub mod Trees

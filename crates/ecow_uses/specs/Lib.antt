@@ -1,3 +1,4 @@
 pub mod History
 pub mod Template
 pub mod Scopes
+pub mod Trees

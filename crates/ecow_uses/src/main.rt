@@ -6,10 +6,12 @@ mod lines;
 mod settings;
 mod symbols;
 mod template;
+mod tree;
 mod undo;
 mod writing;
 
 use crate::symbols::{Names, Scope};
+use crate::tree::Node;
 use crate::undo::History;
 use anyhow::Result;
 use ecow_bytes::EcoBytes;
@@ -23,6 +25,7 @@ fn main(rt: HostRuntime) -> Result<()> {
     try_out_settings(&rt)?;
     fill_a_letter(&rt)?;
     shadow_a_name(&rt)?;
+    replace_a_node(&rt)?;
     write_in_place(&rt)?;
     append_to_lines(&rt)?;
     collect_items(&rt)?;
@@ -111,6 +114,38 @@ fn shadow_a_name(rt: &HostRuntime) -> Result<()> {
     let (inside, outside) = symbols::shadow(&outer, &name, 2)?;
     println!(rt; "{name} inside: {inside:?}, outside: {outside:?}")?;
     Ok(())
+}
+
+fn replace_a_node(rt: &HostRuntime) -> Result<()> {
+    let tree = a_tree(rt)?;
+    let node = leaf(rt, "z")?;
+    if let Some((kept, changed)) = tree::replace_and_keep(&tree, &[0, 0], node)? {
+        println!(rt; "{} -> {}", printed(rt, &kept)?, printed(rt, &changed)?)?;
+    }
+    if let Some(node) = tree.at(&[0]) {
+        println!(rt; "first child: {}, nodes: {:?}", printed(rt, node)?, tree.size())?;
+    }
+    Ok(())
+}
+
+fn a_tree(rt: &HostRuntime) -> Result<Node> {
+    let mut inner = leaf(rt, "g")?;
+    inner.add(leaf(rt, "x")?)?;
+    let mut tree = leaf(rt, "f")?;
+    tree.add(inner)?;
+    tree.add(leaf(rt, "y")?)?;
+    Ok(tree)
+}
+
+fn leaf(rt: &HostRuntime, name: &str) -> Result<Node> {
+    let alloc = rt.alloc();
+    Ok(Node::new(alloc, EcoString::from_str(alloc, name)?))
+}
+
+fn printed(rt: &HostRuntime, tree: &Node) -> Result<EcoString> {
+    let mut text = EcoString::new(rt.alloc());
+    tree.print(&mut text)?;
+    Ok(text)
 }
 
 fn write_in_place(rt: &HostRuntime) -> Result<()> {
