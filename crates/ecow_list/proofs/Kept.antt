@@ -1,8 +1,11 @@
 -- Elements that stayed, or in whose places clones stand.
-use Rattle.std.proofs.Common.{◌≡◌, ℕ, zero, suc, List, [], ◌∷◌, Some, map, length, slice_get, refl, ap, subst, arith, inl, inr}
+use Rattle.std.proofs.Common.{◌≡◌, ℕ, zero, suc, List, [], ◌∷◌, Some, map, length, slice_get, refl, ap, sym, subst, ◌∙◌, arith, inl, inr}
 use Rattle.std.specs.List.{AllZip}
 use Rattle.std.proofs.lemmas.Option.{none-some, same_Some}
+use Rattle.std.specs.Borrow.{MutBor}
+use Rattle.std.specs.Fn.{Once}
 use Rattle.ecow_base.specs.Clones.{ClonesAreEqual}
+use Rattle.ecow_block.specs.Updates.{TakesAt, TakesKeptAt}
 use Rattle.ecow_list.specs.Vectors.{IsKept}
 
 module _ {X : Type 0} (is_clone : X → X → Type 0) where
@@ -24,6 +27,11 @@ module _ {X : Type 0} (is_clone : X → X → Type 0) where
   none_kept [] (y ∷ ys) e (inr clones) = absurd clones
   none_kept (x ∷ xs) new e is = absurd (omega (arith, ap length e))
 
+  -- each element is itself in its place
+  pub zip_same : (xs : List X) → AllZip (λ (x y : X). y ≡ x) xs xs
+  zip_same [] = tt
+  zip_same (x ∷ xs) = (refl, zip_same xs)
+
   zipped_alike : {Y : Type 0} (f : X → Y) → ((x y : X) → is_clone x y → f y ≡ f x) → (old new : List X) → AllZip is_clone old new → map f new ≡ map f old
   zipped_alike f alike [] [] all = refl
   zipped_alike f alike [] (y ∷ ys) all = absurd all
@@ -42,3 +50,8 @@ module _ {X : Type 0} (is_clone : X → X → Type 0) where
   zipped_at (x ∷ xs) [] i y all found = absurd all
   zipped_at (x ∷ xs) (z ∷ zs) zero y all found = (x, refl, subst (is_clone x) (same_Some _ _ found) all.0)
   zipped_at (x ∷ xs) (z ∷ zs) (suc i) y all found = zipped_at xs zs i y all.1 found
+
+  -- what takes an element or a clone of it takes the element that stands in its place
+  pub takes_kept : {F R : Type 0} (g : Once F (MutBor X × Unit {0}) (R × (MutBor X × Unit {0}))) (f : F) (old new : List X) (i : ℕ) → TakesKeptAt g f is_clone old i → IsKept is_clone old new → TakesAt g f new i
+  takes_kept g f old new i takes (inl same) = λ x found. takes x x (ap (λ l. slice_get l i) (sym same) ∙ found) (inl refl)
+  takes_kept g f old new i takes (inr clones) = λ y found. let at = zipped_at old new i y clones found in takes at.0 y at.1 (inr at.2)

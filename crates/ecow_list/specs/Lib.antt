@@ -1,3 +1,4 @@
+pub mod Edits
 pub mod IntoArray
 pub mod Lends
 pub mod Ranges

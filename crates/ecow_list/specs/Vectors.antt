@@ -1,7 +1,8 @@
 -- What calls leave of a list of elements.
-use Rattle.std.specs.Prelude.{◌≡◌, ◌⊎◌, ◌+◌, List, [], Option, ◌++◌, length}
+use Rattle.std.specs.Prelude.{◌≡◌, ◌⊎◌, ◌+◌, List, [], Option, ◌++◌, length, Result, OnOk, OnErr}
 use Rattle.std.specs.Iterator.{Drains, Yields}
 use Rattle.std.specs.List.{AllZip}
+use Rattle.ecow_base.specs.Clones.{ClonesAreEqual}
 
 -- new has the elements of old and then xs
 abbrev pub Appends : {T : Type 0} → List T → List T → List T → Type 0
@@ -43,3 +44,10 @@ IsTakenOf {T} is_clone old taken item change new = (kept : List T) × IsKept is_
 -- new is the old elements, or a clone of each, and then a clone of each of xs
 abbrev pub IsKeptBefore : {T : Type 0} → (T → T → Type 0) → List T → List T → List T → Type 0
 IsKeptBefore {T} is_clone old xs new = (kept : List T) × (added : List T) × IsKept is_clone old kept × AllZip is_clone xs added × (new ≡ kept ++ added)
+
+-- what a call that changes a vector leaves: `ok` says what it makes of the elements where clones equal their sources, `kept` what
+-- it makes of them or of a clone of each, and `unchanged` that they stay where it is refused
+pub record Changes {T R E : Type 0} (is_clone : T → T → Type 0) (old : List T) (change : List T → List T) (result : Result R E) (new : List T) : Type 0 where
+  pub ok : ClonesAreEqual is_clone → OnOk result (new ≡ change old)
+  pub kept : OnOk result (IsKeptIn is_clone old change new)
+  pub unchanged : OnErr result (new ≡ old)

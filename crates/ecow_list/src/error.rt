@@ -1,6 +1,6 @@
 //! Why a call was refused.
 ghost use Rattle.std.specs.Prelude.{◌≡◌};
-ghost use Rattle.ecow_list.specs.declared.error.EcoError.TheVariants.{Memory};
+ghost use Rattle.ecow_list.specs.declared.error.EcoError.TheVariants.{Capacity, Memory};
 
 use std::alloc::{AllocError, AllocFailed};
 use std::fmt;
@@ -53,4 +53,28 @@ pub struct Rejected<V> {
     pub error: EcoError,
     /// What was handed in.
     pub value: V,
+}
+
+impl<V> Rejected<V> {
+    /// Hands `value` back, since there is more than a vector can hold.
+    pub(crate) fn for_capacity(value: V) -> Self
+        ensures error { result.error ≡ Capacity }
+        ensures value { result.value ≡ value }
+    {
+        Rejected {
+            error: EcoError::Capacity,
+            value,
+        }
+    }
+
+    /// Hands `value` back, since there was no memory.
+    pub(crate) fn for_memory(value: V) -> Self
+        ensures error { result.error ≡ Memory }
+        ensures value { result.value ≡ value }
+    {
+        Rejected {
+            error: EcoError::Memory,
+            value,
+        }
+    }
 }

@@ -12,6 +12,7 @@ mod copies;
 mod edits;
 mod insert_slice;
 mod make_mut;
+mod own;
 mod push;
 mod ranges;
 
@@ -163,23 +164,6 @@ impl<T: Drop> EcoVec<T> {
             Some(block) => block.truncate(0),
             None => self.block = None,
         }
-    }
-}
-
-impl<T: Clone> EcoVec<T> {
-    /// A block that no vector shares, with clones of the first `len` elements and room for
-    /// `capacity`.
-    fn copied(&self, len: usize, capacity: usize) -> Result<Rc<Block<T>>, AllocError>
-        requires in_bounds { len ≤ length self.now }
-        requires room { len ≤ capacity }
-        requires bounded { capacity ≤ MAX_LEN }
-        ensures items { ClonesAreEqual T.is_clone → IfOk result (λ shared. shared.value.items ≡ take len self.now) }
-        ensures clones { IfOk result (λ shared. AllZip T.is_clone (take len self.now) shared.value.items) }
-        ensures len { IfOk result (λ shared. length shared.value.items ≡ len) }
-        ensures capacity { IfOk result (λ shared. shared.value.capacity ≡ capacity) }
-    {
-        let block = Block::from_clones(self.alloc, &self.as_slice()[..len], capacity)?;
-        Ok(Rc::new(self.alloc, block)?)
     }
 }
 

@@ -10,7 +10,7 @@ use std::alloc::Global;
 /// The items of `iter`, in order, in a block with room for no fewer than `least`. A block that has
 /// to grow gets room for `ample` at least. At the item past `most` it answers `Capacity`. After a
 /// refusal no further item is asked for.
-pub(super) fn collected<T: Drop, I: Iterator<Item = T>>(
+pub(super) fn collect<T: Drop, I: Iterator<Item = T>>(
     alloc: Global,
     least: usize,
     ample: usize,

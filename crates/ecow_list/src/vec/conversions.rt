@@ -8,7 +8,7 @@ ghost use Rattle.ecow_list.specs.Vectors.{Appends, GivesFirst, GivesItems, IsKep
 use crate::error::{EcoError, Rejected};
 use crate::iter::IntoIter;
 use crate::vec::EcoVec;
-use crate::vec::collect::collected;
+use crate::vec::collect::collect;
 use ecow_base::{MAX_LEN, fresh_capacity};
 use ecow_block::Block;
 use std::alloc::{AllocError, Global};
@@ -36,10 +36,7 @@ impl<T: Drop> EcoVec<T> {
     {
         let len = elements.len();
         if len > MAX_LEN {
-            return Err(Rejected {
-                error: EcoError::Capacity,
-                value: elements,
-            });
+            return Err(Rejected::for_capacity(elements));
         }
         if len == 0 {
             return Ok(EcoVec::new(alloc));
@@ -54,10 +51,7 @@ impl<T: Drop> EcoVec<T> {
                 alloc,
             });
         }
-        Err(Rejected {
-            error: EcoError::Memory,
-            value: elements,
-        })
+        Err(Rejected::for_memory(elements))
     }
 
     /// The elements of an array, none of them cloned; without a block where there are none. A
@@ -71,10 +65,7 @@ impl<T: Drop> EcoVec<T> {
         ensures capacity { IsErrAnd result (λ rejected. rejected.error ≡ EcoError.Capacity) ↔ (MAX_LEN < N) }
     {
         if N > MAX_LEN {
-            return Err(Rejected {
-                error: EcoError::Capacity,
-                value: elements,
-            });
+            return Err(Rejected::for_capacity(elements));
         }
         match Vec::from_array(alloc, elements) {
             Ok(elements) => match EcoVec::from_vec(alloc, elements) {
@@ -84,10 +75,7 @@ impl<T: Drop> EcoVec<T> {
                     value: rejected.value.try_into().unwrap(),
                 }),
             },
-            Err(failed) => Err(Rejected {
-                error: EcoError::Memory,
-                value: failed.value,
-            }),
+            Err(failed) => Err(Rejected::for_memory(failed.value)),
         }
     }
 
@@ -104,7 +92,7 @@ impl<T: Drop> EcoVec<T> {
             × (length items ≤ MAX_LEN + 1)
             × (IsErrOf result EcoError.Capacity ↔ (length items ≡ MAX_LEN + 1)))) }
     {
-        let items = collected(alloc, 0, 4, MAX_LEN, &mut iter.into_iter())?;
+        let items = collect(alloc, 0, 4, MAX_LEN, &mut iter.into_iter())?;
         if items.len() == 0 {
             return Ok(EcoVec::new(alloc));
         }
@@ -154,21 +142,16 @@ impl<T: Clone> EcoVec<T> {
         ensures nothing { n ≡ 0 → IsOk result }
     {
         if n > MAX_LEN {
-            return Err(Rejected {
-                error: EcoError::Capacity,
-                value,
-            });
+            return Err(Rejected::for_capacity(value));
         }
-        match Self::repeated(alloc, &value, n) {
+        match Self::repeat(alloc, &value, n) {
             Ok(vec) => Ok(vec),
-            Err(_) => Err(Rejected {
-                error: EcoError::Memory,
-                value,
-            }),
+            Err(_) => Err(Rejected::for_memory(value)),
         }
     }
 
-    fn repeated(alloc: Global, value: &T, n: usize) -> Result<Self, AllocError>
+    /// `n` clones of `value`, with room for no more; without a block for none.
+    fn repeat(alloc: Global, value: &T, n: usize) -> Result<Self, AllocError>
         requires { n ≤ MAX_LEN }
         ensures ok { ClonesAreEqual T.is_clone → IfOk result (λ v. v ≡ replicate n value.now) }
         ensures clones { IfOk result (All (T.is_clone value.now)) }
@@ -228,13 +211,10 @@ impl<T: Clone> EcoVec<T> {
         };
         match taken {
             Ok(elements) => Ok(elements),
-            Err(_) => Err(Rejected {
-                error: EcoError::Memory,
-                value: EcoVec {
-                    block: Some(shared),
-                    alloc,
-                },
-            }),
+            Err(_) => Err(Rejected::for_memory(EcoVec {
+                block: Some(shared),
+                alloc,
+            })),
         }
     }
 
@@ -255,13 +235,10 @@ impl<T: Clone> EcoVec<T> {
             Ok(block) => Ok(IntoIter::new(block.into_rest())),
             Err(shared) => match Block::from_clones(alloc, shared.as_slice(), shared.len()) {
                 Ok(copy) => Ok(IntoIter::new(copy.into_rest())),
-                Err(_) => Err(Rejected {
-                    error: EcoError::Memory,
-                    value: EcoVec {
-                        block: Some(shared),
-                        alloc,
-                    },
-                }),
+                Err(_) => Err(Rejected::for_memory(EcoVec {
+                    block: Some(shared),
+                    alloc,
+                })),
             },
         }
     }

@@ -6,7 +6,8 @@ ghost use Rattle.ecow_list.specs.Ranges.{AtRange};
 
 use crate::error::EcoError;
 use crate::vec::EcoVec;
-use ecow_base::{MAX_LEN, fresh_capacity, resolve, room_for};
+use crate::vec::own::{Copies, Room};
+use ecow_base::{MAX_LEN, fresh_capacity, resolve};
 use ecow_block::Block;
 use std::alloc::Global;
 use std::ops::RangeBounds;
@@ -54,37 +55,9 @@ impl<T: Clone + Copy> EcoVec<T> {
         if added == 0 {
             return Ok(());
         }
-        if let Some(block) = self.sole_block()
-            && added <= block.capacity() - block.len()
-        {
-            block.extend_copies(elements);
-            return Ok(());
-        }
-        self.copied_growing(elements)
-    }
-
-    /// The same where the block is too small, shared or not there.
-    #[inline(never)]
-    fn copied_growing(&mut self, elements: &[T]) -> Result<(), EcoError>
-        requires { 0 < length elements.now }
-        ensures ok { OnOk result (self.new ≡ self.old ++ elements.now) }
-        ensures err { OnErr result (self.new ≡ self.old) }
-        ensures capacity { IsErrOf result EcoError.Capacity ↔ (MAX_LEN < length self.old + length elements.now) }
-    {
-        let (len, added) = (self.len(), elements.len());
-        if added > MAX_LEN - len {
-            return Err(EcoError::Capacity);
-        }
-        if let Some(block) = self.sole_block() {
-            block.grow(room_for(len, added, block.capacity()))?;
-            block.extend_copies(elements);
-            return Ok(());
-        }
-        let room = room_for(len, added, self.capacity());
-        let mut block = Block::from_copies(self.alloc, self.as_slice(), room)?;
-        block.extend_copies(elements);
-        self.block = Some(Rc::new(self.alloc, block)?);
-        Ok(())
+        Ok(self.edit(Copies, Room::Shared, added, (), |block, ()| {
+            Ok(block.extend_copies(elements))
+        })?)
     }
 
     /// Appends copies of the elements of `range`, which `range_in` tests, in one move of memory: all,
@@ -106,30 +79,8 @@ impl<T: Clone + Copy> EcoVec<T> {
         if start == end {
             return Ok(());
         }
-        self.extend_within(start, end)
-    }
-
-    /// The same of the elements from `start` up to `end`.
-    fn extend_within(&mut self, start: usize, end: usize) -> Result<(), EcoError>
-        requires some { start < end }
-        requires in_bounds { end ≤ length self.old }
-        ensures ok { OnOk result (self.new ≡ self.old ++ slice_range self.old start end) }
-        ensures err { OnErr result (self.new ≡ self.old) }
-        ensures capacity { IsErrOf result EcoError.Capacity ↔ (MAX_LEN < length self.old + (end - start)) }
-    {
-        let (len, added) = (self.len(), end - start);
-        if added > MAX_LEN - len {
-            return Err(EcoError::Capacity);
-        }
-        if let Some(block) = self.sole_block() {
-            block.grow(room_for(len, added, block.capacity()))?;
-            block.extend_from_within(start, end);
-            return Ok(());
-        }
-        let room = room_for(len, added, self.capacity());
-        let mut fresh = Block::from_copies(self.alloc, self.as_slice(), room)?;
-        fresh.extend_from_within(start, end);
-        self.block = Some(Rc::new(self.alloc, fresh)?);
-        Ok(())
+        Ok(self.edit(Copies, Room::Shared, end - start, (), |block, ()| {
+            Ok(block.extend_from_within(start, end))
+        })?)
     }
 }

@@ -1,18 +1,16 @@
-//! The calls that change a vector in place. Each has two paths: a sole block is changed where it
-//! is, and the elements of a shared one are copied into a new block, which is changed and then
-//! takes the old one's place; so a refusal leaves all as it was.
+//! The calls that change a vector's elements in place. Each says what becomes of the elements of
+//! its own block: `edit` makes the block its own first.
 ghost use Rattle.std.specs.Prelude.{◌≡◌, ◌+◌, ◌-◌, ◌<◌, ◌≤◌, ◌↔◌, [], ◌++◌, length, take, IsOk, IfOk, IfErr, OnOk, OnErr, IsErrAnd, IsErrOf, IsSome, Some, insert, remove, slice_get, slice_set, min};
 ghost use Rattle.std.specs.Fn.{CalledAtMut};
 ghost use Rattle.std.specs.List.Retain.{RetainsInTurn};
 ghost use Rattle.ecow_base.specs.Clones.{ClonesAreEqual};
 ghost use Rattle.ecow_block.specs.Updates.{TakesKeptAt, UpdatesAt};
-ghost use Rattle.ecow_list.specs.Vectors.{IsKept, IsKeptBefore, IsKeptIn, IsTakenOf, SomeKept};
+ghost use Rattle.ecow_list.specs.Vectors.{Changes, IsKept, IsKeptBefore, IsTakenOf, SomeKept};
 
 use crate::error::{EcoError, Rejected};
 use crate::vec::EcoVec;
-use ecow_base::{MAX_LEN, fresh_capacity, room_for};
-use ecow_block::Block;
-use std::rc::Rc;
+use crate::vec::own::{Clones, Room};
+use ecow_base::MAX_LEN;
 
 impl<T: Clone> EcoVec<T> {
     /// Keeps the first `len` elements, or all where there are fewer. A shared vector copies only
@@ -38,7 +36,7 @@ impl<T: Clone> EcoVec<T> {
             block.truncate(len);
             return Ok(());
         }
-        self.block = Some(self.copied(len, fresh_capacity(len))?);
+        *self = EcoVec::from_slice(self.alloc, &self.as_slice()[..len])?;
         Ok(())
     }
 
@@ -47,45 +45,27 @@ impl<T: Clone> EcoVec<T> {
     /// changes nothing.
     #[inline]
     pub fn pop(&mut self) -> Result<Option<T>, EcoError>
-        ensures value { ClonesAreEqual T.is_clone → IfOk result (λ last. last ≡ slice_get self.old (length self.old - 1)) }
-        ensures ok { ClonesAreEqual T.is_clone → OnOk result (self.new ≡ take (length self.old - 1) self.old) }
-        ensures kept { IfOk result (λ last. IsTakenOf T.is_clone self.old (λ kept. slice_get kept (length kept - 1)) last (λ kept. take (length kept - 1) kept) self.new) }
+        ensures value { ClonesAreEqual T.is_clone
+            → IfOk result (λ last. last ≡ slice_get self.old (length self.old - 1)) }
+        ensures ok { ClonesAreEqual T.is_clone
+            → OnOk result (self.new ≡ take (length self.old - 1) self.old) }
+        ensures kept { IfOk result
+            (λ last.
+            IsTakenOf T.is_clone self.old
+            (λ kept. slice_get kept (length kept - 1))
+            last
+            (λ kept. take (length kept - 1) kept)
+            self.new) }
         ensures some { IfOk result (λ last. IsSome last ↔ (0 < length self.old)) }
         ensures len { OnOk result (length self.new ≡ length self.old - 1) }
         ensures err { IfErr result (λ error. error ≡ EcoError.Memory) }
         ensures unchanged { OnErr result (self.new ≡ self.old) }
         ensures empty { self.old ≡ [] → IsOk result × (self.new ≡ []) }
     {
-        if let Some(block) = self.sole_block() {
-            return Ok(block.pop());
-        }
         if self.is_empty() {
             return Ok(None);
         }
-        Ok(Some(self.pop_shared()?))
-    }
-
-    /// The same where the block is shared and has an element.
-    #[cold]
-    #[inline(never)]
-    fn pop_shared(&mut self) -> Result<T, EcoError>
-        requires { 0 < length self.old }
-        ensures value { ClonesAreEqual T.is_clone → IfOk result (λ last. slice_get self.old (length self.old - 1) ≡ Some last) }
-        ensures ok { ClonesAreEqual T.is_clone → OnOk result (self.new ≡ take (length self.old - 1) self.old) }
-        ensures kept { IfOk result (λ last. IsTakenOf T.is_clone self.old (λ kept. slice_get kept (length kept - 1)) (Some last) (λ kept. take (length kept - 1) kept) self.new) }
-        ensures len { OnOk result (length self.new ≡ length self.old - 1) }
-        ensures err { IfErr result (λ error. error ≡ EcoError.Memory) }
-        ensures unchanged { OnErr result (self.new ≡ self.old) }
-    {
-        let len = self.len();
-        let mut fresh = self.copied(len, fresh_capacity(len))?;
-        if let Some(block) = Rc::get_mut(&mut fresh)
-            && let Some(last) = block.pop()
-        {
-            self.block = Some(fresh);
-            return Ok(last);
-        }
-        Err(EcoError::Memory)
+        Ok(self.edit(Clones, Room::Fresh, 0, (), |block, ()| Ok(block.pop()))?)
     }
 
     /// Puts `value` in at `index`, before the element that stands there. A vector that is shared
@@ -96,62 +76,14 @@ impl<T: Clone> EcoVec<T> {
     #[inline]
     pub fn insert(&mut self, index: usize, value: T) -> Result<(), Rejected<T>>
         requires { index ≤ length self.old }
-        ensures ok { ClonesAreEqual T.is_clone → OnOk result (self.new ≡ insert self.old index value) }
-        ensures kept { OnOk result (IsKeptIn T.is_clone self.old (λ kept. insert kept index value) self.new) }
+        ensures change { Changes T.is_clone self.old (λ kept. insert kept index value) result self.new }
         ensures len { OnOk result (length self.new ≡ length self.old + 1) }
-        ensures err { OnErr result (self.new ≡ self.old) }
         ensures value_returned { IfErr result (λ rejected. rejected.value ≡ value) }
-        ensures capacity { IsErrAnd result (λ rejected. rejected.error ≡ EcoError.Capacity) ↔ (MAX_LEN ≤ length self.old) }
+        ensures capacity { IsErrAnd result (λ rejected. rejected.error ≡ EcoError.Capacity)
+            ↔ (MAX_LEN ≤ length self.old) }
     {
-        if let Some(block) = self.sole_block()
-            && block.len() < block.capacity()
-        {
-            block.insert_within(index, value);
-            return Ok(());
-        }
-        self.insert_growing(index, value)
-    }
-
-    /// The same where the block is full, shared or not there.
-    #[cold]
-    #[inline(never)]
-    fn insert_growing(&mut self, index: usize, value: T) -> Result<(), Rejected<T>>
-        requires { index ≤ length self.old }
-        ensures ok { ClonesAreEqual T.is_clone → OnOk result (self.new ≡ insert self.old index value) }
-        ensures kept { OnOk result (IsKeptIn T.is_clone self.old (λ kept. insert kept index value) self.new) }
-        ensures len { OnOk result (length self.new ≡ length self.old + 1) }
-        ensures err { OnErr result (self.new ≡ self.old) }
-        ensures value_returned { IfErr result (λ rejected. rejected.value ≡ value) }
-        ensures capacity { IsErrAnd result (λ rejected. rejected.error ≡ EcoError.Capacity) ↔ (MAX_LEN ≤ length self.old) }
-    {
-        let len = self.len();
-        if len >= MAX_LEN {
-            return Err(Rejected {
-                error: EcoError::Capacity,
-                value,
-            });
-        }
-        if let Some(block) = self.sole_block() {
-            if block.grow(room_for(len, 1, block.capacity())).is_err() {
-                return Err(Rejected {
-                    error: EcoError::Memory,
-                    value,
-                });
-            }
-            block.insert_within(index, value);
-            return Ok(());
-        }
-        let room = room_for(len, 1, self.capacity());
-        if let Ok(mut fresh) = self.copied(len, room)
-            && let Some(block) = Rc::get_mut(&mut fresh)
-        {
-            block.insert_within(index, value);
-            self.block = Some(fresh);
-            return Ok(());
-        }
-        Err(Rejected {
-            error: EcoError::Memory,
-            value,
+        self.edit(Clones, Room::Shared, 1, value, |block, value| {
+            Ok(block.insert_within(index, value))
         })
     }
 
@@ -159,24 +91,23 @@ impl<T: Clone> EcoVec<T> {
     /// is `Memory`, which changes nothing.
     pub fn remove(&mut self, index: usize) -> Result<T, EcoError>
         requires { index < length self.old }
-        ensures value { ClonesAreEqual T.is_clone → IfOk result (λ value. slice_get self.old index ≡ Some value) }
+        ensures value { ClonesAreEqual T.is_clone
+            → IfOk result (λ value. slice_get self.old index ≡ Some value) }
         ensures ok { ClonesAreEqual T.is_clone → OnOk result (self.new ≡ remove self.old index) }
-        ensures kept { IfOk result (λ value. IsTakenOf T.is_clone self.old (λ kept. slice_get kept index) (Some value) (λ kept. remove kept index) self.new) }
+        ensures kept { IfOk result
+            (λ value.
+            IsTakenOf T.is_clone self.old
+            (λ kept. slice_get kept index)
+            (Some value)
+            (λ kept. remove kept index)
+            self.new) }
         ensures len { OnOk result (length self.new + 1 ≡ length self.old) }
         ensures err { IfErr result (λ error. error ≡ EcoError.Memory) }
         ensures unchanged { OnErr result (self.new ≡ self.old) }
     {
-        let len = self.len();
-        if let Some(block) = self.sole_block() {
-            return Ok(block.remove(index));
-        }
-        let mut fresh = self.copied(len, fresh_capacity(len))?;
-        let Some(block) = Rc::get_mut(&mut fresh) else {
-            return Err(EcoError::Memory);
-        };
-        let value = block.remove(index);
-        self.block = Some(fresh);
-        Ok(value)
+        Ok(self.edit(Clones, Room::Fresh, 0, (), |block, ()| {
+            Ok(block.remove(index))
+        })?)
     }
 
     /// Puts `value` in place of the element at `index`, which is dropped. A shared vector copies its
@@ -186,28 +117,13 @@ impl<T: Clone> EcoVec<T> {
     /// but of whose borrow a proved caller learns less.
     pub fn set(&mut self, index: usize, value: T) -> Result<(), Rejected<T>>
         requires { index < length self.old }
-        ensures ok { ClonesAreEqual T.is_clone → OnOk result (self.new ≡ slice_set self.old index value) }
-        ensures kept { OnOk result (IsKeptIn T.is_clone self.old (λ kept. slice_set kept index value) self.new) }
+        ensures change { Changes T.is_clone self.old (λ kept. slice_set kept index value) result self.new }
         ensures len { OnOk result (length self.new ≡ length self.old) }
-        ensures err { OnErr result (self.new ≡ self.old) }
         ensures value_returned { IfErr result (λ rejected. rejected.value ≡ value) }
         ensures memory { IfErr result (λ rejected. rejected.error ≡ EcoError.Memory) }
     {
-        let len = self.len();
-        if let Some(block) = self.sole_block() {
-            block.set(index, value);
-            return Ok(());
-        }
-        if let Ok(mut fresh) = self.copied(len, fresh_capacity(len))
-            && let Some(block) = Rc::get_mut(&mut fresh)
-        {
-            block.set(index, value);
-            self.block = Some(fresh);
-            return Ok(());
-        }
-        Err(Rejected {
-            error: EcoError::Memory,
-            value,
+        self.edit(Clones, Room::Fresh, 0, value, |block, value| {
+            Ok(block.set(index, value))
         })
     }
 
@@ -220,24 +136,19 @@ impl<T: Clone> EcoVec<T> {
     pub fn update<R, F: FnOnce(&mut T) -> R>(&mut self, index: usize, f: F) -> Result<R, EcoError>
         requires in_bounds { index < length self.old }
         requires callable { TakesKeptAt F.FnOnce f T.is_clone self.old index }
-        ensures ok { ClonesAreEqual T.is_clone → IfOk result (λ answer. UpdatesAt F.FnOnce f index self.old self.new answer) }
+        ensures ok { ClonesAreEqual T.is_clone
+            → IfOk result (λ answer. UpdatesAt F.FnOnce f index self.old self.new answer) }
         ensures kept { IfOk result
-            (λ answer. SomeKept T.is_clone self.old (λ kept. UpdatesAt F.FnOnce f index kept self.new answer)) }
+            (λ answer.
+            SomeKept T.is_clone self.old
+            (λ kept. UpdatesAt F.FnOnce f index kept self.new answer)) }
         ensures len { OnOk result (length self.new ≡ length self.old) }
         ensures err { IfErr result (λ error. error ≡ EcoError.Memory) }
         ensures unchanged { OnErr result (self.new ≡ self.old) }
     {
-        let len = self.len();
-        if let Some(block) = self.sole_block() {
-            return Ok(block.update(index, f));
-        }
-        let mut fresh = self.copied(len, fresh_capacity(len))?;
-        let Some(block) = Rc::get_mut(&mut fresh) else {
-            return Err(EcoError::Memory);
-        };
-        let answer = block.update(index, f);
-        self.block = Some(fresh);
-        Ok(answer)
+        Ok(self.edit(Clones, Room::Fresh, 0, (), |block, ()| {
+            Ok(block.update(index, f))
+        })?)
     }
 
     /// Asks for room for `additional` more elements; no capacity is promised. A shared vector copies
@@ -249,20 +160,10 @@ impl<T: Clone> EcoVec<T> {
         ensures kept { OnOk result (IsKept T.is_clone self.old self.new) }
         ensures len { OnOk result (length self.new ≡ length self.old) }
         ensures err { OnErr result (self.new ≡ self.old) }
-        ensures capacity { IsErrOf result EcoError.Capacity ↔ (MAX_LEN < length self.old + additional) }
+        ensures capacity { IsErrOf result EcoError.Capacity
+            ↔ (MAX_LEN < length self.old + additional) }
     {
-        let len = self.len();
-        if additional > MAX_LEN - len {
-            return Err(EcoError::Capacity);
-        }
-        if let Some(block) = self.sole_block() {
-            return Ok(block.grow(room_for(len, additional, block.capacity()))?);
-        }
-        let room = room_for(len, additional, self.capacity());
-        if room > 0 {
-            self.block = Some(self.copied(len, room)?);
-        }
-        Ok(())
+        Ok(self.edit(Clones, Room::Shared, additional, (), |_block, ()| Ok(()))?)
     }
 
     /// Appends clones of `elements`: all, or none where it is refused. A vector that is shared
@@ -275,53 +176,17 @@ impl<T: Clone> EcoVec<T> {
         ensures kept { OnOk result (IsKeptBefore T.is_clone self.old elements.now self.new) }
         ensures len { OnOk result (length self.new ≡ length self.old + length elements.now) }
         ensures err { OnErr result (self.new ≡ self.old) }
-        ensures capacity { IsErrOf result EcoError.Capacity ↔ (MAX_LEN < length self.old + length elements.now) }
+        ensures capacity { IsErrOf result EcoError.Capacity
+            ↔ (MAX_LEN < length self.old + length elements.now) }
         ensures nothing { elements.now ≡ [] → IsOk result × (self.new ≡ self.old) }
     {
         let (_len, added) = (self.len(), elements.len());
         if added == 0 {
             return Ok(());
         }
-        if let Some(block) = self.sole_block()
-            && added <= block.capacity() - block.len()
-        {
-            return Ok(block.extend_within(elements)?);
-        }
-        self.extend_growing(elements)
-    }
-
-    /// The same where the block is too small, shared or not there.
-    #[inline(never)]
-    fn extend_growing(&mut self, elements: &[T]) -> Result<(), EcoError>
-        requires { 0 < length elements.now }
-        ensures ok { ClonesAreEqual T.is_clone → OnOk result (self.new ≡ self.old ++ elements.now) }
-        ensures kept { OnOk result (IsKeptBefore T.is_clone self.old elements.now self.new) }
-        ensures len { OnOk result (length self.new ≡ length self.old + length elements.now) }
-        ensures err { OnErr result (self.new ≡ self.old) }
-        ensures capacity { IsErrOf result EcoError.Capacity ↔ (MAX_LEN < length self.old + length elements.now) }
-    {
-        let (len, added) = (self.len(), elements.len());
-        if added > MAX_LEN - len {
-            return Err(EcoError::Capacity);
-        }
-        if let Some(block) = self.sole_block() {
-            block.grow(room_for(len, added, block.capacity()))?;
-            block.extend_within(elements)?;
-            return Ok(());
-        }
-        let room = room_for(len, added, self.capacity());
-        if len == 0 {
-            let block = Block::from_clones(self.alloc, elements, room)?;
-            self.block = Some(Rc::new(self.alloc, block)?);
-            return Ok(());
-        }
-        let mut fresh = self.copied(len, room)?;
-        let Some(block) = Rc::get_mut(&mut fresh) else {
-            return Err(EcoError::Memory);
-        };
-        block.extend_within(elements)?;
-        self.block = Some(fresh);
-        Ok(())
+        Ok(self.edit(Clones, Room::Shared, added, (), |block, ()| {
+            block.extend_within(elements).map_err(|_| ())
+        })?)
     }
 
     /// Gives each element to `f` for writing, once and in order, and keeps those, as `f` left
@@ -330,28 +195,15 @@ impl<T: Clone> EcoVec<T> {
     /// was given no element, and nothing has changed.
     pub fn retain<F: FnMut(&mut T) -> bool>(&mut self, f: F) -> Result<(), EcoError>
         requires { F.IsAlwaysCallable f }
-        ensures ok { ClonesAreEqual T.is_clone → OnOk result (RetainsInTurn (CalledAtMut F.FnMut) f self.old self.new) }
+        ensures ok { ClonesAreEqual T.is_clone
+            → OnOk result (RetainsInTurn (CalledAtMut F.FnMut) f self.old self.new) }
         ensures kept { OnOk result
-            (SomeKept T.is_clone self.old (λ kept. RetainsInTurn (CalledAtMut F.FnMut) f kept self.new)) }
+            (SomeKept T.is_clone self.old
+            (λ kept. RetainsInTurn (CalledAtMut F.FnMut) f kept self.new)) }
         ensures len { OnOk result (length self.new ≤ length self.old) }
         ensures err { IfErr result (λ error. error ≡ EcoError.Memory) }
         ensures unchanged { OnErr result (self.new ≡ self.old) }
     {
-        let len = self.len();
-        if let Some(block) = self.sole_block() {
-            block.retain(f);
-            return Ok(());
-        }
-        if len == 0 {
-            self.block = None;
-            return Ok(());
-        }
-        let mut fresh = self.copied(len, fresh_capacity(len))?;
-        let Some(own) = Rc::get_mut(&mut fresh) else {
-            return Err(EcoError::Memory);
-        };
-        own.retain(f);
-        self.block = Some(fresh);
-        Ok(())
+        Ok(self.edit(Clones, Room::Fresh, 0, (), |block, ()| Ok(block.retain(f)))?)
     }
 }

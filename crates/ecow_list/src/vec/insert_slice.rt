@@ -2,13 +2,14 @@
 ghost use Rattle.std.specs.Prelude.{◌≡◌, ◌+◌, ◌*◌, ◌-◌, ◌^◌, ◌<◌, ◌≤◌, ◌↔◌, length, OnOk, OnErr, IsErrOf, IsTrue};
 ghost use Rattle.std.specs.List.{copy_within, insert_slice};
 ghost use Rattle.std.specs.Mem.{type_size};
+ghost use Rattle.ecow_block.specs.Contents.{contents};
 
 use crate::error::EcoError;
 use crate::vec::EcoVec;
-use ecow_base::{MAX_LEN, room_for};
+use crate::vec::own::{Copies, Room};
+use ecow_base::MAX_LEN;
 use ecow_block::Block;
 use std::mem::size_of_val;
-use std::rc::Rc;
 
 impl<T: Clone + Copy> EcoVec<T> {
     /// Puts copies of `elements` in at `index`, before the element that stands there, in moves of
@@ -25,41 +26,10 @@ impl<T: Clone + Copy> EcoVec<T> {
         ensures err { OnErr result (self.new ≡ self.old) }
         ensures capacity { IsErrOf result EcoError.Capacity ↔ (MAX_LEN < length self.old + length elements.now) }
     {
-        let (_len, added) = (self.len(), elements.len());
-        if let Some(block) = self.sole_block()
-            && added <= block.capacity() - block.len()
-        {
-            insert_within(block, index, elements);
-            return Ok(());
-        }
-        self.insert_slice_growing(index, elements)
-    }
-
-    /// The same where the block is too small, shared or not there.
-    #[inline(never)]
-    fn insert_slice_growing(&mut self, index: usize, elements: &[T]) -> Result<(), EcoError>
-        requires { index ≤ length self.old }
-        ensures ok { OnOk result (self.new ≡ insert_slice self.old index elements.now) }
-        ensures err { OnErr result (self.new ≡ self.old) }
-        ensures capacity { IsErrOf result EcoError.Capacity ↔ (MAX_LEN < length self.old + length elements.now) }
-    {
-        let (len, added) = (self.len(), elements.len());
-        if added > MAX_LEN - len {
-            return Err(EcoError::Capacity);
-        }
-        if let Some(block) = self.sole_block() {
-            block.grow(room_for(len, added, block.capacity()))?;
-            insert_within(block, index, elements);
-            return Ok(());
-        }
-        let room = room_for(len, added, self.capacity());
-        if room == 0 {
-            return Ok(());
-        }
-        let mut block = Block::from_copies(self.alloc, self.as_slice(), room)?;
-        insert_within(&mut block, index, elements);
-        self.block = Some(Rc::new(self.alloc, block)?);
-        Ok(())
+        let added = elements.len();
+        Ok(self.edit(Copies, Room::Shared, added, (), |block, ()| {
+            Ok(insert_within(block, index, elements))
+        })?)
     }
 }
 
@@ -67,7 +37,7 @@ impl<T: Clone + Copy> EcoVec<T> {
 fn insert_within<T: Copy>(block: &mut Block<T>, index: usize, elements: &[T])
     requires in_bounds { index ≤ length block.old.items }
     requires room { length block.old.items + length elements.now ≤ block.old.capacity }
-    ensures { block.new.items ≡ insert_slice block.old.items index elements.now }
+    ensures { block.new ≡ contents (insert_slice block.old.items index elements.now) block.old.capacity }
 {
     let (len, added) = (block.len(), elements.len());
     block.extend_copies(elements);

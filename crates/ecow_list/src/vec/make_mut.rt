@@ -6,7 +6,7 @@ ghost use Rattle.ecow_list.specs.Vectors.{IsKept};
 
 use crate::error::EcoError;
 use crate::vec::EcoVec;
-use ecow_base::fresh_capacity;
+use crate::vec::own::{Clones, Room};
 use ecow_block::Block;
 
 impl<T: Clone> EcoVec<T> {
@@ -55,43 +55,12 @@ impl<T: Clone> EcoVec<T> {
             }
             return Err(None);
         }
-        match self.unshare() {
-            Ok(()) => {}
-            Err(error) => return Err(Some(error)),
+        if let Err(rejected) = self.edit(Clones, Room::Fresh, 0, (), |_block, ()| Ok(())) {
+            return Err(Some(rejected.error));
         }
         match self.sole_block() {
             Some(block) => Ok(block),
             None => Err(Some(EcoError::Memory)),
         }
-    }
-
-    /// Gives a vector of some elements a block that no other shares.
-    fn unshare(&mut self) -> Result<(), EcoError>
-        requires { 0 < length self.old }
-        ensures ok { ClonesAreEqual T.is_clone → OnOk result (self.new ≡ self.old) }
-        ensures kept { OnOk result (IsKept T.is_clone self.old self.new) }
-        ensures len { OnOk result (length self.new ≡ length self.old) }
-        ensures err { IfErr result (λ error. error ≡ EcoError.Memory) }
-        ensures unchanged { OnErr result (self.new ≡ self.old) }
-    {
-        if self.is_unique() {
-            return Ok(());
-        }
-        self.unshare_shared()
-    }
-
-    /// The same where the block is shared.
-    #[cold]
-    #[inline(never)]
-    fn unshare_shared(&mut self) -> Result<(), EcoError>
-        ensures ok { ClonesAreEqual T.is_clone → OnOk result (self.new ≡ self.old) }
-        ensures kept { OnOk result (IsKept T.is_clone self.old self.new) }
-        ensures len { OnOk result (length self.new ≡ length self.old) }
-        ensures err { IfErr result (λ error. error ≡ EcoError.Memory) }
-        ensures unchanged { OnErr result (self.new ≡ self.old) }
-    {
-        let len = self.len();
-        self.block = Some(self.copied(len, fresh_capacity(len))?);
-        Ok(())
     }
 }

@@ -1,13 +1,11 @@
-//! Appending one element. The case in which nothing has to be made is short, so that it is inlined;
-//! the others are out of line.
-ghost use Rattle.std.specs.Prelude.{◌≡◌, ◌+◌, ◌≤◌, ◌↔◌, [], ◌∷◌, ◌++◌, length, IfErr, OnOk, OnErr, IsErrAnd};
-ghost use Rattle.ecow_base.specs.Clones.{ClonesAreEqual};
-ghost use Rattle.ecow_list.specs.Vectors.{IsKeptIn};
+//! Appending one element.
+ghost use Rattle.std.specs.Prelude.{◌≡◌, ◌+◌, ◌≤◌, ◌↔◌, [], ◌∷◌, ◌++◌, length, IfErr, OnOk, IsErrAnd};
+ghost use Rattle.ecow_list.specs.Vectors.{Changes};
 
 use crate::error::{EcoError, Rejected};
 use crate::vec::EcoVec;
-use ecow_base::{MAX_LEN, room_for};
-use std::rc::Rc;
+use crate::vec::own::{Clones, Room};
+use ecow_base::MAX_LEN;
 
 impl<T: Clone> EcoVec<T> {
     /// Appends `value`. A vector that is shared copies its elements into a block of its own first,
@@ -17,61 +15,14 @@ impl<T: Clone> EcoVec<T> {
     /// elements, and else with `Memory`.
     #[inline]
     pub fn push(&mut self, value: T) -> Result<(), Rejected<T>>
-        ensures ok { ClonesAreEqual T.is_clone → OnOk result (self.new ≡ self.old ++ value ∷ []) }
-        ensures kept { OnOk result (IsKeptIn T.is_clone self.old (λ kept. kept ++ value ∷ []) self.new) }
+        ensures change { Changes T.is_clone self.old (λ kept. kept ++ value ∷ []) result self.new }
         ensures len { OnOk result (length self.new ≡ length self.old + 1) }
-        ensures err { OnErr result (self.new ≡ self.old) }
         ensures value_returned { IfErr result (λ rejected. rejected.value ≡ value) }
-        ensures capacity { IsErrAnd result (λ rejected. rejected.error ≡ EcoError.Capacity) ↔ (MAX_LEN ≤ length self.old) }
+        ensures capacity { IsErrAnd result (λ rejected. rejected.error ≡ EcoError.Capacity)
+            ↔ (MAX_LEN ≤ length self.old) }
     {
-        if let Some(block) = self.sole_block()
-            && block.len() < block.capacity()
-        {
-            block.push_within(value);
-            return Ok(());
-        }
-        self.push_growing(value)
-    }
-
-    /// The same where the block is full, shared or not there.
-    #[cold]
-    #[inline(never)]
-    fn push_growing(&mut self, value: T) -> Result<(), Rejected<T>>
-        ensures ok { ClonesAreEqual T.is_clone → OnOk result (self.new ≡ self.old ++ value ∷ []) }
-        ensures kept { OnOk result (IsKeptIn T.is_clone self.old (λ kept. kept ++ value ∷ []) self.new) }
-        ensures len { OnOk result (length self.new ≡ length self.old + 1) }
-        ensures err { OnErr result (self.new ≡ self.old) }
-        ensures value_returned { IfErr result (λ rejected. rejected.value ≡ value) }
-        ensures capacity { IsErrAnd result (λ rejected. rejected.error ≡ EcoError.Capacity) ↔ (MAX_LEN ≤ length self.old) }
-    {
-        let len = self.len();
-        if len >= MAX_LEN {
-            return Err(Rejected {
-                error: EcoError::Capacity,
-                value,
-            });
-        }
-        if let Some(block) = self.sole_block() {
-            if block.grow(room_for(len, 1, block.capacity())).is_err() {
-                return Err(Rejected {
-                    error: EcoError::Memory,
-                    value,
-                });
-            }
-            block.push_within(value);
-            return Ok(());
-        }
-        let room = room_for(len, 1, self.capacity());
-        if let Ok(mut fresh) = self.copied(len, room)
-            && let Some(block) = Rc::get_mut(&mut fresh)
-        {
-            block.push_within(value);
-            self.block = Some(fresh);
-            return Ok(());
-        }
-        Err(Rejected {
-            error: EcoError::Memory,
-            value,
+        self.edit(Clones, Room::Shared, 1, value, |block, value| {
+            Ok(block.push_within(value))
         })
     }
 }

@@ -10,12 +10,11 @@ ghost use Rattle.ecow_list.specs.Vectors.{GivesFirst, GivesItems, SomeFirst, Som
 use crate::error::EcoError;
 use crate::iter::{Drain, Splice};
 use crate::vec::EcoVec;
-use crate::vec::collect::collected;
-use ecow_base::{MAX_LEN, fresh_capacity, resolve, room_for};
+use crate::vec::collect::collect;
+use crate::vec::own::{Clones, Room};
+use ecow_base::{MAX_LEN, resolve};
 use ecow_block::{Block, Rest};
-use std::alloc::AllocError;
 use std::ops::RangeBounds;
-use std::rc::Rc;
 
 impl<T: Clone> EcoVec<T> {
     /// Takes out the elements of `range`, which `range_in` tests; the vector is final when the call
@@ -41,7 +40,7 @@ impl<T: Clone> EcoVec<T> {
     {
         let (start, end) = resolve(&range, self.len()).unwrap();
         let removed = Block::with_capacity(self.alloc, end - start)?;
-        Ok(Drain::new(self.replaced(start, end, removed)?))
+        Ok(Drain::new(self.replace_range(start, end, removed)?))
     }
 
     /// Puts the items of `replace_with` in place of the elements of `range`, which `range_in`
@@ -87,18 +86,18 @@ impl<T: Clone> EcoVec<T> {
         let (start, end) = resolve(&range, self.len()).unwrap();
         let most = MAX_LEN - (self.len() - (end - start));
         let mut items = replace_with.into_iter();
-        let replacement = collected(self.alloc, end - start, 16, most, &mut items)?;
-        Ok(Splice::new(self.replaced(start, end, replacement)?))
+        let replacement = collect(self.alloc, end - start, 16, most, &mut items)?;
+        Ok(Splice::new(self.replace_range(start, end, replacement)?))
     }
 
     /// Puts `replacement` in place of the elements from `start` up to `end`, and gives these in its
     /// memory, in which there is room for them.
-    fn replaced(
+    fn replace_range(
         &mut self,
         start: usize,
         end: usize,
         replacement: Block<T>,
-    ) -> Result<Rest<T>, AllocError>
+    ) -> Result<Rest<T>, EcoError>
         requires ordered { start ≤ end }
         requires in_bounds { end ≤ length self.old }
         requires fits { length self.old - (end - start) + length replacement.items ≤ MAX_LEN }
@@ -113,25 +112,12 @@ impl<T: Clone> EcoVec<T> {
             × (removed ≡ slice_range kept start end))) }
         ensures len { OnOk result (length self.new + (end - start) ≡ length self.old + length replacement.items) }
         ensures removed_len { IfOk result (λ removed. length removed ≡ end - start) }
+        ensures err { IfErr result (λ error. error ≡ EcoError.Memory) }
         ensures unchanged { OnErr result (self.new ≡ self.old) }
     {
-        let len = self.len();
-        let (left, added) = (len - (end - start), replacement.len());
-        if let Some(block) = self.sole_block() {
-            block.grow(room_for(left, added, block.capacity()))?;
-            return Ok(block.splice_within(start, end, replacement));
-        }
-        let room = room_for(left, added, fresh_capacity(len));
-        if room == 0 {
-            self.block = None;
-            return Ok(replacement.into_rest());
-        }
-        let mut fresh = self.copied(len, room)?;
-        let Some(block) = Rc::get_mut(&mut fresh) else {
-            return Err(AllocError);
-        };
-        let removed = block.splice_within(start, end, replacement);
-        self.block = Some(fresh);
-        Ok(removed)
+        let more = replacement.len().saturating_sub(end - start);
+        Ok(self.edit(Clones, Room::Fresh, more, (), |block, ()| {
+            Ok(block.splice_within(start, end, replacement))
+        })?)
     }
 }

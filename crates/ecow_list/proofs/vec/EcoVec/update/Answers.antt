@@ -1,14 +1,12 @@
-use Rattle.std.proofs.Common.{arith, slice_get, refl, sym, ap, subst, ◌∙◌, inl, inr}
-use Rattle.std.specs.List.{AllZip}
-use Rattle.std.proofs.lemmas.List.{take_all}
-use Rattle.ecow_list.proofs.Kept.{zipped_at}
+use Rattle.std.proofs.Common.{rules, arith, subst}
+use Rattle.ecow_block.specs.Updates.{UpdatesAt}
+use Rattle.ecow_list.proofs.Kept.{takes_kept}
 use Rattle.ecow_list.proofs.vec.EcoVec.update.Goals as goal
 
-pub update-requires-clause-callable : goal.update-requires-clause-callable
-update-requires-clause-callable g c = λ x found. c.requires.callable x x (ap (λ l. slice_get l c.args.index) (sym c.in-Some.ensures.items) ∙ found) (inl refl)
+pub edit-requires-clause-callable : goal.edit-requires-clause-callable
+edit-requires-clause-callable g c = λ b kept len room _ _ _ _ _ _ _ _ _. (omega (arith, len, c.requires.in_bounds), takes_kept g.T.Clone.is_clone g.F.FnOnce c.args.f c.args.self.now b.now.items c.args.index c.requires.callable kept)
 
-pub update-answer-requires-clause-callable : goal.update-answer-requires-clause-callable
-update-answer-requires-clause-callable g c = λ y found.
-    let all : AllZip g.T.Clone.is_clone c.args.self.now c.in_ok-fresh.fresh.value.items = subst (λ l. AllZip g.T.Clone.is_clone l c.in_ok-fresh.fresh.value.items) (take_all c.len-len.result c.args.self.now (omega (arith, c.len-len.ensures.len))) c.in_ok-fresh.ensures.clones in
-    let old = zipped_at g.T.Clone.is_clone c.args.self.now c.in_ok-fresh.fresh.value.items c.args.index y all (ap (λ b. slice_get b.items c.args.index) (sym c.in-Some-get_mut.ensures.value) ∙ found) in
-    c.requires.callable old.0 y old.1 (inr old.2)
+pub returns-clause-ok : goal.returns-clause-ok
+returns-clause-ok g c = λ equal. let e = c.in_ok-edit.ensures.ok equal in
+    subst (λ xs. UpdatesAt g.F.FnOnce c.args.f c.args.index xs c.edit.new.self c.in_ok-edit.field-0) e.shows
+    (subst (λ ys. UpdatesAt g.F.FnOnce c.args.f c.args.index e.shown.now.items ys c.in_ok-edit.field-0) e.leaves (search (rules, e.met)))

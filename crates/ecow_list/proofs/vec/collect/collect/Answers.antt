@@ -2,7 +2,7 @@ use Rattle.std.proofs.Common.{rules, ◌≡◌, ◌≤◌, List, length, ◌+◌
 use Rattle.std.specs.Iterator.{Yields}
 use Rattle.std.proofs.iter.Next.{Yields-more}
 use Rattle.ecow_list.proofs.Fronts.{on_err}
-use Rattle.ecow_list.proofs.vec.collect.collected.Goals as goal
+use Rattle.ecow_list.proofs.vec.collect.collect.Goals as goal
 
 pub returns-then-len-most-clause-refused : goal.returns-then-len-most-clause-refused
 returns-then-len-most-clause-refused g c =

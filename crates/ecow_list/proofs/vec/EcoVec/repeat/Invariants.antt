@@ -1,6 +1,6 @@
 use Rattle.std.proofs.Common.{◌≡◌, ◌-◌, length, replicate, All}
 use Rattle.ecow_base.specs.Clones.{ClonesAreEqual}
-use Rattle.ecow_list.proofs.vec.EcoVec.repeated.Given as goal
+use Rattle.ecow_list.proofs.vec.EcoVec.repeat.Given as goal
 
 abbrev pub invariant-loop-block : goal.invariant-loop-block
 invariant-loop-block g l =

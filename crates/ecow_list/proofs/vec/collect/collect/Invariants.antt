@@ -1,6 +1,6 @@
 use Rattle.std.proofs.Common.{◌-◌, ◌≤◌, length}
 use Rattle.std.specs.Iterator.{IsFinite, Yields}
-use Rattle.ecow_list.proofs.vec.collect.collected.Given as goal
+use Rattle.ecow_list.proofs.vec.collect.collect.Given as goal
 
 abbrev pub invariant-loop-iter : goal.invariant-loop-iter
 invariant-loop-iter g l = Yields g.I.Iterator.next_gives l.fn.iter l.items.items l.iter

@@ -1,0 +1,151 @@
+//! Edits of a vector's own block. A sole block is edited where it is; the elements of a shared one
+//! are copied into a new block, which is edited and then takes the old one's place. So a refusal
+//! leaves all as it was.
+ghost use Rattle.std.specs.Prelude.{◌≡◌, ◌+◌, ◌<◌, ◌≤◌, ◌↔◌, length, IfOk};
+ghost use Rattle.std.specs.List.{AllZip};
+ghost use Rattle.ecow_list.specs.Edits.{Edited, Edits, KeepsRoom, RefusesClean};
+
+use crate::error::Rejected;
+use crate::vec::EcoVec;
+use ecow_base::{MAX_LEN, fresh_capacity, room_for};
+use ecow_block::Block;
+use std::alloc::{AllocError, Global};
+use std::rc::Rc;
+
+/// How the elements of a shared block are copied.
+pub(super) trait Copying<T>: Drop {
+    ghost makes: { T → T → Type 0 };
+
+    /// A block with room for `capacity` elements, and copies of `elements` in it.
+    fn block(alloc: Global, elements: &[T], capacity: usize) -> Result<Block<T>, AllocError>
+        requires room { length elements.now ≤ capacity }
+        requires bounded { capacity ≤ MAX_LEN }
+        ensures copies { IfOk result (λ block. AllZip makes elements.now block.items) }
+        ensures len { IfOk result (λ block. length block.items ≡ length elements.now) }
+        ensures capacity { IfOk result (λ block. block.capacity ≡ capacity) };
+}
+
+/// Each is cloned.
+#[derive(Drop)]
+pub(super) struct Clones;
+
+/// All are copied as memory, in one move.
+#[derive(Drop)]
+pub(super) struct Copies;
+
+impl<T: Clone> Copying<T> for Clones {
+    ghost makes = { T.is_clone };
+
+    fn block(alloc: Global, elements: &[T], capacity: usize) -> Result<Block<T>, AllocError> {
+        Block::from_clones(alloc, elements, capacity)
+    }
+}
+
+impl<T: Copy> Copying<T> for Copies {
+    ghost makes = { λ x y. y ≡ x };
+
+    fn block(alloc: Global, elements: &[T], capacity: usize) -> Result<Block<T>, AllocError> {
+        Block::from_copies(alloc, elements, capacity)
+    }
+}
+
+/// How much room a copy of a shared block has at least.
+#[derive(Clone, Copy)]
+pub(super) enum Room {
+    /// As much as a new block for its elements.
+    Fresh,
+    /// As much as the shared block.
+    Shared,
+}
+
+impl<T: Drop> EcoVec<T> {
+    /// Hands `edit` a block that no other vector shares, with the elements and room for
+    /// `additional` more, and `given`. A refusal changes nothing and hands `given` back, with
+    /// `Capacity` where the length and `additional` pass 2^63 - 1, and else with `Memory`.
+    #[inline]
+    pub(super) fn edit<C: Copying<T>, A, R, F: FnOnce(&mut Block<T>, A) -> Result<R, A>>(
+        &mut self,
+        by: C,
+        room: Room,
+        additional: usize,
+        given: A,
+        edit: F,
+    ) -> Result<R, Rejected<A>>
+        requires callable { Edits F.FnOnce edit given C.makes self.old additional }
+        requires keeps_room { KeepsRoom F.FnOnce edit given }
+        requires clean { RefusesClean F.FnOnce edit given }
+        ensures { Edited F.FnOnce edit given C.makes self.old additional result self.new }
+    {
+        if let Some(block) = self.sole_block()
+            && additional <= block.capacity() - block.len()
+        {
+            return edit(block, given).map_err(Rejected::for_memory);
+        }
+        self.edit_anew(by, room, additional, given, edit)
+    }
+
+    /// Does that where the block is too small, shared or not there.
+    #[cold]
+    #[inline(never)]
+    fn edit_anew<C: Copying<T>, A, R, F: FnOnce(&mut Block<T>, A) -> Result<R, A>>(
+        &mut self,
+        _by: C,
+        room: Room,
+        additional: usize,
+        given: A,
+        edit: F,
+    ) -> Result<R, Rejected<A>>
+        requires callable { Edits F.FnOnce edit given C.makes self.old additional }
+        requires keeps_room { KeepsRoom F.FnOnce edit given }
+        requires clean { RefusesClean F.FnOnce edit given }
+        ensures { Edited F.FnOnce edit given C.makes self.old additional result self.new }
+    {
+        let len = self.len();
+        if additional > MAX_LEN - len {
+            return Err(Rejected::for_capacity(given));
+        }
+        if let Some(block) = self.sole_block() {
+            let capacity = room_for(len, additional, block.capacity());
+            if block.grow(capacity).is_err() {
+                return Err(Rejected::for_memory(given));
+            }
+            return edit(block, given).map_err(Rejected::for_memory);
+        }
+        let least = match room {
+            Room::Fresh => fresh_capacity(len),
+            Room::Shared => self.capacity(),
+        };
+        let capacity = room_for(len, additional, least);
+        if capacity == 0 {
+            let mut none = Block::new(self.alloc);
+            let answer = edit(&mut none, given).map_err(Rejected::for_memory)?;
+            let _room = none.capacity();
+            self.block = None;
+            return Ok(answer);
+        }
+        if let Ok(mut fresh) = self.copy::<C>(capacity)
+            && let Some(block) = Rc::get_mut(&mut fresh)
+        {
+            let answer = edit(block, given).map_err(Rejected::for_memory)?;
+            self.block = Some(fresh);
+            return Ok(answer);
+        }
+        Err(Rejected::for_memory(given))
+    }
+
+    /// A block that no vector shares, with copies of the elements and room for `capacity`.
+    fn copy<C: Copying<T>>(&self, capacity: usize) -> Result<Rc<Block<T>>, AllocError>
+        requires room { length self.now ≤ capacity }
+        requires bounded { capacity ≤ MAX_LEN }
+        ensures copies { IfOk result (λ shared. AllZip C.makes self.now shared.value.items) }
+        ensures len { IfOk result (λ shared. length shared.value.items ≡ length self.now) }
+        ensures capacity { IfOk result (λ shared. shared.value.capacity ≡ capacity) }
+    {
+        let block = if self.is_empty() {
+            Block::with_capacity(self.alloc, capacity)?
+        } else {
+            C::block(self.alloc, self.as_slice(), capacity)?
+        };
+        Ok(Rc::new(self.alloc, block)?)
+    }
+}
