@@ -22,7 +22,7 @@ module _ (T : RattleType) where
   abbrev pub lends_block : MutBor (List T.Denot) → Option (MutBor (Contents T.Denot)) → Fml
   lends_block v r = LendsIf (vec_row T) (block_row T) v r (λ b. b.items) v.now
 
-  -- the same; at `Err` they stay, or clones stand in their places
+  -- the elements are those of the block that was lent; at `Err` they stay, or clones stand in their places
   abbrev pub lends_own_block : (T.Denot → T.Denot → Type 0) → MutBor (List T.Denot) → {E : Type 0} → Result (MutBor (Contents T.Denot)) E → Fml
   lends_own_block is_clone v r = LendsSoOk (vec_row T) (block_row T) v r (λ n b. n ≡ b.items) (λ n. IsKept is_clone v.now n)
 

@@ -45,9 +45,11 @@ IsTakenOf {T} is_clone old taken item change new = (kept : List T) × IsKept is_
 abbrev pub IsKeptBefore : {T : Type 0} → (T → T → Type 0) → List T → List T → List T → Type 0
 IsKeptBefore {T} is_clone old xs new = (kept : List T) × (added : List T) × IsKept is_clone old kept × AllZip is_clone xs added × (new ≡ kept ++ added)
 
--- what a call that changes a vector leaves: `ok` says what it makes of the elements where clones equal their sources, `kept` what
--- it makes of them or of a clone of each, and `unchanged` that they stay where it is refused
+-- what a call that makes `change` of a vector's old elements leaves
 pub record Changes {T R E : Type 0} (is_clone : T → T → Type 0) (old : List T) (change : List T → List T) (result : Result R E) (new : List T) : Type 0 where
+  -- where clones equal their sources, new is what `change` makes of old
   pub ok : ClonesAreEqual is_clone → OnOk result (new ≡ change old)
+  -- for any clones, new is what it makes of the old elements, or of a clone of each
   pub kept : OnOk result (IsKeptIn is_clone old change new)
+  -- a refusal leaves the old elements
   pub unchanged : OnErr result (new ≡ old)

@@ -32,7 +32,8 @@ impl<T: Drop> EcoVec<T> {
     pub fn from_vec(alloc: Global, elements: Vec<T>) -> Result<Self, Rejected<Vec<T>>>
         ensures ok { IfOk result (λ v. v ≡ elements.items) }
         ensures value_returned { IfErr result (λ rejected. rejected.value.items ≡ elements.items) }
-        ensures capacity { IsErrAnd result (λ rejected. rejected.error ≡ EcoError.Capacity) ↔ (MAX_LEN < vec_len elements) }
+        ensures capacity { IsErrAnd result (λ rejected. rejected.error ≡ EcoError.Capacity)
+            ↔ (MAX_LEN < vec_len elements) }
     {
         let len = elements.len();
         if len > MAX_LEN {
@@ -62,7 +63,8 @@ impl<T: Drop> EcoVec<T> {
     ) -> Result<Self, Rejected<[T; N]>>
         ensures ok { IfOk result (λ v. v ≡ elements) }
         ensures value_returned { IfErr result (λ rejected. rejected.value ≡ elements) }
-        ensures capacity { IsErrAnd result (λ rejected. rejected.error ≡ EcoError.Capacity) ↔ (MAX_LEN < N) }
+        ensures capacity { IsErrAnd result (λ rejected. rejected.error ≡ EcoError.Capacity)
+            ↔ (MAX_LEN < N) }
     {
         if N > MAX_LEN {
             return Err(Rejected::for_capacity(elements));
@@ -83,7 +85,9 @@ impl<T: Drop> EcoVec<T> {
     /// none. Its size hint isn't asked. Answers `Capacity` at the item past 2^63 - 1, and else
     /// `Memory`: the items so far are dropped then, and no further one is asked for.
     pub fn from_iter<I: IntoIterator<Item = T>>(alloc: Global, iter: I) -> Result<Self, EcoError>
-        requires { (it : I.IntoIter) → I.into_iter_gives iter it → I.IntoIter.can_next it × IsFinite (I.IntoIter.remaining it) }
+        requires { (it : I.IntoIter)
+            → I.into_iter_gives iter it
+            → I.IntoIter.can_next it × IsFinite (I.IntoIter.remaining it) }
         ensures ok { IfOk result (λ v. GivesItems I.into_iter_gives I.IntoIter.next_gives iter v) }
         ensures refused { OnErr result
             (SomeFirst I.into_iter_gives I.IntoIter.next_gives iter
@@ -138,7 +142,8 @@ impl<T: Clone> EcoVec<T> {
         ensures clones { IfOk result (All (T.is_clone value)) }
         ensures len { IfOk result (λ v. length v ≡ n) }
         ensures value_returned { IfErr result (λ rejected. rejected.value ≡ value) }
-        ensures capacity { IsErrAnd result (λ rejected. rejected.error ≡ EcoError.Capacity) ↔ (MAX_LEN < n) }
+        ensures capacity { IsErrAnd result (λ rejected. rejected.error ≡ EcoError.Capacity)
+            ↔ (MAX_LEN < n) }
         ensures nothing { n ≡ 0 → IsOk result }
     {
         if n > MAX_LEN {
@@ -171,18 +176,27 @@ impl<T: Clone> EcoVec<T> {
         })
     }
 
-    /// Appends the items of `iter`, one after another, each as `push` does: so a shared vector copies
-    /// its elements at the first item, and nothing changes where there is none. The size hint isn't
-    /// asked.
+    /// Appends the items of `iter`, one after another, each as `push` does. So a shared vector
+    /// copies its elements at the first item, and nothing changes where there is none. The size
+    /// hint isn't asked.
     ///
-    /// Where an item is refused it is dropped, those before it stay, and no further one is asked
-    /// for: `Capacity` where there are 2^63 - 1 elements then, and else `Memory`.
+    /// An item that is refused is dropped; those before it stay, and no further one is asked for.
+    /// The error is `Capacity` where there are 2^63 - 1 elements then, and else `Memory`.
     pub fn extend<I: IntoIterator<Item = T>>(&mut self, iter: I) -> Result<(), EcoError>
-        requires { (it : I.IntoIter) → I.into_iter_gives iter it → I.IntoIter.can_next it × IsFinite (I.IntoIter.remaining it) }
-        ensures ok { ClonesAreEqual T.is_clone → ExtendsWithItems I.into_iter_gives I.IntoIter.next_gives Appends iter self.old self.new result }
-        ensures len { ExtendsWithItems I.into_iter_gives I.IntoIter.next_gives Lengthens iter self.old self.new result }
-        ensures refused { OnErr result ((items : List T) × GivesFirst I.into_iter_gives I.IntoIter.next_gives iter items × (length self.new + 1 ≡ length self.old + length items)) }
-        ensures capacity { OnErr result (IsErrOf result EcoError.Capacity ↔ (MAX_LEN ≤ length self.new)) }
+        requires { (it : I.IntoIter)
+            → I.into_iter_gives iter it
+            → I.IntoIter.can_next it × IsFinite (I.IntoIter.remaining it) }
+        ensures ok { ClonesAreEqual T.is_clone
+            → ExtendsWithItems I.into_iter_gives I.IntoIter.next_gives Appends
+            iter self.old self.new result }
+        ensures len { ExtendsWithItems I.into_iter_gives I.IntoIter.next_gives Lengthens
+            iter self.old self.new result }
+        ensures refused { OnErr result
+            ((items : List T)
+            × GivesFirst I.into_iter_gives I.IntoIter.next_gives iter items
+            × (length self.new + 1 ≡ length self.old + length items)) }
+        ensures capacity { OnErr result
+            (IsErrOf result EcoError.Capacity ↔ (MAX_LEN ≤ length self.new)) }
     {
         for item in iter {
             if let Err(rejected) = self.push(item) {

@@ -48,7 +48,8 @@ impl<T: Clone + Copy> EcoVec<T> {
     pub fn extend_from_copied(&mut self, elements: &[T]) -> Result<(), EcoError>
         ensures ok { OnOk result (self.new ≡ self.old ++ elements.now) }
         ensures err { OnErr result (self.new ≡ self.old) }
-        ensures capacity { IsErrOf result EcoError.Capacity ↔ (MAX_LEN < length self.old + length elements.now) }
+        ensures capacity { IsErrOf result EcoError.Capacity
+            ↔ (MAX_LEN < length self.old + length elements.now) }
         ensures nothing { elements.now ≡ [] → IsOk result × (self.new ≡ self.old) }
     {
         let (_len, added) = (self.len(), elements.len());
@@ -60,20 +61,26 @@ impl<T: Clone + Copy> EcoVec<T> {
         })?)
     }
 
-    /// Appends copies of the elements of `range`, which `range_in` tests, in one move of memory: all,
-    /// or none where it is refused. A vector that is shared copies its elements into a block of its
-    /// own first, and one that is too full gets a larger block. For an empty range it is never
+    /// Appends copies of the elements of `range`, which `range_in` tests, in one move of memory:
+    /// all, or none where it is refused. A vector that is shared copies its elements into a block of
+    /// its own first, and one that is too full gets a larger block. For an empty range it is never
     /// refused and changes nothing, sharing included. Else a refusal changes nothing: `Capacity`
     /// where the new length passes 2^63 - 1, and `Memory` where that isn't so.
     ///
     /// This project's own: the original has no such call, and the standard library's vector has.
     pub fn extend_from_within<R: RangeBounds<usize>>(&mut self, range: R) -> Result<(), EcoError>
         requires known { R.has_bounds range }
-        requires in_range { IsSome (range_of (R.start_bound range, R.end_bound range) (length self.old)) }
-        ensures ok { OnOk result (AtRange (R.start_bound range, R.end_bound range) (length self.old) (λ start end. self.new ≡ self.old ++ slice_range self.old start end)) }
+        requires in_range { IsSome
+            (range_of (R.start_bound range, R.end_bound range) (length self.old)) }
+        ensures ok { OnOk result
+            (AtRange (R.start_bound range, R.end_bound range) (length self.old)
+            (λ start end. self.new ≡ self.old ++ slice_range self.old start end)) }
         ensures err { OnErr result (self.new ≡ self.old) }
-        ensures capacity { AtRange (R.start_bound range, R.end_bound range) (length self.old) (λ start end. IsErrOf result EcoError.Capacity ↔ (MAX_LEN < length self.old + (end - start))) }
-        ensures nothing { AtRange (R.start_bound range, R.end_bound range) (length self.old) (λ start end. start ≡ end → IsOk result × (self.new ≡ self.old)) }
+        ensures capacity { AtRange (R.start_bound range, R.end_bound range) (length self.old)
+            (λ start end.
+            IsErrOf result EcoError.Capacity ↔ (MAX_LEN < length self.old + (end - start))) }
+        ensures nothing { AtRange (R.start_bound range, R.end_bound range) (length self.old)
+            (λ start end. start ≡ end → IsOk result × (self.new ≡ self.old)) }
     {
         let (start, end) = resolve(&range, self.len()).unwrap();
         if start == end {

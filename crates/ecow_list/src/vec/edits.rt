@@ -76,7 +76,9 @@ impl<T: Clone> EcoVec<T> {
     #[inline]
     pub fn insert(&mut self, index: usize, value: T) -> Result<(), Rejected<T>>
         requires { index ≤ length self.old }
-        ensures change { Changes T.is_clone self.old (λ kept. insert kept index value) result self.new }
+        ensures change { Changes T.is_clone self.old
+            (λ kept. insert kept index value)
+            result self.new }
         ensures len { OnOk result (length self.new ≡ length self.old + 1) }
         ensures value_returned { IfErr result (λ rejected. rejected.value ≡ value) }
         ensures capacity { IsErrAnd result (λ rejected. rejected.error ≡ EcoError.Capacity)
@@ -110,14 +112,16 @@ impl<T: Clone> EcoVec<T> {
         })?)
     }
 
-    /// Puts `value` in place of the element at `index`, which is dropped. A shared vector copies its
-    /// elements first. The one error is `Memory`, which changes nothing and hands `value` back.
+    /// Puts `value` in place of the element at `index`, which is dropped. A shared vector copies
+    /// its elements first. The one error is `Memory`, which changes nothing and hands `value` back.
     ///
     /// This project's own: the original writes through `make_mut`, which is proved here as well,
     /// but of whose borrow a proved caller learns less.
     pub fn set(&mut self, index: usize, value: T) -> Result<(), Rejected<T>>
         requires { index < length self.old }
-        ensures change { Changes T.is_clone self.old (λ kept. slice_set kept index value) result self.new }
+        ensures change { Changes T.is_clone self.old
+            (λ kept. slice_set kept index value)
+            result self.new }
         ensures len { OnOk result (length self.new ≡ length self.old) }
         ensures value_returned { IfErr result (λ rejected. rejected.value ≡ value) }
         ensures memory { IfErr result (λ rejected. rejected.error ≡ EcoError.Memory) }
@@ -151,9 +155,9 @@ impl<T: Clone> EcoVec<T> {
         })?)
     }
 
-    /// Asks for room for `additional` more elements; no capacity is promised. A shared vector copies
-    /// its elements into a block of its own, also where `additional` is 0; a vector without a block
-    /// stays without one there. A refusal changes nothing: `Capacity` where the length and
+    /// Asks for room for `additional` more elements; no capacity is promised. A shared vector
+    /// copies its elements into a block of its own, also where `additional` is 0. A vector without
+    /// a block stays without one there. A refusal changes nothing: `Capacity` where the length and
     /// `additional` together pass 2^63 - 1, and else `Memory`.
     pub fn reserve(&mut self, additional: usize) -> Result<(), EcoError>
         ensures ok { ClonesAreEqual T.is_clone → OnOk result (self.new ≡ self.old) }

@@ -14,8 +14,8 @@ use std::mem::size_of_val;
 impl<T: Clone + Copy> EcoVec<T> {
     /// Puts copies of `elements` in at `index`, before the element that stands there, in moves of
     /// whole pieces. A shared vector copies its own elements first, also where none is put in, and
-    /// one that is too full gets a larger block. A refusal changes nothing: `Capacity` where the new
-    /// length passes 2^63 - 1, and else `Memory`.
+    /// one that is too full gets a larger block. A refusal changes nothing: `Capacity` where the
+    /// new length passes 2^63 - 1, and else `Memory`.
     ///
     /// This project's own: the original has it for bytes alone.
     #[inline(never)]
@@ -24,7 +24,8 @@ impl<T: Clone + Copy> EcoVec<T> {
         ensures ok { OnOk result (self.new ≡ insert_slice self.old index elements.now) }
         ensures len { OnOk result (length self.new ≡ length self.old + length elements.now) }
         ensures err { OnErr result (self.new ≡ self.old) }
-        ensures capacity { IsErrOf result EcoError.Capacity ↔ (MAX_LEN < length self.old + length elements.now) }
+        ensures capacity { IsErrOf result EcoError.Capacity
+            ↔ (MAX_LEN < length self.old + length elements.now) }
     {
         let added = elements.len();
         Ok(self.edit(Copies, Room::Shared, added, (), |block, ()| {
@@ -37,7 +38,8 @@ impl<T: Clone + Copy> EcoVec<T> {
 fn insert_within<T: Copy>(block: &mut Block<T>, index: usize, elements: &[T])
     requires in_bounds { index ≤ length block.old.items }
     requires room { length block.old.items + length elements.now ≤ block.old.capacity }
-    ensures { block.new ≡ contents (insert_slice block.old.items index elements.now) block.old.capacity }
+    ensures block { block.new
+        ≡ contents (insert_slice block.old.items index elements.now) block.old.capacity }
 {
     let (len, added) = (block.len(), elements.len());
     block.extend_copies(elements);
@@ -56,8 +58,8 @@ fn are_bytes<T>(elements: &[T]) -> bool
     }
 }
 
-/// Copies the elements from `start` up to `end` over those from `to` on. Where they are 8 to 64 bytes,
-/// two reads and two writes do: with a loop, the next call waits for the bytes it wrote one by one.
+/// Copies the elements from `start` up to `end` over those from `to` on. Two reads and two writes
+/// do that for 8 to 64 bytes. A loop would write them one by one, and the next call wait for them.
 fn copy_up<T: Copy>(all: &mut [T], start: usize, end: usize, to: usize)
     requires in_order { start ≤ end }
     requires in_bounds { end ≤ length all.old }
@@ -75,7 +77,7 @@ fn copy_up<T: Copy>(all: &mut [T], start: usize, end: usize, to: usize)
     }
 }
 
-/// The same by the first and the last `K` elements, which together are all of them and may overlap.
+/// Copies the first `K` elements and the last, which together are all of them and may overlap.
 /// Fewer than `K` are copied one by one.
 fn copy_pieces<T: Copy, const K: usize>(all: &mut [T], start: usize, end: usize, to: usize)
     requires small { K * type_size T.row < 2 ^ 63 }

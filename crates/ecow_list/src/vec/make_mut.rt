@@ -15,9 +15,9 @@ impl<T: Clone> EcoVec<T> {
     /// The elements, for writing. A shared vector copies them first, or gives its block up where it
     /// has none. Never refused where there are none.
     ///
-    /// The one error is `Memory`, where the copy was refused; then nothing has changed. (The contract
-    /// leaves open that clones stand in the elements' places, since none can say that a new block
-    /// isn't shared.)
+    /// The one error is `Memory`, where the copy was refused; then nothing has changed. (The
+    /// contract leaves open that clones stand in the elements' places, since none can say that a
+    /// new block isn't shared.)
     pub fn make_mut(&mut self) -> Result<&mut [T], EcoError>
         ensures* writes_back { sem 𝓛 (lends_slice T.row T.is_clone self.entry result) }
         ensures value { ClonesAreEqual T.is_clone → IfOk result (λ slice. slice.now ≡ self.old) }
@@ -34,20 +34,24 @@ impl<T: Clone> EcoVec<T> {
     }
 
     /// The block of the elements, which no other vector shares any more, for writing through its
-    /// `as_mut_slice`. A shared vector copies its elements first. `Err(None)` where there is no
-    /// element, and then nothing takes memory; the one other error is `Memory`, where the copy was
-    /// refused, and then nothing has changed.
+    /// `as_mut_slice`. A shared vector copies its elements first. `Err(None)` says that there is no
+    /// element, and takes no memory. The one other error is `Memory`, where the copy was refused;
+    /// then nothing has changed.
     ///
-    /// This project's own: `make_mut` for callers that are proved, who learn of this borrow what was
-    /// written.
+    /// This project's own: `make_mut` for callers that are proved, who learn of this borrow what
+    /// was written.
     #[inline]
     pub fn own_mut(&mut self) -> Result<&mut Block<T>, Option<EcoError>>
         ensures* writes_back { sem 𝓛 (lends_own_block T.row T.is_clone self.entry result) }
-        ensures value { ClonesAreEqual T.is_clone → IfOk result (λ block. block.now.items ≡ self.old) }
+        ensures value { ClonesAreEqual T.is_clone
+            → IfOk result (λ block. block.now.items ≡ self.old) }
         ensures kept { IfOk result (λ block. IsKept T.is_clone self.old block.now.items) }
         ensures len { IfOk result (λ block. length block.now.items ≡ length self.old) }
         ensures some { OnOk result (0 < length self.old) }
-        ensures err { IfErr result (λ refused. MatchOption refused (self.old ≡ []) (λ error. (error ≡ EcoError.Memory) × (0 < length self.old))) }
+        ensures err { IfErr result
+            (λ refused.
+            MatchOption refused (self.old ≡ [])
+            (λ error. (error ≡ EcoError.Memory) × (0 < length self.old))) }
     {
         if self.is_empty() {
             if !self.is_unique() {

@@ -1,5 +1,5 @@
-//! Edits of a vector's own block. A sole block is edited where it is; the elements of a shared one
-//! are copied into a new block, which is edited and then takes the old one's place. So a refusal
+//! Edits of a vector's own block. A sole block is edited where it is. The elements of a shared one
+//! are copied into a new block; that is edited, and takes the old one's place last. So a refusal
 //! leaves all as it was.
 ghost use Rattle.std.specs.Prelude.{◌≡◌, ◌+◌, ◌<◌, ◌≤◌, ◌↔◌, length, IfOk};
 ghost use Rattle.std.specs.List.{AllZip};
@@ -12,7 +12,7 @@ use ecow_block::Block;
 use std::alloc::{AllocError, Global};
 use std::rc::Rc;
 
-/// How the elements of a shared block are copied.
+/// A way to copy the elements of a shared block.
 pub(super) trait Copying<T>: Drop {
     ghost makes: { T → T → Type 0 };
 
@@ -25,11 +25,11 @@ pub(super) trait Copying<T>: Drop {
         ensures capacity { IfOk result (λ block. block.capacity ≡ capacity) };
 }
 
-/// Each is cloned.
+/// Clones each element.
 #[derive(Drop)]
 pub(super) struct Clones;
 
-/// All are copied as memory, in one move.
+/// Copies all elements as memory, in one move.
 #[derive(Drop)]
 pub(super) struct Copies;
 
@@ -74,7 +74,7 @@ impl<T: Drop> EcoVec<T> {
         requires callable { Edits F.FnOnce edit given C.makes self.old additional }
         requires keeps_room { KeepsRoom F.FnOnce edit given }
         requires clean { RefusesClean F.FnOnce edit given }
-        ensures { Edited F.FnOnce edit given C.makes self.old additional result self.new }
+        ensures edited { Edited F.FnOnce edit given C.makes self.old additional result self.new }
     {
         if let Some(block) = self.sole_block()
             && additional <= block.capacity() - block.len()
@@ -84,7 +84,8 @@ impl<T: Drop> EcoVec<T> {
         self.edit_anew(by, room, additional, given, edit)
     }
 
-    /// Does that where the block is too small, shared or not there.
+    /// Enlarges a block that is too small, copies one that is shared, makes one that isn't there,
+    /// and then edits it.
     #[cold]
     #[inline(never)]
     fn edit_anew<C: Copying<T>, A, R, F: FnOnce(&mut Block<T>, A) -> Result<R, A>>(
@@ -98,7 +99,7 @@ impl<T: Drop> EcoVec<T> {
         requires callable { Edits F.FnOnce edit given C.makes self.old additional }
         requires keeps_room { KeepsRoom F.FnOnce edit given }
         requires clean { RefusesClean F.FnOnce edit given }
-        ensures { Edited F.FnOnce edit given C.makes self.old additional result self.new }
+        ensures edited { Edited F.FnOnce edit given C.makes self.old additional result self.new }
     {
         let len = self.len();
         if additional > MAX_LEN - len {
@@ -116,6 +117,7 @@ impl<T: Drop> EcoVec<T> {
             Room::Shared => self.capacity(),
         };
         let capacity = room_for(len, additional, least);
+        // An empty vector that gets no room needs no block.
         if capacity == 0 {
             let mut none = Block::new(self.alloc);
             let answer = edit(&mut none, given).map_err(Rejected::for_memory)?;

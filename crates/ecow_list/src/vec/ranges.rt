@@ -19,13 +19,21 @@ use std::ops::RangeBounds;
 impl<T: Clone> EcoVec<T> {
     /// Takes out the elements of `range`, which `range_in` tests; the vector is final when the call
     /// answers. A shared vector copies its elements into a block of its own first, also where
-    /// nothing is taken out, or gives its block up where it has none. The one error is `Memory`,
+    /// nothing is taken out. Where it has none, it gives its block up. The one error is `Memory`,
     /// which changes nothing.
     pub fn drain<R: RangeBounds<usize>>(&mut self, range: R) -> Result<Drain<T>, EcoError>
         requires known { R.has_bounds range }
-        requires in_range { IsSome (range_of (R.start_bound range, R.end_bound range) (length self.old)) }
-        ensures ok { ClonesAreEqual T.is_clone → OnOk result (AtRange (R.start_bound range, R.end_bound range) (length self.old) (λ start end. self.new ≡ remove_range self.old start end)) }
-        ensures removed { ClonesAreEqual T.is_clone → IfOk result (λ removed. AtRange (R.start_bound range, R.end_bound range) (length self.old) (λ start end. removed ≡ slice_range self.old start end)) }
+        requires in_range { IsSome
+            (range_of (R.start_bound range, R.end_bound range) (length self.old)) }
+        ensures ok { ClonesAreEqual T.is_clone
+            → OnOk result
+            (AtRange (R.start_bound range, R.end_bound range) (length self.old)
+            (λ start end. self.new ≡ remove_range self.old start end)) }
+        ensures removed { ClonesAreEqual T.is_clone
+            → IfOk result
+            (λ removed.
+            AtRange (R.start_bound range, R.end_bound range) (length self.old)
+            (λ start end. removed ≡ slice_range self.old start end)) }
         ensures kept { IfOk result
             (λ removed.
             SomeKept T.is_clone self.old
@@ -33,8 +41,13 @@ impl<T: Clone> EcoVec<T> {
             AtRange (R.start_bound range, R.end_bound range) (length self.old)
             (λ start end.
             (self.new ≡ remove_range kept start end) × (removed ≡ slice_range kept start end)))) }
-        ensures len { OnOk result (AtRange (R.start_bound range, R.end_bound range) (length self.old) (λ start end. length self.new + (end - start) ≡ length self.old)) }
-        ensures removed_len { IfOk result (λ removed. AtRange (R.start_bound range, R.end_bound range) (length self.old) (λ start end. length removed ≡ end - start)) }
+        ensures len { OnOk result
+            (AtRange (R.start_bound range, R.end_bound range) (length self.old)
+            (λ start end. length self.new + (end - start) ≡ length self.old)) }
+        ensures removed_len { IfOk result
+            (λ removed.
+            AtRange (R.start_bound range, R.end_bound range) (length self.old)
+            (λ start end. length removed ≡ end - start)) }
         ensures err { IfErr result (λ error. error ≡ EcoError.Memory) }
         ensures unchanged { OnErr result (self.new ≡ self.old) }
     {
@@ -44,13 +57,13 @@ impl<T: Clone> EcoVec<T> {
     }
 
     /// Puts the items of `replace_with` in place of the elements of `range`, which `range_in`
-    /// tests, and gives these; the vector is final when the call answers. All items are collected
+    /// tests, and gives these. The vector is final when the call answers. All items are collected
     /// first, and the size hint isn't asked. A shared vector then copies its elements into a block
-    /// of its own, also where nothing changes; where it has none and gets none, it gives its block
+    /// of its own, also where nothing changes. Where it has none and gets none, it gives its block
     /// up.
     ///
-    /// A refusal leaves the vector as it was; the items so far are dropped, and no further one is
-    /// asked for: `Capacity` at the item with which the new length passes 2^63 - 1, and else
+    /// A refusal leaves the vector as it was. The items so far are dropped, and no further one is
+    /// asked for. It is `Capacity` at the item with which the new length passes 2^63 - 1, and else
     /// `Memory`.
     pub fn splice<R: RangeBounds<usize>, I: IntoIterator<Item = T>>(
         &mut self,
@@ -58,12 +71,31 @@ impl<T: Clone> EcoVec<T> {
         replace_with: I,
     ) -> Result<Splice<T>, EcoError>
         requires known { R.has_bounds range }
-        requires in_range { IsSome (range_of (R.start_bound range, R.end_bound range) (length self.old)) }
-        requires ends { (it : I.IntoIter) → I.into_iter_gives replace_with it → I.IntoIter.can_next it × IsFinite (I.IntoIter.remaining it) }
-        ensures ok { ClonesAreEqual T.is_clone → OnOk result ((items : List T) × GivesItems I.into_iter_gives I.IntoIter.next_gives replace_with items × AtRange (R.start_bound range, R.end_bound range) (length self.old) (λ start end. self.new ≡ splice self.old start end items)) }
-        ensures removed { ClonesAreEqual T.is_clone → IfOk result (λ removed. AtRange (R.start_bound range, R.end_bound range) (length self.old) (λ start end. removed ≡ slice_range self.old start end)) }
-        ensures len { OnOk result ((items : List T) × GivesItems I.into_iter_gives I.IntoIter.next_gives replace_with items × AtRange (R.start_bound range, R.end_bound range) (length self.old) (λ start end. length self.new + (end - start) ≡ length self.old + length items)) }
-        ensures removed_len { IfOk result (λ removed. AtRange (R.start_bound range, R.end_bound range) (length self.old) (λ start end. length removed ≡ end - start)) }
+        requires in_range { IsSome
+            (range_of (R.start_bound range, R.end_bound range) (length self.old)) }
+        requires ends { (it : I.IntoIter)
+            → I.into_iter_gives replace_with it
+            → I.IntoIter.can_next it × IsFinite (I.IntoIter.remaining it) }
+        ensures ok { ClonesAreEqual T.is_clone
+            → OnOk result
+            ((items : List T)
+            × GivesItems I.into_iter_gives I.IntoIter.next_gives replace_with items
+            × AtRange (R.start_bound range, R.end_bound range) (length self.old)
+            (λ start end. self.new ≡ splice self.old start end items)) }
+        ensures removed { ClonesAreEqual T.is_clone
+            → IfOk result
+            (λ removed.
+            AtRange (R.start_bound range, R.end_bound range) (length self.old)
+            (λ start end. removed ≡ slice_range self.old start end)) }
+        ensures len { OnOk result
+            ((items : List T)
+            × GivesItems I.into_iter_gives I.IntoIter.next_gives replace_with items
+            × AtRange (R.start_bound range, R.end_bound range) (length self.old)
+            (λ start end. length self.new + (end - start) ≡ length self.old + length items)) }
+        ensures removed_len { IfOk result
+            (λ removed.
+            AtRange (R.start_bound range, R.end_bound range) (length self.old)
+            (λ start end. length removed ≡ end - start)) }
         ensures kept { IfOk result
             (λ removed.
             SomeKept T.is_clone self.old
@@ -102,15 +134,18 @@ impl<T: Clone> EcoVec<T> {
         requires in_bounds { end ≤ length self.old }
         requires fits { length self.old - (end - start) + length replacement.items ≤ MAX_LEN }
         requires spare { end - start ≤ replacement.capacity }
-        ensures ok { ClonesAreEqual T.is_clone → OnOk result (self.new ≡ splice self.old start end replacement.items) }
-        ensures removed { ClonesAreEqual T.is_clone → IfOk result (λ removed. removed ≡ slice_range self.old start end) }
+        ensures ok { ClonesAreEqual T.is_clone
+            → OnOk result (self.new ≡ splice self.old start end replacement.items) }
+        ensures removed { ClonesAreEqual T.is_clone
+            → IfOk result (λ removed. removed ≡ slice_range self.old start end) }
         ensures kept { IfOk result
             (λ removed.
             SomeKept T.is_clone self.old
             (λ kept.
             (self.new ≡ splice kept start end replacement.items)
             × (removed ≡ slice_range kept start end))) }
-        ensures len { OnOk result (length self.new + (end - start) ≡ length self.old + length replacement.items) }
+        ensures len { OnOk result
+            (length self.new + (end - start) ≡ length self.old + length replacement.items) }
         ensures removed_len { IfOk result (λ removed. length removed ≡ end - start) }
         ensures err { IfErr result (λ error. error ≡ EcoError.Memory) }
         ensures unchanged { OnErr result (self.new ≡ self.old) }

@@ -7,6 +7,6 @@ pub edit-requires-clause-callable : goal.edit-requires-clause-callable
 edit-requires-clause-callable g c = λ b kept len room _ _ _ _ _ _ _ _ _. (omega (arith, len, c.requires.in_bounds), takes_kept g.T.Clone.is_clone g.F.FnOnce c.args.f c.args.self.now b.now.items c.args.index c.requires.callable kept)
 
 pub returns-clause-ok : goal.returns-clause-ok
-returns-clause-ok g c = λ equal. let e = c.in_ok-edit.ensures.ok equal in
+returns-clause-ok g c = λ equal. let e = c.in_ok-edit.ensures.edited.ok equal in
     subst (λ xs. UpdatesAt g.F.FnOnce c.args.f c.args.index xs c.edit.new.self c.in_ok-edit.field-0) e.shows
     (subst (λ ys. UpdatesAt g.F.FnOnce c.args.f c.args.index e.shown.now.items ys c.in_ok-edit.field-0) e.leaves (search (rules, e.met)))
