@@ -7,8 +7,12 @@ if [ "${1:-}" = --counted ]; then
     flag=--counted
     shift
 fi
-if [ $# -ne 1 ] || [ ! -f "$1" ]; then
-    echo "make try SCRIPT=FILE: there is no such file" >&2
+if [ $# -ne 1 ]; then
+    echo "make try SCRIPT=FILE, or make try SCRIPT=\"--counted FILE\", runs the script in FILE" >&2
+    exit 1
+fi
+if [ ! -f "$1" ]; then
+    echo "make try: there is no file $1" >&2
     exit 1
 fi
 file=$(realpath "$1")

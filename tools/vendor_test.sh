@@ -2,7 +2,8 @@
 # Tries `make vendor` on a repository that is new: a second call changes nothing, and the gate there
 # proves what was copied and, above it, the code of README and of docs/CALLING.md:
 # tools/vendor_test.sh [KIND].
-# With KIND=store the worked programs are copied out too, and the gate there runs them.
+# But for KIND=vector the worked tree is copied out too, and for KIND=store all worked programs. The
+# gate there runs them.
 set -eu
 cd "$(dirname "$0")/.."
 kind=${1:-vector}
@@ -21,14 +22,36 @@ for crate in $(cut -d : -f 1 "$new/crates.txt"); do
     done
 done
 
-# crate NAME PAGE: a crate of the first code of the page.
+# crate NAME PAGE HEADING CRATES: a crate of the first code of the page behind the line that begins so.
 crate() {
     mkdir -p "$new/crates/$1/src"
-    awk '/^```rust$/ { inside = 1; next } /^```$/ && inside { exit } inside' "$2" > "$new/crates/$1/src/lib.rt"
-    echo "$1: ecow_list" >> "$new/crates.txt"
+    awk -v heading="$3" '
+        index($0, heading) == 1 { behind = 1 }
+        behind && /^```rust$/ { inside = 1; next }
+        inside && /^```$/ { exit }
+        inside' "$2" > "$new/crates/$1/src/lib.rt"
+    echo "$1: $4" >> "$new/crates.txt"
 }
-crate first README.md
-crate calling docs/CALLING.md
+crate first README.md '# ' ecow_list
+crate calling docs/CALLING.md '## A caller' ecow_list
+if [ "$kind" != vector ]; then
+    crate named docs/CALLING.md '**A struct of yours.**' 'ecow_list ecow_text'
+    # The worked tree, as a program of its own.
+    trees=$new/crates/trees
+    mkdir -p "$trees/src" "$trees/specs" "$trees/proofs"
+    for part in src/tree.rt specs/Trees.antt proofs/Trees.antt proofs/tree; do
+        cp -Rp "crates/ecow_uses/$part" "$trees/$part"
+    done
+    echo 'pub mod Trees' | tee "$trees/specs/Lib.antt" > "$trees/proofs/Lib.antt"
+    {
+        printf '%s\n' '#![tactic(auto)]' 'mod tree;' 'use crate::tree::Node;' 'use anyhow::Result;' \
+            'use ecow_text::EcoString;' 'fn main(rt: HostRuntime) -> Result<()> {' '    replace_a_node(&rt)' '}'
+        awk '/^fn write_in_place/ { exit } /^fn replace_a_node/ { inside = 1 } inside' crates/ecow_uses/src/main.rt
+    } > "$trees/src/main.rt"
+    grep '^(f \|^first child' crates/ecow_uses/stdout > "$trees/stdout"
+    grep -rl 'Rattle.ecow_uses' "$trees" | xargs sed -i 's/Rattle\.ecow_uses\./Rattle.trees./g'
+    echo 'trees: ecow_list ecow_text anyhow' >> "$new/crates.txt"
+fi
 if [ "$kind" = store ]; then
     mkdir "$new/crates/ecow_uses"
     for part in src specs proofs stdout; do

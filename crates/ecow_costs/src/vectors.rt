@@ -14,6 +14,7 @@ enum Call {
     Push,
     Insert,
     Set,
+    Update,
     Pop,
     Remove,
     Truncate(usize),
@@ -59,7 +60,7 @@ fn row_of(call: Call, name: &'static str, brings: usize, needs: usize) -> Row {
     }
 }
 
-fn first_rows() -> [Row; 13] {
+fn first_rows() -> [Row; 14] {
     [
         row_of(
             Call::Read,
@@ -70,6 +71,7 @@ fn first_rows() -> [Row; 13] {
         row_of(Call::Push, "push(x)", 1, 0),
         row_of(Call::Insert, "insert(0, x)", 1, 0),
         row_of(Call::Set, "set(0, x)", 1, 1),
+        row_of(Call::Update, "update(0, f)", 0, 1),
         row_of(Call::Pop, "pop()", 0, 0),
         row_of(Call::Remove, "remove(0)", 0, 1),
         row_of(Call::Truncate(3), "truncate(3)", 0, 3),
@@ -181,6 +183,14 @@ fn set(list: &mut EcoVec<Counting>, value: Counting) -> Result<(), EcoError> {
     list.set(0, value).map_err(error_of)
 }
 
+/// Lends the first to a closure that leaves it as it is.
+fn update(list: &mut EcoVec<Counting>) -> Result<(), EcoError> {
+    if list.len() == 0 {
+        return Ok(());
+    }
+    list.update(0, |_| {})
+}
+
 fn remove(list: &mut EcoVec<Counting>) -> Outcome {
     if list.len() == 0 {
         return Ok(Out::Nothing);
@@ -246,6 +256,7 @@ fn put(call: Call, list: &mut EcoVec<Counting>, value: Counting) -> Outcome {
 fn change(call: Call, list: &mut EcoVec<Counting>) -> Result<(), EcoError> {
     match call {
         Call::Truncate(len) => list.truncate(len),
+        Call::Update => update(list),
         Call::Retain => retain(list),
         Call::Reserve(more) => list.reserve(more),
         Call::MakeMut => loan(list),

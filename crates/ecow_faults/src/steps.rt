@@ -6,6 +6,7 @@ pub(crate) enum Word {
     Push,
     Insert,
     Write,
+    Update,
     MakeMut,
     Pop,
     Remove,

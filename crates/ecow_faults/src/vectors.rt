@@ -5,6 +5,7 @@ use crate::steps::{Change, Row, Step, Word, step_of};
 use crate::watch::Watch;
 use ecow_list::{EcoError, EcoVec, range_in};
 use std::alloc::Global;
+use std::mem;
 
 /// Room, elements, and whether a twin shares the block. Without room there is no block.
 pub(crate) type State = (usize, usize, bool);
@@ -19,12 +20,14 @@ pub(crate) const STATES: [State; 7] = [
     (4, 4, true),
 ];
 
-pub(crate) const STEPS: [Row; 32] = [
+pub(crate) const STEPS: [Row; 34] = [
     (Word::Push, 0, 0, 1),
     (Word::Insert, 0, 0, 1),
     (Word::Insert, 3, 3, 1),
     (Word::Write, 0, 1, 1),
     (Word::Write, 3, 4, 1),
+    (Word::Update, 0, 1, 1),
+    (Word::Update, 3, 4, 1),
     (Word::MakeMut, 0, 0, 0),
     (Word::Pop, 0, 0, 0),
     (Word::Remove, 0, 1, 0),
@@ -174,7 +177,9 @@ fn call_holds<T: Element>(alloc: Global, watch: &Watch, state: State, step: Step
 /// Makes a call. Answers whether what it gave is right.
 fn called<T: Element>(list: &mut EcoVec<T>, call: &Call, given: Vec<T>) -> Result<bool, EcoError> {
     match call.step.word {
-        Word::Push | Word::Insert | Word::Write | Word::MakeMut => with_one(list, call, given),
+        Word::Push | Word::Insert | Word::Write | Word::Update | Word::MakeMut => {
+            with_one(list, call, given)
+        }
         Word::Extend | Word::ExtendEach | Word::Splice => with_several(list, call, given),
         Word::Pop | Word::Remove | Word::Drain => taking(list, call),
         Word::ExtendCopied | Word::ExtendWithin | Word::InsertSlice => {
@@ -200,6 +205,7 @@ fn with_one<T: Element>(
         Word::Push => list.push(value),
         Word::Insert if start <= list.len() => list.insert(start, value),
         Word::Write if start < list.len() => list.set(start, value),
+        Word::Update => return updated(list, call, value),
         _ => return written(list, value),
     };
     match done {
@@ -207,6 +213,16 @@ fn with_one<T: Element>(
         Err(rejected) if rejected.value.number() == 91 => Err(rejected.error),
         Err(_) => Ok(false),
     }
+}
+
+/// Answers whether the element that was there came out.
+fn updated<T: Element>(list: &mut EcoVec<T>, call: &Call, value: T) -> Result<bool, EcoError> {
+    let start = call.step.start;
+    if start >= list.len() {
+        return Ok(false);
+    }
+    let before = list.update(start, |place| mem::replace(place, value))?;
+    Ok(call.removed().is(&[before.number()]))
 }
 
 fn written<T: Element>(list: &mut EcoVec<T>, value: T) -> Result<bool, EcoError> {

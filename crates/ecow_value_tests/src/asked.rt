@@ -311,3 +311,47 @@ fn splice_clones_nothing_before_the_end_of_its_items(rt: HostRuntime) -> Result<
     assert!(rt; !items.saw_a_clone && items.tally.clones() == 3 && list.len() == 4);
     Ok(())
 }
+
+/// Lends the second element to a closure, which counts its calls and sees how many clones were made by
+/// then.
+fn lend_the_second(list: &mut EcoVec<Counting>, tally: &Tally) -> Result<(u64, u64), EcoError> {
+    let (mut calls, mut clones) = (0u64, 0);
+    if list.len() < 2 {
+        return Ok((calls, clones));
+    }
+    list.update(1, |_| {
+        calls = calls.wrapping_add(1);
+        clones = tally.clones();
+    })?;
+    Ok((calls, clones))
+}
+
+#[test]
+fn update_calls_its_closure_once_and_after_the_copy(rt: HostRuntime) -> Result<(), Fail> {
+    for is_shared in [false, true] {
+        let tally = Tally::new(rt.alloc())?;
+        let mut list = tally.list(rt.alloc(), 3)?;
+        let mut _twin = EcoVec::new(rt.alloc());
+        if is_shared {
+            _twin = shared(&list)?;
+        }
+        let clones = if is_shared { 3 } else { 0 };
+        assert_eq!(rt; lend_the_second(&mut list, &tally)?, (1, clones));
+        assert!(rt; tally.has(clones, 0) && is_unique(&mut list));
+    }
+    Ok(())
+}
+
+#[test]
+fn update_calls_no_closure_where_the_copy_is_refused(rt: HostRuntime) -> Result<(), Fail> {
+    let tally = Tally::refusing(rt.alloc(), 2)?;
+    let mut list = tally.list(rt.alloc(), 3)?;
+    let _twin = shared(&list)?;
+    let mut calls = 0u64;
+    if list.len() < 2 {
+        return Err("three elements".into());
+    }
+    assert!(rt; list.update(1, |_| calls = calls.wrapping_add(1)).is_err());
+    assert!(rt; calls == 0 && !is_unique(&mut list) && tally.has(2, 1));
+    Ok(())
+}

@@ -34,6 +34,8 @@ mod sharing;
 #[cfg(test)]
 mod texts;
 #[cfg(test)]
+mod trees;
+#[cfg(test)]
 mod twins;
 #[cfg(test)]
 mod vectors;

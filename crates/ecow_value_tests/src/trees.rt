@@ -1,0 +1,208 @@
+//! Types that hold a vector of themselves: which shapes there may be, what a change below copies, and
+//! how deep a tree may be that is dropped.
+use crate::calls::{push, write};
+use ecow_bytes::EcoBytes;
+use ecow_list::{EcoError, EcoVec};
+use ecow_testing::elements::{Counting, Tally};
+use ecow_text::EcoString;
+use std::alloc::{AllocError, Global};
+use std::test::Fail;
+
+/// A text and bytes beside the nodes below, and what is derived.
+#[derive(Clone, Debug, Drop, Eq, Hash, Ord, PartialEq, PartialOrd)]
+struct Syntax {
+    text: EcoString,
+    bytes: EcoBytes,
+    below: EcoVec<Syntax>,
+}
+
+/// A vector that may be missing.
+#[derive(Clone, Debug, Drop, Eq, Hash, Ord, PartialEq, PartialOrd)]
+struct Lazy {
+    below: Option<EcoVec<Lazy>>,
+}
+
+/// A vector of vectors.
+#[derive(Clone, Debug, Drop, Eq, Hash, Ord, PartialEq, PartialOrd)]
+struct Rows {
+    rows: EcoVec<EcoVec<Rows>>,
+}
+
+/// Nodes with a number each.
+#[derive(Clone, Debug, Drop, Eq, Hash, Ord, PartialEq, PartialOrd)]
+struct Numbered {
+    below: EcoVec<(u64, Numbered)>,
+}
+
+/// Variants of all these kinds.
+#[derive(Clone, Debug, Drop, Eq, Hash, Ord, PartialEq, PartialOrd)]
+enum Value {
+    Number(u64),
+    Text(EcoString),
+    List(EcoVec<Value>),
+    Pair(EcoVec<Value>, Option<EcoVec<Value>>),
+}
+
+/// A label of the user's.
+#[derive(Clone, Debug, Drop, Eq, Hash, Ord, PartialEq, PartialOrd)]
+struct Rose<T> {
+    label: T,
+    below: EcoVec<Rose<T>>,
+}
+
+fn one<T: Clone>(alloc: Global, element: T) -> Result<EcoVec<T>, EcoError> {
+    let mut list = EcoVec::new(alloc);
+    push(&mut list, element)?;
+    Ok(list)
+}
+
+fn syntax_of(alloc: Global, text: &str, below: EcoVec<Syntax>) -> Result<Syntax, EcoError> {
+    Ok(Syntax {
+        text: EcoString::from_str(alloc, text)?,
+        bytes: EcoBytes::from_slice(alloc, &[1, 2])?,
+        below,
+    })
+}
+
+#[test]
+fn texts_and_bytes_stand_beside_nodes(rt: HostRuntime) -> Result<(), Fail> {
+    let alloc = rt.alloc();
+    let leaf = syntax_of(alloc, "x", EcoVec::new(alloc))?;
+    let tree = syntax_of(alloc, "f", one(alloc, leaf)?)?;
+    let copy = tree.clone()?;
+    assert!(rt; copy == tree && copy >= tree);
+    assert!(rt; tree.below[0].text.as_str() == "x" && tree.below[0] > tree);
+    Ok(())
+}
+
+#[test]
+fn vectors_may_be_missing_or_nested_or_stand_in_pairs(rt: HostRuntime) -> Result<(), Fail> {
+    let alloc = rt.alloc();
+    let lazy = Lazy {
+        below: Some(one(alloc, Lazy { below: None })?),
+    };
+    assert!(rt; lazy > Lazy { below: None } && lazy.clone()? == lazy);
+    let none = Rows {
+        rows: EcoVec::new(alloc),
+    };
+    let rows = Rows {
+        rows: one(alloc, one(alloc, none)?)?,
+    };
+    assert!(rt; rows.rows[0].len() == 1 && rows.clone()? == rows);
+    let none = Numbered {
+        below: EcoVec::new(alloc),
+    };
+    let numbered = Numbered {
+        below: one(alloc, (7, none))?,
+    };
+    assert!(rt; numbered.below[0].0 == 7 && numbered.clone()? == numbered);
+    Ok(())
+}
+
+#[test]
+fn variants_and_labels_hold_vectors(rt: HostRuntime) -> Result<(), Fail> {
+    let alloc = rt.alloc();
+    let text = Value::Text(EcoString::from_str(alloc, "a")?);
+    let list = Value::List(one(alloc, text)?);
+    let pair = Value::Pair(
+        one(alloc, Value::Number(1))?,
+        Some(one(alloc, list.clone()?)?),
+    );
+    assert!(rt; pair > list && pair.clone()? == pair);
+    let leaf = Rose {
+        label: 2u8,
+        below: EcoVec::new(alloc),
+    };
+    let rose = Rose {
+        label: 1u8,
+        below: one(alloc, leaf)?,
+    };
+    assert!(rt; rose.below[0].label == 2 && rose.clone()? == rose);
+    Ok(())
+}
+
+/// A node that counts its clones and its drop.
+#[derive(Clone, Drop)]
+struct Node {
+    counting: Counting,
+    below: EcoVec<Node>,
+}
+
+fn leaf(tally: &Tally, alloc: Global) -> Result<Node, EcoError> {
+    Ok(Node {
+        counting: tally.element()?,
+        below: EcoVec::new(alloc),
+    })
+}
+
+fn leaves(tally: &Tally, alloc: Global, n: usize) -> Result<EcoVec<Node>, EcoError> {
+    let mut nodes = EcoVec::new(alloc);
+    for _ in 0..n {
+        push(&mut nodes, leaf(tally, alloc)?)?;
+    }
+    Ok(nodes)
+}
+
+/// So many nodes, with so many below each.
+fn nodes(tally: &Tally, alloc: Global, n: usize, each: usize) -> Result<EcoVec<Node>, EcoError> {
+    let mut nodes = leaves(tally, alloc, n)?;
+    for index in 0..n {
+        let below = leaves(tally, alloc, each)?;
+        if index < nodes.len() {
+            nodes.update(index, |node| node.below = below)?;
+        }
+    }
+    Ok(nodes)
+}
+
+/// Puts another node in the place of the third below the second.
+fn replace_below(list: &mut EcoVec<Node>, node: Node) -> Result<(), EcoError> {
+    if list.len() < 2 {
+        return Ok(());
+    }
+    list.update(1, |second| write(&mut second.below, 2, node))??;
+    Ok(())
+}
+
+#[test]
+fn a_change_copies_the_vectors_along_its_path(rt: HostRuntime) -> Result<(), Fail> {
+    let tally = Tally::new(rt.alloc())?;
+    let tree = nodes(&tally, rt.alloc(), 4, 3)?;
+    let mut changed = tree.clone()?;
+    assert!(rt; tally.has(0, 0));
+    replace_below(&mut changed, leaf(&tally, rt.alloc())?)?;
+    // Four nodes, and the three below one of them, of which one made way.
+    assert!(rt; tally.has(7, 1));
+    drop(changed);
+    assert!(rt; tally.has(7, 8));
+    drop(tree);
+    assert!(rt; tally.has(7, 24));
+    Ok(())
+}
+
+#[test]
+fn a_million_nodes_are_dropped(rt: HostRuntime) -> Result<(), Fail> {
+    let tally = Tally::new(rt.alloc())?;
+    let tree = nodes(&tally, rt.alloc(), 1000, 999)?;
+    drop(tree);
+    assert!(rt; tally.has(0, 1000000));
+    Ok(())
+}
+
+/// A chain of so many nodes, one below the other.
+fn chain(tally: &Tally, alloc: Global, n: usize) -> Result<EcoVec<Node>, EcoError> {
+    let mut below = EcoVec::new(alloc);
+    for _ in 0..n {
+        let counting = tally.element()?;
+        below = one(alloc, Node { counting, below })?;
+    }
+    Ok(below)
+}
+
+#[test]
+fn a_chain_of_ten_thousand_nodes_is_dropped(rt: HostRuntime) -> Result<(), Fail> {
+    let tally = Tally::new(rt.alloc())?;
+    drop(chain(&tally, rt.alloc(), 10000)?);
+    assert!(rt; tally.has(0, 10000));
+    Ok(())
+}
