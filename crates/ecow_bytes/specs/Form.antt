@@ -1,7 +1,7 @@
 -- The bytes and the mode of each form.
 use Rattle.std.specs.Prelude.{ℕ, true, false}
-use Rattle.ecow_model.specs.Bytes.{plain_bytes}
-use Rattle.ecow_model.specs.declared.value.PlainBytes.{PlainBytes}
+use Rattle.ecow_values.specs.Plain.{plain_bytes}
+use Rattle.ecow_values.specs.declared.plain.PlainBytes.{PlainBytes}
 use Rattle.ecow_bytes.specs.declared.bytes.Form.{Form}
 use Rattle.ecow_bytes.specs.declared.bytes.Form.TheVariants.{Inline, Spilled}
 

@@ -1,4 +1,3 @@
-pub mod Boundaries
 pub mod Contents
 pub mod Entries
 pub mod Lengths

@@ -2,13 +2,14 @@
 use Rattle.std.specs.Prelude.{ℕ, ◌+◌, ◌-◌, ◌*◌, Bool, true, false, ◌||◌, ◌==◌, if◌then◌else◌, nat_le, max, Some, None, List, [], ◌∷◌, ◌++◌, length, take, slice_get, slice_set, Result, Ok}
 use Rattle.std.specs.List.{insert as insert_at, remove as remove_at, insert_slice, repeat}
 use Rattle.std.specs.Str.{encode_utf8_all}
-use Rattle.ecow_model.specs.Inline.{inline_for, inline_after, inline_shrunk}
+use Rattle.ecow_values.specs.Inline.{inline_for, inline_after, inline_shrunk}
 use Rattle.ecow_model.specs.State.{Plain}
 use Rattle.ecow_model.specs.Refusing.{◌>>=◌, check, found, allowed, Change, becomes}
 use Rattle.ecow_model.specs.Values.{as_bytes, as_text}
 use Rattle.ecow_model.specs.Uses.{Reading, Rules}
-use Rattle.ecow_model.specs.declared.value.PlainBytes.{PlainBytes}
-use Rattle.ecow_model.specs.declared.value.PlainText.{PlainText}
+use Rattle.ecow_values.specs.Plain.{plain_bytes, bytes_of}
+use Rattle.ecow_values.specs.declared.plain.PlainBytes.{PlainBytes}
+use Rattle.ecow_values.specs.declared.plain.PlainText.{PlainText}
 use Rattle.ecow_model.specs.declared.value.Value.TheVariants.{Bytes as Buffered}
 use Rattle.ecow_model.specs.declared.command.Outcome.{Outcome}
 use Rattle.ecow_model.specs.declared.command.Outcome.TheVariants.{Byte, PoppedByte, Bytes, Count, Flag}
@@ -28,14 +29,6 @@ use Rattle.ecow_model.specs.declared.bytes.BytesEdit.{BytesEdit}
 use Rattle.ecow_model.specs.declared.bytes.BytesEdit.TheVariants.{Push, Pop, Insert, Remove, Extend, InsertSlice, Truncate, Clear, Reserve, Write, ShrinkToFit}
 use Rattle.ecow_model.specs.declared.bytes.BytesAsk.{BytesAsk}
 use Rattle.ecow_model.specs.declared.bytes.BytesAsk.TheVariants.{Read, Len, Capacity, Contents, IsInline}
-
--- bytes, and whether they stand in the value itself
-abbrev pub plain_bytes : List ℕ → Bool → PlainBytes
-plain_bytes bytes inline = record { bytes = bytes; inline = inline }
-
--- the UTF-8 bytes of a text, in its mode
-abbrev pub bytes_of : PlainText → PlainBytes
-bytes_of text = plain_bytes (encode_utf8_all text.chars) text.inline
 
 -- the byte at an index, refused past the end
 abbrev pub byte_at : PlainBytes → ℕ → Result ℕ Refusal

@@ -1,7 +1,4 @@
 pub mod State
-pub mod Inline
-pub mod Utf8
-pub mod Replaced
 pub mod Refusing
 pub mod Values
 pub mod Uses

@@ -4,15 +4,16 @@ use Rattle.std.specs.Prelude.{ℕ, ◌+◌, ◌-◌, ◌*◌, Bool, true, false,
 use Rattle.std.specs.List.{insert as insert_at, remove as remove_at, insert_slice, repeat}
 use Rattle.std.specs.Char.{len_utf8, to_ascii_lowercase, to_ascii_uppercase}
 use Rattle.std.specs.Str.{chars, is_utf8}
-use Rattle.ecow_model.specs.Inline.{inline_for, inline_after, inline_shrunk}
-use Rattle.ecow_model.specs.Utf8.{utf8_len, chars_before, is_boundary}
-use Rattle.ecow_model.specs.Replaced.{replaced}
+use Rattle.ecow_values.specs.Inline.{inline_for, inline_after, inline_shrunk}
+use Rattle.ecow_values.specs.Utf8.{utf8_len, chars_before, is_boundary}
+use Rattle.ecow_values.specs.Replaced.{replaced}
 use Rattle.ecow_model.specs.State.{Plain}
 use Rattle.ecow_model.specs.Refusing.{◌>>=◌, check, found, allowed, Change, becomes}
 use Rattle.ecow_model.specs.Values.{as_bytes, as_text}
 use Rattle.ecow_model.specs.Uses.{Reading, Rules}
-use Rattle.ecow_model.specs.declared.value.PlainBytes.{PlainBytes}
-use Rattle.ecow_model.specs.declared.value.PlainText.{PlainText}
+use Rattle.ecow_values.specs.Plain.{plain_text, text_of}
+use Rattle.ecow_values.specs.declared.plain.PlainBytes.{PlainBytes}
+use Rattle.ecow_values.specs.declared.plain.PlainText.{PlainText}
 use Rattle.ecow_model.specs.declared.value.Value.TheVariants.{Text as Written}
 use Rattle.ecow_model.specs.declared.command.Outcome.{Outcome}
 use Rattle.ecow_model.specs.declared.command.Outcome.TheVariants.{Char, PoppedChar, Text as Texted, Count, Flag}
@@ -32,14 +33,6 @@ use Rattle.ecow_model.specs.declared.texts.TextEdit.{TextEdit}
 use Rattle.ecow_model.specs.declared.texts.TextEdit.TheVariants.{Push, Pop, PushStr, Insert, InsertStr, Remove, Truncate, Clear, Reserve, AsciiLower, AsciiUpper, ShrinkToFit}
 use Rattle.ecow_model.specs.declared.texts.TextAsk.{TextAsk}
 use Rattle.ecow_model.specs.declared.texts.TextAsk.TheVariants.{Len, Capacity, Contents, IsInline}
-
--- characters, and whether their bytes stand in the value itself
-abbrev pub plain_text : List ℕ → Bool → PlainText
-plain_text cs inline = record { chars = cs; inline = inline }
-
--- the text that bytes spell, in their mode
-abbrev pub text_of : PlainBytes → PlainText
-text_of b = plain_text (chars b.bytes) b.inline
 
 -- the same, refused where they are not UTF-8
 abbrev pub text_spelled : PlainBytes → Result PlainText Refusal

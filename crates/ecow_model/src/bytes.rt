@@ -2,10 +2,10 @@
 ghost use Rattle.std.specs.Prelude.{◌≡◌, length};
 ghost use Rattle.ecow_model.specs.Bytes.{bytes_edited, bytes_usage};
 ghost use Rattle.ecow_model.specs.Refusing.{verdict};
-ghost use Rattle.ecow_model.specs.declared.value.PlainBytes.{PlainBytes};
+ghost use Rattle.ecow_values.specs.declared.plain.PlainBytes.{PlainBytes};
 
 use crate::command::{Name, Refusal};
-use crate::items::Items;
+use ecow_values::Items;
 use crate::usage::{Usage, allowed, ask, change, derive, make, within};
 
 /// A command on bytes, inline or spilled. Counts and indexes are of bytes.

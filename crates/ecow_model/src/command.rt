@@ -1,6 +1,6 @@
 //! The commands on named values, their outcomes and their refusals.
 use crate::bytes::BytesCommand;
-use crate::items::{Items, Text};
+use ecow_values::{Items, Text};
 use crate::lists::VecCommand;
 use crate::texts::TextCommand;
 use std::ops::Bound;

@@ -4,7 +4,6 @@
 
 pub mod bytes;
 pub mod command;
-pub mod items;
 pub mod kinds;
 pub mod laws;
 pub mod lists;
@@ -16,6 +15,6 @@ pub mod value;
 
 pub use bytes::BytesCommand;
 pub use command::{Bounds, Command, Name, Outcome, Refusal};
-pub use items::{Items, Text};
+pub use ecow_values::{Items, PlainBytes, PlainText, Text};
 pub use lists::VecCommand;
 pub use texts::TextCommand;

@@ -4,7 +4,7 @@ ghost use Rattle.ecow_model.specs.Lists.{list_edited, vec_usage};
 ghost use Rattle.ecow_model.specs.Refusing.{verdict};
 
 use crate::command::{Bounds, Name, Refusal};
-use crate::items::Items;
+use ecow_values::Items;
 use crate::usage::{Usage, allowed, ask, change, derive, make, within};
 use ecow_base::resolve;
 

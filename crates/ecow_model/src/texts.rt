@@ -3,7 +3,7 @@ ghost use Rattle.std.specs.Prelude.{◌≡◌};
 ghost use Rattle.ecow_model.specs.Texts.{text_usage};
 
 use crate::command::Name;
-use crate::items::Text;
+use ecow_values::Text;
 use crate::usage::{Usage, ask, change, derive, make};
 
 /// A command on a text, inline or spilled. Counts and indexes are of its UTF-8 bytes.

@@ -1,7 +1,7 @@
 -- Replacements that change nothing.
 use Rattle.std.proofs.Common.{◌≡◌, ◌≢◌, ℕ, zero, suc, List, ◌∷◌, ◌++◌, refl, ap}
 use Rattle.std.specs.Option.{option_map_or}
-use Rattle.ecow_model.specs.Replaced.{replaced}
+use Rattle.ecow_values.specs.Replaced.{replaced}
 use Rattle.ecow_text.proofs.Occurrences.{first_split-none}
 
 -- a pattern of some characters that doesn't occur leaves the text as it is

@@ -5,9 +5,9 @@ use Rattle.std.specs.Char.{len_utf8}
 use Rattle.std.specs.Str.{chars, encode_utf8_all, IsUtf8}
 use Rattle.std.specs.Option.{option_map_or}
 use Rattle.std.proofs.lemmas.Str.{encodes-chars}
-use Rattle.ecow_model.specs.Utf8.{utf8_len}
-use Rattle.ecow_model.specs.Replaced.{first_split, replaced}
-use Rattle.ecow_model.proofs.Boundaries.{width}
+use Rattle.ecow_values.specs.Utf8.{utf8_len}
+use Rattle.ecow_values.specs.Replaced.{first_split, replaced}
+use Rattle.ecow_values.proofs.Boundaries.{width}
 use Rattle.ecow_text.specs.Replace.{IsFirstSplit, IsCharSplit}
 use Rattle.ecow_text.proofs.Occurrences.{encoded_len}
 

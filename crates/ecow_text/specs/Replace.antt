@@ -2,7 +2,7 @@
 use Rattle.std.specs.Prelude.{◌≡◌, ℕ, MatchOption, List, [], ◌∷◌, Option, Some, None}
 use Rattle.std.specs.Str.{chars, IsUtf8}
 use denote.Ref.{Bor}
-use Rattle.ecow_model.specs.Replaced.{first_split}
+use Rattle.ecow_values.specs.Replaced.{first_split}
 
 -- the texts before and behind the first p in s
 pub record IsFirstSplit (p s before behind : List ℕ) : Type 0 where

@@ -1,6 +1,6 @@
 //! Bytes with the ASCII letters in one case.
 ghost use Rattle.std.specs.Prelude.{◌≡◌, ◌+◌, ◌≤◌, ◌++◌, length, map, true, false, IsOk, IfOk, IfErr, OnOk, OnErr};
-ghost use Rattle.ecow_model.specs.Inline.{inline_for};
+ghost use Rattle.ecow_values.specs.Inline.{inline_for};
 ghost use Rattle.ecow_text.specs.Case.{in_case};
 
 use crate::spilled::{map_vec, take_vec};

@@ -1,7 +1,7 @@
 //! `SmallText`, and `EcoString`, its name for 15 bytes.
 ghost use Rattle.std.specs.Prelude.{◌≡◌, ◌≤◌, ◌==◌, [], length, true, false};
 ghost use Rattle.std.specs.Str.{chars, encode_utf8_all};
-ghost use Rattle.ecow_model.specs.Utf8.{utf8_len, is_boundary};
+ghost use Rattle.ecow_values.specs.Utf8.{utf8_len, is_boundary};
 ghost use Rattle.ecow_text.specs.Text.{AreChars};
 
 mod case;
@@ -37,8 +37,8 @@ pub struct SmallText<const N: usize> {
 pub type EcoString = SmallText<15>;
 
 impl<const N: usize> Model for SmallText<N> {
-    ghost use Rattle.ecow_model.specs.Texts.{text_of};
-    ghost use Rattle.ecow_model.specs.declared.value.PlainText.{PlainText};
+    ghost use Rattle.ecow_values.specs.Plain.{text_of};
+    ghost use Rattle.ecow_values.specs.declared.plain.PlainText.{PlainText};
     ghost use Rattle.ecow_text.specs.Text.{AreUtf8};
 
     ghost Value = { PlainText };

@@ -17,7 +17,7 @@ pub struct Names {
 
 impl Model for Names {
     ghost use Rattle.std.specs.Prelude.{List};
-    ghost use Rattle.ecow_model.specs.declared.value.PlainText.{PlainText};
+    ghost use Rattle.ecow_values.specs.declared.plain.PlainText.{PlainText};
 
     ghost Value = { List PlainText };
 

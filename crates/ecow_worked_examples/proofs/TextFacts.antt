@@ -2,7 +2,7 @@
 use Rattle.std.proofs.Common.{refl}
 use Rattle.std.specs.Char.{encode_utf8}
 use Rattle.std.specs.Str.{chars, is_utf8}
-use Rattle.ecow_model.specs.Replaced.{replaced, first_split}
+use Rattle.ecow_values.specs.Replaced.{replaced, first_split}
 use Rattle.ecow_worked_examples.specs.TextScripts.{AGreetingSpillsAndItsCloneIsPopped, TheGreetingStaysInlineWhere23BytesDo, NoCharacterIsCut, NoTextOfOtherBytesOrKinds, ReplacedTwiceAtBoundaries, ReplacedNever, ReplacedWhereNothingOverlaps, ATextKeepsTheModeOfItsBytes, BytesOfATextAndBack, ARepeatedTextIsInlineByItsBytes, ThreeBytesIntoFifteenSpill, CharactersArePushedInOrder, PiecesArePushedInOrder, OnlyAsciiLettersChangeTheirCase, FourAndFiveBytesSpillWhereThreeAreInline, FourBytesAreInlineWhereFourAre, FiveBytesAreInlineWhereFiveAre, RoomPastTheGreatestIsRefused, ATextReplacedByNothingIsInline, ARepeatedSpilledTextComesBackInline}
 use Rattle.ecow_worked_examples.proofs.Scripts.{rules}
 

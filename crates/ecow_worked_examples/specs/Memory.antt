@@ -3,9 +3,9 @@ use Rattle.std.specs.Prelude.{ℕ, Bool, [], ◌∷◌, replicate}
 use Rattle.std.specs.FinMap.{empty, insert}
 use Rattle.ecow_model.specs.State.{State}
 use Rattle.ecow_model.specs.Names.{Names}
-use Rattle.ecow_model.specs.Bytes.{plain_bytes}
+use Rattle.ecow_values.specs.Plain.{plain_bytes}
 use Rattle.ecow_model.specs.declared.value.Value.TheVariants.{List as Listed}
-use Rattle.ecow_model.specs.declared.value.PlainBytes.{PlainBytes}
+use Rattle.ecow_values.specs.declared.plain.PlainBytes.{PlainBytes}
 use Rattle.ecow_model.specs.declared.lists.VecCommand.TheVariants.{FromList, Clone}
 use Rattle.ecow_worked_examples.specs.Tables.{left_by}
 

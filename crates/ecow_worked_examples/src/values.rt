@@ -2,11 +2,13 @@
 ghost use Rattle.std.specs.Prelude.{◌≡◌, ℕ, Some, None, Ok, Err, [], ◌∷◌, true, false, codes};
 ghost use Rattle.std.specs.declared.ops.Bound.TheVariants.{Included, Excluded, Unbounded};
 ghost use Rattle.ecow_base.specs.Range.{range_of};
-ghost use Rattle.ecow_model.specs.Bytes.{bytes_derived, plain_bytes};
+ghost use Rattle.ecow_model.specs.Bytes.{bytes_derived};
+ghost use Rattle.ecow_values.specs.Plain.{plain_bytes};
 ghost use Rattle.ecow_model.specs.Lists.{list_made};
 ghost use Rattle.ecow_model.specs.Refusing.{allowed};
-ghost use Rattle.ecow_model.specs.Replaced.{replaced, replaced_all};
-ghost use Rattle.ecow_model.specs.Texts.{plain_text, text_derived};
+ghost use Rattle.ecow_values.specs.Replaced.{replaced, replaced_all};
+ghost use Rattle.ecow_model.specs.Texts.{text_derived};
+ghost use Rattle.ecow_values.specs.Plain.{plain_text};
 ghost use Rattle.ecow_model.specs.declared.bytes.BytesDerive.TheVariants.{Repeat as RepeatBytes};
 ghost use Rattle.ecow_model.specs.declared.command.Refusal.TheVariants.{Capacity, NotUtf8};
 ghost use Rattle.ecow_model.specs.declared.lists.ListMake.TheVariants.{FromElem};

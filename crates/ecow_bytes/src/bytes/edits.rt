@@ -2,7 +2,7 @@
 //! ones the vector is.
 ghost use Rattle.std.specs.Prelude.{◌≡◌, ◌+◌, ◌-◌, ◌<◌, ◌≤◌, ◌↔◌, [], length, take, true, false, IsOk, IfOk, IfErr, OnOk, OnErr, IsErrOf, Some, insert, remove, slice_get, slice_set};
 ghost use Rattle.std.specs.List.{insert_slice};
-ghost use Rattle.ecow_model.specs.Inline.{inline_after, inline_shrunk};
+ghost use Rattle.ecow_values.specs.Inline.{inline_after, inline_shrunk};
 
 use crate::bytes::push::spilled;
 use crate::bytes::{Form, SmallBytes};

@@ -3,7 +3,7 @@
 ghost use Rattle.std.specs.Prelude.{◌≡◌, ℕ, List, ◌+◌, ◌<◌, ◌≤◌, ◌↔◌, [], ◌∷◌, ◌++◌, length, true, false, IsOk, IfOk, IfErr, OnOk, OnErr, IsErrOf};
 ghost use Rattle.std.specs.Iterator.{IsFinite, ExtendsWithItems};
 ghost use Rattle.ecow_list.specs.Vectors.{Appends, GivesFirst};
-ghost use Rattle.ecow_model.specs.Inline.{inline_after};
+ghost use Rattle.ecow_values.specs.Inline.{inline_after};
 
 use crate::bytes::{Form, SmallBytes};
 use ecow_base::{MAX_LEN, room_for};

@@ -1,7 +1,7 @@
 //! The same bytes several times over.
 ghost use Rattle.std.specs.Prelude.{◌≡◌, ◌+◌, ◌*◌, ◌<◌, ◌≤◌, ◌↔◌, ◌++◌, false, length, take, IsOk, IfOk, IfErr, OnOk, OnErr, IsErrOf};
 ghost use Rattle.std.specs.List.{repeat};
-ghost use Rattle.ecow_model.specs.Inline.{inline_after, inline_for};
+ghost use Rattle.ecow_values.specs.Inline.{inline_after, inline_for};
 
 use crate::bytes::{Form, SmallBytes};
 use ecow_base::MAX_LEN;

@@ -4,8 +4,8 @@ ghost use Rattle.std.specs.Char.{to_ascii_lowercase, to_ascii_uppercase};
 ghost use Rattle.std.specs.Str.{encode_utf8_all, IsAscii};
 ghost use Rattle.std.specs.StrCase.Lower.{str_to_lowercase};
 ghost use Rattle.std.specs.StrCase.Upper.{str_to_uppercase};
-ghost use Rattle.ecow_model.specs.Inline.{inline_for};
-ghost use Rattle.ecow_model.specs.Utf8.{utf8_len};
+ghost use Rattle.ecow_values.specs.Inline.{inline_for};
+ghost use Rattle.ecow_values.specs.Utf8.{utf8_len};
 
 use crate::case::{Case, map_in_place, mapped, mapped_by_length};
 use crate::text::SmallText;

@@ -4,9 +4,9 @@ ghost use Rattle.std.specs.Borrow.{Bor};
 ghost use Rattle.std.specs.Str.{chars};
 ghost use Rattle.std.specs.Iterator.{IsFinite, ExtendsWithItems};
 ghost use Rattle.ecow_list.specs.Vectors.{Appends, GivesFirst, GivesItems};
-ghost use Rattle.ecow_model.specs.Inline.{inline_after, inline_for};
-ghost use Rattle.ecow_model.specs.Utf8.{utf8_len};
-ghost use Rattle.ecow_model.specs.declared.value.PlainText.{PlainText};
+ghost use Rattle.ecow_values.specs.Inline.{inline_after, inline_for};
+ghost use Rattle.ecow_values.specs.Utf8.{utf8_len};
+ghost use Rattle.ecow_values.specs.declared.plain.PlainText.{PlainText};
 ghost use Rattle.ecow_text.specs.Appends.{AppendsBy, AppendsStrs, LeavesLastOut, joined_by, joined_strs, joined_texts};
 
 use crate::text::SmallText;

@@ -3,8 +3,8 @@ ghost use Rattle.std.specs.Prelude.{◌≡◌, ◌+◌, ◌-◌, ◌<◌, ◌≤
 ghost use Rattle.std.specs.List.{insert_slice};
 ghost use Rattle.std.specs.Char.{len_utf8, to_ascii_lowercase, to_ascii_uppercase};
 ghost use Rattle.std.specs.Str.{chars};
-ghost use Rattle.ecow_model.specs.Inline.{inline_after, inline_shrunk};
-ghost use Rattle.ecow_model.specs.Utf8.{utf8_len, chars_before, is_boundary};
+ghost use Rattle.ecow_values.specs.Inline.{inline_after, inline_shrunk};
+ghost use Rattle.ecow_values.specs.Utf8.{utf8_len, chars_before, is_boundary};
 
 use crate::cut::cut_out;
 use crate::text::SmallText;

@@ -2,9 +2,9 @@
 //! that would be too long asks for no memory.
 ghost use Rattle.std.specs.Prelude.{◌≡◌, ◌≢◌, ◌+◌, ◌<◌, ◌≤◌, ◌↔◌, [], length, IsOk, IfOk, IsErrOf};
 ghost use Rattle.std.specs.Str.{chars};
-ghost use Rattle.ecow_model.specs.Inline.{inline_for};
-ghost use Rattle.ecow_model.specs.Replaced.{replaced, replaced_all};
-ghost use Rattle.ecow_model.specs.Utf8.{utf8_len};
+ghost use Rattle.ecow_values.specs.Inline.{inline_for};
+ghost use Rattle.ecow_values.specs.Replaced.{replaced, replaced_all};
+ghost use Rattle.ecow_values.specs.Utf8.{utf8_len};
 
 mod pattern;
 mod spread;

@@ -2,9 +2,9 @@
 //! these stand is a boundary, since the first byte of a character is no later one's.
 ghost use Rattle.std.specs.Prelude.{◌≡◌, ◌≢◌, ◌+◌, ◌<◌, ◌≤◌, [], ◌++◌, length, IfErr, OnOk, OnErr, SomeIff};
 ghost use Rattle.std.specs.Str.{chars};
-ghost use Rattle.ecow_model.specs.Inline.{inline_for};
-ghost use Rattle.ecow_model.specs.Replaced.{replaced};
-ghost use Rattle.ecow_model.specs.Utf8.{utf8_len};
+ghost use Rattle.ecow_values.specs.Inline.{inline_for};
+ghost use Rattle.ecow_values.specs.Replaced.{replaced};
+ghost use Rattle.ecow_values.specs.Utf8.{utf8_len};
 ghost use Rattle.ecow_text.specs.Replace.{SplitsFirst};
 
 use crate::text::SmallText;

@@ -1,9 +1,9 @@
 //! The occurrences of the empty pattern: before each character, and at the end.
 ghost use Rattle.std.specs.Prelude.{◌≡◌, ◌+◌, ◌<◌, ◌≤◌, [], ◌++◌, length, IfErr, OnOk, OnErr, SomeIff};
 ghost use Rattle.std.specs.Str.{chars};
-ghost use Rattle.ecow_model.specs.Inline.{inline_for};
-ghost use Rattle.ecow_model.specs.Replaced.{replaced};
-ghost use Rattle.ecow_model.specs.Utf8.{utf8_len};
+ghost use Rattle.ecow_values.specs.Inline.{inline_for};
+ghost use Rattle.ecow_values.specs.Replaced.{replaced};
+ghost use Rattle.ecow_values.specs.Utf8.{utf8_len};
 ghost use Rattle.ecow_text.specs.Replace.{SplitsChar};
 
 use crate::text::SmallText;

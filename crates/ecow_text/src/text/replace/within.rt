@@ -1,8 +1,8 @@
 //! Appending to a text that was made for so many bytes, and keeps its mode while it gets no more.
 ghost use Rattle.std.specs.Prelude.{◌≡◌, ◌+◌, ◌<◌, ◌≤◌, ◌++◌, length, IfErr, OnOk, OnErr, SomeIff};
 ghost use Rattle.std.specs.Str.{chars};
-ghost use Rattle.ecow_model.specs.Inline.{inline_for};
-ghost use Rattle.ecow_model.specs.Utf8.{utf8_len};
+ghost use Rattle.ecow_values.specs.Inline.{inline_for};
+ghost use Rattle.ecow_values.specs.Utf8.{utf8_len};
 
 use crate::text::SmallText;
 use ecow_base::MAX_LEN;

@@ -1,6 +1,6 @@
 use Rattle.std.proofs.Common.{◌≡◌, ◌+◌, length, ◌∷◌, ◌++◌, [], refl, sym, ap, ◌∙◌}
 use Rattle.std.proofs.lemmas.Result.{err_from_is_err_and}
-use Rattle.ecow_model.specs.Utf8.{utf8_len}
+use Rattle.ecow_values.specs.Utf8.{utf8_len}
 use Rattle.ecow_list.proofs.Fronts.{one_more, on_err}
 use Rattle.ecow_text.specs.Appends.{joined_by}
 use Rattle.ecow_text.proofs.Joined.{joined_by_more}

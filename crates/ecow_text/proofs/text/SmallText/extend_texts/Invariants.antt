@@ -1,7 +1,7 @@
 use Rattle.std.proofs.Common.{◌≡◌}
 use Rattle.ecow_text.specs.Appends.{AppendsBy}
-use Rattle.ecow_model.specs.Inline.{inline_after}
-use Rattle.ecow_model.specs.Utf8.{utf8_len}
+use Rattle.ecow_values.specs.Inline.{inline_after}
+use Rattle.ecow_values.specs.Utf8.{utf8_len}
 use Rattle.ecow_text.proofs.text.SmallText.extend_texts.Given as goal
 
 abbrev pub invariant-loop-text : goal.invariant-loop-text

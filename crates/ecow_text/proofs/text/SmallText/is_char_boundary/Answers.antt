@@ -1,4 +1,4 @@
-use Rattle.ecow_model.proofs.Boundaries.{boundary_passes, passes_boundary}
+use Rattle.ecow_values.proofs.Boundaries.{boundary_passes, passes_boundary}
 use Rattle.ecow_text.proofs.Texts.{front_of_boundary, boundary_of_front, same_test}
 use Rattle.ecow_text.proofs.text.SmallText.is_char_boundary.Goals as goal
 

@@ -1,7 +1,7 @@
 use Rattle.std.proofs.Common.{◌≡◌, sym, ap, ◌∙◌, drop}
 use Rattle.std.specs.Str.{encode_utf8_all}
-use Rattle.ecow_model.proofs.Boundaries.{passes_boundary}
-use Rattle.ecow_model.specs.declared.value.PlainText.{PlainText}
+use Rattle.ecow_values.proofs.Boundaries.{passes_boundary}
+use Rattle.ecow_values.specs.declared.plain.PlainText.{PlainText}
 use Rattle.ecow_text.proofs.Removal.{Removed, removed}
 use Rattle.ecow_text.proofs.Texts.{boundary_of_front}
 use Rattle.ecow_text.proofs.text.SmallText.remove.Given.{Over}

@@ -1,7 +1,7 @@
 use Rattle.std.proofs.Common.{◌≡◌, ◌+◌, length, arith}
 use Rattle.std.specs.Str.{chars}
 use Rattle.std.proofs.lemmas.Str.{length-le-encodes}
-use Rattle.ecow_model.specs.Replaced.{replaced, replaced_all}
+use Rattle.ecow_values.specs.Replaced.{replaced, replaced_all}
 use Rattle.ecow_text.proofs.Enough.{enough}
 use Rattle.ecow_text.proofs.text.SmallText.replace.Given.{Over}
 use Rattle.ecow_text.proofs.text.SmallText.replace.Goals as goal

@@ -4,8 +4,8 @@ use Rattle.std.specs.StrCase.Lower.{str_to_lowercase}
 use Rattle.std.proofs.StrCases.{str_to_lowercase-IsAscii}
 use Rattle.std.proofs.lemmas.List.{length-map}
 use Rattle.std.proofs.lemmas.Str.{encodes-chars}
-use Rattle.ecow_model.specs.Inline.{inline_for}
-use Rattle.ecow_model.specs.declared.value.PlainText.{PlainText}
+use Rattle.ecow_values.specs.Inline.{inline_for}
+use Rattle.ecow_values.specs.declared.plain.PlainText.{PlainText}
 use Rattle.ecow_text.proofs.Cased.{AreUtf8-lowered, chars-lowered}
 use Rattle.ecow_text.proofs.Steps.{utf8_len-chars}
 use Rattle.ecow_text.proofs.text.SmallText.to_lowercase.Goals as goal

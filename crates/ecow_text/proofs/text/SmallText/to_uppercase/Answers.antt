@@ -4,8 +4,8 @@ use Rattle.std.specs.StrCase.Upper.{str_to_uppercase}
 use Rattle.std.proofs.StrCases.{str_to_uppercase-IsAscii}
 use Rattle.std.proofs.lemmas.List.{length-map}
 use Rattle.std.proofs.lemmas.Str.{encodes-chars}
-use Rattle.ecow_model.specs.Inline.{inline_for}
-use Rattle.ecow_model.specs.declared.value.PlainText.{PlainText}
+use Rattle.ecow_values.specs.Inline.{inline_for}
+use Rattle.ecow_values.specs.declared.plain.PlainText.{PlainText}
 use Rattle.ecow_text.proofs.Cased.{AreUtf8-raised, chars-raised}
 use Rattle.ecow_text.proofs.Steps.{utf8_len-chars}
 use Rattle.ecow_text.proofs.text.SmallText.to_uppercase.Goals as goal

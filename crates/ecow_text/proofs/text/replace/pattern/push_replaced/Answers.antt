@@ -1,7 +1,7 @@
 use Rattle.std.proofs.Common.{◌≡◌, ◌+◌, ◌-◌, ◌++◌, [], length, sym, ap, ◌∙◌, arith, append_assoc, rules}
 use Rattle.std.specs.Str.{chars}
-use Rattle.ecow_model.specs.Utf8.{utf8_len}
-use Rattle.ecow_model.specs.Replaced.{replaced}
+use Rattle.ecow_values.specs.Utf8.{utf8_len}
+use Rattle.ecow_values.specs.Replaced.{replaced}
 use Rattle.ecow_text.proofs.Steps.{replaced-none, replaced-zero, replaced_len-step, replaced-step, part_fits, chars_some, utf8_len-chars}
 use Rattle.ecow_text.proofs.text.replace.pattern.push_replaced.Goals as goal
 

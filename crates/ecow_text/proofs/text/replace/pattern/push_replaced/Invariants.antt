@@ -2,8 +2,8 @@ use Rattle.std.proofs.Common.{◌≡◌, ◌++◌}
 use Rattle.std.specs.Str.{chars}
 use denote.Shadow.{shadow}
 use denote.Text.{Utf8}
-use Rattle.ecow_model.specs.Inline.{inline_for}
-use Rattle.ecow_model.specs.Replaced.{replaced}
+use Rattle.ecow_values.specs.Inline.{inline_for}
+use Rattle.ecow_values.specs.Replaced.{replaced}
 use Rattle.ecow_text.proofs.text.replace.pattern.push_replaced.Given as goal
 
 abbrev pub invariant-loop-left : goal.invariant-loop-left

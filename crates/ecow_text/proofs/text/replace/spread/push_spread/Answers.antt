@@ -1,7 +1,7 @@
 use Rattle.std.proofs.Common.{◌≡◌, ◌+◌, ◌-◌, ◌++◌, [], length, sym, ap, ◌∙◌, arith, append_assoc, append-nil, rules}
 use Rattle.std.specs.Str.{chars}
-use Rattle.ecow_model.specs.Utf8.{utf8_len}
-use Rattle.ecow_model.specs.Replaced.{replaced}
+use Rattle.ecow_values.specs.Utf8.{utf8_len}
+use Rattle.ecow_values.specs.Replaced.{replaced}
 use Rattle.ecow_text.proofs.Steps.{replaced-zero, spread_len-step, spread-step, spread-end, part_fits, utf8_len-chars}
 use Rattle.ecow_text.proofs.text.replace.spread.push_spread.Goals as goal
 

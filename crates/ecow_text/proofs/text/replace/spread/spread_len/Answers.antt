@@ -1,7 +1,7 @@
 use Rattle.std.proofs.Common.{◌≡◌, ◌+◌, length, min, [], arith, rules}
 use Rattle.std.specs.Str.{chars}
-use Rattle.ecow_model.specs.Utf8.{utf8_len}
-use Rattle.ecow_model.specs.Replaced.{replaced}
+use Rattle.ecow_values.specs.Utf8.{utf8_len}
+use Rattle.ecow_values.specs.Replaced.{replaced}
 use Rattle.std.proofs.lemmas.Str.{chars_from_encodes}
 use Rattle.ecow_text.proofs.Steps.{spread_total}
 use Rattle.ecow_text.proofs.text.replace.spread.spread_len.Goals as goal

@@ -1,0 +1,4 @@
+pub mod Inline
+pub mod Utf8
+pub mod Replaced
+pub mod Plain
