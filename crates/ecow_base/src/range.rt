@@ -9,7 +9,8 @@ use std::ops::{Bound, RangeBounds};
 ///
 /// The original panics in place of the `None`.
 pub fn resolve<R: RangeBounds<usize>>(range: &R, len: usize) -> Option<(usize, usize)>
-    ensures value { R.has_bounds range.now → result ≡ range_of (R.start_bound range.now, R.end_bound range.now) len }
+    ensures value { R.has_bounds range.now
+        → result ≡ range_of (R.start_bound range.now, R.end_bound range.now) len }
     ensures ordered { IfSome result (λ part. (part.0 ≤ part.1) × (part.1 ≤ len)) }
 {
     let end = match range.end_bound() {
@@ -30,7 +31,8 @@ pub fn resolve<R: RangeBounds<usize>>(range: &R, len: usize) -> Option<(usize, u
 /// Whether a list of `len` elements has `range`: the test for calls that ask for a range within
 /// the list. Takes no memory.
 pub fn range_in<R: RangeBounds<usize>>(range: &R, len: usize) -> bool
-    ensures { R.has_bounds range.now → (IsTrue result ↔ IsSome (range_of (R.start_bound range.now, R.end_bound range.now) len)) }
+    ensures { R.has_bounds range.now
+        → (IsTrue result ↔ IsSome (range_of (R.start_bound range.now, R.end_bound range.now) len)) }
 {
     resolve(range, len).is_some()
 }

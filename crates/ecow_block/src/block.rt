@@ -153,7 +153,8 @@ impl<T> Block<T> {
         requires within { length self.old.items ≤ most }
         requires callable { I.can_next iter.old × IsFinite (I.remaining iter.old) }
         ensures items { GivesOn I.next_gives iter.old self.old.items iter.new self.new.items result }
-        ensures len { (length self.old.items ≤ length self.new.items) × (length self.new.items ≤ most) }
+        ensures len { (length self.old.items ≤ length self.new.items)
+            × (length self.new.items ≤ most) }
         ensures full { result ≡ false → length self.new.items ≡ min most self.old.capacity }
         ensures capacity { self.new.capacity ≡ self.old.capacity }
         ensures callable { result ≡ false → I.can_next iter.new × IsFinite (I.remaining iter.new) }
@@ -167,7 +168,8 @@ impl<T> Block<T> {
     /// Takes the last element.
     pub fn pop(&mut self) -> Option<T>
         ensures value { result ≡ slice_get self.old.items (length self.old.items - 1) }
-        ensures block { self.new ≡ contents (take (length self.old.items - 1) self.old.items) self.old.capacity }
+        ensures block { self.new
+            ≡ contents (take (length self.old.items - 1) self.old.items) self.old.capacity }
     {
         if self.len == 0 {
             return None;
@@ -234,7 +236,8 @@ impl<T> Block<T> {
     pub fn grow(&mut self, capacity: usize) -> Result<(), AllocError>
         requires { self.old.capacity ≤ capacity }
         ensures enough { capacity ≡ self.old.capacity → IsOk result }
-        ensures block { self.new ≡ contents self.old.items (if is_ok result then capacity else self.old.capacity) }
+        ensures block { self.new ≡ contents self.old.items (if is_ok result then capacity
+            else self.old.capacity) }
     {
         if capacity == self.capacity {
             return Ok(());
@@ -246,7 +249,8 @@ impl<T> Block<T> {
     #[inline]
     fn enlarge(&mut self, capacity: usize) -> Result<(), AllocError>
         requires { self.old.capacity ≤ capacity }
-        ensures { self.new ≡ contents self.old.items (if is_ok result then capacity else self.old.capacity) }
+        ensures { self.new ≡ contents self.old.items (if is_ok result then capacity
+            else self.old.capacity) }
     {
         if !may_hold::<T>(capacity) {
             return Err(AllocError);
@@ -272,7 +276,8 @@ impl<T> Block<T> {
     #[inline(never)]
     fn renew(&mut self, capacity: usize) -> Result<(), AllocError>
         requires { self.old.capacity ≤ capacity }
-        ensures { self.new ≡ contents self.old.items (if is_ok result then capacity else self.old.capacity) }
+        ensures { self.new ≡ contents self.old.items (if is_ok result then capacity
+            else self.old.capacity) }
     {
         let mut larger = Block::with_capacity(self.alloc, capacity)?;
         self.drain_into(0, self.len, &mut larger);
@@ -285,8 +290,11 @@ impl<T> Block<T> {
         requires ordered { start ≤ end }
         requires in_bounds { end ≤ length self.old.items }
         requires room { length other.old.items + (end - start) ≤ other.old.capacity }
-        ensures left { self.new ≡ contents (remove_range self.old.items start end) self.old.capacity }
-        ensures moved { other.new ≡ contents (other.old.items ++ slice_range self.old.items start end) other.old.capacity }
+        ensures left { self.new
+            ≡ contents (remove_range self.old.items start end) self.old.capacity }
+        ensures moved { other.new
+            ≡ contents (other.old.items
+            ++ slice_range self.old.items start end) other.old.capacity }
     {
         let count = end - start;
         if count == 0 {
@@ -307,8 +315,11 @@ impl<T> Block<T> {
     pub fn insert_from(&mut self, index: usize, other: &mut Block<T>, from: usize)
         requires in_bounds { index ≤ length self.old.items }
         requires from_in_bounds { from ≤ length other.old.items }
-        requires room { length self.old.items + (length other.old.items - from) ≤ self.old.capacity }
-        ensures block { self.new ≡ contents (insert_slice self.old.items index (drop from other.old.items)) self.old.capacity }
+        requires room { length self.old.items + (length other.old.items - from)
+            ≤ self.old.capacity }
+        ensures block { self.new
+            ≡ contents (insert_slice self.old.items index
+            (drop from other.old.items)) self.old.capacity }
         ensures left { other.new ≡ contents (take from other.old.items) other.old.capacity }
     {
         let count = other.len - from;
@@ -330,8 +341,12 @@ impl<T> Block<T> {
     fn swap_first(&mut self, start: usize, other: &mut Block<T>, count: usize)
         requires in_bounds { start + count ≤ length self.old.items }
         requires enough { count ≤ length other.old.items }
-        ensures block { self.new ≡ contents (splice self.old.items start (start + count) (take count other.old.items)) self.old.capacity }
-        ensures other { other.new ≡ contents (slice_range self.old.items start (start + count) ++ drop count other.old.items) other.old.capacity }
+        ensures block { self.new
+            ≡ contents (splice self.old.items start (start + count)
+            (take count other.old.items)) self.old.capacity }
+        ensures other { other.new
+            ≡ contents (slice_range self.old.items start (start + count)
+            ++ drop count other.old.items) other.old.capacity }
     {
         if count == 0 {
             return;
@@ -350,11 +365,13 @@ impl<T> Block<T> {
     pub fn splice_within(&mut self, start: usize, end: usize, replacement: Block<T>) -> Rest<T>
         requires ordered { start ≤ end }
         requires in_bounds { end ≤ length self.old.items }
-        requires room { length self.old.items - (end - start) + length replacement.items ≤ self.old.capacity }
+        requires room { length self.old.items - (end - start) + length replacement.items
+            ≤ self.old.capacity }
         requires spare { end - start ≤ replacement.capacity }
         ensures removed { result ≡ slice_range self.old.items start end }
         ensures len { length result ≡ end - start }
-        ensures block { self.new ≡ contents (splice self.old.items start end replacement.items) self.old.capacity }
+        ensures block { self.new
+            ≡ contents (splice self.old.items start end replacement.items) self.old.capacity }
     {
         let (mut replacement, _len) = (replacement, self.len());
         let len = replacement.len();
@@ -412,9 +429,12 @@ impl<T: Clone> Block<T> {
     /// Appends clones of `elements`, for which there is room. If a clone is refused, nothing changes.
     pub fn extend_within(&mut self, elements: &[T]) -> Result<(), AllocError>
         requires { length self.old.items + length elements.now ≤ self.old.capacity }
-        ensures clones { OnOk result (AppendsClones T.is_clone self.old.items elements.now self.new.items) }
-        ensures ok { ClonesAreEqual T.is_clone → OnOk result (self.new.items ≡ self.old.items ++ elements.now) }
-        ensures len { OnOk result (length self.new.items ≡ length self.old.items + length elements.now) }
+        ensures clones { OnOk result
+            (AppendsClones T.is_clone self.old.items elements.now self.new.items) }
+        ensures ok { ClonesAreEqual T.is_clone
+            → OnOk result (self.new.items ≡ self.old.items ++ elements.now) }
+        ensures len { OnOk result (length self.new.items ≡ length self.old.items
+            + length elements.now) }
         ensures capacity { self.new.capacity ≡ self.old.capacity }
         ensures err { OnErr result (self.new ≡ self.old) }
     {
@@ -428,7 +448,8 @@ impl<T: Clone> Block<T> {
         requires room { length elements.now ≤ capacity }
         requires bounded { capacity ≤ MAX_LEN }
         ensures clones { IfOk result (λ block. AllZip T.is_clone elements.now block.items) }
-        ensures items { ClonesAreEqual T.is_clone → IfOk result (λ block. block.items ≡ elements.now) }
+        ensures items { ClonesAreEqual T.is_clone
+            → IfOk result (λ block. block.items ≡ elements.now) }
         ensures len { IfOk result (λ block. length block.items ≡ length elements.now) }
         ensures capacity { IfOk result (λ block. block.capacity ≡ capacity) }
     {
@@ -454,7 +475,8 @@ impl<T: Copy> Block<T> {
         requires ordered { start ≤ end }
         requires in_bounds { end ≤ length self.old.items }
         requires room { length self.old.items + (end - start) ≤ self.old.capacity }
-        ensures { self.new ≡ contents (self.old.items ++ slice_range self.old.items start end) self.old.capacity }
+        ensures { self.new
+            ≡ contents (self.old.items ++ slice_range self.old.items start end) self.old.capacity }
     {
         let len = self.len;
         self.room.put_copies_within(self.base, len, start, end);

@@ -48,8 +48,10 @@ impl<T> Room<T> {
     pub(crate) fn take_first(&mut self, base: Base<T>, at: usize) -> (T, Room<T>)
         requires { (base.ptr ≡ self.old.at) × (at ≡ self.old.start) × (0 < length self.old.items) }
         ensures items { self.old.items ≡ result.0 ∷ self.new.items }
-        ensures rest { (self.new.at ≡ self.old.at) × (self.new.start ≡ self.old.start + 1) × (self.new.capacity + 1 ≡ self.old.capacity) }
-        ensures place { (result.1.at ≡ self.old.at) × (result.1.start ≡ self.old.start) × (result.1.capacity ≡ 1) × (result.1.items ≡ []) }
+        ensures rest { (self.new.at ≡ self.old.at) × (self.new.start ≡ self.old.start + 1)
+            × (self.new.capacity + 1 ≡ self.old.capacity) }
+        ensures place { (result.1.at ≡ self.old.at) × (result.1.start ≡ self.old.start)
+            × (result.1.capacity ≡ 1) × (result.1.items ≡ []) }
     {
         let rest = self.split_off(1);
         let item = self.take_last(base, at);
@@ -61,8 +63,10 @@ impl<T> Room<T> {
         requires { (base.ptr ≡ self.old.at) × (at ≡ self.old.start) × (0 < length self.old.items) }
         ensures items { self.old.items ≡ result.0 ++ self.new.items }
         ensures one { length result.0 ≡ 1 }
-        ensures rest { (self.new.at ≡ self.old.at) × (self.new.start ≡ self.old.start + 1) × (self.new.capacity + 1 ≡ self.old.capacity) }
-        ensures place { (result.1.at ≡ self.old.at) × (result.1.start ≡ self.old.start) × (result.1.capacity ≡ 1) × (result.1.items ≡ []) }
+        ensures rest { (self.new.at ≡ self.old.at) × (self.new.start ≡ self.old.start + 1)
+            × (self.new.capacity + 1 ≡ self.old.capacity) }
+        ensures place { (result.1.at ≡ self.old.at) × (result.1.start ≡ self.old.start)
+            × (result.1.capacity ≡ 1) × (result.1.items ≡ []) }
     {
         let rest = self.split_off(1);
         let item = self.take_last_one(base, at);
@@ -71,7 +75,8 @@ impl<T> Room<T> {
 
     /// Takes the first item, and moves the others, all of which were `len`, down by a place: in place where they are few.
     pub(crate) fn shift_first(&mut self, base: Base<T>, start: usize, len: usize) -> T
-        requires { (base.ptr ≡ self.old.at) × (start ≡ self.old.start) × (len ≡ length self.old.items) × (0 < len) }
+        requires { (base.ptr ≡ self.old.at) × (start ≡ self.old.start)
+            × (len ≡ length self.old.items) × (0 < len) }
         ensures items { self.old.items ≡ result ∷ self.new.items }
         ensures places { SamePlaces self.old self.new }
     {
@@ -89,7 +94,8 @@ impl<T> Room<T> {
     /// compiler knows the loop as one move of memory, whatever the items are; for that it has to see the loop inlined once before.
     #[inline(never)]
     fn shift_many(&mut self, base: Base<T>, len: usize) -> T
-        requires { (base.ptr ≡ self.old.at) × (self.old.start ≡ 0) × (len ≡ length self.old.items) × (0 < len) }
+        requires { (base.ptr ≡ self.old.at) × (self.old.start ≡ 0) × (len ≡ length self.old.items)
+            × (0 < len) }
         ensures items { self.old.items ≡ result ∷ self.new.items }
         ensures places { SamePlaces self.old self.new }
     {
@@ -98,7 +104,8 @@ impl<T> Room<T> {
 
     /// The same item by item.
     fn shift(&mut self, base: Base<T>, len: usize) -> T
-        requires { (base.ptr ≡ self.old.at) × (self.old.start ≡ 0) × (len ≡ length self.old.items) × (0 < len) }
+        requires { (base.ptr ≡ self.old.at) × (self.old.start ≡ 0) × (len ≡ length self.old.items)
+            × (0 < len) }
         ensures items { self.old.items ≡ result ∷ self.new.items }
         ensures places { SamePlaces self.old self.new }
     {
@@ -110,7 +117,8 @@ impl<T> Room<T> {
 
     /// Puts an item before the others, which are `len`, and moves these up by a place: in place where they are few.
     pub(crate) fn insert_first(&mut self, base: Base<T>, start: usize, len: usize, item: T)
-        requires { (base.ptr ≡ self.old.at) × (start ≡ self.old.start) × (len ≡ length self.old.items) × (len < self.old.capacity) × (len < 2 ^ 63) }
+        requires { (base.ptr ≡ self.old.at) × (start ≡ self.old.start)
+            × (len ≡ length self.old.items) × (len < self.old.capacity) × (len < 2 ^ 63) }
         ensures items { self.new.items ≡ item ∷ self.old.items }
         ensures places { SamePlaces self.old self.new }
     {
@@ -129,8 +137,10 @@ impl<T> Room<T> {
     /// their own.
     #[inline(never)]
     fn unshift_many(&mut self, base: Base<T>, len: usize) -> Room<T>
-        requires { (base.ptr ≡ self.old.at) × (self.old.start ≡ 0) × (len ≡ length self.old.items) × (len < self.old.capacity) × (len < 2 ^ 63) }
-        ensures left { (self.new.at ≡ self.old.at) × (self.new.start ≡ 0) × (self.new.capacity ≡ 1) × (self.new.items ≡ []) }
+        requires { (base.ptr ≡ self.old.at) × (self.old.start ≡ 0) × (len ≡ length self.old.items)
+            × (len < self.old.capacity) × (len < 2 ^ 63) }
+        ensures left { (self.new.at ≡ self.old.at) × (self.new.start ≡ 0) × (self.new.capacity ≡ 1)
+            × (self.new.items ≡ []) }
         ensures items { result.items ≡ self.old.items }
         ensures places { Follows self.new result × (result.capacity + 1 ≡ self.old.capacity) }
     {
@@ -139,8 +149,10 @@ impl<T> Room<T> {
 
     /// The same item by item.
     fn unshift(&mut self, base: Base<T>, len: usize) -> Room<T>
-        requires { (base.ptr ≡ self.old.at) × (self.old.start ≡ 0) × (len ≡ length self.old.items) × (len < self.old.capacity) × (len < 2 ^ 63) }
-        ensures left { (self.new.at ≡ self.old.at) × (self.new.start ≡ 0) × (self.new.capacity ≡ 1) × (self.new.items ≡ []) }
+        requires { (base.ptr ≡ self.old.at) × (self.old.start ≡ 0) × (len ≡ length self.old.items)
+            × (len < self.old.capacity) × (len < 2 ^ 63) }
+        ensures left { (self.new.at ≡ self.old.at) × (self.new.start ≡ 0) × (self.new.capacity ≡ 1)
+            × (self.new.items ≡ []) }
         ensures items { result.items ≡ self.old.items }
         ensures places { Follows self.new result × (result.capacity + 1 ≡ self.old.capacity) }
     {
@@ -157,8 +169,10 @@ impl<T> Room<T> {
         other_base: Base<T>,
         other_start: usize,
     )
-        requires here { (base.ptr ≡ self.old.at) × (start ≡ self.old.start) × (len ≡ length self.old.items) }
-        requires there { (other_base.ptr ≡ other.old.at) × (other_start ≡ other.old.start) × (len ≡ length other.old.items) }
+        requires here { (base.ptr ≡ self.old.at) × (start ≡ self.old.start)
+            × (len ≡ length self.old.items) }
+        requires there { (other_base.ptr ≡ other.old.at) × (other_start ≡ other.old.start)
+            × (len ≡ length other.old.items) }
         ensures items { (self.new.items ≡ other.old.items) × (other.new.items ≡ self.old.items) }
         ensures places { SamePlaces self.old self.new × SamePlaces other.old other.new }
     {
@@ -168,9 +182,11 @@ impl<T> Room<T> {
 
     /// Puts an item, as an array of one, into an empty place, numbered `at`, and that place before the others.
     pub(crate) fn put_first(&mut self, base: Base<T>, at: usize, mut place: Room<T>, item: [T; 1])
-        requires { (base.ptr ≡ place.at) × (at ≡ place.start) × (place.capacity ≡ 1) × (place.items ≡ []) × Follows place self.old }
+        requires { (base.ptr ≡ place.at) × (at ≡ place.start) × (place.capacity ≡ 1)
+            × (place.items ≡ []) × Follows place self.old }
         ensures items { self.new.items ≡ item ++ self.old.items }
-        ensures places { (self.new.at ≡ self.old.at) × (self.new.start + 1 ≡ self.old.start) × (self.new.capacity ≡ self.old.capacity + 1) }
+        ensures places { (self.new.at ≡ self.old.at) × (self.new.start + 1 ≡ self.old.start)
+            × (self.new.capacity ≡ self.old.capacity + 1) }
     {
         place.put_one(base, at, item);
         let others = replace(self, place);
@@ -186,10 +202,13 @@ impl<T> Room<T> {
         len: usize,
         mut rest: Room<T>,
     ) -> Room<T>
-        requires gap { (base.ptr ≡ self.at) × (start ≡ self.start) × (gap ≡ self.capacity) × (self.items ≡ []) }
-        requires rest { Follows self rest × (len ≡ length rest.items) × (start + gap + len < 2 ^ 64) }
+        requires gap { (base.ptr ≡ self.at) × (start ≡ self.start) × (gap ≡ self.capacity)
+            × (self.items ≡ []) }
+        requires rest { Follows self rest × (len ≡ length rest.items)
+            × (start + gap + len < 2 ^ 64) }
         ensures items { result.items ≡ rest.items }
-        ensures places { (result.at ≡ self.at) × (result.start ≡ self.start) × (result.capacity ≡ self.capacity + rest.capacity) }
+        ensures places { (result.at ≡ self.at) × (result.start ≡ self.start)
+            × (result.capacity ≡ self.capacity + rest.capacity) }
     {
         if is_wide(gap, rest.as_slice(base, start + gap, len)) {
             return self.close_wide_gap(base, start, gap, len, rest);
@@ -214,10 +233,13 @@ impl<T> Room<T> {
         len: usize,
         mut rest: Room<T>,
     ) -> Room<T>
-        requires gap { (base.ptr ≡ self.at) × (start ≡ self.start) × (gap ≡ self.capacity) × (self.items ≡ []) × (0 < gap) }
-        requires rest { Follows self rest × (len ≡ length rest.items) × (start + gap + len < 2 ^ 64) }
+        requires gap { (base.ptr ≡ self.at) × (start ≡ self.start) × (gap ≡ self.capacity)
+            × (self.items ≡ []) × (0 < gap) }
+        requires rest { Follows self rest × (len ≡ length rest.items)
+            × (start + gap + len < 2 ^ 64) }
         ensures items { result.items ≡ rest.items }
-        ensures places { (result.at ≡ self.at) × (result.start ≡ self.start) × (result.capacity ≡ self.capacity + rest.capacity) }
+        ensures places { (result.at ≡ self.at) × (result.start ≡ self.start)
+            × (result.capacity ≡ self.capacity + rest.capacity) }
     {
         let mut moved = 0;
         while moved < len {
@@ -247,8 +269,11 @@ impl<T> Room<T> {
         len: usize,
         gap: usize,
     ) -> Room<T>
-        requires { (base.ptr ≡ self.old.at) × (start ≡ self.old.start) × (len ≡ length self.old.items) × (len + gap ≤ self.old.capacity) × (start + len + gap < 2 ^ 64) }
-        ensures left { (self.new.at ≡ self.old.at) × (self.new.start ≡ self.old.start) × (self.new.capacity ≡ gap) × (self.new.items ≡ []) }
+        requires { (base.ptr ≡ self.old.at) × (start ≡ self.old.start)
+            × (len ≡ length self.old.items) × (len + gap ≤ self.old.capacity)
+            × (start + len + gap < 2 ^ 64) }
+        ensures left { (self.new.at ≡ self.old.at) × (self.new.start ≡ self.old.start)
+            × (self.new.capacity ≡ gap) × (self.new.items ≡ []) }
         ensures items { result.items ≡ self.old.items }
         ensures places { Follows self.new result × (result.capacity + gap ≡ self.old.capacity) }
     {
@@ -276,8 +301,11 @@ impl<T> Room<T> {
         count: usize,
         gap: usize,
     ) -> Room<T>
-        requires { (base.ptr ≡ self.old.at) × (start ≡ self.old.start) × (left + count ≡ length self.old.items) × (left + count + gap ≡ self.old.capacity) × (count ≤ gap) × (start + left + count + gap < 2 ^ 64) }
-        ensures left { (self.new.at ≡ self.old.at) × (self.new.start ≡ self.old.start) × (self.new.capacity ≡ left + gap) × (self.new.items ≡ take left self.old.items) }
+        requires { (base.ptr ≡ self.old.at) × (start ≡ self.old.start)
+            × (left + count ≡ length self.old.items) × (left + count + gap ≡ self.old.capacity)
+            × (count ≤ gap) × (start + left + count + gap < 2 ^ 64) }
+        ensures left { (self.new.at ≡ self.old.at) × (self.new.start ≡ self.old.start)
+            × (self.new.capacity ≡ left + gap) × (self.new.items ≡ take left self.old.items) }
         ensures items { result.items ≡ drop left self.old.items }
         ensures places { Follows self.new result × (result.capacity ≡ count) }
     {
@@ -297,8 +325,11 @@ impl<T> Room<T> {
 
     /// The same, as many items at once as the gap is wide.
     fn open_wide_gap(&mut self, base: Base<T>, start: usize, len: usize, gap: usize) -> Room<T>
-        requires { (base.ptr ≡ self.old.at) × (start ≡ self.old.start) × (len ≡ length self.old.items) × (len + gap ≤ self.old.capacity) × (start + len + gap < 2 ^ 64) × (0 < gap) }
-        ensures left { (self.new.at ≡ self.old.at) × (self.new.start ≡ self.old.start) × (self.new.capacity ≡ gap) × (self.new.items ≡ []) }
+        requires { (base.ptr ≡ self.old.at) × (start ≡ self.old.start)
+            × (len ≡ length self.old.items) × (len + gap ≤ self.old.capacity)
+            × (start + len + gap < 2 ^ 64) × (0 < gap) }
+        ensures left { (self.new.at ≡ self.old.at) × (self.new.start ≡ self.old.start)
+            × (self.new.capacity ≡ gap) × (self.new.items ≡ []) }
         ensures items { result.items ≡ self.old.items }
         ensures places { Follows self.new result × (result.capacity + gap ≡ self.old.capacity) }
     {
@@ -316,7 +347,8 @@ impl<T> Room<T> {
 
     /// Moves all of `elements` into this room, which is empty. Its first place is numbered `start`.
     pub(crate) fn fill(&mut self, base: Base<T>, start: usize, elements: &mut Vec<T>)
-        requires { (base.ptr ≡ self.old.at) × (start ≡ self.old.start) × (self.old.items ≡ []) × (vec_len elements.old ≤ self.old.capacity) × (start + vec_len elements.old < 2 ^ 64) }
+        requires { (base.ptr ≡ self.old.at) × (start ≡ self.old.start) × (self.old.items ≡ [])
+            × (vec_len elements.old ≤ self.old.capacity) × (start + vec_len elements.old < 2 ^ 64) }
         ensures items { self.new.items ≡ elements.old.items }
         ensures places { SamePlaces self.old self.new }
         ensures left { elements.new.items ≡ [] }
@@ -333,9 +365,11 @@ impl<T> Room<T> {
     fn filled_with(self, base: Base<T>, at: usize, items: &[T]) -> Room<T>
     where
         T: Copy,
-        requires { (base.ptr ≡ self.at) × (at ≡ self.start) × (self.items ≡ []) × (self.capacity ≡ length items.now) }
+        requires { (base.ptr ≡ self.at) × (at ≡ self.start) × (self.items ≡ [])
+            × (self.capacity ≡ length items.now) }
         ensures items { result.items ≡ items.now }
-        ensures places { (result.at ≡ base.ptr) × (result.start ≡ at) × (result.capacity ≡ length items.now) }
+        ensures places { (result.at ≡ base.ptr) × (result.start ≡ at)
+            × (result.capacity ≡ length items.now) }
     {
         let mut slots = self.into_slots(base, at, items);
         slots.copy_in(0, items);
@@ -347,7 +381,8 @@ impl<T> Room<T> {
     pub(crate) fn put_copies(&mut self, base: Base<T>, len: usize, items: &[T])
     where
         T: Copy,
-        requires { (base.ptr ≡ self.old.at) × (self.old.start ≡ 0) × (len ≡ length self.old.items) × (len + length items.now ≤ self.old.capacity) }
+        requires { (base.ptr ≡ self.old.at) × (self.old.start ≡ 0) × (len ≡ length self.old.items)
+            × (len + length items.now ≤ self.old.capacity) }
         ensures items { self.new.items ≡ self.old.items ++ items.now }
         ensures places { SamePlaces self.old self.new }
     {
@@ -362,7 +397,8 @@ impl<T> Room<T> {
     pub(crate) fn put_copies_within(&mut self, base: Base<T>, len: usize, start: usize, end: usize)
     where
         T: Copy,
-        requires places { (base.ptr ≡ self.old.at) × (self.old.start ≡ 0) × (len ≡ length self.old.items) }
+        requires places { (base.ptr ≡ self.old.at) × (self.old.start ≡ 0)
+            × (len ≡ length self.old.items) }
         requires ordered { start ≤ end }
         requires in_bounds { end ≤ len }
         requires room { len + (end - start) ≤ self.old.capacity }
@@ -381,7 +417,8 @@ impl<T> Room<T> {
     pub(crate) fn drop_last(&mut self, base: Base<T>, at: usize, count: usize)
     where
         T: Drop,
-        requires { (base.ptr ≡ self.old.at) × (at + count ≡ self.old.start + length self.old.items) × (count ≤ length self.old.items) × (at + count < 2 ^ 64) }
+        requires { (base.ptr ≡ self.old.at) × (at + count ≡ self.old.start + length self.old.items)
+            × (count ≤ length self.old.items) × (at + count < 2 ^ 64) }
         ensures items { self.new.items ≡ take (length self.old.items - count) self.old.items }
         ensures places { SamePlaces self.old self.new }
     {
@@ -404,10 +441,15 @@ impl<T> Room<T> {
     ) -> Result<(), AllocError>
     where
         T: Clone,
-        requires { (base.ptr ≡ self.old.at) × (at ≡ self.old.start + length self.old.items) × (length self.old.items + length elements.now ≤ self.old.capacity) × (at + length elements.now < 2 ^ 64) }
-        ensures clones { OnOk result (AppendsClones T.is_clone self.old.items elements.now self.new.items) }
-        ensures items { ClonesAreEqual T.is_clone → OnOk result (self.new.items ≡ self.old.items ++ elements.now) }
-        ensures len { OnOk result (length self.new.items ≡ length self.old.items + length elements.now) }
+        requires { (base.ptr ≡ self.old.at) × (at ≡ self.old.start + length self.old.items)
+            × (length self.old.items + length elements.now ≤ self.old.capacity)
+            × (at + length elements.now < 2 ^ 64) }
+        ensures clones { OnOk result
+            (AppendsClones T.is_clone self.old.items elements.now self.new.items) }
+        ensures items { ClonesAreEqual T.is_clone
+            → OnOk result (self.new.items ≡ self.old.items ++ elements.now) }
+        ensures len { OnOk result (length self.new.items ≡ length self.old.items
+            + length elements.now) }
         ensures places { SamePlaces self.old self.new }
         ensures err { OnErr result (self.new.items ≡ self.old.items) }
     {
@@ -423,9 +465,13 @@ impl<T> Room<T> {
     fn append_many(&mut self, base: Base<T>, at: usize, elements: &[T]) -> Result<(), AllocError>
     where
         T: Clone,
-        requires { (base.ptr ≡ self.old.at) × (at ≡ self.old.start + length self.old.items) × (length self.old.items + length elements.now ≤ self.old.capacity) × (at + length elements.now < 2 ^ 64) }
-        ensures clones { OnOk result (AppendsClones T.is_clone self.old.items elements.now self.new.items) }
-        ensures len { OnOk result (length self.new.items ≡ length self.old.items + length elements.now) }
+        requires { (base.ptr ≡ self.old.at) × (at ≡ self.old.start + length self.old.items)
+            × (length self.old.items + length elements.now ≤ self.old.capacity)
+            × (at + length elements.now < 2 ^ 64) }
+        ensures clones { OnOk result
+            (AppendsClones T.is_clone self.old.items elements.now self.new.items) }
+        ensures len { OnOk result (length self.new.items ≡ length self.old.items
+            + length elements.now) }
         ensures places { SamePlaces self.old self.new }
         ensures err { OnErr result (self.new.items ≡ self.old.items) }
     {
@@ -446,9 +492,14 @@ impl<T> Room<T> {
     ) -> Result<usize, AllocError>
     where
         T: Clone,
-        requires { (base.ptr ≡ self.old.at) × (at ≡ self.old.start + length self.old.items) × (length self.old.items + length elements.now ≤ self.old.capacity) × (at + length elements.now < 2 ^ 64) }
-        ensures clones { IfOk result (λ done. AppendsClones T.is_clone self.old.items (take done elements.now) self.new.items) }
-        ensures len { IfOk result (λ done. (done ≤ length elements.now) × (length self.new.items ≡ length self.old.items + done)) }
+        requires { (base.ptr ≡ self.old.at) × (at ≡ self.old.start + length self.old.items)
+            × (length self.old.items + length elements.now ≤ self.old.capacity)
+            × (at + length elements.now < 2 ^ 64) }
+        ensures clones { IfOk result
+            (λ done. AppendsClones T.is_clone self.old.items
+            (take done elements.now) self.new.items) }
+        ensures len { IfOk result (λ done. (done ≤ length elements.now)
+            × (length self.new.items ≡ length self.old.items + done)) }
         ensures places { SamePlaces self.old self.new }
         ensures err { OnErr result (self.new.items ≡ self.old.items) }
     {
@@ -477,8 +528,10 @@ impl<T> Room<T> {
     ) -> Result<(), AllocError>
     where
         T: Clone,
-        requires room { (base.ptr ≡ self.old.at) × (at ≡ self.old.start + length self.old.items) × (length self.old.items + CHUNK ≤ self.old.capacity) × (at + CHUNK < 2 ^ 64) }
-        ensures clones { OnOk result (AppendsClones T.is_clone self.old.items elements.now self.new.items) }
+        requires room { (base.ptr ≡ self.old.at) × (at ≡ self.old.start + length self.old.items)
+            × (length self.old.items + CHUNK ≤ self.old.capacity) × (at + CHUNK < 2 ^ 64) }
+        ensures clones { OnOk result
+            (AppendsClones T.is_clone self.old.items elements.now self.new.items) }
         ensures len { OnOk result (length self.new.items ≡ length self.old.items + CHUNK) }
         ensures places { SamePlaces self.old self.new }
         ensures err { OnErr result (self.new.items ≡ self.old.items) }
@@ -491,9 +544,13 @@ impl<T> Room<T> {
     fn append_each(&mut self, base: Base<T>, at: usize, elements: &[T]) -> Result<(), AllocError>
     where
         T: Clone,
-        requires { (base.ptr ≡ self.old.at) × (at ≡ self.old.start + length self.old.items) × (length self.old.items + length elements.now ≤ self.old.capacity) × (at + length elements.now < 2 ^ 64) }
-        ensures clones { OnOk result (AppendsClones T.is_clone self.old.items elements.now self.new.items) }
-        ensures len { OnOk result (length self.new.items ≡ length self.old.items + length elements.now) }
+        requires { (base.ptr ≡ self.old.at) × (at ≡ self.old.start + length self.old.items)
+            × (length self.old.items + length elements.now ≤ self.old.capacity)
+            × (at + length elements.now < 2 ^ 64) }
+        ensures clones { OnOk result
+            (AppendsClones T.is_clone self.old.items elements.now self.new.items) }
+        ensures len { OnOk result (length self.new.items ≡ length self.old.items
+            + length elements.now) }
         ensures places { SamePlaces self.old self.new }
         ensures err { OnErr result (self.new.items ≡ self.old.items) }
     {
@@ -520,12 +577,15 @@ impl<T> Room<T> {
         most: usize,
         iter: &mut I,
     ) -> (usize, bool)
-        requires room { (base.ptr ≡ self.old.at) × (at ≡ self.old.start + length self.old.items) × (length self.old.items + most ≤ self.old.capacity) × (at + most < 2 ^ 64) }
+        requires room { (base.ptr ≡ self.old.at) × (at ≡ self.old.start + length self.old.items)
+            × (length self.old.items + most ≤ self.old.capacity) × (at + most < 2 ^ 64) }
         requires callable { I.can_next iter.old × IsFinite (I.remaining iter.old) }
         ensures items { GivesOn I.next_gives iter.old self.old.items iter.new self.new.items result.1 }
-        ensures len { (length self.new.items ≡ length self.old.items + result.0) × (result.0 ≤ most) }
+        ensures len { (length self.new.items ≡ length self.old.items + result.0)
+            × (result.0 ≤ most) }
         ensures full { result.1 ≡ false → result.0 ≡ most }
-        ensures callable { result.1 ≡ false → I.can_next iter.new × IsFinite (I.remaining iter.new) }
+        ensures callable { result.1 ≡ false → I.can_next iter.new
+            × IsFinite (I.remaining iter.new) }
         ensures places { SamePlaces self.old self.new }
     {
         let mut done = 0;
@@ -550,7 +610,8 @@ impl<T> Room<T> {
     ) -> usize
     where
         T: Drop,
-        requires here { (base.ptr ≡ self.old.at) × (start ≡ self.old.start) × (len ≡ length self.old.items) × (start + len < 2 ^ 64) }
+        requires here { (base.ptr ≡ self.old.at) × (start ≡ self.old.start)
+            × (len ≡ length self.old.items) × (start + len < 2 ^ 64) }
         requires callable { F.IsAlwaysCallable f }
         ensures items { RetainsInTurn (CalledAtMut F.FnMut) f self.old.items self.new.items }
         ensures len { (result ≡ length self.new.items) × (result ≤ length self.old.items) }

@@ -43,7 +43,8 @@ impl<T> Rest<T> {
         deed: Deed<T, Global>,
         alloc: Global,
     ) -> Self
-        requires { IsWhole base room deed alloc × (len ≡ length room.items) × (capacity ≡ room.capacity) × (capacity < 2 ^ 63) }
+        requires { IsWhole base room deed alloc × (len ≡ length room.items)
+            × (capacity ≡ room.capacity) × (capacity < 2 ^ 63) }
         ensures { result ≡ room.items }
     {
         let mut taken = room;

@@ -65,9 +65,13 @@ fn few_same(left: &[u8], right: &[u8]) -> bool
 /// Whether the groups from `first` and from `second` on are the same.
 #[inline(always)]
 fn both_same(left: &[u8], right: &[u8], first: usize, second: usize) -> bool
-    requires first_in_bounds { (first + GROUP ≤ length left.now) × (first + GROUP ≤ length right.now) }
-    requires second_in_bounds { (second + GROUP ≤ length left.now) × (second + GROUP ≤ length right.now) }
-    ensures { IsTrue result ↔ ((take GROUP (drop first left.now) ≡ take GROUP (drop first right.now)) × (take GROUP (drop second left.now) ≡ take GROUP (drop second right.now))) }
+    requires first_in_bounds { (first + GROUP ≤ length left.now)
+        × (first + GROUP ≤ length right.now) }
+    requires second_in_bounds { (second + GROUP ≤ length left.now)
+        × (second + GROUP ≤ length right.now) }
+    ensures { IsTrue result
+        ↔ ((take GROUP (drop first left.now) ≡ take GROUP (drop first right.now))
+        × (take GROUP (drop second left.now) ≡ take GROUP (drop second right.now))) }
 {
     same_at::<GROUP>(left, right, first) & same_at::<GROUP>(left, right, second)
 }

@@ -17,11 +17,14 @@ impl<const N: usize> io::Write for SmallBytes<N> {
     fn write(&mut self, buf: &[u8]) -> io::Result<usize>
         ensures bound { WritesAtMost result buf.now }
         ensures bytes { WriteAppends (Some self.old.bytes) (Some self.new.bytes) result buf.now }
-        ensures mode { OnOk result (self.new.inline ≡ inline_after N self.old.inline (length self.old.bytes) (length buf.now)) }
+        ensures mode { OnOk result
+            (self.new.inline ≡ inline_after N self.old.inline (length self.old.bytes)
+            (length buf.now)) }
         ensures count { IfOk result (λ n. n ≡ length buf.now) }
         ensures memory { IfErr result (λ error. error_kind error ≡ OutOfMemory) }
         ensures unchanged { OnErr result (self.new ≡ self.old) }
-        ensures free { OnErr result (inline_after N self.old.inline (length self.old.bytes) (length buf.now) ≡ false) }
+        ensures free { OnErr result (inline_after N self.old.inline (length self.old.bytes)
+            (length buf.now) ≡ false) }
     {
         match self.extend_from_slice(buf) {
             Ok(()) => Ok(buf.len()),

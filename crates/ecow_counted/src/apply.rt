@@ -28,7 +28,8 @@ impl<T: Clone> Spare<T> {
     pub fn new(alloc: Global, edit: &ListEdit<T>, len: usize) -> Result<Self, AllocError>
         requires bounded { len ≤ MAX_LEN }
         requires asked { asked_length edit.now len ≤ MAX_LEN }
-        ensures items { ClonesAreEqual T.is_clone → IfOk result (λ spare. spare.block.items ≡ brought edit.now) }
+        ensures items { ClonesAreEqual T.is_clone
+            → IfOk result (λ spare. spare.block.items ≡ brought edit.now) }
         ensures len { IfOk result (λ spare. length spare.block.items ≡ length (brought edit.now)) }
         ensures room { IfOk result (λ spare. spare_room edit.now len ≤ spare.block.capacity) }
         ensures empty { IfOk result (λ spare. spare.answer.items ≡ []) }
@@ -93,12 +94,15 @@ fn replaced<T: Drop>(
     answer: Vec<T>,
 ) -> Items<T>
     requires found { IsSome (range_of bounds (length block.old.items)) }
-    requires room { length block.old.items - items_in_range bounds (length block.old.items) + length replacement.items ≤ block.old.capacity }
+    requires room { length block.old.items - items_in_range bounds (length block.old.items)
+        + length replacement.items ≤ block.old.capacity }
     requires places { items_in_range bounds (length block.old.items) ≤ replacement.capacity }
     requires empty { answer.items ≡ [] }
     requires answer { items_in_range bounds (length block.old.items) ≤ vec_capacity answer }
-    ensures taken { IfSome (range_of bounds (length block.old.items)) (λ range. result ≡ slice_range block.old.items range.0 range.1) }
-    ensures block { IfSome (range_of bounds (length block.old.items)) (λ range. block.new ≡ contents (splice block.old.items range.0 range.1 replacement.items) block.old.capacity) }
+    ensures taken { IfSome (range_of bounds (length block.old.items))
+        (λ range. result ≡ slice_range block.old.items range.0 range.1) }
+    ensures block { IfSome (range_of bounds (length block.old.items)) (λ range. block.new
+        ≡ contents (splice block.old.items range.0 range.1 replacement.items) block.old.capacity) }
 {
     let (start, end) = resolve(&bounds, block.len()).unwrap();
     gathered(block.splice_within(start, end, replacement), answer)
@@ -137,7 +141,8 @@ pub(crate) fn apply<T: Drop>(block: &mut Block<T>, edit: ListEdit<T>, spare: Spa
     requires places { spare_room edit (length block.old.items) ≤ spare.block.capacity }
     requires empty { spare.answer.items ≡ [] }
     requires answer { taken_out edit (length block.old.items) ≤ vec_capacity spare.answer }
-    ensures change { spare.block.items ≡ brought edit → list_edited edit block.old.items ≡ Ok (result, block.new.items) }
+    ensures change { spare.block.items ≡ brought edit
+        → list_edited edit block.old.items ≡ Ok (result, block.new.items) }
     ensures capacity { block.new.capacity ≡ block.old.capacity }
     ensures accepted { OnRefused result ⊥ }
 {

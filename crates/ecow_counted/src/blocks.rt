@@ -84,7 +84,8 @@ impl<T> Blocks<T> {
     /// The size of what a name holds, if it is there.
     pub fn size(&self, name: Name) -> Option<Size>
         ensures size { result ≡ option_map size_of (finite.get self.now.names name) }
-        ensures bounds { IfSome result (λ size. (size.len ≤ size.capacity) × (size.capacity ≤ MAX_LEN)) }
+        ensures bounds { IfSome result (λ size. (size.len ≤ size.capacity)
+            × (size.capacity ≤ MAX_LEN)) }
         ensures backed { IfSome result (λ size. 0 < size.owners → 0 < size.capacity) }
         ensures sharing { IsSharing self.now.names }
     {
@@ -183,7 +184,8 @@ impl<T> Blocks<T> {
     pub fn share(&mut self, from: Name, to: Name) -> Result<(), AllocError>
         requires there { IsSome (finite.get self.old.names from) }
         requires free { finite.get self.old.names to ≡ None }
-        ensures ok { OnOk result (self.new.names ≡ join from to (held_at self.old.names from) self.old.names) }
+        ensures ok { OnOk result
+            (self.new.names ≡ join from to (held_at self.old.names from) self.old.names) }
         ensures err { OnErr result (self.new.names ≡ self.old.names) }
         ensures sharing { IsSharing self.new.names }
     {
@@ -203,7 +205,8 @@ impl<T: Drop> Blocks<T> {
     /// memory nothing changes.
     pub fn make(&mut self, name: Name, block: Block<T>) -> Result<(), AllocError>
         requires free { finite.get self.old.names name ≡ None }
-        ensures ok { OnOk result (self.new.names ≡ settle name block.items block.capacity self.old.names) }
+        ensures ok { OnOk result
+            (self.new.names ≡ settle name block.items block.capacity self.old.names) }
         ensures err { OnErr result (self.new.names ≡ self.old.names) }
         ensures sharing { IsSharing self.old.names → IsSharing self.new.names }
     {
@@ -276,8 +279,10 @@ fn entry_of<'a, T>(
 /// Counts one more name at the place.
 fn add_owner<T>(table: &mut Slab<Entry<T>>, place: usize)
     requires there { ContainsKey table.old place }
-    requires room { (entry : Entry T) → get table.old place ≡ Some entry → entry.owners + 1 < 2 ^ 64 }
-    ensures counted { (entry : Entry T) → get table.old place ≡ Some entry → get table.new place ≡ Some (record { block = entry.block; owners = entry.owners + 1 }) }
+    requires room { (entry : Entry T) → get table.old place ≡ Some entry
+        → entry.owners + 1 < 2 ^ 64 }
+    ensures counted { (entry : Entry T) → get table.old place ≡ Some entry
+        → get table.new place ≡ Some (record { block = entry.block; owners = entry.owners + 1 }) }
     ensures others { (other : ℕ) → other ≢ place → get table.new other ≡ get table.old other }
     ensures len { slab_len table.new ≡ slab_len table.old }
 {
@@ -290,8 +295,13 @@ fn add_owner<T>(table: &mut Slab<Entry<T>>, place: usize)
 fn drop_owner<T>(table: &mut Slab<Entry<T>>, place: usize) -> Option<Block<T>>
     requires there { ContainsKey table.old place }
     requires some { (entry : Entry T) → get table.old place ≡ Some entry → 0 < entry.owners }
-    ensures last { (entry : Entry T) → get table.old place ≡ Some entry → entry.owners ≡ 1 → (result ≡ Some entry.block) × (get table.new place ≡ None) × (slab_len table.new + 1 ≡ slab_len table.old) × HasRoomFor table.new 1 }
-    ensures counted { (entry : Entry T) → get table.old place ≡ Some entry → 1 < entry.owners → (result ≡ None) × (get table.new place ≡ Some (record { block = entry.block; owners = entry.owners - 1 })) × (slab_len table.new ≡ slab_len table.old) }
+    ensures last { (entry : Entry T) → get table.old place ≡ Some entry → entry.owners ≡ 1
+        → (result ≡ Some entry.block) × (get table.new place ≡ None)
+        × (slab_len table.new + 1 ≡ slab_len table.old) × HasRoomFor table.new 1 }
+    ensures counted { (entry : Entry T) → get table.old place ≡ Some entry → 1 < entry.owners
+        → (result ≡ None)
+        × (get table.new place ≡ Some (record { block = entry.block; owners = entry.owners - 1 }))
+        × (slab_len table.new ≡ slab_len table.old) }
     ensures others { (other : ℕ) → other ≢ place → get table.new other ≡ get table.old other }
     ensures room { HasRoomFor table.old 1 → HasRoomFor table.new 1 }
 {

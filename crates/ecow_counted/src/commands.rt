@@ -50,8 +50,10 @@ impl<T> Carried<T> {
 impl<T> Blocks<T> {
     /// Puts a name in the group of another.
     pub fn join(&mut self, from: Name, to: Name) -> Outcome<T>
-        ensures step { IsCountedUse self.old.names (Usage.Derive from to ListDerive.Clone) result self.new.names }
-        ensures verdict { IsCountedVerdict self.old.names (Usage.Derive from to ListDerive.Clone) result }
+        ensures step { IsCountedUse self.old.names
+            (Usage.Derive from to ListDerive.Clone) result self.new.names }
+        ensures verdict { IsCountedVerdict self.old.names
+            (Usage.Derive from to ListDerive.Clone) result }
         ensures refused { OnRefused result (self.new.names ≡ self.old.names) }
         ensures sharing { IsSharing self.old.names → IsSharing self.new.names }
     {
@@ -87,7 +89,8 @@ impl<T: Drop> Blocks<T> {
 impl<T: Clone> Blocks<T> {
     /// Makes a list under a name that is new.
     fn begin_list(&mut self, alloc: Global, name: Name, how: ListMake<T>) -> Outcome<T>
-        ensures step { ClonesAreEqual T.is_clone → IsCountedUse self.old.names (Usage.Make name how) result self.new.names }
+        ensures step { ClonesAreEqual T.is_clone
+            → IsCountedUse self.old.names (Usage.Make name how) result self.new.names }
         ensures verdict { IsCountedVerdict self.old.names (Usage.Make name how) result }
         ensures refused { OnRefused result (self.new.names ≡ self.old.names) }
         ensures sharing { IsSharing self.old.names → IsSharing self.new.names }
@@ -107,7 +110,8 @@ impl<T: Clone> Blocks<T> {
 
     /// Answers a question to the list of a name.
     fn ask(&self, alloc: Global, name: Name, question: ListAsk) -> Outcome<T>
-        ensures step { ClonesAreEqual T.is_clone → IsCountedUse self.now.names (Usage.Ask name question) result self.now.names }
+        ensures step { ClonesAreEqual T.is_clone
+            → IsCountedUse self.now.names (Usage.Ask name question) result self.now.names }
         ensures verdict { IsCountedVerdict self.now.names (Usage.Ask name question) result }
     {
         let Some(size) = self.size(name) else {
@@ -133,7 +137,8 @@ impl<T: Clone> Blocks<T> {
 
     /// Changes the list of a name, in a block of its own. All that can be refused is taken first.
     fn edit(&mut self, alloc: Global, name: Name, edit: ListEdit<T>) -> Carried<T>
-        ensures carried { IsCarried (ClonesAreEqual T.is_clone) self.old.names (Usage.Change name edit) result self.new.names }
+        ensures carried { IsCarried (ClonesAreEqual T.is_clone) self.old.names
+            (Usage.Change name edit) result self.new.names }
         ensures sharing { IsSharing self.old.names → IsSharing self.new.names }
     {
         let Some(size) = self.size(name) else {
@@ -173,7 +178,8 @@ impl<T: Clone> Blocks<T> {
 
     /// Carries out one command by its parts. A refused one changes nothing.
     pub fn carry_out(&mut self, alloc: Global, usage: ListUsage<T>) -> Carried<T>
-        ensures carried { IsCarried (ClonesAreEqual T.is_clone) self.old.names usage result self.new.names }
+        ensures carried { IsCarried
+            (ClonesAreEqual T.is_clone) self.old.names usage result self.new.names }
         ensures sharing { IsSharing self.old.names → IsSharing self.new.names }
     {
         match usage {
@@ -199,7 +205,8 @@ fn unchanged<T: Drop>(edit: ListEdit<T>) -> Outcome<T>
 
 /// A list in a block of its own, with exactly the room that it is to have; or why it can't be made.
 fn made<T: Clone>(alloc: Global, how: ListMake<T>) -> Result<Block<T>, Refusal>
-    ensures items { ClonesAreEqual T.is_clone → IfOk result (λ block. list_made how ≡ Ok block.items) }
+    ensures items { ClonesAreEqual T.is_clone
+        → IfOk result (λ block. list_made how ≡ Ok block.items) }
     ensures verdict { IsRefusedAlike (list_made how) result }
     ensures capacity { IfOk result (λ block. block.capacity ≡ capacity_made how) }
 {
@@ -243,7 +250,8 @@ fn empty<T>(alloc: Global, capacity: usize) -> Result<Block<T>, Refusal>
 /// A block of `n` clones of a value, with room for these alone.
 fn repeated<T: Clone>(alloc: Global, value: T, n: usize) -> Result<Block<T>, Refusal>
     requires { n ≤ MAX_LEN }
-    ensures items { ClonesAreEqual T.is_clone → IfOk result (λ block. block.items ≡ replicate n value) }
+    ensures items { ClonesAreEqual T.is_clone
+        → IfOk result (λ block. block.items ≡ replicate n value) }
     ensures capacity { IfOk result (λ block. block.capacity ≡ n) }
     ensures memory { IfErr result (λ refusal. refusal ≡ Refusal.Memory) }
 {

@@ -52,11 +52,13 @@ pub(crate) fn capacity<T>(edit: &ListEdit<T>, size: Size) -> usize
     requires bounded { size.capacity ≤ MAX_LEN }
     requires asked { asked_length edit.now size.len ≤ MAX_LEN }
     requires leaves { nat_lt 1 size.owners ≡ true → is_unshared edit.now size.len ≡ true }
-    ensures capacity { result ≡ capacity_after edit.now (nat_lt 1 size.owners) size.len size.capacity }
+    ensures capacity { result
+        ≡ capacity_after edit.now (nat_lt 1 size.owners) size.len size.capacity }
     ensures bounded { result ≤ MAX_LEN }
     ensures grows { nat_lt 1 size.owners ≡ false → size.capacity ≤ result }
     ensures holds { nat_lt 1 size.owners ≡ true → are_copied edit.now size.len ≤ result }
-    ensures room { length_after edit.now (cond (nat_lt 1 size.owners) (are_copied edit.now size.len) size.len) ≤ result }
+    ensures room { length_after edit.now
+        (cond (nat_lt 1 size.owners) (are_copied edit.now size.len) size.len) ≤ result }
 {
     let shared = size.owners > 1;
     match edit {

@@ -124,7 +124,8 @@ impl<T> Counted<T> {
     /// memory for the name alone, and clones nothing.
     pub fn share(&mut self, from: Name, to: Name) -> Outcome<T>
         ensures step { CountedStep self.old.names (VecCommand.Clone from to) result self.new.names }
-        ensures verdict { CountedVerdict self.old.names (VecCommand.Clone from to) result self.new.names }
+        ensures verdict { CountedVerdict self.old.names
+            (VecCommand.Clone from to) result self.new.names }
         ensures refused { OnRefused result (self.new ≡ self.old) }
         ensures copied { self.new.copied ≡ self.old.copied }
         ensures moved { self.new.moved ≡ self.old.moved }
@@ -137,11 +138,16 @@ impl<T> Counted<T> {
 impl<T: Clone> Counted<T> {
     /// Carries out one command. A refused command changes nothing; what it carried is dropped.
     pub fn step(&mut self, command: VecCommand<T>) -> Outcome<T>
-        ensures step { ClonesAreEqual T.is_clone → CountedStep self.old.names command result self.new.names }
+        ensures step { ClonesAreEqual T.is_clone
+            → CountedStep self.old.names command result self.new.names }
         ensures verdict { CountedVerdict self.old.names command result self.new.names }
         ensures refused { OnRefused result (self.new ≡ self.old) }
-        ensures copied { self.new.copied ≡ saturating self.old.copied (if_accepted result (copied_in (vec_usage command) self.old.names)) }
-        ensures moved { self.new.moved ≡ saturating self.old.moved (if_accepted result (moved_in (vec_usage command) self.old.names)) }
+        ensures copied { self.new.copied
+            ≡ saturating self.old.copied
+            (if_accepted result (copied_in (vec_usage command) self.old.names)) }
+        ensures moved { self.new.moved
+            ≡ saturating self.old.moved
+            (if_accepted result (moved_in (vec_usage command) self.old.names)) }
         ensures sharing { IsSharing self.new.names }
     {
         let Carried {
@@ -160,13 +166,27 @@ impl<T: Clone> Counted<T> {
         &mut self,
         commands: Vec<VecCommand<T>>,
     ) -> Result<Vec<Outcome<T>>, Rejected<Vec<VecCommand<T>>>>
-        ensures run { ClonesAreEqual T.is_clone → IfOk result (λ outcomes. CountedRun self.old.names commands.items outcomes.items self.new.names) }
-        ensures verdicts { IfOk result (λ outcomes. RunBy CountedVerdict self.old.names commands.items outcomes.items self.new.names) }
-        ensures contents { ClonesAreEqual T.is_clone → IfOk result (λ outcomes. RunBy ContentsStep self.old.names commands.items outcomes.items self.new.names) }
-        ensures copied { ClonesAreEqual T.is_clone → IfOk result (λ outcomes. CopiedIsSum self.old commands.items outcomes.items self.new) }
-        ensures moved { ClonesAreEqual T.is_clone → IfOk result (λ outcomes. MovedIsSum self.old commands.items outcomes.items self.new) }
-        ensures copies_paid { ClonesAreEqual T.is_clone → IfOk result (λ outcomes. CopiedIsPaid self.old commands.items outcomes.items self.new) }
-        ensures moves_paid { ClonesAreEqual T.is_clone → IfOk result (λ outcomes. MovedIsPaid self.old commands.items outcomes.items self.new) }
+        ensures run { ClonesAreEqual T.is_clone
+            → IfOk result
+            (λ outcomes. CountedRun self.old.names commands.items outcomes.items self.new.names) }
+        ensures verdicts { IfOk result
+            (λ outcomes.
+            RunBy CountedVerdict self.old.names commands.items outcomes.items self.new.names) }
+        ensures contents { ClonesAreEqual T.is_clone
+            → IfOk result
+            (λ outcomes.
+            RunBy ContentsStep self.old.names commands.items outcomes.items self.new.names) }
+        ensures copied { ClonesAreEqual T.is_clone
+            → IfOk result
+            (λ outcomes. CopiedIsSum self.old commands.items outcomes.items self.new) }
+        ensures moved { ClonesAreEqual T.is_clone
+            → IfOk result (λ outcomes. MovedIsSum self.old commands.items outcomes.items self.new) }
+        ensures copies_paid { ClonesAreEqual T.is_clone
+            → IfOk result
+            (λ outcomes. CopiedIsPaid self.old commands.items outcomes.items self.new) }
+        ensures moves_paid { ClonesAreEqual T.is_clone
+            → IfOk result
+            (λ outcomes. MovedIsPaid self.old commands.items outcomes.items self.new) }
         ensures copies_from_new { ClonesAreEqual T.is_clone
             → IfOk result (λ outcomes. CopiesFromNew self.old commands.items outcomes.items self.new) }
         ensures moves_from_new { ClonesAreEqual T.is_clone

@@ -20,11 +20,14 @@ impl<T: Clone> Counted<T> {
     /// Makes a name and pushes the items one by one, up to the first refusal; the items from there on
     /// are dropped. Where the name can't be made nothing changes.
     pub fn fill(&mut self, name: Name, items: Vec<T>) -> Filled
-        ensures run { ClonesAreEqual T.is_clone → IsFilled self.old name items.items result self.new }
-        ensures taken { IsSome (finite.get self.old.names name) → (result.accepted ≡ 0) × (result.refusal ≡ Some Refusal.Taken) × (self.new ≡ self.old) }
+        ensures run { ClonesAreEqual T.is_clone
+            → IsFilled self.old name items.items result self.new }
+        ensures taken { IsSome (finite.get self.old.names name) → (result.accepted ≡ 0)
+            × (result.refusal ≡ Some Refusal.Taken) × (self.new ≡ self.old) }
         ensures within { result.accepted ≤ length items.items }
         ensures all { IfNone result.refusal (result.accepted ≡ length items.items) }
-        ensures moves { ClonesAreEqual T.is_clone → self.new.moved ≤ self.old.moved + 2 * result.accepted }
+        ensures moves { ClonesAreEqual T.is_clone
+            → self.new.moved ≤ self.old.moved + 2 * result.accepted }
     {
         // For the proof: the names of a group hold one block.
         let _sharing = self.blocks();

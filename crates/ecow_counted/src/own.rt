@@ -38,11 +38,13 @@ impl<T: Drop> Blocks<T> {
         requires bounded { want.capacity ≤ MAX_LEN }
         ensures names { OnOk result (self.new.names ≡ self.old.names) }
         ensures room { OnOk result (self.new.has_room ≡ true) }
-        ensures err { OnErr result (self.new.names ≡ settle name block.items block.capacity self.old.names) }
+        ensures err { OnErr result
+            (self.new.names ≡ settle name block.items block.capacity self.old.names) }
         ensures items { IfOk result (λ own. own.block.items ≡ block.items) }
         ensures capacity { IfOk result (λ own. own.block.capacity ≡ want.capacity) }
         ensures copied { IfOk result (λ own. own.copied ≡ 0) }
-        ensures moved { IfOk result (λ own. own.moved ≡ cond (nat_le want.capacity block.capacity) 0 want.staying) }
+        ensures moved { IfOk result (λ own. own.moved
+            ≡ cond (nat_le want.capacity block.capacity) 0 want.staying) }
         ensures free { want.capacity ≡ block.capacity → IsOk result }
     {
         let mut block = block;
@@ -97,7 +99,8 @@ impl<T: Drop> Blocks<T> {
         requires there { IsSome (finite.get self.old.names name) }
         requires sole { is_shared (held_at self.old.names name) ≡ false }
         requires sharing { IsSharing self.old.names }
-        requires backed { 0 < length (held_at self.old.names name).group → 0 < (held_at self.old.names name).capacity }
+        requires backed { 0 < length (held_at self.old.names name).group
+            → 0 < (held_at self.old.names name).capacity }
         requires grows { (held_at self.old.names name).capacity ≤ want.capacity }
         requires staying { want.staying ≤ length (held_at self.old.names name).items }
         requires bounded { want.capacity ≤ MAX_LEN }
@@ -107,7 +110,8 @@ impl<T: Drop> Blocks<T> {
         ensures items { IfOk result (λ own. own.block.items ≡ (held_at self.old.names name).items) }
         ensures capacity { IfOk result (λ own. own.block.capacity ≡ want.capacity) }
         ensures copied { IfOk result (λ own. own.copied ≡ 0) }
-        ensures moved { IfOk result (λ own. own.moved ≡ cond (nat_le want.capacity (held_at self.old.names name).capacity) 0 want.staying) }
+        ensures moved { IfOk result (λ own. own.moved
+            ≡ cond (nat_le want.capacity (held_at self.old.names name).capacity) 0 want.staying) }
         ensures free { want.capacity ≡ (held_at self.old.names name).capacity → IsOk result }
     {
         match self.take(name) {
@@ -127,7 +131,9 @@ impl<T: Clone> Blocks<T> {
         requires bounded { want.capacity ≤ MAX_LEN }
         ensures names { self.new.names ≡ self.old.names }
         ensures room { OnOk result (0 < want.capacity → self.new.has_room ≡ true) }
-        ensures items { ClonesAreEqual T.is_clone → IfOk result (λ own. own.block.items ≡ take want.copies (held_at self.old.names name).items) }
+        ensures items { ClonesAreEqual T.is_clone
+            → IfOk result (λ own. own.block.items
+            ≡ take want.copies (held_at self.old.names name).items) }
         ensures len { IfOk result (λ own. length own.block.items ≡ want.copies) }
         ensures capacity { IfOk result (λ own. own.block.capacity ≡ want.capacity) }
         ensures copied { IfOk result (λ own. own.copied ≡ want.copies) }
@@ -157,19 +163,31 @@ impl<T: Clone> Blocks<T> {
     /// that it shares. Where there is no memory, or a clone is refused, nothing changes.
     pub fn own(&mut self, alloc: Global, name: Name, want: Want) -> Result<Owned<T>, AllocError>
         requires there { IsSome (finite.get self.old.names name) }
-        requires whole { is_shared (held_at self.old.names name) ≡ true → (want.copies ≤ length (held_at self.old.names name).items) × (want.copies ≤ want.capacity) }
-        requires grows { is_shared (held_at self.old.names name) ≡ false → (held_at self.old.names name).capacity ≤ want.capacity }
+        requires whole { is_shared (held_at self.old.names name) ≡ true
+            → (want.copies ≤ length (held_at self.old.names name).items)
+            × (want.copies ≤ want.capacity) }
+        requires grows { is_shared (held_at self.old.names name) ≡ false
+            → (held_at self.old.names name).capacity ≤ want.capacity }
         requires staying { want.staying ≤ length (held_at self.old.names name).items }
         requires bounded { want.capacity ≤ MAX_LEN }
         ensures opened { OnOk result (IsOpened name self.old.names self.new.names) }
         ensures room { OnOk result (0 < want.capacity → self.new.has_room ≡ true) }
         ensures err { OnErr result (self.new.names ≡ self.old.names) }
-        ensures items { ClonesAreEqual T.is_clone → IfOk result (λ own. own.block.items ≡ cond (is_shared (held_at self.old.names name)) (take want.copies (held_at self.old.names name).items) (held_at self.old.names name).items) }
-        ensures len { IfOk result (λ own. length own.block.items ≡ cond (is_shared (held_at self.old.names name)) want.copies (length (held_at self.old.names name).items)) }
+        ensures items { ClonesAreEqual T.is_clone
+            → IfOk result (λ own. own.block.items ≡ cond (is_shared (held_at self.old.names name))
+            (take want.copies (held_at self.old.names name).items)
+            (held_at self.old.names name).items) }
+        ensures len { IfOk result (λ own. length own.block.items
+            ≡ cond (is_shared (held_at self.old.names name)) want.copies
+            (length (held_at self.old.names name).items)) }
         ensures capacity { IfOk result (λ own. own.block.capacity ≡ want.capacity) }
-        ensures copied { IfOk result (λ own. own.copied ≡ cond (is_shared (held_at self.old.names name)) want.copies 0) }
-        ensures moved { IfOk result (λ own. own.moved ≡ cond (is_shared (held_at self.old.names name)) 0 (cond (nat_le want.capacity (held_at self.old.names name).capacity) 0 want.staying)) }
-        ensures free { (want.capacity ≡ cond (is_shared (held_at self.old.names name)) 0 (held_at self.old.names name).capacity) → IsOk result }
+        ensures copied { IfOk result (λ own. own.copied
+            ≡ cond (is_shared (held_at self.old.names name)) want.copies 0) }
+        ensures moved { IfOk result (λ own. own.moved
+            ≡ cond (is_shared (held_at self.old.names name)) 0
+            (cond (nat_le want.capacity (held_at self.old.names name).capacity) 0 want.staying)) }
+        ensures free { (want.capacity ≡ cond (is_shared (held_at self.old.names name)) 0
+            (held_at self.old.names name).capacity) → IsOk result }
     {
         let size = self.size(name).unwrap();
         if size.owners > 1 {

@@ -16,14 +16,29 @@ ghost use Rattle.ecow_model.specs.declared.lists.VecCommand.{VecCommand};
 /// Of a command on lists of named plain values: a fork reads as its source does, a write sets one
 /// element, and what stands under all other names stays.
 pub fn plain_steps<T>()
-    ensures fork { (old : State T) (new : State T) (outcome : Outcome T) (from : ℕ) (to : ℕ) → IsVecStep old (VecCommand.Clone from to) outcome new → outcome ≡ Outcome.Done → get new to ≡ get old from }
-    ensures write { (old : State T) (new : State T) (outcome : Outcome T) (name : ℕ) (index : ℕ) (value : T) → IsVecStep old (VecCommand.Write name index value) outcome new → outcome ≡ Outcome.Done → result_ok (list_at new name) ≡ option_map (λ xs. slice_set xs index value) (result_ok (list_at old name)) }
-    ensures others { (old : State T) (new : State T) (outcome : Outcome T) (command : VecCommand T) (name : ℕ) → IsVecStep old command outcome new → LeavesName (vec_usage command) name → get new name ≡ get old name }
+    ensures fork { (old : State T) (new : State T) (outcome : Outcome T) (from : ℕ) (to : ℕ)
+        → IsVecStep old (VecCommand.Clone from to) outcome new → outcome ≡ Outcome.Done
+        → get new to ≡ get old from }
+    ensures write { (old : State T) (new : State T) (outcome : Outcome T) (name : ℕ) (index : ℕ)
+        (value : T) → IsVecStep old (VecCommand.Write name index value) outcome new
+        → outcome ≡ Outcome.Done
+        → result_ok (list_at new name) ≡ option_map (λ xs. slice_set xs index value)
+        (result_ok (list_at old name)) }
+    ensures others { (old : State T) (new : State T) (outcome : Outcome T) (command : VecCommand T)
+        (name : ℕ) → IsVecStep old command outcome new → LeavesName (vec_usage command) name
+        → get new name ≡ get old name }
 {}
 
 /// The same of lists in shared blocks.
 pub fn shared_steps<T>()
-    ensures fork { (old : Names T) (new : Names T) (outcome : Outcome T) (from : ℕ) (to : ℕ) → CountedStep old (VecCommand.Clone from to) outcome new → outcome ≡ Outcome.Done → list_of new to ≡ list_of old from }
-    ensures write { (old : Names T) (new : Names T) (outcome : Outcome T) (name : ℕ) (index : ℕ) (value : T) → CountedStep old (VecCommand.Write name index value) outcome new → outcome ≡ Outcome.Done → list_of new name ≡ option_map (λ xs. slice_set xs index value) (list_of old name) }
-    ensures others { (old : Names T) (new : Names T) (outcome : Outcome T) (command : VecCommand T) (name : ℕ) → CountedStep old command outcome new → LeavesName (vec_usage command) name → list_of new name ≡ list_of old name }
+    ensures fork { (old : Names T) (new : Names T) (outcome : Outcome T) (from : ℕ) (to : ℕ)
+        → CountedStep old (VecCommand.Clone from to) outcome new → outcome ≡ Outcome.Done
+        → list_of new to ≡ list_of old from }
+    ensures write { (old : Names T) (new : Names T) (outcome : Outcome T) (name : ℕ) (index : ℕ)
+        (value : T) → CountedStep old (VecCommand.Write name index value) outcome new
+        → outcome ≡ Outcome.Done
+        → list_of new name ≡ option_map (λ xs. slice_set xs index value) (list_of old name) }
+    ensures others { (old : Names T) (new : Names T) (outcome : Outcome T) (command : VecCommand T)
+        (name : ℕ) → CountedStep old command outcome new → LeavesName (vec_usage command) name
+        → list_of new name ≡ list_of old name }
 {}

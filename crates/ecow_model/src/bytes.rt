@@ -229,7 +229,8 @@ impl BytesEdit {
     /// Whether the edit may be made in `len` bytes, of which up to `N` stand inline, and else why
     /// not: the first refusal that applies, want of memory apart. `T` is what the store's lists hold.
     pub fn check<T, const N: usize>(&self, len: usize) -> Result<(), Refusal>
-        ensures { (b : PlainBytes) → length b.bytes ≡ len → result ≡ verdict (bytes_edited {T = T} N self.now b) }
+        ensures { (b : PlainBytes) → length b.bytes ≡ len
+            → result ≡ verdict (bytes_edited {T = T} N self.now b) }
     {
         match self {
             BytesEdit::Push(_) => allowed(len, 1),

@@ -60,12 +60,14 @@ pub trait Kind<T: Clone, V: Drop> {
 
     /// What stands under a name, where it is of this kind, and else why it can't be used.
     fn seen(value: &V) -> Result<&Self::Held, Refusal>
-        ensures { MatchResult result (λ x. rules.seen value.now ≡ Ok x.now) (λ refusal. rules.seen value.now ≡ Err refusal) };
+        ensures { MatchResult result (λ x. rules.seen value.now ≡ Ok x.now)
+            (λ refusal. rules.seen value.now ≡ Err refusal) };
 
     /// The same for writing.
     fn seen_mut(value: &mut V) -> Result<&mut Self::Held, Refusal>
         ensures* writes_back { sem 𝓛 (LendsSeen V.row Self.Held.row rules.kept value.entry result) }
-        ensures value { MatchResult result (λ x. rules.seen value.old ≡ Ok x.now) (λ refusal. rules.seen value.old ≡ Err refusal) };
+        ensures value { MatchResult result (λ x. rules.seen value.old ≡ Ok x.now)
+            (λ refusal. rules.seen value.old ≡ Err refusal) };
 
     /// A value of the kind as one that stands under a name.
     fn kept(held: Self::Held) -> V
@@ -79,8 +81,10 @@ fn lent_at<T: Clone, V: Drop, K: Kind<T, V>>(
     values: &mut Table<V>,
     name: Name,
 ) -> Result<&mut K::Held, Refusal>
-    ensures* writes_back { sem 𝓛 (LendsKept V.row K.Held.row K.rules.kept values.entry name result) }
-    ensures value { MatchResult result (λ x. value_at K.rules values.old name ≡ Ok x.now) (λ refusal. value_at K.rules values.old name ≡ Err refusal) }
+    ensures* writes_back { sem 𝓛
+        (LendsKept V.row K.Held.row K.rules.kept values.entry name result) }
+    ensures value { MatchResult result (λ x. value_at K.rules values.old name ≡ Ok x.now)
+        (λ refusal. value_at K.rules values.old name ≡ Err refusal) }
 {
     K::seen_mut(value_mut(values, name)?)
 }
@@ -92,7 +96,8 @@ fn put<T: Drop, V: Drop>(
     value: V,
     outcome: Outcome<T>,
 ) -> Outcome<T>
-    ensures { ((result ≡ outcome) × (values.new ≡ map.insert values.old name value)) ⊎ ((result ≡ Outcome.Refused Refusal.Memory) × (values.new ≡ values.old)) }
+    ensures { ((result ≡ outcome) × (values.new ≡ map.insert values.old name value))
+        ⊎ ((result ≡ Outcome.Refused Refusal.Memory) × (values.new ≡ values.old)) }
 {
     match values.insert(name, value) {
         Ok(()) => outcome,

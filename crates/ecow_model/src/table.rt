@@ -134,7 +134,8 @@ impl<V: Drop> Table<V> {
 #[inline]
 fn reach<V: Drop>(slots: &mut Vec<Option<V>>, place: usize) -> Result<(), AllocError>
     ensures there { OnOk result (place < length slots.new.items) }
-    ensures kept { (name : ℕ) → get_or slots.new.items name None ≡ get_or slots.old.items name None }
+    ensures kept { (name : ℕ)
+        → get_or slots.new.items name None ≡ get_or slots.old.items name None }
 {
     while slots.len() <= place {
         slots.push(None)?;

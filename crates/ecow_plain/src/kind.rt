@@ -136,7 +136,8 @@ impl<T: Clone> Kind<T, Stored<T>> for ListKind {
 
 /// What a change answers: that it was made, or that memory was wanting.
 fn done<T: Drop>(change: Result<(), AllocError>) -> Outcome<T>
-    ensures { MatchResult change (λ _. result ≡ Outcome.Done) (λ _. result ≡ Outcome.Refused Refusal.Memory) }
+    ensures { MatchResult change (λ _. result ≡ Outcome.Done)
+        (λ _. result ≡ Outcome.Refused Refusal.Memory) }
 {
     match change {
         Ok(()) => Outcome::Done,

@@ -204,8 +204,10 @@ fn splice_vec<T: Drop>(
 ) -> Result<Vec<T>, AllocError>
     requires ordered { start ≤ end }
     requires in_bounds { end ≤ length elements.old.items }
-    ensures items { OnOk result (elements.new.items ≡ splice elements.old.items start end replacement.old.items) }
-    ensures removed { IfOk result (λ removed. removed.items ≡ slice_range elements.old.items start end) }
+    ensures items { OnOk result (elements.new.items
+        ≡ splice elements.old.items start end replacement.old.items) }
+    ensures removed { IfOk result (λ removed. removed.items
+        ≡ slice_range elements.old.items start end) }
     ensures err { OnErr result (elements.new.items ≡ elements.old.items) }
 {
     let len = elements.len();

@@ -49,7 +49,8 @@ impl<T, const N: usize> PlainStore<T, N> {
 
     /// The list under a name: `NoName` where it isn't there, `Kind` where bytes or a text stand.
     pub fn list(&self, name: Name) -> Result<&PlainList<T>, Refusal>
-        ensures { MatchResult result (λ list. list_at self.now name ≡ Ok list.now) (λ refusal. list_at self.now name ≡ Err refusal) }
+        ensures { MatchResult result (λ list. list_at self.now name ≡ Ok list.now)
+            (λ refusal. list_at self.now name ≡ Err refusal) }
     {
         loans::list(&self.values, name)
     }
@@ -68,8 +69,11 @@ impl<T: Clone, const N: usize> PlainStore<T, N> {
     /// Carries out commands in order and answers the outcome of each. Room for the outcomes is
     /// taken first: where it is refused nothing is carried out.
     pub fn run(&mut self, commands: Vec<VecCommand<T>>) -> Result<Vec<Outcome<T>>, AllocError>
-        ensures run { ClonesAreEqual T.is_clone → IfOk result (λ outcomes. RunBy IsVecStep self.old commands.items outcomes.items self.new) }
-        ensures verdicts { IfOk result (λ outcomes. RunBy IsVecVerdict self.old commands.items outcomes.items self.new) }
+        ensures run { ClonesAreEqual T.is_clone
+            → IfOk result
+            (λ outcomes. RunBy IsVecStep self.old commands.items outcomes.items self.new) }
+        ensures verdicts { IfOk result
+            (λ outcomes. RunBy IsVecVerdict self.old commands.items outcomes.items self.new) }
         ensures err { OnErr result (self.new ≡ self.old) }
     {
         let mut outcomes = Vec::with_capacity(self.alloc, commands.len())?;

@@ -21,7 +21,8 @@ pub(crate) fn refusal_of(error: EcoError) -> Refusal
 
 /// What a change answers: that it was made, or that memory was wanting.
 pub(crate) fn done<T: Drop, E: Drop>(change: Result<(), E>) -> Outcome<T>
-    ensures { MatchResult change (λ _. result ≡ Outcome.Done) (λ _. result ≡ Outcome.Refused Refusal.Memory) }
+    ensures { MatchResult change (λ _. result ≡ Outcome.Done)
+        (λ _. result ≡ Outcome.Refused Refusal.Memory) }
 {
     match change {
         Ok(()) => Outcome::Done,
@@ -31,7 +32,8 @@ pub(crate) fn done<T: Drop, E: Drop>(change: Result<(), E>) -> Outcome<T>
 
 /// A value that was made, or why it was not.
 pub(crate) fn made<V>(made: Result<V, EcoError>) -> Result<Made<V>, Refusal>
-    ensures { MatchResult made (λ value. result ≡ Ok (Made.Value value)) (λ error. result ≡ Err (refusal_for error)) }
+    ensures { MatchResult made (λ value. result ≡ Ok (Made.Value value))
+        (λ error. result ≡ Err (refusal_for error)) }
 {
     match made {
         Ok(value) => Ok(Made::Value(value)),

@@ -158,7 +158,8 @@ impl<T: Clone, const N: usize> Kind<T, Stored<T, N>> for ListKind {
 /// Keeps the elements that are marked true.
 fn retain_marked<T: Clone>(list: &mut EcoVec<T>, marks: &[bool]) -> Result<(), EcoError>
     requires { length marks.now ≡ length list.old }
-    ensures ok { ClonesAreEqual T.is_clone → OnOk result (list.new ≡ items_where_true marks.now list.old) }
+    ensures ok { ClonesAreEqual T.is_clone
+        → OnOk result (list.new ≡ items_where_true marks.now list.old) }
     ensures err { IfErr result (λ error. error ≡ EcoError.Memory) }
     ensures unchanged { OnErr result (list.new ≡ list.old) }
 {
@@ -201,7 +202,8 @@ fn replaced<T: Drop>(removed: Splice<T>, elements: Vec<T>) -> Items<T>
 /// Takes the elements within bounds out of a list.
 #[tactic(auto, using(ecow_model::proofs::Lengths::edits))]
 fn drain<T: Clone>(alloc: Global, list: &mut EcoVec<T>, bounds: Bounds) -> Outcome<T>
-    ensures step { ClonesAreEqual T.is_clone → IsEdit list_rules (ListEdit.Drain bounds) list.old result list.new }
+    ensures step { ClonesAreEqual T.is_clone
+        → IsEdit list_rules (ListEdit.Drain bounds) list.old result list.new }
     ensures verdict { IsEditVerdict list_rules (ListEdit.Drain bounds) list.old result }
     ensures refused { OnRefused result (list.new ≡ list.old) }
 {
@@ -226,7 +228,8 @@ fn splice<T: Clone>(
     items: Items<T>,
 ) -> Outcome<T>
     requires { verdict (list_edited (ListEdit.Splice bounds items) list.old) ≡ Ok tt }
-    ensures step { ClonesAreEqual T.is_clone → IsEdit list_rules (ListEdit.Splice bounds items) list.old result list.new }
+    ensures step { ClonesAreEqual T.is_clone
+        → IsEdit list_rules (ListEdit.Splice bounds items) list.old result list.new }
     ensures verdict { IsEditVerdict list_rules (ListEdit.Splice bounds items) list.old result }
     ensures refused { OnRefused result (list.new ≡ list.old) }
 {

@@ -63,7 +63,8 @@ impl<T: Clone, const N: usize> NamedValues<Stored<T, N>> {
     /// Carries out one command. A refused command changes nothing; what it carried is dropped.
     pub fn step(&mut self, command: Command<T>) -> Outcome<T>
         ensures step { ClonesAreEqual T.is_clone → Step N self.old command result self.new }
-        ensures bytes_and_texts { StepWhere N (ClonesAreEqual T.is_clone) self.old command result self.new }
+        ensures bytes_and_texts { StepWhere N
+            (ClonesAreEqual T.is_clone) self.old command result self.new }
         ensures verdict { StepVerdict N self.old command result self.new }
         ensures refused { OnRefused result (self.new ≡ self.old) }
     {
@@ -80,11 +81,13 @@ impl<T: Clone, const N: usize> NamedValues<Stored<T, N>> {
         &mut self,
         commands: Vec<Command<T>>,
     ) -> Result<Vec<Outcome<T>>, Rejected<Vec<Command<T>>>>
-        ensures run { ClonesAreEqual T.is_clone → IfOk result (λ outcomes. Run N self.old commands.items outcomes.items self.new) }
+        ensures run { ClonesAreEqual T.is_clone
+            → IfOk result (λ outcomes. Run N self.old commands.items outcomes.items self.new) }
         ensures bytes_and_texts { IfOk result
             (λ outcomes.
             RunBy (StepWhere N (ClonesAreEqual T.is_clone)) self.old commands.items outcomes.items self.new) }
-        ensures verdicts { IfOk result (λ outcomes. RunBy (StepVerdict N) self.old commands.items outcomes.items self.new) }
+        ensures verdicts { IfOk result
+            (λ outcomes. RunBy (StepVerdict N) self.old commands.items outcomes.items self.new) }
         ensures err { OnErr result (self.new ≡ self.old) }
         ensures value_returned { IfErr result (λ rejected. rejected.value ≡ commands) }
         ensures memory { IfErr result (λ rejected. rejected.error ≡ EcoError.Memory) }

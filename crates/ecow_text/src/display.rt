@@ -23,11 +23,15 @@ impl<const N: usize> fmt::Write for SmallText<N> {
     ghost write_str_gives = { λ old bytes new. encode_utf8_all new.chars ≡ encode_utf8_all old.chars ++ bytes };
 
     fn write_str(&mut self, text: &str) -> fmt::Result
-        ensures ok { IsOk result → encode_utf8_all self.new.chars ≡ encode_utf8_all self.old.chars ++ text.now }
+        ensures ok { IsOk result → encode_utf8_all self.new.chars ≡ encode_utf8_all self.old.chars
+            ++ text.now }
         ensures chars { OnOk result (self.new.chars ≡ self.old.chars ++ chars text.now) }
-        ensures mode { OnOk result (self.new.inline ≡ inline_after N self.old.inline (utf8_len self.old.chars) (length text.now)) }
+        ensures mode { OnOk result
+            (self.new.inline ≡ inline_after N self.old.inline (utf8_len self.old.chars)
+            (length text.now)) }
         ensures err { OnErr result (self.new ≡ self.old) }
-        ensures free { OnErr result (inline_after N self.old.inline (utf8_len self.old.chars) (length text.now) ≡ false) }
+        ensures free { OnErr result (inline_after N self.old.inline (utf8_len self.old.chars)
+            (length text.now) ≡ false) }
     {
         match self.push_str(text) {
             Ok(()) => Ok(()),
@@ -43,7 +47,8 @@ impl<const N: usize> SmallText<N> {
     ///
     /// `eco_format!` calls it.
     pub fn format<T: Display + Drop>(alloc: Global, value: T) -> Result<Self, fmt::Error>
-        ensures text { IfOk result (λ made. IfSome (T.output value) (λ bytes. encode_utf8_all made.chars ≡ bytes)) }
+        ensures text { IfOk result
+            (λ made. IfSome (T.output value) (λ bytes. encode_utf8_all made.chars ≡ bytes)) }
         ensures mode { IfOk result (λ made. made.inline ≡ inline_for N (utf8_len made.chars)) }
     {
         let mut made = Self::new(alloc);
@@ -60,7 +65,8 @@ pub trait ToEcoString: Display {
     /// error is the value's own, or tells that there was no memory for the text or that it passes
     /// 2^63 - 1 bytes.
     fn to_eco_string(&self, alloc: Global) -> Result<EcoString, fmt::Error>
-        ensures text { IfOk result (λ made. IfSome (Self.output self.now) (λ bytes. encode_utf8_all made.chars ≡ bytes)) }
+        ensures text { IfOk result
+            (λ made. IfSome (Self.output self.now) (λ bytes. encode_utf8_all made.chars ≡ bytes)) }
         ensures mode { IfOk result (λ made. made.inline ≡ inline_for 15 (utf8_len made.chars)) };
 }
 

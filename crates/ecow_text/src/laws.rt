@@ -79,15 +79,21 @@ impl<const N: usize> fmt::Debug for SmallText<N> {
 pub fn texts_are_their_bytes()
     ensures passes { (held : PlainBytes) → IsUtf8 held.bytes → is_utf8 held.bytes ≡ true }
     ensures is { (held : PlainBytes) → is_utf8 held.bytes ≡ true → IsUtf8 held.bytes }
-    ensures kept { (held : PlainBytes) → is_utf8 held.bytes ≡ true → bytes_of (text_of held) ≡ held }
-    ensures valid { (held : PlainBytes) → is_utf8 held.bytes ≡ true → AreChars (text_of held).chars }
-    ensures again_passes { (text : PlainText) → AreChars text.chars → is_utf8 (bytes_of text).bytes ≡ true }
+    ensures kept { (held : PlainBytes) → is_utf8 held.bytes ≡ true
+        → bytes_of (text_of held) ≡ held }
+    ensures valid { (held : PlainBytes) → is_utf8 held.bytes ≡ true
+        → AreChars (text_of held).chars }
+    ensures again_passes { (text : PlainText) → AreChars text.chars
+        → is_utf8 (bytes_of text).bytes ≡ true }
     ensures again { (text : PlainText) → AreChars text.chars → text_of (bytes_of text) ≡ text }
 {}
 
 /// Texts are equal exactly where they have the same characters. A text has Unicode scalar values alone;
 /// the law holds at all numbers.
 pub fn equal_texts_have_the_same_characters()
-    ensures same { (t : PlainText) (u : PlainText) → pointwise nat_eq (encode_utf8_all t.chars) (encode_utf8_all u.chars) ≡ true → t.chars ≡ u.chars }
-    ensures equal { (t : PlainText) (u : PlainText) → t.chars ≡ u.chars → pointwise nat_eq (encode_utf8_all t.chars) (encode_utf8_all u.chars) ≡ true }
+    ensures same { (t : PlainText) (u : PlainText)
+        → pointwise nat_eq (encode_utf8_all t.chars) (encode_utf8_all u.chars) ≡ true
+        → t.chars ≡ u.chars }
+    ensures equal { (t : PlainText) (u : PlainText) → t.chars ≡ u.chars
+        → pointwise nat_eq (encode_utf8_all t.chars) (encode_utf8_all u.chars) ≡ true }
 {}

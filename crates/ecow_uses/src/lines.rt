@@ -7,7 +7,8 @@ use ecow_list::{EcoError, EcoVec};
 /// Appends a line. What the lines say stays. A refusal changes nothing.
 #[tactic(auto, using(crate::proofs::Said::pushed))]
 pub fn append(lines: &mut EcoVec<String>, line: String) -> Result<(), EcoError>
-    ensures ok { OnOk result (map string_bytes lines.new ≡ map string_bytes lines.old ++ string_bytes line ∷ []) }
+    ensures ok { OnOk result (map string_bytes lines.new ≡ map string_bytes lines.old
+        ++ string_bytes line ∷ []) }
     ensures err { OnErr result (lines.new ≡ lines.old) }
 {
     lines.push(line)?;

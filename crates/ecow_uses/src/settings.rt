@@ -9,7 +9,8 @@ use ecow_model::{Name, Outcome, Refusal, VecCommand};
 
 /// What one setting of a version is; `None` where there is no such version or setting.
 pub fn value(settings: &Counted<u64>, version: Name, setting: usize) -> Option<u64>
-    ensures { result ≡ option_and_then (λ values. slice_get values setting) (list_of settings.now.names version) }
+    ensures { result ≡ option_and_then (λ values. slice_get values setting)
+        (list_of settings.now.names version) }
 {
     settings.get(version)?.get(setting).copied()
 }
@@ -19,7 +20,8 @@ pub fn value(settings: &Counted<u64>, version: Name, setting: usize) -> Option<u
 #[tactic(auto, using(ecow_laws::proofs::CallerLemmas::share_reads))]
 pub fn fork(settings: &mut Counted<u64>, from: Name, to: Name) -> Result<(), Refusal>
     ensures reads { OnOk result (list_of settings.new.names to ≡ list_of settings.old.names from) }
-    ensures others { (version : ℕ) → version ≢ to → list_of settings.new.names version ≡ list_of settings.old.names version }
+    ensures others { (version : ℕ) → version ≢ to → list_of settings.new.names version
+        ≡ list_of settings.old.names version }
     ensures copied { settings.new.copied ≡ settings.old.copied }
     ensures moved { settings.new.moved ≡ settings.old.moved }
     ensures err { OnErr result (settings.new ≡ settings.old) }
@@ -39,8 +41,11 @@ pub fn set(
     setting: usize,
     value: u64,
 ) -> Result<(), Refusal>
-    ensures sets { OnOk result (list_of settings.new.names version ≡ option_map (λ values. slice_set values setting value) (list_of settings.old.names version)) }
-    ensures others { (other : ℕ) → other ≢ version → list_of settings.new.names other ≡ list_of settings.old.names other }
+    ensures sets { OnOk result (list_of settings.new.names version
+        ≡ option_map (λ values. slice_set values setting value)
+        (list_of settings.old.names version)) }
+    ensures others { (other : ℕ) → other ≢ version
+        → list_of settings.new.names other ≡ list_of settings.old.names other }
     ensures err { OnErr result (settings.new ≡ settings.old) }
 {
     let command = VecCommand::Write {
@@ -65,7 +70,8 @@ pub fn try_out(
 ) -> Result<(), Refusal>
     requires { from ≢ to }
     ensures stays { list_of settings.new.names from ≡ list_of settings.old.names from }
-    ensures tried { OnOk result (list_of settings.new.names to ≡ option_map (λ values. slice_set values setting value) (list_of settings.old.names from)) }
+    ensures tried { OnOk result (list_of settings.new.names to
+        ≡ option_map (λ values. slice_set values setting value) (list_of settings.old.names from)) }
 {
     fork(settings, from, to)?;
     set(settings, to, setting, value)

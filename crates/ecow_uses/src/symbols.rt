@@ -45,7 +45,8 @@ impl Names {
     pub fn intern(&mut self, name: &str) -> Result<EcoString, EcoError>
         ensures text { IfOk result (λ symbol. symbol.chars ≡ chars name.now) }
         ensures there { IfOk result (λ symbol. Contains self.new symbol) }
-        ensures kept { IfOk result (λ symbol. (self.new ≡ self.old) ⊎ (self.new ≡ self.old ++ symbol ∷ [])) }
+        ensures kept { IfOk result (λ symbol. (self.new ≡ self.old)
+            ⊎ (self.new ≡ self.old ++ symbol ∷ [])) }
         ensures err { OnErr result (self.new ≡ self.old) }
     {
         for known in &self.names {
@@ -129,7 +130,9 @@ impl Scope {
     #[tactic(auto, using(crate::proofs::Meanings::bound, crate::proofs::Meanings::others))]
     pub fn bind(&mut self, name: EcoString, value: u64) -> Result<(), EcoError>
         ensures bound { OnOk result (meaning self.new (encode_utf8_all name.chars) ≡ Some value) }
-        ensures others { OnOk result ((other : List ℕ) → same_name (encode_utf8_all name.chars) other ≡ false → meaning self.new other ≡ meaning self.old other) }
+        ensures others { OnOk result ((other : List ℕ)
+            → same_name (encode_utf8_all name.chars) other ≡ false
+            → meaning self.new other ≡ meaning self.old other) }
         ensures err { OnErr result (self.new ≡ self.old) }
     {
         self.bindings.push(Binding { name, value })?;
@@ -145,7 +148,8 @@ pub fn shadow(
     value: u64,
 ) -> Result<(Option<u64>, Option<u64>), EcoError>
     ensures inside { IfOk result (λ seen. seen.0 ≡ Some value) }
-    ensures outside { IfOk result (λ seen. seen.1 ≡ meaning outer.now (encode_utf8_all name.now.chars)) }
+    ensures outside { IfOk result
+        (λ seen. seen.1 ≡ meaning outer.now (encode_utf8_all name.now.chars)) }
 {
     let mut inner = outer.inner()?;
     inner.bind(name.clone()?, value)?;

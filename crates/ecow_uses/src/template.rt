@@ -31,7 +31,8 @@ impl Clone for Piece {
 
 /// The pieces of a template; `None` where its last hole isn't closed.
 pub fn parse(alloc: Global, template: &str) -> Result<Option<EcoVec<Piece>>, EcoError>
-    ensures pieces { IfOk result (λ parsed. IfSome parsed (λ pieces. Spells pieces (chars template.now))) }
+    ensures pieces { IfOk result
+        (λ parsed. IfSome parsed (λ pieces. Spells pieces (chars template.now))) }
     ensures unclosed { IfOk result (λ parsed. IfNone parsed (IsUnclosed (chars template.now))) }
 {
     let mut pieces = EcoVec::new(alloc);
@@ -94,8 +95,11 @@ pub fn fill(
     values: &BTreeMap<EcoString, EcoString>,
 ) -> Result<Option<EcoString>, EcoError>
     ensures unclosed { IfOk result (λ text. IfNone text (IsUnclosed (chars template.now))) }
-    ensures filled { IfOk result (λ text. IfSome text (λ text. (pieces : List Piece) × Spells pieces (chars template.now) × (text.chars ≡ flat_map (filled values.now) pieces))) }
-    ensures no_hole { Lacks opening (chars template.now) → IfOk result (λ text. IsSomeAnd text (λ text. text.chars ≡ chars template.now)) }
+    ensures filled { IfOk result
+        (λ text. IfSome text (λ text. (pieces : List Piece) × Spells pieces (chars template.now)
+        × (text.chars ≡ flat_map (filled values.now) pieces))) }
+    ensures no_hole { Lacks opening (chars template.now)
+        → IfOk result (λ text. IsSomeAnd text (λ text. text.chars ≡ chars template.now)) }
 {
     match parse(alloc, template)? {
         Some(pieces) => Ok(Some(render(alloc, &pieces, values)?)),

@@ -60,14 +60,16 @@ impl Node {
 
     /// The child at `index`, if there is one.
     pub fn child(&self, index: usize) -> Option<&Node>
-        ensures { MatchOption result (slice_get (children_of self.now) index ≡ None) (λ child. slice_get (children_of self.now) index ≡ Some child.now) }
+        ensures { MatchOption result (slice_get (children_of self.now) index ≡ None)
+            (λ child. slice_get (children_of self.now) index ≡ Some child.now) }
     {
         self.children.as_slice().get(index)
     }
 
     /// The node that the path leads to, if there is one.
     pub fn at(&self, path: &[usize]) -> Option<&Node>
-        ensures { MatchOption result (node_at self.now path.now ≡ None) (λ node. node_at self.now path.now ≡ Some node.now) }
+        ensures { MatchOption result (node_at self.now path.now ≡ None)
+            (λ node. node_at self.now path.now ≡ Some node.now) }
     {
         match path {
             [] => Some(self),
@@ -96,7 +98,8 @@ impl Node {
     pub fn rename_child(&mut self, index: usize, name: EcoString) -> Result<(), EcoError>
         requires { index < length (children_of self.old) }
         ensures name { name_of self.new ≡ name_of self.old }
-        ensures ok { OnOk result (IsRenamed index name.chars (children_of self.old) (children_of self.new)) }
+        ensures ok { OnOk result
+            (IsRenamed index name.chars (children_of self.old) (children_of self.new)) }
         ensures unchanged { OnErr result (self.new ≡ self.old) }
     {
         self.children.update(index, |child| child.name = name)
@@ -106,7 +109,8 @@ impl Node {
     fn with_child(&self, index: usize, child: Node) -> Result<Node, EcoError>
         requires { index < length (children_of self.now) }
         ensures name { IfOk result (λ tree. name_of tree ≡ name_of self.now) }
-        ensures children { IfOk result (λ tree. children_of tree ≡ slice_set (children_of self.now) index child) }
+        ensures children { IfOk result (λ tree. children_of tree
+            ≡ slice_set (children_of self.now) index child) }
     {
         let mut tree = self.clone()?;
         tree.children.set(index, child)?;
@@ -116,7 +120,8 @@ impl Node {
     /// The tree with `node` at the end of the path; `None` where the path leads to no node. This tree
     /// stays as it is, and both share every vector that isn't on the path.
     pub fn replaced(&self, path: &[usize], node: Node) -> Result<Option<Node>, EcoError>
-        ensures replaced { IfOk result (λ found. IfSome found (λ tree. IsReplaced path.now node self.now tree)) }
+        ensures replaced { IfOk result
+            (λ found. IfSome found (λ tree. IsReplaced path.now node self.now tree)) }
         ensures there { IfOk result (λ found. IsSome found ↔ IsSome (node_at self.now path.now)) }
     {
         match path {
@@ -142,7 +147,8 @@ pub fn replace_and_keep(
     node: Node,
 ) -> Result<Option<(Node, Node)>, EcoError>
     ensures kept { IfOk result (λ found. IfSome found (λ trees. trees.0 ≡ tree.now)) }
-    ensures there { IfOk result (λ found. IfSome found (λ trees. node_at trees.1 path.now ≡ Some node)) }
+    ensures there { IfOk result
+        (λ found. IfSome found (λ trees. node_at trees.1 path.now ≡ Some node)) }
     ensures elsewhere { IfOk result (λ found. IfSome found
         (λ trees. (other : List ℕ) → IsApart path.now other → node_at trees.1 other ≡ node_at tree.now other)) }
 {

@@ -102,7 +102,8 @@ impl History {
     /// Takes the last edit back: `false` where there is none. A refusal changes nothing.
     pub fn undo(&mut self) -> Result<bool, AllocError>
         ensures undone { IfOk result (λ done. done ≡ true → IsUndone self.old self.new) }
-        ensures nothing { IfOk result (λ done. done ≡ false → (self.old.past ≡ []) × (self.new ≡ self.old)) }
+        ensures nothing { IfOk result (λ done. done ≡ false → (self.old.past ≡ [])
+            × (self.new ≡ self.old)) }
         ensures err { OnErr result (self.new ≡ self.old) }
     {
         if self.past.is_empty() {
@@ -120,7 +121,8 @@ impl History {
     /// nothing.
     pub fn redo(&mut self) -> Result<bool, AllocError>
         ensures redone { IfOk result (λ done. done ≡ true → IsUndone self.new self.old) }
-        ensures nothing { IfOk result (λ done. done ≡ false → (self.old.future ≡ []) × (self.new ≡ self.old)) }
+        ensures nothing { IfOk result (λ done. done ≡ false → (self.old.future ≡ [])
+            × (self.new ≡ self.old)) }
         ensures err { OnErr result (self.new ≡ self.old) }
     {
         if self.future.is_empty() {

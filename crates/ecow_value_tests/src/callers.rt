@@ -10,7 +10,8 @@ use std::test::Fail;
 
 /// The elements of `list` and one more, in a vector of their own.
 fn with_last<T: Clone>(list: &EcoVec<T>, last: T) -> Result<EcoVec<T>, EcoError>
-    ensures items { ClonesAreEqual T.is_clone → IfOk result (λ longer. longer ≡ list.now ++ last ∷ []) }
+    ensures items { ClonesAreEqual T.is_clone
+        → IfOk result (λ longer. longer ≡ list.now ++ last ∷ []) }
     ensures len { IfOk result (λ longer. length longer ≡ length list.now + 1) }
 {
     let mut longer = list.clone()?;

@@ -90,20 +90,30 @@ pub fn filling()
 
 /// A command that must grow or copy may lack memory, and then changes nothing.
 pub fn wanting_memory()
-    ensures a_push_into_a_full_block_may_lack_memory { CountedStep four_of_four (Push 0 5) (Refused Memory) four_of_four }
-    ensures it_then_changes_nothing { (new : Names ℕ) → CountedStep four_of_four (Push 0 5) (Refused Memory) new → new ≡ four_of_four }
-    ensures an_extend_past_the_capacity_may_lack_memory { CountedStep three_of_four (Extend 0 (4 ∷ 5 ∷ 6 ∷ [])) (Refused Memory) three_of_four }
-    ensures a_truncate_by_a_shared_name_may_lack_memory { CountedStep shared_block (Truncate 1 2) (Refused Memory) shared_block }
-    ensures a_push_by_a_shared_name_may_lack_memory { CountedStep shared_block (Push 1 4) (Refused Memory) shared_block }
+    ensures a_push_into_a_full_block_may_lack_memory { CountedStep four_of_four (Push 0 5)
+        (Refused Memory) four_of_four }
+    ensures it_then_changes_nothing { (new : Names ℕ)
+        → CountedStep four_of_four (Push 0 5) (Refused Memory) new → new ≡ four_of_four }
+    ensures an_extend_past_the_capacity_may_lack_memory { CountedStep three_of_four
+        (Extend 0 (4 ∷ 5 ∷ 6 ∷ [])) (Refused Memory) three_of_four }
+    ensures a_truncate_by_a_shared_name_may_lack_memory { CountedStep shared_block (Truncate 1 2)
+        (Refused Memory) shared_block }
+    ensures a_push_by_a_shared_name_may_lack_memory { CountedStep shared_block (Push 1 4)
+        (Refused Memory) shared_block }
 {}
 
 /// A command that has its room never lacks memory.
 pub fn free_of_memory()
-    ensures a_push_within_the_capacity { (new : Names ℕ) → ¬ (CountedStep three_of_four (Push 0 4) (Refused Memory) new) }
-    ensures a_clear_of_a_shared_name { (new : Names ℕ) → ¬ (CountedStep shared_block (Clear 0) (Refused Memory) new) }
-    ensures a_reserve_within_the_capacity { counted_is_free three_of_four (vec_usage (Reserve 0 1)) ≡ true }
-    ensures a_write_by_a_sole_name { counted_is_free three_of_four (vec_usage (Write 0 1 9)) ≡ true }
-    ensures a_retain_by_a_sole_name { counted_is_free three_of_four (vec_usage (Retain 0 (true ∷ false ∷ true ∷ []))) ≡ true }
+    ensures a_push_within_the_capacity { (new : Names ℕ)
+        → ¬ (CountedStep three_of_four (Push 0 4) (Refused Memory) new) }
+    ensures a_clear_of_a_shared_name { (new : Names ℕ)
+        → ¬ (CountedStep shared_block (Clear 0) (Refused Memory) new) }
+    ensures a_reserve_within_the_capacity { counted_is_free three_of_four (vec_usage (Reserve 0 1))
+        ≡ true }
+    ensures a_write_by_a_sole_name { counted_is_free three_of_four (vec_usage (Write 0 1 9))
+        ≡ true }
+    ensures a_retain_by_a_sole_name { counted_is_free three_of_four
+        (vec_usage (Retain 0 (true ∷ false ∷ true ∷ []))) ≡ true }
     ensures a_pop_by_a_sole_name { counted_is_free three_of_four (vec_usage (Pop 0)) ≡ true }
     ensures no_pop_by_a_shared_name { counted_is_free shared_block (vec_usage (Pop 0)) ≡ false }
 {}

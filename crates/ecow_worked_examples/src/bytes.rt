@@ -37,7 +37,9 @@ pub fn limits()
 pub fn free_of_memory()
     ensures the_fifteenth_push { bytes_edit_is_free 15 (Push 7) (bytes_of_number 14 true) ≡ true }
     ensures not_the_sixteenth { bytes_edit_is_free 15 (Push 7) (bytes_of_number 15 true) ≡ false }
-    ensures a_reserve_of_nothing { bytes_edit_is_free 15 (Reserve 0) (bytes_of_number 15 true) ≡ true }
+    ensures a_reserve_of_nothing { bytes_edit_is_free 15 (Reserve 0) (bytes_of_number 15 true)
+        ≡ true }
     ensures a_pop { bytes_edit_is_free 15 Pop (bytes_of_number 15 true) ≡ true }
-    ensures no_push_of_spilled_bytes { bytes_edit_is_free 15 (Push 7) (bytes_of_number 1 false) ≡ false }
+    ensures no_push_of_spilled_bytes { bytes_edit_is_free 15 (Push 7) (bytes_of_number 1 false)
+        ≡ false }
 {}

@@ -46,8 +46,10 @@ pub fn drained_ranges()
 
 /// The same list, drained by bounds that are no range of it.
 pub fn refused_ranges()
-    ensures to_the_greatest { drained (Included 0) (Included 18446744073709551615) ≡ Done ∷ Refused Range ∷ [] }
-    ensures after_the_greatest { drained (Excluded 18446744073709551615) Unbounded ≡ Done ∷ Refused Range ∷ [] }
+    ensures to_the_greatest { drained (Included 0) (Included 18446744073709551615)
+        ≡ Done ∷ Refused Range ∷ [] }
+    ensures after_the_greatest { drained (Excluded 18446744073709551615) Unbounded
+        ≡ Done ∷ Refused Range ∷ [] }
     ensures from_past_the_end { drained (Included 4) Unbounded ≡ Done ∷ Refused Range ∷ [] }
     ensures to_past_the_end { drained Unbounded (Excluded 4) ≡ Done ∷ Refused Range ∷ [] }
     ensures backwards { drained (Included 2) (Excluded 1) ≡ Done ∷ Refused Range ∷ [] }
@@ -57,6 +59,8 @@ pub fn refused_ranges()
 /// A command may lack memory, and then changes nothing, unless it is one that takes none.
 pub fn memory()
     ensures a_push_may_lack_memory { IsVecStep one_list (Push 0 4) (Refused Memory) one_list }
-    ensures it_then_changes_nothing { (new : State ℕ) → IsVecStep one_list (Push 0 4) (Refused Memory) new → new ≡ one_list }
-    ensures a_clear_never_lacks_memory { (new : State ℕ) → ¬ (IsVecStep one_list (Clear 0) (Refused Memory) new) }
+    ensures it_then_changes_nothing { (new : State ℕ)
+        → IsVecStep one_list (Push 0 4) (Refused Memory) new → new ≡ one_list }
+    ensures a_clear_never_lacks_memory { (new : State ℕ)
+        → ¬ (IsVecStep one_list (Clear 0) (Refused Memory) new) }
 {}

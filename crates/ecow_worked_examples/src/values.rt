@@ -36,7 +36,8 @@ pub fn ranges_of_nothing()
 pub fn replaced_patterns()
     ensures leftmost_first { replaced_all (codes "aa") (codes "b") (codes "aaa") ≡ codes "ba" }
     ensures at_the_end { replaced_all (codes "a") [] (233 ∷ 97 ∷ []) ≡ 233 ∷ [] }
-    ensures each_occurrence { replaced_all (128512 ∷ []) (codes "ab") (128512 ∷ 128512 ∷ []) ≡ codes "abab" }
+    ensures each_occurrence { replaced_all (128512 ∷ []) (codes "ab") (128512 ∷ 128512 ∷ [])
+        ≡ codes "abab" }
     ensures all_of_it { replaced_all (codes "abc") [] (codes "abc") ≡ [] }
 {}
 
@@ -46,38 +47,55 @@ pub fn replaced_boundaries()
     ensures all { replaced_all [] (codes "-") (codes "ab") ≡ codes "-a-b-" }
     ensures two { replaced 2 [] (codes "-") (codes "ab") ≡ codes "-a-b" }
     ensures none { replaced 0 [] (codes "-") (codes "ab") ≡ codes "ab" }
-    ensures of_long_characters { replaced_all [] (codes "-") (97 ∷ 128512 ∷ []) ≡ 45 ∷ 97 ∷ 45 ∷ 128512 ∷ 45 ∷ [] }
+    ensures of_long_characters { replaced_all [] (codes "-") (97 ∷ 128512 ∷ [])
+        ≡ 45 ∷ 97 ∷ 45 ∷ 128512 ∷ 45 ∷ [] }
     ensures of_nothing { replaced_all [] (codes "-") [] ≡ codes "-" }
 {}
 
 /// Bytes that are no UTF-8: a byte that begins nothing, an overlong form, a surrogate, a number
 /// past the greatest, a form that is cut, and a byte that only goes on.
 pub fn bytes_that_are_not_utf8()
-    ensures no_beginning { text_derived {T = ℕ} 15 FromBytes (Buffered (plain_bytes (255 ∷ []) true)) ≡ Err NotUtf8 }
-    ensures overlong { text_derived {T = ℕ} 15 FromBytes (Buffered (plain_bytes (192 ∷ 128 ∷ []) true)) ≡ Err NotUtf8 }
-    ensures surrogate { text_derived {T = ℕ} 15 FromBytes (Buffered (plain_bytes (237 ∷ 160 ∷ 128 ∷ []) true)) ≡ Err NotUtf8 }
-    ensures past_the_greatest { text_derived {T = ℕ} 15 FromBytes (Buffered (plain_bytes (244 ∷ 144 ∷ 128 ∷ 128 ∷ []) true)) ≡ Err NotUtf8 }
-    ensures cut { text_derived {T = ℕ} 15 FromBytes (Buffered (plain_bytes (226 ∷ 130 ∷ []) true)) ≡ Err NotUtf8 }
-    ensures going_on { text_derived {T = ℕ} 15 FromBytes (Buffered (plain_bytes (128 ∷ []) true)) ≡ Err NotUtf8 }
+    ensures no_beginning { text_derived {T = ℕ} 15 FromBytes
+        (Buffered (plain_bytes (255 ∷ []) true)) ≡ Err NotUtf8 }
+    ensures overlong { text_derived {T = ℕ} 15 FromBytes
+        (Buffered (plain_bytes (192 ∷ 128 ∷ []) true)) ≡ Err NotUtf8 }
+    ensures surrogate { text_derived {T = ℕ} 15 FromBytes
+        (Buffered (plain_bytes (237 ∷ 160 ∷ 128 ∷ []) true)) ≡ Err NotUtf8 }
+    ensures past_the_greatest { text_derived {T = ℕ} 15 FromBytes
+        (Buffered (plain_bytes (244 ∷ 144 ∷ 128 ∷ 128 ∷ []) true)) ≡ Err NotUtf8 }
+    ensures cut { text_derived {T = ℕ} 15 FromBytes (Buffered (plain_bytes (226 ∷ 130 ∷ []) true))
+        ≡ Err NotUtf8 }
+    ensures going_on { text_derived {T = ℕ} 15 FromBytes (Buffered (plain_bytes (128 ∷ []) true))
+        ≡ Err NotUtf8 }
 {}
 
 /// Bytes that are UTF-8, the greatest character and none among them, in the mode of the bytes.
 pub fn bytes_that_are_utf8()
-    ensures four_bytes { text_derived {T = ℕ} 15 FromBytes (Buffered (plain_bytes (240 ∷ 159 ∷ 152 ∷ 128 ∷ []) true)) ≡ Ok (plain_text (128512 ∷ []) true) }
-    ensures the_greatest { text_derived {T = ℕ} 15 FromBytes (Buffered (plain_bytes (244 ∷ 143 ∷ 191 ∷ 191 ∷ []) false)) ≡ Ok (plain_text (1114111 ∷ []) false) }
-    ensures nothing { text_derived {T = ℕ} 15 FromBytes (Buffered (plain_bytes [] true)) ≡ Ok (plain_text [] true) }
+    ensures four_bytes { text_derived {T = ℕ} 15 FromBytes
+        (Buffered (plain_bytes (240 ∷ 159 ∷ 152 ∷ 128 ∷ []) true))
+        ≡ Ok (plain_text (128512 ∷ []) true) }
+    ensures the_greatest { text_derived {T = ℕ} 15 FromBytes
+        (Buffered (plain_bytes (244 ∷ 143 ∷ 191 ∷ 191 ∷ []) false))
+        ≡ Ok (plain_text (1114111 ∷ []) false) }
+    ensures nothing { text_derived {T = ℕ} 15 FromBytes (Buffered (plain_bytes [] true))
+        ≡ Ok (plain_text [] true) }
 {}
 
 /// The greatest length and capacity is allowed, and the next is refused.
 pub fn greatest_length()
     ensures itself { allowed 9223372036854775807 ≡ Ok tt }
     ensures the_next { allowed 9223372036854775808 ≡ Err Capacity }
-    ensures repeated_bytes_past_it { bytes_derived {T = ℕ} 15 (RepeatBytes 9223372036854775808) (Buffered (plain_bytes (codes "ab") true)) ≡ Err Capacity }
+    ensures repeated_bytes_past_it { bytes_derived {T = ℕ} 15 (RepeatBytes 9223372036854775808)
+        (Buffered (plain_bytes (codes "ab") true)) ≡ Err Capacity }
     ensures copies_past_it { list_made {T = ℕ} (FromElem 7 9223372036854775808) ≡ Err Capacity }
 {}
 
 /// Nothing, however often it is repeated, is inline under every limit.
 pub fn repeated_nothing()
-    ensures bytes { (limit n : ℕ) → bytes_derived {T = ℕ} limit (RepeatBytes n) (Buffered (plain_bytes [] false)) ≡ Ok (plain_bytes [] true) }
-    ensures text { (limit n : ℕ) → text_derived {T = ℕ} limit (RepeatText n) (Written (plain_text [] false)) ≡ Ok (plain_text [] true) }
+    ensures bytes { (limit n : ℕ)
+        → bytes_derived {T = ℕ} limit (RepeatBytes n) (Buffered (plain_bytes [] false))
+        ≡ Ok (plain_bytes [] true) }
+    ensures text { (limit n : ℕ)
+        → text_derived {T = ℕ} limit (RepeatText n) (Written (plain_text [] false))
+        ≡ Ok (plain_text [] true) }
 {}

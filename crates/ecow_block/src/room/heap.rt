@@ -15,7 +15,8 @@ pub(crate) fn make<T, A: Allocator>(
     capacity: usize,
 ) -> Result<(Base<T>, Room<T>, Deed<T, A>), AllocError>
     requires { FitsInBlock T.row capacity × (has_bytes T.row capacity ≡ true) }
-    ensures { IfOk result (λ r. IsWhole r.0 r.1 r.2 alloc.now × (r.1.items ≡ []) × (r.1.capacity ≡ capacity)) }
+    ensures { IfOk result (λ r. IsWhole r.0 r.1 r.2 alloc.now × (r.1.items ≡ [])
+        × (r.1.capacity ≡ capacity)) }
 {
     match alloc.allocate(capacity * size_of::<T>(), align_of::<T>()) {
         Ok(block) => {
@@ -34,7 +35,8 @@ pub(crate) fn nowhere<T, A: Allocator>(
     _capacity: usize,
 ) -> (Base<T>, Room<T>, Deed<T, A>)
     requires { FitsInBlock T.row _capacity × (has_bytes T.row _capacity ≡ false) }
-    ensures { IsWhole result.0 result.1 result.2 _alloc.now × (result.1.items ≡ []) × (result.1.capacity ≡ _capacity) }
+    ensures { IsWhole result.0 result.1 result.2 _alloc.now × (result.1.items ≡ [])
+        × (result.1.capacity ≡ _capacity) }
 {
     let none: [T; 0] = [];
     let base = Base {
@@ -73,10 +75,12 @@ pub(crate) fn grow<T, A: Allocator>(
     room: &mut Room<T>,
     deed: &mut Deed<T, A>,
 ) -> Result<Base<T>, AllocError>
-    requires block { IsWhole base room.old deed.old alloc.now × (len ≡ length room.old.items) × (capacity ≡ room.old.capacity) × (has_bytes T.row capacity ≡ true) }
+    requires block { IsWhole base room.old deed.old alloc.now × (len ≡ length room.old.items)
+        × (capacity ≡ room.old.capacity) × (has_bytes T.row capacity ≡ true) }
     requires larger { (capacity ≤ new_capacity) × FitsInBlock T.row new_capacity }
     ensures items { room.new.items ≡ room.old.items }
-    ensures block { MatchResult result (λ b. IsWhole b room.new deed.new alloc.now × (room.new.capacity ≡ new_capacity)) (λ _. (room.new ≡ room.old) × (deed.new ≡ deed.old)) }
+    ensures block { MatchResult result (λ b. IsWhole b room.new deed.new alloc.now
+        × (room.new.capacity ≡ new_capacity)) (λ _. (room.new ≡ room.old) × (deed.new ≡ deed.old)) }
 {
     match unsafe { alloc.grow(base.ptr, len, capacity, new_capacity) } {
         Ok(ptr) => Ok(Base { ptr }),

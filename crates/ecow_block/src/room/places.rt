@@ -17,7 +17,8 @@ impl<T> Room<T> {
 
     /// Puts an item into the first empty place, numbered `at`.
     pub(crate) fn put(&mut self, base: Base<T>, at: usize, item: T)
-        requires { (base.ptr ≡ self.old.at) × (at ≡ self.old.start + length self.old.items) × (length self.old.items < self.old.capacity) }
+        requires { (base.ptr ≡ self.old.at) × (at ≡ self.old.start + length self.old.items)
+            × (length self.old.items < self.old.capacity) }
         ensures items { self.new.items ≡ self.old.items ++ item ∷ [] }
         ensures places { SamePlaces self.old self.new }
     {
@@ -26,7 +27,8 @@ impl<T> Room<T> {
 
     /// The same of an item as an array of one, which the compiler moves as memory, and not part by part.
     pub(crate) fn put_one(&mut self, base: Base<T>, at: usize, item: [T; 1])
-        requires { (base.ptr ≡ self.old.at) × (at ≡ self.old.start + length self.old.items) × (length self.old.items < self.old.capacity) }
+        requires { (base.ptr ≡ self.old.at) × (at ≡ self.old.start + length self.old.items)
+            × (length self.old.items < self.old.capacity) }
         ensures items { self.new.items ≡ self.old.items ++ item }
         ensures places { SamePlaces self.old self.new }
     {
@@ -35,7 +37,8 @@ impl<T> Room<T> {
 
     /// Puts items into the first empty places, of which the first is numbered `at`.
     pub(crate) fn put_chunk(&mut self, base: Base<T>, at: usize, items: [T; CHUNK])
-        requires { (base.ptr ≡ self.old.at) × (at ≡ self.old.start + length self.old.items) × (length self.old.items + CHUNK ≤ self.old.capacity) }
+        requires { (base.ptr ≡ self.old.at) × (at ≡ self.old.start + length self.old.items)
+            × (length self.old.items + CHUNK ≤ self.old.capacity) }
         ensures items { self.new.items ≡ self.old.items ++ items }
         ensures places { SamePlaces self.old self.new }
     {
@@ -53,16 +56,21 @@ impl<T> Room<T> {
         other_base: Base<T>,
         to: usize,
     )
-        requires { (base.ptr ≡ self.old.at) × (from ≡ self.old.start) × (count ≡ length self.old.items) × (other_base.ptr ≡ other.old.at) × (to ≡ other.old.start + length other.old.items) × (length other.old.items + count ≤ other.old.capacity) }
+        requires { (base.ptr ≡ self.old.at) × (from ≡ self.old.start)
+            × (count ≡ length self.old.items) × (other_base.ptr ≡ other.old.at)
+            × (to ≡ other.old.start + length other.old.items)
+            × (length other.old.items + count ≤ other.old.capacity) }
         ensures left { (self.new.items ≡ []) × SamePlaces self.old self.new }
-        ensures moved { (other.new.items ≡ other.old.items ++ self.old.items) × SamePlaces other.old other.new }
+        ensures moved { (other.new.items ≡ other.old.items ++ self.old.items)
+            × SamePlaces other.old other.new }
     {
         unsafe { copy_nonoverlapping(base.ptr.add(from), other_base.ptr.add(to), count) }
     }
 
     /// Takes the last item, from the place numbered `at`.
     pub(crate) fn take_last(&mut self, base: Base<T>, at: usize) -> T
-        requires { (base.ptr ≡ self.old.at) × (at + 1 ≡ self.old.start + length self.old.items) × (0 < length self.old.items) }
+        requires { (base.ptr ≡ self.old.at) × (at + 1 ≡ self.old.start + length self.old.items)
+            × (0 < length self.old.items) }
         ensures items { self.old.items ≡ self.new.items ++ result ∷ [] }
         ensures places { SamePlaces self.old self.new }
     {
@@ -71,7 +79,8 @@ impl<T> Room<T> {
 
     /// The same as an array of one, for a move of memory.
     pub(crate) fn take_last_one(&mut self, base: Base<T>, at: usize) -> [T; 1]
-        requires { (base.ptr ≡ self.old.at) × (at + 1 ≡ self.old.start + length self.old.items) × (0 < length self.old.items) }
+        requires { (base.ptr ≡ self.old.at) × (at + 1 ≡ self.old.start + length self.old.items)
+            × (0 < length self.old.items) }
         ensures items { self.old.items ≡ self.new.items ++ result }
         ensures one { length result ≡ 1 }
         ensures places { SamePlaces self.old self.new }
@@ -81,7 +90,8 @@ impl<T> Room<T> {
 
     /// The items, of which there are `len`, from the place numbered `start` on.
     pub(crate) fn as_slice(&self, base: Base<T>, start: usize, len: usize) -> &[T]
-        requires { (base.ptr ≡ self.now.at) × (start ≡ self.now.start) × (len ≡ length self.now.items) }
+        requires { (base.ptr ≡ self.now.at) × (start ≡ self.now.start)
+            × (len ≡ length self.now.items) }
         ensures { result.now ≡ self.now.items }
     {
         unsafe { slice::from_raw_parts(base.ptr.add(start), len) }
@@ -89,7 +99,8 @@ impl<T> Room<T> {
 
     /// The same, for writing.
     pub(crate) fn as_mut_slice(&mut self, base: Base<T>, start: usize, len: usize) -> &mut [T]
-        requires { (base.ptr ≡ self.old.at) × (start ≡ self.old.start) × (len ≡ length self.old.items) }
+        requires { (base.ptr ≡ self.old.at) × (start ≡ self.old.start)
+            × (len ≡ length self.old.items) }
         ensures* writes_back { sem 𝓛 (lends_items T.row self.entry result) }
         ensures value { result.now ≡ self.old.items }
     {
@@ -99,9 +110,11 @@ impl<T> Room<T> {
     /// Cuts off all places but the first `count`.
     pub(crate) fn split_off(&mut self, _count: usize) -> Room<T>
         requires { _count ≤ self.old.capacity }
-        ensures places { (self.new.at ≡ self.old.at) × (self.new.start ≡ self.old.start) × (self.new.capacity ≡ _count) }
+        ensures places { (self.new.at ≡ self.old.at) × (self.new.start ≡ self.old.start)
+            × (self.new.capacity ≡ _count) }
         ensures items { self.new.items ≡ take _count self.old.items }
-        ensures rest { (result.at ≡ self.old.at) × (result.start ≡ self.old.start + _count) × (result.capacity + _count ≡ self.old.capacity) }
+        ensures rest { (result.at ≡ self.old.at) × (result.start ≡ self.old.start + _count)
+            × (result.capacity + _count ≡ self.old.capacity) }
         ensures rest_items { result.items ≡ drop _count self.old.items }
     {
         Room { mark: PhantomData }
@@ -111,7 +124,8 @@ impl<T> Room<T> {
     pub(crate) fn append(&mut self, rest: Room<T>)
         requires { Follows self.old rest × (length self.old.items ≡ self.old.capacity) }
         ensures items { self.new.items ≡ self.old.items ++ rest.items }
-        ensures places { (self.new.at ≡ self.old.at) × (self.new.start ≡ self.old.start) × (self.new.capacity ≡ self.old.capacity + rest.capacity) }
+        ensures places { (self.new.at ≡ self.old.at) × (self.new.start ≡ self.old.start)
+            × (self.new.capacity ≡ self.old.capacity + rest.capacity) }
     {
         let Room { mark: _ } = rest;
     }
@@ -120,7 +134,8 @@ impl<T> Room<T> {
     pub(crate) fn widen(&mut self, spare: Room<T>)
         requires { Follows self.old spare × (spare.items ≡ []) }
         ensures items { self.new.items ≡ self.old.items }
-        ensures places { (self.new.at ≡ self.old.at) × (self.new.start ≡ self.old.start) × (self.new.capacity ≡ self.old.capacity + spare.capacity) }
+        ensures places { (self.new.at ≡ self.old.at) × (self.new.start ≡ self.old.start)
+            × (self.new.capacity ≡ self.old.capacity + spare.capacity) }
     {
         let Room { mark: _ } = spare;
     }
@@ -128,9 +143,11 @@ impl<T> Room<T> {
     /// Empty places, the first of them numbered `at`, as slots. There are as many as `like` has items, which stand for what they
     /// hold.
     pub(crate) fn into_slots(self, base: Base<T>, at: usize, like: &[T]) -> Slots<T>
-        requires { (base.ptr ≡ self.at) × (at ≡ self.start) × (self.items ≡ []) × (self.capacity ≡ length like.now) }
+        requires { (base.ptr ≡ self.at) × (at ≡ self.start) × (self.items ≡ [])
+            × (self.capacity ≡ length like.now) }
         ensures items { (slots_items result ≡ like.now) × (slots_len result ≡ length like.now) }
-        ensures places { (slots_ptr result ≡ place T.row base.ptr at) × ((at + slots_len result) * type_size T.row < 2 ^ 63) }
+        ensures places { (slots_ptr result ≡ place T.row base.ptr at)
+            × ((at + slots_len result) * type_size T.row < 2 ^ 63) }
     {
         let Room { mark: _ } = self;
         unsafe { Slots::from_raw_parts(base.ptr.add(at), like.len()) }
@@ -138,9 +155,11 @@ impl<T> Room<T> {
 
     /// The same places again, once all of them are filled.
     pub(crate) fn of_slots(slots: Slots<T>, _base: Base<T>, _at: usize) -> Room<T>
-        requires { (slots_ptr slots ≡ place T.row _base.ptr _at) × ((_at + slots_len slots) * type_size T.row < 2 ^ 63) × IsFull slots }
+        requires { (slots_ptr slots ≡ place T.row _base.ptr _at)
+            × ((_at + slots_len slots) * type_size T.row < 2 ^ 63) × IsFull slots }
         ensures items { result.items ≡ slots_items slots }
-        ensures places { (result.at ≡ _base.ptr) × (result.start ≡ _at) × (result.capacity ≡ slots_len slots) }
+        ensures places { (result.at ≡ _base.ptr) × (result.start ≡ _at)
+            × (result.capacity ≡ slots_len slots) }
     {
         let _parts = unsafe { slots.into_raw_parts() };
         Room { mark: PhantomData }
@@ -151,7 +170,9 @@ impl<T> Room<T> {
     pub(crate) fn begin_here(&mut self, base: Base<T>, start: usize) -> Base<T>
         requires { (base.ptr ≡ self.old.at) × (start ≡ self.old.start) }
         ensures items { self.new.items ≡ self.old.items }
-        ensures places { (result.ptr ≡ place T.row base.ptr start) × (self.new.at ≡ result.ptr) × (self.new.start ≡ 0) × (self.new.capacity ≡ self.old.capacity) × ((start + self.old.capacity) * type_size T.row < 2 ^ 63) }
+        ensures places { (result.ptr ≡ place T.row base.ptr start) × (self.new.at ≡ result.ptr)
+            × (self.new.start ≡ 0) × (self.new.capacity ≡ self.old.capacity)
+            × ((start + self.old.capacity) * type_size T.row < 2 ^ 63) }
     {
         unsafe {
             Base {
@@ -162,8 +183,10 @@ impl<T> Room<T> {
 
     /// Numbers the places from `start` on, as before `begin_here`.
     pub(crate) fn begin_back(&mut self, _base: Base<T>, _start: usize)
-        requires { (self.old.at ≡ place T.row _base.ptr _start) × (self.old.start ≡ 0) × ((_start + self.old.capacity) * type_size T.row < 2 ^ 63) }
+        requires { (self.old.at ≡ place T.row _base.ptr _start) × (self.old.start ≡ 0)
+            × ((_start + self.old.capacity) * type_size T.row < 2 ^ 63) }
         ensures items { self.new.items ≡ self.old.items }
-        ensures places { (self.new.at ≡ _base.ptr) × (self.new.start ≡ _start) × (self.new.capacity ≡ self.old.capacity) }
+        ensures places { (self.new.at ≡ _base.ptr) × (self.new.start ≡ _start)
+            × (self.new.capacity ≡ self.old.capacity) }
     {}
 }

@@ -16,8 +16,10 @@ impl<const N: usize> SmallBytes<N> {
     /// `Memory`, which changes nothing.
     #[inline]
     pub fn pop(&mut self) -> Result<Option<u8>, EcoError>
-        ensures value { IfOk result (λ last. last ≡ slice_get self.old.bytes (length self.old.bytes - 1)) }
-        ensures bytes { OnOk result (self.new.bytes ≡ take (length self.old.bytes - 1) self.old.bytes) }
+        ensures value { IfOk result
+            (λ last. last ≡ slice_get self.old.bytes (length self.old.bytes - 1)) }
+        ensures bytes { OnOk result
+            (self.new.bytes ≡ take (length self.old.bytes - 1) self.old.bytes) }
         ensures mode { self.new.inline ≡ self.old.inline }
         ensures memory { IfErr result (λ error. error ≡ EcoError.Memory) }
         ensures err { OnErr result (self.new ≡ self.old) }
@@ -59,10 +61,12 @@ impl<const N: usize> SmallBytes<N> {
     pub fn insert(&mut self, index: usize, byte: u8) -> Result<(), EcoError>
         requires { index ≤ length self.old.bytes }
         ensures bytes { OnOk result (self.new.bytes ≡ insert self.old.bytes index byte) }
-        ensures mode { OnOk result (self.new.inline ≡ inline_after N self.old.inline (length self.old.bytes) 1) }
+        ensures mode { OnOk result
+            (self.new.inline ≡ inline_after N self.old.inline (length self.old.bytes) 1) }
         ensures err { OnErr result (self.new ≡ self.old) }
         ensures capacity { IsErrOf result EcoError.Capacity ↔ (MAX_LEN ≤ length self.old.bytes) }
-        ensures free { OnErr result (inline_after N self.old.inline (length self.old.bytes) 1 ≡ false) }
+        ensures free { OnErr result (inline_after N self.old.inline (length self.old.bytes) 1
+            ≡ false) }
     {
         if let Form::Spilled(vec) = &mut self.form {
             return match vec.insert(index, byte) {
@@ -84,10 +88,14 @@ impl<const N: usize> SmallBytes<N> {
     pub fn insert_slice(&mut self, index: usize, bytes: &[u8]) -> Result<(), EcoError>
         requires { index ≤ length self.old.bytes }
         ensures bytes { OnOk result (self.new.bytes ≡ insert_slice self.old.bytes index bytes.now) }
-        ensures mode { OnOk result (self.new.inline ≡ inline_after N self.old.inline (length self.old.bytes) (length bytes.now)) }
+        ensures mode { OnOk result
+            (self.new.inline ≡ inline_after N self.old.inline (length self.old.bytes)
+            (length bytes.now)) }
         ensures err { OnErr result (self.new ≡ self.old) }
-        ensures capacity { IsErrOf result EcoError.Capacity ↔ (MAX_LEN < length self.old.bytes + length bytes.now) }
-        ensures free { OnErr result (inline_after N self.old.inline (length self.old.bytes) (length bytes.now) ≡ false) }
+        ensures capacity { IsErrOf result EcoError.Capacity
+            ↔ (MAX_LEN < length self.old.bytes + length bytes.now) }
+        ensures free { OnErr result (inline_after N self.old.inline (length self.old.bytes)
+            (length bytes.now) ≡ false) }
     {
         let inline = match &mut self.form {
             Form::Inline(inline) => inline,
@@ -109,7 +117,8 @@ impl<const N: usize> SmallBytes<N> {
         ensures bytes { OnOk result (self.new.bytes ≡ insert_slice self.old.bytes index bytes.now) }
         ensures mode { OnOk result (self.new.inline ≡ false) }
         ensures err { OnErr result (self.new ≡ self.old) }
-        ensures capacity { IsErrOf result EcoError.Capacity ↔ (MAX_LEN < length self.old.bytes + length bytes.now) }
+        ensures capacity { IsErrOf result EcoError.Capacity
+            ↔ (MAX_LEN < length self.old.bytes + length bytes.now) }
     {
         if bytes.len() > MAX_LEN - self.len() {
             return Err(EcoError::Capacity);
@@ -170,10 +179,13 @@ impl<const N: usize> SmallBytes<N> {
     #[tactic(auto, using(crate::proofs::Limits::past_limit))]
     pub fn reserve(&mut self, additional: usize) -> Result<(), EcoError>
         ensures bytes { self.new.bytes ≡ self.old.bytes }
-        ensures mode { OnOk result (self.new.inline ≡ inline_after N self.old.inline (length self.old.bytes) additional) }
+        ensures mode { OnOk result
+            (self.new.inline ≡ inline_after N self.old.inline (length self.old.bytes) additional) }
         ensures err { OnErr result (self.new ≡ self.old) }
-        ensures capacity { IsErrOf result EcoError.Capacity ↔ (MAX_LEN < length self.old.bytes + additional) }
-        ensures free { OnErr result (inline_after N self.old.inline (length self.old.bytes) additional ≡ false) }
+        ensures capacity { IsErrOf result EcoError.Capacity
+            ↔ (MAX_LEN < length self.old.bytes + additional) }
+        ensures free { OnErr result
+            (inline_after N self.old.inline (length self.old.bytes) additional ≡ false) }
     {
         let inline = match &mut self.form {
             Form::Inline(inline) => inline,

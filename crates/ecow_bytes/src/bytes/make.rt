@@ -87,10 +87,14 @@ impl<const N: usize> SmallBytes<N> {
     /// spilled. Its size hint isn't asked. Answers `Capacity` at the byte past 2^63 - 1, and else
     /// `Memory`: no further one is asked for then.
     pub fn from_iter<I: IntoIterator<Item = u8>>(alloc: Global, iter: I) -> Result<Self, EcoError>
-        requires { (it : I.IntoIter) → I.into_iter_gives iter it → I.IntoIter.can_next it × IsFinite (I.IntoIter.remaining it) }
-        ensures bytes { IfOk result (λ made. GivesItems I.into_iter_gives I.IntoIter.next_gives iter made.bytes) }
+        requires { (it : I.IntoIter) → I.into_iter_gives iter it → I.IntoIter.can_next it
+            × IsFinite (I.IntoIter.remaining it) }
+        ensures bytes { IfOk result
+            (λ made. GivesItems I.into_iter_gives I.IntoIter.next_gives iter made.bytes) }
         ensures mode { IfOk result (λ made. made.inline ≡ inline_for N (length made.bytes)) }
-        ensures refused { OnErr result ((items : List ℕ) × GivesFirst I.into_iter_gives I.IntoIter.next_gives iter items × (N < length items) × (IsErrOf result EcoError.Capacity ↔ (MAX_LEN < length items))) }
+        ensures refused { OnErr result ((items : List ℕ)
+            × GivesFirst I.into_iter_gives I.IntoIter.next_gives iter items × (N < length items)
+            × (IsErrOf result EcoError.Capacity ↔ (MAX_LEN < length items))) }
     {
         let mut made = Self::new(alloc);
         made.extend(iter)?;
@@ -104,7 +108,8 @@ impl<const N: usize> SmallBytes<N> {
         ensures bytes { IfOk result (λ made. made.bytes ≡ bytes.items) }
         ensures mode { IfOk result (λ made. made.inline ≡ inline_for N (vec_len bytes)) }
         ensures value_returned { IfErr result (λ rejected. rejected.value.items ≡ bytes.items) }
-        ensures capacity { IsErrAnd result (λ rejected. rejected.error ≡ EcoError.Capacity) ↔ (MAX_LEN < vec_len bytes) }
+        ensures capacity { IsErrAnd result (λ rejected. rejected.error ≡ EcoError.Capacity)
+            ↔ (MAX_LEN < vec_len bytes) }
         ensures free { vec_len bytes ≤ N → IsOk result }
     {
         let mut inline = InlineVec::new();

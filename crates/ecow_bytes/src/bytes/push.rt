@@ -35,10 +35,12 @@ impl<const N: usize> SmallBytes<N> {
     #[tactic(auto, using(crate::proofs::Limits::past_limit))]
     pub fn push(&mut self, byte: u8) -> Result<(), EcoError>
         ensures bytes { OnOk result (self.new.bytes ≡ self.old.bytes ++ byte ∷ []) }
-        ensures mode { OnOk result (self.new.inline ≡ inline_after N self.old.inline (length self.old.bytes) 1) }
+        ensures mode { OnOk result
+            (self.new.inline ≡ inline_after N self.old.inline (length self.old.bytes) 1) }
         ensures err { OnErr result (self.new ≡ self.old) }
         ensures capacity { IsErrOf result EcoError.Capacity ↔ (MAX_LEN ≤ length self.old.bytes) }
-        ensures free { OnErr result (inline_after N self.old.inline (length self.old.bytes) 1 ≡ false) }
+        ensures free { OnErr result (inline_after N self.old.inline (length self.old.bytes) 1
+            ≡ false) }
     {
         let inline = match &mut self.form {
             Form::Inline(inline) => inline,
@@ -65,10 +67,14 @@ impl<const N: usize> SmallBytes<N> {
     #[tactic(auto, using(crate::proofs::Limits::past_limit))]
     pub fn extend_from_slice(&mut self, bytes: &[u8]) -> Result<(), EcoError>
         ensures bytes { OnOk result (self.new.bytes ≡ self.old.bytes ++ bytes.now) }
-        ensures mode { OnOk result (self.new.inline ≡ inline_after N self.old.inline (length self.old.bytes) (length bytes.now)) }
+        ensures mode { OnOk result
+            (self.new.inline ≡ inline_after N self.old.inline (length self.old.bytes)
+            (length bytes.now)) }
         ensures err { OnErr result (self.new ≡ self.old) }
-        ensures capacity { IsErrOf result EcoError.Capacity ↔ (MAX_LEN < length self.old.bytes + length bytes.now) }
-        ensures free { OnErr result (inline_after N self.old.inline (length self.old.bytes) (length bytes.now) ≡ false) }
+        ensures capacity { IsErrOf result EcoError.Capacity
+            ↔ (MAX_LEN < length self.old.bytes + length bytes.now) }
+        ensures free { OnErr result (inline_after N self.old.inline (length self.old.bytes)
+            (length bytes.now) ≡ false) }
         ensures nothing { bytes.now ≡ [] → IsOk result × (self.new ≡ self.old) }
     {
         if let [byte] = bytes {
@@ -91,12 +97,17 @@ impl<const N: usize> SmallBytes<N> {
     /// Where a byte is refused those before it stay, and no further one is asked for: `Capacity`
     /// where there are 2^63 - 1 bytes then, and else `Memory`. No byte is refused that fits inline.
     pub fn extend<I: IntoIterator<Item = u8>>(&mut self, iter: I) -> Result<(), EcoError>
-        requires { (it : I.IntoIter) → I.into_iter_gives iter it → I.IntoIter.can_next it × IsFinite (I.IntoIter.remaining it) }
+        requires { (it : I.IntoIter) → I.into_iter_gives iter it → I.IntoIter.can_next it
+            × IsFinite (I.IntoIter.remaining it) }
         ensures bytes { ExtendsWithItems I.into_iter_gives I.IntoIter.next_gives Appends iter self.old.bytes self.new.bytes result }
         ensures mode { self.new.inline ≡ inline_after N self.old.inline (length self.new.bytes) 0 }
-        ensures refused { OnErr result ((items : List ℕ) × GivesFirst I.into_iter_gives I.IntoIter.next_gives iter items × (length self.new.bytes + 1 ≡ length self.old.bytes + length items)) }
-        ensures capacity { OnErr result (IsErrOf result EcoError.Capacity ↔ (MAX_LEN ≤ length self.new.bytes)) }
-        ensures free { OnErr result (inline_after N self.new.inline (length self.new.bytes) 1 ≡ false) }
+        ensures refused { OnErr result ((items : List ℕ)
+            × GivesFirst I.into_iter_gives I.IntoIter.next_gives iter items
+            × (length self.new.bytes + 1 ≡ length self.old.bytes + length items)) }
+        ensures capacity { OnErr result (IsErrOf result EcoError.Capacity
+            ↔ (MAX_LEN ≤ length self.new.bytes)) }
+        ensures free { OnErr result (inline_after N self.new.inline (length self.new.bytes) 1
+            ≡ false) }
     {
         let _len = self.len();
         for byte in iter {
@@ -114,7 +125,8 @@ impl<const N: usize> SmallBytes<N> {
         ensures bytes { OnOk result (self.new.bytes ≡ self.old.bytes ++ bytes.now) }
         ensures mode { OnOk result (self.new.inline ≡ false) }
         ensures err { OnErr result (self.new ≡ self.old) }
-        ensures capacity { IsErrOf result EcoError.Capacity ↔ (MAX_LEN < length self.old.bytes + length bytes.now) }
+        ensures capacity { IsErrOf result EcoError.Capacity
+            ↔ (MAX_LEN < length self.old.bytes + length bytes.now) }
     {
         if bytes.len() > MAX_LEN - self.len() {
             return Err(EcoError::Capacity);

@@ -15,8 +15,10 @@ impl<const N: usize> SmallBytes<N> {
     /// Answers `Capacity` where they come to more than 2^63 - 1, and else `Memory`.
     pub fn repeat(&self, count: usize) -> Result<Self, EcoError>
         ensures bytes { IfOk result (λ made. made.bytes ≡ repeat count self.now.bytes) }
-        ensures mode { IfOk result (λ made. made.inline ≡ inline_for N (length self.now.bytes * count)) }
-        ensures capacity { IsErrOf result EcoError.Capacity ↔ (MAX_LEN < length self.now.bytes * count) }
+        ensures mode { IfOk result (λ made. made.inline
+            ≡ inline_for N (length self.now.bytes * count)) }
+        ensures capacity { IsErrOf result EcoError.Capacity
+            ↔ (MAX_LEN < length self.now.bytes * count) }
         ensures free { length self.now.bytes * count ≤ N → IsOk result }
     {
         let len = self.len();
@@ -43,9 +45,11 @@ impl<const N: usize> SmallBytes<N> {
         requires within { len ≤ length self.old.bytes }
         requires bounded { length self.old.bytes + len ≤ MAX_LEN }
         ensures bytes { OnOk result (self.new.bytes ≡ self.old.bytes ++ take len self.old.bytes) }
-        ensures mode { OnOk result (self.new.inline ≡ inline_after N self.old.inline (length self.old.bytes) len) }
+        ensures mode { OnOk result
+            (self.new.inline ≡ inline_after N self.old.inline (length self.old.bytes) len) }
         ensures memory { IfErr result (λ error. error ≡ EcoError.Memory) }
-        ensures free { OnErr result (inline_after N self.old.inline (length self.old.bytes) len ≡ false) }
+        ensures free { OnErr result (inline_after N self.old.inline (length self.old.bytes) len
+            ≡ false) }
     {
         if let Form::Spilled(vec) = &mut self.form {
             return vec.extend_from_within(..len);

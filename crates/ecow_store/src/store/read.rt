@@ -19,7 +19,8 @@ impl<T, const N: usize> NamedValues<Stored<T, N>> {
 
     /// The bytes of a name; `None` where no bytes stand there. Takes no memory.
     pub fn get_bytes(&self, name: Name) -> Option<&[u8]>
-        ensures { option_copied result ≡ option_map (λ value. value.bytes) (bytes_under self.now name) }
+        ensures { option_copied result ≡ option_map (λ value. value.bytes)
+            (bytes_under self.now name) }
     {
         let bytes = bytes_in(self.values.get(name)?).ok()?;
         Some(bytes.as_slice())
@@ -27,7 +28,8 @@ impl<T, const N: usize> NamedValues<Stored<T, N>> {
 
     /// The text of a name; `None` where no text stands there. Takes no memory.
     pub fn get_str(&self, name: Name) -> Option<&str>
-        ensures { option_copied result ≡ option_map (λ text. encode_utf8_all text.chars) (text_under self.now name) }
+        ensures { option_copied result ≡ option_map (λ text. encode_utf8_all text.chars)
+            (text_under self.now name) }
     {
         let text = text_in(self.values.get(name)?).ok()?;
         Some(text.as_str())

@@ -69,12 +69,17 @@ impl<const N: usize> SmallText<N> {
     /// Answers `Memory`, or `Capacity` where std's text has more than 2^63 - 1 bytes, which no ASCII
     /// text has.
     pub fn to_lowercase(&self) -> Result<Self, EcoError>
-        ensures bytes { IfOk result (λ made. encode_utf8_all made.chars ≡ str_to_lowercase (encode_utf8_all self.now.chars)) }
-        ensures ascii { IsAscii (encode_utf8_all self.now.chars) → IfOk result (λ made. made.chars ≡ map to_ascii_lowercase self.now.chars) }
+        ensures bytes { IfOk result (λ made. encode_utf8_all made.chars
+            ≡ str_to_lowercase (encode_utf8_all self.now.chars)) }
+        ensures ascii { IsAscii (encode_utf8_all self.now.chars)
+            → IfOk result (λ made. made.chars ≡ map to_ascii_lowercase self.now.chars) }
         ensures mode { IfOk result (λ made. made.inline ≡ inline_for N (utf8_len made.chars)) }
-        ensures capacity { IsErrOf result EcoError.Capacity → MAX_LEN < length (str_to_lowercase (encode_utf8_all self.now.chars)) }
-        ensures ascii_memory { IsAscii (encode_utf8_all self.now.chars) → IfErr result (λ error. error ≡ EcoError.Memory) }
-        ensures free { IsAscii (encode_utf8_all self.now.chars) → utf8_len self.now.chars ≤ N → IsOk result }
+        ensures capacity { IsErrOf result EcoError.Capacity
+            → MAX_LEN < length (str_to_lowercase (encode_utf8_all self.now.chars)) }
+        ensures ascii_memory { IsAscii (encode_utf8_all self.now.chars)
+            → IfErr result (λ error. error ≡ EcoError.Memory) }
+        ensures free { IsAscii (encode_utf8_all self.now.chars) → utf8_len self.now.chars ≤ N
+            → IsOk result }
     {
         let text = self.as_str();
         if text.is_ascii() {
@@ -94,12 +99,17 @@ impl<const N: usize> SmallText<N> {
     /// Answers `Memory`, or `Capacity` where std's text has more than 2^63 - 1 bytes, which no ASCII
     /// text has.
     pub fn to_uppercase(&self) -> Result<Self, EcoError>
-        ensures bytes { IfOk result (λ made. encode_utf8_all made.chars ≡ str_to_uppercase (encode_utf8_all self.now.chars)) }
-        ensures ascii { IsAscii (encode_utf8_all self.now.chars) → IfOk result (λ made. made.chars ≡ map to_ascii_uppercase self.now.chars) }
+        ensures bytes { IfOk result (λ made. encode_utf8_all made.chars
+            ≡ str_to_uppercase (encode_utf8_all self.now.chars)) }
+        ensures ascii { IsAscii (encode_utf8_all self.now.chars)
+            → IfOk result (λ made. made.chars ≡ map to_ascii_uppercase self.now.chars) }
         ensures mode { IfOk result (λ made. made.inline ≡ inline_for N (utf8_len made.chars)) }
-        ensures capacity { IsErrOf result EcoError.Capacity → MAX_LEN < length (str_to_uppercase (encode_utf8_all self.now.chars)) }
-        ensures ascii_memory { IsAscii (encode_utf8_all self.now.chars) → IfErr result (λ error. error ≡ EcoError.Memory) }
-        ensures free { IsAscii (encode_utf8_all self.now.chars) → utf8_len self.now.chars ≤ N → IsOk result }
+        ensures capacity { IsErrOf result EcoError.Capacity
+            → MAX_LEN < length (str_to_uppercase (encode_utf8_all self.now.chars)) }
+        ensures ascii_memory { IsAscii (encode_utf8_all self.now.chars)
+            → IfErr result (λ error. error ≡ EcoError.Memory) }
+        ensures free { IsAscii (encode_utf8_all self.now.chars) → utf8_len self.now.chars ≤ N
+            → IsOk result }
     {
         let text = self.as_str();
         if text.is_ascii() {

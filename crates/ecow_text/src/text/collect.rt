@@ -47,10 +47,14 @@ impl<const N: usize> SmallText<N> {
         alloc: Global,
         iter: I,
     ) -> Result<Self, EcoError>
-        requires { (it : I.IntoIter) → I.into_iter_gives iter it → I.IntoIter.can_next it × IsFinite (I.IntoIter.remaining it) }
-        ensures chars { IfOk result (λ made. GivesItems I.into_iter_gives I.IntoIter.next_gives iter made.chars) }
+        requires { (it : I.IntoIter) → I.into_iter_gives iter it → I.IntoIter.can_next it
+            × IsFinite (I.IntoIter.remaining it) }
+        ensures chars { IfOk result
+            (λ made. GivesItems I.into_iter_gives I.IntoIter.next_gives iter made.chars) }
         ensures mode { IfOk result (λ made. made.inline ≡ inline_for N (utf8_len made.chars)) }
-        ensures refused { OnErr result ((items : List ℕ) × GivesFirst I.into_iter_gives I.IntoIter.next_gives iter items × (N < utf8_len items) × (IsErrOf result EcoError.Capacity ↔ (MAX_LEN < utf8_len items))) }
+        ensures refused { OnErr result ((items : List ℕ)
+            × GivesFirst I.into_iter_gives I.IntoIter.next_gives iter items × (N < utf8_len items)
+            × (IsErrOf result EcoError.Capacity ↔ (MAX_LEN < utf8_len items))) }
     {
         let mut made = Self::new(alloc);
         made.extend_chars(iter)?;
@@ -64,10 +68,16 @@ impl<const N: usize> SmallText<N> {
         alloc: Global,
         iter: I,
     ) -> Result<Self, EcoError>
-        requires { (it : I.IntoIter) → I.into_iter_gives iter it → I.IntoIter.can_next it × IsFinite (I.IntoIter.remaining it) }
-        ensures chars { IfOk result (λ made. (items : List (Bor (List ℕ))) × GivesItems I.into_iter_gives I.IntoIter.next_gives iter items × (made.chars ≡ joined_strs items)) }
+        requires { (it : I.IntoIter) → I.into_iter_gives iter it → I.IntoIter.can_next it
+            × IsFinite (I.IntoIter.remaining it) }
+        ensures chars { IfOk result (λ made. (items : List (Bor (List ℕ)))
+            × GivesItems I.into_iter_gives I.IntoIter.next_gives iter items
+            × (made.chars ≡ joined_strs items)) }
         ensures mode { IfOk result (λ made. made.inline ≡ inline_for N (utf8_len made.chars)) }
-        ensures refused { OnErr result ((items : List (Bor (List ℕ))) × GivesFirst I.into_iter_gives I.IntoIter.next_gives iter items × (N < utf8_len (joined_strs items)) × (IsErrOf result EcoError.Capacity ↔ (MAX_LEN < utf8_len (joined_strs items)))) }
+        ensures refused { OnErr result ((items : List (Bor (List ℕ)))
+            × GivesFirst I.into_iter_gives I.IntoIter.next_gives iter items
+            × (N < utf8_len (joined_strs items))
+            × (IsErrOf result EcoError.Capacity ↔ (MAX_LEN < utf8_len (joined_strs items)))) }
     {
         let mut made = Self::new(alloc);
         made.extend_strs(iter)?;
@@ -79,10 +89,16 @@ impl<const N: usize> SmallText<N> {
         alloc: Global,
         iter: I,
     ) -> Result<Self, EcoError>
-        requires { (it : I.IntoIter) → I.into_iter_gives iter it → I.IntoIter.can_next it × IsFinite (I.IntoIter.remaining it) }
-        ensures chars { IfOk result (λ made. (items : List PlainText) × GivesItems I.into_iter_gives I.IntoIter.next_gives iter items × (made.chars ≡ joined_texts items)) }
+        requires { (it : I.IntoIter) → I.into_iter_gives iter it → I.IntoIter.can_next it
+            × IsFinite (I.IntoIter.remaining it) }
+        ensures chars { IfOk result (λ made. (items : List PlainText)
+            × GivesItems I.into_iter_gives I.IntoIter.next_gives iter items
+            × (made.chars ≡ joined_texts items)) }
         ensures mode { IfOk result (λ made. made.inline ≡ inline_for N (utf8_len made.chars)) }
-        ensures refused { OnErr result ((items : List PlainText) × GivesFirst I.into_iter_gives I.IntoIter.next_gives iter items × (N < utf8_len (joined_texts items)) × (IsErrOf result EcoError.Capacity ↔ (MAX_LEN < utf8_len (joined_texts items)))) }
+        ensures refused { OnErr result ((items : List PlainText)
+            × GivesFirst I.into_iter_gives I.IntoIter.next_gives iter items
+            × (N < utf8_len (joined_texts items))
+            × (IsErrOf result EcoError.Capacity ↔ (MAX_LEN < utf8_len (joined_texts items)))) }
     {
         let mut made = Self::new(alloc);
         made.extend_texts(iter)?;
@@ -96,10 +112,16 @@ impl<const N: usize> SmallText<N> {
     /// where the text would pass 2^63 - 1 bytes with it, and else `Memory`. None is refused that fits
     /// inline.
     pub fn extend_chars<I: IntoIterator<Item = char>>(&mut self, iter: I) -> Result<(), EcoError>
-        requires { (it : I.IntoIter) → I.into_iter_gives iter it → I.IntoIter.can_next it × IsFinite (I.IntoIter.remaining it) }
+        requires { (it : I.IntoIter) → I.into_iter_gives iter it → I.IntoIter.can_next it
+            × IsFinite (I.IntoIter.remaining it) }
         ensures chars { ExtendsWithItems I.into_iter_gives I.IntoIter.next_gives Appends iter self.old.chars self.new.chars result }
-        ensures mode { self.new.inline ≡ inline_after N self.old.inline (utf8_len self.new.chars) 0 }
-        ensures refused { OnErr result ((items : List ℕ) × GivesFirst I.into_iter_gives I.IntoIter.next_gives iter items × (length self.new.chars + 1 ≡ length self.old.chars + length items) × (inline_after N self.old.inline (utf8_len (self.old.chars ++ items)) 0 ≡ false) × (IsErrOf result EcoError.Capacity ↔ (MAX_LEN < utf8_len (self.old.chars ++ items)))) }
+        ensures mode { self.new.inline
+            ≡ inline_after N self.old.inline (utf8_len self.new.chars) 0 }
+        ensures refused { OnErr result ((items : List ℕ)
+            × GivesFirst I.into_iter_gives I.IntoIter.next_gives iter items
+            × (length self.new.chars + 1 ≡ length self.old.chars + length items)
+            × (inline_after N self.old.inline (utf8_len (self.old.chars ++ items)) 0 ≡ false)
+            × (IsErrOf result EcoError.Capacity ↔ (MAX_LEN < utf8_len (self.old.chars ++ items)))) }
     {
         let _len = self.len();
         for c in iter {
@@ -118,9 +140,11 @@ impl<const N: usize> SmallText<N> {
         &mut self,
         iter: I,
     ) -> Result<(), EcoError>
-        requires { (it : I.IntoIter) → I.into_iter_gives iter it → I.IntoIter.can_next it × IsFinite (I.IntoIter.remaining it) }
+        requires { (it : I.IntoIter) → I.into_iter_gives iter it → I.IntoIter.can_next it
+            × IsFinite (I.IntoIter.remaining it) }
         ensures chars { ExtendsWithItems I.into_iter_gives I.IntoIter.next_gives AppendsStrs iter self.old.chars self.new.chars result }
-        ensures mode { self.new.inline ≡ inline_after N self.old.inline (utf8_len self.new.chars) 0 }
+        ensures mode { self.new.inline
+            ≡ inline_after N self.old.inline (utf8_len self.new.chars) 0 }
         ensures refused { OnErr result
             ((items : List (Bor (List ℕ)))
             × GivesFirst I.into_iter_gives I.IntoIter.next_gives iter items
@@ -137,9 +161,12 @@ impl<const N: usize> SmallText<N> {
         &mut self,
         iter: I,
     ) -> Result<(), EcoError>
-        requires { (it : I.IntoIter) → I.into_iter_gives iter it → I.IntoIter.can_next it × IsFinite (I.IntoIter.remaining it) }
-        ensures chars { ExtendsWithItems I.into_iter_gives I.IntoIter.next_gives (AppendsBy T.text_of) iter self.old.chars self.new.chars result }
-        ensures mode { self.new.inline ≡ inline_after N self.old.inline (utf8_len self.new.chars) 0 }
+        requires { (it : I.IntoIter) → I.into_iter_gives iter it → I.IntoIter.can_next it
+            × IsFinite (I.IntoIter.remaining it) }
+        ensures chars { ExtendsWithItems I.into_iter_gives I.IntoIter.next_gives
+            (AppendsBy T.text_of) iter self.old.chars self.new.chars result }
+        ensures mode { self.new.inline
+            ≡ inline_after N self.old.inline (utf8_len self.new.chars) 0 }
         ensures refused { OnErr result
             ((items : List T)
             × GivesFirst I.into_iter_gives I.IntoIter.next_gives iter items
@@ -157,11 +184,16 @@ impl<const N: usize> SmallText<N> {
     /// `push_str` of an item.
     fn push_next(&mut self, text: &str) -> Result<(), EcoError>
         ensures chars { OnOk result (self.new.chars ≡ self.old.chars ++ chars text.now) }
-        ensures mode { OnOk result (self.new.inline ≡ inline_after N self.old.inline (utf8_len self.old.chars) (length text.now)) }
-        ensures capacity { IsErrOf result EcoError.Capacity ↔ (MAX_LEN < utf8_len self.old.chars + length text.now) }
+        ensures mode { OnOk result
+            (self.new.inline ≡ inline_after N self.old.inline (utf8_len self.old.chars)
+            (length text.now)) }
+        ensures capacity { IsErrOf result EcoError.Capacity
+            ↔ (MAX_LEN < utf8_len self.old.chars + length text.now) }
         ensures err { OnErr result (self.new ≡ self.old) }
-        ensures free { OnErr result (inline_after N self.old.inline (utf8_len self.old.chars) (length text.now) ≡ false) }
-        ensures len { utf8_len (self.old.chars ++ chars text.now) ≡ utf8_len self.old.chars + length text.now }
+        ensures free { OnErr result (inline_after N self.old.inline (utf8_len self.old.chars)
+            (length text.now) ≡ false) }
+        ensures len { utf8_len (self.old.chars ++ chars text.now) ≡ utf8_len self.old.chars
+            + length text.now }
     {
         self.push_str(text)?;
         Ok(())

@@ -16,8 +16,10 @@ impl<const N: usize> SmallText<N> {
     /// for an inline text or an empty one. A spilled text that is shared copies what stays, and the
     /// one error is `Memory`, which changes nothing.
     pub fn pop(&mut self) -> Result<Option<char>, EcoError>
-        ensures value { IfOk result (λ last. last ≡ slice_get self.old.chars (length self.old.chars - 1)) }
-        ensures chars { OnOk result (self.new.chars ≡ take (length self.old.chars - 1) self.old.chars) }
+        ensures value { IfOk result
+            (λ last. last ≡ slice_get self.old.chars (length self.old.chars - 1)) }
+        ensures chars { OnOk result
+            (self.new.chars ≡ take (length self.old.chars - 1) self.old.chars) }
         ensures mode { self.new.inline ≡ self.old.inline }
         ensures memory { IfErr result (λ error. error ≡ EcoError.Memory) }
         ensures err { OnErr result (self.new ≡ self.old) }
@@ -38,7 +40,8 @@ impl<const N: usize> SmallText<N> {
     /// that is shared copies what stays, and the one error is `Memory`, which changes nothing.
     pub fn truncate(&mut self, target: usize) -> Result<(), EcoError>
         requires { target ≤ utf8_len self.old.chars → is_boundary self.old.chars target ≡ true }
-        ensures chars { OnOk result (self.new.chars ≡ take (chars_before self.old.chars target) self.old.chars) }
+        ensures chars { OnOk result
+            (self.new.chars ≡ take (chars_before self.old.chars target) self.old.chars) }
         ensures mode { self.new.inline ≡ self.old.inline }
         ensures memory { IfErr result (λ error. error ≡ EcoError.Memory) }
         ensures err { OnErr result (self.new ≡ self.old) }
@@ -57,11 +60,16 @@ impl<const N: usize> SmallText<N> {
     /// `Memory`.
     pub fn insert(&mut self, index: usize, c: char) -> Result<(), EcoError>
         requires { is_boundary self.old.chars index ≡ true }
-        ensures chars { OnOk result (self.new.chars ≡ insert self.old.chars (chars_before self.old.chars index) c) }
-        ensures mode { OnOk result (self.new.inline ≡ inline_after N self.old.inline (utf8_len self.old.chars) (len_utf8 c)) }
+        ensures chars { OnOk result
+            (self.new.chars ≡ insert self.old.chars (chars_before self.old.chars index) c) }
+        ensures mode { OnOk result
+            (self.new.inline ≡ inline_after N self.old.inline (utf8_len self.old.chars)
+            (len_utf8 c)) }
         ensures err { OnErr result (self.new ≡ self.old) }
-        ensures capacity { IsErrOf result EcoError.Capacity ↔ (MAX_LEN < utf8_len self.old.chars + len_utf8 c) }
-        ensures free { OnErr result (inline_after N self.old.inline (utf8_len self.old.chars) (len_utf8 c) ≡ false) }
+        ensures capacity { IsErrOf result EcoError.Capacity
+            ↔ (MAX_LEN < utf8_len self.old.chars + len_utf8 c) }
+        ensures free { OnErr result (inline_after N self.old.inline (utf8_len self.old.chars)
+            (len_utf8 c) ≡ false) }
     {
         let mut buffer = [0; 4];
         self.insert_str(index, c.encode_utf8(&mut buffer))?;
@@ -77,11 +85,17 @@ impl<const N: usize> SmallText<N> {
     #[inline]
     pub fn insert_str(&mut self, index: usize, text: &str) -> Result<(), EcoError>
         requires { is_boundary self.old.chars index ≡ true }
-        ensures chars { OnOk result (self.new.chars ≡ insert_slice self.old.chars (chars_before self.old.chars index) (chars text.now)) }
-        ensures mode { OnOk result (self.new.inline ≡ inline_after N self.old.inline (utf8_len self.old.chars) (length text.now)) }
+        ensures chars { OnOk result
+            (self.new.chars ≡ insert_slice self.old.chars (chars_before self.old.chars index)
+            (chars text.now)) }
+        ensures mode { OnOk result
+            (self.new.inline ≡ inline_after N self.old.inline (utf8_len self.old.chars)
+            (length text.now)) }
         ensures err { OnErr result (self.new ≡ self.old) }
-        ensures capacity { IsErrOf result EcoError.Capacity ↔ (MAX_LEN < utf8_len self.old.chars + length text.now) }
-        ensures free { OnErr result (inline_after N self.old.inline (utf8_len self.old.chars) (length text.now) ≡ false) }
+        ensures capacity { IsErrOf result EcoError.Capacity
+            ↔ (MAX_LEN < utf8_len self.old.chars + length text.now) }
+        ensures free { OnErr result (inline_after N self.old.inline (utf8_len self.old.chars)
+            (length text.now) ≡ false) }
     {
         self.bytes.insert_slice(index, text.as_bytes())?;
         Ok(())
@@ -93,8 +107,10 @@ impl<const N: usize> SmallText<N> {
     pub fn remove(&mut self, index: usize) -> Result<char, EcoError>
         requires boundary { is_boundary self.old.chars index ≡ true }
         requires within { index < utf8_len self.old.chars }
-        ensures value { IfOk result (λ c. slice_get self.old.chars (chars_before self.old.chars index) ≡ Some c) }
-        ensures chars { OnOk result (self.new.chars ≡ remove self.old.chars (chars_before self.old.chars index)) }
+        ensures value { IfOk result
+            (λ c. slice_get self.old.chars (chars_before self.old.chars index) ≡ Some c) }
+        ensures chars { OnOk result
+            (self.new.chars ≡ remove self.old.chars (chars_before self.old.chars index)) }
         ensures mode { self.new.inline ≡ self.old.inline }
         ensures memory { IfErr result (λ error. error ≡ EcoError.Memory) }
         ensures err { OnErr result (self.new ≡ self.old) }
@@ -113,10 +129,14 @@ impl<const N: usize> SmallText<N> {
     /// 2^63 - 1, and else `Memory`.
     pub fn reserve(&mut self, additional: usize) -> Result<(), EcoError>
         ensures chars { self.new.chars ≡ self.old.chars }
-        ensures mode { OnOk result (self.new.inline ≡ inline_after N self.old.inline (utf8_len self.old.chars) additional) }
+        ensures mode { OnOk result
+            (self.new.inline
+            ≡ inline_after N self.old.inline (utf8_len self.old.chars) additional) }
         ensures err { OnErr result (self.new ≡ self.old) }
-        ensures capacity { IsErrOf result EcoError.Capacity ↔ (MAX_LEN < utf8_len self.old.chars + additional) }
-        ensures free { OnErr result (inline_after N self.old.inline (utf8_len self.old.chars) additional ≡ false) }
+        ensures capacity { IsErrOf result EcoError.Capacity
+            ↔ (MAX_LEN < utf8_len self.old.chars + additional) }
+        ensures free { OnErr result
+            (inline_after N self.old.inline (utf8_len self.old.chars) additional ≡ false) }
     {
         self.bytes.reserve(additional)?;
         Ok(())

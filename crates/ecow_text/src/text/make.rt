@@ -75,9 +75,11 @@ impl<const N: usize> SmallText<N> {
     /// 2^63 - 1 bytes, and else with `Memory`.
     pub fn from_string(alloc: Global, text: String) -> Result<Self, Rejected<String>>
         ensures chars { IfOk result (λ made. made.chars ≡ chars (string_bytes text)) }
-        ensures mode { IfOk result (λ made. made.inline ≡ inline_for N (length (string_bytes text))) }
+        ensures mode { IfOk result (λ made. made.inline
+            ≡ inline_for N (length (string_bytes text))) }
         ensures value_returned { IfErr result (λ rejected. rejected.value ≡ text) }
-        ensures capacity { IsErrAnd result (λ rejected. rejected.error ≡ EcoError.Capacity) ↔ (MAX_LEN < length (string_bytes text)) }
+        ensures capacity { IsErrAnd result (λ rejected. rejected.error ≡ EcoError.Capacity)
+            ↔ (MAX_LEN < length (string_bytes text)) }
         ensures free { length (string_bytes text) ≤ N → IsOk result }
     {
         match Self::from_str(alloc, text.as_str()) {

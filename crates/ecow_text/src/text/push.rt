@@ -18,10 +18,14 @@ impl<const N: usize> SmallText<N> {
     #[inline]
     pub fn push(&mut self, c: char) -> Result<(), EcoError>
         ensures chars { OnOk result (self.new.chars ≡ self.old.chars ++ c ∷ []) }
-        ensures mode { OnOk result (self.new.inline ≡ inline_after N self.old.inline (utf8_len self.old.chars) (len_utf8 c)) }
+        ensures mode { OnOk result
+            (self.new.inline ≡ inline_after N self.old.inline (utf8_len self.old.chars)
+            (len_utf8 c)) }
         ensures err { OnErr result (self.new ≡ self.old) }
-        ensures capacity { IsErrOf result EcoError.Capacity ↔ (MAX_LEN < utf8_len self.old.chars + len_utf8 c) }
-        ensures free { OnErr result (inline_after N self.old.inline (utf8_len self.old.chars) (len_utf8 c) ≡ false) }
+        ensures capacity { IsErrOf result EcoError.Capacity
+            ↔ (MAX_LEN < utf8_len self.old.chars + len_utf8 c) }
+        ensures free { OnErr result (inline_after N self.old.inline (utf8_len self.old.chars)
+            (len_utf8 c) ≡ false) }
     {
         let mut buffer = [0; 4];
         self.push_str(c.encode_utf8(&mut buffer))?;
@@ -37,10 +41,14 @@ impl<const N: usize> SmallText<N> {
     #[inline]
     pub fn push_str(&mut self, text: &str) -> Result<(), EcoError>
         ensures chars { OnOk result (self.new.chars ≡ self.old.chars ++ chars text.now) }
-        ensures mode { OnOk result (self.new.inline ≡ inline_after N self.old.inline (utf8_len self.old.chars) (length text.now)) }
+        ensures mode { OnOk result
+            (self.new.inline ≡ inline_after N self.old.inline (utf8_len self.old.chars)
+            (length text.now)) }
         ensures err { OnErr result (self.new ≡ self.old) }
-        ensures capacity { IsErrOf result EcoError.Capacity ↔ (MAX_LEN < utf8_len self.old.chars + length text.now) }
-        ensures free { OnErr result (inline_after N self.old.inline (utf8_len self.old.chars) (length text.now) ≡ false) }
+        ensures capacity { IsErrOf result EcoError.Capacity
+            ↔ (MAX_LEN < utf8_len self.old.chars + length text.now) }
+        ensures free { OnErr result (inline_after N self.old.inline (utf8_len self.old.chars)
+            (length text.now) ≡ false) }
         ensures nothing { text.now ≡ [] → IsOk result × (self.new ≡ self.old) }
     {
         self.bytes.extend_from_slice(text.as_bytes())?;
@@ -51,10 +59,13 @@ impl<const N: usize> SmallText<N> {
     /// was, with `push_str`'s error.
     pub fn add(self, text: &str) -> Result<Self, Rejected<Self>>
         ensures chars { IfOk result (λ sum. sum.chars ≡ self.entry.chars ++ chars text.now) }
-        ensures mode { IfOk result (λ sum. sum.inline ≡ inline_after N self.entry.inline (utf8_len self.entry.chars) (length text.now)) }
+        ensures mode { IfOk result (λ sum. sum.inline
+            ≡ inline_after N self.entry.inline (utf8_len self.entry.chars) (length text.now)) }
         ensures value_returned { IfErr result (λ rejected. rejected.value ≡ self.entry) }
-        ensures capacity { IsErrAnd result (λ rejected. rejected.error ≡ EcoError.Capacity) ↔ (MAX_LEN < utf8_len self.entry.chars + length text.now) }
-        ensures free { OnErr result (inline_after N self.entry.inline (utf8_len self.entry.chars) (length text.now) ≡ false) }
+        ensures capacity { IsErrAnd result (λ rejected. rejected.error ≡ EcoError.Capacity)
+            ↔ (MAX_LEN < utf8_len self.entry.chars + length text.now) }
+        ensures free { OnErr result (inline_after N self.entry.inline (utf8_len self.entry.chars)
+            (length text.now) ≡ false) }
         ensures nothing { text.now ≡ [] → IsOk result }
     {
         let mut sum = self;

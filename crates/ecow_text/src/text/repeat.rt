@@ -14,8 +14,10 @@ impl<const N: usize> SmallText<N> {
     /// `Memory`.
     pub fn repeat(&self, count: usize) -> Result<Self, EcoError>
         ensures chars { IfOk result (λ made. made.chars ≡ repeat count self.now.chars) }
-        ensures mode { IfOk result (λ made. made.inline ≡ inline_for N (utf8_len self.now.chars * count)) }
-        ensures capacity { IsErrOf result EcoError.Capacity ↔ (MAX_LEN < utf8_len self.now.chars * count) }
+        ensures mode { IfOk result (λ made. made.inline
+            ≡ inline_for N (utf8_len self.now.chars * count)) }
+        ensures capacity { IsErrOf result EcoError.Capacity
+            ↔ (MAX_LEN < utf8_len self.now.chars * count) }
         ensures free { utf8_len self.now.chars * count ≤ N → IsOk result }
     {
         let _len = self.bytes.len();

@@ -24,10 +24,18 @@ impl<const N: usize> SmallText<N> {
     ///
     /// Answers `Capacity` where it comes to more than 2^63 - 1 bytes, and else `Memory`.
     pub fn replacen(&self, pattern: &str, replacement: &str, count: usize) -> Result<Self, EcoError>
-        ensures chars { IfOk result (λ made. made.chars ≡ replaced count (chars pattern.now) (chars replacement.now) self.now.chars) }
-        ensures mode { IfOk result (λ made. made.inline ≡ inline_for N (utf8_len (replaced count (chars pattern.now) (chars replacement.now) self.now.chars))) }
-        ensures capacity { IsErrOf result EcoError.Capacity ↔ (MAX_LEN < utf8_len (replaced count (chars pattern.now) (chars replacement.now) self.now.chars)) }
-        ensures free { utf8_len (replaced count (chars pattern.now) (chars replacement.now) self.now.chars) ≤ N → IsOk result }
+        ensures chars { IfOk result (λ made. made.chars ≡ replaced count (chars pattern.now)
+            (chars replacement.now) self.now.chars) }
+        ensures mode { IfOk result (λ made. made.inline
+            ≡ inline_for N
+            (utf8_len (replaced count (chars pattern.now)
+            (chars replacement.now) self.now.chars))) }
+        ensures capacity { IsErrOf result EcoError.Capacity
+            ↔ (MAX_LEN < utf8_len
+            (replaced count (chars pattern.now) (chars replacement.now) self.now.chars)) }
+        ensures free { utf8_len
+            (replaced count (chars pattern.now) (chars replacement.now) self.now.chars) ≤ N
+            → IsOk result }
     {
         if pattern.is_empty() {
             return self.spread(replacement, count);
@@ -38,10 +46,17 @@ impl<const N: usize> SmallText<N> {
     /// The text with `replacement` in place of all occurrences of `pattern`: `replacen` without a
     /// limit.
     pub fn replace(&self, pattern: &str, replacement: &str) -> Result<Self, EcoError>
-        ensures chars { IfOk result (λ made. made.chars ≡ replaced_all (chars pattern.now) (chars replacement.now) self.now.chars) }
-        ensures mode { IfOk result (λ made. made.inline ≡ inline_for N (utf8_len (replaced_all (chars pattern.now) (chars replacement.now) self.now.chars))) }
-        ensures capacity { IsErrOf result EcoError.Capacity ↔ (MAX_LEN < utf8_len (replaced_all (chars pattern.now) (chars replacement.now) self.now.chars)) }
-        ensures free { utf8_len (replaced_all (chars pattern.now) (chars replacement.now) self.now.chars) ≤ N → IsOk result }
+        ensures chars { IfOk result (λ made. made.chars
+            ≡ replaced_all (chars pattern.now) (chars replacement.now) self.now.chars) }
+        ensures mode { IfOk result (λ made. made.inline
+            ≡ inline_for N
+            (utf8_len (replaced_all (chars pattern.now) (chars replacement.now) self.now.chars))) }
+        ensures capacity { IsErrOf result EcoError.Capacity
+            ↔ (MAX_LEN < utf8_len
+            (replaced_all (chars pattern.now) (chars replacement.now) self.now.chars)) }
+        ensures free { utf8_len
+            (replaced_all (chars pattern.now) (chars replacement.now) self.now.chars) ≤ N
+            → IsOk result }
     {
         self.replacen(pattern, replacement, self.len() + 1)
     }
@@ -49,10 +64,18 @@ impl<const N: usize> SmallText<N> {
     /// `replacen` of a pattern that is not empty.
     fn replaced(&self, pattern: &str, replacement: &str, count: usize) -> Result<Self, EcoError>
         requires { pattern.now ≢ [] }
-        ensures chars { IfOk result (λ made. made.chars ≡ replaced count (chars pattern.now) (chars replacement.now) self.now.chars) }
-        ensures mode { IfOk result (λ made. made.inline ≡ inline_for N (utf8_len (replaced count (chars pattern.now) (chars replacement.now) self.now.chars))) }
-        ensures capacity { IsErrOf result EcoError.Capacity ↔ (MAX_LEN < utf8_len (replaced count (chars pattern.now) (chars replacement.now) self.now.chars)) }
-        ensures free { utf8_len (replaced count (chars pattern.now) (chars replacement.now) self.now.chars) ≤ N → IsOk result }
+        ensures chars { IfOk result (λ made. made.chars ≡ replaced count (chars pattern.now)
+            (chars replacement.now) self.now.chars) }
+        ensures mode { IfOk result (λ made. made.inline
+            ≡ inline_for N
+            (utf8_len (replaced count (chars pattern.now)
+            (chars replacement.now) self.now.chars))) }
+        ensures capacity { IsErrOf result EcoError.Capacity
+            ↔ (MAX_LEN < utf8_len
+            (replaced count (chars pattern.now) (chars replacement.now) self.now.chars)) }
+        ensures free { utf8_len
+            (replaced count (chars pattern.now) (chars replacement.now) self.now.chars) ≤ N
+            → IsOk result }
     {
         let text = self.as_str();
         let finder = Finder::new(pattern.as_bytes());
@@ -66,10 +89,14 @@ impl<const N: usize> SmallText<N> {
 
     /// `replacen` of the empty pattern.
     fn spread(&self, replacement: &str, count: usize) -> Result<Self, EcoError>
-        ensures chars { IfOk result (λ made. made.chars ≡ replaced count [] (chars replacement.now) self.now.chars) }
-        ensures mode { IfOk result (λ made. made.inline ≡ inline_for N (utf8_len (replaced count [] (chars replacement.now) self.now.chars))) }
-        ensures capacity { IsErrOf result EcoError.Capacity ↔ (MAX_LEN < utf8_len (replaced count [] (chars replacement.now) self.now.chars)) }
-        ensures free { utf8_len (replaced count [] (chars replacement.now) self.now.chars) ≤ N → IsOk result }
+        ensures chars { IfOk result (λ made. made.chars
+            ≡ replaced count [] (chars replacement.now) self.now.chars) }
+        ensures mode { IfOk result (λ made. made.inline
+            ≡ inline_for N (utf8_len (replaced count [] (chars replacement.now) self.now.chars))) }
+        ensures capacity { IsErrOf result EcoError.Capacity
+            ↔ (MAX_LEN < utf8_len (replaced count [] (chars replacement.now) self.now.chars)) }
+        ensures free { utf8_len (replaced count [] (chars replacement.now) self.now.chars) ≤ N
+            → IsOk result }
     {
         let text = self.as_str();
         let _len = self.len();

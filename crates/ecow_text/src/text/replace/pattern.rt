@@ -33,7 +33,8 @@ pub(super) fn replaced_len(
 ) -> Option<usize>
     requires finder { finder.now ≡ pattern.now }
     requires some { pattern.now ≢ [] }
-    ensures { let made = replaced count (chars pattern.now) (chars replacement.now) (chars text.now) in SomeIff result (utf8_len made ≤ MAX_LEN) (utf8_len made) }
+    ensures { let made = replaced count (chars pattern.now) (chars replacement.now)
+        (chars text.now) in SomeIff result (utf8_len made ≤ MAX_LEN) (utf8_len made) }
 {
     let mut total = 0usize;
     let mut rest = text;
@@ -65,9 +66,13 @@ pub(super) fn push_replaced<const N: usize>(
     requires finder { finder.now ≡ pattern.now }
     requires some { pattern.now ≢ [] }
     requires bounded { most ≤ MAX_LEN }
-    requires fits { utf8_len made.old.chars + utf8_len (replaced count (chars pattern.now) (chars replacement.now) (chars text.now)) ≤ most }
+    requires fits { utf8_len made.old.chars
+        + utf8_len (replaced count (chars pattern.now) (chars replacement.now) (chars text.now))
+        ≤ most }
     requires mode { made.old.inline ≡ inline_for N most }
-    ensures chars { OnOk result (made.new.chars ≡ made.old.chars ++ replaced count (chars pattern.now) (chars replacement.now) (chars text.now)) }
+    ensures chars { OnOk result
+        (made.new.chars ≡ made.old.chars ++ replaced count (chars pattern.now)
+        (chars replacement.now) (chars text.now)) }
     ensures mode { OnOk result (made.new.inline ≡ inline_for N most) }
     ensures memory { IfErr result (λ error. error ≡ EcoError.Memory) }
     ensures free { OnErr result (N < most) }

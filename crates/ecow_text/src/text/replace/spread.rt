@@ -22,7 +22,8 @@ fn split_char(text: &str) -> Option<(&str, &str)>
 /// How many bytes `replacen` of the empty pattern comes to, where a text may have so many.
 pub(super) fn spread_len(text: &str, replacement: &str, count: usize) -> Option<usize>
     requires { length text.now ≤ MAX_LEN }
-    ensures { let made = replaced count [] (chars replacement.now) (chars text.now) in SomeIff result (utf8_len made ≤ MAX_LEN) (utf8_len made) }
+    ensures { let made = replaced count [] (chars replacement.now)
+        (chars text.now) in SomeIff result (utf8_len made ≤ MAX_LEN) (utf8_len made) }
 {
     let places = count.min(text.chars().count() + 1);
     let added = places.checked_mul(replacement.len())?;
@@ -39,9 +40,12 @@ pub(super) fn push_spread<const N: usize>(
     most: usize,
 ) -> Result<(), EcoError>
     requires bounded { most ≤ MAX_LEN }
-    requires fits { utf8_len made.old.chars + utf8_len (replaced count [] (chars replacement.now) (chars text.now)) ≤ most }
+    requires fits { utf8_len made.old.chars
+        + utf8_len (replaced count [] (chars replacement.now) (chars text.now)) ≤ most }
     requires mode { made.old.inline ≡ inline_for N most }
-    ensures chars { OnOk result (made.new.chars ≡ made.old.chars ++ replaced count [] (chars replacement.now) (chars text.now)) }
+    ensures chars { OnOk result
+        (made.new.chars ≡ made.old.chars ++ replaced count [] (chars replacement.now)
+        (chars text.now)) }
     ensures mode { OnOk result (made.new.inline ≡ inline_for N most) }
     ensures memory { IfErr result (λ error. error ≡ EcoError.Memory) }
     ensures free { OnErr result (N < most) }
