@@ -398,7 +398,7 @@ impl<T> Block<T> {
     pub fn take_vec(&mut self) -> Result<Vec<T>, AllocError>
         ensures taken { IfOk result (λ elements. elements.items ≡ self.old.items) }
         ensures left { OnOk result (self.new.items ≡ []) }
-        ensures err { OnErr result (self.new ≡ self.old) }
+        ensures unchanged { OnErr result (self.new ≡ self.old) }
     {
         let mut elements = Vec::with_capacity(self.alloc, self.len)?;
         let mut rest = replace(self, Block::new(self.alloc)).into_rest();
@@ -436,7 +436,7 @@ impl<T: Clone> Block<T> {
         ensures len { OnOk result (length self.new.items ≡ length self.old.items
             + length elements.now) }
         ensures capacity { self.new.capacity ≡ self.old.capacity }
-        ensures err { OnErr result (self.new ≡ self.old) }
+        ensures unchanged { OnErr result (self.new ≡ self.old) }
     {
         self.room.append_clones(self.base, self.len, elements)?;
         self.len += elements.len();

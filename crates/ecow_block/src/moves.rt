@@ -451,7 +451,7 @@ impl<T> Room<T> {
         ensures len { OnOk result (length self.new.items ≡ length self.old.items
             + length elements.now) }
         ensures places { SamePlaces self.old self.new }
-        ensures err { OnErr result (self.new.items ≡ self.old.items) }
+        ensures unchanged { OnErr result (self.new.items ≡ self.old.items) }
     {
         if elements.len() < CHUNK {
             return self.append_each(base, at, elements);
@@ -473,7 +473,7 @@ impl<T> Room<T> {
         ensures len { OnOk result (length self.new.items ≡ length self.old.items
             + length elements.now) }
         ensures places { SamePlaces self.old self.new }
-        ensures err { OnErr result (self.new.items ≡ self.old.items) }
+        ensures unchanged { OnErr result (self.new.items ≡ self.old.items) }
     {
         let done = self.append_chunks(base, at, elements)?;
         if let Err(error) = self.append_each(base, at + done, &elements[done..]) {
@@ -501,7 +501,7 @@ impl<T> Room<T> {
         ensures len { IfOk result (λ done. (done ≤ length elements.now)
             × (length self.new.items ≡ length self.old.items + done)) }
         ensures places { SamePlaces self.old self.new }
-        ensures err { OnErr result (self.new.items ≡ self.old.items) }
+        ensures unchanged { OnErr result (self.new.items ≡ self.old.items) }
     {
         let mut rest = elements;
         let mut done = 0;
@@ -534,7 +534,7 @@ impl<T> Room<T> {
             (AppendsClones T.is_clone self.old.items elements.now self.new.items) }
         ensures len { OnOk result (length self.new.items ≡ length self.old.items + CHUNK) }
         ensures places { SamePlaces self.old self.new }
-        ensures err { OnErr result (self.new.items ≡ self.old.items) }
+        ensures unchanged { OnErr result (self.new.items ≡ self.old.items) }
     {
         self.put_chunk(base, at, elements.clone()?);
         Ok(())
@@ -552,7 +552,7 @@ impl<T> Room<T> {
         ensures len { OnOk result (length self.new.items ≡ length self.old.items
             + length elements.now) }
         ensures places { SamePlaces self.old self.new }
-        ensures err { OnErr result (self.new.items ≡ self.old.items) }
+        ensures unchanged { OnErr result (self.new.items ≡ self.old.items) }
     {
         let mut done = 0;
         while done < elements.len() {

@@ -84,7 +84,7 @@ impl<const N: usize> InlineVec<N> {
     pub(crate) fn push(&mut self, byte: u8) -> Result<(), Full>
         ensures room { IsOk result ↔ (length self.old < N) }
         ensures ok { OnOk result (self.new ≡ self.old ++ byte ∷ []) }
-        ensures err { OnErr result (self.new ≡ self.old) }
+        ensures unchanged { OnErr result (self.new ≡ self.old) }
     {
         let len = self.buffer.len;
         if len == N {
@@ -130,7 +130,7 @@ impl<const N: usize> InlineVec<N> {
         ensures room { IsOk result ↔ (length self.old + length bytes.now ≤ N) }
         ensures fits { (length self.old ≤ N) × (N ≤ MAX_LEN) }
         ensures ok { OnOk result (self.new ≡ self.old ++ bytes.now) }
-        ensures err { OnErr result (self.new ≡ self.old) }
+        ensures unchanged { OnErr result (self.new ≡ self.old) }
     {
         if N - self.buffer.len < bytes.len() {
             return Err(Full);
@@ -147,7 +147,7 @@ impl<const N: usize> InlineVec<N> {
         requires { index ≤ length self.old }
         ensures room { IsOk result ↔ (length self.old + length bytes.now ≤ N) }
         ensures ok { OnOk result (self.new ≡ insert_slice self.old index bytes.now) }
-        ensures err { OnErr result (self.new ≡ self.old) }
+        ensures unchanged { OnErr result (self.new ≡ self.old) }
     {
         if N - self.buffer.len < bytes.len() {
             return Err(Full);

@@ -129,7 +129,7 @@ impl<T> Blocks<T> {
     pub fn begin(&mut self, name: Name) -> Result<(), AllocError>
         requires free { finite.get self.old.names name ≡ None }
         ensures ok { OnOk result (self.new.names ≡ settle name [] 0 self.old.names) }
-        ensures err { OnErr result (self.new.names ≡ self.old.names) }
+        ensures unchanged { OnErr result (self.new.names ≡ self.old.names) }
         ensures room { self.new.has_room ≡ self.old.has_room }
         ensures sharing { IsSharing self.new.names }
     {
@@ -186,7 +186,7 @@ impl<T> Blocks<T> {
         requires free { finite.get self.old.names to ≡ None }
         ensures ok { OnOk result
             (self.new.names ≡ join from to (held_at self.old.names from) self.old.names) }
-        ensures err { OnErr result (self.new.names ≡ self.old.names) }
+        ensures unchanged { OnErr result (self.new.names ≡ self.old.names) }
         ensures sharing { IsSharing self.new.names }
     {
         let place = place_of(&self.places, from);
@@ -207,7 +207,7 @@ impl<T: Drop> Blocks<T> {
         requires free { finite.get self.old.names name ≡ None }
         ensures ok { OnOk result
             (self.new.names ≡ settle name block.items block.capacity self.old.names) }
-        ensures err { OnErr result (self.new.names ≡ self.old.names) }
+        ensures unchanged { OnErr result (self.new.names ≡ self.old.names) }
         ensures sharing { IsSharing self.old.names → IsSharing self.new.names }
     {
         if block.capacity() == 0 {

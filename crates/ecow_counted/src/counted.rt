@@ -191,7 +191,7 @@ impl<T: Clone> Counted<T> {
             → IfOk result (λ outcomes. CopiesFromNew self.old commands.items outcomes.items self.new) }
         ensures moves_from_new { ClonesAreEqual T.is_clone
             → IfOk result (λ outcomes. MovesFromNew self.old commands.items outcomes.items self.new) }
-        ensures err { OnErr result (self.new ≡ self.old) }
+        ensures unchanged { OnErr result (self.new ≡ self.old) }
         ensures value_returned { IfErr result (λ rejected. rejected.value ≡ commands) }
         ensures memory { IfErr result (λ rejected. rejected.error ≡ EcoError.Memory) }
     {

@@ -38,7 +38,7 @@ impl<T: Drop> Blocks<T> {
         requires bounded { want.capacity ≤ MAX_LEN }
         ensures names { OnOk result (self.new.names ≡ self.old.names) }
         ensures room { OnOk result (self.new.has_room ≡ true) }
-        ensures err { OnErr result
+        ensures unchanged { OnErr result
             (self.new.names ≡ settle name block.items block.capacity self.old.names) }
         ensures items { IfOk result (λ own. own.block.items ≡ block.items) }
         ensures capacity { IfOk result (λ own. own.block.capacity ≡ want.capacity) }
@@ -106,7 +106,7 @@ impl<T: Drop> Blocks<T> {
         requires bounded { want.capacity ≤ MAX_LEN }
         ensures opened { OnOk result (IsOpened name self.old.names self.new.names) }
         ensures room { OnOk result (0 < want.capacity → self.new.has_room ≡ true) }
-        ensures err { OnErr result (self.new.names ≡ self.old.names) }
+        ensures unchanged { OnErr result (self.new.names ≡ self.old.names) }
         ensures items { IfOk result (λ own. own.block.items ≡ (held_at self.old.names name).items) }
         ensures capacity { IfOk result (λ own. own.block.capacity ≡ want.capacity) }
         ensures copied { IfOk result (λ own. own.copied ≡ 0) }
@@ -172,7 +172,7 @@ impl<T: Clone> Blocks<T> {
         requires bounded { want.capacity ≤ MAX_LEN }
         ensures opened { OnOk result (IsOpened name self.old.names self.new.names) }
         ensures room { OnOk result (0 < want.capacity → self.new.has_room ≡ true) }
-        ensures err { OnErr result (self.new.names ≡ self.old.names) }
+        ensures unchanged { OnErr result (self.new.names ≡ self.old.names) }
         ensures items { ClonesAreEqual T.is_clone
             → IfOk result (λ own. own.block.items ≡ cond (is_shared (held_at self.old.names name))
             (take want.copies (held_at self.old.names name).items)

@@ -102,7 +102,7 @@ impl<V: Drop> Table<V> {
     #[inline]
     pub fn insert(&mut self, name: Name, value: V) -> Result<(), AllocError>
         ensures ok { OnOk result (self.new ≡ map.insert self.old name value) }
-        ensures err { OnErr result (self.new ≡ self.old) }
+        ensures unchanged { OnErr result (self.new ≡ self.old) }
     {
         if name < SLOTS {
             reach(&mut self.slots, name as usize)?;

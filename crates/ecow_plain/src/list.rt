@@ -94,7 +94,7 @@ impl<T: Drop> PlainList<T> {
     /// Appends `value`.
     pub fn push(&mut self, value: T) -> Result<(), AllocError>
         ensures ok { OnOk result (self.new ≡ self.old ++ value ∷ []) }
-        ensures err { OnErr result (self.new ≡ self.old) }
+        ensures unchanged { OnErr result (self.new ≡ self.old) }
     {
         self.elements.push(value)?;
         Ok(())
@@ -104,7 +104,7 @@ impl<T: Drop> PlainList<T> {
     pub fn insert(&mut self, index: usize, value: T) -> Result<(), AllocError>
         requires { index ≤ length self.old }
         ensures ok { OnOk result (self.new ≡ insert self.old index value) }
-        ensures err { OnErr result (self.new ≡ self.old) }
+        ensures unchanged { OnErr result (self.new ≡ self.old) }
     {
         self.elements.insert(index, value)?;
         Ok(())
@@ -136,7 +136,7 @@ impl<T: Drop> PlainList<T> {
         requires in_bounds { end ≤ length self.old }
         ensures items { OnOk result (self.new ≡ splice self.old start end replacement) }
         ensures removed { IfOk result (λ removed. removed ≡ slice_range self.old start end) }
-        ensures err { OnErr result (self.new ≡ self.old) }
+        ensures unchanged { OnErr result (self.new ≡ self.old) }
     {
         let mut replacement = replacement;
         let elements = splice_vec(&mut self.elements, start, end, &mut replacement.elements)?;
@@ -154,7 +154,7 @@ impl<T: Drop> PlainList<T> {
     /// Appends the elements of `other`.
     pub fn append(&mut self, other: PlainList<T>) -> Result<(), AllocError>
         ensures ok { OnOk result (self.new ≡ self.old ++ other) }
-        ensures err { OnErr result (self.new ≡ self.old) }
+        ensures unchanged { OnErr result (self.new ≡ self.old) }
     {
         let mut other = other;
         self.elements.append(&mut other.elements)
@@ -208,7 +208,7 @@ fn splice_vec<T: Drop>(
         ≡ splice elements.old.items start end replacement.old.items) }
     ensures removed { IfOk result (λ removed. removed.items
         ≡ slice_range elements.old.items start end) }
-    ensures err { OnErr result (elements.new.items ≡ elements.old.items) }
+    ensures unchanged { OnErr result (elements.new.items ≡ elements.old.items) }
 {
     let len = elements.len();
     elements.reserve(replacement.len())?;

@@ -74,7 +74,7 @@ impl<T: Clone, const N: usize> PlainStore<T, N> {
             (λ outcomes. RunBy IsVecStep self.old commands.items outcomes.items self.new) }
         ensures verdicts { IfOk result
             (λ outcomes. RunBy IsVecVerdict self.old commands.items outcomes.items self.new) }
-        ensures err { OnErr result (self.new ≡ self.old) }
+        ensures unchanged { OnErr result (self.new ≡ self.old) }
     {
         let mut outcomes = Vec::with_capacity(self.alloc, commands.len())?;
         let mut rest = commands.into_iter();

@@ -160,7 +160,7 @@ fn retain_marked<T: Clone>(list: &mut EcoVec<T>, marks: &[bool]) -> Result<(), E
     requires { length marks.now ≡ length list.old }
     ensures ok { ClonesAreEqual T.is_clone
         → OnOk result (list.new ≡ items_where_true marks.now list.old) }
-    ensures err { IfErr result (λ error. error ≡ EcoError.Memory) }
+    ensures memory { IfErr result (λ error. error ≡ EcoError.Memory) }
     ensures unchanged { OnErr result (list.new ≡ list.old) }
 {
     let mut rest = marks;

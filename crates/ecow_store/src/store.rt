@@ -88,7 +88,7 @@ impl<T: Clone, const N: usize> NamedValues<Stored<T, N>> {
             RunBy (StepWhere N (ClonesAreEqual T.is_clone)) self.old commands.items outcomes.items self.new) }
         ensures verdicts { IfOk result
             (λ outcomes. RunBy (StepVerdict N) self.old commands.items outcomes.items self.new) }
-        ensures err { OnErr result (self.new ≡ self.old) }
+        ensures unchanged { OnErr result (self.new ≡ self.old) }
         ensures value_returned { IfErr result (λ rejected. rejected.value ≡ commands) }
         ensures memory { IfErr result (λ rejected. rejected.error ≡ EcoError.Memory) }
     {

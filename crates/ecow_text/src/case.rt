@@ -40,7 +40,7 @@ pub(crate) fn map_in_place<const N: usize>(
     ensures bytes { OnOk result (bytes.new.bytes ≡ map (in_case case) bytes.old.bytes) }
     ensures mode { bytes.new.inline ≡ bytes.old.inline }
     ensures memory { IfErr result (λ error. error ≡ EcoError.Memory) }
-    ensures err { OnErr result (bytes.new ≡ bytes.old) }
+    ensures unchanged { OnErr result (bytes.new ≡ bytes.old) }
     ensures free { OnErr result (bytes.old.inline ≡ false) }
 {
     let _len = bytes.len();

@@ -18,7 +18,7 @@ pub(crate) fn cut_out<const N: usize>(
     ensures bytes { OnOk result (bytes.new.bytes ≡ remove_range bytes.old.bytes start end) }
     ensures mode { bytes.new.inline ≡ bytes.old.inline }
     ensures memory { IfErr result (λ error. error ≡ EcoError.Memory) }
-    ensures err { OnErr result (bytes.new ≡ bytes.old) }
+    ensures unchanged { OnErr result (bytes.new ≡ bytes.old) }
     ensures free { OnErr result (bytes.old.inline ≡ false) }
 {
     if bytes.is_inline() {

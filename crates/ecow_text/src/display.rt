@@ -29,7 +29,7 @@ impl<const N: usize> fmt::Write for SmallText<N> {
         ensures mode { OnOk result
             (self.new.inline ≡ inline_after N self.old.inline (utf8_len self.old.chars)
             (length text.now)) }
-        ensures err { OnErr result (self.new ≡ self.old) }
+        ensures unchanged { OnErr result (self.new ≡ self.old) }
         ensures free { OnErr result (inline_after N self.old.inline (utf8_len self.old.chars)
             (length text.now) ≡ false) }
     {

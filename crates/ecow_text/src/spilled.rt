@@ -24,7 +24,7 @@ pub(crate) fn cut_vec(vec: &mut EcoVec<u8>, start: usize, end: usize) -> Result<
     requires within { end ≤ length vec.old }
     ensures bytes { OnOk result (vec.new ≡ remove_range vec.old start end) }
     ensures memory { IfErr result (λ error. error ≡ EcoError.Memory) }
-    ensures err { OnErr result (vec.new ≡ vec.old) }
+    ensures unchanged { OnErr result (vec.new ≡ vec.old) }
 {
     let len = vec.len();
     match vec.own_mut() {
@@ -43,7 +43,7 @@ pub(crate) fn cut_vec(vec: &mut EcoVec<u8>, start: usize, end: usize) -> Result<
 pub(crate) fn map_vec(vec: &mut EcoVec<u8>, case: Case) -> Result<(), EcoError>
     ensures bytes { OnOk result (vec.new ≡ map (in_case case) vec.old) }
     ensures memory { IfErr result (λ error. error ≡ EcoError.Memory) }
-    ensures err { OnErr result (vec.new ≡ vec.old) }
+    ensures unchanged { OnErr result (vec.new ≡ vec.old) }
 {
     match vec.own_mut() {
         Ok(block) => {

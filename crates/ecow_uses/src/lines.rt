@@ -9,7 +9,7 @@ use ecow_list::{EcoError, EcoVec};
 pub fn append(lines: &mut EcoVec<String>, line: String) -> Result<(), EcoError>
     ensures ok { OnOk result (map string_bytes lines.new ≡ map string_bytes lines.old
         ++ string_bytes line ∷ []) }
-    ensures err { OnErr result (lines.new ≡ lines.old) }
+    ensures unchanged { OnErr result (lines.new ≡ lines.old) }
 {
     lines.push(line)?;
     Ok(())

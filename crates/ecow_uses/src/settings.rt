@@ -24,7 +24,7 @@ pub fn fork(settings: &mut Counted<u64>, from: Name, to: Name) -> Result<(), Ref
         ≡ list_of settings.old.names version }
     ensures copied { settings.new.copied ≡ settings.old.copied }
     ensures moved { settings.new.moved ≡ settings.old.moved }
-    ensures err { OnErr result (settings.new ≡ settings.old) }
+    ensures unchanged { OnErr result (settings.new ≡ settings.old) }
 {
     match settings.share(from, to) {
         Outcome::Done => Ok(()),
@@ -46,7 +46,7 @@ pub fn set(
         (list_of settings.old.names version)) }
     ensures others { (other : ℕ) → other ≢ version
         → list_of settings.new.names other ≡ list_of settings.old.names other }
-    ensures err { OnErr result (settings.new ≡ settings.old) }
+    ensures unchanged { OnErr result (settings.new ≡ settings.old) }
 {
     let command = VecCommand::Write {
         name: version,

@@ -47,7 +47,7 @@ impl Names {
         ensures there { IfOk result (λ symbol. Contains self.new symbol) }
         ensures kept { IfOk result (λ symbol. (self.new ≡ self.old)
             ⊎ (self.new ≡ self.old ++ symbol ∷ [])) }
-        ensures err { OnErr result (self.new ≡ self.old) }
+        ensures unchanged { OnErr result (self.new ≡ self.old) }
     {
         for known in &self.names {
             if known.as_str() == name {
@@ -133,7 +133,7 @@ impl Scope {
         ensures others { OnOk result ((other : List ℕ)
             → same_name (encode_utf8_all name.chars) other ≡ false
             → meaning self.new other ≡ meaning self.old other) }
-        ensures err { OnErr result (self.new ≡ self.old) }
+        ensures unchanged { OnErr result (self.new ≡ self.old) }
     {
         self.bindings.push(Binding { name, value })?;
         Ok(())

@@ -58,7 +58,7 @@ impl History {
     pub fn replace(&mut self, at: usize, line: EcoString) -> Result<(), EcoError>
         requires { at < length self.old.lines }
         ensures ok { OnOk result (self.new ≡ edited self.old (slice_set self.old.lines at line)) }
-        ensures err { OnErr result (self.new ≡ self.old) }
+        ensures unchanged { OnErr result (self.new ≡ self.old) }
     {
         let mut lines = self.lines.clone()?;
         lines.set(at, line)?;
@@ -69,7 +69,7 @@ impl History {
     pub fn insert(&mut self, at: usize, line: EcoString) -> Result<(), EcoError>
         requires { at ≤ length self.old.lines }
         ensures ok { OnOk result (self.new ≡ edited self.old (insert self.old.lines at line)) }
-        ensures err { OnErr result (self.new ≡ self.old) }
+        ensures unchanged { OnErr result (self.new ≡ self.old) }
     {
         let mut lines = self.lines.clone()?;
         lines.insert(at, line)?;
@@ -80,7 +80,7 @@ impl History {
     pub fn remove(&mut self, at: usize) -> Result<(), EcoError>
         requires { at < length self.old.lines }
         ensures ok { OnOk result (self.new ≡ edited self.old (remove self.old.lines at)) }
-        ensures err { OnErr result (self.new ≡ self.old) }
+        ensures unchanged { OnErr result (self.new ≡ self.old) }
     {
         let mut lines = self.lines.clone()?;
         lines.remove(at)?;
@@ -90,7 +90,7 @@ impl History {
     /// Makes these lines the present, and the present the last of the past.
     fn settle(&mut self, lines: EcoVec<EcoString>) -> Result<(), EcoError>
         ensures ok { OnOk result (self.new ≡ edited self.old lines) }
-        ensures err { OnErr result (self.new ≡ self.old) }
+        ensures unchanged { OnErr result (self.new ≡ self.old) }
     {
         let before = self.lines.clone()?;
         self.past.push(before)?;
@@ -104,7 +104,7 @@ impl History {
         ensures undone { IfOk result (λ done. done ≡ true → IsUndone self.old self.new) }
         ensures nothing { IfOk result (λ done. done ≡ false → (self.old.past ≡ [])
             × (self.new ≡ self.old)) }
-        ensures err { OnErr result (self.new ≡ self.old) }
+        ensures unchanged { OnErr result (self.new ≡ self.old) }
     {
         if self.past.is_empty() {
             return Ok(false);
@@ -123,7 +123,7 @@ impl History {
         ensures redone { IfOk result (λ done. done ≡ true → IsUndone self.new self.old) }
         ensures nothing { IfOk result (λ done. done ≡ false → (self.old.future ≡ [])
             × (self.new ≡ self.old)) }
-        ensures err { OnErr result (self.new ≡ self.old) }
+        ensures unchanged { OnErr result (self.new ≡ self.old) }
     {
         if self.future.is_empty() {
             return Ok(false);

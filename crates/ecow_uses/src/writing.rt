@@ -10,7 +10,7 @@ pub fn count_up(list: &mut EcoVec<u64>, at: usize) -> Result<(), EcoError>
     requires bound { at < length list.old }
     requires small { slice_index list.old at + 1 < 2 ^ 64 }
     ensures ok { OnOk result (list.new ≡ slice_set list.old at (slice_index list.old at + 1)) }
-    ensures err { OnErr result (list.new ≡ list.old) }
+    ensures unchanged { OnErr result (list.new ≡ list.old) }
 {
     match list.own_mut() {
         Ok(block) => {
@@ -27,7 +27,7 @@ pub fn count_up(list: &mut EcoVec<u64>, at: usize) -> Result<(), EcoError>
 pub fn sort(list: &mut EcoVec<u64>) -> Result<(), EcoError>
     ensures ok { OnOk result (IsNonDecreasing list.new) }
     ensures permutation { OnOk result (IsPermutation list.old list.new) }
-    ensures err { OnErr result (list.new ≡ list.old) }
+    ensures unchanged { OnErr result (list.new ≡ list.old) }
 {
     match list.own_mut() {
         Ok(block) => {

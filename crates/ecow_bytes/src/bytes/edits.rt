@@ -22,7 +22,7 @@ impl<const N: usize> SmallBytes<N> {
             (self.new.bytes ≡ take (length self.old.bytes - 1) self.old.bytes) }
         ensures mode { self.new.inline ≡ self.old.inline }
         ensures memory { IfErr result (λ error. error ≡ EcoError.Memory) }
-        ensures err { OnErr result (self.new ≡ self.old) }
+        ensures unchanged { OnErr result (self.new ≡ self.old) }
         ensures free { OnErr result (self.old.inline ≡ false) }
         ensures empty { self.old.bytes ≡ [] → IsOk result × (self.new ≡ self.old) }
     {
@@ -39,7 +39,7 @@ impl<const N: usize> SmallBytes<N> {
         ensures bytes { OnOk result (self.new.bytes ≡ take target self.old.bytes) }
         ensures mode { self.new.inline ≡ self.old.inline }
         ensures memory { IfErr result (λ error. error ≡ EcoError.Memory) }
-        ensures err { OnErr result (self.new ≡ self.old) }
+        ensures unchanged { OnErr result (self.new ≡ self.old) }
         ensures free { OnErr result (self.old.inline ≡ false) }
         ensures keeps_all { length self.old.bytes ≤ target → IsOk result × (self.new ≡ self.old) }
         ensures keeps_none { target ≡ 0 → IsOk result × (self.new.bytes ≡ []) }
@@ -63,7 +63,7 @@ impl<const N: usize> SmallBytes<N> {
         ensures bytes { OnOk result (self.new.bytes ≡ insert self.old.bytes index byte) }
         ensures mode { OnOk result
             (self.new.inline ≡ inline_after N self.old.inline (length self.old.bytes) 1) }
-        ensures err { OnErr result (self.new ≡ self.old) }
+        ensures unchanged { OnErr result (self.new ≡ self.old) }
         ensures capacity { IsErrOf result EcoError.Capacity ↔ (MAX_LEN ≤ length self.old.bytes) }
         ensures free { OnErr result (inline_after N self.old.inline (length self.old.bytes) 1
             ≡ false) }
@@ -91,7 +91,7 @@ impl<const N: usize> SmallBytes<N> {
         ensures mode { OnOk result
             (self.new.inline ≡ inline_after N self.old.inline (length self.old.bytes)
             (length bytes.now)) }
-        ensures err { OnErr result (self.new ≡ self.old) }
+        ensures unchanged { OnErr result (self.new ≡ self.old) }
         ensures capacity { IsErrOf result EcoError.Capacity
             ↔ (MAX_LEN < length self.old.bytes + length bytes.now) }
         ensures free { OnErr result (inline_after N self.old.inline (length self.old.bytes)
@@ -116,7 +116,7 @@ impl<const N: usize> SmallBytes<N> {
         requires full { N < length self.old.bytes + length bytes.now }
         ensures bytes { OnOk result (self.new.bytes ≡ insert_slice self.old.bytes index bytes.now) }
         ensures mode { OnOk result (self.new.inline ≡ false) }
-        ensures err { OnErr result (self.new ≡ self.old) }
+        ensures unchanged { OnErr result (self.new ≡ self.old) }
         ensures capacity { IsErrOf result EcoError.Capacity
             ↔ (MAX_LEN < length self.old.bytes + length bytes.now) }
     {
@@ -137,7 +137,7 @@ impl<const N: usize> SmallBytes<N> {
         ensures bytes { OnOk result (self.new.bytes ≡ remove self.old.bytes index) }
         ensures mode { self.new.inline ≡ self.old.inline }
         ensures memory { IfErr result (λ error. error ≡ EcoError.Memory) }
-        ensures err { OnErr result (self.new ≡ self.old) }
+        ensures unchanged { OnErr result (self.new ≡ self.old) }
         ensures free { OnErr result (self.old.inline ≡ false) }
     {
         match &mut self.form {
@@ -155,7 +155,7 @@ impl<const N: usize> SmallBytes<N> {
         ensures bytes { OnOk result (self.new.bytes ≡ slice_set self.old.bytes index byte) }
         ensures mode { self.new.inline ≡ self.old.inline }
         ensures memory { IfErr result (λ error. error ≡ EcoError.Memory) }
-        ensures err { OnErr result (self.new ≡ self.old) }
+        ensures unchanged { OnErr result (self.new ≡ self.old) }
         ensures free { OnErr result (self.old.inline ≡ false) }
     {
         match &mut self.form {
@@ -181,7 +181,7 @@ impl<const N: usize> SmallBytes<N> {
         ensures bytes { self.new.bytes ≡ self.old.bytes }
         ensures mode { OnOk result
             (self.new.inline ≡ inline_after N self.old.inline (length self.old.bytes) additional) }
-        ensures err { OnErr result (self.new ≡ self.old) }
+        ensures unchanged { OnErr result (self.new ≡ self.old) }
         ensures capacity { IsErrOf result EcoError.Capacity
             ↔ (MAX_LEN < length self.old.bytes + additional) }
         ensures free { OnErr result

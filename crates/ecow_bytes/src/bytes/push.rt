@@ -37,7 +37,7 @@ impl<const N: usize> SmallBytes<N> {
         ensures bytes { OnOk result (self.new.bytes ≡ self.old.bytes ++ byte ∷ []) }
         ensures mode { OnOk result
             (self.new.inline ≡ inline_after N self.old.inline (length self.old.bytes) 1) }
-        ensures err { OnErr result (self.new ≡ self.old) }
+        ensures unchanged { OnErr result (self.new ≡ self.old) }
         ensures capacity { IsErrOf result EcoError.Capacity ↔ (MAX_LEN ≤ length self.old.bytes) }
         ensures free { OnErr result (inline_after N self.old.inline (length self.old.bytes) 1
             ≡ false) }
@@ -70,7 +70,7 @@ impl<const N: usize> SmallBytes<N> {
         ensures mode { OnOk result
             (self.new.inline ≡ inline_after N self.old.inline (length self.old.bytes)
             (length bytes.now)) }
-        ensures err { OnErr result (self.new ≡ self.old) }
+        ensures unchanged { OnErr result (self.new ≡ self.old) }
         ensures capacity { IsErrOf result EcoError.Capacity
             ↔ (MAX_LEN < length self.old.bytes + length bytes.now) }
         ensures free { OnErr result (inline_after N self.old.inline (length self.old.bytes)
@@ -124,7 +124,7 @@ impl<const N: usize> SmallBytes<N> {
         requires full { N < length self.old.bytes + length bytes.now }
         ensures bytes { OnOk result (self.new.bytes ≡ self.old.bytes ++ bytes.now) }
         ensures mode { OnOk result (self.new.inline ≡ false) }
-        ensures err { OnErr result (self.new ≡ self.old) }
+        ensures unchanged { OnErr result (self.new ≡ self.old) }
         ensures capacity { IsErrOf result EcoError.Capacity
             ↔ (MAX_LEN < length self.old.bytes + length bytes.now) }
     {

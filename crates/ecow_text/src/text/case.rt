@@ -20,7 +20,7 @@ impl<const N: usize> SmallText<N> {
         ensures chars { OnOk result (self.new.chars ≡ map to_ascii_lowercase self.old.chars) }
         ensures mode { self.new.inline ≡ self.old.inline }
         ensures memory { IfErr result (λ error. error ≡ EcoError.Memory) }
-        ensures err { OnErr result (self.new ≡ self.old) }
+        ensures unchanged { OnErr result (self.new ≡ self.old) }
         ensures free { OnErr result (self.old.inline ≡ false) }
     {
         map_in_place(&mut self.bytes, Case::Lower)?;
@@ -32,7 +32,7 @@ impl<const N: usize> SmallText<N> {
         ensures chars { OnOk result (self.new.chars ≡ map to_ascii_uppercase self.old.chars) }
         ensures mode { self.new.inline ≡ self.old.inline }
         ensures memory { IfErr result (λ error. error ≡ EcoError.Memory) }
-        ensures err { OnErr result (self.new ≡ self.old) }
+        ensures unchanged { OnErr result (self.new ≡ self.old) }
         ensures free { OnErr result (self.old.inline ≡ false) }
     {
         map_in_place(&mut self.bytes, Case::Upper)?;

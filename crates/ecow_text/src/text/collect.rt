@@ -189,7 +189,7 @@ impl<const N: usize> SmallText<N> {
             (length text.now)) }
         ensures capacity { IsErrOf result EcoError.Capacity
             ↔ (MAX_LEN < utf8_len self.old.chars + length text.now) }
-        ensures err { OnErr result (self.new ≡ self.old) }
+        ensures unchanged { OnErr result (self.new ≡ self.old) }
         ensures free { OnErr result (inline_after N self.old.inline (utf8_len self.old.chars)
             (length text.now) ≡ false) }
         ensures len { utf8_len (self.old.chars ++ chars text.now) ≡ utf8_len self.old.chars

@@ -22,7 +22,7 @@ impl<const N: usize> SmallText<N> {
             (self.new.chars ≡ take (length self.old.chars - 1) self.old.chars) }
         ensures mode { self.new.inline ≡ self.old.inline }
         ensures memory { IfErr result (λ error. error ≡ EcoError.Memory) }
-        ensures err { OnErr result (self.new ≡ self.old) }
+        ensures unchanged { OnErr result (self.new ≡ self.old) }
         ensures free { OnErr result (self.old.inline ≡ false) }
         ensures empty { self.old.chars ≡ [] → IsOk result × (self.new ≡ self.old) }
     {
@@ -44,7 +44,7 @@ impl<const N: usize> SmallText<N> {
             (self.new.chars ≡ take (chars_before self.old.chars target) self.old.chars) }
         ensures mode { self.new.inline ≡ self.old.inline }
         ensures memory { IfErr result (λ error. error ≡ EcoError.Memory) }
-        ensures err { OnErr result (self.new ≡ self.old) }
+        ensures unchanged { OnErr result (self.new ≡ self.old) }
         ensures free { OnErr result (self.old.inline ≡ false) }
         ensures keeps_all { utf8_len self.old.chars ≤ target → IsOk result × (self.new ≡ self.old) }
         ensures keeps_none { target ≡ 0 → IsOk result × (self.new.chars ≡ []) }
@@ -65,7 +65,7 @@ impl<const N: usize> SmallText<N> {
         ensures mode { OnOk result
             (self.new.inline ≡ inline_after N self.old.inline (utf8_len self.old.chars)
             (len_utf8 c)) }
-        ensures err { OnErr result (self.new ≡ self.old) }
+        ensures unchanged { OnErr result (self.new ≡ self.old) }
         ensures capacity { IsErrOf result EcoError.Capacity
             ↔ (MAX_LEN < utf8_len self.old.chars + len_utf8 c) }
         ensures free { OnErr result (inline_after N self.old.inline (utf8_len self.old.chars)
@@ -91,7 +91,7 @@ impl<const N: usize> SmallText<N> {
         ensures mode { OnOk result
             (self.new.inline ≡ inline_after N self.old.inline (utf8_len self.old.chars)
             (length text.now)) }
-        ensures err { OnErr result (self.new ≡ self.old) }
+        ensures unchanged { OnErr result (self.new ≡ self.old) }
         ensures capacity { IsErrOf result EcoError.Capacity
             ↔ (MAX_LEN < utf8_len self.old.chars + length text.now) }
         ensures free { OnErr result (inline_after N self.old.inline (utf8_len self.old.chars)
@@ -113,7 +113,7 @@ impl<const N: usize> SmallText<N> {
             (self.new.chars ≡ remove self.old.chars (chars_before self.old.chars index)) }
         ensures mode { self.new.inline ≡ self.old.inline }
         ensures memory { IfErr result (λ error. error ≡ EcoError.Memory) }
-        ensures err { OnErr result (self.new ≡ self.old) }
+        ensures unchanged { OnErr result (self.new ≡ self.old) }
         ensures free { OnErr result (self.old.inline ≡ false) }
     {
         let c = self.as_str()[index..].chars().next().unwrap();
@@ -132,7 +132,7 @@ impl<const N: usize> SmallText<N> {
         ensures mode { OnOk result
             (self.new.inline
             ≡ inline_after N self.old.inline (utf8_len self.old.chars) additional) }
-        ensures err { OnErr result (self.new ≡ self.old) }
+        ensures unchanged { OnErr result (self.new ≡ self.old) }
         ensures capacity { IsErrOf result EcoError.Capacity
             ↔ (MAX_LEN < utf8_len self.old.chars + additional) }
         ensures free { OnErr result

@@ -21,7 +21,7 @@ impl<const N: usize> SmallText<N> {
         ensures mode { OnOk result
             (self.new.inline ≡ inline_after N self.old.inline (utf8_len self.old.chars)
             (len_utf8 c)) }
-        ensures err { OnErr result (self.new ≡ self.old) }
+        ensures unchanged { OnErr result (self.new ≡ self.old) }
         ensures capacity { IsErrOf result EcoError.Capacity
             ↔ (MAX_LEN < utf8_len self.old.chars + len_utf8 c) }
         ensures free { OnErr result (inline_after N self.old.inline (utf8_len self.old.chars)
@@ -44,7 +44,7 @@ impl<const N: usize> SmallText<N> {
         ensures mode { OnOk result
             (self.new.inline ≡ inline_after N self.old.inline (utf8_len self.old.chars)
             (length text.now)) }
-        ensures err { OnErr result (self.new ≡ self.old) }
+        ensures unchanged { OnErr result (self.new ≡ self.old) }
         ensures capacity { IsErrOf result EcoError.Capacity
             ↔ (MAX_LEN < utf8_len self.old.chars + length text.now) }
         ensures free { OnErr result (inline_after N self.old.inline (utf8_len self.old.chars)

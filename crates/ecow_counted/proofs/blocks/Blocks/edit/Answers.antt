@@ -46,7 +46,7 @@ returns-in_default-own-clause-carried g c =
       | else-size-gt1-via-then-size-gt1+else-not-unshares w ↦ ap (unshares c.args.edit) (sym len) ∙ sym w.unshares.ensures ∙ w.if-not-unshares.false
       | else-size-gt1-via-else-size-gt1 w ↦ absurd (true≢false (sym shared ∙ ap (nat_lt 1) (sym owners) ∙ le-ltb 1 c.in-Some.size.owners w.if-size-gt1.false))
     ] in
-    rw c.still-in_default-own.ensures (same_carried (ClonesAreEqual g.T.Clone.is_clone) names (Edit c.args.name c.args.edit) _ _ c.in_default-own.ensures.err
+    rw c.still-in_default-own.ensures (same_carried (ClonesAreEqual g.T.Clone.is_clone) names (Edit c.args.name c.args.edit) _ _ c.in_default-own.ensures.unchanged
     (edit_memory (ClonesAreEqual g.T.Clone.is_clone) names c.args.name c.args.edit h found.0 asked
     (⊎_elim (λ t. absurd (refused_is c.own.result c.in_default-own.field-0 c.in_default-own.is (c.own.ensures.free (wanted ∙ free_keeps h (found_fits h found.1 c.in-Some.ensures.bounds.0) c.args.edit leaves t)))) (λ f. f) (cases_Bool (held_is_free c.args.edit h)))))
 

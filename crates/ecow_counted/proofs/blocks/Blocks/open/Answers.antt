@@ -8,14 +8,14 @@ grow-requires-clause-there g c = (opened_as c.args.self.now.names c.args.name c.
 pub returns-in-Some-clause-opened : goal.returns-in-Some-clause-opened
 returns-in-Some-clause-opened g c = where_ok c.grow.result (λ same. opened_as c.args.self.now.names c.args.name c.grow.new.self.names (same ∙ c.take.ensures.names)) c.grow.ensures.names
 
-pub returns-in-Some-clause-err : goal.returns-in-Some-clause-err
-returns-in-Some-clause-err g c = where_err c.grow.result
+pub returns-in-Some-clause-unchanged : goal.returns-in-Some-clause-unchanged
+returns-in-Some-clause-unchanged g c = where_err c.grow.result
     (λ put. put_back c.args.self.now.names c.args.name c.requires.there c.requires.sole c.requires.sharing c.requires.backed c.in-Some.block (sym c.in-Some.is ∙ c.take.ensures.block) c.take.new.self.names c.grow.new.self.names c.take.ensures.names put)
-    c.grow.ensures.err
+    c.grow.ensures.unchanged
 
 pub returns-in-None-clause-opened : goal.returns-in-None-clause-opened
 returns-in-None-clause-opened g c = always_ok c.fresh.result (opened_as c.args.self.now.names c.args.name c.fresh.new.self.names (c.fresh.ensures.names ∙ c.take.ensures.names))
 
-pub returns-in-None-clause-err : goal.returns-in-None-clause-err
-returns-in-None-clause-err g c = always_err c.fresh.result
+pub returns-in-None-clause-unchanged : goal.returns-in-None-clause-unchanged
+returns-in-None-clause-unchanged g c = always_err c.fresh.result
     (none_taken c.args.self.now.names c.args.name c.requires.there c.requires.sole c.requires.sharing c.requires.backed (sym c.in-None.is ∙ c.take.ensures.block) c.fresh.new.self.names (c.fresh.ensures.names ∙ c.take.ensures.names))

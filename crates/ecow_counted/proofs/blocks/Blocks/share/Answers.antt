@@ -21,7 +21,7 @@ pub returns-in_default-clause-ok : goal.returns-in_default-clause-ok
 returns-in_default-clause-ok g c = bare_joined_names c.self.inside.places c.self.inside.table c.self.invariant c.args.self.now.names (ap (λ s. s.names) c.self.view_is) c.args.from c.args.to c.requires.free c.insert.new.self (c.place_of-place.ensures ∙ ap Some c.in_default.is) (c.in_ok-insert.ensures.ok ∙ ap (finite.insert c.self.inside.places c.args.to) c.in_default.is)
 
 pub returns-in_err-insert-clause-sharing : goal.returns-in_err-insert-clause-sharing
-returns-in_err-insert-clause-sharing g c = rw c.in_err-insert.ensures.err (sharing-table c.self.inside.places c.self.inside.table c.self.invariant)
+returns-in_err-insert-clause-sharing g c = rw c.in_err-insert.ensures.unchanged (sharing-table c.self.inside.places c.self.inside.table c.self.invariant)
 
 pub returns-in-Some-clause-sharing : goal.returns-in-Some-clause-sharing
 returns-in-Some-clause-sharing g c = sharing-table c.insert.new.self c.add_owner.new.table (invariant_of-self-in-Some g c)

@@ -23,5 +23,5 @@ returns-in_err-push_next-clause-refused g c =
       one_more g.I.IntoIterator.into_iter_gives g.I.IntoIter.Iterator.next_gives c.args.iter it.result xs c.loop-text.text-iterator x c.next.new.self it.ensures.into_iter_gives c.loop-text.yielded_by c.in-Some.ensures.steps,
       sym (stays g.row.N old.inline now.inline (utf8_len now.chars) (length c.text.result.now) _ c.loop-text.invariant.1 whole) ∙ given.free,
       rw (p.1, p.2, whole) given.capacity,
-      (xs, x, refl, ap (λ t. t.chars) given.err ∙ c.loop-text.invariant.0),
+      (xs, x, refl, ap (λ t. t.chars) given.unchanged ∙ c.loop-text.invariant.0),
     )
