@@ -47,7 +47,7 @@ impl<T: Clone + Copy> EcoVec<T> {
     #[inline]
     pub fn extend_from_copied(&mut self, elements: &[T]) -> Result<(), EcoError>
         ensures ok { OnOk result (self.new ≡ self.old ++ elements.now) }
-        ensures err { OnErr result (self.new ≡ self.old) }
+        ensures unchanged { OnErr result (self.new ≡ self.old) }
         ensures capacity { IsErrOf result EcoError.Capacity
             ↔ (MAX_LEN < length self.old + length elements.now) }
         ensures nothing { elements.now ≡ [] → IsOk result × (self.new ≡ self.old) }
@@ -75,7 +75,7 @@ impl<T: Clone + Copy> EcoVec<T> {
         ensures ok { OnOk result
             (AtRange (R.start_bound range, R.end_bound range) (length self.old)
             (λ start end. self.new ≡ self.old ++ slice_range self.old start end)) }
-        ensures err { OnErr result (self.new ≡ self.old) }
+        ensures unchanged { OnErr result (self.new ≡ self.old) }
         ensures capacity { AtRange (R.start_bound range, R.end_bound range) (length self.old)
             (λ start end.
             IsErrOf result EcoError.Capacity ↔ (MAX_LEN < length self.old + (end - start))) }

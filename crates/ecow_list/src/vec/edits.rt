@@ -20,7 +20,7 @@ impl<T: Clone> EcoVec<T> {
         ensures ok { ClonesAreEqual T.is_clone → OnOk result (self.new ≡ take len self.old) }
         ensures kept { OnOk result (IsKept T.is_clone (take len self.old) self.new) }
         ensures len { OnOk result (length self.new ≡ min len (length self.old)) }
-        ensures err { IfErr result (λ error. error ≡ EcoError.Memory) }
+        ensures memory { IfErr result (λ error. error ≡ EcoError.Memory) }
         ensures unchanged { OnErr result (self.new ≡ self.old) }
         ensures keeps_all { length self.old ≤ len → IsOk result × (self.new ≡ self.old) }
         ensures keeps_none { len ≡ 0 → IsOk result × (self.new ≡ []) }
@@ -58,7 +58,7 @@ impl<T: Clone> EcoVec<T> {
             self.new) }
         ensures some { IfOk result (λ last. IsSome last ↔ (0 < length self.old)) }
         ensures len { OnOk result (length self.new ≡ length self.old - 1) }
-        ensures err { IfErr result (λ error. error ≡ EcoError.Memory) }
+        ensures memory { IfErr result (λ error. error ≡ EcoError.Memory) }
         ensures unchanged { OnErr result (self.new ≡ self.old) }
         ensures empty { self.old ≡ [] → IsOk result × (self.new ≡ []) }
     {
@@ -104,7 +104,7 @@ impl<T: Clone> EcoVec<T> {
             (λ kept. remove kept index)
             self.new) }
         ensures len { OnOk result (length self.new + 1 ≡ length self.old) }
-        ensures err { IfErr result (λ error. error ≡ EcoError.Memory) }
+        ensures memory { IfErr result (λ error. error ≡ EcoError.Memory) }
         ensures unchanged { OnErr result (self.new ≡ self.old) }
     {
         Ok(self.edit(Clones, Room::Fresh, 0, (), |block, ()| {
@@ -147,7 +147,7 @@ impl<T: Clone> EcoVec<T> {
             SomeKept T.is_clone self.old
             (λ kept. UpdatesAt F.FnOnce f index kept self.new answer)) }
         ensures len { OnOk result (length self.new ≡ length self.old) }
-        ensures err { IfErr result (λ error. error ≡ EcoError.Memory) }
+        ensures memory { IfErr result (λ error. error ≡ EcoError.Memory) }
         ensures unchanged { OnErr result (self.new ≡ self.old) }
     {
         Ok(self.edit(Clones, Room::Fresh, 0, (), |block, ()| {
@@ -163,7 +163,7 @@ impl<T: Clone> EcoVec<T> {
         ensures ok { ClonesAreEqual T.is_clone → OnOk result (self.new ≡ self.old) }
         ensures kept { OnOk result (IsKept T.is_clone self.old self.new) }
         ensures len { OnOk result (length self.new ≡ length self.old) }
-        ensures err { OnErr result (self.new ≡ self.old) }
+        ensures unchanged { OnErr result (self.new ≡ self.old) }
         ensures capacity { IsErrOf result EcoError.Capacity
             ↔ (MAX_LEN < length self.old + additional) }
     {
@@ -179,7 +179,7 @@ impl<T: Clone> EcoVec<T> {
         ensures ok { ClonesAreEqual T.is_clone → OnOk result (self.new ≡ self.old ++ elements.now) }
         ensures kept { OnOk result (IsKeptBefore T.is_clone self.old elements.now self.new) }
         ensures len { OnOk result (length self.new ≡ length self.old + length elements.now) }
-        ensures err { OnErr result (self.new ≡ self.old) }
+        ensures unchanged { OnErr result (self.new ≡ self.old) }
         ensures capacity { IsErrOf result EcoError.Capacity
             ↔ (MAX_LEN < length self.old + length elements.now) }
         ensures nothing { elements.now ≡ [] → IsOk result × (self.new ≡ self.old) }
@@ -205,7 +205,7 @@ impl<T: Clone> EcoVec<T> {
             (SomeKept T.is_clone self.old
             (λ kept. RetainsInTurn (CalledAtMut F.FnMut) f kept self.new)) }
         ensures len { OnOk result (length self.new ≤ length self.old) }
-        ensures err { IfErr result (λ error. error ≡ EcoError.Memory) }
+        ensures memory { IfErr result (λ error. error ≡ EcoError.Memory) }
         ensures unchanged { OnErr result (self.new ≡ self.old) }
     {
         Ok(self.edit(Clones, Room::Fresh, 0, (), |block, ()| Ok(block.retain(f)))?)

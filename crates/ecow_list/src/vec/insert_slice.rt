@@ -23,7 +23,7 @@ impl<T: Clone + Copy> EcoVec<T> {
         requires { index ≤ length self.old }
         ensures ok { OnOk result (self.new ≡ insert_slice self.old index elements.now) }
         ensures len { OnOk result (length self.new ≡ length self.old + length elements.now) }
-        ensures err { OnErr result (self.new ≡ self.old) }
+        ensures unchanged { OnErr result (self.new ≡ self.old) }
         ensures capacity { IsErrOf result EcoError.Capacity
             ↔ (MAX_LEN < length self.old + length elements.now) }
     {

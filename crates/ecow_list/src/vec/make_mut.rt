@@ -22,7 +22,7 @@ impl<T: Clone> EcoVec<T> {
         ensures* writes_back { sem 𝓛 (lends_slice T.row T.is_clone self.entry result) }
         ensures value { ClonesAreEqual T.is_clone → IfOk result (λ slice. slice.now ≡ self.old) }
         ensures len { IfOk result (λ slice. length slice.now ≡ length self.old) }
-        ensures err { IfErr result (λ error. error ≡ EcoError.Memory) }
+        ensures memory { IfErr result (λ error. error ≡ EcoError.Memory) }
         ensures empty { self.old ≡ [] → IsOk result }
         ensures kept { IfOk result (λ slice. IsKept T.is_clone self.old slice.now) }
     {
@@ -48,7 +48,7 @@ impl<T: Clone> EcoVec<T> {
         ensures kept { IfOk result (λ block. IsKept T.is_clone self.old block.now.items) }
         ensures len { IfOk result (λ block. length block.now.items ≡ length self.old) }
         ensures some { OnOk result (0 < length self.old) }
-        ensures err { IfErr result
+        ensures refused { IfErr result
             (λ refused.
             MatchOption refused (self.old ≡ [])
             (λ error. (error ≡ EcoError.Memory) × (0 < length self.old))) }

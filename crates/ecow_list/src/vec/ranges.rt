@@ -48,7 +48,7 @@ impl<T: Clone> EcoVec<T> {
             (λ removed.
             AtRange (R.start_bound range, R.end_bound range) (length self.old)
             (λ start end. length removed ≡ end - start)) }
-        ensures err { IfErr result (λ error. error ≡ EcoError.Memory) }
+        ensures memory { IfErr result (λ error. error ≡ EcoError.Memory) }
         ensures unchanged { OnErr result (self.new ≡ self.old) }
     {
         let (start, end) = resolve(&range, self.len()).unwrap();
@@ -147,7 +147,7 @@ impl<T: Clone> EcoVec<T> {
         ensures len { OnOk result
             (length self.new + (end - start) ≡ length self.old + length replacement.items) }
         ensures removed_len { IfOk result (λ removed. length removed ≡ end - start) }
-        ensures err { IfErr result (λ error. error ≡ EcoError.Memory) }
+        ensures memory { IfErr result (λ error. error ≡ EcoError.Memory) }
         ensures unchanged { OnErr result (self.new ≡ self.old) }
     {
         let more = replacement.len().saturating_sub(end - start);
