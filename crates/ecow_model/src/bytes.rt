@@ -5,8 +5,8 @@ ghost use Rattle.ecow_model.specs.Refusing.{verdict};
 ghost use Rattle.ecow_values.specs.declared.plain.PlainBytes.{PlainBytes};
 
 use crate::command::{Name, Refusal};
-use ecow_values::Items;
 use crate::usage::{Usage, allowed, ask, change, derive, make, within};
+use ecow_values::Items;
 
 /// A command on bytes, inline or spilled. Counts and indexes are of bytes.
 #[derive(Drop)]

@@ -1,8 +1,8 @@
 //! The commands on named values, their outcomes and their refusals.
 use crate::bytes::BytesCommand;
-use ecow_values::{Items, Text};
 use crate::lists::VecCommand;
 use crate::texts::TextCommand;
+use ecow_values::{Items, Text};
 use std::ops::Bound;
 
 /// What a value is called by.

@@ -4,9 +4,9 @@ ghost use Rattle.ecow_model.specs.Lists.{list_edited, vec_usage};
 ghost use Rattle.ecow_model.specs.Refusing.{verdict};
 
 use crate::command::{Bounds, Name, Refusal};
-use ecow_values::Items;
 use crate::usage::{Usage, allowed, ask, change, derive, make, within};
 use ecow_base::resolve;
+use ecow_values::Items;
 
 /// A command on a list of elements. Counts and indexes are of elements.
 #[derive(Drop)]

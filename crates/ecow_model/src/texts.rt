@@ -3,8 +3,8 @@ ghost use Rattle.std.specs.Prelude.{◌≡◌};
 ghost use Rattle.ecow_model.specs.Texts.{text_usage};
 
 use crate::command::Name;
-use ecow_values::Text;
 use crate::usage::{Usage, ask, change, derive, make};
+use ecow_values::Text;
 
 /// A command on a text, inline or spilled. Counts and indexes are of its UTF-8 bytes.
 #[derive(Drop)]

@@ -11,8 +11,7 @@ use crate::list::PlainList;
 use ecow_model::kinds::carry_out;
 use ecow_model::table::Table;
 use ecow_model::value::Value;
-use ecow_model::{PlainBytes, PlainText};
-use ecow_model::{Name, Outcome, Refusal, VecCommand, loans};
+use ecow_model::{Name, Outcome, PlainBytes, PlainText, Refusal, VecCommand, loans};
 use std::alloc::{AllocError, Global};
 use std::marker::Model;
 

@@ -123,7 +123,11 @@ fn replace_a_node(rt: &HostRuntime) -> Result<()> {
         println!(rt; "{} -> {}", printed(rt, &kept)?, printed(rt, &changed)?)?;
     }
     if let Some(node) = tree.at(&[0]) {
-        println!(rt; "first child: {}, nodes: {:?}", printed(rt, node)?, tree.size())?;
+        println!(rt;
+            "first child: {}, nodes: {:?}",
+            printed(rt, node)?,
+            tree.size()
+        )?;
     }
     Ok(())
 }
