@@ -32,7 +32,7 @@ pub fn ranges_of_nothing()
 {}
 
 /// Patterns of some characters, and what stands in their place. 233 is é and 128512 is 😀.
-#[tactic(auto, unfolding(ecow_model::specs::Replaced::replaced, ecow_model::specs::Replaced::first_split))]
+#[tactic(auto, unfolding(ecow_values::specs::Replaced::replaced, ecow_values::specs::Replaced::first_split))]
 pub fn replaced_patterns()
     ensures leftmost_first { replaced_all (codes "aa") (codes "b") (codes "aaa") ≡ codes "ba" }
     ensures at_the_end { replaced_all (codes "a") [] (233 ∷ 97 ∷ []) ≡ 233 ∷ [] }
@@ -42,7 +42,7 @@ pub fn replaced_patterns()
 {}
 
 /// The empty pattern, which occurs at every boundary.
-#[tactic(auto, unfolding(ecow_model::specs::Replaced::replaced, ecow_model::specs::Replaced::first_split))]
+#[tactic(auto, unfolding(ecow_values::specs::Replaced::replaced, ecow_values::specs::Replaced::first_split))]
 pub fn replaced_boundaries()
     ensures all { replaced_all [] (codes "-") (codes "ab") ≡ codes "-a-b-" }
     ensures two { replaced 2 [] (codes "-") (codes "ab") ≡ codes "-a-b" }
