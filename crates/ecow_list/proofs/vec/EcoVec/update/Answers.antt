@@ -1,10 +1,13 @@
-use Rattle.std.proofs.Common.{rules, arith, subst}
+use Rattle.std.proofs.Common.{◌<◌, rules, arith, length, subst}
 use Rattle.ecow_block.specs.Updates.{UpdatesAt}
 use Rattle.ecow_list.proofs.Kept.{takes_kept}
 use Rattle.ecow_list.proofs.vec.EcoVec.update.Goals as goal
 
 pub edit-requires-clause-callable : goal.edit-requires-clause-callable
-edit-requires-clause-callable g c = λ b kept len room _ _ _ _ _ _ _ _ _. (omega (arith, len, c.requires.in_bounds), takes_kept g.T.Clone.is_clone g.F.FnOnce c.args.f c.args.self.now b.now.items c.args.index c.requires.callable kept)
+edit-requires-clause-callable g c = λ b kept len room.
+    let within : c.args.index < length b.now.items = omega (arith, len, c.requires.in_bounds) in
+    let takes = takes_kept g.T.Clone.is_clone g.F.FnOnce c.args.f c.args.self.now b.now.items c.args.index c.requires.callable kept in
+    search (rules, within, takes)
 
 pub returns-clause-ok : goal.returns-clause-ok
 returns-clause-ok g c = λ equal. let e = c.in_ok-edit.ensures.edited.ok equal in
