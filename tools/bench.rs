@@ -470,9 +470,7 @@ fn least(programs: &[&[&str]], call: &str, element: &str, length: usize, samples
         count *= 2;
     }
     let answers: Vec<String> = programs.iter().map(|program| run(program, &words(count)).0).collect();
-    // Four to seven bytes are hashed as one word, so that their hash is another.
-    let differs = call == "bytes_hash" && (4..8).contains(&length);
-    assert!(differs || answers.iter().all(|answer| *answer == answers[0]), "{call} saw something else: {answers:?}");
+    assert!(answers.iter().all(|answer| *answer == answers[0]), "{call} saw something else: {answers:?}");
     let mut least = vec![[f64::INFINITY; 2]; programs.len()];
     for _ in 0..samples {
         for (program, least) in programs.iter().zip(&mut least) {
