@@ -36,7 +36,7 @@ abbrev pub name_given : {E : Type 0} → Bool → Result (MutBor (List ℕ)) E �
 name_given true r = name_if_ok (λ s. s.ghost_name) r
 name_given false r = name_if_lent r
 
--- the same form with other bytes
+-- a form with other bytes in place of its own
 abbrev pub with_bytes : {N : ℕ} → Form N → List ℕ → Form N
 with_bytes (Inline v) xs = Inline xs
 with_bytes (Spilled v) xs = Spilled xs

@@ -69,7 +69,7 @@ impl<const N: usize> InlineVec<N> {
         &self.buffer.cells.bytes[..self.buffer.len]
     }
 
-    /// The same bytes once more.
+    /// A copy of these bytes.
     #[inline]
     pub(crate) fn copied(&self) -> Self
         ensures { result ≡ self.now }

@@ -111,7 +111,7 @@ module _ {X : Type 0} (places after : Places) (table left : Slab (Entry X)) (is 
     blocks_are = len ∙ is.blocks_are ∙ sym (ap blocks shared_names ∙ blocks-join (names_of places table) (sharing-table places table is) x y h source_is target_free (λ items capacity. 1));
   }
 
--- the same where x has no block, and where the entry at x's place counts one owner more
+-- y joins x where x has no block, and where the entry at x's place counts one owner more
 module _ {X : Type 0} (places after : Places) (table : Slab (Entry X)) (is : IsTable places table) (x y : ℕ) (free : finite.get places y ≡ None) where
   module _ (source : finite.get places x ≡ Some None) (found : (q : ℕ) → finite.get after q ≡ cond (eqb q y) (Some None) (finite.get places q)) where
     was_same : (other : ℕ) (e : Entry X) → get table other ≡ Some e → (old : Entry X) × (get table other ≡ Some old) × (e.block ≡ old.block) × (e.owners ≡ old.owners + cond (is_at other None) 1 0)

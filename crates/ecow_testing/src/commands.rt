@@ -126,7 +126,7 @@ impl Numbers {
         Ok(commands)
     }
 
-    /// The same, as commands of a store.
+    /// So many commands of a store, all of them on lists.
     pub fn store_commands(
         &mut self,
         alloc: Global,

@@ -153,7 +153,7 @@ found_text s (c ∷ p) valid needle some (Some k) found =
     let parts = finds_split s p c (Some k) valid needle found in
     found_parts s p c k valid parts.0 parts.1 needle (needle_boundary s p c k needle found.1)
 
--- the same of bytes that are texts
+-- what the search of a text's bytes says of its characters
 pub finds_text : (text pattern : List ℕ) → IsUtf8 text → IsUtf8 pattern → pattern ≢ [] → (r : Option ℕ) → FindsNeedle text pattern 0 r
     → MatchOption r (first_split (chars pattern) (chars text) ≡ None) (λ k. Found text pattern k)
 finds_text text pattern t p some r found =

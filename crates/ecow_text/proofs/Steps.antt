@@ -52,7 +52,7 @@ replaced-step (suc n) p t s before behind more text some parts =
     let back : suc n - 1 ≡ n = omega arith in
     rw back (replaced-first n (chars p) (chars t) (chars s) (chars before) (chars behind) (chars_some p text some) parts.split)
 
--- the same of the empty pattern
+-- the first step of a replacement of the empty pattern
 spread_first : (n x : ℕ) (t s : List ℕ) → replaced (suc n) [] t (x ∷ s) ≡ t ++ x ∷ replaced n [] t s
 unfolding replaced
 spread_first n x t s = refl
@@ -90,7 +90,7 @@ spread_size (suc n) t (x ∷ s) =
     let one = suc-mul (min n (length s + 1)) (utf8_len t) in
     rw (spread_first n x t s, more) (omega (arith, encoded_len t (x ∷ replaced n [] t s), width x (replaced n [] t s), width x s, spread_size n t s, one))
 
--- the same of texts
+-- how many bytes a text has in which the empty pattern is replaced
 pub spread_total : (n places : ℕ) (t s : List ℕ) → IsUtf8 t → IsUtf8 s → places ≡ min n (length (chars s) + 1) → utf8_len (replaced n [] (chars t) (chars s)) ≡ length s + places * length t
 spread_total n places t s to text e =
     spread_size n (chars t) (chars s) ∙ (λ i. utf8_len-chars s text i + sym e i * utf8_len-chars t to i)

@@ -73,7 +73,8 @@ pub(crate) fn mapped<const N: usize>(
     Ok(SmallBytes::from(mapped_vec(alloc, bytes.as_slice(), case)?))
 }
 
-/// The same, inline where there are at most `N` bytes, which is never refused, and else spilled.
+/// The bytes with their letters in one case: inline where there are at most `N`, which is never
+/// refused, and else spilled.
 pub(crate) fn mapped_by_length<const N: usize>(
     bytes: &SmallBytes<N>,
     case: Case,
@@ -90,7 +91,7 @@ pub(crate) fn mapped_by_length<const N: usize>(
     Ok(SmallBytes::from(mapped_vec(alloc, bytes.as_slice(), case)?))
 }
 
-/// The same inline.
+/// At most `N` bytes with their letters in one case, inline.
 fn mapped_inline<const N: usize>(alloc: Global, bytes: &[u8], case: Case) -> SmallBytes<N>
     requires { length bytes.now ≤ N }
     ensures bytes { result.bytes ≡ map (in_case case) bytes.now }
@@ -103,7 +104,7 @@ fn mapped_inline<const N: usize>(alloc: Global, bytes: &[u8], case: Case) -> Sma
     SmallBytes::inline(alloc, front)
 }
 
-/// The same in a vector.
+/// The bytes with their letters in one case, in a vector.
 fn mapped_vec(alloc: Global, bytes: &[u8], case: Case) -> Result<EcoVec<u8>, EcoError>
     requires { length bytes.now ≤ MAX_LEN }
     ensures bytes { IfOk result (λ made. made ≡ map (in_case case) bytes.now) }

@@ -30,7 +30,7 @@ pub(crate) fn cut_out<const N: usize>(
     outcome
 }
 
-/// The same of inline bytes: those behind the part are kept beside, and appended to those before
+/// Takes a part out of inline bytes: those behind it are kept beside, and appended to those before
 /// it.
 fn cut_inline<const N: usize>(
     bytes: &mut SmallBytes<N>,

@@ -14,7 +14,7 @@ fn letters(alloc: Global) -> Result<EcoBytes, EcoError> {
     EcoBytes::from_slice(alloc, &LETTERS)
 }
 
-/// The same bytes, spilled.
+/// The letters, spilled.
 fn spilled_letters(alloc: Global) -> Result<EcoBytes, EcoError> {
     Ok(EcoBytes::from(EcoVec::from_slice(alloc, &LETTERS)?))
 }

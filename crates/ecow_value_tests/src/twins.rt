@@ -5,7 +5,7 @@ use std::alloc::{AllocError, Global};
 use std::process::Abort;
 use std::test::Fail;
 
-/// The same list twice: in a block over raw memory, and in a `Vec` beside a capacity number.
+/// One list twice: in a block over raw memory, and in a `Vec` beside a capacity number.
 #[derive(Drop)]
 struct Twins {
     raw: Block<i64>,

@@ -99,7 +99,8 @@ impl<const N: usize> SmallBytes<N> {
     pub fn extend<I: IntoIterator<Item = u8>>(&mut self, iter: I) -> Result<(), EcoError>
         requires { (it : I.IntoIter) → I.into_iter_gives iter it → I.IntoIter.can_next it
             × IsFinite (I.IntoIter.remaining it) }
-        ensures bytes { ExtendsWithItems I.into_iter_gives I.IntoIter.next_gives Appends iter self.old.bytes self.new.bytes result }
+        ensures bytes { ExtendsWithItems I.into_iter_gives I.IntoIter.next_gives Appends iter
+            self.old.bytes self.new.bytes result }
         ensures mode { self.new.inline ≡ inline_after N self.old.inline (length self.new.bytes) 0 }
         ensures refused { OnErr result ((items : List ℕ)
             × GivesFirst I.into_iter_gives I.IntoIter.next_gives iter items

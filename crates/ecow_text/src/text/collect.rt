@@ -114,7 +114,8 @@ impl<const N: usize> SmallText<N> {
     pub fn extend_chars<I: IntoIterator<Item = char>>(&mut self, iter: I) -> Result<(), EcoError>
         requires { (it : I.IntoIter) → I.into_iter_gives iter it → I.IntoIter.can_next it
             × IsFinite (I.IntoIter.remaining it) }
-        ensures chars { ExtendsWithItems I.into_iter_gives I.IntoIter.next_gives Appends iter self.old.chars self.new.chars result }
+        ensures chars { ExtendsWithItems I.into_iter_gives I.IntoIter.next_gives Appends iter
+            self.old.chars self.new.chars result }
         ensures mode { self.new.inline
             ≡ inline_after N self.old.inline (utf8_len self.new.chars) 0 }
         ensures refused { OnErr result ((items : List ℕ)
@@ -142,7 +143,8 @@ impl<const N: usize> SmallText<N> {
     ) -> Result<(), EcoError>
         requires { (it : I.IntoIter) → I.into_iter_gives iter it → I.IntoIter.can_next it
             × IsFinite (I.IntoIter.remaining it) }
-        ensures chars { ExtendsWithItems I.into_iter_gives I.IntoIter.next_gives AppendsStrs iter self.old.chars self.new.chars result }
+        ensures chars { ExtendsWithItems I.into_iter_gives I.IntoIter.next_gives AppendsStrs iter
+            self.old.chars self.new.chars result }
         ensures mode { self.new.inline
             ≡ inline_after N self.old.inline (utf8_len self.new.chars) 0 }
         ensures refused { OnErr result
