@@ -9,7 +9,7 @@ use std::alloc::{AllocError, Global};
 use std::test::Fail;
 
 /// A text and bytes beside the nodes below, and what is derived.
-#[derive(Clone, Debug, Drop, Eq, Hash, Ord, PartialEq, PartialOrd)]
+#[derive(Clone, Drop, PartialEq)]
 struct Syntax {
     text: EcoString,
     bytes: EcoBytes,
@@ -17,19 +17,19 @@ struct Syntax {
 }
 
 /// A vector that may be missing.
-#[derive(Clone, Debug, Drop, Eq, Hash, Ord, PartialEq, PartialOrd)]
+#[derive(Clone, Drop, PartialEq)]
 struct Lazy {
     below: Option<EcoVec<Lazy>>,
 }
 
 /// A vector of vectors.
-#[derive(Clone, Debug, Drop, Eq, Hash, Ord, PartialEq, PartialOrd)]
+#[derive(Clone, Drop, PartialEq)]
 struct Rows {
     rows: EcoVec<EcoVec<Rows>>,
 }
 
 /// Nodes with a number each.
-#[derive(Clone, Debug, Drop, Eq, Hash, Ord, PartialEq, PartialOrd)]
+#[derive(Clone, Drop, PartialEq)]
 struct Numbered {
     below: EcoVec<(u64, Numbered)>,
 }
@@ -44,7 +44,7 @@ enum Value {
 }
 
 /// A label of the user's.
-#[derive(Clone, Debug, Drop, Eq, Hash, Ord, PartialEq, PartialOrd)]
+#[derive(Clone, Drop, PartialEq)]
 struct Rose<T> {
     label: T,
     below: EcoVec<Rose<T>>,
@@ -64,51 +64,69 @@ fn syntax_of(alloc: Global, text: &str, below: EcoVec<Syntax>) -> Result<Syntax,
     })
 }
 
+/// Whether a clone of a value is equal to it.
+fn has_equal_clone<T: Clone + Drop + PartialEq>(value: &T) -> Result<bool, AllocError> {
+    let copy = value.clone()?;
+    Ok(copy == *value)
+}
+
 #[test]
 fn texts_and_bytes_stand_beside_nodes(rt: HostRuntime) -> Result<(), Fail> {
     let alloc = rt.alloc();
     let leaf = syntax_of(alloc, "x", EcoVec::new(alloc))?;
     let tree = syntax_of(alloc, "f", one(alloc, leaf)?)?;
-    let copy = tree.clone()?;
-    assert!(rt; copy == tree && copy >= tree);
-    assert!(rt; tree.below[0].text.as_str() == "x" && tree.below[0] > tree);
+    assert!(rt; has_equal_clone(&tree)?);
     Ok(())
 }
 
 #[test]
-fn vectors_may_be_missing_or_nested_or_stand_in_pairs(rt: HostRuntime) -> Result<(), Fail> {
-    let alloc = rt.alloc();
+fn vectors_may_be_missing(rt: HostRuntime) -> Result<(), Fail> {
     let lazy = Lazy {
-        below: Some(one(alloc, Lazy { below: None })?),
+        below: Some(one(rt.alloc(), Lazy { below: None })?),
     };
-    assert!(rt; lazy > Lazy { below: None } && lazy.clone()? == lazy);
+    assert!(rt; has_equal_clone(&lazy)?);
+    Ok(())
+}
+
+#[test]
+fn vectors_stand_in_vectors_and_pairs(rt: HostRuntime) -> Result<(), Fail> {
+    let alloc = rt.alloc();
     let none = Rows {
         rows: EcoVec::new(alloc),
     };
     let rows = Rows {
         rows: one(alloc, one(alloc, none)?)?,
     };
-    assert!(rt; rows.rows[0].len() == 1 && rows.clone()? == rows);
+    assert!(rt; has_equal_clone(&rows)?);
     let none = Numbered {
         below: EcoVec::new(alloc),
     };
     let numbered = Numbered {
         below: one(alloc, (7, none))?,
     };
-    assert!(rt; numbered.below[0].0 == 7 && numbered.clone()? == numbered);
+    assert!(rt; has_equal_clone(&numbered)?);
+    Ok(())
+}
+
+/// A list of one text.
+fn a_list(alloc: Global) -> Result<Value, EcoError> {
+    let text = Value::Text(EcoString::from_str(alloc, "a")?);
+    Ok(Value::List(one(alloc, text)?))
+}
+
+#[test]
+fn variants_hold_vectors(rt: HostRuntime) -> Result<(), Fail> {
+    let alloc = rt.alloc();
+    let list = a_list(alloc)?;
+    let second = Some(one(alloc, a_list(alloc)?)?);
+    let pair = Value::Pair(one(alloc, Value::Number(1))?, second);
+    assert!(rt; has_equal_clone(&pair)? && pair > list);
     Ok(())
 }
 
 #[test]
-fn variants_and_labels_hold_vectors(rt: HostRuntime) -> Result<(), Fail> {
+fn labels_stand_beside_vectors(rt: HostRuntime) -> Result<(), Fail> {
     let alloc = rt.alloc();
-    let text = Value::Text(EcoString::from_str(alloc, "a")?);
-    let list = Value::List(one(alloc, text)?);
-    let pair = Value::Pair(
-        one(alloc, Value::Number(1))?,
-        Some(one(alloc, list.clone()?)?),
-    );
-    assert!(rt; pair > list && pair.clone()? == pair);
     let leaf = Rose {
         label: 2u8,
         below: EcoVec::new(alloc),
@@ -117,7 +135,7 @@ fn variants_and_labels_hold_vectors(rt: HostRuntime) -> Result<(), Fail> {
         label: 1u8,
         below: one(alloc, leaf)?,
     };
-    assert!(rt; rose.below[0].label == 2 && rose.clone()? == rose);
+    assert!(rt; has_equal_clone(&rose)?);
     Ok(())
 }
 
@@ -199,6 +217,7 @@ fn chain(tally: &Tally, alloc: Global, n: usize) -> Result<EcoVec<Node>, EcoErro
     Ok(below)
 }
 
+// The checked build of `rt try` takes more stack for each node, and runs out of it.
 #[test]
 fn a_chain_of_ten_thousand_nodes_is_dropped(rt: HostRuntime) -> Result<(), Fail> {
     let tally = Tally::new(rt.alloc())?;
