@@ -51,6 +51,7 @@ if [ "$kind" != vector ]; then
     grep '^(f \|^first child' crates/ecow_uses/stdout > "$trees/stdout"
     grep -rl 'Rattle.ecow_uses' "$trees" | xargs sed -i 's/Rattle\.ecow_uses\./Rattle.trees./g'
     echo 'trees: ecow_list ecow_text anyhow' >> "$new/crates.txt"
+    (cd "$trees" && rt fmt > /dev/null)
 fi
 if [ "$kind" = store ]; then
     mkdir "$new/crates/ecow_uses"
