@@ -46,7 +46,8 @@ abbrev pub IsKeptBefore : {T : Type 0} → (T → T → Type 0) → List T → L
 IsKeptBefore {T} is_clone old xs new = (kept : List T) × (added : List T) × IsKept is_clone old kept × AllZip is_clone xs added × (new ≡ kept ++ added)
 
 -- what a call that makes `change` of a vector's old elements leaves
-pub record Changes {T R E : Type 0} (is_clone : T → T → Type 0) (old : List T) (change : List T → List T) (result : Result R E) (new : List T) : Type 0 where
+pub record Changes {T R E : Type 0} (is_clone : T → T → Type 0) (old : List T)
+    (change : List T → List T) (result : Result R E) (new : List T) : Type 0 where
   -- where clones equal their sources, new is what `change` makes of old
   pub ok : ClonesAreEqual is_clone → OnOk result (new ≡ change old)
   -- for any clones, new is what it makes of the old elements, or of a clone of each

@@ -36,19 +36,22 @@ printed = fold-Node (List ℕ) print_step
 -- the node that a path leads to: each step is the number of a child
 abbrev pub node_at : Node → List ℕ → Option Node
 node_at node [] = Some node
-node_at node (step ∷ path) = option_and_then (λ child. node_at child path) (slice_get (children_of node) step)
+node_at node (step ∷ path) = option_and_then (λ child. node_at child path)
+    (slice_get (children_of node) step)
 
 -- new is old with `node` at the end of the path, and all else as it was
 abbrev pub IsReplaced : List ℕ → Node → Node → Node → Type 0
 IsReplaced [] node old new = new ≡ node
 IsReplaced (step ∷ path) node old new =
-    (before : Node) × (after : Node) × (slice_get (children_of old) step ≡ Some before) × IsReplaced path node before after
+    (before : Node) × (after : Node) × (slice_get (children_of old) step ≡ Some before)
+    × IsReplaced path node before after
     × (name_of new ≡ name_of old) × (children_of new ≡ slice_set (children_of old) step after)
 
 -- new is old with this name, by its characters, for the child at the index
 abbrev pub IsRenamed : ℕ → List ℕ → List Node → List Node → Type 0
 IsRenamed index name old new =
-    (before : Node) × (after : Node) × (slice_get old index ≡ Some before) × (new ≡ slice_set old index after)
+    (before : Node) × (after : Node) × (slice_get old index ≡ Some before)
+    × (new ≡ slice_set old index after)
     × (name_of after ≡ name) × (children_of after ≡ children_of before)
 
 -- two paths that part: neither goes on from the other's end

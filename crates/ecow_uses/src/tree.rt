@@ -80,7 +80,7 @@ impl Node {
         }
     }
 
-    /// Appends the tree to a text as `(name (child) (child))`.
+    /// Appends the tree to a text as `(name (child) (child))`. A refusal may leave a front of it there.
     #[tactic(auto, using(crate::proofs::Trees::printed_out))]
     pub fn print(&self, text: &mut EcoString) -> Result<(), EcoError>
         ensures { OnOk result (text.new.chars ≡ text.old.chars ++ printed self.now) }
@@ -150,7 +150,8 @@ pub fn replace_and_keep(
     ensures there { IfOk result
         (λ found. IfSome found (λ trees. node_at trees.1 path.now ≡ Some node)) }
     ensures elsewhere { IfOk result (λ found. IfSome found
-        (λ trees. (other : List ℕ) → IsApart path.now other → node_at trees.1 other ≡ node_at tree.now other)) }
+        (λ trees. (other : List ℕ) → IsApart path.now other
+        → node_at trees.1 other ≡ node_at tree.now other)) }
 {
     let kept = tree.clone()?;
     match tree.replaced(path, node)? {

@@ -29,12 +29,16 @@ use Rattle.ecow_block.specs.formers.room.Room as room
 use Rattle.ecow_block.specs.formers.room.Deed as deed
 
 abbrev pub the_former : Former {0} → Former {0}
-the_former g = via (pair (list g) (const ℕ)) (λ X. Contents (g.Of X)) (λ X b. (b.items, b.capacity)) (λ X v. contents v.0 v.1) (λ X b. refl) (λ X v. refl)
+the_former g = via (pair (list g) (const ℕ)) (λ X. Contents (g.Of X)) (λ X b. (b.items, b.capacity))
+    (λ X v. contents v.0 v.1) (λ X b. refl) (λ X v. refl)
 
 abbrev pub the_weighed : {g : Former {0}} → Weighed g → Weighed (the_former g)
 the_weighed w =
     let v = w_pair (w_list w) (w_const ℕ) in
-    record { weight = λ X μ b. v.weight X μ (b.items, b.capacity); puts = λ X μ b. v.puts X μ (b.items, b.capacity) }
+    record {
+      weight = λ X μ b. v.weight X μ (b.items, b.capacity);
+      puts = λ X μ b. v.puts X μ (b.items, b.capacity);
+    }
 
 pub the_empty : Contents ⊥
 the_empty = contents [] 0
@@ -42,7 +46,8 @@ the_empty = contents [] 0
 abbrev pub the_items : (X : Type 0) → Contents X → List X
 the_items X b = b.items
 
-pub the_items_listed : (X : Type 0) (b : Contents X) → listed _ (children (the_former this) X b) ≡ the_items X b
+pub the_items_listed : (X : Type 0) (b : Contents X) → listed _ (children (the_former this) X b)
+    ≡ the_items X b
 the_items_listed X b = list-listed X b.items
 
 abbrev Rest : Type 0
@@ -50,8 +55,27 @@ Rest = Ptr × ℕ × ℕ × PhantomData Ptr × Ptr × ℕ × Global × Global
 
 abbrev fields : Former {0}
 fields = via (pair (const Rest) (room.the_former this)) Inside
-    (λ X b. ((b.base.ptr, b.len, b.capacity, b.deed.mark, b.deed.at, b.deed.capacity, b.deed.alloc, b.alloc), b.room))
-    (λ X v. record { base = record { ptr = v.0.0 }; len = v.0.1; capacity = v.0.2; room = v.1; deed = record { mark = v.0.3; at = v.0.4; capacity = v.0.5; alloc = v.0.6 }; alloc = v.0.7 })
+    (λ X b. (
+      (
+        b.base.ptr,
+        b.len,
+        b.capacity,
+        b.deed.mark,
+        b.deed.at,
+        b.deed.capacity,
+        b.deed.alloc,
+        b.alloc,
+      ),
+      b.room,
+    ))
+    (λ X v. record {
+      base = record { ptr = v.0.0 };
+      len = v.0.1;
+      capacity = v.0.2;
+      room = v.1;
+      deed = record { mark = v.0.3; at = v.0.4; capacity = v.0.5; alloc = v.0.6 };
+      alloc = v.0.7;
+    })
     (λ X b. refl) (λ X v. refl)
 
 IsBlock-prop : {X : Type 0} (b : Inside X) → IsProp (IsBlock b)
@@ -71,7 +95,13 @@ IsBlock-prop b p q = λ i. record {
 module _ {X Y : Type 0} (h : X → Y) (b : Inside X) where
   IsBlock-to : IsBlock b → IsBlock (fields.map X Y h b)
   IsBlock-to p = record {
-    whole = record { at = p.whole.at; start = p.whole.start; deed_at = p.whole.deed_at; deed_capacity = p.whole.deed_capacity; deed_alloc = p.whole.deed_alloc };
+    whole = record {
+      at = p.whole.at;
+      start = p.whole.start;
+      deed_at = p.whole.deed_at;
+      deed_capacity = p.whole.deed_capacity;
+      deed_alloc = p.whole.deed_alloc;
+    };
     len = p.len ∙ sym (length-map b.room.items h);
     capacity = p.capacity;
     small = p.small;
@@ -79,7 +109,13 @@ module _ {X Y : Type 0} (h : X → Y) (b : Inside X) where
 
   IsBlock-from : IsBlock (fields.map X Y h b) → IsBlock b
   IsBlock-from p = record {
-    whole = record { at = p.whole.at; start = p.whole.start; deed_at = p.whole.deed_at; deed_capacity = p.whole.deed_capacity; deed_alloc = p.whole.deed_alloc };
+    whole = record {
+      at = p.whole.at;
+      start = p.whole.start;
+      deed_at = p.whole.deed_at;
+      deed_capacity = p.whole.deed_capacity;
+      deed_alloc = p.whole.deed_alloc;
+    };
     len = p.len ∙ length-map b.room.items h;
     capacity = p.capacity;
     small = p.small;
@@ -89,20 +125,40 @@ first : {a b c : Gv} → a ≡ b → gcons a c ≡ gcons b c
 first {c = c} e = λ i. gcons (e i) c
 
 module _ (R S : RattleType) (h : R.Denot → S.Denot) where
-  pub the_places : Alike R S h → Alike (C.the_row R) (C.the_row S) ((the_former this).map R.Denot S.Denot h)
-  the_places a = view_places fields (the_former this) view (λ X Y k u. refl) (λ X u. refl) R.Denot S.Denot h (C.the_row R).coded (C.the_row S).coded
-      (invariant R.Denot) (invariant S.Denot) IsBlock-prop IsBlock-prop (IsBlock-to h) (IsBlock-from h)
+  pub the_places : Alike R S h
+      → Alike (C.the_row R) (C.the_row S) ((the_former this).map R.Denot S.Denot h)
+  the_places a = view_places fields (the_former this) view (λ X Y k u. refl)
+      (λ X u. refl) R.Denot S.Denot h (C.the_row R).coded (C.the_row S).coded
+      (invariant R.Denot) (invariant S.Denot) IsBlock-prop IsBlock-prop (IsBlock-to h)
+      (IsBlock-from h)
       (over (I.the_row R)) (over (I.the_row S))
-      (struct_places (I.the_type R) (I.the_type S) (room.base_over, (λ n. n, (λ n. n, (room.mapped h, ((deed.the_former this Global).map R.Denot S.Denot h, (λ n. n, tt)))))) _ (λ d. refl) refl (
+      (struct_places (I.the_type R) (I.the_type S) (
+        room.base_over,
+        (
+          λ n. n,
+          (
+            λ n. n,
+            (room.mapped h, ((deed.the_former this Global).map R.Denot S.Denot h, (λ n. n, tt))),
+          ),
+        ),
+      ) _
+      (λ d. refl) refl (
         laid _ _ _ (room.base_places R S h a),
         (
           (refl, (λ n. refl, λ n. refl)),
           (
             (refl, (λ n. refl, λ n. refl)),
-            (laid _ _ _ (room.the_places R S h a), (laid _ _ _ (deed.the_places heap.the_row ghosts R S h a), ((refl, (λ n. refl, λ n. refl)), tt))),
+            (
+              laid _ _ _ (room.the_places R S h a),
+              (
+                laid _ _ _ (deed.the_places heap.the_row ghosts R S h a),
+                ((refl, (λ n. refl, λ n. refl)), tt),
+              ),
+            ),
           ),
         ),
       ))
 
-  pub the_codes_placed : Recodes R S h → Recodes (C.the_row R) (C.the_row S) ((the_former this).map R.Denot S.Denot h)
+  pub the_codes_placed : Recodes R S h
+      → Recodes (C.the_row R) (C.the_row S) ((the_former this).map R.Denot S.Denot h)
   the_codes_placed e b = first (codes_placed R.coded.code S.coded.code h e b.items)
