@@ -99,7 +99,7 @@ impl<T> Block<T> {
     /// The number of elements.
     pub fn len(&self) -> usize
         ensures len { result ≡ length self.now.items }
-        ensures within { (result ≤ self.now.capacity) × (self.now.capacity ≤ MAX_LEN) }
+        ensures bounded { (result ≤ self.now.capacity) × (self.now.capacity ≤ MAX_LEN) }
     {
         self.len
     }
@@ -107,7 +107,7 @@ impl<T> Block<T> {
     /// The number of elements that there is room for.
     pub fn capacity(&self) -> usize
         ensures capacity { result ≡ self.now.capacity }
-        ensures within { (length self.now.items ≤ result) × (result ≤ MAX_LEN) }
+        ensures bounded { (length self.now.items ≤ result) × (result ≤ MAX_LEN) }
     {
         self.capacity
     }
@@ -139,7 +139,7 @@ impl<T> Block<T> {
     }
 
     /// Appends an element, for which there is room.
-    pub fn push_within(&mut self, item: T)
+    pub fn push_within_capacity(&mut self, item: T)
         requires { length self.old.items < self.old.capacity }
         ensures { self.new ≡ contents (self.old.items ++ item ∷ []) self.old.capacity }
     {
@@ -150,7 +150,7 @@ impl<T> Block<T> {
     /// Appends the next items of `iter` while there is room and there are fewer than `most` elements. Returns whether `iter`
     /// ended.
     pub fn fill_from<I: Iterator<Item = T>>(&mut self, most: usize, iter: &mut I) -> bool
-        requires within { length self.old.items ≤ most }
+        requires in_bounds { length self.old.items ≤ most }
         requires callable { I.can_next iter.old × IsFinite (I.remaining iter.old) }
         ensures items { GivesOn I.next_gives iter.old self.old.items iter.new self.new.items result }
         ensures len { (length self.old.items ≤ length self.new.items)
@@ -179,7 +179,7 @@ impl<T> Block<T> {
     }
 
     /// Inserts an element, for which there is room.
-    pub fn insert_within(&mut self, index: usize, item: T)
+    pub fn insert_within_capacity(&mut self, index: usize, item: T)
         requires in_bounds { index ≤ length self.old.items }
         requires room { length self.old.items < self.old.capacity }
         ensures { self.new ≡ contents (insert self.old.items index item) self.old.capacity }
@@ -362,7 +362,7 @@ impl<T> Block<T> {
 
     /// Puts the elements of `replacement`, for which there is room, in place of those from `start` up to `end`, and gives those
     /// in the memory of `replacement`, in which there is room for them.
-    pub fn splice_within(&mut self, start: usize, end: usize, replacement: Block<T>) -> Rest<T>
+    pub fn splice_within_capacity(&mut self, start: usize, end: usize, replacement: Block<T>) -> Rest<T>
         requires ordered { start ≤ end }
         requires in_bounds { end ≤ length self.old.items }
         requires room { length self.old.items - (end - start) + length replacement.items
@@ -383,7 +383,7 @@ impl<T> Block<T> {
     }
 
     /// Moves the elements of a `Vec` into this block, which has none and has room for them.
-    pub fn fill_within(&mut self, elements: Vec<T>)
+    pub fn fill_within_capacity(&mut self, elements: Vec<T>)
         requires empty { self.old.items ≡ [] }
         requires room { vec_len elements ≤ self.old.capacity }
         ensures { self.new ≡ contents elements.items self.old.capacity }
@@ -427,7 +427,7 @@ impl<T> Block<T> {
 
 impl<T: Clone> Block<T> {
     /// Appends clones of `elements`, for which there is room. If a clone is refused, nothing changes.
-    pub fn extend_within(&mut self, elements: &[T]) -> Result<(), AllocError>
+    pub fn extend_within_capacity(&mut self, elements: &[T]) -> Result<(), AllocError>
         requires { length self.old.items + length elements.now ≤ self.old.capacity }
         ensures clones { OnOk result
             (AppendsClones T.is_clone self.old.items elements.now self.new.items) }
@@ -454,7 +454,7 @@ impl<T: Clone> Block<T> {
         ensures capacity { IfOk result (λ block. block.capacity ≡ capacity) }
     {
         let mut block = Block::with_capacity(alloc, capacity)?;
-        block.extend_within(elements)?;
+        block.extend_within_capacity(elements)?;
         Ok(block)
     }
 }

@@ -362,7 +362,7 @@ impl<T> Room<T> {
     }
 
     /// Empty places, the first of them numbered `at`, filled with copies of as many `items` in one move of memory.
-    fn filled_with(self, base: Base<T>, at: usize, items: &[T]) -> Room<T>
+    fn fill_with(self, base: Base<T>, at: usize, items: &[T]) -> Room<T>
     where
         T: Copy,
         requires { (base.ptr ≡ self.at) × (at ≡ self.start) × (self.items ≡ [])
@@ -388,7 +388,7 @@ impl<T> Room<T> {
     {
         let mut places = self.split_off(len);
         let spare = places.split_off(items.len());
-        self.append(places.filled_with(base, len, items));
+        self.append(places.fill_with(base, len, items));
         self.widen(spare);
     }
 
@@ -408,7 +408,7 @@ impl<T> Room<T> {
         let mut places = self.split_off(len);
         let spare = places.split_off(end - start);
         let items = &self.as_slice(base, 0, len)[start..end];
-        let filled = places.filled_with(base, len, items);
+        let filled = places.fill_with(base, len, items);
         self.append(filled);
         self.widen(spare);
     }

@@ -37,7 +37,7 @@ fn front(len: usize) -> &'static [u8] {
     FIVE.get(..len).unwrap_or(&[])
 }
 
-fn extend_within(list: &mut EcoVec<u8>, len: usize) -> Result<(), EcoError> {
+fn extend_within_capacity(list: &mut EcoVec<u8>, len: usize) -> Result<(), EcoError> {
     if !range_in(&(..len), list.len()) {
         return Ok(());
     }
@@ -61,7 +61,7 @@ fn compare(list: &EcoVec<u8>, other: &EcoVec<u8>) {
 fn make(call: Call, list: &mut EcoVec<u8>, other: &EcoVec<u8>) -> Result<(), EcoError> {
     match call {
         Call::Extend(len) => list.extend_from_copied(front(len)),
-        Call::ExtendWithin(len) => extend_within(list, len),
+        Call::ExtendWithin(len) => extend_within_capacity(list, len),
         Call::Insert(len) => list.insert_slice(0, front(len)),
         Call::Write(len) => write(list, front(len)),
         Call::Compare => {

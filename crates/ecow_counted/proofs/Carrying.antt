@@ -7,11 +7,11 @@ use Rattle.std.proofs.lemmas.Bool.{true≢false}
 use Rattle.std.proofs.lemmas.Option.{none-some, same_Some}
 use Rattle.ecow_base.specs.Capacity.{MAX}
 use Rattle.ecow_model.specs.Refusing.{◌>>=◌, OnRefused, IfRefused, verdict}
-use Rattle.ecow_model.specs.Lists.{ListUsage, list_edited}
+use Rattle.ecow_model.specs.Lists.{ListUsage, edit_list}
 use Rattle.ecow_model.specs.Costs.{unshares, copies, capacity_after, moves, copied_by, moved_by, held_is_free}
-use Rattle.ecow_model.specs.CountedRun.{nothing, held_at, change, counted_used, counted_is_free, IsCountedUse, IsCountedVerdict, if_accepted, copied_in, moved_in}
+use Rattle.ecow_model.specs.CountedRun.{nothing, held_at, change, counted_carry_out, counted_is_free, IsCountedUse, IsCountedVerdict, if_accepted, copied_in, moved_in}
 use Rattle.ecow_model.specs.Names.{Names, Held, is_shared, settle}
-use Rattle.ecow_model.specs.declared.usage.Usage.TheVariants.{Change as Edit}
+use Rattle.ecow_model.specs.declared.usage.Usage.TheVariants.{Edit}
 use Rattle.ecow_model.specs.declared.lists.ListEdit.{ListEdit}
 use Rattle.ecow_model.specs.declared.command.Outcome.{Outcome}
 use Rattle.ecow_model.specs.declared.command.Outcome.TheVariants.{Refused}
@@ -48,17 +48,17 @@ module _ {T : Type 0} where
       moved = nothing_counted outcome ∙ ap (if_accepted outcome) (sym moves);
     }
 
-    refused_carried : (refusal : Refusal) → counted_used old usage ≡ Err refusal → IsCarried lawful old usage (still (Refused refusal)) old
+    refused_carried : (refusal : Refusal) → counted_carry_out old usage ≡ Err refusal → IsCarried lawful old usage (still (Refused refusal)) old
     refused_carried refusal e = record { step = λ _. rw e (refl, refl); verdict = rw e refl; refused = refl; copied = refl; moved = refl }
 
-    memory_carried : (answer : Outcome T × Names T) → counted_used old usage ≡ Ok answer → counted_is_free old usage ≡ false → IsCarried lawful old usage (still (Refused Memory)) old
+    memory_carried : (answer : Outcome T × Names T) → counted_carry_out old usage ≡ Ok answer → counted_is_free old usage ≡ false → IsCarried lawful old usage (still (Refused Memory)) old
     memory_carried answer e takes = record { step = λ _. rw e (inr (refl, refl, takes)); verdict = rw e (refl, takes); refused = refl; copied = refl; moved = refl }
 
     pub same_carried : (done : Carried T) (new : Names T) → new ≡ old → IsCarried lawful old usage done old → IsCarried lawful old usage done new
     same_carried done new e h = subst (IsCarried lawful old usage done) (sym e) h
 
     -- an accepted command
-    done_carried : (done : Carried T) (new : Names T) (answer : Outcome T × Names T) → counted_used old usage ≡ Ok answer → OnRefused done.outcome ⊥ → (lawful → counted_used old usage ≡ Ok (done.outcome, new)) → done.copied ≡ copied_in usage old → done.moved ≡ moved_in usage old → IsCarried lawful old usage done new
+    done_carried : (done : Carried T) (new : Names T) (answer : Outcome T × Names T) → counted_carry_out old usage ≡ Ok answer → OnRefused done.outcome ⊥ → (lawful → counted_carry_out old usage ≡ Ok (done.outcome, new)) → done.copied ≡ copied_in usage old → done.moved ≡ moved_in usage old → IsCarried lawful old usage done new
     done_carried done new answer is accepted given copies_are moves_count = record {
       step = λ ok. rw (given ok) (inl refl);
       verdict = rw is (no_refusal _ done.outcome accepted);
@@ -73,7 +73,7 @@ module _ {T : Type 0} where
     edit_noname none = refused_carried lawful old (Edit x e) NoName (rw none refl)
 
     module _ (h : Held T) (at : finite.get old x ≡ Some h) where
-      given_at : counted_used old (Edit x e) ≡ (list_edited e h.items >>= (λ after. Ok (after.0, change e x h after.1 old)))
+      given_at : counted_carry_out old (Edit x e) ≡ (edit_list e h.items >>= (λ after. Ok (after.0, change e x h after.1 old)))
       given_at = rw at refl
 
       free_at : counted_is_free old (Edit x e) ≡ held_is_free e h
@@ -88,11 +88,11 @@ module _ {T : Type 0} where
       moved_is : moved_in (Edit x e) old ≡ moved_by e h
       moved_is = ap (moved_by e) held_is
 
-      pub edit_refused : (refusal : Refusal) → verdict (list_edited e h.items) ≡ Err refusal → IsCarried lawful old (Edit x e) (still (Refused refusal)) old
+      pub edit_refused : (refusal : Refusal) → verdict (edit_list e h.items) ≡ Err refusal → IsCarried lawful old (Edit x e) (still (Refused refusal)) old
       edit_refused refusal asked = refused_carried lawful old (Edit x e) refusal (given_at ∙ ap (λ r. r >>= (λ after. Ok (after.0, change e x h after.1 old))) (refuses e h.items refusal asked))
 
-      module _ (asked : verdict (list_edited e h.items) ≡ Ok tt) where
-        answered : (answer : Outcome T × Names T) × (counted_used old (Edit x e) ≡ Ok answer)
+      module _ (asked : verdict (edit_list e h.items) ≡ Ok tt) where
+        answered : (answer : Outcome T × Names T) × (counted_carry_out old (Edit x e) ≡ Ok answer)
         answered = let ok = accepts e h.items asked in ((ok.0.0, change e x h ok.0.1 old), given_at ∙ ap (λ r. r >>= (λ after. Ok (after.0, change e x h after.1 old))) ok.1)
 
         pub edit_memory : held_is_free e h ≡ false → IsCarried lawful old (Edit x e) (still (Refused Memory)) old
@@ -118,7 +118,7 @@ module _ {T : Type 0} where
         pub edit_done : (is_shared h ≡ true → unshares e (length h.items) ≡ true) → length h.items ≤ MAX
             → (from to : List T) (capacity : ℕ) (done : Carried T) (new : Names T)
             → (lawful → from ≡ cond (is_shared h) (take (copies e (length h.items)) h.items) h.items)
-            → (lawful → list_edited e from ≡ Ok (done.outcome, to))
+            → (lawful → edit_list e from ≡ Ok (done.outcome, to))
             → OnRefused done.outcome ⊥
             → capacity ≡ capacity_after e (is_shared h) (length h.items) h.capacity
             → new ≡ settle x to capacity old
@@ -128,8 +128,8 @@ module _ {T : Type 0} where
         edit_done leaves fits from to capacity done new from_is changed accepted capacity_is names_are ticks_are steps_are =
             done_carried lawful old (Edit x e) done new answered.0 answered.1 accepted
             (λ ok. given_at ∙ ap (λ r. r >>= (λ after. Ok (after.0, change e x h after.1 old)))
-            (sym (elim (is_shared h) as (λ b. list_edited e (cond b (take (copies e (length h.items)) h.items) h.items) ≡ list_edited e h.items) [ true ↦ enough e h.items | false ↦ refl ])
-            ∙ ap (list_edited e) (sym (from_is ok)) ∙ changed ok)
+            (sym (elim (is_shared h) as (λ b. edit_list e (cond b (take (copies e (length h.items)) h.items) h.items) ≡ edit_list e h.items) [ true ↦ enough e h.items | false ↦ refl ])
+            ∙ ap (edit_list e) (sym (from_is ok)) ∙ changed ok)
             ∙ ap (λ n. Ok (done.outcome, n)) (leaves_it (is_shared h) (unshares e (length h.items)) old (settle x to (capacity_after e (is_shared h) (length h.items) h.capacity) old) leaves
             ∙ sym (names_are ∙ ap (λ k. settle x to k old) capacity_is)))
             (ticks_are ∙ copied_all (is_shared h) (unshares e (length h.items)) (copies e (length h.items)) leaves ∙ sym copied_is)

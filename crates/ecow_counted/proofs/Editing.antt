@@ -6,8 +6,8 @@ use Rattle.std.proofs.Math.Seq.{take-length}
 use Rattle.std.proofs.lemmas.List.{nil_from_length}
 use Rattle.ecow_base.specs.Capacity.{MAX, fresh, grown, room}
 use Rattle.ecow_base.specs.Range.{items_in_range}
-use Rattle.ecow_model.specs.Refusing.{◌>>=◌, Change, check, becomes, verdict}
-use Rattle.ecow_model.specs.Lists.{list_edited, grows}
+use Rattle.ecow_model.specs.Refusing.{◌>>=◌, Effect, check, becomes, verdict}
+use Rattle.ecow_model.specs.Lists.{edit_list, grows}
 use Rattle.ecow_model.specs.Costs.{unshares, copies, capacity_after, moves, held_is_free}
 use Rattle.ecow_model.specs.Names.{Held, is_shared}
 use Rattle.ecow_model.specs.declared.lists.ListEdit.{ListEdit}
@@ -34,22 +34,22 @@ in_place : (n capacity : ℕ) → cond (nat_le capacity capacity) 0 n ≡ 0
 in_place n capacity = ap (λ b. cond b 0 n) (le-leb capacity capacity (omega arith))
 
 module _ {T : Type 0} where
-  accepted_by : (r : Change T (List T)) → verdict r ≡ Ok tt → (answer : Outcome T × List T) × (r ≡ Ok answer)
+  accepted_by : (r : Effect T (List T)) → verdict r ≡ Ok tt → (answer : Outcome T × List T) × (r ≡ Ok answer)
   accepted_by (Ok answer) e = (answer, refl)
   accepted_by (Err refusal) e = cc
 
-  refused_by : (r : Change T (List T)) (refusal : Refusal) → verdict r ≡ Err refusal → r ≡ Err refusal
+  refused_by : (r : Effect T (List T)) (refusal : Refusal) → verdict r ≡ Err refusal → r ≡ Err refusal
   refused_by (Ok answer) refusal e = cc
   refused_by (Err other) refusal e = cc
 
-  pub accepts : (e : ListEdit T) (xs : List T) → verdict (list_edited e xs) ≡ Ok tt → (answer : Outcome T × List T) × (list_edited e xs ≡ Ok answer)
-  accepts e xs asked = accepted_by (list_edited e xs) asked
+  pub accepts : (e : ListEdit T) (xs : List T) → verdict (edit_list e xs) ≡ Ok tt → (answer : Outcome T × List T) × (edit_list e xs ≡ Ok answer)
+  accepts e xs asked = accepted_by (edit_list e xs) asked
 
-  pub refuses : (e : ListEdit T) (xs : List T) (refusal : Refusal) → verdict (list_edited e xs) ≡ Err refusal → list_edited e xs ≡ Err refusal
-  refuses e xs refusal asked = refused_by (list_edited e xs) refusal asked
+  pub refuses : (e : ListEdit T) (xs : List T) (refusal : Refusal) → verdict (edit_list e xs) ≡ Err refusal → edit_list e xs ≡ Err refusal
+  refuses e xs refusal asked = refused_by (edit_list e xs) refusal asked
 
   -- an accepted change asks for no more than the greatest length
-  asked_by : (e : ListEdit T) (xs : List T) (answer : Outcome T × List T) → length xs ≤ MAX → list_edited e xs ≡ Ok answer → asked_length e (length xs) ≤ MAX
+  asked_by : (e : ListEdit T) (xs : List T) (answer : Outcome T × List T) → length xs ≤ MAX → edit_list e xs ≡ Ok answer → asked_length e (length xs) ≤ MAX
   asked_by (Push value) xs answer fits e = let is = (is_answer xs answer (Push value) e).1 in omega (arith, is.0, is.1)
   asked_by (Insert index value) xs answer fits e = let is = (is_answer xs answer (Insert index value) e).1 in omega (arith, is.0, is.1)
   asked_by (Splice bounds items) xs answer fits e = let is = (is_answer xs answer (Splice bounds items) e).1 in omega (arith, is.0, is.1)
@@ -63,30 +63,30 @@ module _ {T : Type 0} where
   asked_by (Drain bounds) xs answer fits e = fits
   asked_by (Write index value) xs answer fits e = fits
 
-  pub asks_within : (e : ListEdit T) (xs : List T) → length xs ≤ MAX → verdict (list_edited e xs) ≡ Ok tt → asked_length e (length xs) ≤ MAX
+  pub asks_within : (e : ListEdit T) (xs : List T) → length xs ≤ MAX → verdict (edit_list e xs) ≡ Ok tt → asked_length e (length xs) ≤ MAX
   asks_within e xs fits asked = let ok = accepts e xs asked in asked_by e xs ok.0 fits ok.1
 
   -- what is copied is enough for the change
-  pub enough : (e : ListEdit T) (xs : List T) → list_edited e (take (copies e (length xs)) xs) ≡ list_edited e xs
+  pub enough : (e : ListEdit T) (xs : List T) → edit_list e (take (copies e (length xs)) xs) ≡ edit_list e xs
   enough (Truncate target) xs = ap (λ ys. becomes ys) (take_twice target xs)
   enough Clear xs = refl
-  enough (Push value) xs = ap (list_edited (Push value)) (take-length xs)
-  enough Pop xs = ap (list_edited Pop) (take-length xs)
-  enough (Insert index value) xs = ap (list_edited (Insert index value)) (take-length xs)
-  enough (Remove index) xs = ap (list_edited (Remove index)) (take-length xs)
-  enough (Retain marks) xs = ap (list_edited (Retain marks)) (take-length xs)
-  enough (Drain bounds) xs = ap (list_edited (Drain bounds)) (take-length xs)
-  enough (Splice bounds items) xs = ap (list_edited (Splice bounds items)) (take-length xs)
-  enough (Extend items) xs = ap (list_edited (Extend items)) (take-length xs)
-  enough (Reserve additional) xs = ap (list_edited (Reserve additional)) (take-length xs)
-  enough (Write index value) xs = ap (list_edited (Write index value)) (take-length xs)
+  enough (Push value) xs = ap (edit_list (Push value)) (take-length xs)
+  enough Pop xs = ap (edit_list Pop) (take-length xs)
+  enough (Insert index value) xs = ap (edit_list (Insert index value)) (take-length xs)
+  enough (Remove index) xs = ap (edit_list (Remove index)) (take-length xs)
+  enough (Retain marks) xs = ap (edit_list (Retain marks)) (take-length xs)
+  enough (Drain bounds) xs = ap (edit_list (Drain bounds)) (take-length xs)
+  enough (Splice bounds items) xs = ap (edit_list (Splice bounds items)) (take-length xs)
+  enough (Extend items) xs = ap (edit_list (Extend items)) (take-length xs)
+  enough (Reserve additional) xs = ap (edit_list (Reserve additional)) (take-length xs)
+  enough (Write index value) xs = ap (edit_list (Write index value)) (take-length xs)
 
   -- a change that may be made in a list of this length may be made in each that is as long, also in what is copied
   module _ (n : ℕ) where
     abbrev MayBe : ListEdit T → Type 0
-    MayBe e = (xs : List T) → length xs ≡ n → verdict (list_edited e xs) ≡ Ok tt
+    MayBe e = (xs : List T) → length xs ≡ n → verdict (edit_list e xs) ≡ Ok tt
 
-    pub may_be_copied : (e : ListEdit T) (b : Bool) → MayBe e → (xs : List T) → length xs ≡ cond b (copies e n) n → verdict (list_edited e xs) ≡ Ok tt
+    pub may_be_copied : (e : ListEdit T) (b : Bool) → MayBe e → (xs : List T) → length xs ≡ cond b (copies e n) n → verdict (edit_list e xs) ≡ Ok tt
     may_be_copied e false may xs is = may xs is
     may_be_copied (Truncate target) true may xs is = refl
     may_be_copied Clear true may xs is = refl
@@ -178,7 +178,7 @@ module _ {T : Type 0} where
           | false ↦ λ l. ap (λ b. cond b h.capacity (grown (length h.items) (length items) h.capacity)) (le-leb (length h.items + length items) h.capacity (omega (arith, none, fits)))
         ] leaves
 
-    -- what takes room for elements that are brought or answered isn't free
+    -- what takes room for elements that are new_items or answered isn't free
     pub spare_not_free : (e : ListEdit T) → takes_spare e ≡ true → held_is_free e h ≡ false
     spare_not_free (Push value) t = absurd (true≢false (sym t))
     spare_not_free (Insert index value) t = absurd (true≢false (sym t))
@@ -198,7 +198,7 @@ module _ {T : Type 0} where
   grown_to ys e = elim (nat_lt (length ys) (2 ^ 63)) as (λ b. verdict (check b TooMuch >>= (λ _. becomes {T = T} ys)) ≡ Ok tt → (check b TooMuch >>= (λ _. becomes {T = T} ys)) ≡ Ok (Done, ys)) [ true ↦ λ _. refl | false ↦ λ e. cc ] e
 
   module _ (xs : List T) where
-    pub stays_as : (e : ListEdit T) → unshares e (length xs) ≡ false → verdict (list_edited e xs) ≡ Ok tt → (ys : List T) × (list_edited e xs ≡ Ok (unchanged e, ys))
+    pub stays_as : (e : ListEdit T) → unshares e (length xs) ≡ false → verdict (edit_list e xs) ≡ Ok tt → (ys : List T) × (edit_list e xs ≡ Ok (unchanged e, ys))
     stays_as (Push value) none asked = absurd (true≢false none)
     stays_as (Insert index value) none asked = absurd (true≢false none)
     stays_as (Reserve additional) none asked = absurd (true≢false none)

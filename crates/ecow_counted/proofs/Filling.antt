@@ -10,9 +10,9 @@ use Rattle.ecow_model.specs.Values.{unused}
 use Rattle.ecow_model.specs.Uses.{Gives, IsVerdict}
 use Rattle.ecow_model.specs.Lists.{ListUsage, grows, vec_usage}
 use Rattle.ecow_model.specs.Costs.{capacity_after, moves, moved_by}
-use Rattle.ecow_model.specs.CountedRun.{nothing, held_at, change, counted_used, counted_is_free, CountedStep, CountedVerdict, CountedRun, saturating, if_accepted, copied_in, moved_in, sum_in_run}
+use Rattle.ecow_model.specs.CountedRun.{nothing, held_at, change, counted_carry_out, counted_is_free, CountedStep, CountedVerdict, CountedRun, saturating, if_accepted, copied_in, moved_in, sum_in_run}
 use Rattle.ecow_model.specs.Names.{Names, Held, IsSharing, is_shared, settle, strain_at}
-use Rattle.ecow_model.specs.declared.usage.Usage.TheVariants.{Make, Change as Edit}
+use Rattle.ecow_model.specs.declared.usage.Usage.TheVariants.{Make, Edit}
 use Rattle.ecow_model.specs.declared.lists.ListMake.TheVariants.{New as Begin}
 use Rattle.ecow_model.specs.declared.lists.ListEdit.TheVariants.{Push as Append}
 use Rattle.ecow_model.specs.declared.lists.VecCommand.{VecCommand}
@@ -26,7 +26,7 @@ use Rattle.ecow_laws.proofs.Lengths.{is_answer}
 use Rattle.ecow_laws.proofs.Settled.{get-settle}
 use Rattle.ecow_laws.proofs.Steps.{IsPaidSole, paid_sole}
 use Rattle.ecow_counted.specs.Filling.{IsRunOf, filling, accepted}
-use Rattle.ecow_counted.specs.Keeping.{Keeping}
+use Rattle.ecow_counted.specs.State.{CountedState}
 
 -- the item at an index and those after it
 pub record IsNext {X : Type 0} (k : ℕ) (items : List X) (item : X) (rest : List X) : Type 0 where
@@ -78,10 +78,10 @@ module _ {T : Type 0} where
       let later : sum_in_run cost h.0 (cs ++ c ∷ []) (outcomes ++ outcome ∷ []) ≡ sum_in_run cost h.0 cs outcomes + if_accepted outcome (cost (vec_usage c) mid) = sum_more cost cs outcomes h.0 mid c outcome step.sharing h.2 in
       rw step.after (omega (arith, later))
 
-  pub runs_one : (old : Keeping T) (c : VecCommand T) (outcome : Outcome T) (new : Keeping T) → CountedStep old.names c outcome new.names → new.copied ≡ saturating old.copied (if_accepted outcome (copied_in (vec_usage c) old.names)) → new.moved ≡ saturating old.moved (if_accepted outcome (moved_in (vec_usage c) old.names)) → IsRunOf old (c ∷ []) (outcome ∷ []) new
+  pub runs_one : (old : CountedState T) (c : VecCommand T) (outcome : Outcome T) (new : CountedState T) → CountedStep old.names c outcome new.names → new.copied ≡ saturating old.copied (if_accepted outcome (copied_in (vec_usage c) old.names)) → new.moved ≡ saturating old.moved (if_accepted outcome (moved_in (vec_usage c) old.names)) → IsRunOf old (c ∷ []) (outcome ∷ []) new
   runs_one old c outcome new step copies moves = record { run = (new.names, step, refl); copied = omega (arith, copies); moved = omega (arith, moves) }
 
-  pub runs_more : (old : Keeping T) (cs : List (VecCommand T)) (outcomes : List (Outcome T)) (mid new : Keeping T) (c : VecCommand T) (outcome : Outcome T) → IsSharing old.names → IsRunOf old cs outcomes mid
+  pub runs_more : (old : CountedState T) (cs : List (VecCommand T)) (outcomes : List (Outcome T)) (mid new : CountedState T) (c : VecCommand T) (outcome : Outcome T) → IsSharing old.names → IsRunOf old cs outcomes mid
       → CountedStep mid.names c outcome new.names → new.copied ≡ saturating mid.copied (if_accepted outcome (copied_in (vec_usage c) mid.names)) → new.moved ≡ saturating mid.moved (if_accepted outcome (moved_in (vec_usage c) mid.names)) → IsRunOf old (cs ++ c ∷ []) (outcomes ++ outcome ∷ []) new
   runs_more old cs outcomes mid new c outcome groups so_far step copies moves = record {
     run = run_more cs outcomes old.names mid.names new.names c outcome so_far.run step;
@@ -95,22 +95,22 @@ module _ {T : Type 0} where
   accepted_as (Err refusal) free old outcome new h ok = absurd (subst (λ o. OnRefused o ⊥) h.0 ok)
 
   -- a name that no other shares a block with has n items, and what was moved since is paid
-  pub record IsFilling (before : ℕ) (name n : ℕ) (now : Keeping T) : Type 0 where
+  pub record IsFilling (before : ℕ) (name n : ℕ) (now : CountedState T) : Type 0 where
     pub held : Held T
     pub at : finite.get now.names name ≡ Some held
     pub sole : is_shared held ≡ false
     pub count : length held.items ≡ n
     pub paid : now.moved + strain_at n held.capacity ≤ before + 2 * n
 
-  pub moves_at_most : (before name n : ℕ) (now : Keeping T) → IsFilling before name n now → now.moved ≤ before + 2 * n
+  pub moves_at_most : (before name n : ℕ) (now : CountedState T) → IsFilling before name n now → now.moved ≤ before + 2 * n
   moves_at_most before name n now filling = omega (arith, filling.paid)
 
-  module _ (old new : Keeping T) (name : ℕ) (outcome : Outcome T) (ok : OnRefused outcome ⊥) where
+  module _ (old new : CountedState T) (name : ℕ) (outcome : Outcome T) (ok : OnRefused outcome ⊥) where
     -- New was accepted
     begun : CountedStep old.names (New name) outcome new.names → (outcome ≡ Done) × (new.names ≡ settle name [] 0 old.names)
     begun step =
         let answer : Outcome T × Names T = (outcome, new.names) in
-        let is_new = bound (unused old.names name) _ answer (accepted_as (counted_used old.names (Make name Begin)) (counted_is_free old.names (Make name Begin)) old.names outcome new.names step ok) in
+        let is_new = bound (unused old.names name) _ answer (accepted_as (counted_carry_out old.names (Make name Begin)) (counted_is_free old.names (Make name Begin)) old.names outcome new.names step ok) in
         let same : ◌≡◌ {A = Outcome T × Names T} (Done, settle name [] 0 old.names) answer = same_answer _ answer is_new.2 in
         (sym (ap (λ a. a.0) same), sym (ap (λ a. a.1) same))
 
@@ -136,7 +136,7 @@ module _ {T : Type 0} where
       abbrev capacity : ℕ
       capacity = capacity_after (Append value) false (length so_far.held.items) so_far.held.capacity
 
-      given_at : counted_used old.names (Edit name (Append value)) ≡ (grows after >>= (λ a. Ok (a.0, change (Append value) name so_far.held a.1 old.names)))
+      given_at : counted_carry_out old.names (Edit name (Append value)) ≡ (grows after >>= (λ a. Ok (a.0, change (Append value) name so_far.held a.1 old.names)))
       given_at = rw so_far.at refl
 
       grown_is : (answer : Outcome T × List T) → grows after ≡ Ok answer → ◌≡◌ {A = Outcome T × List T} (Done, after) answer
@@ -145,7 +145,7 @@ module _ {T : Type 0} where
       pushed : CountedStep old.names (Push name value) outcome new.names → (outcome ≡ Done) × (length after ≤ MAX) × (new.names ≡ change (Append value) name so_far.held after old.names)
       pushed step =
           let answer : Outcome T × Names T = (outcome, new.names) in
-          let grown = bound (grows after) _ answer (sym given_at ∙ accepted_as (counted_used old.names (Edit name (Append value))) (counted_is_free old.names (Edit name (Append value))) old.names outcome new.names step ok) in
+          let grown = bound (grows after) _ answer (sym given_at ∙ accepted_as (counted_carry_out old.names (Edit name (Append value))) (counted_is_free old.names (Edit name (Append value))) old.names outcome new.names step ok) in
           let is = is_answer so_far.held.items grown.0 (Append value) grown.1 in
           let same : ◌≡◌ {A = Outcome T × List T} (Done, after) grown.0 = grown_is grown.0 grown.1 in
           let ends : ◌≡◌ {A = Outcome T × Names T} (grown.0.0, change (Append value) name so_far.held grown.0.1 old.names) answer = same_answer _ answer grown.2 in

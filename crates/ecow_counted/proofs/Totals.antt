@@ -7,7 +7,7 @@ use Rattle.ecow_model.specs.Names.{Names, IsSharing, debt, strain}
 use Rattle.ecow_model.specs.declared.command.Outcome.{Outcome}
 use Rattle.ecow_model.specs.declared.lists.VecCommand.{VecCommand}
 use Rattle.ecow_laws.proofs.Bounds.{step_paid, copies_at_most_eagerly, moves_are_paid, copies_from_nothing, moves_from_nothing}
-use Rattle.ecow_counted.specs.Keeping.{Keeping}
+use Rattle.ecow_counted.specs.State.{CountedState}
 use Rattle.ecow_counted.specs.Totals.{CopiedIsSum, MovedIsSum, CopiedIsPaid, MovedIsPaid, CopiesFromNew, MovesFromNew}
 
 pub saturating_twice : (n a b : ℕ) → saturating (saturating n a) b ≡ saturating n (a + b)
@@ -28,7 +28,7 @@ module _ {T : Type 0} (cost : ListUsage T → Names T → ℕ) (before : ℕ) (c
       ∙ saturating_twice before (if_accepted outcome (cost (vec_usage c) old)) (sum_in_run cost mid cs outcomes)
       ∙ ap (λ names. saturating before (if_accepted outcome (cost (vec_usage c) old) + sum_in_run cost names cs outcomes)) (sym (step_paid (vec_usage c) old groups outcome mid step).after)
 
-module _ {T : Type 0} (old : Keeping T) (cs : List (VecCommand T)) (outcomes : List (Outcome T)) (new : Keeping T) (groups : IsSharing old.names) (run : CountedRun old.names cs outcomes new.names) (copies : CopiedIsSum old cs outcomes new) (moves : MovedIsSum old cs outcomes new) where
+module _ {T : Type 0} (old : CountedState T) (cs : List (VecCommand T)) (outcomes : List (Outcome T)) (new : CountedState T) (groups : IsSharing old.names) (run : CountedRun old.names cs outcomes new.names) (copies : CopiedIsSum old cs outcomes new) (moves : MovedIsSum old cs outcomes new) where
   pub copies_paid : CopiedIsPaid old cs outcomes new
   copies_paid = let paid : copied_in_run old.names cs outcomes + debt new.names ≤ debt old.names + eager_in_run old.names cs outcomes = copies_at_most_eagerly cs outcomes old.names new.names groups run in
       omega (arith, paid, copies)

@@ -26,9 +26,9 @@ module _ {T : Type 0} where
   asked_length edit n = length_after edit n
 
   -- the items that are cloned for the change
-  abbrev pub brought : ListEdit T → List T
-  brought (Extend items) = items
-  brought _ = []
+  abbrev pub new_items : ListEdit T → List T
+  new_items (Extend items) = items
+  new_items _ = []
 
   -- how many elements are answered
   abbrev pub taken_out : ListEdit T → ℕ → ℕ

@@ -1,7 +1,7 @@
 pub mod Carrying
 pub mod Edits
 pub mod Filling
-pub mod Keeping
+pub mod State
 pub mod Opened
 pub mod Places
 pub mod Sizes

@@ -5,9 +5,9 @@ use Rattle.ecow_model.specs.CountedRun.{saturating, copied_in_run, moved_in_run,
 use Rattle.ecow_model.specs.Names.{debt, strain}
 use Rattle.ecow_model.specs.declared.command.Outcome.{Outcome}
 use Rattle.ecow_model.specs.declared.lists.VecCommand.{VecCommand}
-use Rattle.ecow_counted.specs.Keeping.{Keeping}
+use Rattle.ecow_counted.specs.State.{CountedState}
 
-module _ {T : Type 0} (old : Keeping T) (cs : List (VecCommand T)) (outcomes : List (Outcome T)) (new : Keeping T) where
+module _ {T : Type 0} (old : CountedState T) (cs : List (VecCommand T)) (outcomes : List (Outcome T)) (new : CountedState T) where
   -- the totals rise by the sums over the accepted commands, and stop at the greatest u64
   abbrev pub CopiedIsSum : Type 0
   CopiedIsSum = new.copied ≡ saturating old.copied (copied_in_run old.names cs outcomes)

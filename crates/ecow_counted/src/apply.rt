@@ -5,9 +5,9 @@ ghost use Rattle.std.specs.List.{splice, items_where_true};
 ghost use Rattle.ecow_base.specs.Clones.{ClonesAreEqual};
 ghost use Rattle.ecow_base.specs.Range.{range_of, items_in_range};
 ghost use Rattle.ecow_block.specs.Contents.{contents};
-ghost use Rattle.ecow_model.specs.Lists.{list_edited};
+ghost use Rattle.ecow_model.specs.Lists.{edit_list};
 ghost use Rattle.ecow_model.specs.Refusing.{OnRefused, verdict};
-ghost use Rattle.ecow_counted.specs.Edits.{asked_length, length_after, brought, spare_room, taken_out, takes_spare};
+ghost use Rattle.ecow_counted.specs.Edits.{asked_length, length_after, new_items, spare_room, taken_out, takes_spare};
 
 use ecow_base::{MAX_LEN, resolve};
 use ecow_block::{Block, Rest};
@@ -29,14 +29,14 @@ impl<T: Clone> Spare<T> {
         requires bounded { len ≤ MAX_LEN }
         requires asked { asked_length edit.now len ≤ MAX_LEN }
         ensures items { ClonesAreEqual T.is_clone
-            → IfOk result (λ spare. spare.block.items ≡ brought edit.now) }
-        ensures len { IfOk result (λ spare. length spare.block.items ≡ length (brought edit.now)) }
+            → IfOk result (λ spare. spare.block.items ≡ new_items edit.now) }
+        ensures len { IfOk result (λ spare. length spare.block.items ≡ length (new_items edit.now)) }
         ensures room { IfOk result (λ spare. spare_room edit.now len ≤ spare.block.capacity) }
         ensures empty { IfOk result (λ spare. spare.answer.items ≡ []) }
         ensures answer { IfOk result (λ spare. taken_out edit.now len ≤ vec_capacity spare.answer) }
         ensures free { takes_spare edit.now ≡ false → IsOk result }
     {
-        let taken = taken_by(edit, len);
+        let taken = answer_len(edit, len);
         let answer = Vec::with_capacity(alloc, taken)?;
         let block = match edit {
             ListEdit::Extend(items) if items.len() > 0 => {
@@ -50,9 +50,9 @@ impl<T: Clone> Spare<T> {
 }
 
 /// How many elements a change answers.
-fn taken_by<T>(edit: &ListEdit<T>, len: usize) -> usize
+fn answer_len<T>(edit: &ListEdit<T>, len: usize) -> usize
     ensures taken { result ≡ taken_out edit.now len }
-    ensures within { result ≤ len }
+    ensures bounded { result ≤ len }
 {
     match edit {
         ListEdit::Drain(bounds) => count_in(bounds, len),
@@ -64,7 +64,7 @@ fn taken_by<T>(edit: &ListEdit<T>, len: usize) -> usize
 /// How many elements of a list of `len` a range has; none where the bounds are no range of it.
 fn count_in(bounds: &Bounds, len: usize) -> usize
     ensures count { result ≡ items_in_range bounds.now len }
-    ensures within { result ≤ len }
+    ensures bounded { result ≤ len }
 {
     match resolve(bounds, len) {
         Some((start, end)) => end - start,
@@ -73,7 +73,7 @@ fn count_in(bounds: &Bounds, len: usize) -> usize
 }
 
 /// The elements of `rest` in `answer`, which is empty and has room for them.
-fn gathered<T: Drop>(rest: Rest<T>, answer: Vec<T>) -> Items<T>
+fn collect<T: Drop>(rest: Rest<T>, answer: Vec<T>) -> Items<T>
     requires empty { answer.items ≡ [] }
     requires room { length rest ≤ vec_capacity answer }
     ensures { result ≡ rest }
@@ -87,7 +87,7 @@ fn gathered<T: Drop>(rest: Rest<T>, answer: Vec<T>) -> Items<T>
 
 /// Puts the elements of another block in place of those within bounds, and answers these in `answer`,
 /// which is empty. There is room for either.
-fn replaced<T: Drop>(
+fn replace<T: Drop>(
     block: &mut Block<T>,
     bounds: Bounds,
     replacement: Block<T>,
@@ -105,11 +105,11 @@ fn replaced<T: Drop>(
         ≡ contents (splice block.old.items range.0 range.1 replacement.items) block.old.capacity) }
 {
     let (start, end) = resolve(&bounds, block.len()).unwrap();
-    gathered(block.splice_within(start, end, replacement), answer)
+    collect(block.splice_within_capacity(start, end, replacement), answer)
 }
 
 /// Keeps the elements that are marked true; there is a mark for each.
-fn retain_marked<T: Drop>(block: &mut Block<T>, marks: &[bool])
+fn retain_by_marks<T: Drop>(block: &mut Block<T>, marks: &[bool])
     requires { length marks.now ≡ length block.old.items }
     ensures { block.new ≡ contents (items_where_true marks.now block.old.items) block.old.capacity }
 {
@@ -135,14 +135,14 @@ fn append<T: Drop>(block: &mut Block<T>, other: Block<T>)
 
 /// Makes a change in a block with room for it.
 pub(crate) fn apply<T: Drop>(block: &mut Block<T>, edit: ListEdit<T>, spare: Spare<T>) -> Outcome<T>
-    requires asked { verdict (list_edited edit block.old.items) ≡ Ok tt }
+    requires asked { verdict (edit_list edit block.old.items) ≡ Ok tt }
     requires room { length_after edit (length block.old.items) ≤ block.old.capacity }
-    requires brought { length spare.block.items ≡ length (brought edit) }
+    requires brought { length spare.block.items ≡ length (new_items edit) }
     requires places { spare_room edit (length block.old.items) ≤ spare.block.capacity }
     requires empty { spare.answer.items ≡ [] }
     requires answer { taken_out edit (length block.old.items) ≤ vec_capacity spare.answer }
-    ensures change { spare.block.items ≡ brought edit
-        → list_edited edit block.old.items ≡ Ok (result, block.new.items) }
+    ensures change { spare.block.items ≡ new_items edit
+        → edit_list edit block.old.items ≡ Ok (result, block.new.items) }
     ensures capacity { block.new.capacity ≡ block.old.capacity }
     ensures accepted { OnRefused result ⊥ }
 {
@@ -154,18 +154,18 @@ pub(crate) fn apply<T: Drop>(block: &mut Block<T>, edit: ListEdit<T>, spare: Spa
         ListEdit::Pop => return Outcome::Popped(block.pop()),
         ListEdit::Remove(index) => return Outcome::Element(block.remove(index)),
         ListEdit::Drain(bounds) => {
-            return Outcome::Elements(replaced(block, bounds, beside, answer));
+            return Outcome::Elements(replace(block, bounds, beside, answer));
         }
         ListEdit::Splice(bounds, items) => {
-            beside.fill_within(items.into_vec());
-            return Outcome::Elements(replaced(block, bounds, beside, answer));
+            beside.fill_within_capacity(items.into_vec());
+            return Outcome::Elements(replace(block, bounds, beside, answer));
         }
-        ListEdit::Push(value) => block.push_within(value),
-        ListEdit::Insert(index, value) => block.insert_within(index, value),
+        ListEdit::Push(value) => block.push_within_capacity(value),
+        ListEdit::Insert(index, value) => block.insert_within_capacity(index, value),
         ListEdit::Write(index, value) => block.set(index, value),
         ListEdit::Truncate(target) => block.truncate(target),
         ListEdit::Clear => block.truncate(0),
-        ListEdit::Retain(marks) => retain_marked(block, marks.as_slice()),
+        ListEdit::Retain(marks) => retain_by_marks(block, marks.as_slice()),
         ListEdit::Extend(_items) => append(block, beside),
         ListEdit::Reserve(_) => {}
     }

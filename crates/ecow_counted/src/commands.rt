@@ -2,9 +2,9 @@
 ghost use Rattle.std.specs.Prelude.{◌≡◌, ◌≤◌, [], Ok, IfOk, IfErr, replicate};
 ghost use Rattle.ecow_base.specs.Clones.{ClonesAreEqual};
 ghost use Rattle.ecow_block.specs.Contents.{contents};
-ghost use Rattle.ecow_model.specs.Costs.{capacity_made};
+ghost use Rattle.ecow_model.specs.Costs.{make_capacity};
 ghost use Rattle.ecow_model.specs.CountedRun.{IsCountedUse, IsCountedVerdict};
-ghost use Rattle.ecow_model.specs.Lists.{list_made};
+ghost use Rattle.ecow_model.specs.Lists.{make_list};
 ghost use Rattle.ecow_model.specs.Names.{IsSharing};
 ghost use Rattle.ecow_model.specs.Refusing.{OnRefused};
 ghost use Rattle.ecow_model.specs.Uses.{IsRefusedAlike};
@@ -98,7 +98,7 @@ impl<T: Clone> Blocks<T> {
         if self.contains(name) {
             return Outcome::Refused(Refusal::Taken);
         }
-        let block = match made(alloc, how) {
+        let block = match new_block(alloc, how) {
             Ok(block) => block,
             Err(refusal) => return Outcome::Refused(refusal),
         };
@@ -138,7 +138,7 @@ impl<T: Clone> Blocks<T> {
     /// Changes the list of a name, in a block of its own. All that can be refused is taken first.
     fn edit(&mut self, alloc: Global, name: Name, edit: ListEdit<T>) -> Carried<T>
         ensures carried { IsCarried (ClonesAreEqual T.is_clone) self.old.names
-            (Usage.Change name edit) result self.new.names }
+            (Usage.Edit name edit) result self.new.names }
         ensures sharing { IsSharing self.old.names → IsSharing self.new.names }
     {
         let Some(size) = self.size(name) else {
@@ -148,7 +148,7 @@ impl<T: Clone> Blocks<T> {
             return Carried::still(Outcome::Refused(refusal));
         }
         if size.owners > 1 && !unshares(&edit, size.len) {
-            return Carried::still(unchanged(edit));
+            return Carried::still(no_change(edit));
         }
         let want = Want {
             copies: copies(&edit, size.len),
@@ -186,14 +186,14 @@ impl<T: Clone> Blocks<T> {
             Usage::Make { name, how } => Carried::still(self.begin_list(alloc, name, how)),
             Usage::Derive { from, to, how: _ } => Carried::still(self.join(from, to)),
             Usage::Drop { name } => Carried::still(self.leave(name)),
-            Usage::Change { name, edit } => self.edit(alloc, name, edit),
+            Usage::Edit { name, edit } => self.edit(alloc, name, edit),
             Usage::Ask { name, question } => Carried::still(self.ask(alloc, name, question)),
         }
     }
 }
 
 /// What a change answers that changes nothing and leaves a shared block where it is.
-fn unchanged<T: Drop>(edit: ListEdit<T>) -> Outcome<T>
+fn no_change<T: Drop>(edit: ListEdit<T>) -> Outcome<T>
     ensures outcome { result ≡ is_unchanged edit }
     ensures accepted { OnRefused result ⊥ }
 {
@@ -204,11 +204,11 @@ fn unchanged<T: Drop>(edit: ListEdit<T>) -> Outcome<T>
 }
 
 /// A list in a block of its own, with exactly the room that it is to have; or why it can't be made.
-fn made<T: Clone>(alloc: Global, how: ListMake<T>) -> Result<Block<T>, Refusal>
+fn new_block<T: Clone>(alloc: Global, how: ListMake<T>) -> Result<Block<T>, Refusal>
     ensures items { ClonesAreEqual T.is_clone
-        → IfOk result (λ block. list_made how ≡ Ok block.items) }
-    ensures verdict { IsRefusedAlike (list_made how) result }
-    ensures capacity { IfOk result (λ block. block.capacity ≡ capacity_made how) }
+        → IfOk result (λ block. make_list how ≡ Ok block.items) }
+    ensures verdict { IsRefusedAlike (make_list how) result }
+    ensures capacity { IfOk result (λ block. block.capacity ≡ make_capacity how) }
 {
     match how {
         ListMake::New => Ok(Block::new(alloc)),
@@ -224,14 +224,14 @@ fn made<T: Clone>(alloc: Global, how: ListMake<T>) -> Result<Block<T>, Refusal>
                 return Err(Refusal::Capacity);
             }
             let mut block = empty(alloc, fresh_capacity(len))?;
-            block.fill_within(items.into_vec());
+            block.fill_within_capacity(items.into_vec());
             Ok(block)
         }
         ListMake::FromElem(value, n) => {
             if n > MAX_LEN {
                 return Err(Refusal::Capacity);
             }
-            repeated(alloc, value, n)
+            repeat(alloc, value, n)
         }
     }
 }
@@ -248,7 +248,7 @@ fn empty<T>(alloc: Global, capacity: usize) -> Result<Block<T>, Refusal>
 }
 
 /// A block of `n` clones of a value, with room for these alone.
-fn repeated<T: Clone>(alloc: Global, value: T, n: usize) -> Result<Block<T>, Refusal>
+fn repeat<T: Clone>(alloc: Global, value: T, n: usize) -> Result<Block<T>, Refusal>
     requires { n ≤ MAX_LEN }
     ensures items { ClonesAreEqual T.is_clone
         → IfOk result (λ block. block.items ≡ replicate n value) }
@@ -260,7 +260,7 @@ fn repeated<T: Clone>(alloc: Global, value: T, n: usize) -> Result<Block<T>, Ref
         let Ok(copy) = value.clone() else {
             return Err(Refusal::Memory);
         };
-        block.push_within(copy);
+        block.push_within_capacity(copy);
     }
     Ok(block)
 }

@@ -23,7 +23,7 @@ pub(crate) fn unshares<T>(edit: &ListEdit<T>, len: usize) -> bool
 /// How many elements a name copies that leaves its block for the change.
 pub(crate) fn copies<T>(edit: &ListEdit<T>, len: usize) -> usize
     ensures copies { result ≡ are_copied edit.now len }
-    ensures within { is_unshared edit.now len ≡ true → result ≤ len }
+    ensures bounded { is_unshared edit.now len ≡ true → result ≤ len }
 {
     match edit {
         ListEdit::Truncate(target) => *target,
@@ -35,7 +35,7 @@ pub(crate) fn copies<T>(edit: &ListEdit<T>, len: usize) -> usize
 /// How many elements stay in the list where it moves to a greater block.
 pub(crate) fn staying<T>(edit: &ListEdit<T>, len: usize) -> usize
     ensures staying { result ≡ are_staying edit.now len }
-    ensures within { result ≤ len }
+    ensures bounded { result ≤ len }
 {
     match edit {
         ListEdit::Splice(bounds, _) => match resolve(bounds, len) {

@@ -32,17 +32,17 @@ pub struct Counted<T> {
 }
 
 impl<T> Model for Counted<T> {
-    ghost use Rattle.ecow_counted.specs.Keeping.{Keeping, keeping_code};
+    ghost use Rattle.ecow_counted.specs.State.{CountedState, counted_code};
 
-    ghost Value = { Keeping T };
+    ghost Value = { CountedState T };
 
-    ghost coded = { keeping_code T.code };
+    ghost coded = { counted_code T.code };
 
     ghost view = { λ a. record { names = a.blocks.names; copied = a.copied; moved = a.moved } };
 
-    ghost use Rattle.ecow_counted.specs.Keeping.{IsKept};
+    ghost use Rattle.ecow_counted.specs.State.{IsValid};
 
-    ghost invariant = { λ a. IsKept (record { names = a.blocks.names; copied = a.copied; moved = a.moved }) };
+    ghost invariant = { λ a. IsValid (record { names = a.blocks.names; copied = a.copied; moved = a.moved }) };
 }
 
 /// A total that stops at the greatest `u64`.

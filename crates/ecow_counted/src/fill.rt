@@ -24,7 +24,7 @@ impl<T: Clone> Counted<T> {
             → IsFilled self.old name items.items result self.new }
         ensures taken { IsSome (finite.get self.old.names name) → (result.accepted ≡ 0)
             × (result.refusal ≡ Some Refusal.Taken) × (self.new ≡ self.old) }
-        ensures within { result.accepted ≤ length items.items }
+        ensures bounded { result.accepted ≤ length items.items }
         ensures all { IfNone result.refusal (result.accepted ≡ length items.items) }
         ensures moves { ClonesAreEqual T.is_clone
             → self.new.moved ≤ self.old.moved + 2 * result.accepted }

@@ -1,6 +1,6 @@
 //! The commands of both keepings, each in each state of its value. The test keeps the same names
 //! by itself, and compares.
-use crate::model::{Held, Model, Want};
+use crate::model::{Entry, Model, Want};
 use crate::orders::{Kind, Order, Verb, command, list_command};
 use crate::steps::{Row, Word, step_of};
 use crate::watch::Watch;
@@ -46,9 +46,9 @@ pub(crate) trait Keeping: Drop {
     fn room(&mut self, name: u32) -> (Option<usize>, Option<usize>);
 
     /// Whether the room is as the test keeps it.
-    fn has_room(&mut self, name: u32, model: &Model, held: &Held) -> bool;
+    fn has_room(&mut self, name: u32, model: &Model, held: &Entry) -> bool;
 
-    fn is_held(&mut self, name: u32, held: &Held) -> bool;
+    fn is_held(&mut self, name: u32, held: &Entry) -> bool;
 
     /// Whether the number of blocks and both totals are as the test keeps them.
     fn has_totals(&self, model: &Model) -> bool;
@@ -126,7 +126,7 @@ impl<const N: usize> Keeping for SmallStore<i64, N> {
     }
 
     /// The room over `Rc` is what fits at least, and inline the limit.
-    fn has_room(&mut self, name: u32, model: &Model, held: &Held) -> bool {
+    fn has_room(&mut self, name: u32, model: &Model, held: &Entry) -> bool {
         let (room, _) = self.room(name);
         let Some(room) = room else {
             return false;
@@ -139,7 +139,7 @@ impl<const N: usize> Keeping for SmallStore<i64, N> {
         room >= held.items.len() && is_unique
     }
 
-    fn is_held(&mut self, name: u32, held: &Held) -> bool {
+    fn is_held(&mut self, name: u32, held: &Entry) -> bool {
         match held.kind {
             Kind::List => match self.get(name) {
                 Some(items) => held.items.is(items),
@@ -210,13 +210,13 @@ impl Keeping for Counted<i64> {
         (self.capacity(name), self.owners(name))
     }
 
-    fn has_room(&mut self, name: u32, model: &Model, held: &Held) -> bool {
+    fn has_room(&mut self, name: u32, model: &Model, held: &Entry) -> bool {
         let owners = model.owners(held);
         let owned = if owners > 0 { Some(owners) } else { None };
         self.room(name) == (Some(held.capacity), owned) && self.is_unique(name) == Some(owners <= 1)
     }
 
-    fn is_held(&mut self, name: u32, held: &Held) -> bool {
+    fn is_held(&mut self, name: u32, held: &Entry) -> bool {
         match self.get(name) {
             Some(items) => held.items.is(items),
             None => false,

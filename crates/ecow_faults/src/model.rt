@@ -2,7 +2,7 @@
 //! share a block, and its room; how many elements were copied and moved.
 use crate::orders::{Kind, Order, Verb};
 use crate::short::Short;
-use crate::steps::{Change, Step, Word};
+use crate::steps::{Edit, Step, Word};
 use ecow_model::Refusal;
 
 /// The most elements that a block has room for.
@@ -13,7 +13,7 @@ const LONGEST: usize = 48;
 
 /// What stands under a name.
 #[derive(Clone, Copy)]
-pub(crate) struct Held {
+pub(crate) struct Entry {
     pub(crate) kind: Kind,
     pub(crate) items: Short,
     /// Whether bytes stand in the value.
@@ -32,7 +32,7 @@ pub(crate) enum Want {
     Popped(Option<i64>),
     Items(Short),
     Count(usize),
-    Room(Held),
+    Room(Entry),
     Flag(bool),
     Refused(Refusal),
 }
@@ -40,7 +40,7 @@ pub(crate) enum Want {
 /// The names, and what their commands cost.
 #[derive(Clone, Copy)]
 pub(crate) struct Model {
-    names: [Option<Held>; 4],
+    names: [Option<Entry>; 4],
     /// How many bytes stand inline.
     limit: usize,
     last_block: u32,
@@ -68,7 +68,7 @@ fn with_room(len: usize, more: usize, capacity: usize) -> usize {
     }
 }
 
-impl Held {
+impl Entry {
     /// Whether an item begins at an index, or the list ends there.
     fn is_boundary(&self, index: usize) -> bool {
         match self.items.as_slice().get(index) {
@@ -128,7 +128,7 @@ impl Held {
     }
 
     /// Which part of the list an edit puts something in the place of.
-    fn change(&self, order: &Order, word: Word) -> Change {
+    fn change(&self, order: &Order, word: Word) -> Edit {
         let len = self.items.len();
         let (start, end) = match word {
             Word::Insert | Word::InsertSlice => (order.start, order.start),
@@ -145,7 +145,7 @@ impl Held {
             Word::Extend | Word::InsertSlice | Word::Splice => order.given().len(),
             _ => 0,
         };
-        Change {
+        Edit {
             start,
             end: end.max(start),
             count,
@@ -254,12 +254,12 @@ impl Model {
         }
     }
 
-    pub(crate) fn held(&self, name: u32) -> Option<Held> {
+    pub(crate) fn held(&self, name: u32) -> Option<Entry> {
         let place = usize::try_from(name).ok()?;
         *self.names.get(place)?
     }
 
-    fn put(&mut self, name: u32, held: Option<Held>) {
+    fn put(&mut self, name: u32, held: Option<Entry>) {
         if let Ok(place) = usize::try_from(name)
             && let Some(stood) = self.names.get_mut(place)
         {
@@ -268,7 +268,7 @@ impl Model {
     }
 
     /// How many names have a block.
-    pub(crate) fn owners(&self, held: &Held) -> usize {
+    pub(crate) fn owners(&self, held: &Entry) -> usize {
         let mut owners = 0usize;
         for other in self.names {
             if let Some(other) = other
@@ -281,7 +281,7 @@ impl Model {
         owners
     }
 
-    pub(crate) fn is_shared(&self, held: &Held) -> bool {
+    pub(crate) fn is_shared(&self, held: &Entry) -> bool {
         self.owners(held) > 1
     }
 
@@ -289,7 +289,7 @@ impl Model {
     pub(crate) fn blocks(&self) -> usize {
         let mut blocks = 0usize;
         for block in 1..=self.last_block {
-            let is_held = |other: &Option<Held>| matches!(other, Some(held) if held.block == block);
+            let is_held = |other: &Option<Entry>| matches!(other, Some(held) if held.block == block);
             if self.names.iter().any(is_held) {
                 blocks = blocks.saturating_add(1);
             }
@@ -306,7 +306,7 @@ impl Model {
     }
 
     /// What stands under a name of the kind, or why it can't be used.
-    fn found(&self, order: &Order, kind: Kind) -> Result<Held, Refusal> {
+    fn found(&self, order: &Order, kind: Kind) -> Result<Entry, Refusal> {
         match self.held(order.name) {
             None => Err(Refusal::NoName),
             Some(held) if held.kind != kind => Err(Refusal::Kind),
@@ -337,7 +337,7 @@ impl Model {
         }
     }
 
-    fn asked(&self, order: &Order, held: &Held) -> Want {
+    fn asked(&self, order: &Order, held: &Entry) -> Want {
         match order.verb {
             Verb::Len => Want::Count(held.items.len()),
             Verb::Contents => Want::Items(held.items),
@@ -392,7 +392,7 @@ impl Model {
             _ => room,
         };
         let block = if is_list { self.new_block(capacity) } else { 0 };
-        let held = Held {
+        let held = Entry {
             kind: order.kind,
             items,
             inline: !is_list && room <= self.limit && order.verb != Verb::FromEcoVec,
@@ -468,7 +468,7 @@ impl Model {
         Some(want)
     }
 
-    fn is_inline_after(&self, order: &Order, word: Word, held: &Held, len: usize) -> bool {
+    fn is_inline_after(&self, order: &Order, word: Word, held: &Entry, len: usize) -> bool {
         match word {
             Word::Shrink => held.inline || len <= self.limit,
             Word::Reserve => held.inline && len.saturating_add(order.count) <= self.limit,
@@ -477,7 +477,7 @@ impl Model {
     }
 
     /// What an edit of a list costs, and in which block it stands then.
-    fn pay(&mut self, order: &Order, word: Word, held: &Held, after: &mut Held) {
+    fn pay(&mut self, order: &Order, word: Word, held: &Entry, after: &mut Entry) {
         let (len, shared) = (held.items.len(), self.is_shared(held));
         let change = held.change(order, word);
         let more = match word {
@@ -543,7 +543,7 @@ impl Model {
 }
 
 /// Whether a change of a list that has its block alone is made in it.
-fn has_room(order: &Order, word: Word, held: &Held, capacity: usize) -> bool {
+fn has_room(order: &Order, word: Word, held: &Entry, capacity: usize) -> bool {
     let len = held.items.len();
     match word {
         Word::Pop | Word::Remove | Word::Retain | Word::Write | Word::Truncate => true,

@@ -1,5 +1,5 @@
 //! Short lists that take no memory.
-use crate::steps::Change;
+use crate::steps::Edit;
 
 /// The most numbers that a short list takes.
 const MOST: usize = 64;
@@ -77,7 +77,7 @@ impl Short {
     }
 
     /// The list with other numbers in place of a part.
-    pub(crate) fn replaced(&self, change: Change, added: &Short) -> Short {
+    pub(crate) fn replaced(&self, change: Edit, added: &Short) -> Short {
         let mut list = self.part(0, change.start);
         list.append(added.as_slice());
         list.append(self.part(change.end, self.len).as_slice());

@@ -1,7 +1,7 @@
 //! The calls that change bytes or a text of which so many stand in the value itself, in each
 //! state.
 use crate::short::Short;
-use crate::steps::{Change, Row, Step, Word, step_of};
+use crate::steps::{Edit, Row, Step, Word, step_of};
 use crate::watch::Watch;
 use ecow_list::{EcoError, EcoVec};
 use std::alloc::Global;
@@ -44,7 +44,7 @@ pub(crate) fn states(limit: usize) -> [State; 7] {
 pub(crate) struct Call {
     pub(crate) state: State,
     pub(crate) step: Step,
-    pub(crate) change: Change,
+    pub(crate) change: Edit,
     limit: usize,
     capacity: usize,
 }
@@ -180,7 +180,7 @@ fn wanted<S: Small>(
             if !call.is_cut(count) {
                 return None;
             }
-            let end = Change {
+            let end = Edit {
                 start: call.state.len,
                 end: call.state.len,
                 count,

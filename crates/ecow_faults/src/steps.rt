@@ -44,7 +44,7 @@ pub(crate) struct Step {
 
 /// A part of a list, and how many items come in its place.
 #[derive(Clone, Copy)]
-pub(crate) struct Change {
+pub(crate) struct Edit {
     pub(crate) start: usize,
     pub(crate) end: usize,
     pub(crate) count: usize,
@@ -65,7 +65,7 @@ pub(crate) fn step_of(row: &Row) -> Step {
 
 impl Step {
     /// What the call changes in a list of this length; `None` where it doesn't fit.
-    pub(crate) fn change(&self, len: usize) -> Option<Change> {
+    pub(crate) fn change(&self, len: usize) -> Option<Edit> {
         let (start, end) = self.part(len);
         if start > end || end > len {
             return None;
@@ -77,7 +77,7 @@ impl Step {
             Word::Upper | Word::Lower | Word::Shrink => 0,
             _ => self.count,
         };
-        Some(Change { start, end, count })
+        Some(Edit { start, end, count })
     }
 
     fn part(&self, len: usize) -> (usize, usize) {
@@ -95,7 +95,7 @@ impl Step {
     }
 
     /// For how many items there must be room in a list of this length.
-    pub(crate) fn room(&self, len: usize, change: Change) -> usize {
+    pub(crate) fn room(&self, len: usize, change: Edit) -> usize {
         match self.word {
             Word::Reserve => len.saturating_add(self.count),
             _ => len

@@ -1,7 +1,7 @@
 //! The calls of `SmallText`.
 use crate::short::Short;
 use crate::small::{Call, Small, State, states};
-use crate::steps::{Change, Row, Word};
+use crate::steps::{Edit, Row, Word};
 use crate::watch::Watch;
 use ecow_bytes::SmallBytes;
 use ecow_list::{EcoError, EcoVec};
@@ -370,7 +370,7 @@ fn repeated_hold<const N: usize>(watch: &Watch, text: &SmallText<N>) -> bool {
 /// The text with other bytes where the letter `a` stands, which it does first.
 fn with_other<const N: usize>(text: &SmallText<N>, other: &str) -> Short {
     let bytes = text.bytes();
-    let first = Change {
+    let first = Edit {
         start: 0,
         end: bytes.len().min(1),
         count: other.len(),

@@ -1,7 +1,7 @@
 //! The calls that change an `EcoVec`, on vectors in each state.
 use crate::elements::{Element, elements, numbers};
 use crate::short::Short;
-use crate::steps::{Change, Row, Step, Word, step_of};
+use crate::steps::{Edit, Row, Step, Word, step_of};
 use crate::watch::Watch;
 use ecow_list::{EcoError, EcoVec, range_in};
 use std::alloc::Global;
@@ -108,7 +108,7 @@ pub(crate) fn made<T: Element>(
 struct Call {
     state: State,
     step: Step,
-    change: Change,
+    change: Edit,
     capacity: usize,
     given: Short,
 }
@@ -318,7 +318,7 @@ fn is_right<T: Element>(
             if !is_cut(call, count) {
                 return false;
             }
-            let end = Change {
+            let end = Edit {
                 start: len,
                 end: len,
                 count,

@@ -3,13 +3,13 @@ use Rattle.std.proofs.Common.{◌≡◌, ℕ, Bool, List, [], ◌∷◌, map, ma
 use Rattle.std.specs.FinMap as finite
 use Rattle.ecow_model.specs.State.{State}
 use Rattle.ecow_model.specs.Refusing.{◌>>=◌}
-use Rattle.ecow_model.specs.Uses.{Reading, Gives, used, use_is_free, value_at, reading_in}
-use Rattle.ecow_model.specs.Lists.{ListUsage, list_rules, list_asked, vec_usage}
+use Rattle.ecow_model.specs.Uses.{Observation, Gives, carry_out, use_is_free, value_at, observation_in}
+use Rattle.ecow_model.specs.Lists.{ListUsage, list_rules, ask_list, vec_usage}
 use Rattle.ecow_model.specs.Run.{IsVecStep, Run, RunBy}
 use Rattle.ecow_model.specs.Names.{Names, Held, IsSharing, contents}
-use Rattle.ecow_model.specs.CountedRun.{CountedRun, ContentsStep, counted_used, counted_is_free, reading_at}
+use Rattle.ecow_model.specs.CountedRun.{CountedRun, ContentsStep, counted_carry_out, counted_is_free, observation_at}
 use Rattle.ecow_model.specs.Agreement.{plain_answer, SameAnswers, LacksNoMemory}
-use Rattle.ecow_model.specs.declared.usage.Usage.TheVariants.{Make, Derive, Drop, Change as Edit, Ask}
+use Rattle.ecow_model.specs.declared.usage.Usage.TheVariants.{Make, Derive, Drop, Edit, Ask}
 use Rattle.ecow_model.specs.declared.lists.ListAsk.{ListAsk}
 use Rattle.ecow_model.specs.declared.lists.ListAsk.TheVariants.{Read, Len, Contents, Capacity, Unique}
 use Rattle.ecow_model.specs.declared.command.Command.TheVariants.{Vec}
@@ -31,20 +31,20 @@ module _ {T : Type 0} where
   same usage (Ok p) = (refl, refl)
   same usage (Err refusal) = refl
 
-  module _ (seen other : Reading) (old : State T) where
-    asked_alike : (x : ℕ) (question : ListAsk) (xs : List T) → Alike (Ask x question) (list_asked seen question xs >>= (λ answer. Ok (answer, old))) (list_asked other question xs >>= (λ answer. Ok (answer, old)))
-    asked_alike x (Read index) xs = same (Ask x (Read index)) (list_asked seen (Read index) xs >>= (λ answer. Ok (answer, old)))
+  module _ (seen other : Observation) (old : State T) where
+    asked_alike : (x : ℕ) (question : ListAsk) (xs : List T) → Alike (Ask x question) (ask_list seen question xs >>= (λ answer. Ok (answer, old))) (ask_list other question xs >>= (λ answer. Ok (answer, old)))
+    asked_alike x (Read index) xs = same (Ask x (Read index)) (ask_list seen (Read index) xs >>= (λ answer. Ok (answer, old)))
     asked_alike x Len xs = (refl, refl)
     asked_alike x Contents xs = (refl, refl)
     asked_alike x Capacity xs = (refl, refl)
     asked_alike x Unique xs = (refl, refl)
 
-    reads_alike : (usage : ListUsage T) → Alike usage (used list_rules seen old usage) (used list_rules other old usage)
-    reads_alike (Make x how) = same (Make x how) (used list_rules seen old (Make x how))
-    reads_alike (Derive x y how) = same (Derive x y how) (used list_rules seen old (Derive x y how))
-    reads_alike (Drop x) = same (Drop x) (used list_rules seen old (Drop x))
-    reads_alike (Edit x edit) = same (Edit x edit) (used list_rules seen old (Edit x edit))
-    reads_alike (Ask x question) = elim (value_at list_rules old x) as (λ r. Alike (Ask x question) (r >>= (λ xs. list_asked seen question xs >>= (λ answer. Ok (answer, old)))) (r >>= (λ xs. list_asked other question xs >>= (λ answer. Ok (answer, old))))) [
+    reads_alike : (usage : ListUsage T) → Alike usage (carry_out list_rules seen old usage) (carry_out list_rules other old usage)
+    reads_alike (Make x how) = same (Make x how) (carry_out list_rules seen old (Make x how))
+    reads_alike (Derive x y how) = same (Derive x y how) (carry_out list_rules seen old (Derive x y how))
+    reads_alike (Drop x) = same (Drop x) (carry_out list_rules seen old (Drop x))
+    reads_alike (Edit x edit) = same (Edit x edit) (carry_out list_rules seen old (Edit x edit))
+    reads_alike (Ask x question) = elim (value_at list_rules old x) as (λ r. Alike (Ask x question) (r >>= (λ xs. ask_list seen question xs >>= (λ answer. Ok (answer, old)))) (r >>= (λ xs. ask_list other question xs >>= (λ answer. Ok (answer, old))))) [
       | Ok xs ↦ asked_alike x question xs
       | Err refusal ↦ refl
     ]
@@ -62,7 +62,7 @@ module _ {T : Type 0} where
   runs_agree (c ∷ cs) (a ∷ ours) (b ∷ theirs) old new names later at run counted some more =
       let usage = vec_usage c in
       let step = subst (λ values. IsVecStep values c a run.0) (sym at) run.1 in
-      let one = one_step usage (contents names) (use_is_free list_rules (contents names) usage) (counted_is_free names usage) a b run.0 (contents counted.0) _ _ (reads_alike (reading_in a) (reading_at names usage) (contents names) usage) step counted.1 some.0 more.0 in
+      let one = one_step usage (contents names) (use_is_free list_rules (contents names) usage) (counted_is_free names usage) a b run.0 (contents counted.0) _ _ (reads_alike (observation_in a) (observation_at names usage) (contents names) usage) step counted.1 some.0 more.0 in
       let rest = runs_agree cs ours theirs run.0 new counted.0 later (sym one.1) run.2 counted.2 some.1 more.1 in
       ((one.0, rest.0), rest.1)
   runs_agree [] (a ∷ ours) theirs old new names later at run counted some more = absurd run
@@ -84,7 +84,7 @@ module _ {T : Type 0} where
   stores_agree limit cs ours theirs old new names later at run counted some more = keepings_agree cs ours theirs old new names later at (list_run limit cs ours old new run) counted some more
 
   -- a capacity is not below the length, so it is read as it is
-  pub capacity_read : (names : Names T) (x : ℕ) (h : Held T) → IsSharing names → finite.get names x ≡ Some h → counted_used names (Ask x Capacity) ≡ Ok (Count h.capacity, names)
+  pub capacity_read : (names : Names T) (x : ℕ) (h : Held T) → IsSharing names → finite.get names x ≡ Some h → counted_carry_out names (Ask x Capacity) ≡ Ok (Count h.capacity, names)
   capacity_read names x h groups at =
       let fits = (groups.fits x h at).0 in
       let exact : max h.capacity (length h.items) ≡ h.capacity = omega (arith, fits) in

@@ -10,11 +10,11 @@ use Rattle.ecow_base.specs.Capacity.{MAX}
 use Rattle.ecow_model.specs.Refusing.{◌>>=◌, OnRefused}
 use Rattle.ecow_model.specs.Values.{there, unused}
 use Rattle.ecow_model.specs.Uses.{Gives}
-use Rattle.ecow_model.specs.Lists.{ListUsage, list_made, list_edited, list_asked, vec_usage}
-use Rattle.ecow_model.specs.Costs.{capacity_made, unshares, copies, capacity_after, moves, input_made, input_edited, copied_by, moved_by}
-use Rattle.ecow_model.specs.CountedRun.{nothing, held_at, reading_of, change, counted_used, counted_is_free, IsCountedUse, CountedRun, if_accepted, names_given, names_after, copied_in, moved_in, eager_in, input_in, copied_in_run, moved_in_run, eager_in_run, input_in_run, CopiesAtMostEagerly, MovesArePaid}
+use Rattle.ecow_model.specs.Lists.{ListUsage, make_list, edit_list, ask_list, vec_usage}
+use Rattle.ecow_model.specs.Costs.{make_capacity, unshares, copies, capacity_after, moves, make_input, edit_input, copied_by, moved_by}
+use Rattle.ecow_model.specs.CountedRun.{nothing, held_at, observation_of, change, counted_carry_out, counted_is_free, IsCountedUse, CountedRun, if_accepted, names_or, names_after, copied_in, moved_in, eager_in, input_in, copied_in_run, moved_in_run, eager_in_run, input_in_run, CopiesAtMostEagerly, MovesArePaid}
 use Rattle.ecow_model.specs.Names.{Names, Held, IsSharing, is_shared, forget, settle, join, debt, debt_of, strain, strain_of, strain_at}
-use Rattle.ecow_model.specs.declared.usage.Usage.TheVariants.{Make, Derive, Drop, Change as Edit, Ask}
+use Rattle.ecow_model.specs.declared.usage.Usage.TheVariants.{Make, Derive, Drop, Edit, Ask}
 use Rattle.ecow_model.specs.declared.lists.ListMake.{ListMake}
 use Rattle.ecow_model.specs.declared.lists.ListDerive.{ListDerive}
 use Rattle.ecow_model.specs.declared.lists.ListEdit.{ListEdit}
@@ -74,7 +74,7 @@ module _ {T : Type 0} where
       owed : debt names ≡ debt (forget x names) + cond (is_shared h) (length h.items) 0
       owed = debt-forget names groups x h at
 
-      by_sharing : is_shared h ≡ true → unshares edit (length h.items) ≡ true → IsPaid (copied_by edit h) (moved_by edit h) (input_edited edit) 0 names (change edit x h items names)
+      by_sharing : is_shared h ≡ true → unshares edit (length h.items) ≡ true → IsPaid (copied_by edit h) (moved_by edit h) (edit_input edit) 0 names (change edit x h items names)
       by_sharing shared leaves =
           let paid : IsPaidShared edit (length h.items) (length items) h.capacity = paid_shared (length h.items) (length items) h.capacity within small edit is leaves in
           let capacity : ℕ = capacity_after edit true (length h.items) h.capacity in
@@ -91,7 +91,7 @@ module _ {T : Type 0} where
             moves_paid = rw goes (omega (arith, cost, growth, strained, bound, strain_left, paid.moved));
           }
 
-      by_staying : is_shared h ≡ true → unshares edit (length h.items) ≡ false → IsPaid (copied_by edit h) (moved_by edit h) (input_edited edit) 0 names (change edit x h items names)
+      by_staying : is_shared h ≡ true → unshares edit (length h.items) ≡ false → IsPaid (copied_by edit h) (moved_by edit h) (edit_input edit) 0 names (change edit x h items names)
       by_staying shared stays =
           let goes : change edit x h items names ≡ names = (λ i. cond (shared i && not (stays i)) names (settle x items (capacity_after edit (shared i) (length h.items) h.capacity) names)) in
           let cost : copied_by edit h ≡ 0 = (λ i. cond (shared i && stays i) (copies edit (length h.items)) 0) in
@@ -113,7 +113,7 @@ module _ {T : Type 0} where
             λ i. sym (λ j. strain_at (empty j) (bare j)) i
       ] refl
 
-      by_itself : is_shared h ≡ false → IsPaid (copied_by edit h) (moved_by edit h) (input_edited edit) 0 names (change edit x h items names)
+      by_itself : is_shared h ≡ false → IsPaid (copied_by edit h) (moved_by edit h) (edit_input edit) 0 names (change edit x h items names)
       by_itself sole =
           let paid : IsPaidSole edit (length h.items) (length items) h.capacity = paid_sole (length h.items) (length items) h.capacity within small edit is in
           let capacity : ℕ = capacity_after edit false (length h.items) h.capacity in
@@ -130,17 +130,17 @@ module _ {T : Type 0} where
             moves_paid = rw goes (omega (arith, cost, growth, strained, bound, left, paid.moved));
           }
 
-      change_paid : IsPaid (copied_by edit h) (moved_by edit h) (input_edited edit) 0 names (change edit x h items names)
+      change_paid : IsPaid (copied_by edit h) (moved_by edit h) (edit_input edit) 0 names (change edit x h items names)
       change_paid = ⊎_elim
           (λ shared. ⊎_elim (by_sharing shared) (by_staying shared) (cases_Bool (unshares edit (length h.items))))
           by_itself
           (cases_Bool (is_shared h))
 
     -- a new name
-    made_paid : (x : ℕ) → finite.get names x ≡ None → (how : ListMake T) (items : List T) → LengthMade how (length items) → IsPaid 0 0 (input_made how) 0 names (settle x items (capacity_made how) names)
+    made_paid : (x : ℕ) → finite.get names x ≡ None → (how : ListMake T) (items : List T) → LengthMade how (length items) → IsPaid 0 0 (make_input how) 0 names (settle x items (make_capacity how) names)
     made_paid x none how items is =
         let paid : IsPaidMade how (length items) = paid_made (length items) how is in
-        let capacity : ℕ = capacity_made how in
+        let capacity : ℕ = make_capacity how in
         let same : forget x names ≡ names = forget_absent names x groups none in
         let free : debt (settle x items capacity names) ≡ debt names = debt-settle names x groups items capacity paid.fits paid.small ∙ ap debt same in
         let strained : strain (settle x items capacity names) ≡ strain names + cond (ltb 0 capacity) (strain_at (length items) capacity) 0 =
@@ -183,15 +183,15 @@ module _ {T : Type 0} where
   IsPaidAnswer copying moving brought owes old answer = OnRefused answer.0 ⊥ × IsPaid copying moving brought owes old answer.1
 
   module _ (old : Names T) (groups : IsSharing old) (answer : Outcome T × Names T) where
-    make_paid : (x : ℕ) (how : ListMake T) → counted_used old (Make x how) ≡ Ok answer → IsPaidAnswer 0 0 (input_made how) 0 old answer
+    make_paid : (x : ℕ) (how : ListMake T) → counted_carry_out old (Make x how) ≡ Ok answer → IsPaidAnswer 0 0 (make_input how) 0 old answer
     make_paid x how e =
         let new = bound (unused old x) _ answer e in
         let none : finite.get old x ≡ None = absent (finite.get old x) new.0 new.1 in
-        let xs = bound (list_made how) _ answer new.2 in
-        subst (IsPaidAnswer 0 0 (input_made how) 0 old) (same_answer _ answer xs.2)
+        let xs = bound (make_list how) _ answer new.2 in
+        subst (IsPaidAnswer 0 0 (make_input how) 0 old) (same_answer _ answer xs.2)
         (tt, made_paid old groups x none how xs.0 (is_made how xs.0 xs.1))
 
-    clone_paid : (x y : ℕ) (how : ListDerive) → counted_used old (Derive x y how) ≡ Ok answer → IsPaidAnswer 0 0 0 (length (held_at old x).items) old answer
+    clone_paid : (x y : ℕ) (how : ListDerive) → counted_carry_out old (Derive x y how) ≡ Ok answer → IsPaidAnswer 0 0 0 (length (held_at old x).items) old answer
     clone_paid x y how e =
         let is_there = bound (there old x) _ answer e in
         let h : Held T = is_there.0 in
@@ -201,31 +201,31 @@ module _ {T : Type 0} where
         subst (IsPaidAnswer 0 0 0 (length (held_at old x).items) old) (same_answer _ answer new.2)
         (tt, subst (λ k. IsPaid 0 0 0 (length k.items) old (join x y h old)) (sym (held_is old x h at)) (joined_paid old groups x y h at none))
 
-    drop_paid : (x : ℕ) → counted_used old (Drop x) ≡ Ok answer → IsPaidAnswer 0 0 0 0 old answer
+    drop_paid : (x : ℕ) → counted_carry_out old (Drop x) ≡ Ok answer → IsPaidAnswer 0 0 0 0 old answer
     drop_paid x e =
         let is_there = bound (there old x) _ answer e in
         let h : Held T = is_there.0 in
         let at : finite.get old x ≡ Some h = found_value (finite.get old x) h is_there.1 in
         subst (IsPaidAnswer 0 0 0 0 old) (same_answer _ answer is_there.2) (tt, dropped_paid old groups x h at)
 
-    edit_paid : (x : ℕ) (edit : ListEdit T) → counted_used old (Edit x edit) ≡ Ok answer → IsPaidAnswer (copied_by edit (held_at old x)) (moved_by edit (held_at old x)) (input_edited edit) 0 old answer
+    edit_paid : (x : ℕ) (edit : ListEdit T) → counted_carry_out old (Edit x edit) ≡ Ok answer → IsPaidAnswer (copied_by edit (held_at old x)) (moved_by edit (held_at old x)) (edit_input edit) 0 old answer
     edit_paid x edit e =
         let is_there = bound (there old x) _ answer e in
         let h : Held T = is_there.0 in
         let at : finite.get old x ≡ Some h = found_value (finite.get old x) h is_there.1 in
-        let after = bound (list_edited edit h.items) _ answer is_there.2 in
+        let after = bound (edit_list edit h.items) _ answer is_there.2 in
         let is = is_answer h.items after.0 edit after.1 in
-        subst (IsPaidAnswer (copied_by edit (held_at old x)) (moved_by edit (held_at old x)) (input_edited edit) 0 old) (same_answer _ answer after.2)
-        (is.0, subst (λ k. IsPaid (copied_by edit k) (moved_by edit k) (input_edited edit) 0 old (change edit x h after.0.1 old)) (sym (held_is old x h at)) (change_paid old groups x h at edit after.0.1 is.1))
+        subst (IsPaidAnswer (copied_by edit (held_at old x)) (moved_by edit (held_at old x)) (edit_input edit) 0 old) (same_answer _ answer after.2)
+        (is.0, subst (λ k. IsPaid (copied_by edit k) (moved_by edit k) (edit_input edit) 0 old (change edit x h after.0.1 old)) (sym (held_is old x h at)) (change_paid old groups x h at edit after.0.1 is.1))
 
-    ask_paid : (x : ℕ) (question : ListAsk) → counted_used old (Ask x question) ≡ Ok answer → IsPaidAnswer 0 0 0 0 old answer
+    ask_paid : (x : ℕ) (question : ListAsk) → counted_carry_out old (Ask x question) ≡ Ok answer → IsPaidAnswer 0 0 0 0 old answer
     ask_paid x question e =
         let is_there = bound (there old x) _ answer e in
         let h : Held T = is_there.0 in
-        let outcome = bound (list_asked (reading_of h) question h.items) _ answer is_there.2 in
-        subst (IsPaidAnswer 0 0 0 0 old) (same_answer _ answer outcome.2) (is_asked (reading_of h) question h.items outcome.0 outcome.1, asked_paid old groups)
+        let outcome = bound (ask_list (observation_of h) question h.items) _ answer is_there.2 in
+        subst (IsPaidAnswer 0 0 0 0 old) (same_answer _ answer outcome.2) (is_asked (observation_of h) question h.items outcome.0 outcome.1, asked_paid old groups)
 
-    answer_paid : (usage : ListUsage T) → counted_used old usage ≡ Ok answer → IsPaidAnswer (copied_in usage old) (moved_in usage old) (input_in usage old) (eager_in usage old) old answer
+    answer_paid : (usage : ListUsage T) → counted_carry_out old usage ≡ Ok answer → IsPaidAnswer (copied_in usage old) (moved_in usage old) (input_in usage old) (eager_in usage old) old answer
     answer_paid (Make x how) e = make_paid x how e
     answer_paid (Derive x y how) e = clone_paid x y how e
     answer_paid (Drop x) e = drop_paid x e
@@ -246,13 +246,13 @@ module _ {T : Type 0} where
     refused_as : (refusal : Refusal) (outcome : Outcome T) (new : Names T) → outcome ≡ Refused refusal → new ≡ old → IsPaidStep usage old outcome new
     refused_as refusal outcome new is same = subst (λ (a : Outcome T × Names T). IsPaidStep usage old a.0 a.1) (λ i. (sym is i, sym same i)) (refused_paid refusal)
 
-    accepted_paid : (outcome : Outcome T) (new : Names T) → counted_used old usage ≡ Ok (outcome, new) → OnRefused outcome ⊥ → IsPaid (copied_in usage old) (moved_in usage old) (input_in usage old) (eager_in usage old) old new → IsPaidStep usage old outcome new
+    accepted_paid : (outcome : Outcome T) (new : Names T) → counted_carry_out old usage ≡ Ok (outcome, new) → OnRefused outcome ⊥ → IsPaid (copied_in usage old) (moved_in usage old) (input_in usage old) (eager_in usage old) old new → IsPaidStep usage old outcome new
     accepted_paid (Refused refusal) new is accepted paid = absurd accepted
-    accepted_paid _ new is accepted paid = record { sharing = paid.sharing; after = ap (λ r. names_given r old) is; copies_paid = paid.copies_paid; moves_paid = paid.moves_paid }
+    accepted_paid _ new is accepted paid = record { sharing = paid.sharing; after = ap (λ r. names_or r old) is; copies_paid = paid.copies_paid; moves_paid = paid.moves_paid }
 
     -- a step is paid, and the names after it are those that the sums of a run go on from
     pub step_paid : (outcome : Outcome T) (new : Names T) → IsCountedUse old usage outcome new → IsPaidStep usage old outcome new
-    step_paid outcome new h = elim (counted_used old usage) as (λ r. counted_used old usage ≡ r → Gives r (counted_is_free old usage) old outcome new → IsPaidStep usage old outcome new) [
+    step_paid outcome new h = elim (counted_carry_out old usage) as (λ r. counted_carry_out old usage ≡ r → Gives r (counted_is_free old usage) old outcome new → IsPaidStep usage old outcome new) [
       | Ok answer ↦ λ e h. ⊎_elim
           (λ (w : (outcome, new) ≡ answer).
           let paid = answer_paid old groups answer usage e in

@@ -10,10 +10,10 @@ use Rattle.std.proofs.lemmas.Map.Lookups.{exact_unsigned}
 use Rattle.ecow_model.specs.CountedRun.{CountedStep}
 use Rattle.ecow_model.specs.Lists.{list_rules, vec_usage}
 use Rattle.ecow_model.specs.Names.{Held, Names, contents}
-use Rattle.ecow_model.specs.Refusing.{◌>>=◌, becomes, found}
+use Rattle.ecow_model.specs.Refusing.{◌>>=◌, becomes, ok_or}
 use Rattle.ecow_model.specs.Run.{IsVecStep}
 use Rattle.ecow_model.specs.State.{State, Plain}
-use Rattle.ecow_model.specs.Uses.{Gives, Reading, Rules, put_made, reading_in, used, value_at}
+use Rattle.ecow_model.specs.Uses.{Gives, Observation, Rules, put_made, observation_in, carry_out, value_at}
 use Rattle.ecow_model.specs.Values.{Named, as_list, list_at, there, unused}
 use Rattle.ecow_model.specs.declared.command.Outcome.{Outcome}
 use Rattle.ecow_model.specs.declared.command.Outcome.TheVariants.{Done}
@@ -24,9 +24,9 @@ use Rattle.ecow_model.specs.declared.lists.ListEdit.TheVariants.{Write}
 use Rattle.ecow_model.specs.declared.lists.VecCommand.{VecCommand}
 use Rattle.ecow_model.specs.declared.lists.VecCommand.TheVariants as command
 use Rattle.ecow_model.specs.declared.usage.Made.{Made}
-use Rattle.ecow_model.specs.declared.usage.Made.TheVariants.{Value, Tried}
+use Rattle.ecow_model.specs.declared.usage.Made.TheVariants.{Always, Tried}
 use Rattle.ecow_model.specs.declared.usage.Usage.{Usage}
-use Rattle.ecow_model.specs.declared.usage.Usage.TheVariants.{Make, Derive, Drop, Change as Edit, Ask}
+use Rattle.ecow_model.specs.declared.usage.Usage.TheVariants.{Make, Derive, Drop, Edit, Ask}
 use Rattle.ecow_model.specs.declared.value.Value.TheVariants.{List as Listed, Bytes as Buffered, Text as Written}
 use Rattle.ecow_model.proofs.Contents.{get-contents, step_of_contents}
 use Rattle.ecow_laws.specs.Callers.{LeavesName, list_of}
@@ -35,7 +35,7 @@ abbrev nothing : Unit {0}
 nothing = tt
 
 -- a fork and a write read neither capacity nor sharing
-abbrev unread : Reading
+abbrev unread : Observation
 unread = record { capacity = 0; unique = false }
 
 module _ {V : Type 0} where
@@ -67,22 +67,22 @@ module _ {T V : Type 0} (old : Named V) (q : ℕ) where
   stays_given (Ok answer) free outcome new stays (inr refused) = ap (λ m. get m q) refused.1
   stays_given (Err refusal) free outcome new stays refused = ap (λ m. get m q) refused.1
 
-module _ {T V A M D E Q : Type 0} (rules : Rules T V A M D E Q) (seen : Reading) (old : Named V) (q : ℕ) where
+module _ {T V A M D E Q : Type 0} (rules : Rules T V A M D E Q) (seen : Observation) (old : Named V) (q : ℕ) where
   stays_made : (name : ℕ) (made : Made A) → q ≢ name → get (put_made {T = T} rules old name made).1 q ≡ get old q
-  stays_made name (Value value) differ = past_insert old name (rules.kept value) q differ
-  stays_made name (Tried (Some value)) differ = past_insert old name (rules.kept value) q differ
+  stays_made name (Always value) differ = past_insert old name (rules.wrap value) q differ
+  stays_made name (Tried (Some value)) differ = past_insert old name (rules.wrap value) q differ
   stays_made name (Tried None) differ = refl
 
-  stays_used : (usage : Usage M D E Q) → LeavesName usage q → Stays {T = T} old q (used rules seen old usage)
-  stays_used (Make name how) differ = behind old q (unused old name) _ (λ _. behind old q (rules.made how) _ (λ made. stays_made name made differ))
-  stays_used (Derive from to how) differ = behind old q (there old from) _ (λ source. behind old q (unused old to) _ (λ _. behind old q (rules.derived how source) _ (λ value. past_insert old to (rules.kept value) q differ)))
+  stays_used : (usage : Usage M D E Q) → LeavesName usage q → Stays {T = T} old q (carry_out rules seen old usage)
+  stays_used (Make name how) differ = behind old q (unused old name) _ (λ _. behind old q (rules.make how) _ (λ made. stays_made name made differ))
+  stays_used (Derive from to how) differ = behind old q (there old from) _ (λ source. behind old q (unused old to) _ (λ _. behind old q (rules.derive how source) _ (λ value. past_insert old to (rules.wrap value) q differ)))
   stays_used (Drop name) differ = behind old q (value_at rules old name) _ (λ value. past_remove old name q differ)
-  stays_used (Edit name edit) differ = behind old q (value_at rules old name) _ (λ value. behind old q (rules.edited edit value) _ (λ after. past_insert old name (rules.kept after.1) q differ))
-  stays_used (Ask name question) tt = behind old q (value_at rules old name) _ (λ value. behind old q (rules.asked seen question value) _ (λ answer. refl))
+  stays_used (Edit name edit) differ = behind old q (value_at rules old name) _ (λ value. behind old q (rules.edit edit value) _ (λ after. past_insert old name (rules.wrap after.1) q differ))
+  stays_used (Ask name question) tt = behind old q (value_at rules old name) _ (λ value. behind old q (rules.ask seen question value) _ (λ answer. refl))
 
   -- what stands under every name that the command doesn't make, change or drop stays
-  pub name_stays : (usage : Usage M D E Q) (free : Bool) (outcome : Outcome T) (new : Named V) → LeavesName usage q → Gives (used rules seen old usage) free old outcome new → get new q ≡ get old q
-  name_stays usage free outcome new differ given = stays_given old q (used rules seen old usage) free outcome new (stays_used usage differ) given
+  pub name_stays : (usage : Usage M D E Q) (free : Bool) (outcome : Outcome T) (new : Named V) → LeavesName usage q → Gives (carry_out rules seen old usage) free old outcome new → get new q ≡ get old q
+  name_stays usage free outcome new differ given = stays_given old q (carry_out rules seen old usage) free outcome new (stays_used usage differ) given
 
 module _ {T S : Type 0} where
   -- what was done is what was given
@@ -99,7 +99,7 @@ module _ {T : Type 0} (old new : State T) where
   -- a fork, by what stands under the first name and whether the second is taken
   abbrev fork_to : ℕ → Option (Plain T) → Bool → Result (Outcome T × State T) Refusal
   fork_to to o taken = do
-    source ← found o NoName
+    source ← ok_or o NoName
     _ ← if taken then Err Taken else Ok nothing
     xs ← as_list source
     Ok (Done, insert old to (Listed xs))
@@ -113,8 +113,8 @@ module _ {T : Type 0} (old new : State T) where
   forked_from to (Some (Written t)) true e = cc
   forked_from to (Some (Written t)) false e = cc
 
-  fork_given : (free : Bool) (from to : ℕ) → Gives (used list_rules unread old (Derive from to Clone)) free old Done new → get new to ≡ get old from
-  fork_given free from to given = forked_from to (get old from) (contains_key old to) (done_is (used list_rules unread old (Derive from to Clone)) free old new given)
+  fork_given : (free : Bool) (from to : ℕ) → Gives (carry_out list_rules unread old (Derive from to Clone)) free old Done new → get new to ≡ get old from
+  fork_given free from to given = forked_from to (get old from) (contains_key old to) (done_is (carry_out list_rules unread old (Derive from to Clone)) free old new given)
 
   -- a list of which one element was written
   abbrev set_in : ℕ → T → Option (List T) → Option (List T)
@@ -123,12 +123,12 @@ module _ {T : Type 0} (old new : State T) where
   -- a write to the list `xs` whose element at the index is `item`, and one by what stands under the name
   abbrev write_in : ℕ → ℕ → T → List T → Option T → Result (Outcome T × State T) Refusal
   write_in name index value xs item = do
-    after ← found item Index >>= (λ x. becomes (slice_set xs index value))
+    after ← ok_or item Index >>= (λ x. becomes (slice_set xs index value))
     Ok (after.0, insert old name (Listed after.1))
 
   abbrev write_to : ℕ → ℕ → T → Option (Plain T) → Result (Outcome T × State T) Refusal
   write_to name index value o = do
-    xs ← found o NoName >>= as_list
+    xs ← ok_or o NoName >>= as_list
     write_in name index value xs (slice_get xs index)
 
   written_to : (name index : ℕ) (value : T) (xs : List T) (item : Option T) → write_in name index value xs item ≡ Ok (Done, new) → get new name ≡ Some (Listed (slice_set xs index value))
@@ -136,15 +136,15 @@ module _ {T : Type 0} (old new : State T) where
   written_to name index value xs (Some x) e = let same : new ≡ insert old name (Listed (slice_set xs index value)) = sym (ap left_by e) in rw same (at_insert old name (Listed (slice_set xs index value)))
 
   written_at : (name index : ℕ) (value : T) (o : Option (Plain T)) → write_to name index value o ≡ Ok (Done, new)
-      → result_ok (found (get new name) NoName >>= as_list) ≡ set_in index value (result_ok (found o NoName >>= as_list))
+      → result_ok (ok_or (get new name) NoName >>= as_list) ≡ set_in index value (result_ok (ok_or o NoName >>= as_list))
   written_at name index value None e = cc
   written_at name index value (Some (Listed xs)) e = rw (written_to name index value xs (slice_get xs index) e) refl
   written_at name index value (Some (Buffered b)) e = cc
   written_at name index value (Some (Written t)) e = cc
 
-  write_given : (free : Bool) (name index : ℕ) (value : T) → Gives (used list_rules unread old (Edit name (Write index value))) free old Done new
+  write_given : (free : Bool) (name index : ℕ) (value : T) → Gives (carry_out list_rules unread old (Edit name (Write index value))) free old Done new
       → result_ok (list_at new name) ≡ set_in index value (result_ok (list_at old name))
-  write_given free name index value given = written_at name index value (get old name) (done_is (used list_rules unread old (Edit name (Write index value))) free old new given)
+  write_given free name index value given = written_at name index value (get old name) (done_is (carry_out list_rules unread old (Edit name (Write index value))) free old new given)
 
 module _ {T : Type 0} (old new : State T) (outcome : Outcome T) where
   -- a fork reads as its source does
@@ -158,14 +158,14 @@ module _ {T : Type 0} (old new : State T) (outcome : Outcome T) where
 
   -- what stands under all other names stays
   pub others_stay : (c : VecCommand T) (q : ℕ) → IsVecStep old c outcome new → LeavesName (vec_usage c) q → get new q ≡ get old q
-  others_stay c q step differ = name_stays list_rules (reading_in outcome) old q (vec_usage c) _ outcome new differ step
+  others_stay c q step differ = name_stays list_rules (observation_in outcome) old q (vec_usage c) _ outcome new differ step
 
 module _ {T : Type 0} where
   abbrev plain : Held T → Plain T
   plain h = Listed h.items
 
   abbrev listed : Option (Held T) → Option (List T)
-  listed o = result_ok (found (option_map plain o) NoName >>= as_list)
+  listed o = result_ok (ok_or (option_map plain o) NoName >>= as_list)
 
   listed-is : (o : Option (Held T)) → listed o ≡ option_map (λ h. h.items) o
   listed-is None = refl
@@ -177,7 +177,7 @@ module _ {T : Type 0} where
 
 module _ {T : Type 0} (old new : Names T) (outcome : Outcome T) where
   same_lists : (x y : ℕ) → get (contents new) x ≡ get (contents old) y → list_of new x ≡ list_of old y
-  same_lists x y e = sym (list_of-contents new x) ∙ ap (λ o. result_ok (found o NoName >>= as_list)) e ∙ list_of-contents old y
+  same_lists x y e = sym (list_of-contents new x) ∙ ap (λ o. result_ok (ok_or o NoName >>= as_list)) e ∙ list_of-contents old y
 
   -- in shared blocks: a fork reads as its source does
   pub share_reads : (from to : ℕ) → CountedStep old (command.Clone from to) outcome new → outcome ≡ Done → list_of new to ≡ list_of old from

@@ -9,9 +9,9 @@ use Rattle.std.proofs.lemmas.List.Edits.{length-remove}
 use Rattle.std.proofs.lemmas.Option.{none-some, slice_get_cases}
 use Rattle.ecow_base.specs.Capacity.{MAX}
 use Rattle.ecow_base.specs.Range.{range_of, items_in_range}
-use Rattle.ecow_model.specs.Refusing.{◌>>=◌, OnRefused, Change, allowed, check, found, becomes}
-use Rattle.ecow_model.specs.Uses.{Reading}
-use Rattle.ecow_model.specs.Lists.{list_made, list_edited, list_asked, grows}
+use Rattle.ecow_model.specs.Refusing.{◌>>=◌, OnRefused, Effect, allowed, check, ok_or, becomes}
+use Rattle.ecow_model.specs.Uses.{Observation}
+use Rattle.ecow_model.specs.Lists.{make_list, edit_list, ask_list, grows}
 use Rattle.ecow_model.specs.declared.lists.ListMake.{ListMake}
 use Rattle.ecow_model.specs.declared.lists.ListMake.TheVariants.{New, WithCapacity, FromList, FromElem}
 use Rattle.ecow_model.specs.declared.lists.ListEdit.{ListEdit}
@@ -52,7 +52,7 @@ module _ {A : Type 0} (P : A → Type 0) (answer : A) where
   limited : (n : ℕ) (then : Unit {0} → Result A Refusal) → (n ≤ MAX → then tt ≡ Ok answer → P answer) → (allowed n >>= then) ≡ Ok answer → P answer
   limited n then p e = checked (nat_lt n (2 ^ 63)) TooMuch then (λ t e. let lt : n < 2 ^ 63 = ltb-true n (2 ^ 63) t in p (omega arith) e) e
 
-  given : {B : Type 0} (o : Option B) (refusal : Refusal) (then : B → Result A Refusal) → ((x : B) → o ≡ Some x → then x ≡ Ok answer → P answer) → (found o refusal >>= then) ≡ Ok answer → P answer
+  given : {B : Type 0} (o : Option B) (refusal : Refusal) (then : B → Result A Refusal) → ((x : B) → o ≡ Some x → then x ≡ Ok answer → P answer) → (ok_or o refusal >>= then) ≡ Ok answer → P answer
   given None refusal then p e = cc
   given (Some x) refusal then p e = p x refl e
 
@@ -67,7 +67,7 @@ module _ {T : Type 0} where
   LengthMade (FromList items) m = (m ≡ length items) × (m ≤ MAX)
   LengthMade (FromElem value count) m = (m ≡ count) × (count ≤ MAX)
 
-  pub is_made : (how : ListMake T) (xs : List T) → list_made how ≡ Ok xs → LengthMade how (length xs)
+  pub is_made : (how : ListMake T) (xs : List T) → make_list how ≡ Ok xs → LengthMade how (length xs)
   is_made New xs e = answered (λ xs. LengthMade New (length xs)) xs [] refl e
   is_made (WithCapacity asked) xs e = limited (λ xs. LengthMade (WithCapacity asked) (length xs)) xs asked _ (λ le e. answered (λ xs. LengthMade (WithCapacity asked) (length xs)) xs [] (refl, le) e) e
   is_made (FromList items) xs e = limited (λ xs. LengthMade (FromList items) (length xs)) xs (length items) _ (λ le e. answered (λ xs. LengthMade (FromList items) (length xs)) xs items (refl, le) e) e
@@ -88,13 +88,13 @@ module _ {T : Type 0} where
   abbrev pub IsAnswer : ListEdit T → ℕ → Outcome T × List T → Type 0
   IsAnswer edit n answer = OnRefused answer.0 ⊥ × LengthIs edit n (length answer.1)
 
-  spliced_then : (answer : Outcome T × List T) (removed ys : List T) (r : Change T (List T)) → (r >>= (λ spliced. Ok (Elements removed, spliced.1))) ≡ Ok answer → ((other : Outcome T × List T) → r ≡ Ok other → length other.1 ≡ length ys × length other.1 ≤ MAX) → OnRefused answer.0 ⊥ × (length answer.1 ≡ length ys × length answer.1 ≤ MAX)
+  spliced_then : (answer : Outcome T × List T) (removed ys : List T) (r : Effect T (List T)) → (r >>= (λ spliced. Ok (Elements removed, spliced.1))) ≡ Ok answer → ((other : Outcome T × List T) → r ≡ Ok other → length other.1 ≡ length ys × length other.1 ≤ MAX) → OnRefused answer.0 ⊥ × (length answer.1 ≡ length ys × length answer.1 ≤ MAX)
   spliced_then answer removed ys (Ok other) e p = answered (λ (a : Outcome T × List T). OnRefused a.0 ⊥ × (length a.1 ≡ length ys × length a.1 ≤ MAX)) answer (Elements removed, other.1) (tt, p other refl) e
   spliced_then answer removed ys (Err refusal) e p = cc
 
   -- what an accepted change answers
   module _ (xs : List T) (answer : Outcome T × List T) where
-    pub is_answer : (edit : ListEdit T) → list_edited edit xs ≡ Ok answer → IsAnswer edit (length xs) answer
+    pub is_answer : (edit : ListEdit T) → edit_list edit xs ≡ Ok answer → IsAnswer edit (length xs) answer
     is_answer (Push value) e = widened (IsAnswer (Push value) (length xs)) answer (xs ++ value ∷ []) (λ le. (tt, (length-append xs (value ∷ []), le))) e
     is_answer Pop e = answered (IsAnswer Pop (length xs)) answer (Popped (slice_get xs (length xs - 1)), take (length xs - 1) xs) (tt, omega (arith, length-take (length xs - 1) xs)) e
     is_answer (Insert index value) e = checked (IsAnswer (Insert index value) (length xs)) answer (nat_le index (length xs)) Index _ (λ t e. widened (IsAnswer (Insert index value) (length xs)) answer (insert_at xs index value) (λ le. (tt, (length-inserted xs index value (leb-true index (length xs) t), le))) e) e
@@ -117,7 +117,7 @@ module _ {T : Type 0} where
     is_answer (Write index value) e = given (IsAnswer (Write index value) (length xs)) answer (slice_get xs index) Index _ (λ _ _ e. answered (IsAnswer (Write index value) (length xs)) answer (Done, slice_set xs index value) (tt, omega (arith, length-set xs index value)) e) e
 
   -- a question that is answered isn't refused
-  pub is_asked : (seen : Reading) (question : ListAsk) (xs : List T) (answer : Outcome T) → list_asked seen question xs ≡ Ok answer → OnRefused answer ⊥
+  pub is_asked : (seen : Observation) (question : ListAsk) (xs : List T) (answer : Outcome T) → ask_list seen question xs ≡ Ok answer → OnRefused answer ⊥
   is_asked seen (Read index) xs answer e = given (λ (a : Outcome T). OnRefused a ⊥) answer (slice_get xs index) Index _ (λ y _ e. answered (λ (a : Outcome T). OnRefused a ⊥) answer (Element y) tt e) e
   is_asked seen Len xs answer e = answered (λ (a : Outcome T). OnRefused a ⊥) answer _ tt e
   is_asked seen Contents xs answer e = answered (λ (a : Outcome T). OnRefused a ⊥) answer _ tt e

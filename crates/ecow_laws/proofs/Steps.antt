@@ -3,7 +3,7 @@ use Rattle.std.proofs.Common.{◌≡◌, ℕ, ◌+◌, ◌-◌, ◌*◌, ◌<◌
 use Rattle.std.proofs.lemmas.Bool.{ltb-true}
 use Rattle.ecow_base.specs.Capacity.{MAX, fresh, room}
 use Rattle.ecow_base.specs.Range.{items_in_range}
-use Rattle.ecow_model.specs.Costs.{capacity_made, unshares, copies, capacity_after, moves, input_made, input_edited}
+use Rattle.ecow_model.specs.Costs.{make_capacity, unshares, copies, capacity_after, moves, make_input, edit_input}
 use Rattle.ecow_model.specs.Names.{strain_at}
 use Rattle.ecow_model.specs.declared.lists.ListMake.{ListMake}
 use Rattle.ecow_model.specs.declared.lists.ListMake.TheVariants.{New, WithCapacity, FromList, FromElem}
@@ -14,9 +14,9 @@ use Rattle.ecow_laws.proofs.Lengths.{LengthMade, LengthIs}
 
 -- a list that is made fits in its block, and is paid
 pub record IsPaidMade {T : Type 0} (how : ListMake T) (m : ℕ) : Type 0 where
-  pub fits : m ≤ capacity_made how
-  pub small : capacity_made how ≤ MAX
-  pub moved : strain_at m (capacity_made how) ≤ 2 * input_made how
+  pub fits : m ≤ make_capacity how
+  pub small : make_capacity how ≤ MAX
+  pub moved : strain_at m (make_capacity how) ≤ 2 * make_input how
 
 pub paid_made : {T : Type 0} (m : ℕ) (how : ListMake T) → LengthMade how m → IsPaidMade how m
 paid_made m New ok = record { fits = omega arith; small = omega arith; moved = (let bound : strain_at m 0 ≤ 2 * m - 0 = strain_le m 0 in omega arith) }
@@ -31,14 +31,14 @@ paid_made m (FromElem v k) ok = record { fits = omega arith; small = ok.1; moved
 pub record IsPaidSole {T : Type 0} (edit : ListEdit T) (n m capacity : ℕ) : Type 0 where
   pub fits : m ≤ capacity_after edit false n capacity
   pub small : capacity_after edit false n capacity ≤ MAX
-  pub moved : moves edit n capacity + strain_at m (capacity_after edit false n capacity) ≤ strain_at n capacity + 2 * input_edited edit
+  pub moved : moves edit n capacity + strain_at m (capacity_after edit false n capacity) ≤ strain_at n capacity + 2 * edit_input edit
 
 -- by a name that leaves a block to others
 pub record IsPaidShared {T : Type 0} (edit : ListEdit T) (n m capacity : ℕ) : Type 0 where
   pub fits : m ≤ capacity_after edit true n capacity
   pub small : capacity_after edit true n capacity ≤ MAX
   pub copied : copies edit n ≤ n
-  pub moved : strain_at m (capacity_after edit true n capacity) ≤ copies edit n + 2 * input_edited edit
+  pub moved : strain_at m (capacity_after edit true n capacity) ≤ copies edit n + 2 * edit_input edit
 
 module _ {T : Type 0} (n m capacity : ℕ) (within : n ≤ capacity) (small : capacity ≤ MAX) where
   -- a sole name whose block stays
@@ -49,11 +49,11 @@ module _ {T : Type 0} (n m capacity : ℕ) (within : n ≤ capacity) (small : ca
       record { fits = omega arith; small = omega arith; moved = omega arith }
 
   -- a sole name into whose block k items go, where left of its own stay
-  goes_in : (edit : ListEdit T) (left : ℕ) → left ≤ n → left + input_edited edit ≤ MAX → m ≤ left + input_edited edit → capacity_after edit false n capacity ≡ room left (input_edited edit) capacity → moves edit n capacity ≡ cond (leb (left + input_edited edit) capacity) 0 left → IsPaidSole edit n m capacity
+  goes_in : (edit : ListEdit T) (left : ℕ) → left ≤ n → left + edit_input edit ≤ MAX → m ≤ left + edit_input edit → capacity_after edit false n capacity ≡ room left (edit_input edit) capacity → moves edit n capacity ≡ cond (leb (left + edit_input edit) capacity) 0 left → IsPaidSole edit n m capacity
   goes_in edit left part fit short same moved =
-      let enough : left + input_edited edit ≤ room left (input_edited edit) capacity = le-room left (input_edited edit) capacity fit in
-      let top : room left (input_edited edit) capacity ≤ MAX = room-le left (input_edited edit) capacity small in
-      let paid : cond (leb (left + input_edited edit) capacity) 0 left + strain_at m (room left (input_edited edit) capacity) ≤ strain_at n capacity + 2 * input_edited edit = paid_by_room n m left (input_edited edit) capacity part within small short fit in
+      let enough : left + edit_input edit ≤ room left (edit_input edit) capacity = le-room left (edit_input edit) capacity fit in
+      let top : room left (edit_input edit) capacity ≤ MAX = room-le left (edit_input edit) capacity small in
+      let paid : cond (leb (left + edit_input edit) capacity) 0 left + strain_at m (room left (edit_input edit) capacity) ≤ strain_at n capacity + 2 * edit_input edit = paid_by_room n m left (edit_input edit) capacity part within small short fit in
       record { fits = rw same (omega (arith, short, enough)); small = rw same top; moved = rw (moved, same) paid }
 
   pub paid_sole : (edit : ListEdit T) → LengthIs edit n m → IsPaidSole edit n m capacity
@@ -79,11 +79,11 @@ module _ {T : Type 0} (n m capacity : ℕ) (within : n ≤ capacity) (small : ca
       record { fits = rw same (omega (arith, short, wide)); small = rw same top; copied = omega arith; moved = rw (same, copied) (omega (arith, bound)) }
 
   -- a name that leaves its block for one with room for k items more
-  copied_in : (edit : ListEdit T) (left wide : ℕ) → copies edit n ≡ n → left ≤ n → n ≤ wide → wide ≤ MAX → left + input_edited edit ≤ MAX → m ≤ left + input_edited edit → capacity_after edit true n capacity ≡ room left (input_edited edit) wide → IsPaidShared edit n m capacity
+  copied_in : (edit : ListEdit T) (left wide : ℕ) → copies edit n ≡ n → left ≤ n → n ≤ wide → wide ≤ MAX → left + edit_input edit ≤ MAX → m ≤ left + edit_input edit → capacity_after edit true n capacity ≡ room left (edit_input edit) wide → IsPaidShared edit n m capacity
   copied_in edit left wide copied part enough top fit short same =
-      let inside : left + input_edited edit ≤ room left (input_edited edit) wide = le-room left (input_edited edit) wide fit in
-      let most : room left (input_edited edit) wide ≤ MAX = room-le left (input_edited edit) wide top in
-      let paid : strain_at m (room left (input_edited edit) wide) ≤ n + 2 * input_edited edit = paid_by_copy n m left (input_edited edit) wide part enough short fit in
+      let inside : left + edit_input edit ≤ room left (edit_input edit) wide = le-room left (edit_input edit) wide fit in
+      let most : room left (edit_input edit) wide ≤ MAX = room-le left (edit_input edit) wide top in
+      let paid : strain_at m (room left (edit_input edit) wide) ≤ n + 2 * edit_input edit = paid_by_copy n m left (edit_input edit) wide part enough short fit in
       record { fits = rw same (omega (arith, short, inside)); small = rw same most; copied = omega arith; moved = rw (same, copied) paid }
 
   pub paid_shared : (edit : ListEdit T) → LengthIs edit n m → unshares edit n ≡ true → IsPaidShared edit n m capacity

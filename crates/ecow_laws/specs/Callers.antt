@@ -4,7 +4,7 @@ use Rattle.std.specs.FinMap.{get}
 use Rattle.std.specs.Option.{option_map}
 use Rattle.ecow_model.specs.Names.{Names}
 use Rattle.ecow_model.specs.declared.usage.Usage.{Usage}
-use Rattle.ecow_model.specs.declared.usage.Usage.TheVariants.{Make, Derive, Drop, Change as Edit, Ask}
+use Rattle.ecow_model.specs.declared.usage.Usage.TheVariants.{Make, Derive, Drop, Edit, Ask}
 
 -- the command neither makes, changes nor drops what stands under this name
 abbrev pub LeavesName : {M D E Q : Type 0} → Usage M D E Q → ℕ → Type 0

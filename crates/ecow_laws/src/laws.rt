@@ -2,7 +2,7 @@
 ghost use Rattle.std.specs.Prelude.{◌≡◌, ℕ, ◌+◌, ◌*◌, ◌≤◌, List, Some, Ok, map};
 ghost use Rattle.std.specs.FinMap as finite;
 ghost use Rattle.ecow_model.specs.Agreement.{LacksNoMemory, SameAnswers};
-ghost use Rattle.ecow_model.specs.CountedRun.{CountedRun, CopiesAtMostEagerly, MovesArePaid, copied_in_run, counted_used, eager_in_run, input_in_run, moved_in_run};
+ghost use Rattle.ecow_model.specs.CountedRun.{CountedRun, CopiesAtMostEagerly, MovesArePaid, copied_in_run, counted_carry_out, eager_in_run, input_in_run, moved_in_run};
 ghost use Rattle.ecow_model.specs.Names.{Held, IsSharing, Names, contents};
 ghost use Rattle.ecow_model.specs.Run.{IsVecStep, Run, RunBy};
 ghost use Rattle.ecow_model.specs.State.{State};
@@ -59,6 +59,6 @@ pub fn keepings_agree<T>()
 /// In shared blocks Capacity answers exactly the capacity of the name's block.
 pub fn capacities_are_exact<T>()
     ensures { (names : Names T) (name : ℕ) (held : Held T) → IsSharing names
-        → finite.get names name ≡ Some held → counted_used names (Usage.Ask name ListAsk.Capacity)
+        → finite.get names name ≡ Some held → counted_carry_out names (Usage.Ask name ListAsk.Capacity)
         ≡ Ok (Outcome.Count held.capacity, names) }
 {}

@@ -5,7 +5,7 @@ use Rattle.std.specs.Cmp.{nat_cmp_total}
 use Rattle.std.specs.FinMap.{FinMap, get, insert, same_map, get-insert, nat_cmp-IsAntisymmetric}
 use Rattle.std.proofs.lemmas.Map.Views.{tells_apart}
 use Rattle.std.proofs.lemmas.Map.Lookups.{exact_unsigned}
-use Rattle.ecow_model.specs.Refusing.{found}
+use Rattle.ecow_model.specs.Refusing.{ok_or}
 use Rattle.ecow_model.specs.declared.command.Refusal.TheVariants.{NoName}
 
 put_back : {V : Type 0} (m : FinMap nat_cmp V) (k : ℕ) (v : V) → get m k ≡ Some v → (q : ℕ) → cond (eq_by_cmp nat_cmp q k) (Some v) (get m q) ≡ get m q
@@ -19,6 +19,6 @@ put_back m k v h q =
 pub insert_same : {V : Type 0} (m : FinMap nat_cmp V) (k : ℕ) (v : V) → get m k ≡ Some v → insert m k v ≡ m
 insert_same m k v h = same_map nat_cmp_total nat_cmp-IsAntisymmetric _ _ (λ q. get-insert nat_cmp_total m k v q ∙ put_back m k v h q)
 
-pub found_value : {V : Type 0} (o : Option V) (v : V) → found o NoName ≡ Ok v → o ≡ Some v
+pub found_value : {V : Type 0} (o : Option V) (v : V) → ok_or o NoName ≡ Ok v → o ≡ Some v
 found_value None v e = cc
 found_value (Some w) v e = cc

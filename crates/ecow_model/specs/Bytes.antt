@@ -4,9 +4,9 @@ use Rattle.std.specs.List.{insert as insert_at, remove as remove_at, insert_slic
 use Rattle.std.specs.Str.{encode_utf8_all}
 use Rattle.ecow_values.specs.Inline.{inline_for, inline_after, inline_shrunk}
 use Rattle.ecow_model.specs.State.{Plain}
-use Rattle.ecow_model.specs.Refusing.{◌>>=◌, check, found, allowed, Change, becomes}
+use Rattle.ecow_model.specs.Refusing.{◌>>=◌, check, ok_or, allowed, Effect, becomes}
 use Rattle.ecow_model.specs.Values.{as_bytes, as_text}
-use Rattle.ecow_model.specs.Uses.{Reading, Rules}
+use Rattle.ecow_model.specs.Uses.{Observation, Rules}
 use Rattle.ecow_values.specs.Plain.{plain_bytes, bytes_of}
 use Rattle.ecow_values.specs.declared.plain.PlainBytes.{PlainBytes}
 use Rattle.ecow_values.specs.declared.plain.PlainText.{PlainText}
@@ -16,9 +16,9 @@ use Rattle.ecow_model.specs.declared.command.Outcome.TheVariants.{Byte, PoppedBy
 use Rattle.ecow_model.specs.declared.command.Refusal.{Refusal}
 use Rattle.ecow_model.specs.declared.command.Refusal.TheVariants.{Index}
 use Rattle.ecow_model.specs.declared.usage.Made.{Made}
-use Rattle.ecow_model.specs.declared.usage.Made.TheVariants.{Value, Tried}
+use Rattle.ecow_model.specs.declared.usage.Made.TheVariants.{Always, Tried}
 use Rattle.ecow_model.specs.declared.usage.Usage.{Usage}
-use Rattle.ecow_model.specs.declared.usage.Usage.TheVariants.{Make, Derive, Drop, Change as Edit, Ask}
+use Rattle.ecow_model.specs.declared.usage.Usage.TheVariants.{Make, Derive, Drop, Edit, Ask}
 use Rattle.ecow_model.specs.declared.bytes.BytesCommand.{BytesCommand}
 use Rattle.ecow_model.specs.declared.bytes.BytesCommand.TheVariants as command
 use Rattle.ecow_model.specs.declared.bytes.BytesMake.{BytesMake}
@@ -32,7 +32,7 @@ use Rattle.ecow_model.specs.declared.bytes.BytesAsk.TheVariants.{Read, Len, Capa
 
 -- the byte at an index, refused past the end
 abbrev pub byte_at : PlainBytes → ℕ → Result ℕ Refusal
-byte_at b index = found (slice_get b.bytes index) Index
+byte_at b index = ok_or (slice_get b.bytes index) Index
 
 -- a question that takes no memory
 abbrev pub bytes_ask_is_free : BytesAsk → Bool
@@ -41,24 +41,24 @@ bytes_ask_is_free _ = true
 
 module _ (limit : ℕ) where
   -- inline bytes, if they are within the limit
-  abbrev pub bytes_tried : List ℕ → Result (Made PlainBytes) Refusal
-  bytes_tried bytes = if nat_le (length bytes) limit then (do
+  abbrev pub try_bytes : List ℕ → Result (Made PlainBytes) Refusal
+  try_bytes bytes = if nat_le (length bytes) limit then (do
     _ ← allowed (length bytes)
     Ok (Tried (Some (plain_bytes bytes true)))) else Ok (Tried None)
 
   -- the bytes that are made
-  abbrev pub bytes_made : BytesMake → Result (Made PlainBytes) Refusal
-  bytes_made New = Ok (Value (plain_bytes [] true))
-  bytes_made (TryInline bytes) = bytes_tried bytes
-  bytes_made (WithCapacity capacity) = do
+  abbrev pub make_bytes : BytesMake → Result (Made PlainBytes) Refusal
+  make_bytes New = Ok (Always (plain_bytes [] true))
+  make_bytes (TryInline bytes) = try_bytes bytes
+  make_bytes (WithCapacity capacity) = do
     _ ← allowed capacity
-    Ok (Value (plain_bytes [] (inline_for limit capacity)))
-  bytes_made (FromList bytes) = do
+    Ok (Always (plain_bytes [] (inline_for limit capacity)))
+  make_bytes (FromList bytes) = do
     _ ← allowed (length bytes)
-    Ok (Value (plain_bytes bytes (inline_for limit (length bytes))))
-  bytes_made (FromEcoVec bytes) = do
+    Ok (Always (plain_bytes bytes (inline_for limit (length bytes))))
+  make_bytes (FromEcoVec bytes) = do
     _ ← allowed (length bytes)
-    Ok (Value (plain_bytes bytes false))
+    Ok (Always (plain_bytes bytes false))
 
   -- a change that takes no memory on the bytes `b`, whoever shares them
   abbrev pub bytes_edit_is_free : BytesEdit → PlainBytes → Bool
@@ -76,64 +76,64 @@ module _ (limit : ℕ) where
 
 module _ {T : Type 0} (limit : ℕ) where
   -- the bytes that are made from the value of a name, which stays as it is
-  abbrev pub bytes_derived : BytesDerive → Plain T → Result PlainBytes Refusal
-  bytes_derived FromText value = do
+  abbrev pub derive_bytes : BytesDerive → Plain T → Result PlainBytes Refusal
+  derive_bytes FromText value = do
     text ← as_text value
     Ok (bytes_of text)
-  bytes_derived Clone value = as_bytes value
-  bytes_derived (Repeat n) value = do
+  derive_bytes Clone value = as_bytes value
+  derive_bytes (Repeat n) value = do
     b ← as_bytes value
     _ ← allowed (length b.bytes * n)
     Ok (plain_bytes (repeat n b.bytes) (inline_for limit (length b.bytes * n)))
 
   -- the value gets n more bytes and is `bytes` from now on, if they may be so many
-  abbrev pub bytes_grow : PlainBytes → ℕ → List ℕ → Change T PlainBytes
+  abbrev pub bytes_grow : PlainBytes → ℕ → List ℕ → Effect T PlainBytes
   bytes_grow old n bytes = do
     _ ← allowed (length bytes)
     becomes (plain_bytes bytes (inline_after limit old.inline (length old.bytes) n))
 
   -- what is answered, and the bytes after the change of `b`
-  abbrev pub bytes_edited : BytesEdit → PlainBytes → Change T PlainBytes
-  bytes_edited (Push byte) b = bytes_grow b 1 (b.bytes ++ byte ∷ [])
-  bytes_edited Pop b = Ok (PoppedByte (slice_get b.bytes (length b.bytes - 1)), plain_bytes (take (length b.bytes - 1) b.bytes) b.inline)
-  bytes_edited (Insert index byte) b = do
+  abbrev pub edit_bytes : BytesEdit → PlainBytes → Effect T PlainBytes
+  edit_bytes (Push byte) b = bytes_grow b 1 (b.bytes ++ byte ∷ [])
+  edit_bytes Pop b = Ok (PoppedByte (slice_get b.bytes (length b.bytes - 1)), plain_bytes (take (length b.bytes - 1) b.bytes) b.inline)
+  edit_bytes (Insert index byte) b = do
     _ ← check (nat_le index (length b.bytes)) Index
     bytes_grow b 1 (insert_at b.bytes index byte)
-  bytes_edited (Remove index) b = do
+  edit_bytes (Remove index) b = do
     byte ← byte_at b index
     Ok (Byte byte, plain_bytes (remove_at b.bytes index) b.inline)
-  bytes_edited (Extend bytes) b = bytes_grow b (length bytes) (b.bytes ++ bytes)
-  bytes_edited (InsertSlice index bytes) b = do
+  edit_bytes (Extend bytes) b = bytes_grow b (length bytes) (b.bytes ++ bytes)
+  edit_bytes (InsertSlice index bytes) b = do
     _ ← check (nat_le index (length b.bytes)) Index
     bytes_grow b (length bytes) (insert_slice b.bytes index bytes)
-  bytes_edited (Truncate target) b = becomes (plain_bytes (take target b.bytes) b.inline)
-  bytes_edited Clear b = becomes (plain_bytes [] b.inline)
-  bytes_edited (Reserve additional) b = do
+  edit_bytes (Truncate target) b = becomes (plain_bytes (take target b.bytes) b.inline)
+  edit_bytes Clear b = becomes (plain_bytes [] b.inline)
+  edit_bytes (Reserve additional) b = do
     _ ← allowed (length b.bytes + additional)
     becomes (plain_bytes b.bytes (inline_after limit b.inline (length b.bytes) additional))
-  bytes_edited (Write index byte) b = do
+  edit_bytes (Write index byte) b = do
     old ← byte_at b index
     becomes (plain_bytes (slice_set b.bytes index byte) b.inline)
-  bytes_edited ShrinkToFit b = becomes (plain_bytes b.bytes (inline_shrunk limit b.inline (length b.bytes)))
+  edit_bytes ShrinkToFit b = becomes (plain_bytes b.bytes (inline_shrunk limit b.inline (length b.bytes)))
 
   -- what the bytes `b` answer; the capacity that is read is the limit inline, and else not below their number
-  abbrev pub bytes_asked : Reading → BytesAsk → PlainBytes → Result (Outcome T) Refusal
-  bytes_asked seen (Read index) b = do
+  abbrev pub ask_bytes : Observation → BytesAsk → PlainBytes → Result (Outcome T) Refusal
+  ask_bytes seen (Read index) b = do
     byte ← byte_at b index
     Ok (Byte byte)
-  bytes_asked seen Len b = Ok (Count (length b.bytes))
-  bytes_asked seen Capacity b = Ok (Count (if b.inline then limit else max seen.capacity (length b.bytes)))
-  bytes_asked seen Contents b = Ok (Bytes b.bytes)
-  bytes_asked seen IsInline b = Ok (Flag b.inline)
+  ask_bytes seen Len b = Ok (Count (length b.bytes))
+  ask_bytes seen Capacity b = Ok (Count (if b.inline then limit else max seen.capacity (length b.bytes)))
+  ask_bytes seen Contents b = Ok (Bytes b.bytes)
+  ask_bytes seen IsInline b = Ok (Flag b.inline)
 
   abbrev pub bytes_rules : Rules T (Plain T) PlainBytes BytesMake BytesDerive BytesEdit BytesAsk
   bytes_rules = record {
-    seen = as_bytes;
-    kept = Buffered;
-    made = bytes_made limit;
-    derived = bytes_derived;
-    edited = bytes_edited;
-    asked = bytes_asked;
+    payload = as_bytes;
+    wrap = Buffered;
+    make = make_bytes limit;
+    derive = derive_bytes;
+    edit = edit_bytes;
+    ask = ask_bytes;
     edit_is_free = bytes_edit_is_free limit;
     ask_is_free = bytes_ask_is_free;
   }

@@ -11,11 +11,11 @@ use Rattle.ecow_model.specs.declared.lists.ListEdit.TheVariants.{Push, Pop, Inse
 
 module _ {T : Type 0} where
   -- the capacity of a list that is made
-  abbrev pub capacity_made : ListMake T → ℕ
-  capacity_made New = 0
-  capacity_made (WithCapacity asked) = asked
-  capacity_made (FromList items) = fresh (length items)
-  capacity_made (FromElem value count) = count
+  abbrev pub make_capacity : ListMake T → ℕ
+  make_capacity New = 0
+  make_capacity (WithCapacity asked) = asked
+  make_capacity (FromList items) = fresh (length items)
+  make_capacity (FromElem value count) = count
 
   -- whether a name that shares its block leaves it
   abbrev pub unshares : ListEdit T → ℕ → Bool
@@ -52,18 +52,18 @@ module _ {T : Type 0} where
   moves _ n capacity = 0
 
   -- how many items are brought, or room is asked for
-  abbrev pub input_made : ListMake T → ℕ
-  input_made (FromList items) = length items
-  input_made (FromElem value count) = count
-  input_made _ = 0
+  abbrev pub make_input : ListMake T → ℕ
+  make_input (FromList items) = length items
+  make_input (FromElem value count) = count
+  make_input _ = 0
 
-  abbrev pub input_edited : ListEdit T → ℕ
-  input_edited (Push value) = 1
-  input_edited (Insert index value) = 1
-  input_edited (Extend items) = length items
-  input_edited (Splice bounds items) = length items
-  input_edited (Reserve additional) = additional
-  input_edited _ = 0
+  abbrev pub edit_input : ListEdit T → ℕ
+  edit_input (Push value) = 1
+  edit_input (Insert index value) = 1
+  edit_input (Extend items) = length items
+  edit_input (Splice bounds items) = length items
+  edit_input (Reserve additional) = additional
+  edit_input _ = 0
 
   -- the copied and the moved elements of a change by a name that holds h
   abbrev pub copied_by : ListEdit T → Held T → ℕ

@@ -3,18 +3,18 @@ use Rattle.std.specs.Prelude.{◌+◌, ◌-◌, ℕ, Bool, true, false, ◌||◌
 use Rattle.std.specs.List.{insert as insert_at, remove as remove_at, remove_range, splice, items_where_true}
 use Rattle.ecow_base.specs.Range.{range_of}
 use Rattle.ecow_model.specs.State.{Plain}
-use Rattle.ecow_model.specs.Refusing.{◌>>=◌, check, found, allowed, Change, becomes}
+use Rattle.ecow_model.specs.Refusing.{◌>>=◌, check, ok_or, allowed, Effect, becomes}
 use Rattle.ecow_model.specs.Values.{as_list}
-use Rattle.ecow_model.specs.Uses.{Reading, Rules}
+use Rattle.ecow_model.specs.Uses.{Observation, Rules}
 use Rattle.ecow_model.specs.declared.value.Value.TheVariants.{List as Listed}
 use Rattle.ecow_model.specs.declared.command.Outcome.{Outcome}
 use Rattle.ecow_model.specs.declared.command.Outcome.TheVariants.{Element, Popped, Elements, Count, Flag}
 use Rattle.ecow_model.specs.declared.command.Refusal.{Refusal}
 use Rattle.ecow_model.specs.declared.command.Refusal.TheVariants.{Index, Range, Marks}
 use Rattle.ecow_model.specs.declared.usage.Made.{Made}
-use Rattle.ecow_model.specs.declared.usage.Made.TheVariants.{Value}
+use Rattle.ecow_model.specs.declared.usage.Made.TheVariants.{Always}
 use Rattle.ecow_model.specs.declared.usage.Usage.{Usage}
-use Rattle.ecow_model.specs.declared.usage.Usage.TheVariants.{Make, Derive, Drop, Change as Edit, Ask}
+use Rattle.ecow_model.specs.declared.usage.Usage.TheVariants.{Make, Derive, Drop, Edit, Ask}
 use Rattle.ecow_model.specs.declared.lists.VecCommand.{VecCommand}
 use Rattle.ecow_model.specs.declared.lists.VecCommand.TheVariants as command
 use Rattle.ecow_model.specs.declared.lists.ListMake.{ListMake}
@@ -38,71 +38,71 @@ ListUsage T = Usage (ListMake T) ListDerive (ListEdit T) ListAsk
 
 module _ {T : Type 0} where
   -- the list becomes `xs`, if it may be so long
-  abbrev pub grows : List T → Change T (List T)
+  abbrev pub grows : List T → Effect T (List T)
   grows xs = do
     _ ← allowed (length xs)
     becomes xs
 
   -- the item at an index, refused past the end
   abbrev pub item_at : List T → ℕ → Result T Refusal
-  item_at xs index = found (slice_get xs index) Index
+  item_at xs index = ok_or (slice_get xs index) Index
 
   -- the list that is made
-  abbrev pub list_made : ListMake T → Result (List T) Refusal
-  list_made New = Ok []
-  list_made (WithCapacity capacity) = do
+  abbrev pub make_list : ListMake T → Result (List T) Refusal
+  make_list New = Ok []
+  make_list (WithCapacity capacity) = do
     _ ← allowed capacity
     Ok []
-  list_made (FromList items) = do
+  make_list (FromList items) = do
     _ ← allowed (length items)
     Ok items
-  list_made (FromElem value n) = do
+  make_list (FromElem value n) = do
     _ ← allowed n
     Ok (replicate n value)
 
   -- the list that is made from the value of a name, which stays as it is
-  abbrev pub list_derived : ListDerive → Plain T → Result (List T) Refusal
-  list_derived Clone value = as_list value
+  abbrev pub derive_list : ListDerive → Plain T → Result (List T) Refusal
+  derive_list Clone value = as_list value
 
   -- what is answered, and the list after the change of the list `xs`
-  abbrev pub list_edited : ListEdit T → List T → Change T (List T)
-  list_edited (Push value) xs = grows (xs ++ value ∷ [])
-  list_edited Pop xs = Ok (Popped (slice_get xs (length xs - 1)), take (length xs - 1) xs)
-  list_edited (Insert index value) xs = do
+  abbrev pub edit_list : ListEdit T → List T → Effect T (List T)
+  edit_list (Push value) xs = grows (xs ++ value ∷ [])
+  edit_list Pop xs = Ok (Popped (slice_get xs (length xs - 1)), take (length xs - 1) xs)
+  edit_list (Insert index value) xs = do
     _ ← check (nat_le index (length xs)) Index
     grows (insert_at xs index value)
-  list_edited (Remove index) xs = do
+  edit_list (Remove index) xs = do
     x ← item_at xs index
     Ok (Element x, remove_at xs index)
-  list_edited (Truncate target) xs = becomes (take target xs)
-  list_edited Clear xs = becomes []
-  list_edited (Retain marks) xs = do
+  edit_list (Truncate target) xs = becomes (take target xs)
+  edit_list Clear xs = becomes []
+  edit_list (Retain marks) xs = do
     _ ← check (length marks == length xs) Marks
     becomes (items_where_true marks xs)
-  list_edited (Drain bounds) xs = do
-    range ← found (range_of bounds (length xs)) Range
+  edit_list (Drain bounds) xs = do
+    range ← ok_or (range_of bounds (length xs)) Range
     Ok (Elements (slice_range xs range.0 range.1), remove_range xs range.0 range.1)
-  list_edited (Splice bounds items) xs = do
-    range ← found (range_of bounds (length xs)) Range
+  edit_list (Splice bounds items) xs = do
+    range ← ok_or (range_of bounds (length xs)) Range
     spliced ← grows (splice xs range.0 range.1 items)
     Ok (Elements (slice_range xs range.0 range.1), spliced.1)
-  list_edited (Extend items) xs = grows (xs ++ items)
-  list_edited (Reserve additional) xs = do
+  edit_list (Extend items) xs = grows (xs ++ items)
+  edit_list (Reserve additional) xs = do
     _ ← allowed (length xs + additional)
     becomes xs
-  list_edited (Write index value) xs = do
+  edit_list (Write index value) xs = do
     x ← item_at xs index
     becomes (slice_set xs index value)
 
   -- what the list `xs` answers; the capacity that is read of it is not below its length
-  abbrev pub list_asked : Reading → ListAsk → List T → Result (Outcome T) Refusal
-  list_asked seen (Read index) xs = do
+  abbrev pub ask_list : Observation → ListAsk → List T → Result (Outcome T) Refusal
+  ask_list seen (Read index) xs = do
     x ← item_at xs index
     Ok (Element x)
-  list_asked seen Len xs = Ok (Count (length xs))
-  list_asked seen Contents xs = Ok (Elements xs)
-  list_asked seen Capacity xs = Ok (Count (max seen.capacity (length xs)))
-  list_asked seen Unique xs = Ok (Flag seen.unique)
+  ask_list seen Len xs = Ok (Count (length xs))
+  ask_list seen Contents xs = Ok (Elements xs)
+  ask_list seen Capacity xs = Ok (Count (max seen.capacity (length xs)))
+  ask_list seen Unique xs = Ok (Flag seen.unique)
 
   -- a change that takes no memory on the list `xs`, whoever shares it
   abbrev pub list_edit_is_free : ListEdit T → List T → Bool
@@ -115,17 +115,17 @@ module _ {T : Type 0} where
   -- the list that is made is a value of its name
   abbrev pub list_value : ListMake T → Result (Made (List T)) Refusal
   list_value how = do
-    xs ← list_made how
-    Ok (Value xs)
+    xs ← make_list how
+    Ok (Always xs)
 
   abbrev pub list_rules : Rules T (Plain T) (List T) (ListMake T) ListDerive (ListEdit T) ListAsk
   list_rules = record {
-    seen = as_list;
-    kept = Listed;
-    made = list_value;
-    derived = list_derived;
-    edited = list_edited;
-    asked = list_asked;
+    payload = as_list;
+    wrap = Listed;
+    make = list_value;
+    derive = derive_list;
+    edit = edit_list;
+    ask = ask_list;
     edit_is_free = list_edit_is_free;
     ask_is_free = list_ask_is_free;
   }

@@ -16,9 +16,9 @@ abbrev pub check : Bool → Refusal → Result (Unit {0}) Refusal
 check test refusal = if test then Ok tt else Err refusal
 
 -- refused where there is nothing
-abbrev pub found : {A : Type 0} → Option A → Refusal → Result A Refusal
-found None refusal = Err refusal
-found (Some x) refusal = Ok x
+abbrev pub ok_or : {A : Type 0} → Option A → Refusal → Result A Refusal
+ok_or None refusal = Err refusal
+ok_or (Some x) refusal = Ok x
 
 -- refused past the greatest length and capacity, 2^63 - 1
 abbrev pub allowed : ℕ → Result (Unit {0}) Refusal
@@ -39,9 +39,9 @@ abbrev pub OnRefused : {T : Type 0} → Outcome T → Type 0 → Type 0
 OnRefused outcome P = IfRefused outcome (λ refusal. P)
 
 -- what a change of a value answers, and what the value is afterwards
-abbrev pub Change : Type 0 → Type 0 → Type 0
-Change T A = Result (Outcome T × A) Refusal
+abbrev pub Effect : Type 0 → Type 0 → Type 0
+Effect T A = Result (Outcome T × A) Refusal
 
 -- the value becomes this, and the answer is Done
-abbrev pub becomes : {T A : Type 0} → A → Change T A
+abbrev pub becomes : {T A : Type 0} → A → Effect T A
 becomes value = Ok (Done, value)

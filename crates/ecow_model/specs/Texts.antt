@@ -8,9 +8,9 @@ use Rattle.ecow_values.specs.Inline.{inline_for, inline_after, inline_shrunk}
 use Rattle.ecow_values.specs.Utf8.{utf8_len, chars_before, is_boundary}
 use Rattle.ecow_values.specs.Replaced.{replaced}
 use Rattle.ecow_model.specs.State.{Plain}
-use Rattle.ecow_model.specs.Refusing.{◌>>=◌, check, found, allowed, Change, becomes}
+use Rattle.ecow_model.specs.Refusing.{◌>>=◌, check, ok_or, allowed, Effect, becomes}
 use Rattle.ecow_model.specs.Values.{as_bytes, as_text}
-use Rattle.ecow_model.specs.Uses.{Reading, Rules}
+use Rattle.ecow_model.specs.Uses.{Observation, Rules}
 use Rattle.ecow_values.specs.Plain.{plain_text, text_of}
 use Rattle.ecow_values.specs.declared.plain.PlainBytes.{PlainBytes}
 use Rattle.ecow_values.specs.declared.plain.PlainText.{PlainText}
@@ -20,9 +20,9 @@ use Rattle.ecow_model.specs.declared.command.Outcome.TheVariants.{Char, PoppedCh
 use Rattle.ecow_model.specs.declared.command.Refusal.{Refusal}
 use Rattle.ecow_model.specs.declared.command.Refusal.TheVariants.{Boundary, NotUtf8}
 use Rattle.ecow_model.specs.declared.usage.Made.{Made}
-use Rattle.ecow_model.specs.declared.usage.Made.TheVariants.{Value, Tried}
+use Rattle.ecow_model.specs.declared.usage.Made.TheVariants.{Always, Tried}
 use Rattle.ecow_model.specs.declared.usage.Usage.{Usage}
-use Rattle.ecow_model.specs.declared.usage.Usage.TheVariants.{Make, Derive, Drop, Change as Edit, Ask}
+use Rattle.ecow_model.specs.declared.usage.Usage.TheVariants.{Make, Derive, Drop, Edit, Ask}
 use Rattle.ecow_model.specs.declared.texts.TextCommand.{TextCommand}
 use Rattle.ecow_model.specs.declared.texts.TextCommand.TheVariants as command
 use Rattle.ecow_model.specs.declared.texts.TextMake.{TextMake}
@@ -35,17 +35,17 @@ use Rattle.ecow_model.specs.declared.texts.TextAsk.{TextAsk}
 use Rattle.ecow_model.specs.declared.texts.TextAsk.TheVariants.{Len, Capacity, Contents, IsInline}
 
 -- the same, refused where they are not UTF-8
-abbrev pub text_spelled : PlainBytes → Result PlainText Refusal
-text_spelled b = do
+abbrev pub text_from_bytes : PlainBytes → Result PlainText Refusal
+text_from_bytes b = do
   _ ← check (is_utf8 b.bytes) NotUtf8
   Ok (text_of b)
 
 -- the text in ASCII lower or upper case, in its mode
-abbrev pub lowered : PlainText → PlainText
-lowered t = plain_text (map to_ascii_lowercase t.chars) t.inline
+abbrev pub to_ascii_lower : PlainText → PlainText
+to_ascii_lower t = plain_text (map to_ascii_lowercase t.chars) t.inline
 
-abbrev pub raised : PlainText → PlainText
-raised t = plain_text (map to_ascii_uppercase t.chars) t.inline
+abbrev pub to_ascii_upper : PlainText → PlainText
+to_ascii_upper t = plain_text (map to_ascii_uppercase t.chars) t.inline
 
 -- a question that takes no memory
 abbrev pub text_ask_is_free : TextAsk → Bool
@@ -54,8 +54,8 @@ text_ask_is_free _ = true
 
 module _ (limit : ℕ) where
   -- an inline text, if its bytes are within the limit
-  abbrev pub text_tried : List ℕ → Result (Made PlainText) Refusal
-  text_tried text = if nat_le (utf8_len text) limit then (do
+  abbrev pub try_text : List ℕ → Result (Made PlainText) Refusal
+  try_text text = if nat_le (utf8_len text) limit then (do
     _ ← allowed (utf8_len text)
     Ok (Tried (Some (plain_text text true)))) else Ok (Tried None)
 
@@ -66,18 +66,18 @@ module _ (limit : ℕ) where
     Ok (plain_text cs (inline_for limit (utf8_len cs)))
 
   -- the text that is made
-  abbrev pub text_made : TextMake → Result (Made PlainText) Refusal
-  text_made New = Ok (Value (plain_text [] true))
-  text_made (TryInline text) = text_tried text
-  text_made (WithCapacity capacity) = do
+  abbrev pub make_text : TextMake → Result (Made PlainText) Refusal
+  make_text New = Ok (Always (plain_text [] true))
+  make_text (TryInline text) = try_text text
+  make_text (WithCapacity capacity) = do
     _ ← allowed capacity
-    Ok (Value (plain_text [] (inline_for limit capacity)))
-  text_made (FromStr text) = do
+    Ok (Always (plain_text [] (inline_for limit capacity)))
+  make_text (FromStr text) = do
     t ← text_by_length text
-    Ok (Value t)
-  text_made (FromChar c) = do
+    Ok (Always t)
+  make_text (FromChar c) = do
     t ← text_by_length (c ∷ [])
-    Ok (Value t)
+    Ok (Always t)
 
   -- a change that takes no memory on the text `t`, whoever shares its bytes
   abbrev pub text_edit_is_free : TextEdit → PlainText → Bool
@@ -96,72 +96,72 @@ module _ (limit : ℕ) where
 
 module _ {T : Type 0} (limit : ℕ) where
   -- the text that is made from the value of a name, which stays as it is
-  abbrev pub text_derived : TextDerive → Plain T → Result PlainText Refusal
-  text_derived FromBytes value = do
+  abbrev pub derive_text : TextDerive → Plain T → Result PlainText Refusal
+  derive_text FromBytes value = do
     b ← as_bytes value
-    text_spelled b
-  text_derived Clone value = as_text value
-  text_derived (Replace pattern replacement count) value = do
+    text_from_bytes b
+  derive_text Clone value = as_text value
+  derive_text (Replace pattern replacement count) value = do
     t ← as_text value
     text_by_length limit (replaced count pattern replacement t.chars)
-  text_derived (Repeat n) value = do
+  derive_text (Repeat n) value = do
     t ← as_text value
     _ ← allowed (utf8_len t.chars * n)
     Ok (plain_text (repeat n t.chars) (inline_for limit (utf8_len t.chars * n)))
-  text_derived ToAsciiLower value = do
+  derive_text ToAsciiLower value = do
     t ← as_text value
-    Ok (lowered t)
-  text_derived ToAsciiUpper value = do
+    Ok (to_ascii_lower t)
+  derive_text ToAsciiUpper value = do
     t ← as_text value
-    Ok (raised t)
+    Ok (to_ascii_upper t)
 
   -- the text gets n more bytes and is `cs` from now on, if its bytes may be so many
-  abbrev pub text_grows : PlainText → ℕ → List ℕ → Change T PlainText
+  abbrev pub text_grows : PlainText → ℕ → List ℕ → Effect T PlainText
   text_grows old n cs = do
     _ ← allowed (utf8_len cs)
     becomes (plain_text cs (inline_after limit old.inline (utf8_len old.chars) n))
 
   -- what is answered, and the text after the change of `t`
-  abbrev pub text_edited : TextEdit → PlainText → Change T PlainText
-  text_edited (Push c) t = text_grows t (len_utf8 c) (t.chars ++ c ∷ [])
-  text_edited Pop t = Ok (PoppedChar (slice_get t.chars (length t.chars - 1)), plain_text (take (length t.chars - 1) t.chars) t.inline)
-  text_edited (PushStr text) t = text_grows t (utf8_len text) (t.chars ++ text)
-  text_edited (Insert index c) t = do
+  abbrev pub edit_text : TextEdit → PlainText → Effect T PlainText
+  edit_text (Push c) t = text_grows t (len_utf8 c) (t.chars ++ c ∷ [])
+  edit_text Pop t = Ok (PoppedChar (slice_get t.chars (length t.chars - 1)), plain_text (take (length t.chars - 1) t.chars) t.inline)
+  edit_text (PushStr text) t = text_grows t (utf8_len text) (t.chars ++ text)
+  edit_text (Insert index c) t = do
     _ ← check (is_boundary t.chars index) Boundary
     text_grows t (len_utf8 c) (insert_at t.chars (chars_before t.chars index) c)
-  text_edited (InsertStr index text) t = do
+  edit_text (InsertStr index text) t = do
     _ ← check (is_boundary t.chars index) Boundary
     text_grows t (utf8_len text) (insert_slice t.chars (chars_before t.chars index) text)
-  text_edited (Remove index) t = do
+  edit_text (Remove index) t = do
     _ ← check (is_boundary t.chars index) Boundary
-    c ← found (slice_get t.chars (chars_before t.chars index)) Boundary
+    c ← ok_or (slice_get t.chars (chars_before t.chars index)) Boundary
     Ok (Char c, plain_text (remove_at t.chars (chars_before t.chars index)) t.inline)
-  text_edited (Truncate target) t = do
+  edit_text (Truncate target) t = do
     _ ← check (is_boundary t.chars target || nat_lt (utf8_len t.chars) target) Boundary
     becomes (plain_text (take (chars_before t.chars target) t.chars) t.inline)
-  text_edited Clear t = becomes (plain_text [] t.inline)
-  text_edited (Reserve additional) t = do
+  edit_text Clear t = becomes (plain_text [] t.inline)
+  edit_text (Reserve additional) t = do
     _ ← allowed (utf8_len t.chars + additional)
     becomes (plain_text t.chars (inline_after limit t.inline (utf8_len t.chars) additional))
-  text_edited AsciiLower t = becomes (lowered t)
-  text_edited AsciiUpper t = becomes (raised t)
-  text_edited ShrinkToFit t = becomes (plain_text t.chars (inline_shrunk limit t.inline (utf8_len t.chars)))
+  edit_text AsciiLower t = becomes (to_ascii_lower t)
+  edit_text AsciiUpper t = becomes (to_ascii_upper t)
+  edit_text ShrinkToFit t = becomes (plain_text t.chars (inline_shrunk limit t.inline (utf8_len t.chars)))
 
   -- what the text `t` answers; the capacity that is read is the limit inline, and else not below the number of its bytes
-  abbrev pub text_asked : Reading → TextAsk → PlainText → Result (Outcome T) Refusal
-  text_asked seen Len t = Ok (Count (utf8_len t.chars))
-  text_asked seen Capacity t = Ok (Count (if t.inline then limit else max seen.capacity (utf8_len t.chars)))
-  text_asked seen Contents t = Ok (Texted t.chars)
-  text_asked seen IsInline t = Ok (Flag t.inline)
+  abbrev pub ask_text : Observation → TextAsk → PlainText → Result (Outcome T) Refusal
+  ask_text seen Len t = Ok (Count (utf8_len t.chars))
+  ask_text seen Capacity t = Ok (Count (if t.inline then limit else max seen.capacity (utf8_len t.chars)))
+  ask_text seen Contents t = Ok (Texted t.chars)
+  ask_text seen IsInline t = Ok (Flag t.inline)
 
   abbrev pub text_rules : Rules T (Plain T) PlainText TextMake TextDerive TextEdit TextAsk
   text_rules = record {
-    seen = as_text;
-    kept = Written;
-    made = text_made limit;
-    derived = text_derived;
-    edited = text_edited;
-    asked = text_asked;
+    payload = as_text;
+    wrap = Written;
+    make = make_text limit;
+    derive = derive_text;
+    edit = edit_text;
+    ask = ask_text;
     edit_is_free = text_edit_is_free limit;
     ask_is_free = text_ask_is_free;
   }

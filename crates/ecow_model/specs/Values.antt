@@ -2,7 +2,7 @@
 use Rattle.std.specs.Prelude.{ℕ, if◌then◌else◌, Result, Ok, Err}
 use Rattle.std.specs.Ordering.{nat_cmp}
 use Rattle.std.specs.FinMap.{FinMap, get, contains_key}
-use Rattle.ecow_model.specs.Refusing.{◌>>=◌, found}
+use Rattle.ecow_model.specs.Refusing.{◌>>=◌, ok_or}
 use Rattle.ecow_model.specs.declared.value.Value.{Value}
 use Rattle.ecow_model.specs.declared.value.Value.TheVariants.{List as Listed, Bytes as Buffered, Text as Written}
 use Rattle.ecow_model.specs.declared.command.Refusal.{Refusal}
@@ -14,7 +14,7 @@ Named V = FinMap nat_cmp V
 
 -- what stands under a name, refused where the name isn't there
 abbrev pub there : {V : Type 0} → Named V → ℕ → Result V Refusal
-there old name = found (get old name) NoName
+there old name = ok_or (get old name) NoName
 
 -- refused where the name is there
 abbrev pub unused : {V : Type 0} → Named V → ℕ → Result (Unit {0}) Refusal

@@ -1,11 +1,11 @@
 //! The commands on bytes, and their parts.
 ghost use Rattle.std.specs.Prelude.{◌≡◌, length};
-ghost use Rattle.ecow_model.specs.Bytes.{bytes_edited, bytes_usage};
+ghost use Rattle.ecow_model.specs.Bytes.{edit_bytes, bytes_usage};
 ghost use Rattle.ecow_model.specs.Refusing.{verdict};
 ghost use Rattle.ecow_values.specs.declared.plain.PlainBytes.{PlainBytes};
 
 use crate::command::{Name, Refusal};
-use crate::usage::{Usage, allowed, ask, change, derive, make, within};
+use crate::usage::{Usage, allowed, ask, derive, edit, in_bounds, make};
 use ecow_values::Items;
 
 /// A command on bytes, inline or spilled. Counts and indexes are of bytes.
@@ -196,27 +196,27 @@ impl BytesCommand {
             BytesCommand::FromText { from, to } => derive(from, to, BytesDerive::FromText),
             BytesCommand::Clone { from, to } => derive(from, to, BytesDerive::Clone),
             BytesCommand::Drop { name } => Usage::Drop { name },
-            BytesCommand::Push { name, byte } => change(name, BytesEdit::Push(byte)),
-            BytesCommand::Pop { name } => change(name, BytesEdit::Pop),
+            BytesCommand::Push { name, byte } => edit(name, BytesEdit::Push(byte)),
+            BytesCommand::Pop { name } => edit(name, BytesEdit::Pop),
             BytesCommand::Insert { name, index, byte } => {
-                change(name, BytesEdit::Insert(index, byte))
+                edit(name, BytesEdit::Insert(index, byte))
             }
-            BytesCommand::Remove { name, index } => change(name, BytesEdit::Remove(index)),
-            BytesCommand::Extend { name, bytes } => change(name, BytesEdit::Extend(bytes)),
+            BytesCommand::Remove { name, index } => edit(name, BytesEdit::Remove(index)),
+            BytesCommand::Extend { name, bytes } => edit(name, BytesEdit::Extend(bytes)),
             BytesCommand::InsertSlice { name, index, bytes } => {
-                change(name, BytesEdit::InsertSlice(index, bytes))
+                edit(name, BytesEdit::InsertSlice(index, bytes))
             }
-            BytesCommand::Truncate { name, target } => change(name, BytesEdit::Truncate(target)),
-            BytesCommand::Clear { name } => change(name, BytesEdit::Clear),
+            BytesCommand::Truncate { name, target } => edit(name, BytesEdit::Truncate(target)),
+            BytesCommand::Clear { name } => edit(name, BytesEdit::Clear),
             BytesCommand::Reserve { name, additional } => {
-                change(name, BytesEdit::Reserve(additional))
+                edit(name, BytesEdit::Reserve(additional))
             }
             BytesCommand::Write { name, index, byte } => {
-                change(name, BytesEdit::Write(index, byte))
+                edit(name, BytesEdit::Write(index, byte))
             }
             BytesCommand::Read { name, index } => ask(name, BytesAsk::Read(index)),
             BytesCommand::Repeat { from, to, n } => derive(from, to, BytesDerive::Repeat(n)),
-            BytesCommand::ShrinkToFit { name } => change(name, BytesEdit::ShrinkToFit),
+            BytesCommand::ShrinkToFit { name } => edit(name, BytesEdit::ShrinkToFit),
             BytesCommand::Len { name } => ask(name, BytesAsk::Len),
             BytesCommand::Capacity { name } => ask(name, BytesAsk::Capacity),
             BytesCommand::Contents { name } => ask(name, BytesAsk::Contents),
@@ -230,7 +230,7 @@ impl BytesEdit {
     /// not: the first refusal that applies, want of memory apart. `T` is what the store's lists hold.
     pub fn check<T, const N: usize>(&self, len: usize) -> Result<(), Refusal>
         ensures { (b : PlainBytes) → length b.bytes ≡ len
-            → result ≡ verdict (bytes_edited {T = T} N self.now b) }
+            → result ≡ verdict (edit_bytes {T = T} N self.now b) }
     {
         match self {
             BytesEdit::Push(_) => allowed(len, 1),
@@ -246,8 +246,8 @@ impl BytesEdit {
                 }
                 allowed(len, bytes.len())
             }
-            BytesEdit::Remove(index) => within(*index, len),
-            BytesEdit::Write(index, _) => within(*index, len),
+            BytesEdit::Remove(index) => in_bounds(*index, len),
+            BytesEdit::Write(index, _) => in_bounds(*index, len),
             BytesEdit::Extend(bytes) => allowed(len, bytes.len()),
             BytesEdit::Reserve(additional) => allowed(len, *additional),
             BytesEdit::Pop => Ok(()),

@@ -2,9 +2,9 @@
 ghost use Rattle.std.specs.Prelude.{◌≡◌, ◌⊎◌, MatchResult, Ok, Err};
 ghost use Rattle.std.specs.Borrow.{sem};
 ghost use Rattle.std.specs.FinMap as map;
-ghost use Rattle.ecow_model.specs.Loans.{LendsSeen, LendsKept};
+ghost use Rattle.ecow_model.specs.Loans.{LendsPayload, LendsPayloadAt};
 ghost use Rattle.ecow_model.specs.Refusing.{OnRefused};
-ghost use Rattle.ecow_model.specs.Uses.{Rules, Keeps, IsMade, IsMadeOrRefused, IsDerived, IsDerivedOrRefused, IsEdit, IsEditVerdict, IsAnswer, IsAnswerVerdict, IsUse, IsUseVerdict, value_at};
+ghost use Rattle.ecow_model.specs.Uses.{Rules, WrapsPayloads, IsMade, IsMadeOrRefused, IsDerived, IsDerivedOrRefused, IsEdit, IsEditVerdict, IsAnswer, IsAnswerVerdict, IsUse, IsUseVerdict, value_at};
 ghost use Rattle.ecow_model.specs.declared.command.Outcome.{Outcome};
 ghost use Rattle.ecow_model.specs.declared.command.Refusal.{Refusal};
 
@@ -18,7 +18,7 @@ use std::alloc::Global;
 /// one of its values. `rules` are the definitions that it keeps, where `premise` holds.
 pub trait Kind<T: Clone, V: Drop> {
     /// A value of the kind.
-    type Held: Drop;
+    type Payload: Drop;
 
     /// The ways to make one.
     type Make: Drop;
@@ -32,61 +32,61 @@ pub trait Kind<T: Clone, V: Drop> {
     /// The questions to one.
     type Ask: Drop;
 
-    ghost rules: { Rules T V Self.Held Self.Make Self.Derive Self.Edit Self.Ask };
+    ghost rules: { Rules T V Self.Payload Self.Make Self.Derive Self.Edit Self.Ask };
 
     ghost premise: { Type 0 };
 
     /// A value that is made, or why it is not.
-    fn make(alloc: Global, how: Self::Make) -> Result<Made<Self::Held>, Refusal>
+    fn make(alloc: Global, how: Self::Make) -> Result<Made<Self::Payload>, Refusal>
         ensures made { premise → IsMade rules how result }
         ensures verdict { IsMadeOrRefused rules how result };
 
     /// A value that is made from another one, or why it is not.
-    fn derive(alloc: Global, how: Self::Derive, source: &V) -> Result<Self::Held, Refusal>
+    fn derive(alloc: Global, how: Self::Derive, source: &V) -> Result<Self::Payload, Refusal>
         ensures derived { premise → IsDerived rules how source.now result }
         ensures verdict { IsDerivedOrRefused rules how source.now result };
 
     /// Carries out one change. A refused one changes nothing.
-    fn edit(alloc: Global, held: &mut Self::Held, edit: Self::Edit) -> Outcome<T>
+    fn edit(alloc: Global, held: &mut Self::Payload, edit: Self::Edit) -> Outcome<T>
         ensures step { premise → IsEdit rules edit held.old result held.new }
         ensures verdict { IsEditVerdict rules edit held.old result }
         ensures refused { OnRefused result (held.new ≡ held.old) };
 
     /// Answers one question.
-    fn ask(alloc: Global, held: &mut Self::Held, question: Self::Ask) -> Outcome<T>
+    fn ask(alloc: Global, held: &mut Self::Payload, question: Self::Ask) -> Outcome<T>
         ensures answer { premise → IsAnswer rules question held.old result }
         ensures verdict { IsAnswerVerdict rules question held.old result }
         ensures kept { held.new ≡ held.old };
 
     /// What stands under a name, where it is of this kind, and else why it can't be used.
-    fn seen(value: &V) -> Result<&Self::Held, Refusal>
-        ensures { MatchResult result (λ x. rules.seen value.now ≡ Ok x.now)
-            (λ refusal. rules.seen value.now ≡ Err refusal) };
+    fn payload(value: &V) -> Result<&Self::Payload, Refusal>
+        ensures { MatchResult result (λ x. rules.payload value.now ≡ Ok x.now)
+            (λ refusal. rules.payload value.now ≡ Err refusal) };
 
     /// The same for writing.
-    fn seen_mut(value: &mut V) -> Result<&mut Self::Held, Refusal>
-        ensures* writes_back { sem 𝓛 (LendsSeen V.row Self.Held.row rules.kept value.entry result) }
-        ensures value { MatchResult result (λ x. rules.seen value.old ≡ Ok x.now)
-            (λ refusal. rules.seen value.old ≡ Err refusal) };
+    fn payload_mut(value: &mut V) -> Result<&mut Self::Payload, Refusal>
+        ensures* writes_back { sem 𝓛 (LendsPayload V.row Self.Payload.row rules.wrap value.entry result) }
+        ensures value { MatchResult result (λ x. rules.payload value.old ≡ Ok x.now)
+            (λ refusal. rules.payload value.old ≡ Err refusal) };
 
     /// A value of the kind as one that stands under a name.
-    fn kept(held: Self::Held) -> V
-        ensures { result ≡ rules.kept held };
+    fn wrap(held: Self::Payload) -> V
+        ensures { result ≡ rules.wrap held };
 
-    ghost keeps: { Keeps rules };
+    ghost wraps: { WrapsPayloads rules };
 }
 
 /// The value of a kind under a name, for writing.
-fn lent_at<T: Clone, V: Drop, K: Kind<T, V>>(
+fn payload_at<T: Clone, V: Drop, K: Kind<T, V>>(
     values: &mut Table<V>,
     name: Name,
-) -> Result<&mut K::Held, Refusal>
+) -> Result<&mut K::Payload, Refusal>
     ensures* writes_back { sem 𝓛
-        (LendsKept V.row K.Held.row K.rules.kept values.entry name result) }
+        (LendsPayloadAt V.row K.Payload.row K.rules.wrap values.entry name result) }
     ensures value { MatchResult result (λ x. value_at K.rules values.old name ≡ Ok x.now)
         (λ refusal. value_at K.rules values.old name ≡ Err refusal) }
 {
-    K::seen_mut(value_mut(values, name)?)
+    K::payload_mut(value_mut(values, name)?)
 }
 
 /// Puts a value under a name, and then answers `outcome`.
@@ -120,13 +120,13 @@ pub fn carry_out<T: Clone, V: Drop, K: Kind<T, V>>(
             if values.contains(name) {
                 return Outcome::Refused(Refusal::Taken);
             }
-            let made: Made<K::Held> = match K::make(alloc, how) {
+            let made: Made<K::Payload> = match K::make(alloc, how) {
                 Ok(made) => made,
                 Err(refusal) => return Outcome::Refused(refusal),
             };
             match made {
-                Made::Value(value) => put(values, name, K::kept(value), Outcome::Done),
-                Made::Tried(Some(value)) => put(values, name, K::kept(value), Outcome::Flag(true)),
+                Made::Always(value) => put(values, name, K::wrap(value), Outcome::Done),
+                Made::Tried(Some(value)) => put(values, name, K::wrap(value), Outcome::Flag(true)),
                 Made::Tried(None) => Outcome::Flag(false),
             }
         }
@@ -137,9 +137,9 @@ pub fn carry_out<T: Clone, V: Drop, K: Kind<T, V>>(
             if values.contains(to) {
                 return Outcome::Refused(Refusal::Taken);
             }
-            let derived: Result<K::Held, Refusal> = K::derive(alloc, how, source);
+            let derived: Result<K::Payload, Refusal> = K::derive(alloc, how, source);
             match derived {
-                Ok(value) => put(values, to, K::kept(value), Outcome::Done),
+                Ok(value) => put(values, to, K::wrap(value), Outcome::Done),
                 Err(refusal) => Outcome::Refused(refusal),
             }
         }
@@ -147,22 +147,22 @@ pub fn carry_out<T: Clone, V: Drop, K: Kind<T, V>>(
             let Some(held) = values.get(name) else {
                 return Outcome::Refused(Refusal::NoName);
             };
-            let seen: Result<&K::Held, Refusal> = K::seen(held);
+            let seen: Result<&K::Payload, Refusal> = K::payload(held);
             if let Err(refusal) = seen {
                 return Outcome::Refused(refusal);
             }
             let _ = values.remove(name);
             Outcome::Done
         }
-        Usage::Change { name, edit } => {
-            let held: Result<&mut K::Held, Refusal> = lent_at::<T, V, K>(values, name);
+        Usage::Edit { name, edit } => {
+            let held: Result<&mut K::Payload, Refusal> = payload_at::<T, V, K>(values, name);
             match held {
                 Ok(value) => K::edit(alloc, value, edit),
                 Err(refusal) => Outcome::Refused(refusal),
             }
         }
         Usage::Ask { name, question } => {
-            let held: Result<&mut K::Held, Refusal> = lent_at::<T, V, K>(values, name);
+            let held: Result<&mut K::Payload, Refusal> = payload_at::<T, V, K>(values, name);
             match held {
                 Ok(value) => K::ask(alloc, value, question),
                 Err(refusal) => Outcome::Refused(refusal),

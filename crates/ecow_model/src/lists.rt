@@ -1,10 +1,10 @@
 //! The commands on lists, and their parts.
 ghost use Rattle.std.specs.Prelude.{◌≡◌, List, length};
-ghost use Rattle.ecow_model.specs.Lists.{list_edited, vec_usage};
+ghost use Rattle.ecow_model.specs.Lists.{edit_list, vec_usage};
 ghost use Rattle.ecow_model.specs.Refusing.{verdict};
 
 use crate::command::{Bounds, Name, Refusal};
-use crate::usage::{Usage, allowed, ask, change, derive, make, within};
+use crate::usage::{Usage, allowed, ask, derive, edit, in_bounds, make};
 use ecow_base::resolve;
 use ecow_values::Items;
 
@@ -183,24 +183,24 @@ impl<T> VecCommand<T> {
             VecCommand::FromElem { name, value, n } => make(name, ListMake::FromElem(value, n)),
             VecCommand::Clone { from, to } => derive(from, to, ListDerive::Clone),
             VecCommand::Drop { name } => Usage::Drop { name },
-            VecCommand::Push { name, value } => change(name, ListEdit::Push(value)),
-            VecCommand::Pop { name } => change(name, ListEdit::Pop),
+            VecCommand::Push { name, value } => edit(name, ListEdit::Push(value)),
+            VecCommand::Pop { name } => edit(name, ListEdit::Pop),
             VecCommand::Insert { name, index, value } => {
-                change(name, ListEdit::Insert(index, value))
+                edit(name, ListEdit::Insert(index, value))
             }
-            VecCommand::Remove { name, index } => change(name, ListEdit::Remove(index)),
-            VecCommand::Truncate { name, target } => change(name, ListEdit::Truncate(target)),
-            VecCommand::Clear { name } => change(name, ListEdit::Clear),
-            VecCommand::Retain { name, marks } => change(name, ListEdit::Retain(marks)),
-            VecCommand::Drain { name, bounds } => change(name, ListEdit::Drain(bounds)),
+            VecCommand::Remove { name, index } => edit(name, ListEdit::Remove(index)),
+            VecCommand::Truncate { name, target } => edit(name, ListEdit::Truncate(target)),
+            VecCommand::Clear { name } => edit(name, ListEdit::Clear),
+            VecCommand::Retain { name, marks } => edit(name, ListEdit::Retain(marks)),
+            VecCommand::Drain { name, bounds } => edit(name, ListEdit::Drain(bounds)),
             VecCommand::Splice {
                 name,
                 bounds,
                 items,
-            } => change(name, ListEdit::Splice(bounds, items)),
-            VecCommand::Extend { name, items } => change(name, ListEdit::Extend(items)),
-            VecCommand::Reserve { name, additional } => change(name, ListEdit::Reserve(additional)),
-            VecCommand::Write { name, index, value } => change(name, ListEdit::Write(index, value)),
+            } => edit(name, ListEdit::Splice(bounds, items)),
+            VecCommand::Extend { name, items } => edit(name, ListEdit::Extend(items)),
+            VecCommand::Reserve { name, additional } => edit(name, ListEdit::Reserve(additional)),
+            VecCommand::Write { name, index, value } => edit(name, ListEdit::Write(index, value)),
             VecCommand::Read { name, index } => ask(name, ListAsk::Read(index)),
             VecCommand::Len { name } => ask(name, ListAsk::Len),
             VecCommand::Contents { name } => ask(name, ListAsk::Contents),
@@ -214,7 +214,7 @@ impl<T> ListEdit<T> {
     /// Whether the edit may be made in a list of `len` elements, and else why not: the first refusal
     /// that applies, want of memory apart.
     pub fn check(&self, len: usize) -> Result<(), Refusal>
-        ensures { (xs : List T) → length xs ≡ len → result ≡ verdict (list_edited self.now xs) }
+        ensures { (xs : List T) → length xs ≡ len → result ≡ verdict (edit_list self.now xs) }
     {
         match self {
             ListEdit::Push(_) => allowed(len, 1),
@@ -224,8 +224,8 @@ impl<T> ListEdit<T> {
                 }
                 allowed(len, 1)
             }
-            ListEdit::Remove(index) => within(*index, len),
-            ListEdit::Write(index, _) => within(*index, len),
+            ListEdit::Remove(index) => in_bounds(*index, len),
+            ListEdit::Write(index, _) => in_bounds(*index, len),
             ListEdit::Retain(marks) => {
                 if marks.len() != len {
                     return Err(Refusal::Marks);

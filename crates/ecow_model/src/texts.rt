@@ -3,7 +3,7 @@ ghost use Rattle.std.specs.Prelude.{◌≡◌};
 ghost use Rattle.ecow_model.specs.Texts.{text_usage};
 
 use crate::command::Name;
-use crate::usage::{Usage, ask, change, derive, make};
+use crate::usage::{Usage, ask, derive, edit, make};
 use ecow_values::Text;
 
 /// A command on a text, inline or spilled. Counts and indexes are of its UTF-8 bytes.
@@ -214,17 +214,17 @@ impl TextCommand {
             TextCommand::FromBytes { from, to } => derive(from, to, TextDerive::FromBytes),
             TextCommand::Clone { from, to } => derive(from, to, TextDerive::Clone),
             TextCommand::Drop { name } => Usage::Drop { name },
-            TextCommand::Push { name, c } => change(name, TextEdit::Push(c)),
-            TextCommand::Pop { name } => change(name, TextEdit::Pop),
-            TextCommand::PushStr { name, text } => change(name, TextEdit::PushStr(text)),
-            TextCommand::Insert { name, index, c } => change(name, TextEdit::Insert(index, c)),
+            TextCommand::Push { name, c } => edit(name, TextEdit::Push(c)),
+            TextCommand::Pop { name } => edit(name, TextEdit::Pop),
+            TextCommand::PushStr { name, text } => edit(name, TextEdit::PushStr(text)),
+            TextCommand::Insert { name, index, c } => edit(name, TextEdit::Insert(index, c)),
             TextCommand::InsertStr { name, index, text } => {
-                change(name, TextEdit::InsertStr(index, text))
+                edit(name, TextEdit::InsertStr(index, text))
             }
-            TextCommand::Remove { name, index } => change(name, TextEdit::Remove(index)),
-            TextCommand::Truncate { name, target } => change(name, TextEdit::Truncate(target)),
-            TextCommand::Clear { name } => change(name, TextEdit::Clear),
-            TextCommand::Reserve { name, additional } => change(
+            TextCommand::Remove { name, index } => edit(name, TextEdit::Remove(index)),
+            TextCommand::Truncate { name, target } => edit(name, TextEdit::Truncate(target)),
+            TextCommand::Clear { name } => edit(name, TextEdit::Clear),
+            TextCommand::Reserve { name, additional } => edit(
                 name,
                 TextEdit::Reserve(additional),
             ),
@@ -236,11 +236,11 @@ impl TextCommand {
                 count,
             } => derive(from, to, TextDerive::Replace(pattern, replacement, count)),
             TextCommand::Repeat { from, to, n } => derive(from, to, TextDerive::Repeat(n)),
-            TextCommand::AsciiLower { name } => change(name, TextEdit::AsciiLower),
-            TextCommand::AsciiUpper { name } => change(name, TextEdit::AsciiUpper),
+            TextCommand::AsciiLower { name } => edit(name, TextEdit::AsciiLower),
+            TextCommand::AsciiUpper { name } => edit(name, TextEdit::AsciiUpper),
             TextCommand::ToAsciiLower { from, to } => derive(from, to, TextDerive::ToAsciiLower),
             TextCommand::ToAsciiUpper { from, to } => derive(from, to, TextDerive::ToAsciiUpper),
-            TextCommand::ShrinkToFit { name } => change(name, TextEdit::ShrinkToFit),
+            TextCommand::ShrinkToFit { name } => edit(name, TextEdit::ShrinkToFit),
             TextCommand::Len { name } => ask(name, TextAsk::Len),
             TextCommand::Capacity { name } => ask(name, TextAsk::Capacity),
             TextCommand::Contents { name } => ask(name, TextAsk::Contents),

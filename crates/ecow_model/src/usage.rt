@@ -16,7 +16,7 @@ pub enum Usage<Make, Derive, Edit, Ask> {
     /// Takes the name out.
     Drop { name: Name },
     /// Changes the value of the name.
-    Change { name: Name, edit: Edit },
+    Edit { name: Name, edit: Edit },
     /// Asks something of the value of the name.
     Ask { name: Name, question: Ask },
 }
@@ -25,7 +25,7 @@ pub enum Usage<Make, Derive, Edit, Ask> {
 #[derive(Drop)]
 pub enum Made<V> {
     /// The value. The command answers `Done`.
-    Value(V),
+    Always(V),
     /// The value, if it could be made. The command answers `Flag`.
     Tried(Option<V>),
 }
@@ -46,13 +46,13 @@ pub(crate) fn derive<Make, Derive, Edit, Ask>(
     Usage::Derive { from, to, how }
 }
 
-pub(crate) fn change<Make, Derive, Edit, Ask>(
+pub(crate) fn edit<Make, Derive, Edit, Ask>(
     name: Name,
     edit: Edit,
 ) -> Usage<Make, Derive, Edit, Ask>
-    ensures { result ≡ Usage.Change name edit }
+    ensures { result ≡ Usage.Edit name edit }
 {
-    Usage::Change { name, edit }
+    Usage::Edit { name, edit }
 }
 
 pub(crate) fn ask<Make, Derive, Edit, Ask>(
@@ -75,7 +75,7 @@ pub fn allowed(len: usize, additional: usize) -> Result<(), Refusal>
 }
 
 /// Whether one of `len` items stands at `index`.
-pub(crate) fn within(index: usize, len: usize) -> Result<(), Refusal>
+pub(crate) fn in_bounds(index: usize, len: usize) -> Result<(), Refusal>
     ensures { result ≡ is_checked (nat_lt index len) Refusal.Index }
 {
     if index >= len {

@@ -1,13 +1,13 @@
 //! What the plain store does with a list: each table of the definitions is one `match`.
 ghost use Rattle.std.specs.Prelude.{◌≡◌, Ok, MatchResult};
 ghost use Rattle.ecow_base.specs.Clones.{ClonesAreEqual};
-ghost use Rattle.ecow_model.specs.Lists.{list_edited, list_rules};
+ghost use Rattle.ecow_model.specs.Lists.{edit_list, list_rules};
 ghost use Rattle.ecow_model.specs.Refusing.{OnRefused, verdict};
 ghost use Rattle.ecow_model.specs.Uses.{IsEdit, IsEditVerdict};
 ghost use Rattle.ecow_model.specs.declared.command.Outcome.{Outcome};
 ghost use Rattle.ecow_model.specs.declared.command.Refusal.{Refusal};
 ghost use Rattle.ecow_model.specs.declared.lists.ListEdit.{ListEdit};
-ghost use Rattle.ecow_model.proofs.Uses.{list_keeps};
+ghost use Rattle.ecow_model.proofs.Uses.{list_wraps};
 
 use crate::list::PlainList;
 use crate::store::Stored;
@@ -23,7 +23,7 @@ use std::alloc::{AllocError, Global};
 pub(crate) struct ListKind;
 
 impl<T: Clone> Kind<T, Stored<T>> for ListKind {
-    type Held = PlainList<T>;
+    type Payload = PlainList<T>;
 
     type Make = ListMake<T>;
 
@@ -39,25 +39,25 @@ impl<T: Clone> Kind<T, Stored<T>> for ListKind {
 
     fn make(alloc: Global, how: ListMake<T>) -> Result<Made<PlainList<T>>, Refusal> {
         match how {
-            ListMake::New => Ok(Made::Value(PlainList::new(alloc))),
+            ListMake::New => Ok(Made::Always(PlainList::new(alloc))),
             ListMake::WithCapacity(capacity) => {
                 if capacity > MAX_LEN {
                     return Err(Refusal::Capacity);
                 }
-                Ok(Made::Value(PlainList::new(alloc)))
+                Ok(Made::Always(PlainList::new(alloc)))
             }
             ListMake::FromList(items) => {
                 if items.len() > MAX_LEN {
                     return Err(Refusal::Capacity);
                 }
-                Ok(Made::Value(PlainList::from_items(items)))
+                Ok(Made::Always(PlainList::from_items(items)))
             }
             ListMake::FromElem(value, n) => {
                 if n > MAX_LEN {
                     return Err(Refusal::Capacity);
                 }
-                match PlainList::repeated(alloc, value, n) {
-                    Ok(list) => Ok(Made::Value(list)),
+                match PlainList::repeat(alloc, value, n) {
+                    Ok(list) => Ok(Made::Always(list)),
                     Err(_) => Err(Refusal::Memory),
                 }
             }
@@ -67,7 +67,7 @@ impl<T: Clone> Kind<T, Stored<T>> for ListKind {
     fn derive(alloc: Global, how: ListDerive, source: &Stored<T>) -> Result<PlainList<T>, Refusal> {
         match (how, source) {
             (ListDerive::Clone, Value::List(list)) => {
-                match PlainList::cloned(alloc, list.as_slice()) {
+                match PlainList::from_slice(alloc, list.as_slice()) {
                     Ok(copy) => Ok(copy),
                     Err(_) => Err(Refusal::Memory),
                 }
@@ -82,16 +82,16 @@ impl<T: Clone> Kind<T, Stored<T>> for ListKind {
             return Outcome::Refused(refusal);
         }
         match edit {
-            ListEdit::Push(value) => return done(list.push(value)),
+            ListEdit::Push(value) => return answer_change(list.push(value)),
             ListEdit::Pop => return Outcome::Popped(list.pop()),
-            ListEdit::Insert(index, value) => return done(list.insert(index, value)),
+            ListEdit::Insert(index, value) => return answer_change(list.insert(index, value)),
             ListEdit::Remove(index) => return Outcome::Element(list.remove(index)),
             ListEdit::Drain(bounds) => return drain(alloc, list, bounds),
             ListEdit::Splice(bounds, items) => return splice(list, bounds, items),
             ListEdit::Extend(items) => return extend(list, items),
             ListEdit::Truncate(target) => list.truncate(target),
             ListEdit::Clear => list.truncate(0),
-            ListEdit::Retain(marks) => list.retain_marked(marks.as_slice()),
+            ListEdit::Retain(marks) => list.retain_by_marks(marks.as_slice()),
             ListEdit::Write(index, value) => list.set(index, value),
             // A plain list has no room of its own.
             ListEdit::Reserve(_) => {}
@@ -109,7 +109,7 @@ impl<T: Clone> Kind<T, Stored<T>> for ListKind {
                 },
             },
             ListAsk::Len => Outcome::Count(list.len()),
-            ListAsk::Contents => match PlainList::cloned(alloc, list.as_slice()) {
+            ListAsk::Contents => match PlainList::from_slice(alloc, list.as_slice()) {
                 Ok(copy) => Outcome::Elements(copy.into_items()),
                 Err(_) => Outcome::Refused(Refusal::Memory),
             },
@@ -119,23 +119,23 @@ impl<T: Clone> Kind<T, Stored<T>> for ListKind {
         }
     }
 
-    fn seen(value: &Stored<T>) -> Result<&PlainList<T>, Refusal> {
+    fn payload(value: &Stored<T>) -> Result<&PlainList<T>, Refusal> {
         list_in(value)
     }
 
-    fn seen_mut(value: &mut Stored<T>) -> Result<&mut PlainList<T>, Refusal> {
+    fn payload_mut(value: &mut Stored<T>) -> Result<&mut PlainList<T>, Refusal> {
         list_in_mut(value)
     }
 
-    fn kept(list: PlainList<T>) -> Stored<T> {
+    fn wrap(list: PlainList<T>) -> Stored<T> {
         Value::List(list)
     }
 
-    ghost keeps = { list_keeps };
+    ghost wraps = { list_wraps };
 }
 
 /// What a change answers: that it was made, or that memory was wanting.
-fn done<T: Drop>(change: Result<(), AllocError>) -> Outcome<T>
+fn answer_change<T: Drop>(change: Result<(), AllocError>) -> Outcome<T>
     ensures { MatchResult change (λ _. result ≡ Outcome.Done)
         (λ _. result ≡ Outcome.Refused Refusal.Memory) }
 {
@@ -148,7 +148,7 @@ fn done<T: Drop>(change: Result<(), AllocError>) -> Outcome<T>
 /// Appends items to a list. Nothing is asked for none.
 #[tactic(auto, using(ecow_model::proofs::Lengths::edits))]
 fn extend<T: Drop>(list: &mut PlainList<T>, items: Items<T>) -> Outcome<T>
-    requires { verdict (list_edited (ListEdit.Extend items) list.old) ≡ Ok tt }
+    requires { verdict (edit_list (ListEdit.Extend items) list.old) ≡ Ok tt }
     ensures step { IsEdit list_rules (ListEdit.Extend items) list.old result list.new }
     ensures verdict { IsEditVerdict list_rules (ListEdit.Extend items) list.old result }
     ensures refused { OnRefused result (list.new ≡ list.old) }
@@ -156,7 +156,7 @@ fn extend<T: Drop>(list: &mut PlainList<T>, items: Items<T>) -> Outcome<T>
     if items.len() == 0 {
         return Outcome::Done;
     }
-    done(list.append(PlainList::from_items(items)))
+    answer_change(list.append(PlainList::from_items(items)))
 }
 
 /// Takes the elements within bounds out of a list.
@@ -178,7 +178,7 @@ fn drain<T: Drop>(alloc: Global, list: &mut PlainList<T>, bounds: Bounds) -> Out
 /// Puts items in place of the elements of a list within bounds.
 #[tactic(auto, using(ecow_model::proofs::Lengths::edits))]
 fn splice<T: Drop>(list: &mut PlainList<T>, bounds: Bounds, items: Items<T>) -> Outcome<T>
-    requires { verdict (list_edited (ListEdit.Splice bounds items) list.old) ≡ Ok tt }
+    requires { verdict (edit_list (ListEdit.Splice bounds items) list.old) ≡ Ok tt }
     ensures step { IsEdit list_rules (ListEdit.Splice bounds items) list.old result list.new }
     ensures verdict { IsEditVerdict list_rules (ListEdit.Splice bounds items) list.old result }
     ensures refused { OnRefused result (list.new ≡ list.old) }

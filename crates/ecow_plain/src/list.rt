@@ -144,7 +144,7 @@ impl<T: Drop> PlainList<T> {
     }
 
     /// Keeps the elements that are marked true.
-    pub fn retain_marked(&mut self, marks: &[bool])
+    pub fn retain_by_marks(&mut self, marks: &[bool])
         requires { length marks.now ≡ length self.old }
         ensures { self.new ≡ items_where_true marks.now self.old }
     {
@@ -163,7 +163,7 @@ impl<T: Drop> PlainList<T> {
 
 impl<T: Clone> PlainList<T> {
     /// `n` clones of `value`.
-    pub fn repeated(alloc: Global, value: T, n: usize) -> Result<Self, AllocError>
+    pub fn repeat(alloc: Global, value: T, n: usize) -> Result<Self, AllocError>
         ensures { ClonesAreEqual T.is_clone → IfOk result (λ copies. copies ≡ replicate n value) }
     {
         let elements = vec![in alloc; value; n]?;
@@ -171,7 +171,7 @@ impl<T: Clone> PlainList<T> {
     }
 
     /// Clones of the elements of a slice.
-    pub fn cloned(alloc: Global, elements: &[T]) -> Result<Self, AllocError>
+    pub fn from_slice(alloc: Global, elements: &[T]) -> Result<Self, AllocError>
         ensures { ClonesAreEqual T.is_clone → IfOk result (λ copy. copy ≡ elements.now) }
     {
         let mut copy = Vec::new(alloc);

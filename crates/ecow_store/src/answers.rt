@@ -20,7 +20,7 @@ pub(crate) fn refusal_of(error: EcoError) -> Refusal
 }
 
 /// What a change answers: that it was made, or that memory was wanting.
-pub(crate) fn done<T: Drop, E: Drop>(change: Result<(), E>) -> Outcome<T>
+pub(crate) fn answer_change<T: Drop, E: Drop>(change: Result<(), E>) -> Outcome<T>
     ensures { MatchResult change (λ _. result ≡ Outcome.Done)
         (λ _. result ≡ Outcome.Refused Refusal.Memory) }
 {
@@ -31,12 +31,12 @@ pub(crate) fn done<T: Drop, E: Drop>(change: Result<(), E>) -> Outcome<T>
 }
 
 /// A value that was made, or why it was not.
-pub(crate) fn made<V>(made: Result<V, EcoError>) -> Result<Made<V>, Refusal>
-    ensures { MatchResult made (λ value. result ≡ Ok (Made.Value value))
+pub(crate) fn answer_make<V>(made: Result<V, EcoError>) -> Result<Made<V>, Refusal>
+    ensures { MatchResult made (λ value. result ≡ Ok (Made.Always value))
         (λ error. result ≡ Err (refusal_for error)) }
 {
     match made {
-        Ok(value) => Ok(Made::Value(value)),
+        Ok(value) => Ok(Made::Always(value)),
         Err(error) => Err(refusal_of(error)),
     }
 }

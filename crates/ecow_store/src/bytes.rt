@@ -3,9 +3,9 @@ ghost use Rattle.std.specs.Prelude.{◌≡◌, ⊤};
 ghost use Rattle.ecow_model.specs.Bytes.{bytes_rules};
 ghost use Rattle.ecow_model.specs.Refusing.{OnRefused};
 ghost use Rattle.ecow_model.specs.Run.{IsBytesStep, IsBytesVerdict};
-ghost use Rattle.ecow_model.proofs.Uses.{bytes_keeps};
+ghost use Rattle.ecow_model.proofs.Uses.{bytes_wraps};
 
-use crate::answers::{done, made, refusal_of};
+use crate::answers::{answer_change, answer_make, refusal_of};
 use crate::store::Stored;
 use ecow_bytes::SmallBytes;
 use ecow_list::EcoVec;
@@ -35,7 +35,7 @@ pub(crate) fn step<T: Clone, const N: usize>(
 pub(crate) struct BytesKind;
 
 impl<T: Clone, const N: usize> Kind<T, Stored<T, N>> for BytesKind {
-    type Held = SmallBytes<N>;
+    type Payload = SmallBytes<N>;
 
     type Make = BytesMake;
 
@@ -51,14 +51,14 @@ impl<T: Clone, const N: usize> Kind<T, Stored<T, N>> for BytesKind {
 
     fn make(alloc: Global, how: BytesMake) -> Result<Made<SmallBytes<N>>, Refusal> {
         match how {
-            BytesMake::New => Ok(Made::Value(SmallBytes::new(alloc))),
+            BytesMake::New => Ok(Made::Always(SmallBytes::new(alloc))),
             BytesMake::TryInline(bytes) => {
                 Ok(Made::Tried(SmallBytes::try_inline(alloc, bytes.as_slice())))
             }
-            BytesMake::WithCapacity(capacity) => made(SmallBytes::with_capacity(alloc, capacity)),
-            BytesMake::FromList(bytes) => made(SmallBytes::from_slice(alloc, bytes.as_slice())),
+            BytesMake::WithCapacity(capacity) => answer_make(SmallBytes::with_capacity(alloc, capacity)),
+            BytesMake::FromList(bytes) => answer_make(SmallBytes::from_slice(alloc, bytes.as_slice())),
             BytesMake::FromEcoVec(bytes) => match EcoVec::from_vec(alloc, bytes.into_vec()) {
-                Ok(vec) => Ok(Made::Value(SmallBytes::from(vec))),
+                Ok(vec) => Ok(Made::Always(SmallBytes::from(vec))),
                 Err(rejected) => Err(refusal_of(rejected.error)),
             },
         }
@@ -98,27 +98,27 @@ impl<T: Clone, const N: usize> Kind<T, Stored<T, N>> for BytesKind {
             return Outcome::Refused(refusal);
         }
         match edit {
-            BytesEdit::Push(byte) => done(bytes.push(byte)),
+            BytesEdit::Push(byte) => answer_change(bytes.push(byte)),
             BytesEdit::Pop => match bytes.pop() {
                 Ok(last) => Outcome::PoppedByte(last),
                 Err(_) => Outcome::Refused(Refusal::Memory),
             },
-            BytesEdit::Insert(index, byte) => done(bytes.insert(index, byte)),
+            BytesEdit::Insert(index, byte) => answer_change(bytes.insert(index, byte)),
             BytesEdit::Remove(index) => match bytes.remove(index) {
                 Ok(byte) => Outcome::Byte(byte),
                 Err(_) => Outcome::Refused(Refusal::Memory),
             },
-            BytesEdit::Extend(more) => done(bytes.extend_from_slice(more.as_slice())),
+            BytesEdit::Extend(more) => answer_change(bytes.extend_from_slice(more.as_slice())),
             BytesEdit::InsertSlice(index, more) => {
-                done(bytes.insert_slice(index, more.as_slice()))
+                answer_change(bytes.insert_slice(index, more.as_slice()))
             }
-            BytesEdit::Truncate(target) => done(bytes.truncate(target)),
+            BytesEdit::Truncate(target) => answer_change(bytes.truncate(target)),
             BytesEdit::Clear => {
                 bytes.clear();
                 Outcome::Done
             }
-            BytesEdit::Reserve(additional) => done(bytes.reserve(additional)),
-            BytesEdit::Write(index, byte) => done(bytes.set(index, byte)),
+            BytesEdit::Reserve(additional) => answer_change(bytes.reserve(additional)),
+            BytesEdit::Write(index, byte) => answer_change(bytes.set(index, byte)),
             BytesEdit::ShrinkToFit => {
                 bytes.shrink_to_fit();
                 Outcome::Done
@@ -142,17 +142,17 @@ impl<T: Clone, const N: usize> Kind<T, Stored<T, N>> for BytesKind {
         }
     }
 
-    fn seen(value: &Stored<T, N>) -> Result<&SmallBytes<N>, Refusal> {
+    fn payload(value: &Stored<T, N>) -> Result<&SmallBytes<N>, Refusal> {
         bytes_in(value)
     }
 
-    fn seen_mut(value: &mut Stored<T, N>) -> Result<&mut SmallBytes<N>, Refusal> {
+    fn payload_mut(value: &mut Stored<T, N>) -> Result<&mut SmallBytes<N>, Refusal> {
         bytes_in_mut(value)
     }
 
-    fn kept(bytes: SmallBytes<N>) -> Stored<T, N> {
+    fn wrap(bytes: SmallBytes<N>) -> Stored<T, N> {
         Value::Bytes(bytes)
     }
 
-    ghost keeps = { bytes_keeps N };
+    ghost wraps = { bytes_wraps N };
 }

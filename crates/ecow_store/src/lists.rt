@@ -3,14 +3,14 @@ ghost use Rattle.std.specs.Prelude.{◌≡◌, ◌≤◌, [], Ok, length, vec_ca
 ghost use Rattle.std.specs.List.{items_where_true};
 ghost use Rattle.ecow_base.specs.Clones.{ClonesAreEqual};
 ghost use Rattle.ecow_list.specs.declared.error.EcoError.{EcoError};
-ghost use Rattle.ecow_model.specs.Lists.{list_edited, list_rules};
+ghost use Rattle.ecow_model.specs.Lists.{edit_list, list_rules};
 ghost use Rattle.ecow_model.specs.Refusing.{OnRefused, verdict};
 ghost use Rattle.ecow_model.specs.Run.{IsVecStep, IsVecVerdict};
 ghost use Rattle.ecow_model.specs.Uses.{IsEdit, IsEditVerdict};
 ghost use Rattle.ecow_model.specs.declared.command.Outcome.{Outcome};
 ghost use Rattle.ecow_model.specs.declared.command.Refusal.{Refusal};
 ghost use Rattle.ecow_model.specs.declared.lists.ListEdit.{ListEdit};
-ghost use Rattle.ecow_model.proofs.Uses.{list_keeps};
+ghost use Rattle.ecow_model.proofs.Uses.{list_wraps};
 
 use crate::answers::{done, refusal_of};
 use crate::store::Stored;
@@ -41,7 +41,7 @@ pub(crate) fn step<T: Clone, const N: usize>(
 pub(crate) struct ListKind;
 
 impl<T: Clone, const N: usize> Kind<T, Stored<T, N>> for ListKind {
-    type Held = EcoVec<T>;
+    type Payload = EcoVec<T>;
 
     type Make = ListMake<T>;
 
@@ -69,7 +69,7 @@ impl<T: Clone, const N: usize> Kind<T, Stored<T, N>> for ListKind {
             },
         };
         match made {
-            Ok(list) => Ok(Made::Value(list)),
+            Ok(list) => Ok(Made::Always(list)),
             Err(error) => Err(refusal_of(error)),
         }
     }
@@ -97,27 +97,27 @@ impl<T: Clone, const N: usize> Kind<T, Stored<T, N>> for ListKind {
             return Outcome::Refused(refusal);
         }
         match edit {
-            ListEdit::Push(value) => done(list.push(value)),
+            ListEdit::Push(value) => answer_change(list.push(value)),
             ListEdit::Pop => match list.pop() {
                 Ok(last) => Outcome::Popped(last),
                 Err(_) => Outcome::Refused(Refusal::Memory),
             },
-            ListEdit::Insert(index, value) => done(list.insert(index, value)),
+            ListEdit::Insert(index, value) => answer_change(list.insert(index, value)),
             ListEdit::Remove(index) => match list.remove(index) {
                 Ok(value) => Outcome::Element(value),
                 Err(_) => Outcome::Refused(Refusal::Memory),
             },
-            ListEdit::Truncate(target) => done(list.truncate(target)),
+            ListEdit::Truncate(target) => answer_change(list.truncate(target)),
             ListEdit::Clear => {
                 list.clear();
                 Outcome::Done
             }
-            ListEdit::Retain(marks) => done(retain_marked(list, marks.as_slice())),
+            ListEdit::Retain(marks) => answer_change(retain_by_marks(list, marks.as_slice())),
             ListEdit::Drain(bounds) => drain(alloc, list, bounds),
             ListEdit::Splice(bounds, items) => splice(alloc, list, bounds, items),
-            ListEdit::Extend(items) => done(list.extend_from_slice(items.as_slice())),
-            ListEdit::Reserve(additional) => done(list.reserve(additional)),
-            ListEdit::Write(index, value) => done(list.set(index, value)),
+            ListEdit::Extend(items) => answer_change(list.extend_from_slice(items.as_slice())),
+            ListEdit::Reserve(additional) => answer_change(list.reserve(additional)),
+            ListEdit::Write(index, value) => answer_change(list.set(index, value)),
         }
     }
 
@@ -140,23 +140,23 @@ impl<T: Clone, const N: usize> Kind<T, Stored<T, N>> for ListKind {
         }
     }
 
-    fn seen(value: &Stored<T, N>) -> Result<&EcoVec<T>, Refusal> {
+    fn payload(value: &Stored<T, N>) -> Result<&EcoVec<T>, Refusal> {
         list_in(value)
     }
 
-    fn seen_mut(value: &mut Stored<T, N>) -> Result<&mut EcoVec<T>, Refusal> {
+    fn payload_mut(value: &mut Stored<T, N>) -> Result<&mut EcoVec<T>, Refusal> {
         list_in_mut(value)
     }
 
-    fn kept(list: EcoVec<T>) -> Stored<T, N> {
+    fn wrap(list: EcoVec<T>) -> Stored<T, N> {
         Value::List(list)
     }
 
-    ghost keeps = { list_keeps };
+    ghost wraps = { list_wraps };
 }
 
 /// Keeps the elements that are marked true.
-fn retain_marked<T: Clone>(list: &mut EcoVec<T>, marks: &[bool]) -> Result<(), EcoError>
+fn retain_by_marks<T: Clone>(list: &mut EcoVec<T>, marks: &[bool]) -> Result<(), EcoError>
     requires { length marks.now ≡ length list.old }
     ensures ok { ClonesAreEqual T.is_clone
         → OnOk result (list.new ≡ items_where_true marks.now list.old) }
@@ -227,7 +227,7 @@ fn splice<T: Clone>(
     bounds: Bounds,
     items: Items<T>,
 ) -> Outcome<T>
-    requires { verdict (list_edited (ListEdit.Splice bounds items) list.old) ≡ Ok tt }
+    requires { verdict (edit_list (ListEdit.Splice bounds items) list.old) ≡ Ok tt }
     ensures step { ClonesAreEqual T.is_clone
         → IsEdit list_rules (ListEdit.Splice bounds items) list.old result list.new }
     ensures verdict { IsEditVerdict list_rules (ListEdit.Splice bounds items) list.old result }

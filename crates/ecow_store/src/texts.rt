@@ -2,11 +2,11 @@
 ghost use Rattle.std.specs.Prelude.{◌≡◌, ⊤};
 ghost use Rattle.ecow_model.specs.Refusing.{OnRefused, verdict};
 ghost use Rattle.ecow_model.specs.Run.{IsTextStep, IsTextVerdict};
-ghost use Rattle.ecow_model.specs.Texts.{text_edited, text_rules, text_spelled};
+ghost use Rattle.ecow_model.specs.Texts.{edit_text, text_rules, text_from_bytes};
 ghost use Rattle.ecow_model.specs.Uses.{IsGiven};
-ghost use Rattle.ecow_model.proofs.Uses.{text_keeps};
+ghost use Rattle.ecow_model.proofs.Uses.{text_wraps};
 
-use crate::answers::{done, made, refusal_of};
+use crate::answers::{answer_change, answer_make, refusal_of};
 use crate::store::Stored;
 use ecow_bytes::SmallBytes;
 use ecow_list::EcoError;
@@ -36,7 +36,7 @@ pub(crate) fn step<T: Clone, const N: usize>(
 pub(crate) struct TextKind;
 
 impl<T: Clone, const N: usize> Kind<T, Stored<T, N>> for TextKind {
-    type Held = SmallText<N>;
+    type Payload = SmallText<N>;
 
     type Make = TextMake;
 
@@ -53,13 +53,13 @@ impl<T: Clone, const N: usize> Kind<T, Stored<T, N>> for TextKind {
     #[tactic(auto, using(crate::proofs::Characters::texts))]
     fn make(alloc: Global, how: TextMake) -> Result<Made<SmallText<N>>, Refusal> {
         match how {
-            TextMake::New => Ok(Made::Value(SmallText::new(alloc))),
+            TextMake::New => Ok(Made::Always(SmallText::new(alloc))),
             TextMake::TryInline(text) => {
                 Ok(Made::Tried(SmallText::try_inline(alloc, text.as_str())))
             }
-            TextMake::WithCapacity(capacity) => made(SmallText::with_capacity(alloc, capacity)),
-            TextMake::FromStr(text) => made(SmallText::from_str(alloc, text.as_str())),
-            TextMake::FromChar(c) => made(SmallText::from_char(alloc, c)),
+            TextMake::WithCapacity(capacity) => answer_make(SmallText::with_capacity(alloc, capacity)),
+            TextMake::FromStr(text) => answer_make(SmallText::from_str(alloc, text.as_str())),
+            TextMake::FromChar(c) => answer_make(SmallText::from_char(alloc, c)),
         }
     }
 
@@ -71,7 +71,7 @@ impl<T: Clone, const N: usize> Kind<T, Stored<T, N>> for TextKind {
     ) -> Result<SmallText<N>, Refusal> {
         if let TextDerive::FromBytes = how {
             return match source {
-                Value::Bytes(bytes) => spelled(bytes),
+                Value::Bytes(bytes) => from_bytes(bytes),
                 _ => Err(Refusal::Kind),
             };
         }
@@ -104,26 +104,26 @@ impl<T: Clone, const N: usize> Kind<T, Stored<T, N>> for TextKind {
             return Outcome::Refused(refusal);
         }
         match edit {
-            TextEdit::Push(c) => done(text.push(c)),
+            TextEdit::Push(c) => answer_change(text.push(c)),
             TextEdit::Pop => match text.pop() {
                 Ok(last) => Outcome::PoppedChar(last),
                 Err(_) => Outcome::Refused(Refusal::Memory),
             },
-            TextEdit::PushStr(more) => done(text.push_str(more.as_str())),
-            TextEdit::Insert(index, c) => done(text.insert(index, c)),
-            TextEdit::InsertStr(index, more) => done(text.insert_str(index, more.as_str())),
+            TextEdit::PushStr(more) => answer_change(text.push_str(more.as_str())),
+            TextEdit::Insert(index, c) => answer_change(text.insert(index, c)),
+            TextEdit::InsertStr(index, more) => answer_change(text.insert_str(index, more.as_str())),
             TextEdit::Remove(index) => match text.remove(index) {
                 Ok(c) => Outcome::Char(c),
                 Err(_) => Outcome::Refused(Refusal::Memory),
             },
-            TextEdit::Truncate(target) => done(text.truncate(target)),
+            TextEdit::Truncate(target) => answer_change(text.truncate(target)),
             TextEdit::Clear => {
                 text.clear();
                 Outcome::Done
             }
-            TextEdit::Reserve(additional) => done(text.reserve(additional)),
-            TextEdit::AsciiLower => done(text.make_ascii_lowercase()),
-            TextEdit::AsciiUpper => done(text.make_ascii_uppercase()),
+            TextEdit::Reserve(additional) => answer_change(text.reserve(additional)),
+            TextEdit::AsciiLower => answer_change(text.make_ascii_lowercase()),
+            TextEdit::AsciiUpper => answer_change(text.make_ascii_uppercase()),
             TextEdit::ShrinkToFit => {
                 text.shrink_to_fit();
                 Outcome::Done
@@ -143,26 +143,26 @@ impl<T: Clone, const N: usize> Kind<T, Stored<T, N>> for TextKind {
         }
     }
 
-    fn seen(value: &Stored<T, N>) -> Result<&SmallText<N>, Refusal> {
+    fn payload(value: &Stored<T, N>) -> Result<&SmallText<N>, Refusal> {
         text_in(value)
     }
 
-    fn seen_mut(value: &mut Stored<T, N>) -> Result<&mut SmallText<N>, Refusal> {
+    fn payload_mut(value: &mut Stored<T, N>) -> Result<&mut SmallText<N>, Refusal> {
         text_in_mut(value)
     }
 
-    fn kept(text: SmallText<N>) -> Stored<T, N> {
+    fn wrap(text: SmallText<N>) -> Stored<T, N> {
         Value::Text(text)
     }
 
-    ghost keeps = { text_keeps N };
+    ghost wraps = { text_wraps N };
 }
 
 /// Whether an edit of a text may be made, and else why not: the first refusal that applies, want of
 /// memory apart.
 #[tactic(auto, using(crate::proofs::Characters::texts))]
 fn check<T, const N: usize>(text: &SmallText<N>, edit: &TextEdit) -> Result<(), Refusal>
-    ensures { result ≡ verdict (text_edited {T = T} N edit.now text.now) }
+    ensures { result ≡ verdict (edit_text {T = T} N edit.now text.now) }
 {
     let len = text.len();
     match edit {
@@ -203,8 +203,8 @@ fn check<T, const N: usize>(text: &SmallText<N>, edit: &TextEdit) -> Result<(), 
 
 /// The text that bytes spell, in their mode: `NotUtf8` where they spell none.
 #[tactic(auto, using(crate::proofs::Characters::texts))]
-fn spelled<const N: usize>(bytes: &SmallBytes<N>) -> Result<SmallText<N>, Refusal>
-    ensures { IsGiven (text_spelled bytes.now) result }
+fn from_bytes<const N: usize>(bytes: &SmallBytes<N>) -> Result<SmallText<N>, Refusal>
+    ensures { IsGiven (text_from_bytes bytes.now) result }
 {
     let copy: Result<SmallBytes<N>, AllocError> = bytes.clone();
     match copy {

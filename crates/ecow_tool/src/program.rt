@@ -16,7 +16,7 @@ use std::io::{ErrorKind, Read, Write};
 pub const SIZE_LIMIT: usize = 16777216;
 
 /// How many bytes are asked for at once.
-const PIECE: usize = 65536;
+const BYTES_AT_ONCE: usize = 65536;
 
 /// How the program ends once its arguments are read. Its `Display` is the message on standard
 /// error, without the program's name.
@@ -165,7 +165,7 @@ fn write_out<W: Write>(writer: &mut W, answers: &str) -> End {
 /// All that the reader gives, if it is within `SIZE_LIMIT`.
 fn read_limited<R: Read>(alloc: Global, reader: &mut R) -> Result<Vec<u8>, End> {
     let mut script = Vec::new(alloc);
-    let mut piece = [0u8; PIECE];
+    let mut piece = [0u8; BYTES_AT_ONCE];
     for _ in 0..u64::MAX {
         match reader.read(&mut piece) {
             Ok(0) => return Ok(script),

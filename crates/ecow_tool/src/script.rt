@@ -15,7 +15,7 @@ use std::alloc::{AllocError, Global};
 use std::mem::replace;
 
 /// How many commands are read before they are carried out.
-const PIECE: usize = 1024;
+const COMMANDS_AT_ONCE: usize = 1024;
 
 /// What was expected at the first word of a line that doesn't fit.
 #[derive(Clone, Copy, Debug, PartialEq, Eq)]
@@ -102,7 +102,7 @@ impl Scripted for Command<i64> {
     }
 }
 
-/// Reads the commands of a script and gives them to `run`, in order, in pieces of at most `PIECE`.
+/// Reads the commands of a script and gives them to `run`, in order, in pieces of at most `COMMANDS_AT_ONCE`.
 /// Names are numbered from 0 in the order in which they are first read.
 ///
 /// Where `run` has no memory the rest is read all the same and given to nobody, so that a line that
@@ -115,7 +115,7 @@ pub(crate) fn read_script<C: Scripted, F: FnMut(Vec<C>) -> Result<(), AllocError
     requires { F.IsAlwaysCallable run }
 {
     let mut reader = Reader::new(alloc);
-    let mut piece = Vec::with_capacity(alloc, PIECE)?;
+    let mut piece = Vec::with_capacity(alloc, COMMANDS_AT_ONCE)?;
     let mut ran: Result<(), AllocError> = Ok(());
     let mut lines = Lines::new(text);
     for number in 1..usize::MAX {
@@ -127,8 +127,8 @@ pub(crate) fn read_script<C: Scripted, F: FnMut(Vec<C>) -> Result<(), AllocError
             Err(Misfit::Expected(reason)) => return Err(Fault::Unreadable(number, reason)),
             Err(Misfit::Memory) => return Err(Fault::Memory),
         }
-        if piece.len() == PIECE {
-            let full = replace(&mut piece, Vec::with_capacity(alloc, PIECE)?);
+        if piece.len() == COMMANDS_AT_ONCE {
+            let full = replace(&mut piece, Vec::with_capacity(alloc, COMMANDS_AT_ONCE)?);
             if ran.is_ok() {
                 ran = run(full);
             }

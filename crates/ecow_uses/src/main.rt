@@ -10,7 +10,7 @@ mod tree;
 mod undo;
 mod writing;
 
-use crate::symbols::{Names, Scope};
+use crate::symbols::{Interner, Scope};
 use crate::tree::Node;
 use crate::undo::History;
 use anyhow::Result;
@@ -106,7 +106,7 @@ fn print_filled(
 
 fn shadow_a_name(rt: &HostRuntime) -> Result<()> {
     let alloc = rt.alloc();
-    let mut names = Names::new(alloc);
+    let mut names = Interner::new(alloc);
     let mut outer = Scope::new(alloc);
     outer.bind(names.intern("x")?, 1)?;
     let name = names.intern("x")?;

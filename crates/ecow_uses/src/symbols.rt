@@ -11,11 +11,11 @@ use std::marker::Model;
 
 /// The names of a program. One that is interned again is given as it is known, and shares its bytes.
 #[derive(Drop)]
-pub struct Names {
+pub struct Interner {
     names: EcoVec<EcoString>,
 }
 
-impl Model for Names {
+impl Model for Interner {
     ghost use Rattle.std.specs.Prelude.{List};
     ghost use Rattle.ecow_values.specs.declared.plain.PlainText.{PlainText};
 
@@ -24,12 +24,12 @@ impl Model for Names {
     ghost view = { λ a. a.names };
 }
 
-impl Names {
+impl Interner {
     /// No name. Takes no memory.
     pub fn new(alloc: Global) -> Self
         ensures { result ≡ [] }
     {
-        Names {
+        Interner {
             names: EcoVec::new(alloc),
         }
     }

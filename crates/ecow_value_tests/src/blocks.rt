@@ -15,7 +15,7 @@ fn thousand(alloc: Global, tally: &Tally) -> Result<Block<Counting>, AllocError>
             block.grow(capacity)?;
         }
         if block.len() < block.capacity() {
-            block.push_within(tally.element()?);
+            block.push_within_capacity(tally.element()?);
         }
     }
     Ok(block)
@@ -52,7 +52,7 @@ fn moves_clone_nothing(rt: HostRuntime) -> Result<(), AllocError> {
     let elements = tally.elements(rt.alloc(), 10)?;
     let capacity = elements.len();
     let mut block = Block::with_capacity(rt.alloc(), capacity)?;
-    block.fill_within(elements);
+    block.fill_within_capacity(elements);
     let elements = block.take_vec()?;
     let moved = elements.len() == 10 && block.len() == 0;
     drop(elements);
@@ -62,7 +62,7 @@ fn moves_clone_nothing(rt: HostRuntime) -> Result<(), AllocError> {
 
 /// Whether clones of the elements go in; not where there is no room.
 fn appended(block: &mut Block<Counting>, elements: &[Counting]) -> bool {
-    elements.len() <= block.capacity() - block.len() && block.extend_within(elements).is_ok()
+    elements.len() <= block.capacity() - block.len() && block.extend_within_capacity(elements).is_ok()
 }
 
 /// Appends clones of so many elements, of which the clone with this number is refused, and then
@@ -97,7 +97,7 @@ fn elements_of_no_bytes_take_no_memory(rt: HostRuntime) -> Result<(), AllocError
     let mut block = Block::with_capacity(rt.alloc(), MAX_LEN)?;
     for _ in 0..1000 {
         if block.len() < block.capacity() {
-            block.push_within(());
+            block.push_within_capacity(());
         }
     }
     assert!(rt; block.as_slice().len() == 1000 && block.capacity() == MAX_LEN);

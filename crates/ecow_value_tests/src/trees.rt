@@ -36,11 +36,11 @@ struct Numbered {
 
 /// Variants of all these kinds.
 #[derive(Clone, Debug, Drop, Eq, Hash, Ord, PartialEq, PartialOrd)]
-enum Value {
+enum Datum {
     Number(u64),
     Text(EcoString),
-    List(EcoVec<Value>),
-    Pair(EcoVec<Value>, Option<EcoVec<Value>>),
+    List(EcoVec<Datum>),
+    Pair(EcoVec<Datum>, Option<EcoVec<Datum>>),
 }
 
 /// A label of the user's.
@@ -109,9 +109,9 @@ fn vectors_stand_in_vectors_and_pairs(rt: HostRuntime) -> Result<(), Fail> {
 }
 
 /// A list of one text.
-fn a_list(alloc: Global) -> Result<Value, EcoError> {
-    let text = Value::Text(EcoString::from_str(alloc, "a")?);
-    Ok(Value::List(one(alloc, text)?))
+fn a_list(alloc: Global) -> Result<Datum, EcoError> {
+    let text = Datum::Text(EcoString::from_str(alloc, "a")?);
+    Ok(Datum::List(one(alloc, text)?))
 }
 
 #[test]
@@ -119,7 +119,7 @@ fn variants_hold_vectors(rt: HostRuntime) -> Result<(), Fail> {
     let alloc = rt.alloc();
     let list = a_list(alloc)?;
     let second = Some(one(alloc, a_list(alloc)?)?);
-    let pair = Value::Pair(one(alloc, Value::Number(1))?, second);
+    let pair = Datum::Pair(one(alloc, Datum::Number(1))?, second);
     assert!(rt; has_equal_clone(&pair)? && pair > list);
     Ok(())
 }

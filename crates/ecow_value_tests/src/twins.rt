@@ -79,7 +79,7 @@ impl Twins {
 
     fn push(&mut self, value: i64) -> Result<(), AllocError> {
         if self.raw.len() < self.raw.capacity() {
-            self.raw.push_within(value);
+            self.raw.push_within_capacity(value);
             self.plain.push(value)?;
         }
         Ok(())
@@ -109,7 +109,7 @@ impl Twins {
 
     fn extend(&mut self, values: &[i64]) -> Result<(), AllocError> {
         if values.len() <= self.raw.capacity() - self.raw.len() {
-            self.raw.extend_within(values)?;
+            self.raw.extend_within_capacity(values)?;
             self.plain.extend_from_slice(values)?;
         }
         Ok(())
@@ -134,7 +134,7 @@ impl Twins {
         }
         let room = values.len().max(end - start);
         let replacement = Block::from_clones(self.alloc, values, room)?;
-        let removed = self.raw.splice_within(start, end, replacement);
+        let removed = self.raw.splice_within_capacity(start, end, replacement);
         let plain = taken(self.alloc, &mut self.plain, start, end)?;
         put(&mut self.plain, start, values)?;
         Ok(is_rest(removed, plain))
@@ -157,7 +157,7 @@ impl Twins {
         self.capacity = items.len().saturating_add(more);
         self.raw = Block::with_capacity(self.alloc, self.capacity)?;
         if items.len() <= self.raw.capacity() {
-            self.raw.fill_within(items);
+            self.raw.fill_within_capacity(items);
         }
         Ok(same)
     }

@@ -3,9 +3,9 @@ use Rattle.std.proofs.Common.{◌≡◌, ℕ, Bool, true, false, Result, Ok, Err
 use Rattle.ecow_model.specs.State.{State}
 use Rattle.ecow_model.specs.Names.{Names}
 use Rattle.ecow_model.specs.Run.{IsVecStep}
-use Rattle.ecow_model.specs.Uses.{Gives, used, use_is_free}
+use Rattle.ecow_model.specs.Uses.{Gives, carry_out, use_is_free}
 use Rattle.ecow_model.specs.Lists.{list_rules, vec_usage}
-use Rattle.ecow_model.specs.CountedRun.{counted_used, counted_is_free, CountedStep}
+use Rattle.ecow_model.specs.CountedRun.{counted_carry_out, counted_is_free, CountedStep}
 use Rattle.ecow_model.specs.declared.lists.VecCommand.{VecCommand}
 use Rattle.ecow_model.specs.declared.lists.VecCommand.TheVariants.{Push, Truncate, Clear, Extend}
 use Rattle.ecow_model.specs.declared.command.Outcome.{Outcome}
@@ -38,14 +38,14 @@ module _ {T S : Type 0} where
   lacked (Ok answer) free old accepted paid = inr (refl, refl, paid)
   lacked (Err refusal) free old accepted paid = cc
 
-vec_lacking : (old : State ℕ) (c : VecCommand ℕ) (new : State ℕ) → is_accepted (used list_rules unread old (vec_usage c)) ≡ true → IsVecStep old c (Refused Memory) new → (new ≡ old) × (use_is_free list_rules old (vec_usage c) ≡ false)
-vec_lacking old c new = lacking (used list_rules unread old (vec_usage c)) (use_is_free list_rules old (vec_usage c)) old new
+vec_lacking : (old : State ℕ) (c : VecCommand ℕ) (new : State ℕ) → is_accepted (carry_out list_rules unread old (vec_usage c)) ≡ true → IsVecStep old c (Refused Memory) new → (new ≡ old) × (use_is_free list_rules old (vec_usage c) ≡ false)
+vec_lacking old c new = lacking (carry_out list_rules unread old (vec_usage c)) (use_is_free list_rules old (vec_usage c)) old new
 
-counted_lacking : (old : Names ℕ) (c : VecCommand ℕ) (new : Names ℕ) → is_accepted (counted_used old (vec_usage c)) ≡ true → CountedStep old c (Refused Memory) new → (new ≡ old) × (counted_is_free old (vec_usage c) ≡ false)
-counted_lacking old c new = lacking (counted_used old (vec_usage c)) (counted_is_free old (vec_usage c)) old new
+counted_lacking : (old : Names ℕ) (c : VecCommand ℕ) (new : Names ℕ) → is_accepted (counted_carry_out old (vec_usage c)) ≡ true → CountedStep old c (Refused Memory) new → (new ≡ old) × (counted_is_free old (vec_usage c) ≡ false)
+counted_lacking old c new = lacking (counted_carry_out old (vec_usage c)) (counted_is_free old (vec_usage c)) old new
 
 pub a_push_may_lack_memory : IsVecStep one_list (Push 0 4) (Refused Memory) one_list
-a_push_may_lack_memory = lacked (used list_rules unread one_list (vec_usage (Push 0 4))) (use_is_free list_rules one_list (vec_usage (Push 0 4))) one_list (simp rules refl) (simp rules refl)
+a_push_may_lack_memory = lacked (carry_out list_rules unread one_list (vec_usage (Push 0 4))) (use_is_free list_rules one_list (vec_usage (Push 0 4))) one_list (simp rules refl) (simp rules refl)
 
 pub a_push_without_memory_changes_nothing : (new : State ℕ) → IsVecStep one_list (Push 0 4) (Refused Memory) new → new ≡ one_list
 a_push_without_memory_changes_nothing new step = (vec_lacking one_list (Push 0 4) new (simp rules refl) step).0
@@ -56,19 +56,19 @@ a_clear_never_lacks_memory new step =
     let paid = (vec_lacking one_list (Clear 0) new (simp rules refl) step).1 in cc
 
 pub a_push_into_a_full_block_may_lack_memory : CountedStep four_of_four (Push 0 5) (Refused Memory) four_of_four
-a_push_into_a_full_block_may_lack_memory = lacked (counted_used four_of_four (vec_usage (Push 0 5))) (counted_is_free four_of_four (vec_usage (Push 0 5))) four_of_four (simp table_rules refl) (simp table_rules refl)
+a_push_into_a_full_block_may_lack_memory = lacked (counted_carry_out four_of_four (vec_usage (Push 0 5))) (counted_is_free four_of_four (vec_usage (Push 0 5))) four_of_four (simp table_rules refl) (simp table_rules refl)
 
 pub a_push_into_a_full_block_then_changes_nothing : (new : Names ℕ) → CountedStep four_of_four (Push 0 5) (Refused Memory) new → new ≡ four_of_four
 a_push_into_a_full_block_then_changes_nothing new step = (counted_lacking four_of_four (Push 0 5) new (simp table_rules refl) step).0
 
 pub a_push_by_a_shared_name_may_lack_memory : CountedStep shared_block (Push 1 4) (Refused Memory) shared_block
-a_push_by_a_shared_name_may_lack_memory = lacked (counted_used shared_block (vec_usage (Push 1 4))) (counted_is_free shared_block (vec_usage (Push 1 4))) shared_block (simp table_rules refl) (simp table_rules refl)
+a_push_by_a_shared_name_may_lack_memory = lacked (counted_carry_out shared_block (vec_usage (Push 1 4))) (counted_is_free shared_block (vec_usage (Push 1 4))) shared_block (simp table_rules refl) (simp table_rules refl)
 
 pub an_extend_past_the_capacity_may_lack_memory : CountedStep three_of_four (Extend 0 (4 ∷ 5 ∷ 6 ∷ [])) (Refused Memory) three_of_four
-an_extend_past_the_capacity_may_lack_memory = lacked (counted_used three_of_four (vec_usage (Extend 0 (4 ∷ 5 ∷ 6 ∷ [])))) (counted_is_free three_of_four (vec_usage (Extend 0 (4 ∷ 5 ∷ 6 ∷ [])))) three_of_four (simp table_rules refl) (simp table_rules refl)
+an_extend_past_the_capacity_may_lack_memory = lacked (counted_carry_out three_of_four (vec_usage (Extend 0 (4 ∷ 5 ∷ 6 ∷ [])))) (counted_is_free three_of_four (vec_usage (Extend 0 (4 ∷ 5 ∷ 6 ∷ [])))) three_of_four (simp table_rules refl) (simp table_rules refl)
 
 pub a_truncate_by_a_shared_name_may_lack_memory : CountedStep shared_block (Truncate 1 2) (Refused Memory) shared_block
-a_truncate_by_a_shared_name_may_lack_memory = lacked (counted_used shared_block (vec_usage (Truncate 1 2))) (counted_is_free shared_block (vec_usage (Truncate 1 2))) shared_block (simp table_rules refl) (simp table_rules refl)
+a_truncate_by_a_shared_name_may_lack_memory = lacked (counted_carry_out shared_block (vec_usage (Truncate 1 2))) (counted_is_free shared_block (vec_usage (Truncate 1 2))) shared_block (simp table_rules refl) (simp table_rules refl)
 
 pub a_push_within_the_capacity_never_lacks_memory : (new : Names ℕ) → ¬ (CountedStep three_of_four (Push 0 4) (Refused Memory) new)
 a_push_within_the_capacity_never_lacks_memory new step =

@@ -4,12 +4,12 @@ use Rattle.std.specs.Option.{unwrap_or}
 use Rattle.std.specs.Ordering.{nat_cmp, eq_by_cmp}
 use Rattle.std.specs.FinMap as finite
 use Rattle.std.specs.FinMap.Entries.{find, put, where_key}
-use Rattle.ecow_model.specs.Refusing.{◌>>=◌, Change, found}
-use Rattle.ecow_model.specs.Lists.{ListUsage, list_made, list_edited, list_asked, vec_usage}
-use Rattle.ecow_model.specs.Costs.{capacity_made, unshares, capacity_after, copied_by, moved_by, input_made, input_edited}
-use Rattle.ecow_model.specs.CountedRun.{reading_of, nothing, change, counted_used, copied_in, moved_in, eager_in, input_in}
+use Rattle.ecow_model.specs.Refusing.{◌>>=◌, Effect, ok_or}
+use Rattle.ecow_model.specs.Lists.{ListUsage, make_list, edit_list, ask_list, vec_usage}
+use Rattle.ecow_model.specs.Costs.{make_capacity, unshares, capacity_after, copied_by, moved_by, make_input, edit_input}
+use Rattle.ecow_model.specs.CountedRun.{observation_of, nothing, change, counted_carry_out, copied_in, moved_in, eager_in, input_in}
 use Rattle.ecow_model.specs.Names.{Names, Held, is_shared, leave, enter, forget, settle, join, debt_of, strain_of}
-use Rattle.ecow_model.specs.declared.usage.Usage.TheVariants.{Make, Derive, Drop, Change as Edit, Ask}
+use Rattle.ecow_model.specs.declared.usage.Usage.TheVariants.{Make, Derive, Drop, Edit, Ask}
 use Rattle.ecow_model.specs.declared.lists.ListEdit.{ListEdit}
 use Rattle.ecow_model.specs.declared.lists.ListAsk.{ListAsk}
 use Rattle.ecow_model.specs.declared.lists.VecCommand.{VecCommand}
@@ -54,7 +54,7 @@ entries-change edit x h xs names =
 
 -- a command, on the entries of the names
 abbrev there_in : Option (Held ℕ) → Result (Held ℕ) Refusal
-there_in held = found held NoName
+there_in held = ok_or held NoName
 
 abbrev free_in : Option (Held ℕ) → Result (Unit {0}) Refusal
 free_in held = if is_some held then Err Taken else Ok tt
@@ -65,8 +65,8 @@ Answer = Result (Outcome ℕ × Entries) Refusal
 abbrev used_in : Entries → ListUsage ℕ → Answer
 used_in es (Make x how) = do
   _ ← free_in (find nat_cmp x es)
-  xs ← list_made how
-  Ok (Done, settle_in x xs (capacity_made how) es)
+  xs ← make_list how
+  Ok (Done, settle_in x xs (make_capacity how) es)
 used_in es (Derive x y how) = do
   h ← there_in (find nat_cmp x es)
   _ ← free_in (find nat_cmp y es)
@@ -76,11 +76,11 @@ used_in es (Drop x) = do
   Ok (Done, forget_in x es)
 used_in es (Edit x edit) = do
   h ← there_in (find nat_cmp x es)
-  after ← list_edited edit h.items
+  after ← edit_list edit h.items
   Ok (after.0, change_in edit x h after.1 es)
 used_in es (Ask x question) = do
   h ← there_in (find nat_cmp x es)
-  answer ← list_asked (reading_of h) question h.items
+  answer ← ask_list (observation_of h) question h.items
   Ok (answer, es)
 
 abbrev given : Result (Outcome ℕ × Names ℕ) Refusal → Answer
@@ -88,7 +88,7 @@ given (Ok answer) = Ok (answer.0, finite.entries answer.1)
 given (Err refusal) = Err refusal
 
 -- what follows a change of a list
-changed : (r : Change ℕ (List ℕ)) (f : List ℕ → Names ℕ) (g : List ℕ → Entries) → ((xs : List ℕ) → finite.entries (f xs) ≡ g xs) → given (r >>= (λ after. Ok (after.0, f after.1))) ≡ (r >>= (λ after. Ok (after.0, g after.1)))
+changed : (r : Effect ℕ (List ℕ)) (f : List ℕ → Names ℕ) (g : List ℕ → Entries) → ((xs : List ℕ) → finite.entries (f xs) ≡ g xs) → given (r >>= (λ after. Ok (after.0, f after.1))) ≡ (r >>= (λ after. Ok (after.0, g after.1)))
 changed (Ok answer) f g same = ap (λ es. Ok (answer.0, es)) (same answer.1)
 changed (Err refusal) f g same = refl
 
@@ -109,24 +109,24 @@ dropped : (x : ℕ) (names : Names ℕ) (o : Option (Held ℕ)) → given (there
 dropped x names None = refl
 dropped x names (Some h) = ap (λ es. Ok (Done, es)) (entries-forget x names)
 
-written : (edit : ListEdit ℕ) (x : ℕ) (names : Names ℕ) (o : Option (Held ℕ)) → given (there_in o >>= (λ h. list_edited edit h.items >>= (λ after. Ok (after.0, change edit x h after.1 names)))) ≡ (there_in o >>= (λ h. list_edited edit h.items >>= (λ after. Ok (after.0, change_in edit x h after.1 (finite.entries names)))))
+written : (edit : ListEdit ℕ) (x : ℕ) (names : Names ℕ) (o : Option (Held ℕ)) → given (there_in o >>= (λ h. edit_list edit h.items >>= (λ after. Ok (after.0, change edit x h after.1 names)))) ≡ (there_in o >>= (λ h. edit_list edit h.items >>= (λ after. Ok (after.0, change_in edit x h after.1 (finite.entries names)))))
 written edit x names None = refl
-written edit x names (Some h) = changed (list_edited edit h.items) (λ xs. change edit x h xs names) (λ xs. change_in edit x h xs (finite.entries names)) (λ xs. entries-change edit x h xs names)
+written edit x names (Some h) = changed (edit_list edit h.items) (λ xs. change edit x h xs names) (λ xs. change_in edit x h xs (finite.entries names)) (λ xs. entries-change edit x h xs names)
 
 answered : (r : Result (Outcome ℕ) Refusal) (names : Names ℕ) → given (r >>= (λ answer. Ok (answer, names))) ≡ (r >>= (λ answer. Ok (answer, finite.entries names)))
 answered (Ok answer) names = refl
 answered (Err refusal) names = refl
 
-asked : (question : ListAsk) (names : Names ℕ) (o : Option (Held ℕ)) → given (there_in o >>= (λ h. list_asked (reading_of h) question h.items >>= (λ answer. Ok (answer, names)))) ≡ (there_in o >>= (λ h. list_asked (reading_of h) question h.items >>= (λ answer. Ok (answer, finite.entries names))))
+asked : (question : ListAsk) (names : Names ℕ) (o : Option (Held ℕ)) → given (there_in o >>= (λ h. ask_list (observation_of h) question h.items >>= (λ answer. Ok (answer, names)))) ≡ (there_in o >>= (λ h. ask_list (observation_of h) question h.items >>= (λ answer. Ok (answer, finite.entries names))))
 asked question names None = refl
-asked question names (Some h) = answered (list_asked (reading_of h) question h.items) names
+asked question names (Some h) = answered (ask_list (observation_of h) question h.items) names
 
-used-entries : (usage : ListUsage ℕ) (names : Names ℕ) → given (counted_used names usage) ≡ used_in (finite.entries names) usage
-used-entries (Make x how) names = rw (get-entries names x) (made (find nat_cmp x (finite.entries names)) (list_made how) (λ xs. settle x xs (capacity_made how) names) (λ xs. settle_in x xs (capacity_made how) (finite.entries names)) (λ xs. entries-settle x xs (capacity_made how) names))
-used-entries (Derive x y how) names = rw (get-entries names x, get-entries names y) (joined x y names (find nat_cmp x (finite.entries names)) (find nat_cmp y (finite.entries names)))
-used-entries (Drop x) names = rw (get-entries names x) (dropped x names (find nat_cmp x (finite.entries names)))
-used-entries (Edit x edit) names = rw (get-entries names x) (written edit x names (find nat_cmp x (finite.entries names)))
-used-entries (Ask x question) names = rw (get-entries names x) (asked question names (find nat_cmp x (finite.entries names)))
+carry_out-entries : (usage : ListUsage ℕ) (names : Names ℕ) → given (counted_carry_out names usage) ≡ used_in (finite.entries names) usage
+carry_out-entries (Make x how) names = rw (get-entries names x) (made (find nat_cmp x (finite.entries names)) (make_list how) (λ xs. settle x xs (make_capacity how) names) (λ xs. settle_in x xs (make_capacity how) (finite.entries names)) (λ xs. entries-settle x xs (make_capacity how) names))
+carry_out-entries (Derive x y how) names = rw (get-entries names x, get-entries names y) (joined x y names (find nat_cmp x (finite.entries names)) (find nat_cmp y (finite.entries names)))
+carry_out-entries (Drop x) names = rw (get-entries names x) (dropped x names (find nat_cmp x (finite.entries names)))
+carry_out-entries (Edit x edit) names = rw (get-entries names x) (written edit x names (find nat_cmp x (finite.entries names)))
+carry_out-entries (Ask x question) names = rw (get-entries names x) (asked question names (find nat_cmp x (finite.entries names)))
 
 -- the sums, over entries
 abbrev held_in : Entries → ℕ → Held ℕ
@@ -134,17 +134,17 @@ held_in es x = unwrap_or (find nat_cmp x es) nothing
 
 -- what a command copies, what copying at once would, and what it moves and brings
 abbrev cost_in : ListUsage ℕ → Entries → (ℕ × ℕ) × (ℕ × ℕ)
-cost_in (Make x how) es = ((0, 0), (0, input_made how))
+cost_in (Make x how) es = ((0, 0), (0, make_input how))
 cost_in (Derive x y how) es = ((0, length (held_in es x).items), (0, 0))
 cost_in (Drop x) es = ((0, 0), (0, 0))
-cost_in (Edit x edit) es = ((copied_by edit (held_in es x), 0), (moved_by edit (held_in es x), input_edited edit))
+cost_in (Edit x edit) es = ((copied_by edit (held_in es x), 0), (moved_by edit (held_in es x), edit_input edit))
 cost_in (Ask x question) es = ((0, 0), (0, 0))
 
 cost-entries : (usage : ListUsage ℕ) (names : Names ℕ) → ((copied_in usage names, eager_in usage names), (moved_in usage names, input_in usage names)) ≡ cost_in usage (finite.entries names)
 cost-entries (Make x how) names = refl
 cost-entries (Derive x y how) names = ap (λ o. ((0, length (unwrap_or o nothing).items), (0, 0))) (get-entries names x)
 cost-entries (Drop x) names = refl
-cost-entries (Edit x edit) names = ap (λ o. ((copied_by edit (unwrap_or o nothing), 0), (moved_by edit (unwrap_or o nothing), input_edited edit))) (get-entries names x)
+cost-entries (Edit x edit) names = ap (λ o. ((copied_by edit (unwrap_or o nothing), 0), (moved_by edit (unwrap_or o nothing), edit_input edit))) (get-entries names x)
 cost-entries (Ask x question) names = refl
 
 abbrev tallied_in : Answer → Entries → (Entries → ℕ → Tally) → Tally
@@ -165,10 +165,10 @@ tally-entries (c ∷ cs) copying clones moves items names =
     let usage = vec_usage c in
     let es = finite.entries names in
     let rest_in : Entries → ℕ → Tally = λ new n. tally_in cs (copying + n * (cost_in usage es).0.0) (clones + n * (cost_in usage es).0.1) (moves + n * (cost_in usage es).1.0) (items + n * (cost_in usage es).1.1) new in
-    tallied-entries (counted_used names usage) names _ rest_in (λ new n.
+    tallied-entries (counted_carry_out names usage) names _ rest_in (λ new n.
     ap (λ (k : (ℕ × ℕ) × (ℕ × ℕ)). tally_from cs (copying + n * k.0.0) (clones + n * k.0.1) (moves + n * k.1.0) (items + n * k.1.1) new) (cost-entries usage names)
     ∙ tally-entries cs (copying + n * (cost_in usage es).0.0) (clones + n * (cost_in usage es).0.1) (moves + n * (cost_in usage es).1.0) (items + n * (cost_in usage es).1.1) new)
-    ∙ ap (λ g. tallied_in g es rest_in) (used-entries usage names)
+    ∙ ap (λ g. tallied_in g es rest_in) (carry_out-entries usage names)
 
 pub tally-computed : (cs : List (VecCommand ℕ)) → tally cs ≡ tally_in cs 0 0 0 0 []
 tally-computed cs = tally-entries cs 0 0 0 0 finite.empty ∙ ap (tally_in cs 0 0 0 0) entries-empty

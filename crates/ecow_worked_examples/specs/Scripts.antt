@@ -2,7 +2,7 @@
 use Rattle.std.specs.Prelude.{ℕ, ℤ, false, List, [], ◌∷◌}
 use Rattle.std.specs.FinMap.{empty}
 use Rattle.std.specs.declared.ops.Bound.{Bound}
-use Rattle.ecow_model.specs.Uses.{Reading}
+use Rattle.ecow_model.specs.Uses.{Observation}
 use Rattle.ecow_model.specs.Run.{outcomes}
 use Rattle.ecow_model.specs.declared.command.Command.{Command}
 use Rattle.ecow_model.specs.declared.command.Command.TheVariants.{Vec}
@@ -10,7 +10,7 @@ use Rattle.ecow_model.specs.declared.lists.VecCommand.TheVariants as vec
 use Rattle.ecow_model.specs.declared.command.Outcome.{Outcome}
 
 -- what Capacity and Unique read in scripts that don't ask for them
-abbrev pub unread : Reading
+abbrev pub unread : Observation
 unread = record { capacity = 0; unique = false }
 
 -- the outcomes of a script

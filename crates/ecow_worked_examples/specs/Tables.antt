@@ -4,7 +4,7 @@ use Rattle.std.specs.Option.{option_map}
 use Rattle.std.specs.FinMap as finite
 use Rattle.ecow_model.specs.Names.{Names, owners_of, blocks, debt, strain}
 use Rattle.ecow_model.specs.Lists.{vec_usage}
-use Rattle.ecow_model.specs.CountedRun.{counted_used, names_given, copied_in, moved_in, eager_in, input_in}
+use Rattle.ecow_model.specs.CountedRun.{counted_carry_out, names_or, copied_in, moved_in, eager_in, input_in}
 use Rattle.ecow_model.specs.Costs.{capacity_after, moves}
 use Rattle.ecow_model.specs.declared.lists.ListEdit.TheVariants.{Push}
 use Rattle.ecow_model.specs.declared.lists.VecCommand.{VecCommand}
@@ -38,7 +38,7 @@ played (Err refusal) c outcomes copies moves names rest = rest (outcomes ++ Refu
 
 abbrev pub play : List ℕ → List (VecCommand ℕ) → List (Outcome ℕ) → ℕ → ℕ → Names ℕ → Summary
 play asked [] outcomes copies moves names = done asked outcomes copies moves names
-play asked (c ∷ cs) outcomes copies moves names = played (counted_used names (vec_usage c)) c outcomes copies moves names (play asked cs)
+play asked (c ∷ cs) outcomes copies moves names = played (counted_carry_out names (vec_usage c)) c outcomes copies moves names (play asked cs)
 
 abbrev pub table : List ℕ → List (VecCommand ℕ) → Summary
 table asked cs = play asked cs [] 0 0 finite.empty
@@ -61,7 +61,7 @@ tallied (Err refusal) names rest = rest names 0
 
 abbrev pub tally_from : List (VecCommand ℕ) → ℕ → ℕ → ℕ → ℕ → Names ℕ → Tally
 tally_from [] copies clones moves items names = record { copied = copies; eager = clones; debt = debt names; moved = moves; input = items; strain = strain names }
-tally_from (c ∷ cs) copies clones moves items names = tallied (counted_used names (vec_usage c)) names (λ new n. tally_from cs (copies + n * copied_in (vec_usage c) names) (clones + n * eager_in (vec_usage c) names) (moves + n * moved_in (vec_usage c) names) (items + n * input_in (vec_usage c) names) new)
+tally_from (c ∷ cs) copies clones moves items names = tallied (counted_carry_out names (vec_usage c)) names (λ new n. tally_from cs (copies + n * copied_in (vec_usage c) names) (clones + n * eager_in (vec_usage c) names) (moves + n * moved_in (vec_usage c) names) (items + n * input_in (vec_usage c) names) new)
 
 abbrev pub tally : List (VecCommand ℕ) → Tally
 tally cs = tally_from cs 0 0 0 0 finite.empty
@@ -72,7 +72,7 @@ sums copies clones owed moves items strained = record { copied = copies; eager =
 -- the names that a script leaves
 abbrev pub left_by_from : Names ℕ → List (VecCommand ℕ) → Names ℕ
 left_by_from names [] = names
-left_by_from names (c ∷ cs) = left_by_from (names_given (counted_used names (vec_usage c)) names) cs
+left_by_from names (c ∷ cs) = left_by_from (names_or (counted_carry_out names (vec_usage c)) names) cs
 
 abbrev pub left_by : List (VecCommand ℕ) → Names ℕ
 left_by cs = left_by_from finite.empty cs

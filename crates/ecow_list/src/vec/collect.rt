@@ -39,7 +39,7 @@ pub(super) fn collect<T: Drop, I: Iterator<Item = T>>(
             return Err(EcoError::Capacity);
         }
         items.grow(room_for(len, 1, capacity.max(ample)))?;
-        items.push_within(item);
+        items.push_within_capacity(item);
     }
     Ok(items)
 }

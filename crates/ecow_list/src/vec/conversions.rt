@@ -46,7 +46,7 @@ impl<T: Drop> EcoVec<T> {
             && let Ok(mut shared) = Rc::new(alloc, block)
             && let Some(block) = Rc::get_mut(&mut shared)
         {
-            block.fill_within(elements);
+            block.fill_within_capacity(elements);
             return Ok(EcoVec {
                 block: Some(shared),
                 alloc,
@@ -168,7 +168,7 @@ impl<T: Clone> EcoVec<T> {
         }
         let mut block = Block::with_capacity(alloc, n)?;
         while block.len() < n {
-            block.push_within(value.clone()?);
+            block.push_within_capacity(value.clone()?);
         }
         Ok(EcoVec {
             block: Some(Rc::new(alloc, block)?),

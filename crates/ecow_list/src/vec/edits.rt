@@ -85,7 +85,7 @@ impl<T: Clone> EcoVec<T> {
             ↔ (MAX_LEN ≤ length self.old) }
     {
         self.edit(Clones, Room::Shared, 1, value, |block, value| {
-            Ok(block.insert_within(index, value))
+            Ok(block.insert_within_capacity(index, value))
         })
     }
 
@@ -189,7 +189,7 @@ impl<T: Clone> EcoVec<T> {
             return Ok(());
         }
         Ok(self.edit(Clones, Room::Shared, added, (), |block, ()| {
-            block.extend_within(elements).map_err(|_| ())
+            block.extend_within_capacity(elements).map_err(|_| ())
         })?)
     }
 

@@ -29,7 +29,7 @@ impl<T: Clone + Copy> EcoVec<T> {
     {
         let added = elements.len();
         Ok(self.edit(Copies, Room::Shared, added, (), |block, ()| {
-            Ok(insert_within(block, index, elements))
+            Ok(insert_copies(block, index, elements))
         })?)
     }
 }

@@ -22,7 +22,7 @@ impl<T: Clone> EcoVec<T> {
             ↔ (MAX_LEN ≤ length self.old) }
     {
         self.edit(Clones, Room::Shared, 1, value, |block, value| {
-            Ok(block.push_within(value))
+            Ok(block.push_within_capacity(value))
         })
     }
 }

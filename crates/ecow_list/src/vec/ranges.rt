@@ -152,7 +152,7 @@ impl<T: Clone> EcoVec<T> {
     {
         let more = replacement.len().saturating_sub(end - start);
         Ok(self.edit(Clones, Room::Fresh, more, (), |block, ()| {
-            Ok(block.splice_within(start, end, replacement))
+            Ok(block.splice_within_capacity(start, end, replacement))
         })?)
     }
 }

@@ -111,12 +111,12 @@ fn byte_in(word: &[u8]) -> Option<u8> {
 }
 
 /// What stands between brackets.
-fn bracketed(word: &[u8]) -> Option<&[u8]> {
+fn strip_brackets(word: &[u8]) -> Option<&[u8]> {
     word.strip_prefix(b"[")?.strip_suffix(b"]")
 }
 
 fn integers_in(alloc: Global, word: &[u8]) -> Result<Items<i64>, Misfit> {
-    let Some(inner) = bracketed(word) else {
+    let Some(inner) = strip_brackets(word) else {
         return Err(Misfit::Expected(Reason::List));
     };
     let mut items = Vec::new(alloc);
@@ -133,7 +133,7 @@ fn integers_in(alloc: Global, word: &[u8]) -> Result<Items<i64>, Misfit> {
 }
 
 fn bytes_in(alloc: Global, word: &[u8]) -> Result<Items<u8>, Misfit> {
-    let Some(inner) = bracketed(word) else {
+    let Some(inner) = strip_brackets(word) else {
         return Err(Misfit::Expected(Reason::List));
     };
     let mut bytes = Vec::new(alloc);
@@ -150,7 +150,7 @@ fn bytes_in(alloc: Global, word: &[u8]) -> Result<Items<u8>, Misfit> {
 }
 
 fn marks_in(alloc: Global, word: &[u8]) -> Result<Items<bool>, Misfit> {
-    let Some(inner) = bracketed(word) else {
+    let Some(inner) = strip_brackets(word) else {
         return Err(Misfit::Expected(Reason::Marks));
     };
     let mut marks = Vec::new(alloc);

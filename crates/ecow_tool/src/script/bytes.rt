@@ -33,12 +33,12 @@ impl<'a> Reader<'a> {
                 bytes: self.bytes()?,
             }),
             b"drop" => Ok(BytesCommand::Drop { name: self.name()? }),
-            _ => self.bytes_derived(word),
+            _ => self.derive_bytes(word),
         }
     }
 
     /// A command that makes bytes of others; else one that changes or asks them.
-    fn bytes_derived(&mut self, word: &[u8]) -> Result<BytesCommand, Misfit> {
+    fn derive_bytes(&mut self, word: &[u8]) -> Result<BytesCommand, Misfit> {
         match word {
             b"from_text" => Ok(BytesCommand::FromText {
                 from: self.name()?,

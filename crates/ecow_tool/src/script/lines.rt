@@ -1,5 +1,5 @@
 //! The lines of a script.
-use crate::script::words::parted;
+use crate::script::words::split_at_or_end;
 use memchr::memchr;
 
 /// The lines that are still to come.
@@ -20,7 +20,7 @@ impl<'a> Lines<'a> {
             return None;
         }
         let feed = memchr(b'\n', self.rest.as_bytes());
-        let (line, rest) = parted(self.rest, feed.map(|at| at.saturating_add(1)));
+        let (line, rest) = split_at_or_end(self.rest, feed.map(|at| at.saturating_add(1)));
         self.rest = rest;
         Some(without_end(line))
     }
@@ -32,5 +32,5 @@ fn without_end(line: &str) -> &str {
         [kept @ .., b'\r', b'\n'] | [kept @ .., b'\n'] | [kept @ .., b'\r'] => kept,
         kept => kept,
     };
-    parted(line, Some(kept.len())).0
+    split_at_or_end(line, Some(kept.len())).0
 }

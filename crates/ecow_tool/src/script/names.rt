@@ -12,16 +12,16 @@ const HASHED: usize = 1024;
 
 /// The names that were read so far, numbered from 0 in the order in which they came.
 #[derive(Drop)]
-pub(super) struct Names<'a> {
+pub(super) struct Interner<'a> {
     short: HashMap<u64, Name>,
     long: HashMap<&'a [u8], Name>,
     further: BTreeMap<&'a [u8], Name>,
 }
 
-impl<'a> Names<'a> {
+impl<'a> Interner<'a> {
     /// No names. Takes no memory.
     pub(super) fn new(alloc: Global) -> Self {
-        Names {
+        Interner {
             short: HashMap::new(alloc),
             long: HashMap::new(alloc),
             further: BTreeMap::new(alloc),
@@ -29,13 +29,13 @@ impl<'a> Names<'a> {
     }
 
     /// How many names are hashed.
-    fn hashed(&self) -> usize {
+    fn hash_len(&self) -> usize {
         self.short.len().saturating_add(self.long.len())
     }
 
     /// The number of a name that was read before.
     pub(super) fn get(&self, word: &'a [u8]) -> Option<Name> {
-        let hashed = match packed(word) {
+        let hashed = match pack(word) {
             Some(key) => self.short.get(&key).copied(),
             None => self.long.get(&word).copied(),
         };
@@ -47,11 +47,11 @@ impl<'a> Names<'a> {
 
     /// Gives a new name the next number.
     pub(super) fn add(&mut self, word: &'a [u8]) -> Result<Name, AllocError> {
-        let hashed = self.hashed();
+        let hashed = self.hash_len();
         let Ok(number) = Name::try_from(hashed.saturating_add(self.further.len())) else {
             return Err(AllocError);
         };
-        match packed(word) {
+        match pack(word) {
             _ if hashed >= HASHED => self.further.insert(word, number)?,
             Some(key) => self.short.insert(key, number)?,
             None => self.long.insert(word, number)?,
@@ -62,7 +62,7 @@ impl<'a> Names<'a> {
 
 /// A short word as a number, which is found sooner than its bytes: the length, and then the bytes.
 /// So different words have different numbers.
-fn packed(word: &[u8]) -> Option<u64> {
+fn pack(word: &[u8]) -> Option<u64> {
     if word.len() > SHORT {
         return None;
     }

@@ -10,17 +10,17 @@ const DIGITS_LIMIT: usize = 6;
 impl<'a> Reader<'a> {
     /// TEXT: characters and escapes in double quotes, which a blank or the line's end follows.
     pub(super) fn text(&mut self) -> Result<Text, Misfit> {
-        Ok(Text::new(self.quoted()?))
+        Ok(Text::new(self.quotation()?))
     }
 
     /// CHAR: a quoted text of one character.
     pub(super) fn character(&mut self) -> Result<char, Misfit> {
-        let text = self.quoted()?;
+        let text = self.quotation()?;
         only_char(text.as_str()).ok_or(Misfit::Expected(Reason::Text))
     }
 
     /// The text that the next argument spells.
-    fn quoted(&mut self) -> Result<String, Misfit> {
+    fn quotation(&mut self) -> Result<String, Misfit> {
         let line = self.next_text();
         if line.is_empty() {
             return Err(Misfit::Expected(Reason::Arguments));
@@ -47,7 +47,7 @@ fn read_quoted<'a>(quoted: &'a str, text: &mut String) -> Result<&'a str, Misfit
         if let Some(behind) = special.strip_prefix('"') {
             return Ok(behind);
         }
-        let Some((c, behind)) = escaped(special) else {
+        let Some((c, behind)) = split_escape(special) else {
             return Err(Misfit::Expected(Reason::Text));
         };
         text.push(c)?;
@@ -66,7 +66,7 @@ fn plain_part(text: &str) -> Option<(&str, &str)> {
 }
 
 /// The character that an escape at the start of a text stands for, and what stands behind it.
-fn escaped(text: &str) -> Option<(char, &str)> {
+fn split_escape(text: &str) -> Option<(char, &str)> {
     let (_, escape) = text.split_at_checked(1)?;
     if let Some(braced) = escape.strip_prefix("u{") {
         let (digits, behind) = braced.split_once('}')?;

@@ -33,12 +33,12 @@ impl<'a> Reader<'a> {
                 c: self.character()?,
             }),
             b"drop" => Ok(TextCommand::Drop { name: self.name()? }),
-            _ => self.text_derived(word),
+            _ => self.derive_text(word),
         }
     }
 
     /// A command that makes a text of another; else one that changes or asks it.
-    fn text_derived(&mut self, word: &[u8]) -> Result<TextCommand, Misfit> {
+    fn derive_text(&mut self, word: &[u8]) -> Result<TextCommand, Misfit> {
         match word {
             b"from_bytes" => Ok(TextCommand::FromBytes {
                 from: self.name()?,

@@ -41,7 +41,7 @@ impl From<AllocError> for Misfit {
 pub(crate) struct Reader<'a> {
     pub(super) alloc: Global,
     rest: &'a str,
-    pub(super) names: Names<'a>,
+    pub(super) names: Interner<'a>,
 }
 
 impl<'a> Reader<'a> {
@@ -50,7 +50,7 @@ impl<'a> Reader<'a> {
         Reader {
             alloc,
             rest: "",
-            names: Names::new(alloc),
+            names: Interner::new(alloc),
         }
     }
 
@@ -65,7 +65,7 @@ impl<'a> Reader<'a> {
         if text.is_empty() {
             return None;
         }
-        let (word, rest) = parted(
+        let (word, rest) = split_at_or_end(
             text,
             text.as_bytes().iter().position(|byte| is_blank(*byte)),
         );
@@ -80,7 +80,7 @@ impl<'a> Reader<'a> {
             .as_bytes()
             .iter()
             .position(|byte| !is_blank(*byte));
-        let (_, text) = parted(self.rest, words);
+        let (_, text) = split_at_or_end(self.rest, words);
         self.rest = text;
         text
     }
@@ -101,7 +101,7 @@ impl<'a> Reader<'a> {
 }
 
 /// The text before a byte index, and that from it on: all before it where there is none.
-pub(super) fn parted(text: &str, index: Option<usize>) -> (&str, &str) {
+pub(super) fn split_at_or_end(text: &str, index: Option<usize>) -> (&str, &str) {
     match index {
         Some(index) => text.split_at_checked(index).unwrap_or((text, "")),
         None => (text, ""),

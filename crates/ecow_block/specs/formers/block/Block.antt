@@ -138,7 +138,7 @@ module _ (R S : RattleType) (h : R.Denot → S.Denot) where
           λ n. n,
           (
             λ n. n,
-            (room.mapped h, ((deed.the_former this Global).map R.Denot S.Denot h, (λ n. n, tt))),
+            (room.map_room h, ((deed.the_former this Global).map R.Denot S.Denot h, (λ n. n, tt))),
           ),
         ),
       ) _

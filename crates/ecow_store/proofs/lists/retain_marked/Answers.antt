@@ -1,8 +1,8 @@
 use Rattle.std.proofs.Common.{rules, refl}
 use Rattle.std.proofs.lemmas.Result.{IfOk-weaker}
 use Rattle.ecow_model.proofs.Marks.{retained_by_marks}
-use Rattle.ecow_store.specs.contracts.lists.fn.retain_marked.retain as closure
-use Rattle.ecow_store.proofs.lists.retain_marked.Goals as goal
+use Rattle.ecow_store.specs.contracts.lists.fn.retain_by_marks.retain as closure
+use Rattle.ecow_store.proofs.lists.retain_by_marks.Goals as goal
 
 pub returns-clause-ok : goal.returns-clause-ok
 returns-clause-ok g c = λ clones. IfOk-weaker c.retain.result _ _

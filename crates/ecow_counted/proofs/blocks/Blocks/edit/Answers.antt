@@ -6,7 +6,7 @@ use Rattle.ecow_base.specs.Clones.{ClonesAreEqual}
 use Rattle.ecow_model.specs.Costs.{unshares, copies, capacity_after, held_is_free}
 use Rattle.ecow_model.specs.CountedRun.{held_at}
 use Rattle.ecow_model.specs.Names.{is_shared}
-use Rattle.ecow_model.specs.declared.usage.Usage.TheVariants.{Change as Edit}
+use Rattle.ecow_model.specs.declared.usage.Usage.TheVariants.{Edit}
 use Rattle.ecow_counted.specs.Edits.{asked_length, staying, spare_room, taken_out, takes_spare}
 use Rattle.ecow_counted.proofs.Editing.{asks_within, may_be_copied, taken_same, free_keeps, spare_not_free}
 use Rattle.ecow_counted.proofs.Carrying.{edit_memory, edit_done, same_carried, found_size, found_fits, refused_is}

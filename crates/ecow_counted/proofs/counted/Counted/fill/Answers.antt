@@ -8,7 +8,7 @@ use Rattle.ecow_model.specs.declared.command.Outcome.TheVariants.{Refused}
 use Rattle.ecow_model.specs.declared.command.Refusal.TheVariants.{Taken}
 use Rattle.ecow_model.specs.declared.lists.VecCommand.TheVariants.{New, Push}
 use Rattle.ecow_counted.specs.Filling.{IsRunOf, filling, accepted}
-use Rattle.ecow_counted.specs.Keeping.{Keeping}
+use Rattle.ecow_counted.specs.State.{CountedState}
 use Rattle.ecow_counted.proofs.Filling.{next_of, accepted_more, filling_more, runs_one, runs_more, begins, pushes, moves_at_most, not_refused_by, is_taken, refusal_in}
 use Rattle.ecow_counted.proofs.counted.Counted.fill.Goals as goal
 
@@ -54,7 +54,7 @@ returns-in-Refused-step-clause-moves g c =
     let so_far = c.loop-value.invariant in
     let is = c.in-Refused-step.ensures in
     let next = next_of c.loop-value.accepted c.args.items.items c.in-Some.value _ (sym so_far.left ∙ c.in-Some.ensures.items) in
-    λ clones. subst (λ (k : Keeping g.row.T.Denot). k.moved ≤ c.args.self.now.moved + 2 * c.loop-value.accepted) (sym is.refused) (moves_at_most c.args.self.now.moved c.args.name c.loop-value.accepted c.loop-value.self (so_far.moves clones))
+    λ clones. subst (λ (k : CountedState g.row.T.Denot). k.moved ≤ c.args.self.now.moved + 2 * c.loop-value.accepted) (sym is.refused) (moves_at_most c.args.self.now.moved c.args.name c.loop-value.accepted c.loop-value.self (so_far.moves clones))
 
 pub loop-value-preserved : goal.loop-value-preserved
 loop-value-preserved g c =

@@ -4,7 +4,7 @@ use Rattle.std.proofs.lemmas.List.{nil_from_length}
 use Rattle.ecow_model.specs.CountedRun.{CountedStep, CountedVerdict, saturating, copied_in, moved_in, copied_in_run, moved_in_run}
 use Rattle.ecow_model.proofs.Contents.{run_of_contents}
 use Rattle.ecow_model.proofs.Runs.{goes_further, gone_through}
-use Rattle.ecow_counted.specs.Keeping.{IsKept}
+use Rattle.ecow_counted.specs.State.{IsValid}
 use Rattle.ecow_counted.proofs.Totals.{total_goes_on, saturating_none, saturating_small, copies_paid, moves_paid, copies_from_new, moves_from_new}
 use Rattle.ecow_counted.proofs.counted.Counted.run.Goals as goal
 
@@ -65,13 +65,13 @@ returns-clause-moved g c = λ clones.
     ∙ ap (λ outcomes. saturating c.args.self.now.moved (moved_in_run c.args.self.now.names c.args.commands.items outcomes)) (append-nil c.loop-command.outcomes.items)
 
 pub returns-clause-copies_paid : goal.returns-clause-copies_paid
-returns-clause-copies_paid g c = λ clones. copies_paid c.args.self.now c.args.commands.items c.loop-command.outcomes.items c.loop-command.self (subst IsKept c.self.view_is c.self.invariant).sharing (returns-clause-run g c clones) (returns-clause-copied g c clones) (returns-clause-moved g c clones)
+returns-clause-copies_paid g c = λ clones. copies_paid c.args.self.now c.args.commands.items c.loop-command.outcomes.items c.loop-command.self (subst IsValid c.self.view_is c.self.invariant).sharing (returns-clause-run g c clones) (returns-clause-copied g c clones) (returns-clause-moved g c clones)
 
 pub returns-clause-moves_paid : goal.returns-clause-moves_paid
-returns-clause-moves_paid g c = λ clones. moves_paid c.args.self.now c.args.commands.items c.loop-command.outcomes.items c.loop-command.self (subst IsKept c.self.view_is c.self.invariant).sharing (returns-clause-run g c clones) (returns-clause-copied g c clones) (returns-clause-moved g c clones)
+returns-clause-moves_paid g c = λ clones. moves_paid c.args.self.now c.args.commands.items c.loop-command.outcomes.items c.loop-command.self (subst IsValid c.self.view_is c.self.invariant).sharing (returns-clause-run g c clones) (returns-clause-copied g c clones) (returns-clause-moved g c clones)
 
 pub returns-clause-copies_from_new : goal.returns-clause-copies_from_new
-returns-clause-copies_from_new g c = λ clones. copies_from_new c.args.self.now c.args.commands.items c.loop-command.outcomes.items c.loop-command.self (subst IsKept c.self.view_is c.self.invariant).sharing (returns-clause-run g c clones) (returns-clause-copied g c clones) (returns-clause-moved g c clones)
+returns-clause-copies_from_new g c = λ clones. copies_from_new c.args.self.now c.args.commands.items c.loop-command.outcomes.items c.loop-command.self (subst IsValid c.self.view_is c.self.invariant).sharing (returns-clause-run g c clones) (returns-clause-copied g c clones) (returns-clause-moved g c clones)
 
 pub returns-clause-moves_from_new : goal.returns-clause-moves_from_new
-returns-clause-moves_from_new g c = λ clones. moves_from_new c.args.self.now c.args.commands.items c.loop-command.outcomes.items c.loop-command.self (subst IsKept c.self.view_is c.self.invariant).sharing (returns-clause-run g c clones) (returns-clause-copied g c clones) (returns-clause-moved g c clones)
+returns-clause-moves_from_new g c = λ clones. moves_from_new c.args.self.now c.args.commands.items c.loop-command.outcomes.items c.loop-command.self (subst IsValid c.self.view_is c.self.invariant).sharing (returns-clause-run g c clones) (returns-clause-copied g c clones) (returns-clause-moved g c clones)

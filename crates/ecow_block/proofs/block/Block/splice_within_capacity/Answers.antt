@@ -1,6 +1,6 @@
 use Rattle.std.proofs.Common.{rules, ◌+◌, ◌≤◌, length}
 use Rattle.ecow_block.proofs.Splices.{inserted, other_inserted, drained, other_drained}
-use Rattle.ecow_block.proofs.block.Block.splice_within.Goals as goal
+use Rattle.ecow_block.proofs.block.Block.splice_within_capacity.Goals as goal
 
 pub returns-clause-removed : goal.returns-clause-removed
 returns-clause-removed g c =
