@@ -10,5 +10,6 @@ abbrev pub with_elements : {X : Type 0} → Contents X → List X → Contents X
 with_elements b ws = contents (refill (length b.items) b.items ws) b.capacity
 
 -- the elements are those that were written last through r, and the capacity stays
-abbrev pub lends_elements : (R : RattleType) → MutBor (Contents R.Denot) → MutBor (List R.Denot) → Fml
+abbrev pub lends_elements : (R : RattleType) → MutBor (Contents R.Denot) → MutBor (List R.Denot)
+    → Fml
 lends_elements R b r = Lends (the_row R) (Array R 0) b r (with_elements b.now)

@@ -6,7 +6,8 @@ use mathlib.Core.Path.{refl, subst}
 use Rattle.ecow_block.specs.declared.room.Room.{Room}
 use Rattle.ecow_block.specs.contracts.room.Room.{the_row}
 
--- r with ws as its items. Where ws has another length it is cut, or filled up from r's, so that the length stays
+-- r with ws as its items. Where ws has another length it is cut, or filled up from r's, so that the
+-- length stays
 abbrev pub with_items : {X : Type 0} → Room X → List X → Room X
 with_items r ws = record {
   mark = r.mark;

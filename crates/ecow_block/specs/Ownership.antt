@@ -26,12 +26,19 @@ place R p n = p +ₚ n * type_size R
 
 -- the items lie at q, and behind them is room for more, up to c in all
 abbrev pub lies_with_room : (R : RattleType) → Ptr → ℕ → List R.Denot → Fml
-lies_with_room R q c xs = fsep (lies_at (Array R (length xs)) full_share q xs) (room_for (array_of R (c - length xs)) (place R q (length xs)))
+lies_with_room R q c xs =
+    fsep (lies_at (Array R (length xs)) full_share q xs)
+    (room_for (array_of R (c - length xs)) (place R q (length xs)))
 
--- the c places from the one numbered start on, of those that begin at p; the first of them hold the items
+-- the c places from the one numbered start on, of those that begin at p; the first of them hold the
+-- items
 abbrev pub room_owns : (R : RattleType) → Ptr → ℕ → ℕ → List R.Denot → Fml
-room_owns R p start c xs = fsep (flt ((start + c) * type_size R) (2 ^ 63)) (in_block p (lies_with_room R (place R p start) c xs))
+room_owns R p start c xs =
+    fsep (flt ((start + c) * type_size R) (2 ^ 63))
+    (in_block p (lies_with_room R (place R p start) c xs))
 
 -- what a `&` to a room holds: the items
 abbrev pub room_shares : (R : RattleType) → Ptr → ℕ → ℕ → List R.Denot → Lft → Fml
-room_shares R p start c xs = beside (said (flt ((start + c) * type_size R) (2 ^ 63))) (lent_at (Array R (length xs)) (place R p start) xs)
+room_shares R p start c xs =
+    beside (said (flt ((start + c) * type_size R) (2 ^ 63)))
+    (lent_at (Array R (length xs)) (place R p start) xs)

@@ -245,7 +245,8 @@ impl<T> Block<T> {
         self.enlarge(capacity)
     }
 
-    /// The same where there may be less room.
+    /// Gives the block places for `capacity` elements, of which it may have fewer: its own enlarged,
+    /// where it has memory and needs some. Where it is refused, the block stays as it is.
     #[inline]
     fn enlarge(&mut self, capacity: usize) -> Result<(), AllocError>
         requires { self.old.capacity ≤ capacity }
@@ -271,7 +272,8 @@ impl<T> Block<T> {
         self.renew(capacity)
     }
 
-    /// The same with places of their own, where the block has none that could be enlarged.
+    /// Moves the elements into a new block of `capacity` places. A block without memory has none that
+    /// could be enlarged. Where it is refused, the block stays as it is.
     #[cold]
     #[inline(never)]
     fn renew(&mut self, capacity: usize) -> Result<(), AllocError>

@@ -58,7 +58,8 @@ impl<T> Room<T> {
         (item, replace(self, rest))
     }
 
-    /// The same as an array of one, for a move of memory.
+    /// Takes the first item, as an array of one, from the place numbered `at`, by a move of memory. That
+    /// place comes back too.
     fn take_first_one(&mut self, base: Base<T>, at: usize) -> ([T; 1], Room<T>)
         requires { (base.ptr ≡ self.old.at) × (at ≡ self.old.start) × (0 < length self.old.items) }
         ensures items { self.old.items ≡ result.0 ++ self.new.items }
@@ -90,8 +91,8 @@ impl<T> Room<T> {
         item
     }
 
-    /// The same of places that are numbered from 0 on, out of line. Where all that is given is a pointer to the first item, the
-    /// compiler knows the loop as one move of memory, whatever the items are; for that it has to see the loop inlined once before.
+    /// Calls `shift` out of line. Given only a pointer to the first item, the compiler knows the loop as
+    /// one move of memory, whatever the items are. For that it has to see the loop inlined once before.
     #[inline(never)]
     fn shift_many(&mut self, base: Base<T>, len: usize) -> T
         requires { (base.ptr ≡ self.old.at) × (self.old.start ≡ 0) × (len ≡ length self.old.items)
@@ -102,7 +103,8 @@ impl<T> Room<T> {
         self.shift(base, len)
     }
 
-    /// The same item by item.
+    /// Takes the first item, and moves the others down by a place, item by item. The places are numbered
+    /// from 0 on.
     fn shift(&mut self, base: Base<T>, len: usize) -> T
         requires { (base.ptr ≡ self.old.at) × (self.old.start ≡ 0) × (len ≡ length self.old.items)
             × (0 < len) }
@@ -147,7 +149,8 @@ impl<T> Room<T> {
         self.unshift(base, len)
     }
 
-    /// The same item by item.
+    /// Moves the items up by a place, item by item. The first place stays, and they come back as a room
+    /// of their own.
     fn unshift(&mut self, base: Base<T>, len: usize) -> Room<T>
         requires { (base.ptr ≡ self.old.at) × (self.old.start ≡ 0) × (len ≡ length self.old.items)
             × (len < self.old.capacity) × (len < 2 ^ 63) }
@@ -224,7 +227,7 @@ impl<T> Room<T> {
         self
     }
 
-    /// The same, as many items at once as the gap is wide.
+    /// Moves the items down over a wide gap, as many at once as it has places.
     fn close_wide_gap(
         mut self,
         base: Base<T>,
@@ -323,7 +326,7 @@ impl<T> Room<T> {
         places
     }
 
-    /// The same, as many items at once as the gap is wide.
+    /// Moves the items up by a wide gap, as many at once as it has places.
     fn open_wide_gap(&mut self, base: Base<T>, start: usize, len: usize, gap: usize) -> Room<T>
         requires { (base.ptr ≡ self.old.at) × (start ≡ self.old.start)
             × (len ≡ length self.old.items) × (len + gap ≤ self.old.capacity)
@@ -459,8 +462,8 @@ impl<T> Room<T> {
         self.append_many(base, at, elements)
     }
 
-    /// The same of many elements. Small ones are cloned some at a time, which the compiler knows as a move of memory where a
-    /// clone is a copy.
+    /// Appends clones of many elements, out of line. Small ones are cloned some at a time, which the
+    /// compiler knows as a move of memory where a clone is a copy.
     #[inline(never)]
     fn append_many(&mut self, base: Base<T>, at: usize, elements: &[T]) -> Result<(), AllocError>
     where
@@ -483,7 +486,8 @@ impl<T> Room<T> {
         Ok(())
     }
 
-    /// The same for the first elements alone, where they are small, and returns how many these are.
+    /// Appends clones of small elements, `CHUNK` at a time, and returns how many: fewer than `CHUNK` are
+    /// left then. Of larger elements none is cloned.
     fn append_chunks(
         &mut self,
         base: Base<T>,
@@ -519,7 +523,7 @@ impl<T> Room<T> {
         Ok(done)
     }
 
-    /// The same for so many elements.
+    /// Appends clones of `CHUNK` elements, the first of them in the place numbered `at`.
     fn append_chunk(
         &mut self,
         base: Base<T>,
@@ -540,7 +544,8 @@ impl<T> Room<T> {
         Ok(())
     }
 
-    /// The same one by one.
+    /// Appends clones of `elements` one by one, the first of them in the place numbered `at`. If a clone
+    /// is refused, those before it are dropped again.
     fn append_each(&mut self, base: Base<T>, at: usize, elements: &[T]) -> Result<(), AllocError>
     where
         T: Clone,

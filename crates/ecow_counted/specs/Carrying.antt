@@ -12,8 +12,10 @@ module _ {T : Type 0} where
   abbrev pub still : Outcome T → Carried T
   still outcome = record { outcome = outcome; copied = 0; moved = 0 }
 
-  -- the answer and the names after it, where clones are lawful; and, also where they aren't, whether it is refused, that a refusal changes nothing, and what is counted
-  pub record IsCarried (lawful : Type 0) (old : Names T) (usage : ListUsage T) (done : Carried T) (new : Names T) : Type 0 where
+  -- the answer and the names after it, where clones are lawful; and, also where they aren't,
+  -- whether it is refused, that a refusal changes nothing, and what is counted
+  pub record IsCarried (lawful : Type 0) (old : Names T) (usage : ListUsage T) (done : Carried T)
+      (new : Names T) : Type 0 where
     pub step : lawful → IsCountedUse old usage done.outcome new
     pub verdict : IsCountedVerdict old usage done.outcome
     pub refused : OnRefused done.outcome (new ≡ old)

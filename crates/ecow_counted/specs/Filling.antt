@@ -12,7 +12,8 @@ use Rattle.ecow_counted.specs.Totals.{CopiedIsSum, MovedIsSum}
 
 module _ {T : Type 0} where
   -- the commands have these outcomes, and the totals rise by their sums
-  pub record IsRunOf (old : CountedState T) (cs : List (VecCommand T)) (outcomes : List (Outcome T)) (new : CountedState T) : Type 0 where
+  pub record IsRunOf (old : CountedState T) (cs : List (VecCommand T))
+      (outcomes : List (Outcome T)) (new : CountedState T) : Type 0 where
     pub run : CountedRun old.names cs outcomes new.names
     pub copied : CopiedIsSum old cs outcomes new
     pub moved : MovedIsSum old cs outcomes new
@@ -26,11 +27,16 @@ module _ {T : Type 0} where
   accepted n = Done ∷ replicate n Done
 
   -- all items went in; or New was refused; or so many went in, and the push of the next was refused
-  abbrev pub IsFilledUntil : Option Refusal → CountedState T → ℕ → List T → ℕ → CountedState T → Type 0
-  IsFilledUntil None old name items n new = (n ≡ length items) × IsRunOf old (filling name items) (accepted n) new
+  abbrev pub IsFilledUntil : Option Refusal → CountedState T → ℕ → List T → ℕ → CountedState T
+      → Type 0
+  IsFilledUntil None old name items n new =
+      (n ≡ length items) × IsRunOf old (filling name items) (accepted n) new
   IsFilledUntil (Some refusal) old name items n new =
       ((n ≡ 0) × IsRunOf old (New name ∷ []) (Refused refusal ∷ []) new)
-      ⊎ ((n < length items) × IsRunOf old (filling name (take (n + 1) items)) (accepted n ++ Refused refusal ∷ []) new)
+      ⊎ ((n < length items)
+          × IsRunOf old (filling name (take (n + 1) items))
+          (accepted n ++ Refused refusal ∷ []) new)
 
   abbrev pub IsFilled : CountedState T → ℕ → List T → Filled → CountedState T → Type 0
-  IsFilled old name items filled new = IsFilledUntil filled.refusal old name items filled.accepted new
+  IsFilled old name items filled new =
+      IsFilledUntil filled.refusal old name items filled.accepted new

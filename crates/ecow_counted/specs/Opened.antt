@@ -6,4 +6,5 @@ use Rattle.ecow_model.specs.Names.{Names, settle}
 -- the name is there, and wherever it settles, it settles as in the old names
 pub record IsOpened {T : Type 0} (name : ℕ) (old new : Names T) : Type 0 where
   pub there : IsSome (finite.get new name)
-  pub settles : (items : List T) (capacity : ℕ) → settle name items capacity new ≡ settle name items capacity old
+  pub settles : (items : List T) (capacity : ℕ)
+      → settle name items capacity new ≡ settle name items capacity old

@@ -28,7 +28,8 @@ module _ {T : Type 0} where
   -- what the names of a group hold together
   abbrev pub held_together : List ℕ → Option (Entry T) → Held T
   held_together group None = nothing
-  held_together group (Some entry) = record { items = entry.block.items; group = group; capacity = entry.block.capacity }
+  held_together group (Some entry) =
+      record { items = entry.block.items; group = group; capacity = entry.block.capacity }
 
   -- what a name with this place holds
   abbrev pub held_in : Places → Slab (Entry T) → Option ℕ → Held T
@@ -60,5 +61,6 @@ module _ {T : Type 0} where
   -- each place of a name has an entry, each entry counts its names, and no entry is without one
   pub record IsTable (places : Places) (table : Slab (Entry T)) : Type 0 where
     pub placed : (x place : ℕ) → finite.get places x ≡ Some (Some place) → IsSome (get table place)
-    pub owned : (place : ℕ) (entry : Entry T) → get table place ≡ Some entry → IsOwned entry (names_at place places)
+    pub owned : (place : ℕ) (entry : Entry T) → get table place ≡ Some entry
+        → IsOwned entry (names_at place places)
     pub blocks_are : slab_len table ≡ blocks (names_of places table)

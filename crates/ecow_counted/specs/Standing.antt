@@ -23,4 +23,6 @@ abbrev pub names_code : {T : Type 0} → Coded T → Coded (Names T)
 names_code code = finite.code coded_ℕ (held_code code)
 
 abbrev pub standing_code : {T : Type 0} → Coded T → Coded (Standing T)
-standing_code {T} code = code_by (Names T × Bool) (coded× (names_code code) coded_bool) (λ s. (s.names, s.has_room)) (λ p. record { names = p.0; has_room = p.1 }) (λ _. refl)
+standing_code {T} code =
+    code_by (Names T × Bool) (coded× (names_code code) coded_bool) (λ s. (s.names, s.has_room))
+    (λ p. record { names = p.0; has_room = p.1 }) (λ _. refl)

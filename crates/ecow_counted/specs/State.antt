@@ -12,7 +12,10 @@ pub record CountedState (T : Type 0) : Type 0 where
 
 -- how a proof tells keepings apart
 abbrev pub counted_code : {T : Type 0} → Coded T → Coded (CountedState T)
-counted_code {T} code = code_by (Names T × (ℕ × ℕ)) (coded× (names_code code) (coded× coded_ℕ coded_ℕ)) (λ k. (k.names, (k.copied, k.moved))) (λ p. record { names = p.0; copied = p.1.0; moved = p.1.1 }) (λ _. refl)
+counted_code {T} code =
+    code_by (Names T × (ℕ × ℕ)) (coded× (names_code code) (coded× coded_ℕ coded_ℕ))
+    (λ k. (k.names, (k.copied, k.moved)))
+    (λ p. record { names = p.0; copied = p.1.0; moved = p.1.1 }) (λ _. refl)
 
 -- the names of a group hold one block, and the totals fit their words
 pub record IsValid {T : Type 0} (k : CountedState T) : Type 0 where

@@ -7,7 +7,8 @@ use Rattle.ecow_model.specs.declared.command.Outcome.{Outcome}
 use Rattle.ecow_model.specs.declared.lists.VecCommand.{VecCommand}
 use Rattle.ecow_counted.specs.State.{CountedState}
 
-module _ {T : Type 0} (old : CountedState T) (cs : List (VecCommand T)) (outcomes : List (Outcome T)) (new : CountedState T) where
+module _ {T : Type 0} (old : CountedState T) (cs : List (VecCommand T))
+    (outcomes : List (Outcome T)) (new : CountedState T) where
   -- the totals rise by the sums over the accepted commands, and stop at the greatest u64
   abbrev pub CopiedIsSum : Type 0
   CopiedIsSum = new.copied ≡ saturating old.copied (copied_in_run old.names cs outcomes)
@@ -17,11 +18,17 @@ module _ {T : Type 0} (old : CountedState T) (cs : List (VecCommand T)) (outcome
 
   -- with the debt counted in, no more is copied than copying at each clone would
   abbrev pub CopiedIsPaid : Type 0
-  CopiedIsPaid = new.copied + debt new.names ≤ old.copied + debt old.names + eager_in_run old.names cs outcomes
+  CopiedIsPaid =
+      new.copied + debt new.names ≤ old.copied + debt old.names + eager_in_run old.names cs outcomes
 
-  -- with the strain counted in, what is moved is paid by what is copied and twice the input, unless the total of copies stops
+  -- with the strain counted in, what is moved is paid by what is copied and twice the input, unless
+  -- the total of copies stops
   abbrev pub MovedIsPaid : Type 0
-  MovedIsPaid = old.copied + copied_in_run old.names cs outcomes < 2 ^ 64 → new.moved + strain new.names ≤ old.moved + strain old.names + (new.copied - old.copied) + 2 * input_in_run old.names cs outcomes
+  MovedIsPaid =
+      old.copied + copied_in_run old.names cs outcomes < 2 ^ 64
+      → new.moved + strain new.names
+      ≤ old.moved + strain old.names + (new.copied - old.copied)
+      + 2 * input_in_run old.names cs outcomes
 
   -- the table is as it is made
   abbrev pub IsNew : Type 0

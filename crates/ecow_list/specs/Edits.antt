@@ -12,7 +12,8 @@ use Rattle.ecow_list.specs.Vectors.{IsKept}
 
 module _ {F A T R : Type 0} (g : Once F (MutBor (Contents T) × (A × Unit {0})) (Result R A
     × (MutBor (Contents T) × Unit {0}))) (edit : F) (given : A) where
-  -- it may be called at a block of the old elements, or of a clone of each, with room for `additional` more
+  -- it may be called at a block of the old elements, or of a clone of each, with room for
+  -- `additional` more
   abbrev pub Edits : (T → T → Type 0) → List T → ℕ → Type 0
   Edits is_clone old additional =
       (b : MutBor (Contents T))
@@ -43,7 +44,8 @@ module _ {F A T R : Type 0} (g : Once F (MutBor (Contents T) × (A × Unit {0}))
     pub met : g.post edit (shown, (given, tt)) (Ok r, (left, tt))
     pub leaves : left.now.items ≡ ys
 
-  -- it answers r at a block of the old elements, or of a clone of each, and leaves the new ones there
+  -- it answers r at a block of the old elements, or of a clone of each, and leaves the new ones
+  -- there
   pub record EditsKept (is_clone : T → T → Type 0) (old : List T) (r : R)
       (new : List T) : Type 0 where
     pub kept : List T
@@ -51,7 +53,8 @@ module _ {F A T R : Type 0} (g : Once F (MutBor (Contents T) × (A × Unit {0}))
     pub same_length : length kept ≡ length old
     pub edited : EditsTo kept r new
 
-  -- what a vector's edit of its own block, with room for `additional` more elements, answers and leaves
+  -- what a vector's edit of its own block, with room for `additional` more elements, answers and
+  -- leaves
   pub record Edited (is_clone : T → T → Type 0) (old : List T) (additional : ℕ)
       (result : Result R (Rejected A)) (new : List T) : Type 0 where
     -- where clones equal their sources, the old elements were edited

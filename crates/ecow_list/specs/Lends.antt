@@ -22,10 +22,18 @@ module _ (T : RattleType) where
   abbrev pub lends_block : MutBor (List T.Denot) → Option (MutBor (Contents T.Denot)) → Fml
   lends_block v r = LendsIf (vec_row T) (block_row T) v r (λ b. b.items) v.now
 
-  -- the elements are those of the block that was lent; at `Err` they stay, or clones stand in their places
-  abbrev pub lends_own_block : (T.Denot → T.Denot → Type 0) → MutBor (List T.Denot) → {E : Type 0} → Result (MutBor (Contents T.Denot)) E → Fml
-  lends_own_block is_clone v r = LendsSoOk (vec_row T) (block_row T) v r (λ n b. n ≡ b.items) (λ n. IsKept is_clone v.now n)
+  -- the elements are those of the block that was lent; at `Err` they stay, or clones stand in their
+  -- places
+  abbrev pub lends_own_block : (T.Denot → T.Denot → Type 0) → MutBor (List T.Denot)
+      → {E : Type 0} → Result (MutBor (Contents T.Denot)) E → Fml
+  lends_own_block is_clone v r =
+      LendsSoOk (vec_row T) (block_row T) v r (λ n b. n ≡ b.items) (λ n. IsKept is_clone v.now n)
 
-  -- the elements are those that were written last through the slice, as many as there were; where there are none, none come, and at `Err` they stay, or clones stand in their places
-  abbrev pub lends_slice : (T.Denot → T.Denot → Type 0) → MutBor (List T.Denot) → {E : Type 0} → Result (MutBor (List T.Denot)) E → Fml
-  lends_slice is_clone v r = follows_so (vec_row T) (Array T 0) v.ghost_name (name_if_lent r) (λ written n. IsOk r → length written ≡ length v.now → n ≡ written) (λ n. OnErr r (IsKept is_clone v.now n) × (v.now ≡ [] → n ≡ []))
+  -- the elements are those that were written last through the slice, as many as there were; where
+  -- there are none, none come, and at `Err` they stay, or clones stand in their places
+  abbrev pub lends_slice : (T.Denot → T.Denot → Type 0) → MutBor (List T.Denot) → {E : Type 0}
+      → Result (MutBor (List T.Denot)) E → Fml
+  lends_slice is_clone v r =
+      follows_so (vec_row T) (Array T 0) v.ghost_name (name_if_lent r)
+      (λ written n. IsOk r → length written ≡ length v.now → n ≡ written)
+      (λ n. OnErr r (IsKept is_clone v.now n) × (v.now ≡ [] → n ≡ []))

@@ -34,16 +34,15 @@ abbrev pub SomeKept : {T : Type 0} → (T → T → Type 0) → List T → (List
 SomeKept {T} is_clone old P = (kept : List T) × IsKept is_clone old kept × P kept
 
 -- new is what `change` makes of the old elements, or of a clone of each
-abbrev pub IsKeptIn : {T : Type 0} → (T → T → Type 0) → List T → (List T → List T) → List T → Type 0
-IsKeptIn {T} is_clone old change new = (kept : List T) × IsKept is_clone old kept × (new ≡ change kept)
-
--- new is that, and `item` is what `taken` finds in them
-abbrev pub IsTakenOf : {T : Type 0} → (T → T → Type 0) → List T → (List T → Option T) → Option T → (List T → List T) → List T → Type 0
-IsTakenOf {T} is_clone old taken item change new = (kept : List T) × IsKept is_clone old kept × (item ≡ taken kept) × (new ≡ change kept)
+abbrev pub IsKeptIn : {T : Type 0} → (T → T → Type 0) → List T → (List T → List T) → List T
+    → Type 0
+IsKeptIn is_clone old change new = SomeKept is_clone old (λ kept. new ≡ change kept)
 
 -- new is the old elements, or a clone of each, and then a clone of each of xs
 abbrev pub IsKeptBefore : {T : Type 0} → (T → T → Type 0) → List T → List T → List T → Type 0
-IsKeptBefore {T} is_clone old xs new = (kept : List T) × (added : List T) × IsKept is_clone old kept × AllZip is_clone xs added × (new ≡ kept ++ added)
+IsKeptBefore {T} is_clone old xs new =
+    (kept : List T) × (added : List T) × IsKept is_clone old kept × AllZip is_clone xs added
+    × (new ≡ kept ++ added)
 
 -- what a call that makes `change` of a vector's old elements leaves
 pub record Changes {T R E : Type 0} (is_clone : T → T → Type 0) (old : List T)

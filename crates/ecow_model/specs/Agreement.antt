@@ -18,7 +18,8 @@ module _ {T : Type 0} where
   -- the same answers to these commands, but for what Capacity and Unique read
   abbrev pub SameAnswers : List (VecCommand T) → List (Outcome T) → List (Outcome T) → Type 0
   SameAnswers [] [] [] = Unit {0}
-  SameAnswers (c ∷ cs) (a ∷ ours) (b ∷ theirs) = (plain_answer (vec_usage c) a ≡ plain_answer (vec_usage c) b) × SameAnswers cs ours theirs
+  SameAnswers (c ∷ cs) (a ∷ ours) (b ∷ theirs) =
+      (plain_answer (vec_usage c) a ≡ plain_answer (vec_usage c) b) × SameAnswers cs ours theirs
   SameAnswers _ _ _ = ⊥
 
   -- no answer is want of memory

@@ -1,4 +1,5 @@
--- What each command on bytes does. `limit` is the greatest number of bytes that stand in the value itself.
+-- What each command on bytes does. `limit` is the greatest number of bytes that stand in the value
+-- itself.
 use Rattle.std.specs.Prelude.{ℕ, ◌+◌, ◌-◌, ◌*◌, Bool, true, false, ◌||◌, ◌==◌, if◌then◌else◌, nat_le, max, Some, None, List, [], ◌∷◌, ◌++◌, length, take, slice_get, slice_set, Result, Ok}
 use Rattle.std.specs.List.{insert as insert_at, remove as remove_at, insert_slice, repeat}
 use Rattle.std.specs.Str.{encode_utf8_all}
@@ -66,11 +67,14 @@ module _ (limit : ℕ) where
   bytes_edit_is_free Pop b = b.inline || length b.bytes == 0
   bytes_edit_is_free (Insert index byte) b = inline_after limit b.inline (length b.bytes) 1
   bytes_edit_is_free (Remove index) b = b.inline
-  bytes_edit_is_free (Extend bytes) b = inline_after limit b.inline (length b.bytes) (length bytes) || length bytes == 0
-  bytes_edit_is_free (InsertSlice index bytes) b = inline_after limit b.inline (length b.bytes) (length bytes)
+  bytes_edit_is_free (Extend bytes) b =
+      inline_after limit b.inline (length b.bytes) (length bytes) || length bytes == 0
+  bytes_edit_is_free (InsertSlice index bytes) b =
+      inline_after limit b.inline (length b.bytes) (length bytes)
   bytes_edit_is_free (Truncate target) b = b.inline || target == 0 || nat_le (length b.bytes) target
   bytes_edit_is_free Clear b = true
-  bytes_edit_is_free (Reserve additional) b = inline_after limit b.inline (length b.bytes) additional
+  bytes_edit_is_free (Reserve additional) b =
+      inline_after limit b.inline (length b.bytes) additional
   bytes_edit_is_free (Write index byte) b = b.inline
   bytes_edit_is_free ShrinkToFit b = true
 
@@ -95,7 +99,9 @@ module _ {T : Type 0} (limit : ℕ) where
   -- what is answered, and the bytes after the change of `b`
   abbrev pub edit_bytes : BytesEdit → PlainBytes → Effect T PlainBytes
   edit_bytes (Push byte) b = bytes_grow b 1 (b.bytes ++ byte ∷ [])
-  edit_bytes Pop b = Ok (PoppedByte (slice_get b.bytes (length b.bytes - 1)), plain_bytes (take (length b.bytes - 1) b.bytes) b.inline)
+  edit_bytes Pop b =
+      Ok (PoppedByte (slice_get b.bytes (length b.bytes - 1)),
+          plain_bytes (take (length b.bytes - 1) b.bytes) b.inline)
   edit_bytes (Insert index byte) b = do
     _ ← check (nat_le index (length b.bytes)) Index
     bytes_grow b 1 (insert_at b.bytes index byte)
@@ -114,15 +120,18 @@ module _ {T : Type 0} (limit : ℕ) where
   edit_bytes (Write index byte) b = do
     old ← byte_at b index
     becomes (plain_bytes (slice_set b.bytes index byte) b.inline)
-  edit_bytes ShrinkToFit b = becomes (plain_bytes b.bytes (inline_shrunk limit b.inline (length b.bytes)))
+  edit_bytes ShrinkToFit b =
+      becomes (plain_bytes b.bytes (inline_shrunk limit b.inline (length b.bytes)))
 
-  -- what the bytes `b` answer; the capacity that is read is the limit inline, and else not below their number
+  -- what the bytes `b` answer; the capacity that is read is the limit inline, and else not below
+  -- their number
   abbrev pub ask_bytes : Observation → BytesAsk → PlainBytes → Result (Outcome T) Refusal
   ask_bytes seen (Read index) b = do
     byte ← byte_at b index
     Ok (Byte byte)
   ask_bytes seen Len b = Ok (Count (length b.bytes))
-  ask_bytes seen Capacity b = Ok (Count (if b.inline then limit else max seen.capacity (length b.bytes)))
+  ask_bytes seen Capacity b =
+      Ok (Count (if b.inline then limit else max seen.capacity (length b.bytes)))
   ask_bytes seen Contents b = Ok (Bytes b.bytes)
   ask_bytes seen IsInline b = Ok (Flag b.inline)
 

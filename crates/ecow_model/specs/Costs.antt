@@ -1,13 +1,27 @@
 -- What each accepted change of a list in a shared block costs, and the capacity after it.
--- `n` is the length of the name's list and `capacity` that of its block, 0 without one. `shared` says whether another name holds the block
+-- `n` is the length of the name's list and `capacity` that of its block, 0 without one. `shared`
+-- says whether another name holds the block.
 use Rattle.std.specs.Prelude.{ℕ, ◌+◌, ◌-◌, Bool, true, false, cond, not, ◌&&◌, ◌||◌, ◌==◌, length, nat_lt, nat_le}
 use Rattle.ecow_base.specs.Capacity.{fresh, room}
+use Rattle.std.specs.declared.ops.Bound.{Bound}
 use Rattle.ecow_base.specs.Range.{items_in_range}
 use Rattle.ecow_model.specs.Names.{Held, is_shared}
 use Rattle.ecow_model.specs.declared.lists.ListMake.{ListMake}
 use Rattle.ecow_model.specs.declared.lists.ListMake.TheVariants.{New, WithCapacity, FromList, FromElem}
 use Rattle.ecow_model.specs.declared.lists.ListEdit.{ListEdit}
 use Rattle.ecow_model.specs.declared.lists.ListEdit.TheVariants.{Push, Pop, Insert, Remove, Truncate, Clear, Retain, Splice, Extend, Reserve, Write}
+
+-- how many of n elements stay where those of a range are taken out
+abbrev pub staying : Bound ℕ × Bound ℕ → ℕ → ℕ
+staying bounds n = n - items_in_range bounds n
+
+-- how many elements move where a block that has n gets `more`: none where there is room
+abbrev pub moved_for : ℕ → ℕ → ℕ → ℕ
+moved_for n more capacity = cond (nat_le (n + more) capacity) 0 n
+
+-- a name that holds h alone has room for `more` elements
+abbrev pub has_room_for : {T : Type 0} → Held T → ℕ → Bool
+has_room_for h more = not (is_shared h) && nat_le (length h.items + more) h.capacity
 
 module _ {T : Type 0} where
   -- the capacity of a list that is made
@@ -37,18 +51,19 @@ module _ {T : Type 0} where
   capacity_after (Insert index value) shared n capacity = room n 1 capacity
   capacity_after (Extend items) shared n capacity = room n (length items) capacity
   capacity_after (Reserve additional) shared n capacity = room n additional capacity
-  capacity_after (Splice bounds items) shared n capacity = room (n - items_in_range bounds n) (length items) (cond shared (fresh n) capacity)
+  capacity_after (Splice bounds items) shared n capacity =
+      room (staying bounds n) (length items) (cond shared (fresh n) capacity)
   capacity_after (Truncate target) shared n capacity = cond shared (fresh target) capacity
   capacity_after Clear shared n capacity = cond shared 0 capacity
   capacity_after _ shared n capacity = cond shared (fresh n) capacity
 
   -- how many elements move because a sole name's block grows
   abbrev pub moves : ListEdit T → ℕ → ℕ → ℕ
-  moves (Push value) n capacity = cond (nat_le (n + 1) capacity) 0 n
-  moves (Insert index value) n capacity = cond (nat_le (n + 1) capacity) 0 n
-  moves (Extend items) n capacity = cond (nat_le (n + length items) capacity) 0 n
-  moves (Reserve additional) n capacity = cond (nat_le (n + additional) capacity) 0 n
-  moves (Splice bounds items) n capacity = cond (nat_le (n - items_in_range bounds n + length items) capacity) 0 (n - items_in_range bounds n)
+  moves (Push value) n capacity = moved_for n 1 capacity
+  moves (Insert index value) n capacity = moved_for n 1 capacity
+  moves (Extend items) n capacity = moved_for n (length items) capacity
+  moves (Reserve additional) n capacity = moved_for n additional capacity
+  moves (Splice bounds items) n capacity = moved_for (staying bounds n) (length items) capacity
   moves _ n capacity = 0
 
   -- how many items are brought, or room is asked for
@@ -67,7 +82,8 @@ module _ {T : Type 0} where
 
   -- the copied and the moved elements of a change by a name that holds h
   abbrev pub copied_by : ListEdit T → Held T → ℕ
-  copied_by edit h = cond (is_shared h && unshares edit (length h.items)) (copies edit (length h.items)) 0
+  copied_by edit h =
+      cond (is_shared h && unshares edit (length h.items)) (copies edit (length h.items)) 0
 
   abbrev pub moved_by : ListEdit T → Held T → ℕ
   moved_by edit h = cond (is_shared h) 0 (moves edit (length h.items) h.capacity)
@@ -79,9 +95,9 @@ module _ {T : Type 0} where
   held_is_free (Remove index) h = not (is_shared h)
   held_is_free (Retain marks) h = not (is_shared h)
   held_is_free (Write index value) h = not (is_shared h)
-  held_is_free (Push value) h = not (is_shared h) && nat_le (length h.items + 1) h.capacity
-  held_is_free (Insert index value) h = not (is_shared h) && nat_le (length h.items + 1) h.capacity
-  held_is_free (Reserve additional) h = not (is_shared h) && nat_le (length h.items + additional) h.capacity
+  held_is_free (Push value) h = has_room_for h 1
+  held_is_free (Insert index value) h = has_room_for h 1
+  held_is_free (Reserve additional) h = has_room_for h additional
   held_is_free (Truncate target) h = copied_by (Truncate target) h == 0
   held_is_free (Extend items) h = length items == 0
   held_is_free _ h = false

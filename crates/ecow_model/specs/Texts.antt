@@ -1,4 +1,5 @@
--- What each command on texts does. A text is a list of characters, and `limit` the greatest number of UTF-8 bytes that stand in the value itself.
+-- What each command on texts does. A text is a list of characters, and `limit` the greatest number
+-- of UTF-8 bytes that stand in the value itself.
 -- A character is a Unicode scalar value: a number below 1114112, outside 55296 to 57343.
 use Rattle.std.specs.Prelude.{ℕ, ◌+◌, ◌-◌, ◌*◌, Bool, true, false, ◌||◌, ◌==◌, if◌then◌else◌, nat_le, nat_lt, max, Some, None, List, [], ◌∷◌, ◌++◌, map, length, take, slice_get, Result, Ok}
 use Rattle.std.specs.List.{insert as insert_at, remove as remove_at, insert_slice, repeat}
@@ -83,13 +84,17 @@ module _ (limit : ℕ) where
   abbrev pub text_edit_is_free : TextEdit → PlainText → Bool
   text_edit_is_free (Push c) t = inline_after limit t.inline (utf8_len t.chars) (len_utf8 c)
   text_edit_is_free Pop t = t.inline || length t.chars == 0
-  text_edit_is_free (PushStr text) t = inline_after limit t.inline (utf8_len t.chars) (utf8_len text) || length text == 0
+  text_edit_is_free (PushStr text) t =
+      inline_after limit t.inline (utf8_len t.chars) (utf8_len text) || length text == 0
   text_edit_is_free (Insert index c) t = inline_after limit t.inline (utf8_len t.chars) (len_utf8 c)
-  text_edit_is_free (InsertStr index text) t = inline_after limit t.inline (utf8_len t.chars) (utf8_len text)
+  text_edit_is_free (InsertStr index text) t =
+      inline_after limit t.inline (utf8_len t.chars) (utf8_len text)
   text_edit_is_free (Remove index) t = t.inline
-  text_edit_is_free (Truncate target) t = t.inline || target == 0 || nat_le (utf8_len t.chars) target
+  text_edit_is_free (Truncate target) t =
+      t.inline || target == 0 || nat_le (utf8_len t.chars) target
   text_edit_is_free Clear t = true
-  text_edit_is_free (Reserve additional) t = inline_after limit t.inline (utf8_len t.chars) additional
+  text_edit_is_free (Reserve additional) t =
+      inline_after limit t.inline (utf8_len t.chars) additional
   text_edit_is_free AsciiLower t = t.inline
   text_edit_is_free AsciiUpper t = t.inline
   text_edit_is_free ShrinkToFit t = true
@@ -124,7 +129,9 @@ module _ {T : Type 0} (limit : ℕ) where
   -- what is answered, and the text after the change of `t`
   abbrev pub edit_text : TextEdit → PlainText → Effect T PlainText
   edit_text (Push c) t = text_grows t (len_utf8 c) (t.chars ++ c ∷ [])
-  edit_text Pop t = Ok (PoppedChar (slice_get t.chars (length t.chars - 1)), plain_text (take (length t.chars - 1) t.chars) t.inline)
+  edit_text Pop t =
+      Ok (PoppedChar (slice_get t.chars (length t.chars - 1)),
+          plain_text (take (length t.chars - 1) t.chars) t.inline)
   edit_text (PushStr text) t = text_grows t (utf8_len text) (t.chars ++ text)
   edit_text (Insert index c) t = do
     _ ← check (is_boundary t.chars index) Boundary
@@ -145,12 +152,15 @@ module _ {T : Type 0} (limit : ℕ) where
     becomes (plain_text t.chars (inline_after limit t.inline (utf8_len t.chars) additional))
   edit_text AsciiLower t = becomes (to_ascii_lower t)
   edit_text AsciiUpper t = becomes (to_ascii_upper t)
-  edit_text ShrinkToFit t = becomes (plain_text t.chars (inline_shrunk limit t.inline (utf8_len t.chars)))
+  edit_text ShrinkToFit t =
+      becomes (plain_text t.chars (inline_shrunk limit t.inline (utf8_len t.chars)))
 
-  -- what the text `t` answers; the capacity that is read is the limit inline, and else not below the number of its bytes
+  -- what the text `t` answers; the capacity that is read is the limit inline, and else not below
+  -- the number of its bytes
   abbrev pub ask_text : Observation → TextAsk → PlainText → Result (Outcome T) Refusal
   ask_text seen Len t = Ok (Count (utf8_len t.chars))
-  ask_text seen Capacity t = Ok (Count (if t.inline then limit else max seen.capacity (utf8_len t.chars)))
+  ask_text seen Capacity t =
+      Ok (Count (if t.inline then limit else max seen.capacity (utf8_len t.chars)))
   ask_text seen Contents t = Ok (Texted t.chars)
   ask_text seen IsInline t = Ok (Flag t.inline)
 
@@ -185,7 +195,8 @@ text_usage (command.Remove name index) = Edit name (Remove index)
 text_usage (command.Truncate name target) = Edit name (Truncate target)
 text_usage (command.Clear name) = Edit name Clear
 text_usage (command.Reserve name additional) = Edit name (Reserve additional)
-text_usage (command.Replace from to pattern replacement count) = Derive from to (Replace pattern replacement count)
+text_usage (command.Replace from to pattern replacement count) =
+    Derive from to (Replace pattern replacement count)
 text_usage (command.Repeat from to n) = Derive from to (Repeat n)
 text_usage (command.AsciiLower name) = Edit name AsciiLower
 text_usage (command.AsciiUpper name) = Edit name AsciiUpper

@@ -1,4 +1,5 @@
--- What commands do to named values, by their parts: a table of rules for each kind of value, and once for all kinds the names.
+-- What commands do to named values, by their parts: a table of rules for each kind of value, and
+-- once for all kinds the names.
 use Rattle.std.specs.Prelude.{◌≡◌, ℕ, ◌⊎◌, Bool, true, false, Some, None, Result, Ok, Err, MatchResult, IfErr}
 use Rattle.std.specs.FinMap.{insert, remove}
 use Rattle.ecow_model.specs.Refusing.{◌>>=◌, Effect, IfRefused}
@@ -23,7 +24,8 @@ observation_in (Count n) = record { capacity = n; unique = false }
 observation_in (Flag b) = record { capacity = 0; unique = b }
 observation_in _ = record { capacity = 0; unique = false }
 
--- the rules of one kind of value, where V stand under names: how values are made, derived from any of V, changed and asked
+-- the rules of one kind of value, where V stand under names: how values are made, derived from any
+-- of V, changed and asked
 pub record Rules (T V A M D E Q : Type 0) : Type 0 where
   pub payload : V → Result A Refusal
   pub wrap : A → V
@@ -40,12 +42,15 @@ abbrev pub WrapsPayloads : {T V A M D E Q : Type 0} → Rules T V A M D E Q → 
 WrapsPayloads {V = V} {A = A} rules = (v : V) (x : A) → rules.payload v ≡ Ok x → v ≡ rules.wrap x
 
 -- what is given, or want of memory where it is neither refused nor free
-abbrev pub Gives : {T S : Type 0} → Result (Outcome T × S) Refusal → Bool → S → Outcome T → S → Type 0
+abbrev pub Gives : {T S : Type 0} → Result (Outcome T × S) Refusal → Bool → S → Outcome T → S
+    → Type 0
 Gives given free old outcome new = MatchResult given
-    (λ answer. ((outcome, new) ≡ answer) ⊎ ((outcome ≡ Refused Memory) × (new ≡ old) × (free ≡ false)))
+    (λ answer. ((outcome, new) ≡ answer)
+        ⊎ ((outcome ≡ Refused Memory) × (new ≡ old) × (free ≡ false)))
     (λ refusal. (outcome ≡ Refused refusal) × (new ≡ old))
 
--- the outcome is refused exactly as is given, or for want of memory where nothing else refuses it and it isn't free
+-- the outcome is refused exactly as is given, or for want of memory where nothing else refuses it
+-- and it isn't free
 abbrev pub IsVerdict : {T A : Type 0} → Result A Refusal → Bool → Outcome T → Type 0
 IsVerdict given free outcome = MatchResult given
     (λ _. IfRefused outcome (λ refusal. (refusal ≡ Memory) × (free ≡ false)))
@@ -53,11 +58,15 @@ IsVerdict given free outcome = MatchResult given
 
 -- a value that is made or derived: what is given, or want of memory
 abbrev pub IsGiven : {A : Type 0} → Result A Refusal → Result A Refusal → Type 0
-IsGiven given result = MatchResult given (λ value. (result ≡ Ok value) ⊎ (result ≡ Err Memory)) (λ refusal. result ≡ Err refusal)
+IsGiven given result =
+    MatchResult given (λ value. (result ≡ Ok value) ⊎ (result ≡ Err Memory))
+    (λ refusal. result ≡ Err refusal)
 
 -- the same of the refusal alone
 abbrev pub IsRefusedAlike : {A B : Type 0} → Result A Refusal → Result B Refusal → Type 0
-IsRefusedAlike given result = MatchResult given (λ _. IfErr result (λ refusal. refusal ≡ Memory)) (λ refusal. result ≡ Err refusal)
+IsRefusedAlike given result =
+    MatchResult given (λ _. IfErr result (λ refusal. refusal ≡ Memory))
+    (λ refusal. result ≡ Err refusal)
 
 -- a test of a value, if there is one
 abbrev pub passes : {A : Type 0} → Result A Refusal → (A → Bool) → Bool
@@ -76,7 +85,8 @@ module _ {T V A M D E Q : Type 0} (rules : Rules T V A M D E Q) where
   put_made old name (Tried None) = (Flag false, old)
 
   -- the outcome and the values after a command, or the first refusal that applies
-  abbrev pub carry_out : Observation → Named V → Usage M D E Q → Result (Outcome T × Named V) Refusal
+  abbrev pub carry_out : Observation → Named V → Usage M D E Q
+      → Result (Outcome T × Named V) Refusal
   carry_out seen old (Make name how) = do
     _ ← unused old name
     value ← rules.make how
@@ -107,26 +117,33 @@ module _ {T V A M D E Q : Type 0} (rules : Rules T V A M D E Q) where
 
   -- one command: its outcome, and the values after it
   abbrev pub IsUse : Named V → Usage M D E Q → Outcome T → Named V → Type 0
-  IsUse old usage outcome new = Gives (carry_out (observation_in outcome) old usage) (use_is_free old usage) old outcome new
+  IsUse old usage outcome new =
+      Gives (carry_out (observation_in outcome) old usage) (use_is_free old usage) old outcome new
 
   abbrev pub IsUseVerdict : Named V → Usage M D E Q → Outcome T → Type 0
-  IsUseVerdict old usage outcome = IsVerdict (carry_out (observation_in outcome) old usage) (use_is_free old usage) outcome
+  IsUseVerdict old usage outcome =
+      IsVerdict (carry_out (observation_in outcome) old usage) (use_is_free old usage) outcome
 
   -- one change of a value: its outcome, and the value after it
   abbrev pub IsEdit : E → A → Outcome T → A → Type 0
-  IsEdit edit old outcome new = Gives (rules.edit edit old) (rules.edit_is_free edit old) old outcome new
+  IsEdit edit old outcome new =
+      Gives (rules.edit edit old) (rules.edit_is_free edit old) old outcome new
 
   abbrev pub IsEditVerdict : E → A → Outcome T → Type 0
-  IsEditVerdict edit old outcome = IsVerdict (rules.edit edit old) (rules.edit_is_free edit old) outcome
+  IsEditVerdict edit old outcome =
+      IsVerdict (rules.edit edit old) (rules.edit_is_free edit old) outcome
 
   -- one question to a value, and its outcome
   abbrev pub IsAnswer : Q → A → Outcome T → Type 0
   IsAnswer question value outcome = MatchResult (rules.ask (observation_in outcome) question value)
-      (λ answer. (outcome ≡ answer) ⊎ ((outcome ≡ Refused Memory) × (rules.ask_is_free question ≡ false)))
+      (λ answer. (outcome ≡ answer)
+          ⊎ ((outcome ≡ Refused Memory) × (rules.ask_is_free question ≡ false)))
       (λ refusal. outcome ≡ Refused refusal)
 
   abbrev pub IsAnswerVerdict : Q → A → Outcome T → Type 0
-  IsAnswerVerdict question value outcome = IsVerdict (rules.ask (observation_in outcome) question value) (rules.ask_is_free question) outcome
+  IsAnswerVerdict question value outcome =
+      IsVerdict (rules.ask (observation_in outcome) question value)
+      (rules.ask_is_free question) outcome
 
   -- one value that is made, and one that is derived
   abbrev pub IsMade : M → Result (Made A) Refusal → Type 0

@@ -1,4 +1,5 @@
--- How the program ends: which end a fault is, the exit status, and what is printed to standard error.
+-- How the program ends: which end a fault is, the exit status, and what is printed to standard
+-- error.
 use Rattle.std.specs.Prelude.{ℕ, List, [], ◌∷◌, ◌++◌, codes}
 use Rattle.std.specs.Fmt.{decimal}
 use Rattle.ecow_tool.specs.declared.program.End.{End}
@@ -44,7 +45,8 @@ reason_text reason.Arguments = codes "arguments"
 -- what an end says
 abbrev pub end_text : End → List ℕ
 end_text program.Done = []
-end_text (program.Unreadable line reason) = codes "line " ++ decimal line ++ codes ": " ++ reason_text reason
+end_text (program.Unreadable line reason) =
+    codes "line " ++ decimal line ++ codes ": " ++ reason_text reason
 end_text program.NotUtf8 = codes "not UTF-8"
 end_text program.File = codes "file"
 end_text program.TooLarge = codes "too large"

@@ -1,7 +1,8 @@
 -- What an undo history holds, and what edits, `undo` and `redo` make of it.
 use Rattle.std.specs.Prelude.{◌≡◌, List, [], ◌∷◌, ◌++◌}
 
--- the lines, the states before them, the last of them last, and the states that were taken back, the next one last
+-- the lines, the states before them, the last of them last, and the states that were taken back,
+-- the next one last
 pub record Timeline (L : Type 0) : Type 0 where
   pub lines : List L
   pub past : List (List L)

@@ -10,4 +10,6 @@ same_name = pointwise nat_eq
 
 -- the value of the last binding of the name, which is given by its bytes
 abbrev pub meaning : List Binding → List ℕ → Option ℕ
-meaning bindings name = fold (λ (value : Option ℕ) (b : Binding). cond (same_name (encode_utf8_all b.name.chars) name) (Some b.value) value) None bindings
+meaning bindings name =
+    fold (λ (value : Option ℕ) (b : Binding). cond
+    (same_name (encode_utf8_all b.name.chars) name) (Some b.value) value) None bindings

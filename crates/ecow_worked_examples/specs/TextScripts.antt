@@ -43,7 +43,7 @@ AGreetingSpillsAndItsCloneIsPopped =
     ∷ gives.Text (codes "Welcome")
     ∷ []
 
--- the same where 23 bytes are inline
+-- a greeting of 22 bytes that is pushed to and cut, where 23 bytes stand inline
 abbrev pub TheGreetingStaysInlineWhere23BytesDo : Type 0
 TheGreetingStaysInlineWhere23BytesDo =
     script 23 (

@@ -44,7 +44,7 @@ pub fn drained_ranges()
     ensures the_second { drained (Excluded 0) (Included 1) ≡ Done ∷ Elements (2 ∷ []) ∷ [] }
 {}
 
-/// The same list, drained by bounds that are no range of it.
+/// A list is drained by bounds that are no range of it.
 pub fn refused_ranges()
     ensures to_the_greatest { drained (Included 0) (Included 18446744073709551615)
         ≡ Done ∷ Refused Range ∷ [] }

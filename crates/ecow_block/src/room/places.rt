@@ -25,7 +25,8 @@ impl<T> Room<T> {
         unsafe { base.ptr.add(at).write(item) }
     }
 
-    /// The same of an item as an array of one, which the compiler moves as memory, and not part by part.
+    /// Puts an item, as an array of one, into the first empty place, numbered `at`. The compiler moves
+    /// an array as memory, and not part by part.
     pub(crate) fn put_one(&mut self, base: Base<T>, at: usize, item: [T; 1])
         requires { (base.ptr ≡ self.old.at) × (at ≡ self.old.start + length self.old.items)
             × (length self.old.items < self.old.capacity) }
@@ -77,7 +78,7 @@ impl<T> Room<T> {
         unsafe { base.ptr.add(at).read() }
     }
 
-    /// The same as an array of one, for a move of memory.
+    /// Takes the last item, as an array of one, from the place numbered `at`, by a move of memory.
     pub(crate) fn take_last_one(&mut self, base: Base<T>, at: usize) -> [T; 1]
         requires { (base.ptr ≡ self.old.at) × (at + 1 ≡ self.old.start + length self.old.items)
             × (0 < length self.old.items) }
@@ -97,7 +98,7 @@ impl<T> Room<T> {
         unsafe { slice::from_raw_parts(base.ptr.add(start), len) }
     }
 
-    /// The same, for writing.
+    /// The items for writing, of which there are `len`, from the place numbered `start` on.
     pub(crate) fn as_mut_slice(&mut self, base: Base<T>, start: usize, len: usize) -> &mut [T]
         requires { (base.ptr ≡ self.old.at) × (start ≡ self.old.start)
             × (len ≡ length self.old.items) }
@@ -153,7 +154,7 @@ impl<T> Room<T> {
         unsafe { Slots::from_raw_parts(base.ptr.add(at), like.len()) }
     }
 
-    /// The same places again, once all of them are filled.
+    /// The places of slots that are all filled, the first of them numbered `_at`.
     pub(crate) fn of_slots(slots: Slots<T>, _base: Base<T>, _at: usize) -> Room<T>
         requires { (slots_ptr slots ≡ place T.row _base.ptr _at)
             × ((_at + slots_len slots) * type_size T.row < 2 ^ 63) × IsFull slots }

@@ -5,7 +5,7 @@ ghost use Rattle.std.specs.Fn.{CalledAtMut};
 ghost use Rattle.std.specs.List.Retain.{RetainsInTurn};
 ghost use Rattle.ecow_base.specs.Clones.{ClonesAreEqual};
 ghost use Rattle.ecow_block.specs.Updates.{TakesKeptAt, UpdatesAt};
-ghost use Rattle.ecow_list.specs.Vectors.{Changes, IsKept, IsKeptBefore, IsTakenOf, SomeKept};
+ghost use Rattle.ecow_list.specs.Vectors.{Changes, IsKept, IsKeptBefore, SomeKept};
 
 use crate::error::{EcoError, Rejected};
 use crate::vec::EcoVec;
@@ -51,11 +51,10 @@ impl<T: Clone> EcoVec<T> {
             → OnOk result (self.new ≡ take (length self.old - 1) self.old) }
         ensures kept { IfOk result
             (λ last.
-            IsTakenOf T.is_clone self.old
-            (λ kept. slice_get kept (length kept - 1))
-            last
-            (λ kept. take (length kept - 1) kept)
-            self.new) }
+            SomeKept T.is_clone self.old
+            (λ kept.
+            (last ≡ slice_get kept (length kept - 1))
+            × (self.new ≡ take (length kept - 1) kept))) }
         ensures some { IfOk result (λ last. IsSome last ↔ (0 < length self.old)) }
         ensures len { OnOk result (length self.new ≡ length self.old - 1) }
         ensures memory { IfErr result (λ error. error ≡ EcoError.Memory) }
@@ -98,11 +97,8 @@ impl<T: Clone> EcoVec<T> {
         ensures ok { ClonesAreEqual T.is_clone → OnOk result (self.new ≡ remove self.old index) }
         ensures kept { IfOk result
             (λ value.
-            IsTakenOf T.is_clone self.old
-            (λ kept. slice_get kept index)
-            (Some value)
-            (λ kept. remove kept index)
-            self.new) }
+            SomeKept T.is_clone self.old
+            (λ kept. (Some value ≡ slice_get kept index) × (self.new ≡ remove kept index))) }
         ensures len { OnOk result (length self.new + 1 ≡ length self.old) }
         ensures memory { IfErr result (λ error. error ≡ EcoError.Memory) }
         ensures unchanged { OnErr result (self.new ≡ self.old) }

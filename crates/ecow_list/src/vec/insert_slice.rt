@@ -35,7 +35,7 @@ impl<T: Clone + Copy> EcoVec<T> {
 }
 
 /// Puts copies of `elements`, for which there is room, in at `index`.
-fn insert_within<T: Copy>(block: &mut Block<T>, index: usize, elements: &[T])
+fn insert_copies<T: Copy>(block: &mut Block<T>, index: usize, elements: &[T])
     requires in_bounds { index ≤ length block.old.items }
     requires room { length block.old.items + length elements.now ≤ block.old.capacity }
     ensures block { block.new
