@@ -364,7 +364,12 @@ impl<T> Block<T> {
 
     /// Puts the elements of `replacement`, for which there is room, in place of those from `start` up to `end`, and gives those
     /// in the memory of `replacement`, in which there is room for them.
-    pub fn splice_within_capacity(&mut self, start: usize, end: usize, replacement: Block<T>) -> Rest<T>
+    pub fn splice_within_capacity(
+        &mut self,
+        start: usize,
+        end: usize,
+        replacement: Block<T>,
+    ) -> Rest<T>
         requires ordered { start ≤ end }
         requires in_bounds { end ≤ length self.old.items }
         requires room { length self.old.items - (end - start) + length replacement.items
@@ -403,11 +408,8 @@ impl<T> Block<T> {
         ensures unchanged { OnErr result (self.new ≡ self.old) }
     {
         let mut elements = Vec::with_capacity(self.alloc, self.len)?;
-        let mut rest = replace(self, Block::new(self.alloc)).into_rest();
-        while let Some(item) = rest.next() {
-            elements.push_reserved(item);
-        }
-        rest.destroy_empty();
+        let block = replace(self, Block::new(self.alloc));
+        block.into_rest().collect_into(&mut elements);
         Ok(elements)
     }
 

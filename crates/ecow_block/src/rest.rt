@@ -1,5 +1,5 @@
 //! The elements of a block by value, taken from either end.
-ghost use Rattle.std.specs.Prelude.{◌≡◌, ◌^◌, ◌<◌, [], length, Some, IfSome};
+ghost use Rattle.std.specs.Prelude.{◌≡◌, ◌+◌, ◌^◌, ◌<◌, ◌≤◌, ◌++◌, [], length, vec_capacity, Some, IfSome};
 ghost use Rattle.std.specs.Iterator.{UpTo, YieldsFirst, YieldsLast, at_most, item_count};
 ghost use Rattle.std.specs.Iterator.SizeHint.{IsWithinCount};
 
@@ -99,6 +99,19 @@ impl<T> Rest<T> {
         }
         self.len -= 1;
         Some(self.room.take_last(self.base, self.start + self.len))
+    }
+
+    /// Moves the elements still to come behind those of `elements`, which has room for them, and gives
+    /// the memory back.
+    pub fn collect_into(self, elements: &mut Vec<T>)
+        requires { length elements.old.items + length self ≤ vec_capacity elements.old }
+        ensures { elements.new.items ≡ elements.old.items ++ self }
+    {
+        let mut rest = self;
+        while let Some(item) = rest.next() {
+            elements.push_reserved(item);
+        }
+        rest.destroy_empty();
     }
 
     /// Gives the memory back, once all elements were taken.

@@ -34,8 +34,8 @@ module _ {T : Type 0} where
   IsFilledUntil (Some refusal) old name items n new =
       ((n ≡ 0) × IsRunOf old (New name ∷ []) (Refused refusal ∷ []) new)
       ⊎ ((n < length items)
-          × IsRunOf old (filling name (take (n + 1) items))
-          (accepted n ++ Refused refusal ∷ []) new)
+      × IsRunOf old (filling name (take (n + 1) items))
+      (accepted n ++ Refused refusal ∷ []) new)
 
   abbrev pub IsFilled : CountedState T → ℕ → List T → Filled → CountedState T → Type 0
   IsFilled old name items filled new =

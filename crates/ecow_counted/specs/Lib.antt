@@ -3,6 +3,7 @@ pub mod Edits
 pub mod Filling
 pub mod State
 pub mod Opened
+pub mod Owned
 pub mod Places
 pub mod Sizes
 pub mod Standing

@@ -10,7 +10,7 @@ ghost use Rattle.ecow_model.specs.Refusing.{OnRefused, verdict};
 ghost use Rattle.ecow_counted.specs.Edits.{asked_length, length_after, new_items, spare_room, taken_out, takes_spare};
 
 use ecow_base::{MAX_LEN, resolve};
-use ecow_block::{Block, Rest};
+use ecow_block::Block;
 use ecow_model::lists::ListEdit;
 use ecow_model::{Bounds, Items, Outcome};
 use std::alloc::{AllocError, Global};
@@ -72,19 +72,6 @@ fn count_in(bounds: &Bounds, len: usize) -> usize
     }
 }
 
-/// The elements of `rest` in `answer`, which is empty and has room for them.
-fn collect<T: Drop>(rest: Rest<T>, answer: Vec<T>) -> Items<T>
-    requires empty { answer.items ≡ [] }
-    requires room { length rest ≤ vec_capacity answer }
-    ensures { result ≡ rest }
-{
-    let (mut rest, mut answer) = (rest, answer);
-    while let Some(element) = rest.next() {
-        answer.push_reserved(element);
-    }
-    Items::new(answer)
-}
-
 /// Puts the elements of another block in place of those within bounds, and answers these in `answer`,
 /// which is empty. There is room for either.
 fn replace<T: Drop>(
@@ -105,7 +92,10 @@ fn replace<T: Drop>(
         ≡ contents (splice block.old.items range.0 range.1 replacement.items) block.old.capacity) }
 {
     let (start, end) = resolve(&bounds, block.len()).unwrap();
-    collect(block.splice_within_capacity(start, end, replacement), answer)
+    let mut answer = answer;
+    let removed = block.splice_within_capacity(start, end, replacement);
+    removed.collect_into(&mut answer);
+    Items::new(answer)
 }
 
 /// Keeps the elements that are marked true; there is a mark for each.

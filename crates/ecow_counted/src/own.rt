@@ -5,6 +5,7 @@ ghost use Rattle.ecow_base.specs.Clones.{ClonesAreEqual};
 ghost use Rattle.ecow_model.specs.CountedRun.{held_at, nothing};
 ghost use Rattle.ecow_model.specs.Names.{IsSharing, is_shared, settle};
 ghost use Rattle.ecow_counted.specs.Opened.{IsOpened};
+ghost use Rattle.ecow_counted.specs.Owned.{HasCost, copies_for, moves_for};
 
 use crate::blocks::Blocks;
 use ecow_base::MAX_LEN;
@@ -41,10 +42,8 @@ impl<T: Drop> Blocks<T> {
         ensures unchanged { OnErr result
             (self.new.names ≡ settle name block.items block.capacity self.old.names) }
         ensures items { IfOk result (λ own. own.block.items ≡ block.items) }
-        ensures capacity { IfOk result (λ own. own.block.capacity ≡ want.capacity) }
-        ensures copied { IfOk result (λ own. own.copied ≡ 0) }
-        ensures moved { IfOk result (λ own. own.moved
-            ≡ cond (nat_le want.capacity block.capacity) 0 want.staying) }
+        ensures cost { IfOk result
+            (HasCost want 0 (cond (nat_le want.capacity block.capacity) 0 want.staying)) }
         ensures free { want.capacity ≡ block.capacity → IsOk result }
     {
         let mut block = block;
@@ -65,67 +64,12 @@ impl<T: Drop> Blocks<T> {
             }
         }
     }
-
-    /// A block for a name without one.
-    fn fresh(&mut self, alloc: Global, want: Want) -> Result<Owned<T>, AllocError>
-        requires bounded { want.capacity ≤ MAX_LEN }
-        ensures names { self.new.names ≡ self.old.names }
-        ensures room { OnOk result (0 < want.capacity → self.new.has_room ≡ true) }
-        ensures items { IfOk result (λ own. own.block.items ≡ []) }
-        ensures capacity { IfOk result (λ own. own.block.capacity ≡ want.capacity) }
-        ensures copied { IfOk result (λ own. own.copied ≡ 0) }
-        ensures moved { IfOk result (λ own. own.moved ≡ 0) }
-        ensures free { want.capacity ≡ 0 → IsOk result }
-    {
-        if want.capacity == 0 {
-            let block = Block::new(alloc);
-            return Ok(Owned {
-                block,
-                copied: 0,
-                moved: 0,
-            });
-        }
-        self.reserve()?;
-        let block = Block::with_capacity(alloc, want.capacity)?;
-        Ok(Owned {
-            block,
-            copied: 0,
-            moved: 0,
-        })
-    }
-
-    /// The block of a name that shares it with none, which has none until it settles.
-    fn open(&mut self, alloc: Global, name: Name, want: Want) -> Result<Owned<T>, AllocError>
-        requires there { IsSome (finite.get self.old.names name) }
-        requires sole { is_shared (held_at self.old.names name) ≡ false }
-        requires sharing { IsSharing self.old.names }
-        requires backed { 0 < length (held_at self.old.names name).group
-            → 0 < (held_at self.old.names name).capacity }
-        requires grows { (held_at self.old.names name).capacity ≤ want.capacity }
-        requires staying { want.staying ≤ length (held_at self.old.names name).items }
-        requires bounded { want.capacity ≤ MAX_LEN }
-        ensures opened { OnOk result (IsOpened name self.old.names self.new.names) }
-        ensures room { OnOk result (0 < want.capacity → self.new.has_room ≡ true) }
-        ensures unchanged { OnErr result (self.new.names ≡ self.old.names) }
-        ensures items { IfOk result (λ own. own.block.items ≡ (held_at self.old.names name).items) }
-        ensures capacity { IfOk result (λ own. own.block.capacity ≡ want.capacity) }
-        ensures copied { IfOk result (λ own. own.copied ≡ 0) }
-        ensures moved { IfOk result (λ own. own.moved
-            ≡ cond (nat_le want.capacity (held_at self.old.names name).capacity) 0 want.staying) }
-        ensures free { want.capacity ≡ (held_at self.old.names name).capacity → IsOk result }
-    {
-        match self.take(name) {
-            Some(block) => self.grow(name, block, want),
-            None => self.fresh(alloc, want),
-        }
-    }
 }
 
 impl<T: Clone> Blocks<T> {
-    /// A copy of the first elements of a block that a name shares, one clone for each that is
-    /// counted. The name stays where it is until it settles.
+    /// A new block with clones of the first elements of a name's list, each of which is counted. The
+    /// name stays where it is until it settles.
     fn copy(&mut self, alloc: Global, name: Name, want: Want) -> Result<Owned<T>, AllocError>
-        requires shared { is_shared (held_at self.old.names name) ≡ true }
         requires whole { want.copies ≤ length (held_at self.old.names name).items }
         requires fits { want.copies ≤ want.capacity }
         requires bounded { want.capacity ≤ MAX_LEN }
@@ -135,9 +79,7 @@ impl<T: Clone> Blocks<T> {
             → IfOk result (λ own. own.block.items
             ≡ take want.copies (held_at self.old.names name).items) }
         ensures len { IfOk result (λ own. length own.block.items ≡ want.copies) }
-        ensures capacity { IfOk result (λ own. own.block.capacity ≡ want.capacity) }
-        ensures copied { IfOk result (λ own. own.copied ≡ want.copies) }
-        ensures moved { IfOk result (λ own. own.moved ≡ 0) }
+        ensures cost { IfOk result (HasCost want want.copies 0) }
         ensures free { want.capacity ≡ 0 → IsOk result }
     {
         if want.capacity == 0 {
@@ -157,6 +99,30 @@ impl<T: Clone> Blocks<T> {
             copied,
             moved: 0,
         })
+    }
+
+    /// The block of a name that shares it with none, which has none until it settles.
+    fn open(&mut self, alloc: Global, name: Name, want: Want) -> Result<Owned<T>, AllocError>
+        requires there { IsSome (finite.get self.old.names name) }
+        requires sole { is_shared (held_at self.old.names name) ≡ false }
+        requires sharing { IsSharing self.old.names }
+        requires backed { 0 < length (held_at self.old.names name).group
+            → 0 < (held_at self.old.names name).capacity }
+        requires grows { (held_at self.old.names name).capacity ≤ want.capacity }
+        requires staying { want.staying ≤ length (held_at self.old.names name).items }
+        requires bounded { want.capacity ≤ MAX_LEN }
+        ensures opened { OnOk result (IsOpened name self.old.names self.new.names) }
+        ensures room { OnOk result (0 < want.capacity → self.new.has_room ≡ true) }
+        ensures unchanged { OnErr result (self.new.names ≡ self.old.names) }
+        ensures items { IfOk result (λ own. own.block.items ≡ (held_at self.old.names name).items) }
+        ensures cost { IfOk result
+            (HasCost want 0 (moves_for want (held_at self.old.names name))) }
+        ensures free { want.capacity ≡ (held_at self.old.names name).capacity → IsOk result }
+    {
+        match self.take(name) {
+            Some(block) => self.grow(name, block, want),
+            None => self.copy(alloc, name, Want { copies: 0, ..want }),
+        }
     }
 
     /// A block for a name alone, with exactly the capacity that it wants: its own, or a copy of one
@@ -180,12 +146,9 @@ impl<T: Clone> Blocks<T> {
         ensures len { IfOk result (λ own. length own.block.items
             ≡ cond (is_shared (held_at self.old.names name)) want.copies
             (length (held_at self.old.names name).items)) }
-        ensures capacity { IfOk result (λ own. own.block.capacity ≡ want.capacity) }
-        ensures copied { IfOk result (λ own. own.copied
-            ≡ cond (is_shared (held_at self.old.names name)) want.copies 0) }
-        ensures moved { IfOk result (λ own. own.moved
-            ≡ cond (is_shared (held_at self.old.names name)) 0
-            (cond (nat_le want.capacity (held_at self.old.names name).capacity) 0 want.staying)) }
+        ensures cost { IfOk result
+            (HasCost want (copies_for want (held_at self.old.names name))
+            (moves_for want (held_at self.old.names name))) }
         ensures free { (want.capacity ≡ cond (is_shared (held_at self.old.names name)) 0
             (held_at self.old.names name).capacity) → IsOk result }
     {

@@ -1,6 +1,6 @@
 //! The iterators that own their elements. What is left is dropped with them; the vector that they
 //! were taken from is final when they are made.
-ghost use Rattle.std.specs.Prelude.{◌≡◌, length, Some, IfSome};
+ghost use Rattle.std.specs.Prelude.{◌≡◌, ◌+◌, ◌≤◌, ◌++◌, length, vec_capacity, Some, IfSome};
 ghost use Rattle.std.specs.Iterator.{UpTo, YieldsFirst, YieldsLast, at_most, item_count};
 ghost use Rattle.std.specs.Iterator.SizeHint.{IsWithinCount};
 
@@ -8,7 +8,7 @@ use ecow_block::Rest;
 use std::iter::FusedIterator;
 use std::marker::Model;
 
-/// The elements that `drain` took out, in order, from both ends.
+/// The elements that `drain` or `splice` took out, in order, from both ends.
 #[derive(Drop)]
 pub struct Drain<T> {
     removed: Rest<T>,
@@ -34,6 +34,17 @@ impl<T> Drain<T> {
         ensures { result.now ≡ self.now }
     {
         self.removed.as_slice()
+    }
+
+    /// Moves the elements that are still to come behind those of `elements`, which has room for them.
+    /// Takes no memory.
+    ///
+    /// This project's own: `extend` of std's vector may ask for memory.
+    pub fn collect_into(self, elements: &mut Vec<T>)
+        requires { length elements.old.items + length self ≤ vec_capacity elements.old }
+        ensures { elements.new.items ≡ elements.old.items ++ self }
+    {
+        self.removed.collect_into(elements);
     }
 }
 
@@ -74,69 +85,7 @@ impl<T: Drop> ExactSizeIterator for Drain<T> {
 impl<T: Drop> FusedIterator for Drain<T> {}
 
 /// The elements that `splice` took out, in order, from both ends.
-#[derive(Drop)]
-pub struct Splice<T> {
-    replaced: Rest<T>,
-}
-
-impl<T> Model for Splice<T> {
-    ghost use Rattle.std.specs.Prelude.{List};
-
-    ghost Value = { List T };
-
-    ghost view = { λ it. it.replaced };
-}
-
-impl<T> Splice<T> {
-    pub(crate) fn new(rest: Rest<T>) -> Self
-        ensures { result ≡ rest }
-    {
-        Splice { replaced: rest }
-    }
-
-    /// The elements that are still to come, in order.
-    pub fn as_slice(&self) -> &[T]
-        ensures { result.now ≡ self.now }
-    {
-        self.replaced.as_slice()
-    }
-}
-
-impl<T: Drop> Iterator for Splice<T> {
-    type Item = T;
-
-    ghost next_gives = { YieldsFirst (λ rest. rest) };
-
-    ghost remaining = { item_count (λ rest. rest) };
-
-    fn next(&mut self) -> Option<T> {
-        self.replaced.next()
-    }
-
-    fn size_hint(&self) -> (usize, Option<usize>)
-        ensures lower { IsWithinCount result.0 (at_most (length self.now)) }
-        ensures upper { IfSome result.1 (UpTo (at_most (length self.now))) }
-        ensures exact { result ≡ (length self.now, Some (length self.now)) }
-    {
-        self.replaced.size_hint()
-    }
-}
-
-impl<T: Drop> DoubleEndedIterator for Splice<T> {
-    ghost next_back_gives = { YieldsLast (λ rest. rest) };
-
-    fn next_back(&mut self) -> Option<T> {
-        self.replaced.next_back()
-    }
-}
-
-impl<T: Drop> ExactSizeIterator for Splice<T> {
-    fn len(&self) -> usize {
-        self.replaced.len()
-    }
-}
-
-impl<T: Drop> FusedIterator for Splice<T> {}
+pub type Splice<T> = Drain<T>;
 
 /// The elements of a vector by value, in order, from both ends.
 #[derive(Drop)]

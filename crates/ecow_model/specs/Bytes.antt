@@ -100,8 +100,10 @@ module _ {T : Type 0} (limit : ℕ) where
   abbrev pub edit_bytes : BytesEdit → PlainBytes → Effect T PlainBytes
   edit_bytes (Push byte) b = bytes_grow b 1 (b.bytes ++ byte ∷ [])
   edit_bytes Pop b =
-      Ok (PoppedByte (slice_get b.bytes (length b.bytes - 1)),
-          plain_bytes (take (length b.bytes - 1) b.bytes) b.inline)
+      Ok (
+        PoppedByte (slice_get b.bytes (length b.bytes - 1)),
+        plain_bytes (take (length b.bytes - 1) b.bytes) b.inline,
+      )
   edit_bytes (Insert index byte) b = do
     _ ← check (nat_le index (length b.bytes)) Index
     bytes_grow b 1 (insert_at b.bytes index byte)

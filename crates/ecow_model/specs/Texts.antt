@@ -130,8 +130,10 @@ module _ {T : Type 0} (limit : ℕ) where
   abbrev pub edit_text : TextEdit → PlainText → Effect T PlainText
   edit_text (Push c) t = text_grows t (len_utf8 c) (t.chars ++ c ∷ [])
   edit_text Pop t =
-      Ok (PoppedChar (slice_get t.chars (length t.chars - 1)),
-          plain_text (take (length t.chars - 1) t.chars) t.inline)
+      Ok (
+        PoppedChar (slice_get t.chars (length t.chars - 1)),
+        plain_text (take (length t.chars - 1) t.chars) t.inline,
+      )
   edit_text (PushStr text) t = text_grows t (utf8_len text) (t.chars ++ text)
   edit_text (Insert index c) t = do
     _ ← check (is_boundary t.chars index) Boundary

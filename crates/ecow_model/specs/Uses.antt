@@ -46,7 +46,7 @@ abbrev pub Gives : {T S : Type 0} → Result (Outcome T × S) Refusal → Bool �
     → Type 0
 Gives given free old outcome new = MatchResult given
     (λ answer. ((outcome, new) ≡ answer)
-        ⊎ ((outcome ≡ Refused Memory) × (new ≡ old) × (free ≡ false)))
+    ⊎ ((outcome ≡ Refused Memory) × (new ≡ old) × (free ≡ false)))
     (λ refusal. (outcome ≡ Refused refusal) × (new ≡ old))
 
 -- the outcome is refused exactly as is given, or for want of memory where nothing else refuses it
@@ -137,7 +137,7 @@ module _ {T V A M D E Q : Type 0} (rules : Rules T V A M D E Q) where
   abbrev pub IsAnswer : Q → A → Outcome T → Type 0
   IsAnswer question value outcome = MatchResult (rules.ask (observation_in outcome) question value)
       (λ answer. (outcome ≡ answer)
-          ⊎ ((outcome ≡ Refused Memory) × (rules.ask_is_free question ≡ false)))
+      ⊎ ((outcome ≡ Refused Memory) × (rules.ask_is_free question ≡ false)))
       (λ refusal. outcome ≡ Refused refusal)
 
   abbrev pub IsAnswerVerdict : Q → A → Outcome T → Type 0

@@ -224,10 +224,7 @@ impl TextCommand {
             TextCommand::Remove { name, index } => edit(name, TextEdit::Remove(index)),
             TextCommand::Truncate { name, target } => edit(name, TextEdit::Truncate(target)),
             TextCommand::Clear { name } => edit(name, TextEdit::Clear),
-            TextCommand::Reserve { name, additional } => edit(
-                name,
-                TextEdit::Reserve(additional),
-            ),
+            TextCommand::Reserve { name, additional } => edit(name, TextEdit::Reserve(additional)),
             TextCommand::Replace {
                 from,
                 to,

@@ -15,7 +15,7 @@ ghost use Rattle.ecow_model.proofs.Uses.{list_wraps};
 use crate::answers::{done, refusal_of};
 use crate::store::Stored;
 use ecow_base::resolve;
-use ecow_list::{Drain, EcoError, EcoVec, Splice};
+use ecow_list::{EcoError, EcoVec};
 use ecow_model::kinds::{Kind, carry_out};
 use ecow_model::lists::{ListAsk, ListDerive, ListEdit, ListMake};
 use ecow_model::table::Table;
@@ -173,32 +173,6 @@ fn retain_by_marks<T: Clone>(list: &mut EcoVec<T>, marks: &[bool]) -> Result<(),
     })
 }
 
-/// The elements that were drained, in `elements`, which is empty and has room for them.
-fn drained<T: Drop>(removed: Drain<T>, elements: Vec<T>) -> Items<T>
-    requires empty { elements.items ≡ [] }
-    requires room { length removed ≤ vec_capacity elements }
-    ensures { result ≡ removed }
-{
-    let (mut removed, mut elements) = (removed, elements);
-    while let Some(element) = removed.next() {
-        elements.push_reserved(element);
-    }
-    Items::new(elements)
-}
-
-/// The elements that were replaced, in `elements`, which is empty and has room for them.
-fn replaced<T: Drop>(removed: Splice<T>, elements: Vec<T>) -> Items<T>
-    requires empty { elements.items ≡ [] }
-    requires room { length removed ≤ vec_capacity elements }
-    ensures { result ≡ removed }
-{
-    let (mut removed, mut elements) = (removed, elements);
-    while let Some(element) = removed.next() {
-        elements.push_reserved(element);
-    }
-    Items::new(elements)
-}
-
 /// Takes the elements within bounds out of a list.
 #[tactic(auto, using(ecow_model::proofs::Lengths::edits))]
 fn drain<T: Clone>(alloc: Global, list: &mut EcoVec<T>, bounds: Bounds) -> Outcome<T>
@@ -210,11 +184,14 @@ fn drain<T: Clone>(alloc: Global, list: &mut EcoVec<T>, bounds: Bounds) -> Outco
     let Some((start, end)) = resolve(&bounds, list.len()) else {
         return Outcome::Refused(Refusal::Range);
     };
-    let Ok(elements) = Vec::with_capacity(alloc, end - start) else {
+    let Ok(mut elements) = Vec::with_capacity(alloc, end - start) else {
         return Outcome::Refused(Refusal::Memory);
     };
     match list.drain(bounds) {
-        Ok(removed) => Outcome::Elements(drained(removed, elements)),
+        Ok(removed) => {
+            removed.collect_into(&mut elements);
+            Outcome::Elements(Items::new(elements))
+        }
         Err(_) => Outcome::Refused(Refusal::Memory),
     }
 }
@@ -236,11 +213,14 @@ fn splice<T: Clone>(
     let Some((start, end)) = resolve(&bounds, list.len()) else {
         return Outcome::Refused(Refusal::Range);
     };
-    let Ok(elements) = Vec::with_capacity(alloc, end - start) else {
+    let Ok(mut elements) = Vec::with_capacity(alloc, end - start) else {
         return Outcome::Refused(Refusal::Memory);
     };
     match list.splice(bounds, items.into_vec()) {
-        Ok(removed) => Outcome::Elements(replaced(removed, elements)),
+        Ok(removed) => {
+            removed.collect_into(&mut elements);
+            Outcome::Elements(Items::new(elements))
+        }
         Err(_) => Outcome::Refused(Refusal::Memory),
     }
 }

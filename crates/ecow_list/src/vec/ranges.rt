@@ -119,7 +119,7 @@ impl<T: Clone> EcoVec<T> {
         let most = MAX_LEN - (self.len() - (end - start));
         let mut items = replace_with.into_iter();
         let replacement = collect(self.alloc, end - start, 16, most, &mut items)?;
-        Ok(Splice::new(self.replace_range(start, end, replacement)?))
+        Ok(Drain::new(self.replace_range(start, end, replacement)?))
     }
 
     /// Puts `replacement` in place of the elements from `start` up to `end`, and gives these in its

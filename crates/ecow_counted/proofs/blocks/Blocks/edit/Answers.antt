@@ -96,12 +96,12 @@ returns-clause-carried g c =
       | else-size-gt1-via-else-size-gt1 w ↦ absurd (true≢false (sym shared ∙ ap (nat_lt 1) (sym owners) ∙ le-ltb 1 c.in-Some.size.owners w.if-size-gt1.false))
     ] in
     let end = c.apply-outcome.new.block in
-    let at_end = c.apply-outcome.ensures.capacity ∙ c.in-Ok-own.ensures.capacity in
+    let at_end = c.apply-outcome.ensures.capacity ∙ c.in-Ok-own.ensures.cost.capacity in
     edit_done (ClonesAreEqual g.T.Clone.is_clone) names c.args.name c.args.edit h found.0 asked leaves fits c.in-Ok-own.own.block.items end.items end.capacity _ _
     (λ ok. c.in-Ok-own.ensures.items ok ∙ (λ i. cond (is_shared h) (take (copied i) h.items) h.items))
     (λ ok. c.apply-outcome.ensures.change (c.in-Ok.ensures.items ok))
     c.apply-outcome.ensures.accepted
     (at_end ∙ wanted)
     (c.settle.ensures.names ∙ c.in-Ok-own.ensures.opened.settles end.items end.capacity)
-    (c.in-Ok-own.ensures.copied ∙ (λ i. cond (is_shared h) (copied i) 0))
-    (c.in-Ok-own.ensures.moved ∙ (λ i. cond (is_shared h) 0 (cond (nat_le (sym at_end i) h.capacity) 0 ((c.staying.ensures.staying ∙ ap (staying c.args.edit) len) i))))
+    (c.in-Ok-own.ensures.cost.copied ∙ (λ i. cond (is_shared h) (copied i) 0))
+    (c.in-Ok-own.ensures.cost.moved ∙ (λ i. cond (is_shared h) 0 (cond (nat_le (sym at_end i) h.capacity) 0 ((c.staying.ensures.staying ∙ ap (staying c.args.edit) len) i))))

@@ -14,8 +14,8 @@ returns-in-Some-clause-unchanged g c = where_err c.grow.result
     c.grow.ensures.unchanged
 
 pub returns-in-None-clause-opened : goal.returns-in-None-clause-opened
-returns-in-None-clause-opened g c = always_ok c.fresh.result (opened_as c.args.self.now.names c.args.name c.fresh.new.self.names (c.fresh.ensures.names ∙ c.take.ensures.names))
+returns-in-None-clause-opened g c = always_ok c.copy.result (opened_as c.args.self.now.names c.args.name c.copy.new.self.names (c.copy.ensures.names ∙ c.take.ensures.names))
 
 pub returns-in-None-clause-unchanged : goal.returns-in-None-clause-unchanged
-returns-in-None-clause-unchanged g c = always_err c.fresh.result
-    (none_taken c.args.self.now.names c.args.name c.requires.there c.requires.sole c.requires.sharing c.requires.backed (sym c.in-None.is ∙ c.take.ensures.block) c.fresh.new.self.names (c.fresh.ensures.names ∙ c.take.ensures.names))
+returns-in-None-clause-unchanged g c = always_err c.copy.result
+    (none_taken c.args.self.now.names c.args.name c.requires.there c.requires.sole c.requires.sharing c.requires.backed (sym c.in-None.is ∙ c.take.ensures.block) c.copy.new.self.names (c.copy.ensures.names ∙ c.take.ensures.names))

@@ -18,15 +18,15 @@ loop-command-preserved g c =
     let outcome = c.step-outcome.result in
     record {
       room = omega (arith, c.in-Some.ensures.len, c.push_reserved.ensures.len, c.push_reserved.ensures.capacity, so_far.room);
-      kept = record { sharing = is.sharing; copied = rw is.copied (saturating_small _ _); moved = rw is.moved (saturating_small _ _) };
+      valid = record { sharing = is.sharing; copied = rw is.copied (saturating_small _ _); moved = rw is.moved (saturating_small _ _) };
       steps = λ clones. rw c.push_reserved.ensures.items (goes_further CountedStep _ _ _ _ _ _ _ _ (rw c.in-Some.ensures.items at so_far.steps clones) (is.step clones));
       verdicts = rw c.push_reserved.ensures.items (goes_further CountedVerdict _ _ _ _ _ _ _ _ (rw c.in-Some.ensures.items at so_far.verdicts) is.verdict);
       copied = λ clones more. rw (c.push_reserved.ensures.items, append_assoc)
-          (total_goes_on copied_in old.copied command old.names so_far.kept.sharing outcome mid (is.step clones) _ is.copied _ more
+          (total_goes_on copied_in old.copied command old.names so_far.valid.sharing outcome mid (is.step clones) _ is.copied _ more
           ∙ ap (λ cs. saturating old.copied (copied_in_run old.names cs (outcome ∷ more))) (sym c.in-Some.ensures.items)
           ∙ so_far.copied clones (outcome ∷ more));
       moved = λ clones more. rw (c.push_reserved.ensures.items, append_assoc)
-          (total_goes_on moved_in old.moved command old.names so_far.kept.sharing outcome mid (is.step clones) _ is.moved _ more
+          (total_goes_on moved_in old.moved command old.names so_far.valid.sharing outcome mid (is.step clones) _ is.moved _ more
           ∙ ap (λ cs. saturating old.moved (moved_in_run old.names cs (outcome ∷ more))) (sym c.in-Some.ensures.items)
           ∙ so_far.moved clones (outcome ∷ more));
     }
@@ -50,7 +50,7 @@ pub returns-clause-copied : goal.returns-clause-copied
 returns-clause-copied g c = λ clones.
     let rest = c.loop-command.rest in
     let ended : into_iter_items rest ≡ [] = nil_from_length (into_iter_items rest) (omega (arith, rest.rest.ok.0, c.in_default-next.ensures.cases.0)) in
-    saturating_none c.loop-command.self.copied c.loop-command.invariant.kept.copied
+    saturating_none c.loop-command.self.copied c.loop-command.invariant.valid.copied
     ∙ ap (λ cs. saturating c.loop-command.self.copied (copied_in_run c.loop-command.self.names cs [])) (sym ended)
     ∙ c.loop-command.invariant.copied clones []
     ∙ ap (λ outcomes. saturating c.args.self.now.copied (copied_in_run c.args.self.now.names c.args.commands.items outcomes)) (append-nil c.loop-command.outcomes.items)
@@ -59,7 +59,7 @@ pub returns-clause-moved : goal.returns-clause-moved
 returns-clause-moved g c = λ clones.
     let rest = c.loop-command.rest in
     let ended : into_iter_items rest ≡ [] = nil_from_length (into_iter_items rest) (omega (arith, rest.rest.ok.0, c.in_default-next.ensures.cases.0)) in
-    saturating_none c.loop-command.self.moved c.loop-command.invariant.kept.moved
+    saturating_none c.loop-command.self.moved c.loop-command.invariant.valid.moved
     ∙ ap (λ cs. saturating c.loop-command.self.moved (moved_in_run c.loop-command.self.names cs [])) (sym ended)
     ∙ c.loop-command.invariant.moved clones []
     ∙ ap (λ outcomes. saturating c.args.self.now.moved (moved_in_run c.args.self.now.names c.args.commands.items outcomes)) (append-nil c.loop-command.outcomes.items)

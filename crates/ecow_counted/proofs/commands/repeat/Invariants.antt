@@ -1,7 +1,7 @@
 use Rattle.std.proofs.Common.{◌≡◌, length}
 use Rattle.std.specs.Prelude.{replicate}
 use Rattle.ecow_base.specs.Clones.{ClonesAreEqual}
-use Rattle.ecow_counted.proofs.commands.repeated.Given as goal
+use Rattle.ecow_counted.proofs.commands.repeat.Given as goal
 
 -- so many clones so far
 abbrev pub invariant-loop-more : goal.invariant-loop-more
