@@ -1,2 +1,2 @@
 pub mod Refusals
-pub mod Observation
+pub mod Reading

@@ -12,7 +12,7 @@ ghost use Rattle.ecow_model.specs.declared.command.Refusal.{Refusal};
 ghost use Rattle.ecow_model.specs.declared.lists.ListEdit.{ListEdit};
 ghost use Rattle.ecow_model.proofs.Uses.{list_wraps};
 
-use crate::answers::{done, refusal_of};
+use crate::answers::{answer_change, refusal_of};
 use crate::store::Stored;
 use ecow_base::resolve;
 use ecow_list::{EcoError, EcoVec};

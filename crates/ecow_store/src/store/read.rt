@@ -2,7 +2,7 @@
 ghost use Rattle.std.specs.Prelude.{◌≡◌};
 ghost use Rattle.std.specs.Option.{option_copied, option_map};
 ghost use Rattle.std.specs.Str.{encode_utf8_all};
-ghost use Rattle.ecow_store.specs.Observation.{bytes_under, list_under, text_under};
+ghost use Rattle.ecow_store.specs.Reading.{bytes_under, list_under, text_under};
 
 use crate::store::{NamedValues, Stored};
 use ecow_model::Name;
