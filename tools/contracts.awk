@@ -12,11 +12,12 @@ function heading() {
     }
 }
 FNR == 1 { impl = ""; inside = 0; of_trait = 0 }
-/^impl/ { impl = $0; sub(/ \{\}?$/, "", impl); of_trait = impl ~ / for / && impl !~ /(Model|Joined|Cased) for /; next }
+/^impl/ { impl = $0; sub(/ \{\}?$/, "", impl); of_trait = impl ~ / for / && impl !~ /(Model|Joined|Cased|Copying|Kind).* for /; next }
 /^}/ { impl = ""; of_trait = 0; next }
 of_trait && /^    ghost [a-z_]+ =/ { heading(); line = $0; sub(/;$/, "", line); print line; next }
 /^(    )?pub fn / { heading(); inside = 1 }
-inside && /^ *\{$/ { inside = 0; next }
+of_trait && /^    fn / { heading(); inside = 1 }
+inside && /^ *\{\}?$/ { inside = 0; next }
 inside {
     if ($0 ~ / \{$/) { inside = 0; sub(/ \{$/, "") }
     sub(/pub fn/, "fn")

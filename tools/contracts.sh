@@ -5,7 +5,8 @@ cd "$(dirname "$0")/.."
 export LC_ALL=C
 echo "# The contracts"
 echo
-echo "The public calls with their clauses, quoted from the files by \`make contracts\`; \`docs/CALLING.md\`"
+echo "The public calls, trait methods and laws with their clauses, quoted from the files by \`make contracts\`. A trait"
+echo "method without clauses has those of its trait. \`docs/CALLING.md\`"
 echo "says what they mean for a caller, and \`docs/DEFINITIONS.md\` what their words do. \`x.now\` is what stands"
 echo "behind a \`&\`, \`x.old\` and \`x.new\` what stands behind a \`&mut\` before and after the call, and \`x.entry\` a"
 echo "value at the call."
@@ -17,4 +18,5 @@ awk -f tools/contracts.awk crates/ecow_base/src/range.rt \
     crates/ecow_text/src/text.rt crates/ecow_text/src/text/*.rt crates/ecow_text/src/display.rt crates/ecow_text/src/traits.rt \
     crates/ecow_store/src/store.rt crates/ecow_store/src/store/*.rt \
     crates/ecow_counted/src/counted.rt crates/ecow_counted/src/counted/*.rt crates/ecow_counted/src/fill.rt \
+    crates/ecow_values/src/laws.rt crates/ecow_model/src/laws.rt crates/ecow_bytes/src/laws.rt crates/ecow_text/src/laws.rt \
     crates/ecow_laws/src/*.rt

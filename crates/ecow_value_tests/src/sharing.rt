@@ -1,5 +1,6 @@
 //! Who shares a block, and what is cloned and dropped, where no script says it.
 use crate::calls::{error_of, is_unique, reverse, shared};
+use ecow_block::Block;
 use ecow_bytes::EcoBytes;
 use ecow_list::{EcoError, EcoVec};
 use ecow_testing::elements::{Single, Tally};
@@ -35,6 +36,32 @@ fn a_loan_for_writing_unshares(rt: HostRuntime) -> Result<(), Fail> {
         assert_eq!(rt; first.as_slice(), after);
         assert_eq!(rt; second.as_slice(), values);
     }
+    Ok(())
+}
+
+/// Puts a block without room in the place of a vector's own.
+fn give_its_block_away(alloc: Global, list: &mut EcoVec<u8>) -> Result<(), EcoError> {
+    match list.own_mut() {
+        Ok(block) => {
+            *block = Block::new(alloc);
+            Ok(())
+        }
+        Err(Some(error)) => Err(error),
+        Err(None) => Ok(()),
+    }
+}
+
+#[test]
+fn a_vector_has_the_block_that_is_put_in_its_place(rt: HostRuntime) -> Result<(), Fail> {
+    let (mut list, whole) = with_clone(rt.alloc(), &[1, 2, 3])?;
+    give_its_block_away(rt.alloc(), &mut list)?;
+    assert_eq!(rt; room_of_a_unique(&mut list), Some(0));
+    assert!(rt; list.is_empty() && whole.as_slice() == [1, 2, 3]);
+    let mut none = shared(&list)?;
+    list.push(4).map_err(error_of)?;
+    assert_eq!(rt; room_of_a_unique(&mut list), Some(4));
+    assert!(rt; list.as_slice() == [4] && none.is_empty() && is_unique(&mut none));
+    assert_eq!(rt; none.pop()?, None);
     Ok(())
 }
 

@@ -38,6 +38,9 @@ impl<T: Clone> EcoVec<T> {
     /// element, and takes no memory. The one other error is `Memory`, where the copy was refused;
     /// then nothing has changed.
     ///
+    /// Another block may be put in this one's place. The vector then has its elements and its
+    /// capacity, also where that has no room: the next call that adds elements asks for some.
+    ///
     /// This project's own: `make_mut` for callers that are proved, who learn of this borrow what
     /// was written.
     #[inline]

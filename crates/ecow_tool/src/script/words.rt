@@ -2,7 +2,7 @@
 ghost use Rattle.std.specs.Prelude.{◌≡◌, ◌↔◌, ◌⊎◌, IsTrue};
 
 use crate::script::Reason;
-use crate::script::names::Names;
+use crate::script::names::Interner;
 use std::alloc::{AllocError, AllocFailed, Global};
 
 /// Why a line was not read.
