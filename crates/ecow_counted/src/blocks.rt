@@ -155,6 +155,7 @@ impl<T> Blocks<T> {
         ensures sharing { IsSharing self.new.names }
     {
         // For the proof: a list fits in its block.
+        // For the proof alone: a block has no more elements than places.
         let _fits = block.len();
         let place = self.table.insert_reserved(Entry { block, owners: 1 });
         set_place(&mut self.places, name, Some(place));

@@ -30,6 +30,7 @@ impl<T: Clone> Counted<T> {
             → self.new.moved ≤ self.old.moved + 2 * result.accepted }
     {
         // For the proof: the names of a group hold one block.
+        // For the proof alone: what a table of blocks always keeps.
         let _sharing = self.blocks();
         if let Outcome::Refused(refusal) = self.step(VecCommand::New { name }) {
             return Filled {

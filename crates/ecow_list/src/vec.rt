@@ -94,6 +94,7 @@ impl<T> EcoVec<T> {
     {
         match &self.block {
             Some(shared) => {
+                // For the proof alone: the length is bounded.
                 let _len = shared.len();
                 shared.capacity()
             }

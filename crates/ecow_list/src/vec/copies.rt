@@ -52,6 +52,7 @@ impl<T: Clone + Copy> EcoVec<T> {
             ↔ (MAX_LEN < length self.old + length elements.now) }
         ensures nothing { elements.now ≡ [] → IsOk result × (self.new ≡ self.old) }
     {
+        // The vector's length stands here for the proof alone: it is bounded.
         let (_len, added) = (self.len(), elements.len());
         if added == 0 {
             return Ok(());

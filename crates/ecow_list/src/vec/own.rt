@@ -121,6 +121,7 @@ impl<T: Drop> EcoVec<T> {
         if capacity == 0 {
             let mut none = Block::new(self.alloc);
             let answer = edit(&mut none, given).map_err(Rejected::for_memory)?;
+            // For the proof alone: a block without room has no element.
             let _room = none.capacity();
             self.block = None;
             return Ok(answer);
