@@ -2,8 +2,6 @@ pub mod State
 pub mod Refusing
 pub mod Values
 pub mod Uses
-pub mod Tables
-pub mod Loans
 pub mod Lists
 pub mod Bytes
 pub mod Texts

@@ -1,14 +1,10 @@
-//! The commands on named lists, bytes and texts, the definitions of what they do, and the map of
-//! named values in which they are carried out.
+//! The commands on named lists, bytes and texts, and the definitions of what they do.
 #![tactic(auto)]
 
 pub mod bytes;
 pub mod command;
-pub mod kinds;
 pub mod laws;
 pub mod lists;
-pub mod loans;
-pub mod table;
 pub mod texts;
 pub mod usage;
 pub mod value;

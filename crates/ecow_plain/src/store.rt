@@ -8,10 +8,11 @@ ghost use Rattle.ecow_model.specs.Values.{list_at};
 
 use crate::kind::ListKind;
 use crate::list::PlainList;
-use ecow_model::kinds::carry_out;
-use ecow_model::table::Table;
+use ecow_keeping::kinds::carry_out;
+use ecow_keeping::loans;
+use ecow_keeping::table::Table;
 use ecow_model::value::Value;
-use ecow_model::{Name, Outcome, PlainBytes, PlainText, Refusal, VecCommand, loans};
+use ecow_model::{Name, Outcome, PlainBytes, PlainText, Refusal, VecCommand};
 use std::alloc::{AllocError, Global};
 use std::marker::Model;
 

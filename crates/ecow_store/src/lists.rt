@@ -10,17 +10,18 @@ ghost use Rattle.ecow_model.specs.Uses.{IsEdit, IsEditVerdict};
 ghost use Rattle.ecow_model.specs.declared.command.Outcome.{Outcome};
 ghost use Rattle.ecow_model.specs.declared.command.Refusal.{Refusal};
 ghost use Rattle.ecow_model.specs.declared.lists.ListEdit.{ListEdit};
-ghost use Rattle.ecow_model.proofs.Uses.{list_wraps};
+ghost use Rattle.ecow_keeping.proofs.Uses.{list_wraps};
 
 use crate::answers::{answer_change, refusal_of};
 use crate::store::Stored;
 use ecow_base::resolve;
+use ecow_keeping::kinds::{Kind, carry_out};
+use ecow_keeping::table::Table;
+use ecow_keeping::values::{list_in, list_in_mut};
 use ecow_list::{EcoError, EcoVec};
-use ecow_model::kinds::{Kind, carry_out};
 use ecow_model::lists::{ListAsk, ListDerive, ListEdit, ListMake};
-use ecow_model::table::Table;
 use ecow_model::usage::Made;
-use ecow_model::value::{Value, list_in, list_in_mut};
+use ecow_model::value::Value;
 use ecow_model::{Bounds, Items, Outcome, Refusal, VecCommand};
 use std::alloc::{AllocError, Global};
 

@@ -11,7 +11,7 @@ mod read;
 use crate::{bytes, lists, texts};
 use ecow_bytes::SmallBytes;
 use ecow_list::{EcoError, EcoVec, Rejected};
-use ecow_model::table::Table;
+use ecow_keeping::table::Table;
 use ecow_model::value::Value;
 use ecow_model::{Command, Outcome};
 use ecow_text::SmallText;

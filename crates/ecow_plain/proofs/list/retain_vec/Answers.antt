@@ -1,5 +1,5 @@
 use Rattle.std.proofs.Common.{rules, refl}
-use Rattle.ecow_model.proofs.Marks.{retained_by_marks}
+use Rattle.ecow_keeping.proofs.Marks.{retained_by_marks}
 use Rattle.ecow_plain.specs.contracts.list.fn.retain_vec.retain_mut as closure
 use Rattle.ecow_plain.proofs.list.retain_vec.Goals as goal
 

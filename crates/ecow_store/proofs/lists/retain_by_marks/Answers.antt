@@ -1,6 +1,6 @@
 use Rattle.std.proofs.Common.{rules, refl}
 use Rattle.std.proofs.lemmas.Result.{IfOk-weaker}
-use Rattle.ecow_model.proofs.Marks.{retained_by_marks}
+use Rattle.ecow_keeping.proofs.Marks.{retained_by_marks}
 use Rattle.ecow_store.specs.contracts.lists.fn.retain_by_marks.retain as closure
 use Rattle.ecow_store.proofs.lists.retain_by_marks.Goals as goal
 

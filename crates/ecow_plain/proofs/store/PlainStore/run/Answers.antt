@@ -2,7 +2,7 @@ use Rattle.std.proofs.Common.{◌≡◌, [], arith}
 use Rattle.std.specs.Vec.Iter.{into_iter_items}
 use Rattle.std.proofs.lemmas.List.{nil_from_length}
 use Rattle.ecow_model.specs.Run.{IsVecStep, IsVecVerdict}
-use Rattle.ecow_model.proofs.Runs.{goes_further, gone_through}
+use Rattle.ecow_keeping.proofs.Runs.{goes_further, gone_through}
 use Rattle.ecow_plain.proofs.store.PlainStore.run.Goals as goal
 
 pub loop-command-preserved : goal.loop-command-preserved

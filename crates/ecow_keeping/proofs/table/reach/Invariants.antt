@@ -1,5 +1,5 @@
 use Rattle.std.proofs.Common.{◌≡◌, ℕ, None, get_or, ◌+◌, ◌-◌, length}
-use Rattle.ecow_model.proofs.table.reach.Given as goal
+use Rattle.ecow_keeping.proofs.table.reach.Given as goal
 
 abbrev pub invariant-loop-slots : goal.invariant-loop-slots
 invariant-loop-slots g l = (name : ℕ) → get_or l.slots.items name None ≡ get_or l.fn.slots.items name None

@@ -1,5 +1,5 @@
-use Rattle.ecow_model.proofs.Uses.{edit_lifts, edit_verdict_lifts, answer_lifts, answer_verdict_lifts, refused_lifts, put_wrap, on_refused}
-use Rattle.ecow_model.proofs.kinds.carry_out.Goals as goal
+use Rattle.ecow_keeping.proofs.Uses.{edit_lifts, edit_verdict_lifts, answer_lifts, answer_verdict_lifts, refused_lifts, put_wrap, on_refused}
+use Rattle.ecow_keeping.proofs.kinds.carry_out.Goals as goal
 
 pub returns-in-Ok-held-clause-step : goal.returns-in-Ok-held-clause-step
 returns-in-Ok-held-clause-step g c = λ clones. rw c.in-Edit.is (edit_lifts g.K.Kind.rules g.met.K.Kind.wraps c.args.values.now c.in-Edit.name c.in-Ok-held.value.now c.in-Ok-held.ensures.value c.in-Edit.edit c.edit.result c.edit.new.held (c.edit.ensures.step clones))

@@ -2,16 +2,16 @@
 ghost use Rattle.std.specs.Prelude.{◌≡◌, ◌⊎◌, MatchResult, Ok, Err};
 ghost use Rattle.std.specs.Borrow.{sem};
 ghost use Rattle.std.specs.FinMap as map;
-ghost use Rattle.ecow_model.specs.Loans.{LendsPayload, LendsPayloadAt};
+ghost use Rattle.ecow_keeping.specs.Loans.{LendsPayload, LendsPayloadAt};
 ghost use Rattle.ecow_model.specs.Refusing.{OnRefused};
 ghost use Rattle.ecow_model.specs.Uses.{Rules, WrapsPayloads, IsMade, IsMadeOrRefused, IsDerived, IsDerivedOrRefused, IsEdit, IsEditVerdict, IsAnswer, IsAnswerVerdict, IsUse, IsUseVerdict, value_at};
 ghost use Rattle.ecow_model.specs.declared.command.Outcome.{Outcome};
 ghost use Rattle.ecow_model.specs.declared.command.Refusal.{Refusal};
 
-use crate::command::{Name, Outcome, Refusal};
 use crate::loans::value_mut;
 use crate::table::Table;
-use crate::usage::{Made, Usage};
+use ecow_model::usage::{Made, Usage};
+use ecow_model::{Name, Outcome, Refusal};
 use std::alloc::Global;
 
 /// A kind of value, where values of type `V` stand under names: what the parts of a command do with

@@ -1,7 +1,7 @@
 use Rattle.std.proofs.Common.{arith, ◌+◌, ◌<◌, ◌^◌, subst}
 use Rattle.std.specs.FinMap as map
-use Rattle.ecow_model.proofs.Maps.{len-values}
-use Rattle.ecow_model.proofs.table.Table.is_countable.Goals as goal
+use Rattle.ecow_keeping.proofs.Maps.{len-values}
+use Rattle.ecow_keeping.proofs.table.Table.is_countable.Goals as goal
 
 pub returns : goal.returns
 returns g c =

@@ -1,0 +1,4 @@
+pub mod Maps
+pub mod Marks
+pub mod Runs
+pub mod Uses

@@ -1,0 +1,83 @@
+//! The list, the bytes or the text that a value is.
+ghost use Rattle.std.specs.Prelude.{◌≡◌, MatchResult, Ok, Err};
+ghost use Rattle.std.specs.Borrow.{sem};
+ghost use Rattle.ecow_keeping.specs.Loans.{LendsListed, LendsBuffered, LendsWritten};
+ghost use Rattle.ecow_model.specs.Values.{as_list, as_bytes, as_text};
+
+use ecow_model::Refusal;
+use ecow_model::value::Value;
+
+/// The list that a value is; `Kind` where it is none.
+pub fn list_in<L, B, S>(value: &Value<L, B, S>) -> Result<&L, Refusal>
+    ensures { MatchResult result (λ list. as_list value.now ≡ Ok list.now)
+        (λ refusal. as_list value.now ≡ Err refusal) }
+{
+    match value {
+        Value::List(list) => Ok(list),
+        Value::Bytes(_) => Err(Refusal::Kind),
+        Value::Text(_) => Err(Refusal::Kind),
+    }
+}
+
+/// The same for writing.
+pub fn list_in_mut<L, B, S>(value: &mut Value<L, B, S>) -> Result<&mut L, Refusal>
+    ensures* writes_back { sem 𝓛 (LendsListed L.row B.row S.row value.entry result) }
+    ensures value { MatchResult result (λ list. as_list value.old ≡ Ok list.now)
+        (λ refusal. as_list value.old ≡ Err refusal) }
+{
+    match value {
+        Value::List(list) => Ok(list),
+        Value::Bytes(_) => Err(Refusal::Kind),
+        Value::Text(_) => Err(Refusal::Kind),
+    }
+}
+
+/// The bytes that a value is; `Kind` where it is none.
+pub fn bytes_in<L, B, S>(value: &Value<L, B, S>) -> Result<&B, Refusal>
+    ensures { MatchResult result (λ bytes. as_bytes value.now ≡ Ok bytes.now)
+        (λ refusal. as_bytes value.now ≡ Err refusal) }
+{
+    match value {
+        Value::List(_) => Err(Refusal::Kind),
+        Value::Bytes(bytes) => Ok(bytes),
+        Value::Text(_) => Err(Refusal::Kind),
+    }
+}
+
+/// The same for writing.
+pub fn bytes_in_mut<L, B, S>(value: &mut Value<L, B, S>) -> Result<&mut B, Refusal>
+    ensures* writes_back { sem 𝓛 (LendsBuffered L.row B.row S.row value.entry result) }
+    ensures value { MatchResult result (λ bytes. as_bytes value.old ≡ Ok bytes.now)
+        (λ refusal. as_bytes value.old ≡ Err refusal) }
+{
+    match value {
+        Value::List(_) => Err(Refusal::Kind),
+        Value::Bytes(bytes) => Ok(bytes),
+        Value::Text(_) => Err(Refusal::Kind),
+    }
+}
+
+/// The text that a value is; `Kind` where it is none.
+pub fn text_in<L, B, S>(value: &Value<L, B, S>) -> Result<&S, Refusal>
+    ensures { MatchResult result (λ text. as_text value.now ≡ Ok text.now)
+        (λ refusal. as_text value.now ≡ Err refusal) }
+{
+    match value {
+        Value::List(_) => Err(Refusal::Kind),
+        Value::Bytes(_) => Err(Refusal::Kind),
+        Value::Text(text) => Ok(text),
+    }
+}
+
+/// The same for writing.
+pub fn text_in_mut<L, B, S>(value: &mut Value<L, B, S>) -> Result<&mut S, Refusal>
+    ensures* writes_back { sem 𝓛 (LendsWritten L.row B.row S.row value.entry result) }
+    ensures value { MatchResult result (λ text. as_text value.old ≡ Ok text.now)
+        (λ refusal. as_text value.old ≡ Err refusal) }
+{
+    match value {
+        Value::List(_) => Err(Refusal::Kind),
+        Value::Bytes(_) => Err(Refusal::Kind),
+        Value::Text(text) => Ok(text),
+    }
+}
