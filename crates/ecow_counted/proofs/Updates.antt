@@ -2,6 +2,7 @@
 use Rattle.std.proofs.Common.{◌≡◌, ◌≢◌, ℕ, ◌+◌, ◌-◌, ◌<◌, ◌≤◌, ◌^◌, true, false, cond, eqb, [], length, Option, Some, None, IsSome, refl, sym, ◌∙◌, ap, subst, arith, ⊎_elim}
 use Rattle.std.specs.Prelude.{is_some, List, slice_index_or, count_by}
 use Rattle.std.specs.Ordering.{nat_cmp}
+use Rattle.std.specs.Cmp.{nat_cmp_total}
 use Rattle.std.specs.FinMap as finite
 use Rattle.std.specs.Option.{option_map, unwrap_or}
 use Rattle.std.proofs.lemmas.Bool.{ne_eqb, eq-eqb, true≢false, lt-ltb, cases_eq}
@@ -190,6 +191,14 @@ module _ {X : Type 0} (places : Places) (table : Slab (Entry X)) (is : IsTable p
 
       pub joined_table : IsTable after left
       joined_table = block_shared_table places after table is x y free_place left p source (λ q. ap (λ m. finite.get m q) written ∙ get-insert_nat places y (Some p) q) counted others len
+
+  -- there is one name less before a free one is put in
+  pub few_before : (y : ℕ) (v : Option ℕ) (after : Places) → finite.get names y ≡ None
+      → after ≡ finite.insert places y v → finite.len after < 2 ^ 64 → finite.len places + 1 < 2 ^ 64
+  few_before y v after free written few =
+      let one_more = finite.len-insert nat_cmp_total places y v
+      ∙ ap (λ b. cond b (finite.len places) (finite.len places + 1)) (contained y ∙ ap is_some free) in
+      subst (λ n. n < 2 ^ 64) (ap finite.len written ∙ one_more) few
 
   -- an entry counts no more names than there are
   pub owners_fit : (p : ℕ) (entry : Entry X) → get table p ≡ Some entry → finite.len places + 1 < 2 ^ 64 → entry.owners + 1 < 2 ^ 64

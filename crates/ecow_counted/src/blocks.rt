@@ -191,8 +191,6 @@ impl<T> Blocks<T> {
         ensures sharing { IsSharing self.new.names }
     {
         let place = place_of(&self.places, from);
-        // For the proof: an owner more fits its word.
-        self.places.is_countable();
         self.places.insert(to, place)?;
         if let Some(place) = place {
             add_owner(&mut self.table, place);

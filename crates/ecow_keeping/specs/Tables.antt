@@ -8,11 +8,12 @@ use Rattle.std.specs.FinMap.Entries.{where_key}
 abbrev pub SLOTS : ℕ
 SLOTS = 65536
 
+-- whether a name has a slot
 abbrev pub has_slot : ℕ → Bool
 has_slot name = nat_lt name SLOTS
 
 module _ {V : Type 0} where
-  -- the same values under the next names
+  -- each value under the name after its own
   abbrev pub shifted : List (ℕ × V) → List (ℕ × V)
   shifted es = map (λ e. (suc e.0, e.1)) es
 
@@ -24,4 +25,6 @@ module _ {V : Type 0} where
 
   -- the names below `SLOTS` have what stands in their slots, the others their entries
   abbrev pub values_of : List (Option V) → List (ℕ × V) → finite.FinMap nat_cmp V
-  values_of slots es = finite.from_entries (filled (take SLOTS slots) ++ where_key nat_cmp (λ name. not (has_slot name)) es)
+  values_of slots es =
+      finite.from_entries
+      (filled (take SLOTS slots) ++ where_key nat_cmp (λ name. not (has_slot name)) es)

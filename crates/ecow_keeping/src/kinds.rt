@@ -1,4 +1,4 @@
-//! The commands on named values by their parts, carried out once for all kinds of value.
+//! How a command on named values is carried out by its parts, once for all kinds of value.
 ghost use Rattle.std.specs.Prelude.{◌≡◌, ◌⊎◌, MatchResult, Ok, Err};
 ghost use Rattle.std.specs.Borrow.{sem};
 ghost use Rattle.std.specs.FinMap as map;
@@ -14,69 +14,74 @@ use ecow_model::usage::{Made, Usage};
 use ecow_model::{Name, Outcome, Refusal};
 use std::alloc::Global;
 
-/// A kind of value, where values of type `V` stand under names: what the parts of a command do with
-/// one of its values. `rules` are the definitions that it keeps, where `premise` holds.
+/// A kind of value: what the parts of a command do with one of its values. Values of type `V` stand
+/// under names, and lists have elements of type `T`.
+///
+/// `rules` are the definitions that the kind keeps where `premise` holds. Which refusal comes
+/// doesn't depend on `premise`. `wraps` says that a value under a name is its payload and no more.
 pub trait Kind<T: Clone, V: Drop> {
-    /// A value of the kind.
+    /// The values of the kind.
     type Payload: Drop;
 
-    /// The ways to make one.
+    /// The ways to make a value of the kind.
     type Make: Drop;
 
-    /// The ways to make one from a value of any kind.
+    /// The ways to make a value of the kind from a value of any kind.
     type Derive: Drop;
 
-    /// The changes of one.
+    /// The changes of a value of the kind.
     type Edit: Drop;
 
-    /// The questions to one.
+    /// The questions to a value of the kind.
     type Ask: Drop;
 
     ghost rules: { Rules T V Self.Payload Self.Make Self.Derive Self.Edit Self.Ask };
 
     ghost premise: { Type 0 };
 
-    /// A value that is made, or why it is not.
+    /// Makes a value, or says why it is refused.
     fn make(alloc: Global, how: Self::Make) -> Result<Made<Self::Payload>, Refusal>
         ensures made { premise → IsMade rules how result }
         ensures verdict { IsMadeOrRefused rules how result };
 
-    /// A value that is made from another one, or why it is not.
+    /// Makes a value from `source`, which stays as it is, or says why it is refused.
     fn derive(alloc: Global, how: Self::Derive, source: &V) -> Result<Self::Payload, Refusal>
         ensures derived { premise → IsDerived rules how source.now result }
         ensures verdict { IsDerivedOrRefused rules how source.now result };
 
-    /// Carries out one change. A refused one changes nothing.
+    /// Carries out one change. A refused change leaves `held` as it was.
     fn edit(alloc: Global, held: &mut Self::Payload, edit: Self::Edit) -> Outcome<T>
         ensures step { premise → IsEdit rules edit held.old result held.new }
         ensures verdict { IsEditVerdict rules edit held.old result }
         ensures refused { OnRefused result (held.new ≡ held.old) };
 
-    /// Answers one question.
+    /// Answers one question. `held` stays as it was.
     fn ask(alloc: Global, held: &mut Self::Payload, question: Self::Ask) -> Outcome<T>
         ensures answer { premise → IsAnswer rules question held.old result }
         ensures verdict { IsAnswerVerdict rules question held.old result }
         ensures kept { held.new ≡ held.old };
 
-    /// What stands under a name, where it is of this kind, and else why it can't be used.
+    /// The value of this kind that `value` is, for reading, and else the refusal.
     fn payload(value: &V) -> Result<&Self::Payload, Refusal>
         ensures { MatchResult result (λ x. rules.payload value.now ≡ Ok x.now)
             (λ refusal. rules.payload value.now ≡ Err refusal) };
 
-    /// The same for writing.
+    /// The value of this kind that `value` is, for writing, and else the refusal.
     fn payload_mut(value: &mut V) -> Result<&mut Self::Payload, Refusal>
-        ensures* writes_back { sem 𝓛 (LendsPayload V.row Self.Payload.row rules.wrap value.entry result) }
+        ensures* writes_back { sem 𝓛
+            (LendsPayload V.row Self.Payload.row rules.wrap value.entry result) }
         ensures value { MatchResult result (λ x. rules.payload value.old ≡ Ok x.now)
             (λ refusal. rules.payload value.old ≡ Err refusal) };
 
-    /// A value of the kind as one that stands under a name.
+    /// `held` as a value that may stand under a name.
     fn wrap(held: Self::Payload) -> V
         ensures { result ≡ rules.wrap held };
 
     ghost wraps: { WrapsPayloads rules };
 }
 
-/// The value of a kind under a name, for writing.
+/// The value of a kind under a name, for writing: `NoName` where nothing stands there, and the
+/// refusal of `K::payload_mut` where a value of another kind does.
 fn payload_at<T: Clone, V: Drop, K: Kind<T, V>>(
     values: &mut Table<V>,
     name: Name,
@@ -89,7 +94,8 @@ fn payload_at<T: Clone, V: Drop, K: Kind<T, V>>(
     K::payload_mut(value_mut(values, name)?)
 }
 
-/// Puts a value under a name, and then answers `outcome`.
+/// Puts a value under a name, and then answers `outcome`. Without memory for the name it answers
+/// `Memory`, and nothing changes.
 fn put<T: Drop, V: Drop>(
     values: &mut Table<V>,
     name: Name,
@@ -105,7 +111,7 @@ fn put<T: Drop, V: Drop>(
     }
 }
 
-/// Carries out one command on values of one kind. A refused one changes nothing.
+/// Carries out one command on values of one kind, by its parts. A refused command changes nothing.
 pub fn carry_out<T: Clone, V: Drop, K: Kind<T, V>>(
     alloc: Global,
     values: &mut Table<V>,

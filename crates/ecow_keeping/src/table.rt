@@ -1,5 +1,5 @@
 //! A finite map from names to values.
-ghost use Rattle.std.specs.Prelude.{◌≡◌, ◌+◌, ◌<◌, ◌^◌, ℕ, None, OnOk, OnErr, get_or, length};
+ghost use Rattle.std.specs.Prelude.{◌≡◌, ◌<◌, ◌^◌, ℕ, None, OnOk, OnErr, get_or, length};
 ghost use Rattle.std.specs.Borrow.{sem};
 ghost use Rattle.std.specs.FinMap as map;
 ghost use Rattle.std.specs.Option.{option_copied, option_copied_mut};
@@ -14,10 +14,10 @@ use std::marker::Model;
 /// How many names have slots: those below it.
 const SLOTS: Name = 65536;
 
-/// A finite map from names, of which contracts see what stands under each.
+/// A finite map from names. Contracts see what stands under each name.
 ///
-/// A small name's value stands in the slot of its number, so that names that are numbered from 0 are
-/// found at once, whoever chose them. The others stand in a tree.
+/// A name below 65536 has the slot of its number, so names numbered from 0 are found at once,
+/// whoever chose them. The other names stand in a tree.
 #[derive(Drop)]
 pub struct Table<V> {
     slots: Vec<Option<V>>,
@@ -38,7 +38,7 @@ impl<V> Model for Table<V> {
 }
 
 impl<V> Table<V> {
-    /// No name is there. Takes no memory.
+    /// A map without names. Takes no memory.
     pub fn new(alloc: Global) -> Self
         ensures { result ≡ map.empty }
     {
@@ -48,7 +48,7 @@ impl<V> Table<V> {
         }
     }
 
-    /// Whether the name is there.
+    /// Whether something stands under the name.
     #[inline]
     pub fn contains(&self, name: Name) -> bool
         ensures { result ≡ map.contains_key self.now name }
@@ -56,7 +56,7 @@ impl<V> Table<V> {
         self.get(name).is_some()
     }
 
-    /// What stands under the name.
+    /// What stands under the name, for reading; `None` where nothing does.
     #[inline]
     pub fn get(&self, name: Name) -> Option<&V>
         ensures { option_copied result ≡ map.get self.now name }
@@ -71,7 +71,7 @@ impl<V> Table<V> {
         }
     }
 
-    /// What stands under the name, for writing.
+    /// What stands under the name, for writing; `None` where nothing does.
     #[inline]
     pub fn get_mut(&mut self, name: Name) -> Option<&mut V>
         ensures* writes_back { sem 𝓛 (LendsValue V.row self.entry name result) }
@@ -86,24 +86,19 @@ impl<V> Table<V> {
             self.others.get_mut(&name)
         }
     }
-
-    /// For proofs: names are fewer than numbers of 64 bits.
-    #[inline]
-    pub fn is_countable(&self)
-        ensures { map.len self.now + 1 < 2 ^ 64 }
-    {
-        let _others = self.others.len();
-    }
 }
 
 impl<V: Drop> Table<V> {
     /// Puts `value` under the name, in place of what stood there. Where there is no memory for
-    /// the name, nothing changes and `value` is dropped.
+    /// the name, nothing changes and `value` is dropped. There are always fewer than 2^64 names.
     #[inline]
     pub fn insert(&mut self, name: Name, value: V) -> Result<(), AllocError>
         ensures ok { OnOk result (self.new ≡ map.insert self.old name value) }
         ensures unchanged { OnErr result (self.new ≡ self.old) }
+        ensures countable { map.len self.new < 2 ^ 64 }
     {
+        // For the proof: a tree has fewer than 2^63 names.
+        let _others = self.others.len();
         if name < SLOTS {
             reach(&mut self.slots, name as usize)?;
             self.slots[name as usize] = Some(value);
@@ -113,7 +108,7 @@ impl<V: Drop> Table<V> {
         Ok(())
     }
 
-    /// Takes the name out, with what stood under it. Takes no memory.
+    /// Takes the name out. Gives what stood under it; `None` where nothing did. Takes no memory.
     #[inline]
     pub fn remove(&mut self, name: Name) -> Option<V>
         ensures value { result ≡ map.get self.old name }
@@ -130,7 +125,8 @@ impl<V: Drop> Table<V> {
     }
 }
 
-/// Makes empty slots up to this place.
+/// Makes empty slots up to the place, and that one too. Where there is no memory, those that were
+/// made stay.
 #[inline]
 fn reach<V: Drop>(slots: &mut Vec<Option<V>>, place: usize) -> Result<(), AllocError>
     ensures there { OnOk result (place < length slots.new.items) }

@@ -1,4 +1,4 @@
-//! The list, the bytes or the text that a value is.
+//! The list, the bytes or the text that a value is, for reading or for writing.
 ghost use Rattle.std.specs.Prelude.{◌≡◌, MatchResult, Ok, Err};
 ghost use Rattle.std.specs.Borrow.{sem};
 ghost use Rattle.ecow_keeping.specs.Loans.{LendsListed, LendsBuffered, LendsWritten};
@@ -7,7 +7,7 @@ ghost use Rattle.ecow_model.specs.Values.{as_list, as_bytes, as_text};
 use ecow_model::Refusal;
 use ecow_model::value::Value;
 
-/// The list that a value is; `Kind` where it is none.
+/// The list that a value is, for reading; `Kind` where it is bytes or a text.
 pub fn list_in<L, B, S>(value: &Value<L, B, S>) -> Result<&L, Refusal>
     ensures { MatchResult result (λ list. as_list value.now ≡ Ok list.now)
         (λ refusal. as_list value.now ≡ Err refusal) }
@@ -19,7 +19,7 @@ pub fn list_in<L, B, S>(value: &Value<L, B, S>) -> Result<&L, Refusal>
     }
 }
 
-/// The same for writing.
+/// The list that a value is, for writing; `Kind` where it is bytes or a text.
 pub fn list_in_mut<L, B, S>(value: &mut Value<L, B, S>) -> Result<&mut L, Refusal>
     ensures* writes_back { sem 𝓛 (LendsListed L.row B.row S.row value.entry result) }
     ensures value { MatchResult result (λ list. as_list value.old ≡ Ok list.now)
@@ -32,7 +32,7 @@ pub fn list_in_mut<L, B, S>(value: &mut Value<L, B, S>) -> Result<&mut L, Refusa
     }
 }
 
-/// The bytes that a value is; `Kind` where it is none.
+/// The bytes that a value is, for reading; `Kind` where it is a list or a text.
 pub fn bytes_in<L, B, S>(value: &Value<L, B, S>) -> Result<&B, Refusal>
     ensures { MatchResult result (λ bytes. as_bytes value.now ≡ Ok bytes.now)
         (λ refusal. as_bytes value.now ≡ Err refusal) }
@@ -44,7 +44,7 @@ pub fn bytes_in<L, B, S>(value: &Value<L, B, S>) -> Result<&B, Refusal>
     }
 }
 
-/// The same for writing.
+/// The bytes that a value is, for writing; `Kind` where it is a list or a text.
 pub fn bytes_in_mut<L, B, S>(value: &mut Value<L, B, S>) -> Result<&mut B, Refusal>
     ensures* writes_back { sem 𝓛 (LendsBuffered L.row B.row S.row value.entry result) }
     ensures value { MatchResult result (λ bytes. as_bytes value.old ≡ Ok bytes.now)
@@ -57,7 +57,7 @@ pub fn bytes_in_mut<L, B, S>(value: &mut Value<L, B, S>) -> Result<&mut B, Refus
     }
 }
 
-/// The text that a value is; `Kind` where it is none.
+/// The text that a value is, for reading; `Kind` where it is a list or bytes.
 pub fn text_in<L, B, S>(value: &Value<L, B, S>) -> Result<&S, Refusal>
     ensures { MatchResult result (λ text. as_text value.now ≡ Ok text.now)
         (λ refusal. as_text value.now ≡ Err refusal) }
@@ -69,7 +69,7 @@ pub fn text_in<L, B, S>(value: &Value<L, B, S>) -> Result<&S, Refusal>
     }
 }
 
-/// The same for writing.
+/// The text that a value is, for writing; `Kind` where it is a list or bytes.
 pub fn text_in_mut<L, B, S>(value: &mut Value<L, B, S>) -> Result<&mut S, Refusal>
     ensures* writes_back { sem 𝓛 (LendsWritten L.row B.row S.row value.entry result) }
     ensures value { MatchResult result (λ text. as_text value.old ≡ Ok text.now)

@@ -35,7 +35,7 @@ use Rattle.ecow_model.specs.declared.texts.TextEdit.TheVariants.{Push, Pop, Push
 use Rattle.ecow_model.specs.declared.texts.TextAsk.{TextAsk}
 use Rattle.ecow_model.specs.declared.texts.TextAsk.TheVariants.{Len, Capacity, Contents, IsInline}
 
--- the same, refused where they are not UTF-8
+-- the text of which bytes are the UTF-8, in their mode; refused where they are not UTF-8
 abbrev pub text_from_bytes : PlainBytes → Result PlainText Refusal
 text_from_bytes b = do
   _ ← check (is_utf8 b.bytes) NotUtf8

@@ -24,8 +24,9 @@ observation_in (Count n) = record { capacity = n; unique = false }
 observation_in (Flag b) = record { capacity = 0; unique = b }
 observation_in _ = record { capacity = 0; unique = false }
 
--- the rules of one kind of value, where V stand under names: how values are made, derived from any
--- of V, changed and asked
+-- the rules of one kind of value: how its values are made, derived from any value, changed and
+-- asked. T is an element of a list, V what stands under a name, and A a value of the kind. M is a
+-- way to make one, D a way to derive one, E a change of one and Q a question to one
 pub record Rules (T V A M D E Q : Type 0) : Type 0 where
   pub payload : V → Result A Refusal
   pub wrap : A → V
@@ -62,7 +63,8 @@ IsGiven given result =
     MatchResult given (λ value. (result ≡ Ok value) ⊎ (result ≡ Err Memory))
     (λ refusal. result ≡ Err refusal)
 
--- the same of the refusal alone
+-- a value that is made or derived, as far as its refusal goes: it is refused exactly as is given, or
+-- for want of memory where nothing else refuses it
 abbrev pub IsRefusedAlike : {A B : Type 0} → Result A Refusal → Result B Refusal → Type 0
 IsRefusedAlike given result =
     MatchResult given (λ _. IfErr result (λ refusal. refusal ≡ Memory))

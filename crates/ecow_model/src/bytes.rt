@@ -15,7 +15,8 @@ pub enum BytesCommand {
     New {
         name: Name,
     },
-    /// Inline bytes. Answers `Flag`: false, and nothing is made, where they are past the inline limit.
+    /// Inline bytes. Answers `Flag`: false, and nothing is made, where they are past the inline
+    /// limit.
     TryInline {
         name: Name,
         bytes: Items<u8>,
@@ -226,8 +227,8 @@ impl BytesCommand {
 }
 
 impl BytesEdit {
-    /// Whether the edit may be made in `len` bytes, of which up to `N` stand inline, and else why
-    /// not: the first refusal that applies, want of memory apart. `T` is what the store's lists hold.
+    /// Whether the edit may be made in `len` bytes, and else the first refusal that applies, want of
+    /// memory apart. Up to `N` bytes stand inline. `T` is an element of the store's lists.
     pub fn check<T, const N: usize>(&self, len: usize) -> Result<(), Refusal>
         ensures { (b : PlainBytes) → length b.bytes ≡ len
             → result ≡ verdict (edit_bytes {T = T} N self.now b) }

@@ -211,8 +211,8 @@ impl<T> VecCommand<T> {
 }
 
 impl<T> ListEdit<T> {
-    /// Whether the edit may be made in a list of `len` elements, and else why not: the first refusal
-    /// that applies, want of memory apart.
+    /// Whether the edit may be made in a list of `len` elements, and else the first refusal that
+    /// applies, want of memory apart.
     pub fn check(&self, len: usize) -> Result<(), Refusal>
         ensures { (xs : List T) → length xs ≡ len → result ≡ verdict (edit_list self.now xs) }
     {

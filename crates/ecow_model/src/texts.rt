@@ -13,7 +13,8 @@ pub enum TextCommand {
     New {
         name: Name,
     },
-    /// An inline text. Answers `Flag`: false, and nothing is made, where it is past the inline limit.
+    /// An inline text. Answers `Flag`: false, and nothing is made, where it is past the inline
+    /// limit.
     TryInline {
         name: Name,
         text: Text,
@@ -92,8 +93,8 @@ pub enum TextCommand {
         name: Name,
         additional: usize,
     },
-    /// Under `to`, the text of `from` with `replacement` in place of the first `count` occurrences of
-    /// `pattern`.
+    /// Under `to`, the text of `from` with `replacement` in place of the first `count` occurrences
+    /// of `pattern`.
     Replace {
         from: Name,
         to: Name,

@@ -8,11 +8,11 @@ ghost use Rattle.ecow_keeping.proofs.Uses.{bytes_wraps};
 use crate::answers::{answer_change, answer_make, refusal_of};
 use crate::store::Stored;
 use ecow_bytes::SmallBytes;
-use ecow_list::EcoVec;
-use ecow_model::bytes::{BytesAsk, BytesDerive, BytesEdit, BytesMake};
 use ecow_keeping::kinds::{Kind, carry_out};
 use ecow_keeping::table::Table;
 use ecow_keeping::values::{bytes_in, bytes_in_mut};
+use ecow_list::EcoVec;
+use ecow_model::bytes::{BytesAsk, BytesDerive, BytesEdit, BytesMake};
 use ecow_model::usage::Made;
 use ecow_model::value::Value;
 use ecow_model::{BytesCommand, Items, Outcome, Refusal};
@@ -56,8 +56,13 @@ impl<T: Clone, const N: usize> Kind<T, Stored<T, N>> for BytesKind {
             BytesMake::TryInline(bytes) => {
                 Ok(Made::Tried(SmallBytes::try_inline(alloc, bytes.as_slice())))
             }
-            BytesMake::WithCapacity(capacity) => answer_make(SmallBytes::with_capacity(alloc, capacity)),
-            BytesMake::FromList(bytes) => answer_make(SmallBytes::from_slice(alloc, bytes.as_slice())),
+            BytesMake::WithCapacity(capacity) => answer_make(SmallBytes::with_capacity(
+                alloc, capacity,
+            )),
+            BytesMake::FromList(bytes) => answer_make(SmallBytes::from_slice(
+                alloc,
+                bytes.as_slice(),
+            )),
             BytesMake::FromEcoVec(bytes) => match EcoVec::from_vec(alloc, bytes.into_vec()) {
                 Ok(vec) => Ok(Made::Always(SmallBytes::from(vec))),
                 Err(rejected) => Err(refusal_of(rejected.error)),

@@ -10,8 +10,8 @@ mod read;
 
 use crate::{bytes, lists, texts};
 use ecow_bytes::SmallBytes;
-use ecow_list::{EcoError, EcoVec, Rejected};
 use ecow_keeping::table::Table;
+use ecow_list::{EcoError, EcoVec, Rejected};
 use ecow_model::value::Value;
 use ecow_model::{Command, Outcome};
 use ecow_text::SmallText;

@@ -9,10 +9,10 @@ ghost use Rattle.ecow_keeping.proofs.Uses.{text_wraps};
 use crate::answers::{answer_change, answer_make, refusal_of};
 use crate::store::Stored;
 use ecow_bytes::SmallBytes;
-use ecow_list::EcoError;
 use ecow_keeping::kinds::{Kind, carry_out};
 use ecow_keeping::table::Table;
 use ecow_keeping::values::{text_in, text_in_mut};
+use ecow_list::EcoError;
 use ecow_model::texts::{TextAsk, TextDerive, TextEdit, TextMake};
 use ecow_model::usage::{Made, allowed};
 use ecow_model::value::Value;
@@ -58,7 +58,9 @@ impl<T: Clone, const N: usize> Kind<T, Stored<T, N>> for TextKind {
             TextMake::TryInline(text) => {
                 Ok(Made::Tried(SmallText::try_inline(alloc, text.as_str())))
             }
-            TextMake::WithCapacity(capacity) => answer_make(SmallText::with_capacity(alloc, capacity)),
+            TextMake::WithCapacity(capacity) => answer_make(SmallText::with_capacity(
+                alloc, capacity,
+            )),
             TextMake::FromStr(text) => answer_make(SmallText::from_str(alloc, text.as_str())),
             TextMake::FromChar(c) => answer_make(SmallText::from_char(alloc, c)),
         }
@@ -112,7 +114,10 @@ impl<T: Clone, const N: usize> Kind<T, Stored<T, N>> for TextKind {
             },
             TextEdit::PushStr(more) => answer_change(text.push_str(more.as_str())),
             TextEdit::Insert(index, c) => answer_change(text.insert(index, c)),
-            TextEdit::InsertStr(index, more) => answer_change(text.insert_str(index, more.as_str())),
+            TextEdit::InsertStr(index, more) => answer_change(text.insert_str(
+                index,
+                more.as_str(),
+            )),
             TextEdit::Remove(index) => match text.remove(index) {
                 Ok(c) => Outcome::Char(c),
                 Err(_) => Outcome::Refused(Refusal::Memory),

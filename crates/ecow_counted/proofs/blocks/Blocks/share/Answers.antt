@@ -1,12 +1,16 @@
 use Rattle.std.proofs.Common.{ap, ◌∙◌, Some}
 use Rattle.std.specs.FinMap as finite
-use Rattle.ecow_counted.proofs.Updates.{owners_fit, joined_names, joined_table, bare_joined_names, bare_joined_table}
+use Rattle.ecow_counted.proofs.Updates.{owners_fit, few_before, joined_names, joined_table, bare_joined_names, bare_joined_table}
 use Rattle.ecow_counted.proofs.Placing.{sharing-table}
 use Rattle.ecow_counted.proofs.Updates.{has_place}
 use Rattle.ecow_counted.proofs.blocks.Blocks.share.Goals as goal
 
 pub add_owner-requires-clause-room : goal.add_owner-requires-clause-room
-add_owner-requires-clause-room g c = λ entry at. owners_fit c.self.inside.places c.self.inside.table c.self.invariant c.args.self.now.names (ap (λ s. s.names) c.self.view_is) c.in-Some.place entry at c.is_countable.ensures
+add_owner-requires-clause-room g c = λ entry at.
+    let names = c.args.self.now.names in
+    let shown = ap (λ s. s.names) c.self.view_is in
+    owners_fit c.self.inside.places c.self.inside.table c.self.invariant names shown c.in-Some.place entry at
+    (few_before c.self.inside.places c.self.inside.table c.self.invariant names shown c.args.to c.place_of-place.result c.insert.new.self c.requires.free c.in_ok-insert.ensures.ok c.in_ok-insert.ensures.countable)
 
 pub invariant_of-self-in-Some : goal.invariant_of-self-in-Some
 invariant_of-self-in-Some g c = joined_table c.self.inside.places c.self.inside.table c.self.invariant c.args.self.now.names (ap (λ s. s.names) c.self.view_is) c.args.from c.args.to c.requires.free c.insert.new.self c.add_owner.new.table c.in-Some.place (c.place_of-place.ensures ∙ ap Some c.in-Some.is) (c.in_ok-insert.ensures.ok ∙ ap (finite.insert c.self.inside.places c.args.to) c.in-Some.is) c.add_owner.ensures.counted c.add_owner.ensures.others c.add_owner.ensures.len
