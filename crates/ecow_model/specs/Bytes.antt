@@ -2,7 +2,6 @@
 -- itself.
 use Rattle.std.specs.Prelude.{ℕ, ◌+◌, ◌-◌, ◌*◌, Bool, true, false, ◌||◌, ◌==◌, if◌then◌else◌, nat_le, max, Some, None, List, [], ◌∷◌, ◌++◌, length, take, slice_get, slice_set, Result, Ok}
 use Rattle.std.specs.List.{insert as insert_at, remove as remove_at, insert_slice, repeat}
-use Rattle.std.specs.Str.{encode_utf8_all}
 use Rattle.ecow_values.specs.Inline.{inline_for, inline_after, inline_shrunk}
 use Rattle.ecow_model.specs.State.{Plain}
 use Rattle.ecow_model.specs.Refusing.{◌>>=◌, check, ok_or, allowed, Effect, becomes}
@@ -10,7 +9,6 @@ use Rattle.ecow_model.specs.Values.{as_bytes, as_text}
 use Rattle.ecow_model.specs.Uses.{Observation, Rules}
 use Rattle.ecow_values.specs.Plain.{plain_bytes, bytes_of}
 use Rattle.ecow_values.specs.declared.plain.PlainBytes.{PlainBytes}
-use Rattle.ecow_values.specs.declared.plain.PlainText.{PlainText}
 use Rattle.ecow_model.specs.declared.value.Value.TheVariants.{Bytes as Buffered}
 use Rattle.ecow_model.specs.declared.command.Outcome.{Outcome}
 use Rattle.ecow_model.specs.declared.command.Outcome.TheVariants.{Byte, PoppedByte, Bytes, Count, Flag}
