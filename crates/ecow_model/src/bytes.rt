@@ -227,8 +227,8 @@ impl BytesCommand {
 }
 
 impl BytesEdit {
-    /// Whether the edit may be made in `len` bytes, and else the first refusal that applies, want of
-    /// memory apart. Up to `N` bytes stand inline. `T` is an element of the store's lists.
+    /// Whether the edit may be made in `len` bytes, and else the first refusal that applies, want
+    /// of memory apart. Up to `N` bytes stand inline. `T` is an element of the store's lists.
     pub fn check<T, const N: usize>(&self, len: usize) -> Result<(), Refusal>
         ensures { (b : PlainBytes) → length b.bytes ≡ len
             → result ≡ verdict (edit_bytes {T = T} N self.now b) }
