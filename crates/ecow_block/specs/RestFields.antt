@@ -4,6 +4,7 @@ use Rattle.ecow_block.specs.Rooms.{Follows}
 use Rattle.ecow_block.specs.declared.rest.Rest.TheInside.{Inside as Rest}
 
 module _ {X : Type 0} where
+  -- what always holds of the fields of a rest
   pub record IsRest (r : Rest X) : Type 0 where
     pub at : r.taken.at ≡ r.base.ptr
     pub begins : r.taken.start ≡ 0

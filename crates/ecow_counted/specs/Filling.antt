@@ -37,6 +37,7 @@ module _ {T : Type 0} where
       × IsRunOf old (filling name (take (n + 1) items))
       (accepted n ++ Refused refusal ∷ []) new)
 
+  -- what `fill` answers and leaves, by whether an item was refused
   abbrev pub IsFilled : CountedState T → ℕ → List T → Filled → CountedState T → Type 0
   IsFilled old name items filled new =
       IsFilledUntil filled.refusal old name items filled.accepted new

@@ -21,6 +21,7 @@ is_at place (Some other) = other == place
 abbrev pub names_in : ℕ → List (ℕ × Option ℕ) → List ℕ
 names_in place entries = map (λ e. e.0) (filter (λ e. is_at place e.1) entries)
 
+-- the names whose block stands at a place, in rising order
 abbrev pub names_at : ℕ → Places → List ℕ
 names_at place places = names_in place (finite.entries places)
 

@@ -19,9 +19,11 @@ held_code {T} code =
     (λ p. record { items = p.0; group = p.1.0; capacity = p.1.1 })
     (λ _. refl)
 
+-- how a proof tells apart what all names hold
 abbrev pub names_code : {T : Type 0} → Coded T → Coded (Names T)
 names_code code = finite.code coded_ℕ (held_code code)
 
+-- how a proof tells tables apart
 abbrev pub standing_code : {T : Type 0} → Coded T → Coded (Standing T)
 standing_code {T} code =
     code_by (Names T × Bool) (coded× (names_code code) coded_bool) (λ s. (s.names, s.has_room))

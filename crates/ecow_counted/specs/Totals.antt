@@ -13,6 +13,7 @@ module _ {T : Type 0} (old : CountedState T) (cs : List (VecCommand T))
   abbrev pub CopiedIsSum : Type 0
   CopiedIsSum = new.copied ≡ saturating old.copied (copied_in_run old.names cs outcomes)
 
+  -- the total of moves grew by what the run moved, and stops at the greatest u64
   abbrev pub MovedIsSum : Type 0
   MovedIsSum = new.moved ≡ saturating old.moved (moved_in_run old.names cs outcomes)
 

@@ -13,6 +13,7 @@ abbrev pub name_of_slice : {X : Type 0} → GName → List X → maybe.Option GN
 name_of_slice g [] = maybe.none
 name_of_slice g (x ∷ xs) = maybe.some g
 
+-- the name of a slice that was lent, if one was
 abbrev pub name_if_lent : {X E : Type 0} → Result (MutBor (List X)) E → maybe.Option GName
 name_if_lent (Ok s) = name_of_slice s.ghost_name s.now
 name_if_lent (Err e) = maybe.none

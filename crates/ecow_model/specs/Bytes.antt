@@ -135,6 +135,7 @@ module _ {T : Type 0} (limit : ℕ) where
   ask_bytes seen Contents b = Ok (Bytes b.bytes)
   ask_bytes seen IsInline b = Ok (Flag b.inline)
 
+  -- the rules of bytes
   abbrev pub bytes_rules : Rules T (Plain T) PlainBytes BytesMake BytesDerive BytesEdit BytesAsk
   bytes_rules = record {
     payload = as_bytes;

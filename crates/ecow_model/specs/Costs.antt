@@ -72,6 +72,7 @@ module _ {T : Type 0} where
   make_input (FromElem value count) = count
   make_input _ = 0
 
+  -- how many items a change brings, or asks room for
   abbrev pub edit_input : ListEdit T → ℕ
   edit_input (Push value) = 1
   edit_input (Insert index value) = 1
@@ -85,6 +86,7 @@ module _ {T : Type 0} where
   copied_by edit h =
       cond (is_shared h && unshares edit (length h.items)) (copies edit (length h.items)) 0
 
+  -- the moved elements of a change by a name that holds h
   abbrev pub moved_by : ListEdit T → Held T → ℕ
   moved_by edit h = cond (is_shared h) 0 (moves edit (length h.items) h.capacity)
 

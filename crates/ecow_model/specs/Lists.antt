@@ -118,6 +118,7 @@ module _ {T : Type 0} where
     xs ← make_list how
     Ok (Always xs)
 
+  -- the rules of lists
   abbrev pub list_rules : Rules T (Plain T) (List T) (ListMake T) ListDerive (ListEdit T) ListAsk
   list_rules = record {
     payload = as_list;

@@ -45,6 +45,7 @@ text_from_bytes b = do
 abbrev pub to_ascii_lower : PlainText → PlainText
 to_ascii_lower t = plain_text (map to_ascii_lowercase t.chars) t.inline
 
+-- the text with the letters a to z in upper case
 abbrev pub to_ascii_upper : PlainText → PlainText
 to_ascii_upper t = plain_text (map to_ascii_uppercase t.chars) t.inline
 
@@ -166,6 +167,7 @@ module _ {T : Type 0} (limit : ℕ) where
   ask_text seen Contents t = Ok (Texted t.chars)
   ask_text seen IsInline t = Ok (Flag t.inline)
 
+  -- the rules of texts
   abbrev pub text_rules : Rules T (Plain T) PlainText TextMake TextDerive TextEdit TextAsk
   text_rules = record {
     payload = as_text;

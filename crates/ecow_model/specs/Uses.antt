@@ -122,6 +122,7 @@ module _ {T V A M D E Q : Type 0} (rules : Rules T V A M D E Q) where
   IsUse old usage outcome new =
       Gives (carry_out (observation_in outcome) old usage) (use_is_free old usage) old outcome new
 
+  -- of one command, only whether it is refused, and why
   abbrev pub IsUseVerdict : Named V → Usage M D E Q → Outcome T → Type 0
   IsUseVerdict old usage outcome =
       IsVerdict (carry_out (observation_in outcome) old usage) (use_is_free old usage) outcome
@@ -131,6 +132,7 @@ module _ {T V A M D E Q : Type 0} (rules : Rules T V A M D E Q) where
   IsEdit edit old outcome new =
       Gives (rules.edit edit old) (rules.edit_is_free edit old) old outcome new
 
+  -- of one change, only whether it is refused, and why
   abbrev pub IsEditVerdict : E → A → Outcome T → Type 0
   IsEditVerdict edit old outcome =
       IsVerdict (rules.edit edit old) (rules.edit_is_free edit old) outcome
@@ -142,6 +144,7 @@ module _ {T V A M D E Q : Type 0} (rules : Rules T V A M D E Q) where
       ⊎ ((outcome ≡ Refused Memory) × (rules.ask_is_free question ≡ false)))
       (λ refusal. outcome ≡ Refused refusal)
 
+  -- of one question, only whether it is refused, and why
   abbrev pub IsAnswerVerdict : Q → A → Outcome T → Type 0
   IsAnswerVerdict question value outcome =
       IsVerdict (rules.ask (observation_in outcome) question value)
@@ -151,11 +154,14 @@ module _ {T V A M D E Q : Type 0} (rules : Rules T V A M D E Q) where
   abbrev pub IsMade : M → Result (Made A) Refusal → Type 0
   IsMade how result = IsGiven (rules.make how) result
 
+  -- of a value that is made, only whether it is refused, and why
   abbrev pub IsMadeOrRefused : M → Result (Made A) Refusal → Type 0
   IsMadeOrRefused how result = IsRefusedAlike (rules.make how) result
 
+  -- one value that is derived
   abbrev pub IsDerived : D → V → Result A Refusal → Type 0
   IsDerived how source result = IsGiven (rules.derive how source) result
 
+  -- of a value that is derived, only whether it is refused, and why
   abbrev pub IsDerivedOrRefused : D → V → Result A Refusal → Type 0
   IsDerivedOrRefused how source result = IsRefusedAlike (rules.derive how source) result

@@ -26,11 +26,13 @@ as_list (Listed xs) = Ok xs
 as_list (Buffered b) = Err Kind
 as_list (Written t) = Err Kind
 
+-- the bytes of a value, refused where it is of another kind
 abbrev pub as_bytes : {L B S : Type 0} → Value L B S → Result B Refusal
 as_bytes (Listed xs) = Err Kind
 as_bytes (Buffered b) = Ok b
 as_bytes (Written t) = Err Kind
 
+-- the text of a value, refused where it is of another kind
 abbrev pub as_text : {L B S : Type 0} → Value L B S → Result S Refusal
 as_text (Listed xs) = Err Kind
 as_text (Buffered b) = Err Kind

@@ -13,6 +13,7 @@ joined_by text_of texts = flat_map text_of texts
 abbrev pub joined_strs : List (Bor (List ℕ)) → List ℕ
 joined_strs texts = joined_by (λ text. chars text.now) texts
 
+-- the characters of texts, end to end
 abbrev pub joined_texts : List PlainText → List ℕ
 joined_texts texts = joined_by (λ text. text.chars) texts
 
@@ -20,6 +21,7 @@ joined_texts texts = joined_by (λ text. text.chars) texts
 abbrev pub AppendsBy : {T : Type 0} → (T → List ℕ) → List ℕ → List T → List ℕ → Type 0
 AppendsBy text_of old texts new = new ≡ old ++ joined_by text_of texts
 
+-- new has the characters of old and then those of each `str`
 abbrev pub AppendsStrs : List ℕ → List (Bor (List ℕ)) → List ℕ → Type 0
 AppendsStrs old texts new = new ≡ old ++ joined_strs texts
 

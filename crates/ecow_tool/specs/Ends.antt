@@ -11,6 +11,7 @@ use Rattle.ecow_tool.specs.declared.script.Fault.TheVariants as script
 use Rattle.ecow_tool.specs.declared.script.Reason.{Reason}
 use Rattle.ecow_tool.specs.declared.script.Reason.TheVariants as reason
 
+-- the end that a fault of a script gives
 abbrev pub end_for : Fault → End
 end_for (script.Unreadable line reason) = program.Unreadable line reason
 end_for script.Memory = program.Memory

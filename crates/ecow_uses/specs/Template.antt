@@ -14,6 +14,7 @@ use Rattle.ecow_uses.specs.declared.template.Piece.TheVariants.{Text, Hole}
 abbrev pub opening : ℕ
 opening = 123
 
+-- the character that ends a name
 abbrev pub closing : ℕ
 closing = 125
 

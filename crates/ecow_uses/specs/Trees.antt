@@ -9,6 +9,7 @@ use Rattle.ecow_uses.specs.declared.tree.Node.TheFolds.{fold-Node}
 abbrev pub name_of : Node → List ℕ
 name_of node = (out-Node node).name.chars
 
+-- the nodes below a node
 abbrev pub children_of : Node → List Node
 children_of node = (out-Node node).children
 

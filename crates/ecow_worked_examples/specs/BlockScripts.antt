@@ -1,4 +1,5 @@
--- What scripts on lists in shared blocks answer, and what they leave: owners and capacity of each name, the number of blocks, copied and moved elements.
+-- What scripts on lists in shared blocks answer, and what they leave: owners and capacity of each
+-- name, the number of blocks, copied and moved elements.
 use Rattle.std.specs.Prelude.{◌≡◌, ℕ, true, false, List, [], ◌∷◌, ◌++◌, map, replicate, Some, None}
 use Rattle.std.specs.declared.ops.Bound.TheVariants.{Included, Excluded}
 use Rattle.ecow_model.specs.declared.lists.VecCommand.{VecCommand}
@@ -500,7 +501,9 @@ ANewTableIsEmpty = table [] [] ≡ leaves [] [] [] 0 0 0
 
 -- a name that isn't there has nothing to share
 abbrev pub AMissingNameIsNotShared : Type 0
-AMissingNameIsNotShared = table (0 ∷ 1 ∷ []) (vec.Clone 0 1 ∷ []) ≡ leaves (gives.Refused refuses.NoName ∷ []) (None ∷ None ∷ []) (None ∷ None ∷ []) 0 0 0
+AMissingNameIsNotShared =
+    table (0 ∷ 1 ∷ []) (vec.Clone 0 1 ∷ [])
+    ≡ leaves (gives.Refused refuses.NoName ∷ []) (None ∷ None ∷ []) (None ∷ None ∷ []) 0 0 0
 
 -- three pushes into room for two
 abbrev pub TheThirdPushOutgrowsRoomForTwo : Type 0
@@ -578,19 +581,24 @@ APushAfterAnExtendDoublesTheCapacity =
 
 -- ten clones of a list of a hundred items
 abbrev pub ten_clones : List (VecCommand ℕ)
-ten_clones = vec.FromList 0 (replicate 100 7) ∷ map (λ y. vec.Clone 0 y) (1 ∷ 2 ∷ 3 ∷ 4 ∷ 5 ∷ 6 ∷ 7 ∷ 8 ∷ 9 ∷ 10 ∷ [])
+ten_clones = vec.FromList 0 (replicate 100 7)
+    ∷ map (λ y. vec.Clone 0 y) (1 ∷ 2 ∷ 3 ∷ 4 ∷ 5 ∷ 6 ∷ 7 ∷ 8 ∷ 9 ∷ 10 ∷ [])
 
 -- one push by each of the eleven names
 abbrev pub eleven_pushes : List (VecCommand ℕ)
-eleven_pushes = ten_clones ++ map (λ x. vec.Push x 7) (0 ∷ 1 ∷ 2 ∷ 3 ∷ 4 ∷ 5 ∷ 6 ∷ 7 ∷ 8 ∷ 9 ∷ 10 ∷ [])
+eleven_pushes =
+    ten_clones ++ map (λ x. vec.Push x 7) (0 ∷ 1 ∷ 2 ∷ 3 ∷ 4 ∷ 5 ∷ 6 ∷ 7 ∷ 8 ∷ 9 ∷ 10 ∷ [])
 
 -- the clones are dropped, and then the one name pushes
 abbrev pub one_push : List (VecCommand ℕ)
-one_push = ten_clones ++ map (λ y. vec.Drop y) (1 ∷ 2 ∷ 3 ∷ 4 ∷ 5 ∷ 6 ∷ 7 ∷ 8 ∷ 9 ∷ 10 ∷ []) ++ vec.Push 0 7 ∷ []
+one_push = ten_clones ++ map (λ y. vec.Drop y) (1 ∷ 2 ∷ 3 ∷ 4 ∷ 5 ∷ 6 ∷ 7 ∷ 8 ∷ 9 ∷ 10 ∷ [])
+    ++ vec.Push 0 7 ∷ []
 
--- what sharing copies is what copying at each clone would, and the last push moves the hundred items
+-- what sharing copies is what copying at each clone would, and the last push moves the hundred
+-- items
 abbrev pub ElevenPushesCopyTenTimes : Type 0
 ElevenPushesCopyTenTimes = tally eleven_pushes ≡ sums 1000 1000 0 100 111 22
 
+-- a sole name again copies nothing
 abbrev pub APushAfterTheClonesAreDroppedCopiesNothing : Type 0
 APushAfterTheClonesAreDroppedCopiesNothing = tally one_push ≡ sums 0 1000 0 100 101 2

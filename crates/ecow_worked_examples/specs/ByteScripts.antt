@@ -144,7 +144,8 @@ SixBytesIntoTenSpill =
 abbrev pub SixteenBytesAreNotMadeInline : Type 0
 SixteenBytesAreNotMadeInline =
     script 15 (
-    Bytes (bytes.TryInline 0 (1 ∷ 2 ∷ 3 ∷ 4 ∷ 5 ∷ 6 ∷ 7 ∷ 8 ∷ 9 ∷ 10 ∷ 11 ∷ 12 ∷ 13 ∷ 14 ∷ 15 ∷ 16 ∷ []))
+    Bytes (bytes.TryInline 0
+    (1 ∷ 2 ∷ 3 ∷ 4 ∷ 5 ∷ 6 ∷ 7 ∷ 8 ∷ 9 ∷ 10 ∷ 11 ∷ 12 ∷ 13 ∷ 14 ∷ 15 ∷ 16 ∷ []))
     ∷ Bytes (bytes.Len 0)
     ∷ Bytes (bytes.FromEcoVec 0 (1 ∷ []))
     ∷ Bytes (bytes.IsInline 0)
@@ -167,7 +168,8 @@ AnotherKindIsRefused =
     Vec (vec.New 0)
     ∷ Bytes (bytes.Push 0 1)
     ∷ Bytes (bytes.New 0)
-    ∷ Bytes (bytes.FromList 1 (1 ∷ 2 ∷ 3 ∷ 4 ∷ 5 ∷ 6 ∷ 7 ∷ 8 ∷ 9 ∷ 10 ∷ 11 ∷ 12 ∷ 13 ∷ 14 ∷ 15 ∷ []))
+    ∷ Bytes (bytes.FromList 1
+    (1 ∷ 2 ∷ 3 ∷ 4 ∷ 5 ∷ 6 ∷ 7 ∷ 8 ∷ 9 ∷ 10 ∷ 11 ∷ 12 ∷ 13 ∷ 14 ∷ 15 ∷ []))
     ∷ Bytes (bytes.IsInline 1)
     ∷ Bytes (bytes.Push 1 16)
     ∷ Bytes (bytes.Pop 1)

@@ -1,4 +1,5 @@
--- Scripts from no names, and what they answer where no memory is wanting. `limit` is the greatest number of bytes that are inline.
+-- Scripts from no names, and what they answer where no memory is wanting. `limit` is the greatest
+-- number of bytes that are inline.
 use Rattle.std.specs.Prelude.{ℕ, ℤ, false, List, [], ◌∷◌}
 use Rattle.std.specs.FinMap.{empty}
 use Rattle.std.specs.declared.ops.Bound.{Bound}
@@ -27,4 +28,5 @@ signed_script limit commands = answers limit commands
 
 -- the outcomes of a list of 1, 2 and 3 that is drained from here to there
 abbrev pub drained : Bound ℕ → Bound ℕ → List (Outcome ℕ)
-drained start end = script 15 (Vec (vec.FromList 0 (1 ∷ 2 ∷ 3 ∷ [])) ∷ Vec (vec.Drain 0 (start, end)) ∷ [])
+drained start end =
+    script 15 (Vec (vec.FromList 0 (1 ∷ 2 ∷ 3 ∷ [])) ∷ Vec (vec.Drain 0 (start, end)) ∷ [])

@@ -12,7 +12,8 @@ use Rattle.ecow_model.specs.declared.command.Outcome.{Outcome}
 use Rattle.ecow_model.specs.declared.command.Outcome.TheVariants.{Refused}
 use Rattle.ecow_model.specs.declared.command.Refusal.{Refusal}
 
--- what a run leaves: its outcomes, owners and capacity of the names that are asked for, blocks, and the totals
+-- what a run leaves: its outcomes, owners and capacity of the names that are asked for, blocks, and
+-- the totals
 pub record Summary : Type 0 where
   pub outcomes : List (Outcome ℕ)
   pub owners : List (Option ℕ)
@@ -21,6 +22,7 @@ pub record Summary : Type 0 where
   pub copied : ℕ
   pub moved : ℕ
 
+-- a run that has ended: its outcomes, the numbers counted and what names hold
 abbrev pub done : List ℕ → List (Outcome ℕ) → ℕ → ℕ → Names ℕ → Summary
 done asked outcomes copies moves names =
     record {
@@ -32,19 +34,37 @@ done asked outcomes copies moves names =
       moved = moves;
     }
 
-abbrev pub played : Result (Outcome ℕ × Names ℕ) Refusal → VecCommand ℕ → List (Outcome ℕ) → ℕ → ℕ → Names ℕ → (List (Outcome ℕ) → ℕ → ℕ → Names ℕ → Summary) → Summary
-played (Ok answer) c outcomes copies moves names rest = rest (outcomes ++ answer.0 ∷ []) (copies + copied_in (vec_usage c) names) (moves + moved_in (vec_usage c) names) answer.1
-played (Err refusal) c outcomes copies moves names rest = rest (outcomes ++ Refused refusal ∷ []) copies moves names
+-- what one more command answers and leaves
+abbrev pub played : Result (Outcome ℕ × Names ℕ) Refusal → VecCommand ℕ → List (Outcome ℕ) → ℕ
+    → ℕ → Names ℕ → (List (Outcome ℕ) → ℕ → ℕ → Names ℕ → Summary) → Summary
+played (Ok answer) c outcomes copies moves names rest =
+    rest (outcomes ++ answer.0 ∷ []) (copies + copied_in (vec_usage c) names)
+    (moves + moved_in (vec_usage c) names) answer.1
+played (Err refusal) c outcomes copies moves names rest =
+    rest (outcomes ++ Refused refusal ∷ []) copies moves names
 
+-- a run of commands from what names hold
 abbrev pub play : List ℕ → List (VecCommand ℕ) → List (Outcome ℕ) → ℕ → ℕ → Names ℕ → Summary
 play asked [] outcomes copies moves names = done asked outcomes copies moves names
-play asked (c ∷ cs) outcomes copies moves names = played (counted_carry_out names (vec_usage c)) c outcomes copies moves names (play asked cs)
+play asked (c ∷ cs) outcomes copies moves names =
+    played (counted_carry_out names (vec_usage c)) c outcomes copies moves names (play asked cs)
 
+-- a run of commands from nothing
 abbrev pub table : List ℕ → List (VecCommand ℕ) → Summary
 table asked cs = play asked cs [] 0 0 finite.empty
 
+-- a summary: outcomes, owners, capacities and the numbers counted
 abbrev pub leaves : List (Outcome ℕ) → List (Option ℕ) → List (Option ℕ) → ℕ → ℕ → ℕ → Summary
-leaves outcomes owners capacities blocks copies moves = record { outcomes = outcomes; owners = owners; capacities = capacities; blocks = blocks; copied = copies; moved = moves }
+leaves outcomes owners capacities blocks copies moves =
+    record {
+      outcomes = outcomes;
+      owners = owners;
+      capacities = capacities;
+      blocks =
+          blocks;
+      copied = copies;
+      moved = moves;
+    }
 
 -- the sums of a run, and what its last names owe
 pub record Tally : Type 0 where
@@ -55,31 +75,60 @@ pub record Tally : Type 0 where
   pub input : ℕ
   pub strain : ℕ
 
+-- what one more command copies, moves, brings and would copy at once
 abbrev pub tallied : Result (Outcome ℕ × Names ℕ) Refusal → Names ℕ → (Names ℕ → ℕ → Tally) → Tally
 tallied (Ok answer) names rest = rest answer.1 1
 tallied (Err refusal) names rest = rest names 0
 
+-- these numbers over commands, from what names hold
 abbrev pub tally_from : List (VecCommand ℕ) → ℕ → ℕ → ℕ → ℕ → Names ℕ → Tally
-tally_from [] copies clones moves items names = record { copied = copies; eager = clones; debt = debt names; moved = moves; input = items; strain = strain names }
-tally_from (c ∷ cs) copies clones moves items names = tallied (counted_carry_out names (vec_usage c)) names (λ new n. tally_from cs (copies + n * copied_in (vec_usage c) names) (clones + n * eager_in (vec_usage c) names) (moves + n * moved_in (vec_usage c) names) (items + n * input_in (vec_usage c) names) new)
+tally_from [] copies clones moves items names =
+    record {
+      copied = copies;
+      eager = clones;
+      debt = debt names;
+      moved = moves;
+      input =
+          items;
+      strain = strain names;
+    }
+tally_from (c ∷ cs) copies clones moves items names =
+    tallied (counted_carry_out names (vec_usage c)) names
+    (λ new n. tally_from cs (copies + n * copied_in (vec_usage c) names)
+    (clones + n * eager_in (vec_usage c) names) (moves + n * moved_in (vec_usage c) names)
+    (items + n * input_in (vec_usage c) names) new)
 
+-- these numbers over commands, from nothing
 abbrev pub tally : List (VecCommand ℕ) → Tally
 tally cs = tally_from cs 0 0 0 0 finite.empty
 
+-- such numbers, written out
 abbrev pub sums : ℕ → ℕ → ℕ → ℕ → ℕ → ℕ → Tally
-sums copies clones owed moves items strained = record { copied = copies; eager = clones; debt = owed; moved = moves; input = items; strain = strained }
+sums copies clones owed moves items strained =
+    record {
+      copied = copies;
+      eager = clones;
+      debt = owed;
+      moved = moves;
+      input = items;
+      strain =
+          strained;
+    }
 
 -- the names that a script leaves
 abbrev pub left_by_from : Names ℕ → List (VecCommand ℕ) → Names ℕ
 left_by_from names [] = names
-left_by_from names (c ∷ cs) = left_by_from (names_or (counted_carry_out names (vec_usage c)) names) cs
+left_by_from names (c ∷ cs) =
+    left_by_from (names_or (counted_carry_out names (vec_usage c)) names) cs
 
+-- what names hold after commands
 abbrev pub left_by : List (VecCommand ℕ) → Names ℕ
 left_by cs = left_by_from finite.empty cs
 
 -- the capacity and the moved elements after one more push of a sole name of n items
 abbrev pub push_one : ℕ → ℕ × ℕ → ℕ × ℕ
-push_one n before = (capacity_after {T = ℕ} (Push 0) false n before.0, before.1 + moves {T = ℕ} (Push 0) n before.0)
+push_one n before =
+    (capacity_after {T = ℕ} (Push 0) false n before.0, before.1 + moves {T = ℕ} (Push 0) n before.0)
 
 -- the same after n pushes into a new name
 abbrev pub pushed : ℕ → ℕ × ℕ

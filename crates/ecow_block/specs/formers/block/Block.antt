@@ -28,10 +28,12 @@ use Rattle.ecow_block.specs.contracts.block.Block.TheInside as I
 use Rattle.ecow_block.specs.formers.room.Room as room
 use Rattle.ecow_block.specs.formers.room.Deed as deed
 
+-- a block as a container of what it holds
 abbrev pub the_former : Former {0} → Former {0}
 the_former g = via (pair (list g) (const ℕ)) (λ X. Contents (g.Of X)) (λ X b. (b.items, b.capacity))
     (λ X v. contents v.0 v.1) (λ X b. refl) (λ X v. refl)
 
+-- its measure is the largest among the values that it holds
 abbrev pub the_weighed : {g : Former {0}} → Weighed g → Weighed (the_former g)
 the_weighed w =
     let v = w_pair (w_list w) (w_const ℕ) in
@@ -43,6 +45,7 @@ the_weighed w =
 pub the_empty : Contents ⊥
 the_empty = contents [] 0
 
+-- what a block holds
 abbrev pub the_items : (X : Type 0) → Contents X → List X
 the_items X b = b.items
 
