@@ -60,8 +60,7 @@ leaves outcomes owners capacities blocks copies moves =
       outcomes = outcomes;
       owners = owners;
       capacities = capacities;
-      blocks =
-          blocks;
+      blocks = blocks;
       copied = copies;
       moved = moves;
     }
@@ -88,8 +87,7 @@ tally_from [] copies clones moves items names =
       eager = clones;
       debt = debt names;
       moved = moves;
-      input =
-          items;
+      input = items;
       strain = strain names;
     }
 tally_from (c ∷ cs) copies clones moves items names =
@@ -111,8 +109,7 @@ sums copies clones owed moves items strained =
       debt = owed;
       moved = moves;
       input = items;
-      strain =
-          strained;
+      strain = strained;
     }
 
 -- the names that a script leaves
