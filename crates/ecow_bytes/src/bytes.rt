@@ -137,7 +137,7 @@ impl<const N: usize> Clone for SmallBytes<N> {
     #[inline]
     fn clone(&self) -> Result<Self, AllocError> {
         let form = match &self.form {
-            Form::Inline(inline) => Form::Inline(inline.copied()),
+            Form::Inline(inline) => Form::Inline(inline.copy()),
             Form::Spilled(vec) => Form::Spilled(vec.clone()?),
         };
         Ok(SmallBytes {
