@@ -8,6 +8,7 @@ mod make;
 mod make_mut;
 mod push;
 mod repeat;
+mod rewrite;
 
 use crate::inline::InlineVec;
 use ecow_base::MAX_LEN;
