@@ -6,8 +6,9 @@ ghost use Rattle.std.specs.StrCase.Lower.{str_to_lowercase};
 ghost use Rattle.std.specs.StrCase.Upper.{str_to_uppercase};
 ghost use Rattle.ecow_values.specs.Inline.{inline_for};
 ghost use Rattle.ecow_values.specs.Utf8.{utf8_len};
+ghost use Rattle.ecow_text.specs.Case.{in_case, str_in_case};
 
-use crate::case::{Case, map_in_place, mapped, mapped_by_length};
+use crate::case::{Case, map, map_in_place};
 use crate::text::SmallText;
 use ecow_base::MAX_LEN;
 use ecow_list::EcoError;
@@ -23,8 +24,7 @@ impl<const N: usize> SmallText<N> {
         ensures unchanged { OnErr result (self.new ≡ self.old) }
         ensures free { OnErr result (self.old.inline ≡ false) }
     {
-        map_in_place(&mut self.bytes, Case::Lower)?;
-        Ok(())
+        self.make_ascii(Case::Lower)
     }
 
     /// Maps the letters `a` to `z` to upper case, as `make_ascii_lowercase` maps to lower.
@@ -35,8 +35,7 @@ impl<const N: usize> SmallText<N> {
         ensures unchanged { OnErr result (self.new ≡ self.old) }
         ensures free { OnErr result (self.old.inline ≡ false) }
     {
-        map_in_place(&mut self.bytes, Case::Upper)?;
-        Ok(())
+        self.make_ascii(Case::Upper)
     }
 
     /// The text with the letters `A` to `Z` in lower case, in the mode of this one. Never refused of
@@ -47,8 +46,7 @@ impl<const N: usize> SmallText<N> {
         ensures memory { IfErr result (λ error. error ≡ EcoError.Memory) }
         ensures free { OnErr result (self.now.inline ≡ false) }
     {
-        let bytes = mapped(&self.bytes, Case::Lower)?;
-        Ok(SmallText { bytes })
+        self.to_ascii(Case::Lower)
     }
 
     /// The text with the letters `a` to `z` in upper case, as `to_ascii_lowercase` has them in lower.
@@ -58,8 +56,7 @@ impl<const N: usize> SmallText<N> {
         ensures memory { IfErr result (λ error. error ≡ EcoError.Memory) }
         ensures free { OnErr result (self.now.inline ≡ false) }
     {
-        let bytes = mapped(&self.bytes, Case::Upper)?;
-        Ok(SmallText { bytes })
+        self.to_ascii(Case::Upper)
     }
 
     /// The text in lower case, as std's `str` has it: of an ASCII text the letters mapped, and past
@@ -81,15 +78,7 @@ impl<const N: usize> SmallText<N> {
         ensures free { IsAscii (encode_utf8_all self.now.chars) → utf8_len self.now.chars ≤ N
             → IsOk result }
     {
-        let text = self.as_str();
-        if text.is_ascii() {
-            let bytes = mapped_by_length(&self.bytes, Case::Lower)?;
-            return Ok(SmallText { bytes });
-        }
-        let alloc = self.bytes.allocator();
-        let cased = text.to_lowercase(alloc)?;
-        let made = Self::from_str(alloc, cased.as_str())?;
-        Ok(made)
+        self.to_case(Case::Lower)
     }
 
     /// The text in upper case, as std's `str` has it: of an ASCII text the letters mapped, and past
@@ -111,13 +100,55 @@ impl<const N: usize> SmallText<N> {
         ensures free { IsAscii (encode_utf8_all self.now.chars) → utf8_len self.now.chars ≤ N
             → IsOk result }
     {
+        self.to_case(Case::Upper)
+    }
+
+    /// Maps the letters to one case, where they stand.
+    fn make_ascii(&mut self, case: Case) -> Result<(), EcoError>
+        ensures chars { OnOk result (self.new.chars ≡ map (in_case case) self.old.chars) }
+        ensures mode { self.new.inline ≡ self.old.inline }
+        ensures memory { IfErr result (λ error. error ≡ EcoError.Memory) }
+        ensures unchanged { OnErr result (self.new ≡ self.old) }
+        ensures free { OnErr result (self.old.inline ≡ false) }
+    {
+        map_in_place(&mut self.bytes, case)?;
+        Ok(())
+    }
+
+    /// The text with its letters in one case, in its mode.
+    fn to_ascii(&self, case: Case) -> Result<Self, EcoError>
+        ensures chars { IfOk result (λ made. made.chars ≡ map (in_case case) self.now.chars) }
+        ensures mode { IfOk result (λ made. made.inline ≡ self.now.inline) }
+        ensures memory { IfErr result (λ error. error ≡ EcoError.Memory) }
+        ensures free { OnErr result (self.now.inline ≡ false) }
+    {
+        // For the proof: inline bytes are at most `N`.
+        let _len = self.len();
+        let bytes = map(&self.bytes, case, self.is_inline())?;
+        Ok(SmallText { bytes })
+    }
+
+    /// The text in one case, as std's `str` has it.
+    fn to_case(&self, case: Case) -> Result<Self, EcoError>
+        ensures bytes { IfOk result (λ made. encode_utf8_all made.chars
+            ≡ str_in_case case (encode_utf8_all self.now.chars)) }
+        ensures ascii { IsAscii (encode_utf8_all self.now.chars)
+            → IfOk result (λ made. made.chars ≡ map (in_case case) self.now.chars) }
+        ensures mode { IfOk result (λ made. made.inline ≡ inline_for N (utf8_len made.chars)) }
+        ensures capacity { IsErrOf result EcoError.Capacity
+            → MAX_LEN < length (str_in_case case (encode_utf8_all self.now.chars)) }
+        ensures ascii_memory { IsAscii (encode_utf8_all self.now.chars)
+            → IfErr result (λ error. error ≡ EcoError.Memory) }
+        ensures free { IsAscii (encode_utf8_all self.now.chars) → utf8_len self.now.chars ≤ N
+            → IsOk result }
+    {
         let text = self.as_str();
         if text.is_ascii() {
-            let bytes = mapped_by_length(&self.bytes, Case::Upper)?;
+            let bytes = map(&self.bytes, case, self.len() <= N)?;
             return Ok(SmallText { bytes });
         }
         let alloc = self.bytes.allocator();
-        let cased = text.to_uppercase(alloc)?;
+        let cased = case.copy(alloc, text)?;
         let made = Self::from_str(alloc, cased.as_str())?;
         Ok(made)
     }
