@@ -7,7 +7,8 @@ use Rattle.std.proofs.StrCases.{str_to_lowercase-IsAscii, str_to_uppercase-IsAsc
 use Rattle.std.proofs.lemmas.Str.{encode_ascii, inside_one, chars-encodes}
 use Rattle.std.proofs.lemmas.Str.Ascii.{lowercase_ascii, uppercase_ascii, lowercase_is, uppercase_is}
 use Rattle.std.proofs.lemmas.Bool.{cases_lt}
-use Rattle.std.proofs.lemmas.List.{map-append}
+use Rattle.std.proofs.lemmas.List.{length-map, map-append}
+use Rattle.ecow_values.specs.Utf8.{utf8_len}
 use Rattle.std.proofs.Math.Utf8.{scalar, low_scalar}
 use Rattle.ecow_text.specs.Case.{in_case, str_in_case}
 use Rattle.ecow_text.specs.declared.case.Case.{Case}
@@ -80,6 +81,14 @@ pub chars-in_case : (case : Case) (bs : List ℕ) → AreUtf8 bs → chars (map 
 chars-in_case case = chars-mapped (in_case case) (low case) (high case)
 
 -- std's text in a case is an ASCII text's bytes, mapped
-pub str_in_case-IsAscii : (case : Case) (bs : List ℕ) → IsAscii bs → str_in_case case bs ≡ map (in_case case) bs
+str_in_case-IsAscii : (case : Case) (bs : List ℕ) → IsAscii bs → str_in_case case bs ≡ map (in_case case) bs
 str_in_case-IsAscii Lower = str_to_lowercase-IsAscii
 str_in_case-IsAscii Upper = str_to_uppercase-IsAscii
+
+-- and so the bytes of its characters, mapped
+pub encoded-in_case : (case : Case) (cs : List ℕ) → IsAscii (encode_utf8_all cs) → encode_utf8_all (map (in_case case) cs) ≡ str_in_case case (encode_utf8_all cs)
+encoded-in_case case cs ascii = sym (str_in_case-IsAscii case _ ascii ∙ mapped_bytes (in_case case) (low case) (high case) cs)
+
+-- as many as before
+pub len-in_case : (case : Case) (cs : List ℕ) → utf8_len (map (in_case case) cs) ≡ utf8_len cs
+len-in_case case cs = ap length (sym (mapped_bytes (in_case case) (low case) (high case) cs)) ∙ length-map (encode_utf8_all cs) _

@@ -1,5 +1,5 @@
 //! The letters of a text in one case.
-ghost use Rattle.std.specs.Prelude.{◌≡◌, ◌<◌, ◌≤◌, length, false, IsOk, IfOk, IfErr, OnOk, OnErr, IsErrOf, map};
+ghost use Rattle.std.specs.Prelude.{◌≡◌, ◌<◌, ◌≤◌, length, true, false, IsOk, IfOk, IfErr, OnOk, OnErr, IsErrOf, map};
 ghost use Rattle.std.specs.Char.{to_ascii_lowercase, to_ascii_uppercase};
 ghost use Rattle.std.specs.Str.{encode_utf8_all, IsAscii};
 ghost use Rattle.std.specs.StrCase.Lower.{str_to_lowercase};
@@ -8,10 +8,11 @@ ghost use Rattle.ecow_values.specs.Inline.{inline_for};
 ghost use Rattle.ecow_values.specs.Utf8.{utf8_len};
 ghost use Rattle.ecow_text.specs.Case.{in_case, str_in_case};
 
-use crate::case::{Case, map, map_in_place};
+use crate::case::Case;
 use crate::text::SmallText;
 use ecow_base::MAX_LEN;
-use ecow_list::EcoError;
+use ecow_bytes::SmallBytes;
+use ecow_list::{EcoError, EcoVec};
 
 impl<const N: usize> SmallText<N> {
     /// Maps the letters `A` to `Z` to lower case where they stand, and leaves all others and the mode.
@@ -103,7 +104,7 @@ impl<const N: usize> SmallText<N> {
         self.to_case(Case::Upper)
     }
 
-    /// Maps the letters to one case, where they stand.
+    /// Maps the ASCII letters to one case, where they stand.
     fn make_ascii(&mut self, case: Case) -> Result<(), EcoError>
         ensures chars { OnOk result (self.new.chars ≡ map (in_case case) self.old.chars) }
         ensures mode { self.new.inline ≡ self.old.inline }
@@ -111,20 +112,42 @@ impl<const N: usize> SmallText<N> {
         ensures unchanged { OnErr result (self.new ≡ self.old) }
         ensures free { OnErr result (self.old.inline ≡ false) }
     {
-        map_in_place(&mut self.bytes, case)?;
+        self.bytes.rewrite(|bytes| {
+            case.map(bytes);
+            bytes.len()
+        })?;
         Ok(())
     }
 
-    /// The text with its letters in one case, in its mode.
+    /// The text with its ASCII letters in one case, in its mode.
     fn to_ascii(&self, case: Case) -> Result<Self, EcoError>
         ensures chars { IfOk result (λ made. made.chars ≡ map (in_case case) self.now.chars) }
         ensures mode { IfOk result (λ made. made.inline ≡ self.now.inline) }
         ensures memory { IfErr result (λ error. error ≡ EcoError.Memory) }
         ensures free { OnErr result (self.now.inline ≡ false) }
     {
-        // For the proof: inline bytes are at most `N`.
+        // For the proof: an inline text has at most `N` bytes.
         let _len = self.len();
-        let bytes = map(&self.bytes, case, self.is_inline())?;
+        let mut made = self.copy(self.is_inline())?;
+        made.make_ascii(case)?;
+        Ok(made)
+    }
+
+    /// A copy of the text, inline or spilled.
+    fn copy(&self, inline: bool) -> Result<Self, EcoError>
+        requires { inline ≡ true → utf8_len self.now.chars ≤ N }
+        ensures chars { IfOk result (λ made. made.chars ≡ self.now.chars) }
+        ensures mode { IfOk result (λ made. made.inline ≡ inline) }
+        ensures memory { IfErr result (λ error. error ≡ EcoError.Memory) }
+        ensures free { OnErr result (inline ≡ false) }
+    {
+        let (_len, alloc) = (self.len(), self.bytes.allocator());
+        let text = self.bytes.as_slice();
+        let bytes = if inline {
+            SmallBytes::inline(alloc, text)
+        } else {
+            SmallBytes::from(EcoVec::from_copied(alloc, text)?)
+        };
         Ok(SmallText { bytes })
     }
 
@@ -144,8 +167,9 @@ impl<const N: usize> SmallText<N> {
     {
         let text = self.as_str();
         if text.is_ascii() {
-            let bytes = map(&self.bytes, case, self.len() <= N)?;
-            return Ok(SmallText { bytes });
+            let mut ascii = self.copy(self.len() <= N)?;
+            ascii.make_ascii(case)?;
+            return Ok(ascii);
         }
         let alloc = self.bytes.allocator();
         let cased = case.copy(alloc, text)?;
