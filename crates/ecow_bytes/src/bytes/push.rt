@@ -122,8 +122,8 @@ impl<const N: usize> SmallBytes<N> {
         Ok(())
     }
 
-    /// A vector of the bytes, with room for `additional` more. Answers `Capacity` where both together
-    /// pass 2^63 - 1, and else `Memory`.
+    /// A vector of the bytes, with room for `additional` more. Answers `Capacity` where the length and
+    /// `additional` together pass 2^63 - 1, and else `Memory`.
     #[cold]
     #[inline(never)]
     pub(super) fn spill(&self, additional: usize) -> Result<EcoVec<u8>, EcoError>
