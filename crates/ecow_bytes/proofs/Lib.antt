@@ -2,4 +2,5 @@ mod Groups
 mod Limits
 mod Moves
 mod Repeats
+mod Rewritten
 mod Variants

@@ -1,3 +1,4 @@
 pub mod Form
 pub mod Hashes
 pub mod Lends
+pub mod Rewrites

@@ -8,6 +8,7 @@ mod make;
 mod make_mut;
 mod push;
 mod repeat;
+mod rewrite;
 
 use crate::inline::InlineVec;
 use ecow_base::MAX_LEN;
@@ -137,7 +138,7 @@ impl<const N: usize> Clone for SmallBytes<N> {
     #[inline]
     fn clone(&self) -> Result<Self, AllocError> {
         let form = match &self.form {
-            Form::Inline(inline) => Form::Inline(inline.copied()),
+            Form::Inline(inline) => Form::Inline(inline.copy()),
             Form::Spilled(vec) => Form::Spilled(vec.clone()?),
         };
         Ok(SmallBytes {

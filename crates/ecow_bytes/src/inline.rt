@@ -71,7 +71,7 @@ impl<const N: usize> InlineVec<N> {
 
     /// A copy of these bytes.
     #[inline]
-    pub(crate) fn copied(&self) -> Self
+    pub(crate) fn copy(&self) -> Self
         ensures { result ≡ self.now }
     {
         InlineVec {

@@ -27,6 +27,7 @@ enum Bytes {
     Clear,
     Reserve(usize),
     MakeMut,
+    Rewrite,
     Shrink,
     IntoEcoVec,
     Clone,
@@ -44,7 +45,7 @@ enum Bytes {
     FromEcoVec,
 }
 
-fn changes() -> [Row<Bytes>; 22] {
+fn changes() -> [Row<Bytes>; 23] {
     [
         row_of(
             Bytes::Read,
@@ -70,6 +71,7 @@ fn changes() -> [Row<Bytes>; 22] {
         row_of(Bytes::Reserve(1), "b.reserve(1)", 0),
         row_of(Bytes::Reserve(20), "b.reserve(20)", 0),
         row_of(Bytes::MakeMut, "b.make_mut()", 0),
+        row_of(Bytes::Rewrite, "b.rewrite(f)", 0),
         row_of(Bytes::Shrink, "b.shrink_to_fit()", 0),
         row_of(Bytes::IntoEcoVec, "b.into_eco_vec()", 0),
     ]
@@ -141,6 +143,13 @@ fn loan(value: &mut EcoBytes) -> Result<(), EcoError> {
     Ok(())
 }
 
+fn rewrite(value: &mut EcoBytes) -> Result<(), EcoError> {
+    value.rewrite(|bytes| {
+        bytes.reverse();
+        bytes.len()
+    })
+}
+
 fn front(len: usize) -> &'static [u8] {
     letters(len).as_bytes()
 }
@@ -163,6 +172,7 @@ fn change(call: Bytes, value: &mut EcoBytes) -> Result<(), EcoError> {
         Bytes::Truncate(len) => value.truncate(len),
         Bytes::Reserve(more) => value.reserve(more),
         Bytes::MakeMut => loan(value),
+        Bytes::Rewrite => rewrite(value),
         _ => {
             settle(call, value);
             Ok(())

@@ -1,13 +1,18 @@
--- A map of the ASCII letters alone, on a text's bytes and on its characters.
-use Rattle.std.proofs.Common.{◌≡◌, ℕ, suc, ◌&&◌, ◌<◌, ◌≤◌, Bool, true, false, List, [], ◌∷◌, ◌++◌, length, get_or, refl, sym, ap, ◌∙◌, arith, inl, inr, append-nil, append_assoc}
+-- A text's bytes and its characters with the ASCII letters in one case.
+use Rattle.std.proofs.Common.{◌≡◌, ℕ, suc, ◌&&◌, ◌<◌, ◌≤◌, Bool, true, false, List, [], ◌∷◌, ◌++◌, length, get_or, refl, sym, ap, ◌∙◌, arith, inl, inr, append-nil}
 use Rattle.std.specs.Prelude.{map}
-use Rattle.std.specs.Char.{encode_utf8, to_ascii_lowercase, to_ascii_uppercase, IsScalar}
-use Rattle.std.specs.Str.{chars, encode_utf8_all, all_scalars}
+use Rattle.std.specs.Char.{encode_utf8, IsScalar}
+use Rattle.std.specs.Str.{chars, encode_utf8_all, all_scalars, IsAscii}
+use Rattle.std.proofs.StrCases.{str_to_lowercase-IsAscii, str_to_uppercase-IsAscii}
 use Rattle.std.proofs.lemmas.Str.{encode_ascii, inside_one, chars-encodes}
 use Rattle.std.proofs.lemmas.Str.Ascii.{lowercase_ascii, uppercase_ascii, lowercase_is, uppercase_is}
 use Rattle.std.proofs.lemmas.Bool.{cases_lt}
-use Rattle.std.proofs.lemmas.List.{map-append}
+use Rattle.std.proofs.lemmas.List.{length-map, map-append}
+use Rattle.ecow_values.specs.Utf8.{utf8_len}
 use Rattle.std.proofs.Math.Utf8.{scalar, low_scalar}
+use Rattle.ecow_text.specs.Case.{in_case, str_in_case}
+use Rattle.ecow_text.specs.declared.case.Case.{Case}
+use Rattle.ecow_text.specs.declared.case.Case.TheVariants.{Lower, Upper}
 use Rattle.ecow_text.specs.Text.{AreChars, AreUtf8}
 use Rattle.ecow_text.proofs.Texts.{AreUtf8-encoded}
 
@@ -61,26 +66,29 @@ module _ (f : ℕ → ℕ) (low : (c : ℕ) → c < 128 → f c < 128) (high : (
   chars-mapped : (bs : List ℕ) → AreUtf8 bs → chars (map f bs) ≡ map f (chars bs)
   chars-mapped bs text = ap chars (as_encoded bs text) ∙ chars-encodes _ (mapped_chars (chars bs) text.valid)
 
-lower_high : (c : ℕ) → 128 ≤ c → to_ascii_lowercase c ≡ c
-lower_high c wide = (lowercase_is c).2 (omega arith)
+low : (case : Case) (c : ℕ) → c < 128 → in_case case c < 128
+low Lower = lowercase_ascii
+low Upper = uppercase_ascii
 
-upper_high : (c : ℕ) → 128 ≤ c → to_ascii_uppercase c ≡ c
-upper_high c wide = (uppercase_is c).2 (omega arith)
+high : (case : Case) (c : ℕ) → 128 ≤ c → in_case case c ≡ c
+high Lower c wide = (lowercase_is c).2 (omega arith)
+high Upper c wide = (uppercase_is c).2 (omega arith)
 
-pub AreUtf8-lowered : (bs : List ℕ) → AreUtf8 bs → AreUtf8 (map to_ascii_lowercase bs)
-AreUtf8-lowered = AreUtf8-mapped to_ascii_lowercase lowercase_ascii lower_high
+pub AreUtf8-in_case : (case : Case) (bs : List ℕ) → AreUtf8 bs → AreUtf8 (map (in_case case) bs)
+AreUtf8-in_case case = AreUtf8-mapped (in_case case) (low case) (high case)
 
-pub chars-lowered : (bs : List ℕ) → AreUtf8 bs → chars (map to_ascii_lowercase bs) ≡ map to_ascii_lowercase (chars bs)
-chars-lowered = chars-mapped to_ascii_lowercase lowercase_ascii lower_high
+pub chars-in_case : (case : Case) (bs : List ℕ) → AreUtf8 bs → chars (map (in_case case) bs) ≡ map (in_case case) (chars bs)
+chars-in_case case = chars-mapped (in_case case) (low case) (high case)
 
-pub AreUtf8-raised : (bs : List ℕ) → AreUtf8 bs → AreUtf8 (map to_ascii_uppercase bs)
-AreUtf8-raised = AreUtf8-mapped to_ascii_uppercase uppercase_ascii upper_high
+-- std's text in a case is an ASCII text's bytes, mapped
+str_in_case-IsAscii : (case : Case) (bs : List ℕ) → IsAscii bs → str_in_case case bs ≡ map (in_case case) bs
+str_in_case-IsAscii Lower = str_to_lowercase-IsAscii
+str_in_case-IsAscii Upper = str_to_uppercase-IsAscii
 
-pub chars-raised : (bs : List ℕ) → AreUtf8 bs → chars (map to_ascii_uppercase bs) ≡ map to_ascii_uppercase (chars bs)
-chars-raised = chars-mapped to_ascii_uppercase uppercase_ascii upper_high
+-- and so the bytes of its characters, mapped
+pub encoded-in_case : (case : Case) (cs : List ℕ) → IsAscii (encode_utf8_all cs) → encode_utf8_all (map (in_case case) cs) ≡ str_in_case case (encode_utf8_all cs)
+encoded-in_case case cs ascii = sym (str_in_case-IsAscii case _ ascii ∙ mapped_bytes (in_case case) (low case) (high case) cs)
 
--- a piece from the front is mapped, and the rest is to come
-pub mapped_piece : (f : ℕ → ℕ) (made rest piece behind bytes new : List ℕ) → made ++ map f rest ≡ map f bytes → piece ++ behind ≡ rest → new ≡ made ++ map f piece → new ++ map f behind ≡ map f bytes
-mapped_piece f made rest piece behind bytes new whole parts appended =
-    ap (λ l. l ++ map f behind) appended ∙ append_assoc made (map f piece) (map f behind)
-    ∙ ap (λ l. made ++ l) (sym (map-append f piece behind) ∙ ap (map f) parts) ∙ whole
+-- as many as before
+pub len-in_case : (case : Case) (cs : List ℕ) → utf8_len (map (in_case case) cs) ≡ utf8_len cs
+len-in_case case cs = ap length (sym (mapped_bytes (in_case case) (low case) (high case) cs)) ∙ length-map (encode_utf8_all cs) _

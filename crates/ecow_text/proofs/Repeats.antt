@@ -1,4 +1,4 @@
--- The same text several times over.
+-- Repetition of a text.
 use Rattle.std.proofs.Common.{◌≡◌, ℕ, zero, suc, List, ◌++◌, ap, ◌∙◌, IsUtf8}
 use Rattle.std.specs.List.{repeat}
 use Rattle.std.specs.Str.{chars}

@@ -53,47 +53,47 @@ replaced-step (suc n) p t s before behind more text some parts =
     rw back (replaced-first n (chars p) (chars t) (chars s) (chars before) (chars behind) (chars_some p text some) parts.split)
 
 -- the first step of a replacement of the empty pattern
-spread_first : (n x : ℕ) (t s : List ℕ) → replaced (suc n) [] t (x ∷ s) ≡ t ++ x ∷ replaced n [] t s
+interleaving_first : (n x : ℕ) (t s : List ℕ) → replaced (suc n) [] t (x ∷ s) ≡ t ++ x ∷ replaced n [] t s
 unfolding replaced
-spread_first n x t s = refl
+interleaving_first n x t s = refl
 
-spread_end : (n : ℕ) (t : List ℕ) → replaced (suc n) [] t [] ≡ t
+interleaving_end : (n : ℕ) (t : List ℕ) → replaced (suc n) [] t [] ≡ t
 unfolding replaced
-spread_end n t = refl
+interleaving_end n t = refl
 
-pub spread-step : (n : ℕ) (t s first behind : List ℕ) → 0 < n → IsCharSplit s first behind
+pub interleaving-step : (n : ℕ) (t s first behind : List ℕ) → 0 < n → IsCharSplit s first behind
     → replaced n [] (chars t) (chars s) ≡ chars t ++ (chars first ++ replaced (n - 1) [] (chars t) (chars behind))
-spread-step zero t s first behind more parts = absurd (omega arith)
-spread-step (suc n) t s first behind more parts =
+interleaving-step zero t s first behind more parts = absurd (omega arith)
+interleaving-step (suc n) t s first behind more parts =
     let back : suc n - 1 ≡ n = omega arith in
-    rw (back, parts.split, parts.first_chars) (spread_first n parts.char (chars t) (chars behind))
+    rw (back, parts.split, parts.first_chars) (interleaving_first n parts.char (chars t) (chars behind))
 
-pub spread-end : (n : ℕ) (t s : List ℕ) → 0 < n → s ≡ [] → replaced n [] t s ≡ t
-spread-end zero t s more none = absurd (omega arith)
-spread-end (suc n) t s more none = rw none (spread_end n t)
+pub interleaving-end : (n : ℕ) (t s : List ℕ) → 0 < n → s ≡ [] → replaced n [] t s ≡ t
+interleaving-end zero t s more none = absurd (omega arith)
+interleaving-end (suc n) t s more none = rw none (interleaving_end n t)
 
-pub spread_len-step : (n : ℕ) (t s first behind : List ℕ) → 0 < n → IsUtf8 t → IsCharSplit s first behind
+pub interleaving_len-step : (n : ℕ) (t s first behind : List ℕ) → 0 < n → IsUtf8 t → IsCharSplit s first behind
     → utf8_len (replaced n [] (chars t) (chars s)) ≡ length t + length first + utf8_len (replaced (n - 1) [] (chars t) (chars behind))
-spread_len-step n t s first behind more to parts =
+interleaving_len-step n t s first behind more to parts =
     let rest = replaced (n - 1) [] (chars t) (chars behind) in
-    ap utf8_len (spread-step n t s first behind more parts)
+    ap utf8_len (interleaving-step n t s first behind more parts)
     ∙ omega (arith, encoded_len (chars t) (chars first ++ rest), encoded_len (chars first) rest, utf8_len-chars t to, utf8_len-chars first parts.first_utf8)
 
 -- how long the empty pattern's replacement is
-pub spread_size : (n : ℕ) (t s : List ℕ) → utf8_len (replaced n [] t s) ≡ utf8_len s + min n (length s + 1) * utf8_len t
-spread_size zero t s = let none : min 0 (length s + 1) ≡ 0 = grind arith in rw none (ap utf8_len (replaced-zero [] t s) ∙ omega arith)
-spread_size (suc n) t [] =
+pub interleaving_size : (n : ℕ) (t s : List ℕ) → utf8_len (replaced n [] t s) ≡ utf8_len s + min n (length s + 1) * utf8_len t
+interleaving_size zero t s = let none : min 0 (length s + 1) ≡ 0 = grind arith in rw none (ap utf8_len (replaced-zero [] t s) ∙ omega arith)
+interleaving_size (suc n) t [] =
     let once : min (suc n) (length {A = ℕ} [] + 1) ≡ 1 = grind arith in
-    rw (spread_end n t, once) (omega arith)
-spread_size (suc n) t (x ∷ s) =
+    rw (interleaving_end n t, once) (omega arith)
+interleaving_size (suc n) t (x ∷ s) =
     let more : min (suc n) (length (x ∷ s) + 1) ≡ suc (min n (length s + 1)) = grind arith in
     let one = suc-mul (min n (length s + 1)) (utf8_len t) in
-    rw (spread_first n x t s, more) (omega (arith, encoded_len t (x ∷ replaced n [] t s), width x (replaced n [] t s), width x s, spread_size n t s, one))
+    rw (interleaving_first n x t s, more) (omega (arith, encoded_len t (x ∷ replaced n [] t s), width x (replaced n [] t s), width x s, interleaving_size n t s, one))
 
 -- how many bytes a text has in which the empty pattern is replaced
-pub spread_total : (n places : ℕ) (t s : List ℕ) → IsUtf8 t → IsUtf8 s → places ≡ min n (length (chars s) + 1) → utf8_len (replaced n [] (chars t) (chars s)) ≡ length s + places * length t
-spread_total n places t s to text e =
-    spread_size n (chars t) (chars s) ∙ (λ i. utf8_len-chars s text i + sym e i * utf8_len-chars t to i)
+pub interleaving_total : (n places : ℕ) (t s : List ℕ) → IsUtf8 t → IsUtf8 s → places ≡ min n (length (chars s) + 1) → utf8_len (replaced n [] (chars t) (chars s)) ≡ length s + places * length t
+interleaving_total n places t s to text e =
+    interleaving_size n (chars t) (chars s) ∙ (λ i. utf8_len-chars s text i + sym e i * utf8_len-chars t to i)
 
 -- what fits once all is appended leaves room for a part of it
 pub part_fits : (made old rest whole after : List ℕ) (most n : ℕ) → made ++ rest ≡ old ++ whole → utf8_len old + utf8_len whole ≤ most → utf8_len rest ≡ n + utf8_len after → utf8_len made + n ≤ most

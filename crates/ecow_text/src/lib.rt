@@ -2,11 +2,9 @@
 #![tactic(auto)]
 
 mod case;
-mod cut;
 pub mod display;
 pub mod laws;
 mod macros;
-mod spilled;
 pub mod text;
 pub mod traits;
 

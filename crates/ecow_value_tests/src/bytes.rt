@@ -135,6 +135,56 @@ fn bytes_are_written_where_they_stand(rt: HostRuntime) -> Result<(), Fail> {
     Ok(())
 }
 
+/// Keeps the last bytes, in reverse: so many, or all where there are fewer.
+fn keep_last(bytes: &mut EcoBytes, len: usize) -> Result<(), EcoError> {
+    bytes.rewrite(|bytes| {
+        bytes.reverse();
+        len
+    })
+}
+
+#[test]
+fn a_closure_rewrites_bytes_where_they_stand(rt: HostRuntime) -> Result<(), Fail> {
+    let mut inline = letters(rt.alloc())?;
+    keep_last(&mut inline, 2)?;
+    assert!(rt; holds(&inline, b"on", true));
+    let mut spilled = EcoBytes::with_capacity(rt.alloc(), 32)?;
+    spilled.extend_from_slice(&LETTERS)?;
+    keep_last(&mut spilled, 3)?;
+    assert!(rt; holds(&spilled, b"onm", false) && spilled.capacity() == 32);
+    Ok(())
+}
+
+#[test]
+fn shared_bytes_are_copied_before_a_closure_rewrites_them(rt: HostRuntime) -> Result<(), Fail> {
+    let shared = spilled_letters(rt.alloc())?;
+    let mut own = shared.clone()?;
+    keep_last(&mut own, 20)?;
+    assert!(rt; holds(&own, b"onmlkjihgfedcba", false) && holds(&shared, &LETTERS, false));
+    for bytes in [own, shared] {
+        let Ok(mut block) = bytes.into_eco_vec() else {
+            return Err("spilled bytes".into());
+        };
+        assert!(rt; block.is_unique() && block.capacity() == 15);
+    }
+    Ok(())
+}
+
+#[test]
+fn a_closure_is_lent_no_bytes_where_there_are_none(rt: HostRuntime) -> Result<(), Fail> {
+    let spilled = EcoBytes::from(EcoVec::new(rt.alloc()));
+    for mut bytes in [EcoBytes::new(rt.alloc()), spilled] {
+        let (inline, mut calls, mut seen) = (bytes.is_inline(), 0u64, 1);
+        bytes.rewrite(|bytes| {
+            calls = calls.wrapping_add(1);
+            seen = bytes.len();
+            7
+        })?;
+        assert!(rt; calls == 1 && seen == 0 && holds(&bytes, &[], inline));
+    }
+    Ok(())
+}
+
 /// The hash of a value by the standard library's hasher.
 fn hashed<T: Hash>(value: &T) -> u64 {
     let mut hasher = DefaultHasher::new();

@@ -4,7 +4,6 @@ ghost use Rattle.std.specs.Prelude.{◌≡◌, ◌+◌, ◌-◌, ◌<◌, ◌≤
 ghost use Rattle.std.specs.List.{insert_slice};
 ghost use Rattle.ecow_values.specs.Inline.{inline_after, inline_shrunk};
 
-use crate::bytes::push::spilled;
 use crate::bytes::{Form, SmallBytes};
 use crate::inline::InlineVec;
 use ecow_base::MAX_LEN;
@@ -104,29 +103,7 @@ impl<const N: usize> SmallBytes<N> {
         if let Ok(()) = inline.insert_slice(index, bytes) {
             return Ok(());
         }
-        self.spill_around(index, bytes)
-    }
-
-    /// Spills inline bytes, and puts `bytes`, with which they don't fit inline, in at `index`.
-    #[cold]
-    #[inline(never)]
-    fn spill_around(&mut self, index: usize, bytes: &[u8]) -> Result<(), EcoError>
-        requires in_bounds { index ≤ length self.old.bytes }
-        requires inline { self.old.inline ≡ true }
-        requires full { N < length self.old.bytes + length bytes.now }
-        ensures bytes { OnOk result (self.new.bytes ≡ insert_slice self.old.bytes index bytes.now) }
-        ensures mode { OnOk result (self.new.inline ≡ false) }
-        ensures unchanged { OnErr result (self.new ≡ self.old) }
-        ensures capacity { IsErrOf result EcoError.Capacity
-            ↔ (MAX_LEN < length self.old.bytes + length bytes.now) }
-    {
-        if bytes.len() > MAX_LEN - self.len() {
-            return Err(EcoError::Capacity);
-        }
-        let mut vec = spilled(self.alloc, self.as_slice(), bytes.len())?;
-        vec.insert_slice(index, bytes)?;
-        self.form = Form::Spilled(vec);
-        Ok(())
+        self.spill_with(index, bytes)
     }
 
     /// Takes the byte at `index`. Never refused for inline bytes. Spilled bytes that are shared are
@@ -191,14 +168,10 @@ impl<const N: usize> SmallBytes<N> {
             Form::Inline(inline) => inline,
             Form::Spilled(vec) => return vec.reserve(additional),
         };
-        let len = inline.len();
-        if additional <= N - len {
+        if additional <= N - inline.len() {
             return Ok(());
         }
-        if additional > MAX_LEN - len {
-            return Err(EcoError::Capacity);
-        }
-        let vec = spilled(self.alloc, inline.as_slice(), additional)?;
+        let vec = self.spill(additional)?;
         self.form = Form::Spilled(vec);
         Ok(())
     }

@@ -1,30 +1,14 @@
 //! Appending bytes. The case in which they fit inline is short, so that it is inlined; the others
 //! are out of line.
-ghost use Rattle.std.specs.Prelude.{◌≡◌, ℕ, List, ◌+◌, ◌<◌, ◌≤◌, ◌↔◌, [], ◌∷◌, ◌++◌, length, true, false, IsOk, IfOk, IfErr, OnOk, OnErr, IsErrOf};
+ghost use Rattle.std.specs.Prelude.{◌≡◌, ℕ, List, ◌+◌, ◌<◌, ◌≤◌, ◌↔◌, [], ◌∷◌, ◌++◌, length, true, false, IsOk, IfOk, OnOk, OnErr, IsErrOf};
 ghost use Rattle.std.specs.Iterator.{IsFinite, ExtendsWithItems};
+ghost use Rattle.std.specs.List.{insert_slice};
 ghost use Rattle.ecow_list.specs.Vectors.{Appends, GivesFirst};
 ghost use Rattle.ecow_values.specs.Inline.{inline_after};
 
 use crate::bytes::{Form, SmallBytes};
 use ecow_base::{MAX_LEN, room_for};
 use ecow_list::{EcoError, EcoVec};
-use std::alloc::Global;
-
-/// A vector of `bytes`, with room for `additional` more.
-pub(super) fn spilled(
-    alloc: Global,
-    bytes: &[u8],
-    additional: usize,
-) -> Result<EcoVec<u8>, EcoError>
-    requires { length bytes.now + additional ≤ MAX_LEN }
-    ensures bytes { IfOk result (λ vec. vec ≡ bytes.now) }
-    ensures memory { IfErr result (λ error. error ≡ EcoError.Memory) }
-{
-    let room = room_for(bytes.len(), additional, bytes.len()).next_power_of_two();
-    let mut vec = EcoVec::with_capacity(alloc, room.min(MAX_LEN))?;
-    vec.extend_from_copied(bytes)?;
-    Ok(vec)
-}
 
 impl<const N: usize> SmallBytes<N> {
     /// Appends `byte`: inline where it fits, which is never refused, and else spilled. Spilled bytes
@@ -32,7 +16,7 @@ impl<const N: usize> SmallBytes<N> {
     ///
     /// A refusal changes nothing: `Capacity` where there are 2^63 - 1 bytes, and else `Memory`.
     #[inline]
-    #[tactic(auto, using(crate::proofs::Limits::past_limit))]
+    #[tactic(auto, using(crate::proofs::Limits::past_limit, crate::proofs::Moves::put_at_end))]
     pub fn push(&mut self, byte: u8) -> Result<(), EcoError>
         ensures bytes { OnOk result (self.new.bytes ≡ self.old.bytes ++ byte ∷ []) }
         ensures mode { OnOk result
@@ -54,7 +38,8 @@ impl<const N: usize> SmallBytes<N> {
         if let Ok(()) = inline.push(byte) {
             return Ok(());
         }
-        self.spill_by(&[byte])
+        let end = inline.len();
+        self.spill_with(end, &[byte])
     }
 
     /// Appends `bytes`: all, or none where it is refused. They are inline where they fit, which is
@@ -64,7 +49,7 @@ impl<const N: usize> SmallBytes<N> {
     /// A refusal changes nothing: `Capacity` where the new length passes 2^63 - 1, and else
     /// `Memory`.
     #[inline]
-    #[tactic(auto, using(crate::proofs::Limits::past_limit))]
+    #[tactic(auto, using(crate::proofs::Limits::past_limit, crate::proofs::Moves::put_at_end))]
     pub fn extend_from_slice(&mut self, bytes: &[u8]) -> Result<(), EcoError>
         ensures bytes { OnOk result (self.new.bytes ≡ self.old.bytes ++ bytes.now) }
         ensures mode { OnOk result
@@ -87,7 +72,8 @@ impl<const N: usize> SmallBytes<N> {
         if let Ok(()) = inline.extend_from_slice(bytes) {
             return Ok(());
         }
-        self.spill_by(bytes)
+        let end = inline.len();
+        self.spill_with(end, bytes)
     }
 
     /// Appends the bytes of `iter`, one after another, each as `push` does: so inline bytes spill at
@@ -117,24 +103,41 @@ impl<const N: usize> SmallBytes<N> {
         Ok(())
     }
 
-    /// Spills inline bytes, and appends `bytes`, with which they don't fit inline.
+    /// Spills inline bytes, and puts `bytes`, with which they don't fit inline, in at `index`.
     #[cold]
     #[inline(never)]
-    fn spill_by(&mut self, bytes: &[u8]) -> Result<(), EcoError>
+    pub(super) fn spill_with(&mut self, index: usize, bytes: &[u8]) -> Result<(), EcoError>
+        requires in_bounds { index ≤ length self.old.bytes }
         requires inline { self.old.inline ≡ true }
         requires full { N < length self.old.bytes + length bytes.now }
-        ensures bytes { OnOk result (self.new.bytes ≡ self.old.bytes ++ bytes.now) }
+        ensures bytes { OnOk result (self.new.bytes ≡ insert_slice self.old.bytes index bytes.now) }
         ensures mode { OnOk result (self.new.inline ≡ false) }
         ensures unchanged { OnErr result (self.new ≡ self.old) }
         ensures capacity { IsErrOf result EcoError.Capacity
             ↔ (MAX_LEN < length self.old.bytes + length bytes.now) }
     {
-        if bytes.len() > MAX_LEN - self.len() {
-            return Err(EcoError::Capacity);
-        }
-        let mut vec = spilled(self.alloc, self.as_slice(), bytes.len())?;
-        vec.extend_from_copied(bytes)?;
+        let mut vec = self.spill(bytes.len())?;
+        vec.insert_slice(index, bytes)?;
         self.form = Form::Spilled(vec);
         Ok(())
+    }
+
+    /// A vector of the bytes, with room for `additional` more. Answers `Capacity` where the length and
+    /// `additional` together pass 2^63 - 1, and else `Memory`.
+    #[cold]
+    #[inline(never)]
+    pub(super) fn spill(&self, additional: usize) -> Result<EcoVec<u8>, EcoError>
+        ensures bytes { IfOk result (λ vec. vec ≡ self.now.bytes) }
+        ensures capacity { IsErrOf result EcoError.Capacity
+            ↔ (MAX_LEN < length self.now.bytes + additional) }
+    {
+        let len = self.len();
+        if additional > MAX_LEN - len {
+            return Err(EcoError::Capacity);
+        }
+        let room = room_for(len, additional, len).next_power_of_two();
+        let mut vec = EcoVec::with_capacity(self.alloc, room.min(MAX_LEN))?;
+        vec.extend_from_copied(self.as_slice())?;
+        Ok(vec)
     }
 }

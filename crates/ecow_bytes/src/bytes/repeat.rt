@@ -1,4 +1,4 @@
-//! The same bytes several times over.
+//! Repetition of the bytes.
 ghost use Rattle.std.specs.Prelude.{◌≡◌, ◌+◌, ◌*◌, ◌<◌, ◌≤◌, ◌↔◌, ◌++◌, false, length, take, IsOk, IfOk, IfErr, OnOk, OnErr, IsErrOf};
 ghost use Rattle.std.specs.List.{repeat};
 ghost use Rattle.ecow_values.specs.Inline.{inline_after, inline_for};

@@ -6,7 +6,6 @@ ghost use Rattle.std.specs.Str.{chars};
 ghost use Rattle.ecow_values.specs.Inline.{inline_after, inline_shrunk};
 ghost use Rattle.ecow_values.specs.Utf8.{utf8_len, chars_before, is_boundary};
 
-use crate::cut::cut_out;
 use crate::text::SmallText;
 use ecow_base::MAX_LEN;
 use ecow_list::EcoError;
@@ -117,7 +116,11 @@ impl<const N: usize> SmallText<N> {
         ensures free { OnErr result (self.old.inline ≡ false) }
     {
         let c = self.as_str()[index..].chars().next().unwrap();
-        cut_out(&mut self.bytes, index, index + c.len_utf8())?;
+        let end = index + c.len_utf8();
+        self.bytes.rewrite(|bytes| {
+            bytes.copy_within(end.., index);
+            bytes.len() - (end - index)
+        })?;
         Ok(c)
     }
 

@@ -1,4 +1,4 @@
-//! The same text several times over.
+//! Repetition of a text.
 ghost use Rattle.std.specs.Prelude.{◌≡◌, ◌*◌, ◌<◌, ◌≤◌, ◌↔◌, IsOk, IfOk, IsErrOf};
 ghost use Rattle.std.specs.List.{repeat};
 ghost use Rattle.ecow_values.specs.Inline.{inline_for};

@@ -6,13 +6,13 @@ ghost use Rattle.ecow_values.specs.Inline.{inline_for};
 ghost use Rattle.ecow_values.specs.Replaced.{replaced, replaced_all};
 ghost use Rattle.ecow_values.specs.Utf8.{utf8_len};
 
+mod interleave;
 mod pattern;
-mod spread;
 mod within;
 
 use crate::text::SmallText;
-use crate::text::replace::pattern::{push_replaced, replaced_len};
-use crate::text::replace::spread::{push_spread, spread_len};
+use crate::text::replace::interleave::{interleaving_len, push_interleaving};
+use crate::text::replace::pattern::{push_replacement, replacement_len};
 use ecow_base::MAX_LEN;
 use ecow_list::EcoError;
 use memchr::memmem::Finder;
@@ -38,9 +38,9 @@ impl<const N: usize> SmallText<N> {
             → IsOk result }
     {
         if pattern.is_empty() {
-            return self.spread(replacement, count);
+            return self.interleave(replacement, count);
         }
-        self.replaced(pattern, replacement, count)
+        self.replace_pattern(pattern, replacement, count)
     }
 
     /// The text with `replacement` in place of all occurrences of `pattern`: `replacen` without a
@@ -62,7 +62,12 @@ impl<const N: usize> SmallText<N> {
     }
 
     /// `replacen` of a pattern that is not empty.
-    fn replaced(&self, pattern: &str, replacement: &str, count: usize) -> Result<Self, EcoError>
+    fn replace_pattern(
+        &self,
+        pattern: &str,
+        replacement: &str,
+        count: usize,
+    ) -> Result<Self, EcoError>
         requires { pattern.now ≢ [] }
         ensures chars { IfOk result (λ made. made.chars ≡ replaced count (chars pattern.now)
             (chars replacement.now) self.now.chars) }
@@ -79,16 +84,16 @@ impl<const N: usize> SmallText<N> {
     {
         let text = self.as_str();
         let finder = Finder::new(pattern.as_bytes());
-        let Some(most) = replaced_len(text, &finder, pattern, replacement, count) else {
+        let Some(most) = replacement_len(text, &finder, pattern, replacement, count) else {
             return Err(EcoError::Capacity);
         };
         let mut made = Self::with_capacity(self.bytes.allocator(), most)?;
-        push_replaced(&mut made, text, &finder, pattern, replacement, count, most)?;
+        push_replacement(&mut made, text, &finder, pattern, replacement, count, most)?;
         Ok(made)
     }
 
     /// `replacen` of the empty pattern.
-    fn spread(&self, replacement: &str, count: usize) -> Result<Self, EcoError>
+    fn interleave(&self, replacement: &str, count: usize) -> Result<Self, EcoError>
         ensures chars { IfOk result (λ made. made.chars
             ≡ replaced count [] (chars replacement.now) self.now.chars) }
         ensures mode { IfOk result (λ made. made.inline
@@ -100,11 +105,11 @@ impl<const N: usize> SmallText<N> {
     {
         let text = self.as_str();
         let _len = self.len();
-        let Some(most) = spread_len(text, replacement, count) else {
+        let Some(most) = interleaving_len(text, replacement, count) else {
             return Err(EcoError::Capacity);
         };
         let mut made = Self::with_capacity(self.bytes.allocator(), most)?;
-        push_spread(&mut made, text, replacement, count, most)?;
+        push_interleaving(&mut made, text, replacement, count, most)?;
         Ok(made)
     }
 }

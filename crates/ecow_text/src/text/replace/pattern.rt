@@ -24,7 +24,7 @@ fn split_first<'a>(text: &'a str, finder: &Finder, pattern: &str) -> Option<(&'a
 }
 
 /// How many bytes `replacen` comes to, where a text may have so many.
-pub(super) fn replaced_len(
+pub(super) fn replacement_len(
     text: &str,
     finder: &Finder,
     pattern: &str,
@@ -54,7 +54,7 @@ pub(super) fn replaced_len(
 }
 
 /// Appends what `replacen` makes of `text` to a text that was made for `most` bytes.
-pub(super) fn push_replaced<const N: usize>(
+pub(super) fn push_replacement<const N: usize>(
     made: &mut SmallText<N>,
     text: &str,
     finder: &Finder,

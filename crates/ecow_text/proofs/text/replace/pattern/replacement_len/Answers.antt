@@ -3,7 +3,7 @@ use Rattle.std.specs.Str.{chars}
 use Rattle.ecow_values.specs.Utf8.{utf8_len}
 use Rattle.ecow_values.specs.Replaced.{replaced}
 use Rattle.ecow_text.proofs.Steps.{replaced-none, replaced-zero, replaced_len-step, chars_some, utf8_len-chars}
-use Rattle.ecow_text.proofs.text.replace.pattern.replaced_len.Goals as goal
+use Rattle.ecow_text.proofs.text.replace.pattern.replacement_len.Goals as goal
 
 pub loop-left-preserved-in-None : goal.loop-left-preserved-in-None
 loop-left-preserved-in-None c =

@@ -5,7 +5,7 @@ use denote.Text.{Utf8}
 use Rattle.ecow_base.specs.declared.capacity.TheConstants.{MAX_LEN}
 use Rattle.ecow_values.specs.Utf8.{utf8_len}
 use Rattle.ecow_values.specs.Replaced.{replaced}
-use Rattle.ecow_text.proofs.text.replace.pattern.replaced_len.Given as goal
+use Rattle.ecow_text.proofs.text.replace.pattern.replacement_len.Given as goal
 
 abbrev pub invariant-loop-left : goal.invariant-loop-left
 invariant-loop-left l = record {

@@ -20,7 +20,7 @@ fn split_char(text: &str) -> Option<(&str, &str)>
 }
 
 /// How many bytes `replacen` of the empty pattern comes to, where a text may have so many.
-pub(super) fn spread_len(text: &str, replacement: &str, count: usize) -> Option<usize>
+pub(super) fn interleaving_len(text: &str, replacement: &str, count: usize) -> Option<usize>
     requires { length text.now ≤ MAX_LEN }
     ensures { let made = replaced count [] (chars replacement.now)
         (chars text.now) in SomeIff result (utf8_len made ≤ MAX_LEN) (utf8_len made) }
@@ -32,7 +32,7 @@ pub(super) fn spread_len(text: &str, replacement: &str, count: usize) -> Option<
 
 /// Appends what `replacen` of the empty pattern makes of `text` to a text that was made for `most`
 /// bytes.
-pub(super) fn push_spread<const N: usize>(
+pub(super) fn push_interleaving<const N: usize>(
     made: &mut SmallText<N>,
     text: &str,
     replacement: &str,

@@ -1,6 +1,6 @@
 use Rattle.std.proofs.Common.{◌≡◌, take, rules, sym, ◌∙◌}
 use Rattle.ecow_text.proofs.Chars.{FirstChar, first_char}
-use Rattle.ecow_text.proofs.text.replace.spread.split_char.Goals as goal
+use Rattle.ecow_text.proofs.text.replace.interleave.split_char.Goals as goal
 
 pub range-requires-clause-end_boundary : goal.range-requires-clause-end_boundary
 range-requires-clause-end_boundary c =

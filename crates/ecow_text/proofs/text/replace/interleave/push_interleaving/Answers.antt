@@ -2,18 +2,18 @@ use Rattle.std.proofs.Common.{◌≡◌, ◌+◌, ◌-◌, ◌++◌, [], length,
 use Rattle.std.specs.Str.{chars}
 use Rattle.ecow_values.specs.Utf8.{utf8_len}
 use Rattle.ecow_values.specs.Replaced.{replaced}
-use Rattle.ecow_text.proofs.Steps.{replaced-zero, spread_len-step, spread-step, spread-end, part_fits, utf8_len-chars}
-use Rattle.ecow_text.proofs.text.replace.spread.push_spread.Goals as goal
+use Rattle.ecow_text.proofs.Steps.{replaced-zero, interleaving_len-step, interleaving-step, interleaving-end, part_fits, utf8_len-chars}
+use Rattle.ecow_text.proofs.text.replace.interleave.push_interleaving.Goals as goal
 
 pub push_within-requires : goal.push_within-requires
 push_within-requires g c =
-    let last = spread-end c.loop-left.left (chars c.args.replacement.now) (chars c.loop-left.rest.now) (omega arith) c.in-None.ensures in
+    let last = interleaving-end c.loop-left.left (chars c.args.replacement.now) (chars c.loop-left.rest.now) (omega arith) c.in-None.ensures in
     let room = part_fits c.loop-left.made.chars c.args.made.now.chars _ _ [] c.args.most (length c.args.replacement.now) c.loop-left.invariant.joined c.requires.fits (omega (arith, ap utf8_len last, utf8_len-chars c.args.replacement.now c.utf8.replacement)) in
     (search rules, (c.requires.bounded, (room, c.loop-left.invariant.mode)))
 
 pub loop-left-preserved-in-None : goal.loop-left-preserved-in-None
 loop-left-preserved-in-None g c =
-    let last = spread-end c.loop-left.left (chars c.args.replacement.now) (chars c.loop-left.rest.now) (omega arith) c.in-None.ensures in
+    let last = interleaving-end c.loop-left.left (chars c.args.replacement.now) (chars c.loop-left.rest.now) (omega arith) c.in-None.ensures in
     record {
       text = c.loop-left.invariant.text;
       joined = ap (λ l. c.push_within.new.made.chars ++ l) (replaced-zero _ _ _ ∙ c.in-None.ensures) ∙ append-nil _ ∙ c.in_ok-push_within-in-None.ensures.chars
@@ -24,13 +24,13 @@ loop-left-preserved-in-None g c =
 pub push_both-requires : goal.push_both-requires
 push_both-requires g c =
     let rest = replaced (c.loop-left.left - 1) [] (chars c.args.replacement.now) (chars c.in-Some.behind.now) in
-    let step = spread_len-step c.loop-left.left c.args.replacement.now c.loop-left.rest.now c.in-Some.first.now c.in-Some.behind.now (omega arith) c.utf8.replacement c.in-Some.ensures in
+    let step = interleaving_len-step c.loop-left.left c.args.replacement.now c.loop-left.rest.now c.in-Some.first.now c.in-Some.behind.now (omega arith) c.utf8.replacement c.in-Some.ensures in
     let room = part_fits c.loop-left.made.chars c.args.made.now.chars _ _ rest c.args.most (length c.args.replacement.now + length c.in-Some.first.now) c.loop-left.invariant.joined c.requires.fits step in
     (search rules, (c.requires.bounded, (omega (arith, room), c.loop-left.invariant.mode)))
 
 pub loop-left-preserved : goal.loop-left-preserved
 loop-left-preserved g c =
-    let step = spread-step c.loop-left.left c.args.replacement.now c.loop-left.rest.now c.in-Some.first.now c.in-Some.behind.now (omega arith) c.in-Some.ensures in
+    let step = interleaving-step c.loop-left.left c.args.replacement.now c.loop-left.rest.now c.in-Some.first.now c.in-Some.behind.now (omega arith) c.in-Some.ensures in
     record {
       text = c.in-Some.ensures.behind_utf8;
       joined = ap (λ l. l ++ replaced (c.loop-left.left - 1) [] (chars c.args.replacement.now) (chars c.in-Some.behind.now)) c.in_ok-push_both-in-Some.ensures.chars
