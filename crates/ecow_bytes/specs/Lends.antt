@@ -21,11 +21,14 @@ lends_first all r = Lends (Array byte 0) (Array byte 0) all r (refill (length al
 module _ (N : RattleType) where
   -- once the borrow r ends, the array is what was written through r
   abbrev pub lends_all : MutBor (cells_row N).Denot → MutBor (List ℕ) → Fml
-  lends_all cells r = Lends (cells_row N) (Array byte 0) cells r (λ written. record { bytes = written })
+  lends_all cells r =
+      Lends (cells_row N) (Array byte 0) cells r (λ written. record { bytes = written })
 
   -- the array begins with it
   abbrev pub lends_front : MutBor (cells_row N).Denot → MutBor (List ℕ) → Fml
-  lends_front cells r = Lends (cells_row N) (Array byte 0) cells r (λ written. record { bytes = refill (length cells.now.bytes) cells.now.bytes written })
+  lends_front cells r =
+      Lends (cells_row N) (Array byte 0) cells r
+      (λ written. record { bytes = refill (length cells.now.bytes) cells.now.bytes written })
 
   -- the bytes of the list are what was written, as many as they were
   abbrev pub lends_inline : MutBor (List ℕ) → MutBor (List ℕ) → Fml
@@ -42,14 +45,25 @@ with_bytes (Inline v) xs = Inline xs
 with_bytes (Spilled v) xs = Spilled xs
 
 module _ (N : RattleType) where
-  -- the form has the bytes that were written last through the slice, as many as there were; at `Err` it stays
-  abbrev pub lends_form : MutBor (form_row N).Denot → {E : Type 0} → Result (MutBor (List ℕ)) E → Fml
-  lends_form v r = follows_so (form_row N) (Array byte 0) v.ghost_name (name_given (plain_of v.now).inline r) (λ written n. IsOk r → length written ≡ length (plain_of v.now).bytes → n ≡ with_bytes v.now written) (λ n. OnErr r (n ≡ v.now) × ((plain_of v.now).bytes ≡ [] → n ≡ v.now))
+  -- the form has the bytes that were written last through the slice, as many as there were; at
+  -- `Err` it stays
+  abbrev pub lends_form : MutBor (form_row N).Denot → {E : Type 0} → Result (MutBor (List ℕ)) E
+      → Fml
+  lends_form v r =
+      follows_so (form_row N) (Array byte 0) v.ghost_name (name_given (plain_of v.now).inline r)
+      (λ written n. IsOk r → length written ≡ length (plain_of v.now).bytes
+      → n ≡ with_bytes v.now written)
+      (λ n. OnErr r (n ≡ v.now) × ((plain_of v.now).bytes ≡ [] → n ≡ v.now))
 
   -- the bytes are those of the form
   abbrev pub lends_whole : MutBor PlainBytes → MutBor (form_row N).Denot → Fml
   lends_whole v r = Lends (bytes_row N) (form_row N) v r plain_of
 
-  -- the bytes are those that were written last through the slice, as many as there were, in their mode; where there are none, none come, and at `Err` they stay
+  -- the bytes are those that were written last through the slice, as many as there were, in their
+  -- mode; where there are none, none come, and at `Err` they stay
   abbrev pub lends_bytes : MutBor PlainBytes → {E : Type 0} → Result (MutBor (List ℕ)) E → Fml
-  lends_bytes v r = follows_so (bytes_row N) (Array byte 0) v.ghost_name (name_given v.now.inline r) (λ written n. IsOk r → length written ≡ length v.now.bytes → n ≡ plain_bytes written v.now.inline) (λ n. OnErr r (n ≡ v.now) × (v.now.bytes ≡ [] → n ≡ v.now))
+  lends_bytes v r =
+      follows_so (bytes_row N) (Array byte 0) v.ghost_name (name_given v.now.inline r)
+      (λ written n. IsOk r → length written ≡ length v.now.bytes
+      → n ≡ plain_bytes written v.now.inline)
+      (λ n. OnErr r (n ≡ v.now) × (v.now.bytes ≡ [] → n ≡ v.now))

@@ -82,7 +82,7 @@ fn both_same(left: &[u8], right: &[u8], first: usize, second: usize) -> bool
 fn same_front(left: &[u8], right: &[u8], len: usize) -> usize
     requires many { GROUP ≤ len }
     requires in_bounds { (len ≤ length left.now) × (len ≤ length right.now) }
-    ensures within { result ≤ len }
+    ensures bounded { result ≤ len }
     ensures same { take result left.now ≡ take result right.now }
     ensures differ { result < len → (take len left.now ≢ take len right.now) }
 {

@@ -289,7 +289,9 @@ impl Model {
     pub(crate) fn blocks(&self) -> usize {
         let mut blocks = 0usize;
         for block in 1..=self.last_block {
-            let is_held = |other: &Option<Entry>| matches!(other, Some(held) if held.block == block);
+            let is_held = |other: &Option<
+                Entry,
+            >| matches!(other, Some(held) if held.block == block);
             if self.names.iter().any(is_held) {
                 blocks = blocks.saturating_add(1);
             }

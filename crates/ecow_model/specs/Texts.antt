@@ -7,7 +7,7 @@ use Rattle.std.specs.Char.{len_utf8, to_ascii_lowercase, to_ascii_uppercase}
 use Rattle.std.specs.Str.{is_utf8}
 use Rattle.ecow_values.specs.Inline.{inline_for, inline_after, inline_shrunk}
 use Rattle.ecow_values.specs.Utf8.{utf8_len, chars_before, is_boundary}
-use Rattle.ecow_values.specs.Replaced.{replaced}
+use Rattle.ecow_values.specs.Replaced.{replacen}
 use Rattle.ecow_model.specs.State.{Plain}
 use Rattle.ecow_model.specs.Refusing.{◌>>=◌, check, ok_or, allowed, Effect, becomes}
 use Rattle.ecow_model.specs.Values.{as_bytes, as_text}
@@ -109,7 +109,7 @@ module _ {T : Type 0} (limit : ℕ) where
   derive_text Clone value = as_text value
   derive_text (Replace pattern replacement count) value = do
     t ← as_text value
-    text_by_length limit (replaced count pattern replacement t.chars)
+    text_by_length limit (replacen count pattern replacement t.chars)
   derive_text (Repeat n) value = do
     t ← as_text value
     _ ← allowed (utf8_len t.chars * n)

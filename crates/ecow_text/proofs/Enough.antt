@@ -2,7 +2,7 @@
 use Rattle.std.proofs.Common.{◌≡◌, ℕ, zero, suc, ◌<◌, ◌≤◌, Bool, true, false, List, [], ◌∷◌, ◌++◌, length, Option, Some, None, refl, ap, arith}
 use Rattle.std.specs.Prelude.{◌==◌, if◌then◌else◌}
 use Rattle.std.specs.Option.{option_map, option_map_or}
-use Rattle.ecow_values.specs.Replaced.{after_front, or_later, first_split, replaced}
+use Rattle.ecow_values.specs.Replaced.{after_front, or_later, first_split, replacen}
 
 is_some : {A : Type 0} (x y : A) → Some x ≡ Some y → x ≡ y
 is_some x y e = ap (λ (o : Option _). option_map_or (λ a. a) o x) e
@@ -47,16 +47,16 @@ shorter c p (x ∷ s) a b e = by_front (after_front (c ∷ p) (x ∷ s)) refl (�
         omega (arith, less, ap length same)
     by_front None f rest h = later c p s x a b (first_split (c ∷ p) s) refl rest h
 
-pub enough : (n k : ℕ) (p t s : List ℕ) → length s < n → length s < k → replaced n p t s ≡ replaced k p t s
-unfolding replaced
+pub enough : (n k : ℕ) (p t s : List ℕ) → length s < n → length s < k → replacen n p t s ≡ replacen k p t s
+unfolding replacen
 enough zero k p t s less more = absurd (omega arith)
 enough (suc n) zero p t s less more = absurd (omega arith)
 enough (suc n) (suc k) [] t [] less more = refl
 enough (suc n) (suc k) [] t (x ∷ s) less more = ap (λ l. t ++ x ∷ l) (enough n k [] t s (omega arith) (omega arith))
 enough (suc n) (suc k) (c ∷ p) t s less more = by_split (first_split (c ∷ p) s) refl (λ b shorter_n shorter_k. enough n k (c ∷ p) t b shorter_n shorter_k)
   where
-    by_split : (o : Option (List ℕ × List ℕ)) → first_split (c ∷ p) s ≡ o → ((b : List ℕ) → length b < n → length b < k → replaced n (c ∷ p) t b ≡ replaced k (c ∷ p) t b)
-        → option_map_or (λ (parts : List ℕ × List ℕ). parts.0 ++ (t ++ replaced n (c ∷ p) t parts.1)) o s ≡ option_map_or (λ (parts : List ℕ × List ℕ). parts.0 ++ (t ++ replaced k (c ∷ p) t parts.1)) o s
+    by_split : (o : Option (List ℕ × List ℕ)) → first_split (c ∷ p) s ≡ o → ((b : List ℕ) → length b < n → length b < k → replacen n (c ∷ p) t b ≡ replacen k (c ∷ p) t b)
+        → option_map_or (λ (parts : List ℕ × List ℕ). parts.0 ++ (t ++ replacen n (c ∷ p) t parts.1)) o s ≡ option_map_or (λ (parts : List ℕ × List ℕ). parts.0 ++ (t ++ replacen k (c ∷ p) t parts.1)) o s
     by_split None e rest = refl
     by_split (Some parts) e rest =
         let fewer_left = shorter c p s parts.0 parts.1 e in

@@ -25,7 +25,9 @@ AppendsBy text_of old texts new = new ≡ old ++ joined_by text_of texts
 abbrev pub AppendsStrs : List ℕ → List (Bor (List ℕ)) → List ℕ → Type 0
 AppendsStrs old texts new = new ≡ old ++ joined_strs texts
 
--- one text is left out, the last of items: new has the characters of old and then those of the others
+-- one text is left out, the last of items: new has the characters of old and then those of the
+-- others
 abbrev pub LeavesLastOut : {T : Type 0} → (T → List ℕ) → List ℕ → List T → List ℕ → Type 0
 LeavesLastOut {T} text_of old items new =
-    (others : List T) × (last : T) × (items ≡ others ++ last ∷ []) × AppendsBy text_of old others new
+    (others : List T) × (last : T) × (items ≡ others ++ last ∷ [])
+    × AppendsBy text_of old others new

@@ -12,7 +12,9 @@ pub record IsFirstSplit (p s before behind : List ℕ) : Type 0 where
 
 -- the parts are what stands before and behind the first p in s
 abbrev pub SplitsFirst : List ℕ → List ℕ → Option (Bor (List ℕ) × Bor (List ℕ)) → Type 0
-SplitsFirst p s r = MatchOption r (first_split (chars p) (chars s) ≡ None) (λ parts. IsFirstSplit p s parts.0.now parts.1.now)
+SplitsFirst p s r =
+    MatchOption r (first_split (chars p) (chars s) ≡ None)
+    (λ parts. IsFirstSplit p s parts.0.now parts.1.now)
 
 -- the first character of s, as a text, and the text behind it
 pub record IsCharSplit (s first behind : List ℕ) : Type 0 where

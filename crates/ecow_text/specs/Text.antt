@@ -1,4 +1,5 @@
--- Which bytes a text may have. A character is a Unicode scalar value: a number below 1114112, outside 55296 to 57343.
+-- Which bytes a text may have. A character is a Unicode scalar value: a number below 1114112,
+-- outside 55296 to 57343.
 use Rattle.std.specs.Prelude.{◌≡◌, ℕ, true, false, List, drop, Result, MatchResult}
 use Rattle.std.specs.Str.{chars, encode_utf8_all, all_scalars, is_utf8, valid_up_to, error_len}
 use Rattle.std.specs.Str.Lossy.{utf8_valid_len, utf8_error_len}
@@ -21,10 +22,12 @@ pub record AreUtf8 (bytes : List ℕ) : Type 0 where
 abbrev pub bytes_of : PlainText → PlainBytes
 bytes_of text = plain_bytes (encode_utf8_all text.chars) text.inline
 
--- the error is that of std's `str::from_utf8`: how many bytes before the fault are UTF-8, and how long it is
+-- the error is that of std's `str::from_utf8`: how many bytes before the fault are UTF-8, and how
+-- long it is
 abbrev pub SaysFault : List ℕ → Utf8Error → Type 0
 SaysFault bytes error =
-    (valid_up_to error ≡ utf8_valid_len bytes) × (error_len error ≡ utf8_error_len (drop (valid_up_to error) bytes))
+    (valid_up_to error ≡ utf8_valid_len bytes)
+    × (error_len error ≡ utf8_error_len (drop (valid_up_to error) bytes))
 
 -- a text is made of bytes exactly where they are UTF-8, and it is what they spell, in their mode
 abbrev pub TriesText : PlainBytes → Result PlainText Utf8Error → Type 0

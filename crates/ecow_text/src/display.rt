@@ -53,6 +53,7 @@ impl<const N: usize> SmallText<N> {
     {
         let mut made = Self::new(alloc);
         made.write(value)?;
+        // For the proof alone: an inline text has at most `N` bytes.
         let _len = made.len();
         made.shrink_to_fit();
         Ok(made)

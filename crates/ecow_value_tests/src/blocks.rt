@@ -62,7 +62,8 @@ fn moves_clone_nothing(rt: HostRuntime) -> Result<(), AllocError> {
 
 /// Whether clones of the elements go in; not where there is no room.
 fn appended(block: &mut Block<Counting>, elements: &[Counting]) -> bool {
-    elements.len() <= block.capacity() - block.len() && block.extend_within_capacity(elements).is_ok()
+    elements.len() <= block.capacity() - block.len()
+        && block.extend_within_capacity(elements).is_ok()
 }
 
 /// Appends clones of so many elements, of which the clone with this number is refused, and then

@@ -2,7 +2,7 @@
 use Rattle.std.proofs.Common.{refl}
 use Rattle.std.specs.Char.{encode_utf8}
 use Rattle.std.specs.Str.{chars, is_utf8}
-use Rattle.ecow_values.specs.Replaced.{replaced, first_split}
+use Rattle.ecow_values.specs.Replaced.{replacen, first_split}
 use Rattle.ecow_worked_examples.specs.TextScripts.{AGreetingSpillsAndItsCloneIsPopped, TheGreetingStaysInlineWhere23BytesDo, NoCharacterIsCut, NoTextOfOtherBytesOrKinds, ReplacedTwiceAtBoundaries, ReplacedNever, ReplacedWhereNothingOverlaps, ATextKeepsTheModeOfItsBytes, BytesOfATextAndBack, ARepeatedTextIsInlineByItsBytes, ThreeBytesIntoFifteenSpill, CharactersArePushedInOrder, PiecesArePushedInOrder, OnlyAsciiLettersChangeTheirCase, FourAndFiveBytesSpillWhereThreeAreInline, FourBytesAreInlineWhereFourAre, FiveBytesAreInlineWhereFiveAre, RoomPastTheGreatestIsRefused, ATextReplacedByNothingIsInline, ARepeatedSpilledTextComesBackInline}
 use Rattle.ecow_worked_examples.proofs.Scripts.{rules}
 
@@ -23,19 +23,19 @@ unfolding encode_utf8 chars is_utf8
 no_text_of_other_bytes_or_kinds = simp rules refl
 
 pub replaced_twice_at_boundaries : ReplacedTwiceAtBoundaries
-unfolding encode_utf8 replaced first_split
+unfolding encode_utf8 replacen first_split
 replaced_twice_at_boundaries = simp rules refl
 
 pub replaced_never : ReplacedNever
-unfolding encode_utf8 replaced first_split
+unfolding encode_utf8 replacen first_split
 replaced_never = simp rules refl
 
 pub replaced_where_nothing_overlaps : ReplacedWhereNothingOverlaps
-unfolding encode_utf8 replaced first_split
+unfolding encode_utf8 replacen first_split
 replaced_where_nothing_overlaps = simp rules refl
 
 pub a_text_keeps_the_mode_of_its_bytes : ATextKeepsTheModeOfItsBytes
-unfolding encode_utf8 replaced first_split chars is_utf8
+unfolding encode_utf8 replacen first_split chars is_utf8
 a_text_keeps_the_mode_of_its_bytes = simp rules refl
 
 pub bytes_of_a_text_and_back : BytesOfATextAndBack
@@ -63,7 +63,7 @@ unfolding encode_utf8 chars is_utf8
 only_ascii_letters_change_their_case = simp rules refl
 
 pub four_and_five_bytes_spill_where_three_are_inline : FourAndFiveBytesSpillWhereThreeAreInline
-unfolding encode_utf8 replaced first_split
+unfolding encode_utf8 replacen first_split
 four_and_five_bytes_spill_where_three_are_inline = simp rules refl
 
 pub four_bytes_are_inline_where_four_are : FourBytesAreInlineWhereFourAre
@@ -71,7 +71,7 @@ unfolding encode_utf8
 four_bytes_are_inline_where_four_are = simp rules refl
 
 pub five_bytes_are_inline_where_five_are : FiveBytesAreInlineWhereFiveAre
-unfolding encode_utf8 replaced first_split
+unfolding encode_utf8 replacen first_split
 five_bytes_are_inline_where_five_are = simp rules refl
 
 pub room_past_the_greatest_is_refused : RoomPastTheGreatestIsRefused
@@ -79,7 +79,7 @@ unfolding encode_utf8
 room_past_the_greatest_is_refused = simp rules refl
 
 pub a_text_replaced_by_nothing_is_inline : ATextReplacedByNothingIsInline
-unfolding encode_utf8 replaced first_split
+unfolding encode_utf8 replacen first_split
 a_text_replaced_by_nothing_is_inline = simp rules refl
 
 pub a_repeated_spilled_text_comes_back_inline : ARepeatedSpilledTextComesBackInline

@@ -6,7 +6,7 @@ ghost use Rattle.ecow_model.specs.Bytes.{derive_bytes};
 ghost use Rattle.ecow_values.specs.Plain.{plain_bytes};
 ghost use Rattle.ecow_model.specs.Lists.{make_list};
 ghost use Rattle.ecow_model.specs.Refusing.{allowed};
-ghost use Rattle.ecow_values.specs.Replaced.{replaced, replaced_all};
+ghost use Rattle.ecow_values.specs.Replaced.{replacen, replace_all};
 ghost use Rattle.ecow_model.specs.Texts.{derive_text};
 ghost use Rattle.ecow_values.specs.Plain.{plain_text};
 ghost use Rattle.ecow_model.specs.declared.bytes.BytesDerive.TheVariants.{Repeat as RepeatBytes};
@@ -32,24 +32,24 @@ pub fn ranges_of_nothing()
 {}
 
 /// Patterns of some characters, and what stands in their place. 233 is é and 128512 is 😀.
-#[tactic(auto, unfolding(ecow_values::specs::Replaced::replaced, ecow_values::specs::Replaced::first_split))]
+#[tactic(auto, unfolding(ecow_values::specs::Replaced::replacen, ecow_values::specs::Replaced::first_split))]
 pub fn replaced_patterns()
-    ensures leftmost_first { replaced_all (codes "aa") (codes "b") (codes "aaa") ≡ codes "ba" }
-    ensures at_the_end { replaced_all (codes "a") [] (233 ∷ 97 ∷ []) ≡ 233 ∷ [] }
-    ensures each_occurrence { replaced_all (128512 ∷ []) (codes "ab") (128512 ∷ 128512 ∷ [])
+    ensures leftmost_first { replace_all (codes "aa") (codes "b") (codes "aaa") ≡ codes "ba" }
+    ensures at_the_end { replace_all (codes "a") [] (233 ∷ 97 ∷ []) ≡ 233 ∷ [] }
+    ensures each_occurrence { replace_all (128512 ∷ []) (codes "ab") (128512 ∷ 128512 ∷ [])
         ≡ codes "abab" }
-    ensures all_of_it { replaced_all (codes "abc") [] (codes "abc") ≡ [] }
+    ensures all_of_it { replace_all (codes "abc") [] (codes "abc") ≡ [] }
 {}
 
 /// The empty pattern, which occurs at every boundary.
-#[tactic(auto, unfolding(ecow_values::specs::Replaced::replaced, ecow_values::specs::Replaced::first_split))]
+#[tactic(auto, unfolding(ecow_values::specs::Replaced::replacen, ecow_values::specs::Replaced::first_split))]
 pub fn replaced_boundaries()
-    ensures all { replaced_all [] (codes "-") (codes "ab") ≡ codes "-a-b-" }
-    ensures two { replaced 2 [] (codes "-") (codes "ab") ≡ codes "-a-b" }
-    ensures none { replaced 0 [] (codes "-") (codes "ab") ≡ codes "ab" }
-    ensures of_long_characters { replaced_all [] (codes "-") (97 ∷ 128512 ∷ [])
+    ensures all { replace_all [] (codes "-") (codes "ab") ≡ codes "-a-b-" }
+    ensures two { replacen 2 [] (codes "-") (codes "ab") ≡ codes "-a-b" }
+    ensures none { replacen 0 [] (codes "-") (codes "ab") ≡ codes "ab" }
+    ensures of_long_characters { replace_all [] (codes "-") (97 ∷ 128512 ∷ [])
         ≡ 45 ∷ 97 ∷ 45 ∷ 128512 ∷ 45 ∷ [] }
-    ensures of_nothing { replaced_all [] (codes "-") [] ≡ codes "-" }
+    ensures of_nothing { replace_all [] (codes "-") [] ≡ codes "-" }
 {}
 
 /// Bytes that are no UTF-8: a byte that begins nothing, an overlong form, a surrogate, a number

@@ -96,6 +96,7 @@ impl<const N: usize> SmallBytes<N> {
         ensures free { OnErr result (inline_after N self.new.inline (length self.new.bytes) 1
             ≡ false) }
     {
+        // For the proof alone: inline bytes are at most `N`.
         let _len = self.len();
         for byte in iter {
             self.push(byte)?;

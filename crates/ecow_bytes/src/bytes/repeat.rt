@@ -42,7 +42,7 @@ impl<const N: usize> SmallBytes<N> {
     /// Appends the first `len` bytes once more.
     #[tactic(auto, using(crate::proofs::Limits::past_limit, crate::proofs::Limits::part_fits))]
     fn append_front(&mut self, len: usize) -> Result<(), EcoError>
-        requires within { len ≤ length self.old.bytes }
+        requires in_bounds { len ≤ length self.old.bytes }
         requires bounded { length self.old.bytes + len ≤ MAX_LEN }
         ensures bytes { OnOk result (self.new.bytes ≡ self.old.bytes ++ take len self.old.bytes) }
         ensures mode { OnOk result

@@ -141,6 +141,7 @@ impl<const N: usize> SmallText<N> {
         ensures memory { IfErr result (λ error. error ≡ EcoError.Memory) }
         ensures free { OnErr result (inline ≡ false) }
     {
+        // The length stands here for the proof alone: it is bounded.
         let (_len, alloc) = (self.len(), self.bytes.allocator());
         let text = self.bytes.as_slice();
         let bytes = if inline {

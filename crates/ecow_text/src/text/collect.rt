@@ -124,6 +124,7 @@ impl<const N: usize> SmallText<N> {
             × (inline_after N self.old.inline (utf8_len (self.old.chars ++ items)) 0 ≡ false)
             × (IsErrOf result EcoError.Capacity ↔ (MAX_LEN < utf8_len (self.old.chars ++ items)))) }
     {
+        // For the proof alone: an inline text has at most `N` bytes.
         let _len = self.len();
         for c in iter {
             self.push(c)?;
@@ -176,6 +177,7 @@ impl<const N: usize> SmallText<N> {
             × (IsErrOf result EcoError.Capacity ↔ (MAX_LEN < utf8_len (self.old.chars ++ joined_by T.text_of items)))
             × LeavesLastOut T.text_of self.old.chars items self.new.chars) }
     {
+        // For the proof alone: an inline text has at most `N` bytes.
         let _len = self.len();
         for text in iter {
             self.push_next(text.text())?;

@@ -105,7 +105,7 @@ impl<const N: usize> SmallText<N> {
     /// nothing.
     pub fn remove(&mut self, index: usize) -> Result<char, EcoError>
         requires boundary { is_boundary self.old.chars index ≡ true }
-        requires within { index < utf8_len self.old.chars }
+        requires in_bounds { index < utf8_len self.old.chars }
         ensures value { IfOk result
             (λ c. slice_get self.old.chars (chars_before self.old.chars index) ≡ Some c) }
         ensures chars { OnOk result

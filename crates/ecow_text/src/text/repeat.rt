@@ -20,6 +20,7 @@ impl<const N: usize> SmallText<N> {
             ↔ (MAX_LEN < utf8_len self.now.chars * count) }
         ensures free { utf8_len self.now.chars * count ≤ N → IsOk result }
     {
+        // For the proof alone: the length is bounded.
         let _len = self.bytes.len();
         let bytes = self.bytes.repeat(count)?;
         Ok(SmallText { bytes })

@@ -3,12 +3,12 @@
 ghost use Rattle.std.specs.Prelude.{◌≡◌, ◌≢◌, ◌+◌, ◌<◌, ◌≤◌, ◌↔◌, [], length, IsOk, IfOk, IsErrOf};
 ghost use Rattle.std.specs.Str.{chars};
 ghost use Rattle.ecow_values.specs.Inline.{inline_for};
-ghost use Rattle.ecow_values.specs.Replaced.{replaced, replaced_all};
+ghost use Rattle.ecow_values.specs.Replaced.{replacen, replace_all};
 ghost use Rattle.ecow_values.specs.Utf8.{utf8_len};
 
 mod interleave;
+mod parts;
 mod pattern;
-mod within;
 
 use crate::text::SmallText;
 use crate::text::replace::interleave::{interleaving_len, push_interleaving};
@@ -24,17 +24,17 @@ impl<const N: usize> SmallText<N> {
     ///
     /// Answers `Capacity` where it comes to more than 2^63 - 1 bytes, and else `Memory`.
     pub fn replacen(&self, pattern: &str, replacement: &str, count: usize) -> Result<Self, EcoError>
-        ensures chars { IfOk result (λ made. made.chars ≡ replaced count (chars pattern.now)
+        ensures chars { IfOk result (λ made. made.chars ≡ replacen count (chars pattern.now)
             (chars replacement.now) self.now.chars) }
         ensures mode { IfOk result (λ made. made.inline
             ≡ inline_for N
-            (utf8_len (replaced count (chars pattern.now)
+            (utf8_len (replacen count (chars pattern.now)
             (chars replacement.now) self.now.chars))) }
         ensures capacity { IsErrOf result EcoError.Capacity
             ↔ (MAX_LEN < utf8_len
-            (replaced count (chars pattern.now) (chars replacement.now) self.now.chars)) }
+            (replacen count (chars pattern.now) (chars replacement.now) self.now.chars)) }
         ensures free { utf8_len
-            (replaced count (chars pattern.now) (chars replacement.now) self.now.chars) ≤ N
+            (replacen count (chars pattern.now) (chars replacement.now) self.now.chars) ≤ N
             → IsOk result }
     {
         if pattern.is_empty() {
@@ -47,15 +47,15 @@ impl<const N: usize> SmallText<N> {
     /// limit.
     pub fn replace(&self, pattern: &str, replacement: &str) -> Result<Self, EcoError>
         ensures chars { IfOk result (λ made. made.chars
-            ≡ replaced_all (chars pattern.now) (chars replacement.now) self.now.chars) }
+            ≡ replace_all (chars pattern.now) (chars replacement.now) self.now.chars) }
         ensures mode { IfOk result (λ made. made.inline
             ≡ inline_for N
-            (utf8_len (replaced_all (chars pattern.now) (chars replacement.now) self.now.chars))) }
+            (utf8_len (replace_all (chars pattern.now) (chars replacement.now) self.now.chars))) }
         ensures capacity { IsErrOf result EcoError.Capacity
             ↔ (MAX_LEN < utf8_len
-            (replaced_all (chars pattern.now) (chars replacement.now) self.now.chars)) }
+            (replace_all (chars pattern.now) (chars replacement.now) self.now.chars)) }
         ensures free { utf8_len
-            (replaced_all (chars pattern.now) (chars replacement.now) self.now.chars) ≤ N
+            (replace_all (chars pattern.now) (chars replacement.now) self.now.chars) ≤ N
             → IsOk result }
     {
         self.replacen(pattern, replacement, self.len() + 1)
@@ -69,17 +69,17 @@ impl<const N: usize> SmallText<N> {
         count: usize,
     ) -> Result<Self, EcoError>
         requires { pattern.now ≢ [] }
-        ensures chars { IfOk result (λ made. made.chars ≡ replaced count (chars pattern.now)
+        ensures chars { IfOk result (λ made. made.chars ≡ replacen count (chars pattern.now)
             (chars replacement.now) self.now.chars) }
         ensures mode { IfOk result (λ made. made.inline
             ≡ inline_for N
-            (utf8_len (replaced count (chars pattern.now)
+            (utf8_len (replacen count (chars pattern.now)
             (chars replacement.now) self.now.chars))) }
         ensures capacity { IsErrOf result EcoError.Capacity
             ↔ (MAX_LEN < utf8_len
-            (replaced count (chars pattern.now) (chars replacement.now) self.now.chars)) }
+            (replacen count (chars pattern.now) (chars replacement.now) self.now.chars)) }
         ensures free { utf8_len
-            (replaced count (chars pattern.now) (chars replacement.now) self.now.chars) ≤ N
+            (replacen count (chars pattern.now) (chars replacement.now) self.now.chars) ≤ N
             → IsOk result }
     {
         let text = self.as_str();
@@ -95,15 +95,16 @@ impl<const N: usize> SmallText<N> {
     /// `replacen` of the empty pattern.
     fn interleave(&self, replacement: &str, count: usize) -> Result<Self, EcoError>
         ensures chars { IfOk result (λ made. made.chars
-            ≡ replaced count [] (chars replacement.now) self.now.chars) }
+            ≡ replacen count [] (chars replacement.now) self.now.chars) }
         ensures mode { IfOk result (λ made. made.inline
-            ≡ inline_for N (utf8_len (replaced count [] (chars replacement.now) self.now.chars))) }
+            ≡ inline_for N (utf8_len (replacen count [] (chars replacement.now) self.now.chars))) }
         ensures capacity { IsErrOf result EcoError.Capacity
-            ↔ (MAX_LEN < utf8_len (replaced count [] (chars replacement.now) self.now.chars)) }
-        ensures free { utf8_len (replaced count [] (chars replacement.now) self.now.chars) ≤ N
+            ↔ (MAX_LEN < utf8_len (replacen count [] (chars replacement.now) self.now.chars)) }
+        ensures free { utf8_len (replacen count [] (chars replacement.now) self.now.chars) ≤ N
             → IsOk result }
     {
         let text = self.as_str();
+        // For the proof alone: the length is bounded.
         let _len = self.len();
         let Some(most) = interleaving_len(text, replacement, count) else {
             return Err(EcoError::Capacity);

@@ -2,12 +2,12 @@
 ghost use Rattle.std.specs.Prelude.{◌≡◌, ◌+◌, ◌<◌, ◌≤◌, [], ◌++◌, length, IfErr, OnOk, OnErr, SomeIff};
 ghost use Rattle.std.specs.Str.{chars};
 ghost use Rattle.ecow_values.specs.Inline.{inline_for};
-ghost use Rattle.ecow_values.specs.Replaced.{replaced};
+ghost use Rattle.ecow_values.specs.Replaced.{replacen};
 ghost use Rattle.ecow_values.specs.Utf8.{utf8_len};
 ghost use Rattle.ecow_text.specs.Replace.{SplitsChar};
 
 use crate::text::SmallText;
-use crate::text::replace::within::{push_both, push_within, total_with};
+use crate::text::replace::parts::{push_both, push_part, total_with};
 use ecow_base::MAX_LEN;
 use ecow_list::EcoError;
 
@@ -22,7 +22,7 @@ fn split_char(text: &str) -> Option<(&str, &str)>
 /// How many bytes `replacen` of the empty pattern comes to, where a text may have so many.
 pub(super) fn interleaving_len(text: &str, replacement: &str, count: usize) -> Option<usize>
     requires { length text.now ≤ MAX_LEN }
-    ensures { let made = replaced count [] (chars replacement.now)
+    ensures { let made = replacen count [] (chars replacement.now)
         (chars text.now) in SomeIff result (utf8_len made ≤ MAX_LEN) (utf8_len made) }
 {
     let places = count.min(text.chars().count() + 1);
@@ -41,10 +41,10 @@ pub(super) fn push_interleaving<const N: usize>(
 ) -> Result<(), EcoError>
     requires bounded { most ≤ MAX_LEN }
     requires fits { utf8_len made.old.chars
-        + utf8_len (replaced count [] (chars replacement.now) (chars text.now)) ≤ most }
+        + utf8_len (replacen count [] (chars replacement.now) (chars text.now)) ≤ most }
     requires mode { made.old.inline ≡ inline_for N most }
     ensures chars { OnOk result
-        (made.new.chars ≡ made.old.chars ++ replaced count [] (chars replacement.now)
+        (made.new.chars ≡ made.old.chars ++ replacen count [] (chars replacement.now)
         (chars text.now)) }
     ensures mode { OnOk result (made.new.inline ≡ inline_for N most) }
     ensures memory { IfErr result (λ error. error ≡ EcoError.Memory) }
@@ -55,7 +55,7 @@ pub(super) fn push_interleaving<const N: usize>(
     while left > 0 {
         match split_char(rest) {
             None => {
-                push_within(made, replacement, most)?;
+                push_part(made, replacement, most)?;
                 left = 0;
             }
             Some((first, behind)) => {
@@ -65,5 +65,5 @@ pub(super) fn push_interleaving<const N: usize>(
             }
         }
     }
-    push_within(made, rest, most)
+    push_part(made, rest, most)
 }

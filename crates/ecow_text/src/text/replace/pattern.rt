@@ -3,12 +3,12 @@
 ghost use Rattle.std.specs.Prelude.{◌≡◌, ◌≢◌, ◌+◌, ◌<◌, ◌≤◌, [], ◌++◌, length, IfErr, OnOk, OnErr, SomeIff};
 ghost use Rattle.std.specs.Str.{chars};
 ghost use Rattle.ecow_values.specs.Inline.{inline_for};
-ghost use Rattle.ecow_values.specs.Replaced.{replaced};
+ghost use Rattle.ecow_values.specs.Replaced.{replacen};
 ghost use Rattle.ecow_values.specs.Utf8.{utf8_len};
 ghost use Rattle.ecow_text.specs.Replace.{SplitsFirst};
 
 use crate::text::SmallText;
-use crate::text::replace::within::{push_both, push_within, total_with};
+use crate::text::replace::parts::{push_both, push_part, total_with};
 use ecow_base::MAX_LEN;
 use ecow_list::EcoError;
 use memchr::memmem::Finder;
@@ -33,7 +33,7 @@ pub(super) fn replacement_len(
 ) -> Option<usize>
     requires finder { finder.now ≡ pattern.now }
     requires some { pattern.now ≢ [] }
-    ensures { let made = replaced count (chars pattern.now) (chars replacement.now)
+    ensures { let made = replacen count (chars pattern.now) (chars replacement.now)
         (chars text.now) in SomeIff result (utf8_len made ≤ MAX_LEN) (utf8_len made) }
 {
     let mut total = 0usize;
@@ -67,11 +67,11 @@ pub(super) fn push_replacement<const N: usize>(
     requires some { pattern.now ≢ [] }
     requires bounded { most ≤ MAX_LEN }
     requires fits { utf8_len made.old.chars
-        + utf8_len (replaced count (chars pattern.now) (chars replacement.now) (chars text.now))
+        + utf8_len (replacen count (chars pattern.now) (chars replacement.now) (chars text.now))
         ≤ most }
     requires mode { made.old.inline ≡ inline_for N most }
     ensures chars { OnOk result
-        (made.new.chars ≡ made.old.chars ++ replaced count (chars pattern.now)
+        (made.new.chars ≡ made.old.chars ++ replacen count (chars pattern.now)
         (chars replacement.now) (chars text.now)) }
     ensures mode { OnOk result (made.new.inline ≡ inline_for N most) }
     ensures memory { IfErr result (λ error. error ≡ EcoError.Memory) }
@@ -89,5 +89,5 @@ pub(super) fn push_replacement<const N: usize>(
             }
         }
     }
-    push_within(made, rest, most)
+    push_part(made, rest, most)
 }

@@ -1,13 +1,13 @@
 use Rattle.std.proofs.Common.{◌≡◌, ◌+◌, length, arith}
 use Rattle.std.specs.Str.{chars}
 use Rattle.std.proofs.lemmas.Str.{length-le-encodes}
-use Rattle.ecow_values.specs.Replaced.{replaced, replaced_all}
+use Rattle.ecow_values.specs.Replaced.{replacen, replace_all}
 use Rattle.ecow_text.proofs.Enough.{enough}
 use Rattle.ecow_text.proofs.text.SmallText.replace.Given.{Over}
 use Rattle.ecow_text.proofs.text.SmallText.replace.Goals as goal
 
 -- the limit is past what there is
-all : (g : Over) (c : goal.After-replacen g) → replaced (c.len.result + 1) (chars c.args.pattern.now) (chars c.args.replacement.now) c.args.self.now.chars ≡ replaced_all (chars c.args.pattern.now) (chars c.args.replacement.now) c.args.self.now.chars
+all : (g : Over) (c : goal.After-replacen g) → replacen (c.len.result + 1) (chars c.args.pattern.now) (chars c.args.replacement.now) c.args.self.now.chars ≡ replace_all (chars c.args.pattern.now) (chars c.args.replacement.now) c.args.self.now.chars
 all g c =
     let cs = c.args.self.now.chars in
     enough (c.len.result + 1) (length cs + 1) _ _ cs (omega (arith, c.len.ensures.len, length-le-encodes cs)) (omega arith)

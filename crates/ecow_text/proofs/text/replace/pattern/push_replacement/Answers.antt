@@ -1,7 +1,7 @@
 use Rattle.std.proofs.Common.{◌≡◌, ◌+◌, ◌-◌, ◌++◌, [], length, sym, ap, ◌∙◌, arith, append_assoc, rules}
 use Rattle.std.specs.Str.{chars}
 use Rattle.ecow_values.specs.Utf8.{utf8_len}
-use Rattle.ecow_values.specs.Replaced.{replaced}
+use Rattle.ecow_values.specs.Replaced.{replacen}
 use Rattle.ecow_text.proofs.Steps.{replaced-none, replaced-zero, replaced_len-step, replaced-step, part_fits, chars_some, utf8_len-chars}
 use Rattle.ecow_text.proofs.text.replace.pattern.push_replacement.Goals as goal
 
@@ -16,7 +16,7 @@ loop-left-preserved-in-None g c =
 
 pub push_both-requires : goal.push_both-requires
 push_both-requires g c =
-    let rest = replaced (c.loop-left.left - 1) (chars c.args.pattern.now) (chars c.args.replacement.now) (chars c.in-Some.behind.now) in
+    let rest = replacen (c.loop-left.left - 1) (chars c.args.pattern.now) (chars c.args.replacement.now) (chars c.in-Some.behind.now) in
     let step = replaced_len-step c.loop-left.left c.args.pattern.now c.args.replacement.now c.loop-left.rest.now c.in-Some.before.now c.in-Some.behind.now (omega arith) c.utf8.pattern c.requires.some c.utf8.replacement c.in-Some.ensures in
     let room = part_fits c.loop-left.made.chars c.args.made.now.chars _ _ rest c.args.most (length c.in-Some.before.now + length c.args.replacement.now) c.loop-left.invariant.joined c.requires.fits step in
     (search rules, (c.requires.bounded, (omega (arith, room), c.loop-left.invariant.mode)))
@@ -26,13 +26,13 @@ loop-left-preserved g c =
     let step = replaced-step c.loop-left.left c.args.pattern.now c.args.replacement.now c.loop-left.rest.now c.in-Some.before.now c.in-Some.behind.now (omega arith) c.utf8.pattern c.requires.some c.in-Some.ensures in
     record {
       text = c.in-Some.ensures.behind_utf8;
-      joined = ap (λ l. l ++ replaced (c.loop-left.left - 1) (chars c.args.pattern.now) (chars c.args.replacement.now) (chars c.in-Some.behind.now)) c.in_ok-push_both-in-Some.ensures.chars
+      joined = ap (λ l. l ++ replacen (c.loop-left.left - 1) (chars c.args.pattern.now) (chars c.args.replacement.now) (chars c.in-Some.behind.now)) c.in_ok-push_both-in-Some.ensures.chars
           ∙ simp append_assoc (ap (λ l. c.loop-left.made.chars ++ l) (sym step)) ∙ c.loop-left.invariant.joined;
       mode = c.in_ok-push_both-in-Some.ensures.mode;
     }
 
-pub push_within-requires : goal.push_within-requires
-push_within-requires g c =
+pub push_part-requires : goal.push_part-requires
+push_part-requires g c =
     let none : c.loop-left.left ≡ 0 = omega arith in
     let end = rw none at c.loop-left.invariant.joined in
     let size = ap utf8_len (replaced-zero (chars c.args.pattern.now) (chars c.args.replacement.now) (chars c.loop-left.rest.now)) in
@@ -44,4 +44,4 @@ returns-clause-chars g c =
     let none : c.loop-left.left ≡ 0 = omega arith in
     let end = rw none at c.loop-left.invariant.joined in
     let whole = ap (λ l. c.loop-left.made.chars ++ l) (sym (replaced-zero (chars c.args.pattern.now) (chars c.args.replacement.now) (chars c.loop-left.rest.now))) ∙ end in
-    rw (← whole) c.push_within.ensures.chars
+    rw (← whole) c.push_part.ensures.chars

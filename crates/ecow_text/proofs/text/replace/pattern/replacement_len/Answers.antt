@@ -1,7 +1,7 @@
 use Rattle.std.proofs.Common.{◌≡◌, ◌+◌, length, ap, arith}
 use Rattle.std.specs.Str.{chars}
 use Rattle.ecow_values.specs.Utf8.{utf8_len}
-use Rattle.ecow_values.specs.Replaced.{replaced}
+use Rattle.ecow_values.specs.Replaced.{replacen}
 use Rattle.ecow_text.proofs.Steps.{replaced-none, replaced-zero, replaced_len-step, chars_some, utf8_len-chars}
 use Rattle.ecow_text.proofs.text.replace.pattern.replacement_len.Goals as goal
 
@@ -37,6 +37,6 @@ pub returns : goal.returns
 returns c =
     let none : c.loop-left.left ≡ 0 = omega arith in
     let end = rw none at c.loop-left.invariant.counted in
-    let whole : c.loop-left.total + length c.loop-left.rest.now ≡ utf8_len (replaced c.args.count (chars c.args.pattern.now) (chars c.args.replacement.now) (chars c.args.text.now)) =
+    let whole : c.loop-left.total + length c.loop-left.rest.now ≡ utf8_len (replacen c.args.count (chars c.args.pattern.now) (chars c.args.replacement.now) (chars c.args.text.now)) =
     omega (arith, end, ap utf8_len (replaced-zero (chars c.args.pattern.now) (chars c.args.replacement.now) (chars c.loop-left.rest.now)), utf8_len-chars c.loop-left.rest.now c.loop-left.invariant.text) in
     rw whole at c.total_with-2.ensures

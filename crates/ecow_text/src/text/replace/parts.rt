@@ -21,7 +21,7 @@ pub(super) fn total_with(total: usize, more: usize) -> Option<usize>
 
 /// Appends `text` to a text that was made for `most` bytes.
 #[tactic(auto, using(crate::proofs::Limits::keeps_mode, crate::proofs::Limits::none_refused))]
-pub(super) fn push_within<const N: usize>(
+pub(super) fn push_part<const N: usize>(
     made: &mut SmallText<N>,
     text: &str,
     most: usize,
@@ -54,7 +54,7 @@ pub(super) fn push_both<const N: usize>(
     ensures memory { IfErr result (λ error. error ≡ EcoError.Memory) }
     ensures free { OnErr result (N < most) }
 {
-    push_within(made, first, most)?;
-    push_within(made, second, most)?;
+    push_part(made, first, most)?;
+    push_part(made, second, most)?;
     Ok(())
 }
