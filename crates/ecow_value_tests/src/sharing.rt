@@ -56,11 +56,11 @@ fn a_vector_has_the_block_that_is_put_in_its_place(rt: HostRuntime) -> Result<()
     let (mut list, whole) = with_clone(rt.alloc(), &[1, 2, 3])?;
     give_its_block_away(rt.alloc(), &mut list)?;
     assert_eq!(rt; room_of_a_unique(&mut list), Some(0));
-    assert!(rt; list.is_empty() && whole.as_slice() == [1, 2, 3]);
+    assert!(rt; list.is_empty() && whole.as_slice() == [1, 2, 3].as_slice());
     let mut none = shared(&list)?;
     list.push(4).map_err(error_of)?;
     assert_eq!(rt; room_of_a_unique(&mut list), Some(4));
-    assert!(rt; list.as_slice() == [4] && none.is_empty() && is_unique(&mut none));
+    assert!(rt; list.as_slice() == [4].as_slice() && none.is_empty() && is_unique(&mut none));
     assert_eq!(rt; none.pop()?, None);
     Ok(())
 }

@@ -87,7 +87,7 @@ impl Twins {
 
     fn insert(&mut self, index: usize, value: i64) -> Result<(), AllocError> {
         if self.raw.len() < self.raw.capacity() && index <= self.raw.len() {
-            self.raw.insert_within(index, value);
+            self.raw.insert_within_capacity(index, value);
             put(&mut self.plain, index, &[value])?;
         }
         Ok(())
