@@ -31,7 +31,7 @@ fn shared(alloc: Global, left: &Rc<Cell<u64>>) -> Result<Counted<Refusing>, Allo
 
 /// What the first names hold, who shares it, the capacities and the totals, as numbers. The elements
 /// may be cloned for that.
-fn payload(
+fn seen(
     alloc: Global,
     table: &mut Counted<Refusing>,
     left: &Rc<Cell<u64>>,

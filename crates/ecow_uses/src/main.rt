@@ -87,12 +87,12 @@ fn fill_a_letter(rt: &HostRuntime) -> Result<()> {
     let name = EcoString::from_str(alloc, "name")?;
     values.insert(name, EcoString::from_str(alloc, "Ada")?)?;
     for text in ["Dear {name},", "no hole", "a {hole that stays open"] {
-        print_filled(rt, text, &values)?;
+        print_template(rt, text, &values)?;
     }
     Ok(())
 }
 
-fn print_filled(
+fn print_template(
     rt: &HostRuntime,
     text: &str,
     values: &BTreeMap<EcoString, EcoString>,
@@ -120,12 +120,12 @@ fn replace_a_node(rt: &HostRuntime) -> Result<()> {
     let tree = a_tree(rt)?;
     let node = leaf(rt, "z")?;
     if let Some((kept, changed)) = tree::replace_and_keep(&tree, &[0, 0], node)? {
-        println!(rt; "{} -> {}", printed(rt, &kept)?, printed(rt, &changed)?)?;
+        println!(rt; "{} -> {}", text_of(rt, &kept)?, text_of(rt, &changed)?)?;
     }
     if let Some(node) = tree.at(&[0]) {
         println!(rt;
             "first child: {}, nodes: {:?}",
-            printed(rt, node)?,
+            text_of(rt, node)?,
             tree.size()
         )?;
     }
@@ -146,7 +146,7 @@ fn leaf(rt: &HostRuntime, name: &str) -> Result<Node> {
     Ok(Node::new(alloc, EcoString::from_str(alloc, name)?))
 }
 
-fn printed(rt: &HostRuntime, tree: &Node) -> Result<EcoString> {
+fn text_of(rt: &HostRuntime, tree: &Node) -> Result<EcoString> {
     let mut text = EcoString::new(rt.alloc());
     tree.print(&mut text)?;
     Ok(text)

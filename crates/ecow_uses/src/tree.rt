@@ -119,7 +119,7 @@ impl Node {
 
     /// The tree with `node` at the end of the path; `None` where the path leads to no node. This tree
     /// stays as it is, and both share every vector that isn't on the path.
-    pub fn replaced(&self, path: &[usize], node: Node) -> Result<Option<Node>, EcoError>
+    pub fn replace_at(&self, path: &[usize], node: Node) -> Result<Option<Node>, EcoError>
         ensures replaced { IfOk result
             (λ found. IfSome found (λ tree. IsReplaced path.now node self.now tree)) }
         ensures there { IfOk result (λ found. IsSome found ↔ IsSome (node_at self.now path.now)) }
@@ -127,7 +127,7 @@ impl Node {
         match path {
             [] => Ok(Some(node)),
             [index, rest @ ..] => match self.child(*index) {
-                Some(child) => match child.replaced(rest, node)? {
+                Some(child) => match child.replace_at(rest, node)? {
                     Some(child) => Ok(Some(self.with_child(*index, child)?)),
                     None => Ok(None),
                 },
@@ -154,7 +154,7 @@ pub fn replace_and_keep(
         → node_at trees.1 other ≡ node_at tree.now other)) }
 {
     let kept = tree.clone()?;
-    match tree.replaced(path, node)? {
+    match tree.replace_at(path, node)? {
         Some(changed) => Ok(Some((kept, changed))),
         None => Ok(None),
     }
