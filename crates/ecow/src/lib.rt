@@ -1,5 +1,6 @@
-//! Containers whose clones share what they hold until one of them is written to: `EcoVec`, a vector,
-//! and `EcoBytes` and `EcoString`, bytes and text that stand in the value itself where they are short.
+//! Containers whose clones share what they hold until one of them is written to: `EcoVec`, a
+//! vector, and `EcoBytes` and `EcoString`, bytes and text that stand in the value itself where they
+//! are short.
 //!
 //! The paths are those of the original crate.
 #![tactic(auto)]

@@ -1,6 +1,6 @@
-//! Loops of one call of `EcoVec` each, or of a few. `items` are the elements of the list, and the loop
-//! goes round `count` times; a function returns a sum of what it saw. Where memory is refused a loop
-//! does less, and its sum tells.
+//! Loops of one call of `EcoVec` each, or of a few. `items` are the elements of the list, and the
+//! loop goes round `count` times; a function returns a sum of what it saw. Where memory is refused
+//! a loop does less, and its sum tells.
 
 use crate::elements::Element;
 use crate::pairs;
@@ -200,8 +200,8 @@ pub(crate) fn retain<T: Element>(alloc: Global, items: &[T], count: u64) -> u64 
     sum
 }
 
-/// Fills a vector from the slice, and puts the last third of the slice in place of the quarter of it
-/// that begins at its middle.
+/// Fills a vector from the slice, and puts the last third of the slice in place of the quarter of
+/// it that begins at its middle.
 pub(crate) fn splice<T: Element + Copy>(alloc: Global, items: &[T], count: u64) -> u64 {
     let added = &items[items.len() - items.len() / 3..];
     let start = items.len() / 2;

@@ -1,6 +1,6 @@
 //! What `make bench` times: `ecow_bench CALL LENGTH COUNT` goes round one loop on a list of that
-//! length, or on so many bytes or letters where CALL begins with `bytes_` or `text_`, and prints a sum of what it saw.
-//! Without arguments it goes three times round each loop.
+//! length, or on so many bytes or letters where CALL begins with `bytes_` or `text_`, and prints a
+//! sum of what it saw. Without arguments it goes three times round each loop.
 #![tactic(auto)]
 
 mod bytes;
@@ -204,7 +204,8 @@ fn made<T: Element>(alloc: Global, numbers: &[u64]) -> Result<Vec<T>, AllocError
     Ok(items)
 }
 
-/// What a loop on a list of some element saw. All loops are for numbers, and some for other elements.
+/// What a loop on a list of some element saw. All loops are for numbers, and some for other
+/// elements.
 fn sum_of_lists(
     alloc: Global,
     call: &str,

@@ -1,4 +1,5 @@
-//! Loops of calls that vectors, bytes and texts have alike, and that only read: two values, `even` and `odd`, take turns.
+//! Loops of calls that vectors, bytes and texts have alike, and that only read: two values, `even`
+//! and `odd`, take turns.
 
 use std::cmp::Ordering;
 use std::hash::{DefaultHasher, Hash, Hasher};

@@ -1,5 +1,5 @@
-//! Loops of one call of `EcoString` each, in the form of those of the vector: `text` is what the value
-//! is made of.
+//! Loops of one call of `EcoString` each, in the form of those of the vector: `text` is what the
+//! value is made of.
 
 use crate::pairs;
 use ecow_text::{EcoString, ToEcoString, eco_format};

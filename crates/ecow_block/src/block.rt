@@ -70,7 +70,8 @@ impl<T> Block<T> {
         }
     }
 
-    /// An empty block with room for `capacity` elements. Asks for no memory where they take no bytes.
+    /// An empty block with room for `capacity` elements. Asks for no memory where they take no
+    /// bytes.
     pub fn with_capacity(alloc: Global, capacity: usize) -> Result<Self, AllocError>
         ensures block { IfOk result (λ b. b ≡ contents [] capacity) }
         ensures free { capacity ≡ 0 → IsOk result }
@@ -147,12 +148,13 @@ impl<T> Block<T> {
         self.len += 1;
     }
 
-    /// Appends the next items of `iter` while there is room and there are fewer than `most` elements. Returns whether `iter`
-    /// ended.
+    /// Appends the next items of `iter` while there is room and there are fewer than `most`
+    /// elements. Returns whether `iter` ended.
     pub fn fill_from<I: Iterator<Item = T>>(&mut self, most: usize, iter: &mut I) -> bool
         requires in_bounds { length self.old.items ≤ most }
         requires callable { I.can_next iter.old × IsFinite (I.remaining iter.old) }
-        ensures items { GivesOn I.next_gives iter.old self.old.items iter.new self.new.items result }
+        ensures items { GivesOn I.next_gives iter.old self.old.items
+            iter.new self.new.items result }
         ensures len { (length self.old.items ≤ length self.new.items)
             × (length self.new.items ≤ most) }
         ensures full { result ≡ false → length self.new.items ≡ min most self.old.capacity }
@@ -230,8 +232,8 @@ impl<T> Block<T> {
         Rest::of_room(base, len, capacity, room, deed, alloc)
     }
 
-    /// Makes room for exactly `capacity` elements. If it is refused, nothing changes; it never is where there is that much
-    /// room already.
+    /// Makes room for exactly `capacity` elements. If it is refused, nothing changes; it never is
+    /// where there is that much room already.
     #[inline]
     pub fn grow(&mut self, capacity: usize) -> Result<(), AllocError>
         requires { self.old.capacity ≤ capacity }
@@ -245,8 +247,8 @@ impl<T> Block<T> {
         self.enlarge(capacity)
     }
 
-    /// Gives the block places for `capacity` elements, of which it may have fewer: its own enlarged,
-    /// where it has memory and needs some. Where it is refused, the block stays as it is.
+    /// Gives the block places for `capacity` elements, of which it may have fewer: its own
+    /// enlarged, where it has memory and needs some. Where it is refused, the block stays as it is.
     #[inline]
     fn enlarge(&mut self, capacity: usize) -> Result<(), AllocError>
         requires { self.old.capacity ≤ capacity }
@@ -272,8 +274,8 @@ impl<T> Block<T> {
         self.renew(capacity)
     }
 
-    /// Moves the elements into a new block of `capacity` places. A block without memory has none that
-    /// could be enlarged. Where it is refused, the block stays as it is.
+    /// Moves the elements into a new block of `capacity` places. A block without memory has none
+    /// that could be enlarged. Where it is refused, the block stays as it is.
     #[cold]
     #[inline(never)]
     fn renew(&mut self, capacity: usize) -> Result<(), AllocError>
@@ -287,7 +289,8 @@ impl<T> Block<T> {
         Ok(())
     }
 
-    /// Moves the elements from `start` up to `end` behind those of `other`, which has room for them.
+    /// Moves the elements from `start` up to `end` behind those of `other`, which has room for
+    /// them.
     pub fn drain_into(&mut self, start: usize, end: usize, other: &mut Block<T>)
         requires ordered { start ≤ end }
         requires in_bounds { end ≤ length self.old.items }
@@ -313,7 +316,8 @@ impl<T> Block<T> {
         other.len += count;
     }
 
-    /// Moves the elements of `other` from `from` on to before the element at `index`. There is room for them.
+    /// Moves the elements of `other` from `from` on to before the element at `index`. There is room
+    /// for them.
     pub fn insert_from(&mut self, index: usize, other: &mut Block<T>, from: usize)
         requires in_bounds { index ≤ length self.old.items }
         requires from_in_bounds { from ≤ length other.old.items }
@@ -362,8 +366,9 @@ impl<T> Block<T> {
         self.room.append(middle);
     }
 
-    /// Puts the elements of `replacement`, for which there is room, in place of those from `start` up to `end`, and gives those
-    /// in the memory of `replacement`, in which there is room for them.
+    /// Puts the elements of `replacement`, for which there is room, in place of those from `start`
+    /// up to `end`, and gives those in the memory of `replacement`, in which there is room for
+    /// them.
     pub fn splice_within_capacity(
         &mut self,
         start: usize,
@@ -401,7 +406,8 @@ impl<T> Block<T> {
         elements.destroy_empty();
     }
 
-    /// Moves all elements out into a `Vec`. Memory is asked for it; if it is refused, nothing changes.
+    /// Moves all elements out into a `Vec`. Memory is asked for it; if it is refused, nothing
+    /// changes.
     pub fn take_vec(&mut self) -> Result<Vec<T>, AllocError>
         ensures taken { IfOk result (λ elements. elements.items ≡ self.old.items) }
         ensures left { OnOk result (self.new.items ≡ []) }
@@ -430,7 +436,8 @@ impl<T> Block<T> {
 }
 
 impl<T: Clone> Block<T> {
-    /// Appends clones of `elements`, for which there is room. If a clone is refused, nothing changes.
+    /// Appends clones of `elements`, for which there is room. If a clone is refused, nothing
+    /// changes.
     pub fn extend_within_capacity(&mut self, elements: &[T]) -> Result<(), AllocError>
         requires { length self.old.items + length elements.now ≤ self.old.capacity }
         ensures clones { OnOk result
@@ -474,7 +481,8 @@ impl<T: Copy> Block<T> {
         self.len = len;
     }
 
-    /// Appends copies of the elements from `start` up to `end`, for which there is room, in one move of memory.
+    /// Appends copies of the elements from `start` up to `end`, for which there is room, in one
+    /// move of memory.
     pub fn extend_from_within(&mut self, start: usize, end: usize)
         requires ordered { start ≤ end }
         requires in_bounds { end ≤ length self.old.items }

@@ -1,5 +1,6 @@
-//! Moves of items within a room and between rooms, with no pointer in sight. What is cut and glued here is gone when the
-//! program runs: what is left are reads and writes, which the compiler knows as moves of memory.
+//! Moves of items within a room and between rooms, with no pointer in sight. What is cut and glued
+//! here is gone when the program runs: what is left are reads and writes, which the compiler knows
+//! as moves of memory.
 ghost use Rattle.std.specs.Prelude.{◌≡◌, ◌+◌, ◌-◌, ◌^◌, ◌<◌, ◌≤◌, [], ◌∷◌, ◌++◌, length, take, drop, slice_range, vec_len, OnOk, OnErr, IfOk, IsTrue, false};
 ghost use Rattle.std.specs.Fn.{CalledAtMut};
 ghost use Rattle.std.specs.Iterator.{IsFinite};
@@ -58,8 +59,8 @@ impl<T> Room<T> {
         (item, replace(self, rest))
     }
 
-    /// Takes the first item, as an array of one, from the place numbered `at`, by a move of memory. That
-    /// place comes back too.
+    /// Takes the first item, as an array of one, from the place numbered `at`, by a move of memory.
+    /// That place comes back too.
     fn take_first_one(&mut self, base: Base<T>, at: usize) -> ([T; 1], Room<T>)
         requires { (base.ptr ≡ self.old.at) × (at ≡ self.old.start) × (0 < length self.old.items) }
         ensures items { self.old.items ≡ result.0 ++ self.new.items }
@@ -74,7 +75,8 @@ impl<T> Room<T> {
         (item, replace(self, rest))
     }
 
-    /// Takes the first item, and moves the others, all of which were `len`, down by a place: in place where they are few.
+    /// Takes the first item, and moves the others, all of which were `len`, down by a place: in
+    /// place where they are few.
     pub(crate) fn shift_first(&mut self, base: Base<T>, start: usize, len: usize) -> T
         requires { (base.ptr ≡ self.old.at) × (start ≡ self.old.start)
             × (len ≡ length self.old.items) × (0 < len) }
@@ -91,8 +93,9 @@ impl<T> Room<T> {
         item
     }
 
-    /// Calls `shift` out of line. Given only a pointer to the first item, the compiler knows the loop as
-    /// one move of memory, whatever the items are. For that it has to see the loop inlined once before.
+    /// Calls `shift` out of line. Given only a pointer to the first item, the compiler knows the
+    /// loop as one move of memory, whatever the items are. For that it has to see the loop inlined
+    /// once before.
     #[inline(never)]
     fn shift_many(&mut self, base: Base<T>, len: usize) -> T
         requires { (base.ptr ≡ self.old.at) × (self.old.start ≡ 0) × (len ≡ length self.old.items)
@@ -103,8 +106,8 @@ impl<T> Room<T> {
         self.shift(base, len)
     }
 
-    /// Takes the first item, and moves the others down by a place, item by item. The places are numbered
-    /// from 0 on.
+    /// Takes the first item, and moves the others down by a place, item by item. The places are
+    /// numbered from 0 on.
     fn shift(&mut self, base: Base<T>, len: usize) -> T
         requires { (base.ptr ≡ self.old.at) × (self.old.start ≡ 0) × (len ≡ length self.old.items)
             × (0 < len) }
@@ -117,7 +120,8 @@ impl<T> Room<T> {
         item
     }
 
-    /// Puts an item before the others, which are `len`, and moves these up by a place: in place where they are few.
+    /// Puts an item before the others, which are `len`, and moves these up by a place: in place
+    /// where they are few.
     pub(crate) fn insert_first(&mut self, base: Base<T>, start: usize, len: usize, item: T)
         requires { (base.ptr ≡ self.old.at) × (start ≡ self.old.start)
             × (len ≡ length self.old.items) × (len < self.old.capacity) × (len < 2 ^ 63) }
@@ -135,8 +139,8 @@ impl<T> Room<T> {
         self.begin_back(base, start);
     }
 
-    /// Moves the items up by a place, out of line as in `shift_many`. The first place stays, and they come back as a room of
-    /// their own.
+    /// Moves the items up by a place, out of line as in `shift_many`. The first place stays, and
+    /// they come back as a room of their own.
     #[inline(never)]
     fn unshift_many(&mut self, base: Base<T>, len: usize) -> Room<T>
         requires { (base.ptr ≡ self.old.at) × (self.old.start ≡ 0) × (len ≡ length self.old.items)
@@ -149,8 +153,8 @@ impl<T> Room<T> {
         self.unshift(base, len)
     }
 
-    /// Moves the items up by a place, item by item. The first place stays, and they come back as a room
-    /// of their own.
+    /// Moves the items up by a place, item by item. The first place stays, and they come back as a
+    /// room of their own.
     fn unshift(&mut self, base: Base<T>, len: usize) -> Room<T>
         requires { (base.ptr ≡ self.old.at) × (self.old.start ≡ 0) × (len ≡ length self.old.items)
             × (len < self.old.capacity) × (len < 2 ^ 63) }
@@ -162,7 +166,8 @@ impl<T> Room<T> {
         self.open_gap(base, 0, len, 1)
     }
 
-    /// Lets all items, of which there are `len`, and those of `other`, of which there are as many, change places.
+    /// Lets all items, of which there are `len`, and those of `other`, of which there are as many,
+    /// change places.
     pub(crate) fn swap(
         &mut self,
         base: Base<T>,
@@ -183,7 +188,8 @@ impl<T> Room<T> {
             .swap_with_slice(other.as_mut_slice(other_base, other_start, len));
     }
 
-    /// Puts an item, as an array of one, into an empty place, numbered `at`, and that place before the others.
+    /// Puts an item, as an array of one, into an empty place, numbered `at`, and that place before
+    /// the others.
     pub(crate) fn put_first(&mut self, base: Base<T>, at: usize, mut place: Room<T>, item: [T; 1])
         requires { (base.ptr ≡ place.at) × (at ≡ place.start) × (place.capacity ≡ 1)
             × (place.items ≡ []) × Follows place self.old }
@@ -196,7 +202,8 @@ impl<T> Room<T> {
         self.append(others);
     }
 
-    /// Moves the items down over the `gap` empty places before them. The first of all the places is numbered `start`.
+    /// Moves the items down over the `gap` empty places before them. The first of all the places is
+    /// numbered `start`.
     pub(crate) fn close_gap(
         mut self,
         base: Base<T>,
@@ -263,8 +270,8 @@ impl<T> Room<T> {
         self
     }
 
-    /// Moves the items, of which there are `len`, up by `gap` places. The empty places before them stay; they come back as a
-    /// room of their own.
+    /// Moves the items, of which there are `len`, up by `gap` places. The empty places before them
+    /// stay; they come back as a room of their own.
     pub(crate) fn open_gap(
         &mut self,
         base: Base<T>,
@@ -294,8 +301,8 @@ impl<T> Room<T> {
         moved
     }
 
-    /// Moves the items behind the first `left` ones, which are `count`, up by `gap` places, which are all that are empty. They
-    /// come back as a room of their own.
+    /// Moves the items behind the first `left` ones, which are `count`, up by `gap` places, which
+    /// are all that are empty. They come back as a room of their own.
     fn move_up(
         &mut self,
         base: Base<T>,
@@ -364,7 +371,8 @@ impl<T> Room<T> {
         self.append(moved);
     }
 
-    /// Empty places, the first of them numbered `at`, filled with copies of as many `items` in one move of memory.
+    /// Empty places, the first of them numbered `at`, filled with copies of as many `items` in one
+    /// move of memory.
     fn fill_with(self, base: Base<T>, at: usize, items: &[T]) -> Room<T>
     where
         T: Copy,
@@ -379,8 +387,8 @@ impl<T> Room<T> {
         Room::of_slots(slots, base, at)
     }
 
-    /// Appends copies of `items` in one move of memory. The places are numbered from 0 on, and before the call there are `len`
-    /// items.
+    /// Appends copies of `items` in one move of memory. The places are numbered from 0 on, and
+    /// before the call there are `len` items.
     pub(crate) fn put_copies(&mut self, base: Base<T>, len: usize, items: &[T])
     where
         T: Copy,
@@ -395,8 +403,8 @@ impl<T> Room<T> {
         self.widen(spare);
     }
 
-    /// Appends copies of the items from `start` up to `end` in one move of memory. The places are numbered from 0 on, and before
-    /// the call there are `len` items.
+    /// Appends copies of the items from `start` up to `end` in one move of memory. The places are
+    /// numbered from 0 on, and before the call there are `len` items.
     pub(crate) fn put_copies_within(&mut self, base: Base<T>, len: usize, start: usize, end: usize)
     where
         T: Copy,
@@ -432,8 +440,8 @@ impl<T> Room<T> {
         }
     }
 
-    /// Appends clones of `elements`, the first of them in the place numbered `at`. If a clone is refused, those before it are
-    /// dropped again.
+    /// Appends clones of `elements`, the first of them in the place numbered `at`. If a clone is
+    /// refused, those before it are dropped again.
     ///
     /// Few are cloned one by one where the call stands, and more by a call.
     pub(crate) fn append_clones(
@@ -462,8 +470,8 @@ impl<T> Room<T> {
         self.append_many(base, at, elements)
     }
 
-    /// Appends clones of many elements, out of line. Small ones are cloned some at a time, which the
-    /// compiler knows as a move of memory where a clone is a copy.
+    /// Appends clones of many elements, out of line. Small ones are cloned some at a time, which
+    /// the compiler knows as a move of memory where a clone is a copy.
     #[inline(never)]
     fn append_many(&mut self, base: Base<T>, at: usize, elements: &[T]) -> Result<(), AllocError>
     where
@@ -486,8 +494,8 @@ impl<T> Room<T> {
         Ok(())
     }
 
-    /// Appends clones of small elements, `CHUNK` at a time, and returns how many: fewer than `CHUNK` are
-    /// left then. Of larger elements none is cloned.
+    /// Appends clones of small elements, `CHUNK` at a time, and returns how many: fewer than
+    /// `CHUNK` are left then. Of larger elements none is cloned.
     fn append_chunks(
         &mut self,
         base: Base<T>,
@@ -544,8 +552,8 @@ impl<T> Room<T> {
         Ok(())
     }
 
-    /// Appends clones of `elements` one by one, the first of them in the place numbered `at`. If a clone
-    /// is refused, those before it are dropped again.
+    /// Appends clones of `elements` one by one, the first of them in the place numbered `at`. If a
+    /// clone is refused, those before it are dropped again.
     fn append_each(&mut self, base: Base<T>, at: usize, elements: &[T]) -> Result<(), AllocError>
     where
         T: Clone,
@@ -573,8 +581,8 @@ impl<T> Room<T> {
         Ok(())
     }
 
-    /// Appends the next items of `iter`, `most` of them or all, the first in the place numbered `at`. Returns how many these
-    /// are, and whether `iter` ended.
+    /// Appends the next items of `iter`, `most` of them or all, the first in the place numbered
+    /// `at`. Returns how many these are, and whether `iter` ended.
     pub(crate) fn append_items<I: Iterator<Item = T>>(
         &mut self,
         base: Base<T>,
@@ -585,7 +593,8 @@ impl<T> Room<T> {
         requires room { (base.ptr ≡ self.old.at) × (at ≡ self.old.start + length self.old.items)
             × (length self.old.items + most ≤ self.old.capacity) × (at + most < 2 ^ 64) }
         requires callable { I.can_next iter.old × IsFinite (I.remaining iter.old) }
-        ensures items { GivesOn I.next_gives iter.old self.old.items iter.new self.new.items result.1 }
+        ensures items { GivesOn I.next_gives iter.old self.old.items
+            iter.new self.new.items result.1 }
         ensures len { (length self.new.items ≡ length self.old.items + result.0)
             × (result.0 ≤ most) }
         ensures full { result.1 ≡ false → result.0 ≡ most }
@@ -604,8 +613,9 @@ impl<T> Room<T> {
         (done, false)
     }
 
-    /// Keeps the items, as `f` leaves them, at which it answers `true`, and returns how many these are. The others are dropped.
-    /// Before the call there are `len` items, the first in the place numbered `start`.
+    /// Keeps the items, as `f` leaves them, at which it answers `true`, and returns how many these
+    /// are. The others are dropped. Before the call there are `len` items, the first in the place
+    /// numbered `start`.
     pub(crate) fn retain<F: FnMut(&mut T) -> bool>(
         &mut self,
         base: Base<T>,

@@ -8,7 +8,8 @@ use std::alloc::Global;
 use std::iter::FusedIterator;
 use std::marker::Model;
 
-/// The elements that are still to come, in the memory that they were in. What is left is dropped with it.
+/// The elements that are still to come, in the memory that they were in. What is left is dropped
+/// with it.
 pub struct Rest<T> {
     base: Base<T>,
     start: usize,
@@ -101,8 +102,8 @@ impl<T> Rest<T> {
         Some(self.room.take_last(self.base, self.start + self.len))
     }
 
-    /// Moves the elements still to come behind those of `elements`, which has room for them, and gives
-    /// the memory back.
+    /// Moves the elements still to come behind those of `elements`, which has room for them, and
+    /// gives the memory back.
     pub fn collect_into(self, elements: &mut Vec<T>)
         requires { length elements.old.items + length self ≤ vec_capacity elements.old }
         ensures { elements.new.items ≡ elements.old.items ++ self }

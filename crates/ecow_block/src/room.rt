@@ -1,4 +1,5 @@
-//! Raw room for elements: this module and its parts are the only code of the crate that touches pointers.
+//! Raw room for elements: this module and its parts are the only code of the crate that touches
+//! pointers.
 ghost use Rattle.std.specs.Prelude.{◌≡◌, ℕ, ◌≤◌, List, length, ⊤};
 ghost use base.Fml.{ftrue};
 ghost use denote.RawPtr.{Ptr};
@@ -49,7 +50,8 @@ impl<T> Model for Room<T> {
     ghost also_shares = { λ r _ κ. room_shares T.row r.at r.start r.capacity r.items κ };
 }
 
-/// The right to give a block of `capacity` places back to `alloc`, if it was asked of it. It takes no space.
+/// The right to give a block of `capacity` places back to `alloc`, if it was asked of it. It takes
+/// no space.
 pub(crate) struct Deed<T, A: Allocator> {
     mark: PhantomData<*const (T, A)>,
     ghost at: { Ptr },

@@ -19,9 +19,9 @@ use std::marker::Model;
 /// Bytes: inline, in the value itself, where they are at most `N`, or spilled, in a vector whose
 /// block clones share until one of them is written to.
 ///
-/// Inline bytes that come to more than `N`, or get room for more, spill. Spilled bytes stay spilled,
-/// however few are left: `shrink_to_fit` alone brings them back. Equality, order and hash see the
-/// bytes and not where they stand.
+/// Inline bytes that come to more than `N`, or get room for more, spill. Spilled bytes stay
+/// spilled, however few are left: `shrink_to_fit` alone brings them back. Equality, order and hash
+/// see the bytes and not where they stand.
 #[derive(Drop)]
 pub struct SmallBytes<const N: usize> {
     form: Form<N>,

@@ -10,8 +10,8 @@ pub(crate) struct Cells<const N: usize> {
     pub(crate) bytes: [u8; N],
 }
 
-/// An array, and how many bytes at its front count. It is a struct of its own, with no model, so that
-/// a copy of it is one of memory.
+/// An array, and how many bytes at its front count. It is a struct of its own, with no model, so
+/// that a copy of it is one of memory.
 #[derive(Clone, Copy, Drop)]
 pub(crate) struct Buffer<const N: usize> {
     pub(crate) cells: Cells<N>,

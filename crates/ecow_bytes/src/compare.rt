@@ -33,7 +33,8 @@ fn same_ends<const M: usize>(left: &[u8], right: &[u8]) -> bool
     same_at::<M>(left, right, 0) & same_at::<M>(left, right, left.len() - M)
 }
 
-/// Whether as many bytes are the same, at most a group. No loop is gone round, and nothing is called.
+/// Whether as many bytes are the same, at most a group. No loop is gone round, and nothing is
+/// called.
 #[inline(always)]
 fn few_same(left: &[u8], right: &[u8]) -> bool
     requires as_many { length left.now ≡ length right.now }

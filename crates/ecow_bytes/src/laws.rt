@@ -54,7 +54,8 @@ impl<const N: usize> Ord for SmallBytes<N> {
     }
 }
 
-// The number of bytes, and then all of them in one write: as Rust's standard library hashes a slice.
+// The number of bytes, and then all of them in one write: as Rust's standard library hashes a
+// slice.
 impl<const N: usize> Hash for SmallBytes<N> {
     ghost hash_input = { λ b. hash_writes b.bytes };
 

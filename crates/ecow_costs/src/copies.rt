@@ -1,4 +1,5 @@
-//! The calls of vectors that take elements of a slice as memory, and those that compare, over bytes.
+//! The calls of vectors that take elements of a slice as memory, and those that compare, over
+//! bytes.
 use crate::marks::Meter;
 use crate::rows::{Cost, Form, Kind, Rows, Standing};
 use crate::states::{State, form_of, kept_pair, vectors};

@@ -1,5 +1,5 @@
-//! Marks before and behind a call, for a library that counts the requests for memory between them: a
-//! request for so many bytes, and for nothing else.
+//! Marks before and behind a call, for a library that counts the requests for memory between them:
+//! a request for so many bytes, and for nothing else.
 use std::alloc::Global;
 
 /// Where memory comes from, and whether calls are marked.

@@ -30,8 +30,8 @@ impl Form {
     }
 }
 
-/// Where a value and its twin, or what it was made of, stand, and for how many elements the value has
-/// room.
+/// Where a value and its twin, or what it was made of, stand, and for how many elements the value
+/// has room.
 #[derive(Clone, Copy)]
 pub(crate) struct Standing {
     pub(crate) form: Form,

@@ -30,7 +30,8 @@ impl<T: Clone> Spare<T> {
         requires asked { asked_length edit.now len ≤ MAX_LEN }
         ensures items { ClonesAreEqual T.is_clone
             → IfOk result (λ spare. spare.block.items ≡ new_items edit.now) }
-        ensures len { IfOk result (λ spare. length spare.block.items ≡ length (new_items edit.now)) }
+        ensures len { IfOk result
+            (λ spare. length spare.block.items ≡ length (new_items edit.now)) }
         ensures room { IfOk result (λ spare. spare_room edit.now len ≤ spare.block.capacity) }
         ensures empty { IfOk result (λ spare. spare.answer.items ≡ []) }
         ensures answer { IfOk result (λ spare. taken_out edit.now len ≤ vec_capacity spare.answer) }
@@ -72,8 +73,8 @@ fn count_in(bounds: &Bounds, len: usize) -> usize
     }
 }
 
-/// Puts the elements of another block in place of those within bounds, and answers these in `answer`,
-/// which is empty. There is room for either.
+/// Puts the elements of another block in place of those within bounds, and answers these in
+/// `answer`, which is empty. There is room for either.
 fn replace<T: Drop>(
     block: &mut Block<T>,
     bounds: Bounds,

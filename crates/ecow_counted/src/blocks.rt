@@ -1,5 +1,5 @@
-//! Named lists in shared blocks: each block stands in a table with the number of its names, and each
-//! name has the place of its block.
+//! Named lists in shared blocks: each block stands in a table with the number of its names, and
+//! each name has the place of its block.
 ghost use Rattle.std.specs.Prelude.{◌≡◌, ◌≢◌, ℕ, ◌+◌, ◌-◌, ◌<◌, ◌≤◌, ◌^◌, [], length, true, IsSome, IsOk, IfSome, OnOk, OnErr, Some, None};
 ghost use Rattle.std.specs.FinMap as finite;
 ghost use Rattle.std.specs.Option.{option_copied, option_map};

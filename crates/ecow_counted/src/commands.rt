@@ -54,7 +54,7 @@ impl<T> Blocks<T> {
             (Usage.Derive from to ListDerive.Clone) result self.new.names }
         ensures verdict { IsCountedVerdict self.old.names
             (Usage.Derive from to ListDerive.Clone) result }
-        ensures refused { OnRefused result (self.new.names ≡ self.old.names) }
+        ensures unchanged { OnRefused result (self.new.names ≡ self.old.names) }
         ensures sharing { IsSharing self.old.names → IsSharing self.new.names }
     {
         if !self.contains(from) {
@@ -75,7 +75,7 @@ impl<T: Drop> Blocks<T> {
     fn leave(&mut self, name: Name) -> Outcome<T>
         ensures step { IsCountedUse self.old.names (Usage.Drop name) result self.new.names }
         ensures verdict { IsCountedVerdict self.old.names (Usage.Drop name) result }
-        ensures refused { OnRefused result (self.new.names ≡ self.old.names) }
+        ensures unchanged { OnRefused result (self.new.names ≡ self.old.names) }
         ensures sharing { IsSharing self.old.names → IsSharing self.new.names }
     {
         if !self.contains(name) {
@@ -92,7 +92,7 @@ impl<T: Clone> Blocks<T> {
         ensures step { ClonesAreEqual T.is_clone
             → IsCountedUse self.old.names (Usage.Make name how) result self.new.names }
         ensures verdict { IsCountedVerdict self.old.names (Usage.Make name how) result }
-        ensures refused { OnRefused result (self.new.names ≡ self.old.names) }
+        ensures unchanged { OnRefused result (self.new.names ≡ self.old.names) }
         ensures sharing { IsSharing self.old.names → IsSharing self.new.names }
     {
         if self.contains(name) {

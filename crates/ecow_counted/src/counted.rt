@@ -42,7 +42,9 @@ impl<T> Model for Counted<T> {
 
     ghost use Rattle.ecow_counted.specs.State.{IsValid};
 
-    ghost invariant = { λ a. IsValid (record { names = a.blocks.names; copied = a.copied; moved = a.moved }) };
+    ghost invariant = {
+        λ a. IsValid (record { names = a.blocks.names; copied = a.copied; moved = a.moved })
+    };
 }
 
 /// A total that stops at the greatest `u64`.
@@ -87,8 +89,8 @@ impl<T> Counted<T> {
         Some(size.capacity)
     }
 
-    /// Whether no other name holds the block of a name, as where it has none; `None` where it is not
-    /// there.
+    /// Whether no other name holds the block of a name, as where it has none; `None` where it is
+    /// not there.
     pub fn is_unique(&self, name: Name) -> Option<bool>
         ensures { result ≡ option_map (λ h. not (is_shared h)) (finite.get self.now.names name) }
     {
@@ -120,13 +122,13 @@ impl<T> Counted<T> {
 }
 
 impl<T> Counted<T> {
-    /// Puts under `to` the list of `from`, in the block of `from`. Refused as the command Clone is; takes
-    /// memory for the name alone, and clones nothing.
+    /// Puts under `to` the list of `from`, in the block of `from`. Refused as the command Clone is;
+    /// takes memory for the name alone, and clones nothing.
     pub fn share(&mut self, from: Name, to: Name) -> Outcome<T>
         ensures step { CountedStep self.old.names (VecCommand.Clone from to) result self.new.names }
         ensures verdict { CountedVerdict self.old.names
             (VecCommand.Clone from to) result self.new.names }
-        ensures refused { OnRefused result (self.new ≡ self.old) }
+        ensures unchanged { OnRefused result (self.new ≡ self.old) }
         ensures copied { self.new.copied ≡ self.old.copied }
         ensures moved { self.new.moved ≡ self.old.moved }
         ensures sharing { IsSharing self.new.names }
@@ -141,7 +143,7 @@ impl<T: Clone> Counted<T> {
         ensures step { ClonesAreEqual T.is_clone
             → CountedStep self.old.names command result self.new.names }
         ensures verdict { CountedVerdict self.old.names command result self.new.names }
-        ensures refused { OnRefused result (self.new ≡ self.old) }
+        ensures unchanged { OnRefused result (self.new ≡ self.old) }
         ensures copied { self.new.copied
             ≡ saturating self.old.copied
             (if_accepted result (copied_in (vec_usage command) self.old.names)) }
@@ -188,9 +190,11 @@ impl<T: Clone> Counted<T> {
             → IfOk result
             (λ outcomes. MovedIsPaid self.old commands.items outcomes.items self.new) }
         ensures copies_from_new { ClonesAreEqual T.is_clone
-            → IfOk result (λ outcomes. CopiesFromNew self.old commands.items outcomes.items self.new) }
+            → IfOk result
+            (λ outcomes. CopiesFromNew self.old commands.items outcomes.items self.new) }
         ensures moves_from_new { ClonesAreEqual T.is_clone
-            → IfOk result (λ outcomes. MovesFromNew self.old commands.items outcomes.items self.new) }
+            → IfOk result
+            (λ outcomes. MovesFromNew self.old commands.items outcomes.items self.new) }
         ensures unchanged { OnErr result (self.new ≡ self.old) }
         ensures value_returned { IfErr result (λ rejected. rejected.value ≡ commands) }
         ensures memory { IfErr result (λ rejected. rejected.error ≡ EcoError.Memory) }

@@ -17,8 +17,8 @@ pub struct Filled {
 }
 
 impl<T: Clone> Counted<T> {
-    /// Makes a name and pushes the items one by one, up to the first refusal; the items from there on
-    /// are dropped. Where the name can't be made nothing changes.
+    /// Makes a name and pushes the items one by one, up to the first refusal; the items from there
+    /// on are dropped. Where the name can't be made nothing changes.
     pub fn fill(&mut self, name: Name, items: Vec<T>) -> Filled
         ensures run { ClonesAreEqual T.is_clone
             → IsFilled self.old name items.items result self.new }

@@ -22,7 +22,8 @@ pub(crate) struct Owned<T> {
 }
 
 /// What a name wants: to copy the first `copies` elements of a block that it shares, or to keep its
-/// own, in either case with room for `capacity`. `staying` elements count as moved where its own grows.
+/// own, in either case with room for `capacity`. `staying` elements count as moved where its own
+/// grows.
 #[derive(Clone, Copy)]
 pub(crate) struct Want {
     pub copies: usize,
@@ -67,8 +68,8 @@ impl<T: Drop> Blocks<T> {
 }
 
 impl<T: Clone> Blocks<T> {
-    /// A new block with clones of the first elements of a name's list, each of which is counted. The
-    /// name stays where it is until it settles.
+    /// A new block with clones of the first elements of a name's list, each of which is counted.
+    /// The name stays where it is until it settles.
     fn copy(&mut self, alloc: Global, name: Name, want: Want) -> Result<Owned<T>, AllocError>
         requires whole { want.copies ≤ length (held_at self.old.names name).items }
         requires fits { want.copies ≤ want.capacity }

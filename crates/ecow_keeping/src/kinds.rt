@@ -53,7 +53,7 @@ pub trait Kind<T: Clone, V: Drop> {
     fn edit(alloc: Global, held: &mut Self::Payload, edit: Self::Edit) -> Outcome<T>
         ensures step { premise → IsEdit rules edit held.old result held.new }
         ensures verdict { IsEditVerdict rules edit held.old result }
-        ensures refused { OnRefused result (held.new ≡ held.old) };
+        ensures unchanged { OnRefused result (held.new ≡ held.old) };
 
     /// Answers one question. `held` stays as it was.
     fn ask(alloc: Global, held: &mut Self::Payload, question: Self::Ask) -> Outcome<T>
@@ -119,7 +119,7 @@ pub fn carry_out<T: Clone, V: Drop, K: Kind<T, V>>(
 ) -> Outcome<T>
     ensures step { K.premise → IsUse K.rules values.old usage result values.new }
     ensures verdict { IsUseVerdict K.rules values.old usage result }
-    ensures refused { OnRefused result (values.new ≡ values.old) }
+    ensures unchanged { OnRefused result (values.new ≡ values.old) }
 {
     match usage {
         Usage::Make { name, how } => {

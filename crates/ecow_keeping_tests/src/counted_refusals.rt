@@ -29,8 +29,8 @@ fn shared(alloc: Global, left: &Rc<Cell<u64>>) -> Result<Counted<Refusing>, Allo
     Ok(table)
 }
 
-/// What the first names hold, who shares it, the capacities and the totals, as numbers. The elements
-/// may be cloned for that.
+/// What the first names hold, who shares it, the capacities and the totals, as numbers. The
+/// elements may be cloned for that.
 fn seen(
     alloc: Global,
     table: &mut Counted<Refusing>,
@@ -142,7 +142,8 @@ fn command(
     })
 }
 
-/// How many of the commands are refused where so many clones succeed; each of these leaves all as it was.
+/// How many of the commands are refused where so many clones succeed; each of these leaves all as
+/// it was.
 fn refused(rt: &impl Abort, alloc: Global, clones: u64) -> Result<u64, AllocError> {
     let left = Rc::new(alloc, Cell::new(clones))?;
     let mut table = Counted::new(alloc);

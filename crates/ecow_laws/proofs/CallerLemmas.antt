@@ -2,7 +2,7 @@
 use Rattle.std.proofs.Common.{◌≡◌, ◌≢◌, ℕ, Bool, true, false, cond, if◌then◌else◌, List, Option, Some, None, Result, Ok, Err, IfOk, refl, sym, ap, subst, ◌∙◌, arith, inl, inr, slice_get, slice_set}
 use Rattle.std.specs.FinMap.{get, insert, remove, contains_key, get-insert, get-remove, gets}
 use Rattle.std.specs.Cmp.{nat_cmp_total}
-use Rattle.std.specs.Option.{option_map}
+use Rattle.std.specs.Option.{option_map, ok_or}
 use Rattle.std.specs.Ordering.{nat_cmp, eq_by_cmp}
 use Rattle.std.specs.Result.{result_ok}
 use Rattle.std.proofs.lemmas.Map.Views.{tells_apart}
@@ -10,7 +10,7 @@ use Rattle.std.proofs.lemmas.Map.Lookups.{exact_unsigned}
 use Rattle.ecow_model.specs.CountedRun.{CountedStep}
 use Rattle.ecow_model.specs.Lists.{list_rules, vec_usage}
 use Rattle.ecow_model.specs.Names.{Held, Names, contents}
-use Rattle.ecow_model.specs.Refusing.{◌>>=◌, becomes, ok_or}
+use Rattle.ecow_model.specs.Refusing.{◌>>=◌, becomes}
 use Rattle.ecow_model.specs.Run.{IsVecStep}
 use Rattle.ecow_model.specs.State.{State, Plain}
 use Rattle.ecow_model.specs.Uses.{Gives, Observation, Rules, put_made, observation_in, carry_out, value_at}

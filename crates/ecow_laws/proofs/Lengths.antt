@@ -2,14 +2,14 @@
 use Rattle.std.proofs.Common.{◌≡◌, ℕ, ◌+◌, ◌-◌, ◌^◌, ◌<◌, ◌≤◌, Bool, true, false, List, [], ◌∷◌, ◌++◌, length, take, drop, Option, Some, None, Result, Ok, Err, refl, sym, ◌∙◌, ap, subst, arith, length-append, length-drop, ⊎_elim, get_or}
 use Rattle.std.specs.Prelude.{nat_lt, nat_le, ◌==◌, slice_get, slice_set, slice_range, replicate}
 use Rattle.std.specs.List.{insert as insert_at, remove as remove_at, remove_range, splice, items_where_true}
-use Rattle.std.specs.Option.{option_map_or}
+use Rattle.std.specs.Option.{option_map_or, ok_or}
 use Rattle.std.proofs.lemmas.Bool.{ltb-true, leb-true}
 use Rattle.std.proofs.lemmas.List.{length-take, length-replicate, length-set}
 use Rattle.std.proofs.lemmas.List.Edits.{length-remove}
 use Rattle.std.proofs.lemmas.Option.{none-some, slice_get_cases}
 use Rattle.ecow_base.specs.Capacity.{MAX}
 use Rattle.ecow_base.specs.Range.{range_of, items_in_range}
-use Rattle.ecow_model.specs.Refusing.{◌>>=◌, OnRefused, Effect, allowed, check, ok_or, becomes}
+use Rattle.ecow_model.specs.Refusing.{◌>>=◌, OnRefused, Effect, allowed, check, becomes}
 use Rattle.ecow_model.specs.Uses.{Observation}
 use Rattle.ecow_model.specs.Lists.{make_list, edit_list, ask_list, grows}
 use Rattle.ecow_model.specs.declared.lists.ListMake.{ListMake}

@@ -29,8 +29,8 @@ pub fn plain_steps<T>()
         → get new name ≡ get old name }
 {}
 
-/// Of a command on lists in shared blocks: a fork reads as its source does, a write sets one element,
-/// and what stands under all other names stays.
+/// Of a command on lists in shared blocks: a fork reads as its source does, a write sets one
+/// element, and what stands under all other names stays.
 pub fn shared_steps<T>()
     ensures fork { (old : Names T) (new : Names T) (outcome : Outcome T) (from : ℕ) (to : ℕ)
         → CountedStep old (VecCommand.Clone from to) outcome new → outcome ≡ Outcome.Done

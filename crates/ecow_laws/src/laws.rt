@@ -12,8 +12,8 @@ ghost use Rattle.ecow_model.specs.declared.lists.ListAsk.{ListAsk};
 ghost use Rattle.ecow_model.specs.declared.lists.VecCommand.{VecCommand};
 ghost use Rattle.ecow_model.specs.declared.usage.Usage.{Usage};
 
-/// What a run copies and moves is paid; from no names at all, sharing never copies more than copying at
-/// each clone would.
+/// What a run copies and moves is paid; from no names at all, sharing never copies more than
+/// copying at each clone would.
 pub fn runs_are_paid<T>()
     ensures sharing { (commands : List (VecCommand T)) (outcomes : List (Outcome T)) (old : Names T)
         (new : Names T) → IsSharing old → CountedRun old commands outcomes new → IsSharing new }
@@ -31,8 +31,8 @@ pub fn runs_are_paid<T>()
         + 2 * input_in_run finite.empty commands outcomes }
 {}
 
-/// Where neither lacks memory, plain lists and lists in shared blocks give the same contents and, but
-/// for what Capacity and Unique read, the same answers to the same commands.
+/// Where neither lacks memory, plain lists and lists in shared blocks give the same contents and,
+/// but for what Capacity and Unique read, the same answers to the same commands.
 pub fn keepings_agree<T>()
     ensures answers { (commands : List (VecCommand T)) (ours : List (Outcome T))
         (theirs : List (Outcome T)) (old : State T) (new : State T) (names : Names T)
@@ -59,6 +59,7 @@ pub fn keepings_agree<T>()
 /// In shared blocks Capacity answers exactly the capacity of the name's block.
 pub fn capacities_are_exact<T>()
     ensures { (names : Names T) (name : ℕ) (held : Held T) → IsSharing names
-        → finite.get names name ≡ Some held → counted_carry_out names (Usage.Ask name ListAsk.Capacity)
-        ≡ Ok (Outcome.Count held.capacity, names) }
+        → finite.get names name ≡ Some held
+        → counted_carry_out names (Usage.Ask name ListAsk.Capacity)
+            ≡ Ok (Outcome.Count held.capacity, names) }
 {}

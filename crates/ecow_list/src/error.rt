@@ -35,8 +35,8 @@ impl<V: Drop> From<AllocFailed<V>> for EcoError {
     }
 }
 
-/// A text that can't be printed is for want of memory, so that `eco_format!` and the calls of a vector
-/// are used in one function by `?`.
+/// A text that can't be printed is for want of memory, so that `eco_format!` and the calls of a
+/// vector are used in one function by `?`.
 impl From<fmt::Error> for EcoError {
     ghost from_gives = { λ _ error. error ≡ Memory };
 

@@ -36,8 +36,8 @@ impl<T> Drain<T> {
         self.removed.as_slice()
     }
 
-    /// Moves the elements that are still to come behind those of `elements`, which has room for them.
-    /// Takes no memory.
+    /// Moves the elements that are still to come behind those of `elements`, which has room for
+    /// them. Takes no memory.
     ///
     /// This project's own: `extend` of std's vector may ask for memory.
     pub fn collect_into(self, elements: &mut Vec<T>)

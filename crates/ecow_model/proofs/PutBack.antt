@@ -5,7 +5,7 @@ use Rattle.std.specs.Cmp.{nat_cmp_total}
 use Rattle.std.specs.FinMap.{FinMap, get, insert, same_map, get-insert, nat_cmp-IsAntisymmetric}
 use Rattle.std.proofs.lemmas.Map.Views.{tells_apart}
 use Rattle.std.proofs.lemmas.Map.Lookups.{exact_unsigned}
-use Rattle.ecow_model.specs.Refusing.{ok_or}
+use Rattle.std.specs.Option.{ok_or}
 use Rattle.ecow_model.specs.declared.command.Refusal.TheVariants.{NoName}
 
 put_back : {V : Type 0} (m : FinMap nat_cmp V) (k : ℕ) (v : V) → get m k ≡ Some v → (q : ℕ) → cond (eq_by_cmp nat_cmp q k) (Some v) (get m q) ≡ get m q

@@ -1,9 +1,10 @@
 -- What each command on lists does.
 use Rattle.std.specs.Prelude.{◌+◌, ◌-◌, ℕ, Bool, true, false, ◌||◌, ◌==◌, nat_le, max, List, [], ◌∷◌, ◌++◌, length, take, replicate, slice_get, slice_set, slice_range, Result, Ok}
 use Rattle.std.specs.List.{insert as insert_at, remove as remove_at, remove_range, splice, items_where_true}
+use Rattle.std.specs.Option.{ok_or}
 use Rattle.ecow_base.specs.Range.{range_of}
 use Rattle.ecow_model.specs.State.{Plain}
-use Rattle.ecow_model.specs.Refusing.{◌>>=◌, check, ok_or, allowed, Effect, becomes}
+use Rattle.ecow_model.specs.Refusing.{◌>>=◌, check, allowed, Effect, becomes}
 use Rattle.ecow_model.specs.Values.{as_list}
 use Rattle.ecow_model.specs.Uses.{Observation, Rules}
 use Rattle.ecow_model.specs.declared.value.Value.TheVariants.{List as Listed}

@@ -1,5 +1,5 @@
 -- Tests that may refuse a command, and what an outcome says of them.
-use Rattle.std.specs.Prelude.{ℕ, ◌^◌, Bool, if◌then◌else◌, nat_lt, Option, Some, None, Result, Ok, Err}
+use Rattle.std.specs.Prelude.{ℕ, ◌^◌, Bool, if◌then◌else◌, nat_lt, Result, Ok, Err}
 use Rattle.ecow_model.specs.declared.command.Outcome.{Outcome}
 use Rattle.ecow_model.specs.declared.command.Outcome.TheVariants.{Done, Refused}
 use Rattle.ecow_model.specs.declared.command.Refusal.{Refusal}
@@ -14,11 +14,6 @@ Err refusal >>= f = Err refusal
 -- refused unless the test holds
 abbrev pub check : Bool → Refusal → Result (Unit {0}) Refusal
 check test refusal = if test then Ok tt else Err refusal
-
--- refused where there is nothing
-abbrev pub ok_or : {A : Type 0} → Option A → Refusal → Result A Refusal
-ok_or None refusal = Err refusal
-ok_or (Some x) refusal = Ok x
 
 -- refused past the greatest length and capacity, 2^63 - 1
 abbrev pub allowed : ℕ → Result (Unit {0}) Refusal

@@ -2,7 +2,8 @@
 use Rattle.std.specs.Prelude.{ℕ, if◌then◌else◌, Result, Ok, Err}
 use Rattle.std.specs.Ordering.{nat_cmp}
 use Rattle.std.specs.FinMap.{FinMap, get, contains_key}
-use Rattle.ecow_model.specs.Refusing.{◌>>=◌, ok_or}
+use Rattle.std.specs.Option.{ok_or}
+use Rattle.ecow_model.specs.Refusing.{◌>>=◌}
 use Rattle.ecow_model.specs.declared.value.Value.{Value}
 use Rattle.ecow_model.specs.declared.value.Value.TheVariants.{List as Listed, Bytes as Buffered, Text as Written}
 use Rattle.ecow_model.specs.declared.command.Refusal.{Refusal}

@@ -152,7 +152,7 @@ fn extend<T: Drop>(list: &mut PlainList<T>, items: Items<T>) -> Outcome<T>
     requires { verdict (edit_list (ListEdit.Extend items) list.old) ≡ Ok tt }
     ensures step { IsEdit list_rules (ListEdit.Extend items) list.old result list.new }
     ensures verdict { IsEditVerdict list_rules (ListEdit.Extend items) list.old result }
-    ensures refused { OnRefused result (list.new ≡ list.old) }
+    ensures unchanged { OnRefused result (list.new ≡ list.old) }
 {
     if items.len() == 0 {
         return Outcome::Done;
@@ -165,7 +165,7 @@ fn extend<T: Drop>(list: &mut PlainList<T>, items: Items<T>) -> Outcome<T>
 fn drain<T: Drop>(alloc: Global, list: &mut PlainList<T>, bounds: Bounds) -> Outcome<T>
     ensures step { IsEdit list_rules (ListEdit.Drain bounds) list.old result list.new }
     ensures verdict { IsEditVerdict list_rules (ListEdit.Drain bounds) list.old result }
-    ensures refused { OnRefused result (list.new ≡ list.old) }
+    ensures unchanged { OnRefused result (list.new ≡ list.old) }
 {
     let Some((start, end)) = resolve(&bounds, list.len()) else {
         return Outcome::Refused(Refusal::Range);
@@ -182,7 +182,7 @@ fn splice<T: Drop>(list: &mut PlainList<T>, bounds: Bounds, items: Items<T>) -> 
     requires { verdict (edit_list (ListEdit.Splice bounds items) list.old) ≡ Ok tt }
     ensures step { IsEdit list_rules (ListEdit.Splice bounds items) list.old result list.new }
     ensures verdict { IsEditVerdict list_rules (ListEdit.Splice bounds items) list.old result }
-    ensures refused { OnRefused result (list.new ≡ list.old) }
+    ensures unchanged { OnRefused result (list.new ≡ list.old) }
 {
     let Some((start, end)) = resolve(&bounds, list.len()) else {
         return Outcome::Refused(Refusal::Range);

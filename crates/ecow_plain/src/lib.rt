@@ -1,5 +1,5 @@
-//! The plain store: named lists, each with a copy of its own, which every clone copies at once. Slow
-//! and obvious: it is the twin that tests compare the other keepings with.
+//! The plain store: named lists, each with a copy of its own, which every clone copies at once.
+//! Slow and obvious: it is the twin that tests compare the other keepings with.
 #![tactic(auto)]
 
 mod kind;

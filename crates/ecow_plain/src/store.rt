@@ -61,7 +61,7 @@ impl<T: Clone, const N: usize> PlainStore<T, N> {
     pub fn step(&mut self, command: VecCommand<T>) -> Outcome<T>
         ensures step { ClonesAreEqual T.is_clone → IsVecStep self.old command result self.new }
         ensures verdict { IsVecVerdict self.old command result self.new }
-        ensures refused { OnRefused result (self.new ≡ self.old) }
+        ensures unchanged { OnRefused result (self.new ≡ self.old) }
     {
         step(self.alloc, &mut self.values, command)
     }
@@ -93,7 +93,7 @@ fn step<T: Clone>(
 ) -> Outcome<T>
     ensures step { ClonesAreEqual T.is_clone → IsVecStep values.old command result values.new }
     ensures verdict { IsVecVerdict values.old command result values.new }
-    ensures refused { OnRefused result (values.new ≡ values.old) }
+    ensures unchanged { OnRefused result (values.new ≡ values.old) }
 {
     carry_out::<T, Stored<T>, ListKind>(alloc, values, command.usage())
 }

@@ -1,5 +1,5 @@
-//! The program in both keepings, over readers and writers that are slow, fail or never end, and which
-//! words it takes. What it answers to scripts, cases say.
+//! The program in both keepings, over readers and writers that are slow, fail or never end, and
+//! which words it takes. What it answers to scripts, cases say.
 use ecow_tool::{End, read_arguments, run_counted, run_store};
 use std::alloc::{AllocError, Global};
 use std::io;
@@ -282,7 +282,8 @@ fn first_lines(text: &[u8], lines: usize) -> &[u8] {
     text
 }
 
-/// Of a script that ends before `end`: how many of its lines are whole, and whether a part of one is left.
+/// Of a script that ends before `end`: how many of its lines are whole, and whether a part of one
+/// is left.
 fn cut_at(script: &[u8], end: usize) -> (usize, bool) {
     let (mut whole, mut left) = (0usize, false);
     for byte in script.iter().take(end) {
@@ -297,7 +298,8 @@ fn cut_at(script: &[u8], end: usize) -> (usize, bool) {
     (whole, left)
 }
 
-/// Whether a script that is cut answers its whole lines, or is unreadable where a part of one is left.
+/// Whether a script that is cut answers its whole lines, or is unreadable where a part of one is
+/// left.
 fn is_cut(alloc: Global, counted: bool, end: usize) -> bool {
     let script = script(counted);
     let (whole, left) = cut_at(script, end);
@@ -326,8 +328,8 @@ fn a_script_that_is_cut_is_run_or_unreadable(rt: HostRuntime) {
     }
 }
 
-/// A reader of so many bytes at a time. It may be interrupted before each piece, and one of its reads,
-/// counted from 1, may fail.
+/// A reader of so many bytes at a time. It may be interrupted before each piece, and one of its
+/// reads, counted from 1, may fail.
 #[derive(Drop)]
 struct Pieces {
     left: &'static [u8],

@@ -20,8 +20,8 @@ fn main(rt: HostRuntime) -> ExitCode {
     ExitCode::from(exit.status())
 }
 
-/// The words after the program's name. A word that isn't UTF-8, or is too long, can't be the name of
-/// a file here: it is an empty word, which names none either.
+/// The words after the program's name. A word that isn't UTF-8, or is too long, can't be the name
+/// of a file here: it is an empty word, which names none either.
 fn arguments(rt: &(impl Env + AllocGlobal)) -> Result<Vec<String>, AllocError> {
     let mut words = Vec::new(rt.alloc());
     let mut buffer = [0; LONGEST_PATH];

@@ -27,7 +27,7 @@ pub(crate) fn step<T: Clone, const N: usize>(
 ) -> Outcome<T>
     ensures step { IsBytesStep N values.old command result values.new }
     ensures verdict { IsBytesVerdict N values.old command result values.new }
-    ensures refused { OnRefused result (values.new ≡ values.old) }
+    ensures unchanged { OnRefused result (values.new ≡ values.old) }
 {
     carry_out::<T, Stored<T, N>, BytesKind>(alloc, values, command.usage())
 }

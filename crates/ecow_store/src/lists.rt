@@ -33,7 +33,7 @@ pub(crate) fn step<T: Clone, const N: usize>(
 ) -> Outcome<T>
     ensures step { ClonesAreEqual T.is_clone → IsVecStep values.old command result values.new }
     ensures verdict { IsVecVerdict values.old command result values.new }
-    ensures refused { OnRefused result (values.new ≡ values.old) }
+    ensures unchanged { OnRefused result (values.new ≡ values.old) }
 {
     carry_out::<T, Stored<T, N>, ListKind>(alloc, values, command.usage())
 }
@@ -180,7 +180,7 @@ fn drain<T: Clone>(alloc: Global, list: &mut EcoVec<T>, bounds: Bounds) -> Outco
     ensures step { ClonesAreEqual T.is_clone
         → IsEdit list_rules (ListEdit.Drain bounds) list.old result list.new }
     ensures verdict { IsEditVerdict list_rules (ListEdit.Drain bounds) list.old result }
-    ensures refused { OnRefused result (list.new ≡ list.old) }
+    ensures unchanged { OnRefused result (list.new ≡ list.old) }
 {
     let Some((start, end)) = resolve(&bounds, list.len()) else {
         return Outcome::Refused(Refusal::Range);
@@ -209,7 +209,7 @@ fn splice<T: Clone>(
     ensures step { ClonesAreEqual T.is_clone
         → IsEdit list_rules (ListEdit.Splice bounds items) list.old result list.new }
     ensures verdict { IsEditVerdict list_rules (ListEdit.Splice bounds items) list.old result }
-    ensures refused { OnRefused result (list.new ≡ list.old) }
+    ensures unchanged { OnRefused result (list.new ≡ list.old) }
 {
     let Some((start, end)) = resolve(&bounds, list.len()) else {
         return Outcome::Refused(Refusal::Range);

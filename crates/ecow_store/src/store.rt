@@ -66,7 +66,7 @@ impl<T: Clone, const N: usize> NamedValues<Stored<T, N>> {
         ensures bytes_and_texts { StepWhere N
             (ClonesAreEqual T.is_clone) self.old command result self.new }
         ensures verdict { StepVerdict N self.old command result self.new }
-        ensures refused { OnRefused result (self.new ≡ self.old) }
+        ensures unchanged { OnRefused result (self.new ≡ self.old) }
     {
         match command {
             Command::Vec(command) => lists::step::<T, N>(self.alloc, &mut self.values, command),
@@ -84,8 +84,8 @@ impl<T: Clone, const N: usize> NamedValues<Stored<T, N>> {
         ensures run { ClonesAreEqual T.is_clone
             → IfOk result (λ outcomes. Run N self.old commands.items outcomes.items self.new) }
         ensures bytes_and_texts { IfOk result
-            (λ outcomes.
-            RunBy (StepWhere N (ClonesAreEqual T.is_clone)) self.old commands.items outcomes.items self.new) }
+            (λ outcomes. RunBy (StepWhere N (ClonesAreEqual T.is_clone))
+            self.old commands.items outcomes.items self.new) }
         ensures verdicts { IfOk result
             (λ outcomes. RunBy (StepVerdict N) self.old commands.items outcomes.items self.new) }
         ensures unchanged { OnErr result (self.new ≡ self.old) }

@@ -28,7 +28,7 @@ pub(crate) fn step<T: Clone, const N: usize>(
 ) -> Outcome<T>
     ensures step { IsTextStep N values.old command result values.new }
     ensures verdict { IsTextVerdict N values.old command result values.new }
-    ensures refused { OnRefused result (values.new ≡ values.old) }
+    ensures unchanged { OnRefused result (values.new ≡ values.old) }
 {
     carry_out::<T, Stored<T, N>, TextKind>(alloc, values, command.usage())
 }

@@ -20,7 +20,9 @@ use std::hash::{Hash, Hasher};
 impl<const N: usize> PartialEq for SmallText<N> {
     ghost eq = { λ t u. pointwise nat_eq (encode_utf8_all t.chars) (encode_utf8_all u.chars) };
 
-    ghost laws = { on_per (λ t. encode_utf8_all t.chars) (partial_equiv_from_equiv nat_list_eq_equiv) };
+    ghost laws = {
+        on_per (λ t. encode_utf8_all t.chars) (partial_equiv_from_equiv nat_list_eq_equiv)
+    };
 
     #[inline]
     fn eq(&self, other: &Self) -> bool {
@@ -33,7 +35,9 @@ impl<const N: usize> Eq for SmallText<N> {
 }
 
 impl<const N: usize> PartialOrd for SmallText<N> {
-    ghost partial_cmp = { λ t u. Some (slice_cmp nat_cmp (encode_utf8_all t.chars) (encode_utf8_all u.chars)) };
+    ghost partial_cmp = {
+        λ t u. Some (slice_cmp nat_cmp (encode_utf8_all t.chars) (encode_utf8_all u.chars))
+    };
 
     ghost laws = { on_po (λ t. encode_utf8_all t.chars) texts_po };
 
@@ -61,7 +65,10 @@ impl<const N: usize> Ord for SmallText<N> {
 impl<const N: usize> Hash for SmallText<N> {
     ghost hash_input = { λ t. fed.str (encode_utf8_all t.chars) };
 
-    ghost respects_eq = { (on_Alike (λ t. encode_utf8_all t.chars) (same_Alike (λ bytes. fed.str bytes) bytes_decides)).fed };
+    ghost respects_eq = {
+        (on_Alike (λ t. encode_utf8_all t.chars)
+            (same_Alike (λ bytes. fed.str bytes) bytes_decides)).fed
+    };
 
     fn hash<H: Hasher>(&self, state: &mut H) {
         self.as_str().hash(state);
@@ -88,8 +95,8 @@ pub fn texts_are_their_bytes()
     ensures again { (text : PlainText) → AreChars text.chars → text_of (bytes_of text) ≡ text }
 {}
 
-/// Texts are equal exactly where they have the same characters. A text has Unicode scalar values alone;
-/// the law holds at all numbers.
+/// Texts are equal exactly where they have the same characters. A text has Unicode scalar values
+/// alone; the law holds at all numbers.
 pub fn equal_texts_have_the_same_characters()
     ensures same { (t : PlainText) (u : PlainText)
         → pointwise nat_eq (encode_utf8_all t.chars) (encode_utf8_all u.chars) ≡ true

@@ -44,7 +44,9 @@ impl<const N: usize> AsSlice<u8> for SmallText<N> {
 impl<const N: usize> FromIterator<char> for SmallText<N> {
     type Alloc = Global;
 
-    ghost from_iter_gives = { λ items made. (made.chars ≡ items) × (made.inline ≡ inline_for N (utf8_len items)) };
+    ghost from_iter_gives = {
+        λ items made. (made.chars ≡ items) × (made.inline ≡ inline_for N (utf8_len items))
+    };
 
     fn from_iter<I: IntoIterator<Item = char>>(alloc: Global, iter: I) -> Result<Self, AllocError> {
         match SmallText::from_chars(alloc, iter) {
@@ -58,7 +60,9 @@ impl<const N: usize> FromIterator<char> for SmallText<N> {
 impl<'a, const N: usize> FromIterator<&'a str> for SmallText<N> {
     type Alloc = Global;
 
-    ghost from_iter_gives = { λ items made. (made.chars ≡ joined_strs items) × (made.inline ≡ inline_for N (utf8_len made.chars)) };
+    ghost from_iter_gives = {
+        λ items made. (made.chars ≡ joined_strs items) × (made.inline ≡ inline_for N (utf8_len made.chars))
+    };
 
     fn from_iter<I: IntoIterator<Item = &'a str>>(
         alloc: Global,
@@ -71,12 +75,14 @@ impl<'a, const N: usize> FromIterator<&'a str> for SmallText<N> {
     }
 }
 
-/// The texts, one after another, as `SmallText::from_eco_strings` makes them; its two errors are one
-/// here.
+/// The texts, one after another, as `SmallText::from_eco_strings` makes them; its two errors are
+/// one here.
 impl<const N: usize> FromIterator<SmallText<N>> for SmallText<N> {
     type Alloc = Global;
 
-    ghost from_iter_gives = { λ items made. (made.chars ≡ joined_texts items) × (made.inline ≡ inline_for N (utf8_len made.chars)) };
+    ghost from_iter_gives = {
+        λ items made. (made.chars ≡ joined_texts items) × (made.inline ≡ inline_for N (utf8_len made.chars))
+    };
 
     fn from_iter<I: IntoIterator<Item = SmallText<N>>>(
         alloc: Global,

@@ -102,8 +102,8 @@ impl Scripted for Command<i64> {
     }
 }
 
-/// Reads the commands of a script and gives them to `run`, in order, in pieces of at most `COMMANDS_AT_ONCE`.
-/// Names are numbered from 0 in the order in which they are first read.
+/// Reads the commands of a script and gives them to `run`, in order, in pieces of at most
+/// `COMMANDS_AT_ONCE`. Names are numbered from 0 in the order in which they are first read.
 ///
 /// Where `run` has no memory the rest is read all the same and given to nobody, so that a line that
 /// doesn't fit is told before a lack of memory.

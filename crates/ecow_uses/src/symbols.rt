@@ -1,5 +1,5 @@
-//! A symbol table: the names of a program are interned as texts, and scopes bind them. An inner scope
-//! shares the bindings of the outer one until it binds a name of its own.
+//! A symbol table: the names of a program are interned as texts, and scopes bind them. An inner
+//! scope shares the bindings of the outer one until it binds a name of its own.
 ghost use Rattle.std.specs.Prelude.{◌≡◌, ◌⊎◌, ℕ, List, [], ◌∷◌, ◌++◌, length, Contains, IfOk, OnOk, OnErr, Some, false};
 ghost use Rattle.std.specs.Str.{chars, encode_utf8_all};
 ghost use Rattle.ecow_uses.specs.Scopes.{meaning, same_name};
@@ -9,7 +9,8 @@ use ecow_text::EcoString;
 use std::alloc::{AllocError, Global};
 use std::marker::Model;
 
-/// The names of a program. One that is interned again is given as it is known, and shares its bytes.
+/// The names of a program. One that is interned again is given as it is known, and shares its
+/// bytes.
 #[derive(Drop)]
 pub struct Interner {
     names: EcoVec<EcoString>,
@@ -140,8 +141,8 @@ impl Scope {
     }
 }
 
-/// The law: what is bound in an inner scope is seen there, and the outer scope means by the name what
-/// it meant before.
+/// The law: what is bound in an inner scope is seen there, and the outer scope means by the name
+/// what it meant before.
 pub fn shadow(
     outer: &Scope,
     name: &EcoString,

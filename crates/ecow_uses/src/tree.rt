@@ -80,7 +80,8 @@ impl Node {
         }
     }
 
-    /// Appends the tree to a text as `(name (child) (child))`. A refusal may leave a front of it there.
+    /// Appends the tree to a text as `(name (child) (child))`. A refusal may leave a front of it
+    /// there.
     #[tactic(auto, using(crate::proofs::Trees::printed_out))]
     pub fn print(&self, text: &mut EcoString) -> Result<(), EcoError>
         ensures { OnOk result (text.new.chars ≡ text.old.chars ++ printed self.now) }
@@ -117,8 +118,8 @@ impl Node {
         Ok(tree)
     }
 
-    /// The tree with `node` at the end of the path; `None` where the path leads to no node. This tree
-    /// stays as it is, and both share every vector that isn't on the path.
+    /// The tree with `node` at the end of the path; `None` where the path leads to no node. This
+    /// tree stays as it is, and both share every vector that isn't on the path.
     pub fn replace_at(&self, path: &[usize], node: Node) -> Result<Option<Node>, EcoError>
         ensures replaced { IfOk result
             (λ found. IfSome found (λ tree. IsReplaced path.now node self.now tree)) }
@@ -137,9 +138,9 @@ impl Node {
     }
 }
 
-/// The law: the node stands at the end of the path, each path that parts from it leads to what it led
-/// to before, and the tree of which a clone was kept is as it was. `None` where the path leads to no
-/// node.
+/// The law: the node stands at the end of the path, each path that parts from it leads to what it
+/// led to before, and the tree of which a clone was kept is as it was. `None` where the path leads
+/// to no node.
 #[tactic(auto, using(crate::proofs::Trees::replaced_there, crate::proofs::Trees::replaced_elsewhere))]
 pub fn replace_and_keep(
     tree: &Node,

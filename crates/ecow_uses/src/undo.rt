@@ -1,5 +1,5 @@
-//! A document whose edits are taken back and made again. Each state is a clone that shares its lines
-//! with the others: an edit copies the handles of the lines once, and no text.
+//! A document whose edits are taken back and made again. Each state is a clone that shares its
+//! lines with the others: an edit copies the handles of the lines once, and no text.
 ghost use Rattle.std.specs.Prelude.{◌≡◌, ◌<◌, ◌≤◌, [], true, false, length, IfOk, OnErr, OnOk, insert, remove, slice_set};
 ghost use Rattle.ecow_uses.specs.History.{edited, IsUndone};
 
@@ -117,8 +117,8 @@ impl History {
         Ok(true)
     }
 
-    /// Makes the edit that was taken back last again: `false` where there is none. A refusal changes
-    /// nothing.
+    /// Makes the edit that was taken back last again: `false` where there is none. A refusal
+    /// changes nothing.
     pub fn redo(&mut self) -> Result<bool, AllocError>
         ensures redone { IfOk result (λ done. done ≡ true → IsUndone self.new self.old) }
         ensures nothing { IfOk result (λ done. done ≡ false → (self.old.future ≡ [])

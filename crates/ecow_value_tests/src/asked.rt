@@ -312,8 +312,8 @@ fn splice_clones_nothing_before_the_end_of_its_items(rt: HostRuntime) -> Result<
     Ok(())
 }
 
-/// Lends the second element to a closure, which counts its calls and sees how many clones were made by
-/// then.
+/// Lends the second element to a closure, which counts its calls and sees how many clones were made
+/// by then.
 fn lend_the_second(list: &mut EcoVec<Counting>, tally: &Tally) -> Result<(u64, u64), EcoError> {
     let (mut calls, mut clones) = (0u64, 0);
     if list.len() < 2 {

@@ -103,7 +103,8 @@ fn owned(list: &mut EcoVec<Counting>) -> Result<Rest, Fail> {
     Ok(Rest::Owned(rest))
 }
 
-/// Three of five elements by `drain`, or by `splice` with two in their place; all five by `into_iter`.
+/// Three of five elements by `drain`, or by `splice` with two in their place; all five by
+/// `into_iter`.
 fn handed_out(
     way: Way,
     alloc: Global,
@@ -117,7 +118,8 @@ fn handed_out(
     }
 }
 
-/// Takes so many pairs from both ends and drops them, then the rest: how many were dropped each time.
+/// Takes so many pairs from both ends and drops them, then the rest: how many were dropped each
+/// time.
 fn let_go(rest: Rest, pairs: u8, tally: &Tally) -> (u64, u64) {
     let mut rest = rest;
     for _ in 0..pairs {
@@ -129,8 +131,8 @@ fn let_go(rest: Rest, pairs: u8, tally: &Tally) -> (u64, u64) {
     (early, tally.drops())
 }
 
-/// How many elements are dropped: those that were taken, with the rest of what is handed out, with the
-/// vector and with its clone.
+/// How many elements are dropped: those that were taken, with the rest of what is handed out, with
+/// the vector and with its clone.
 fn drops(alloc: Global, way: Way, is_shared: bool, pairs: u8) -> Result<([u64; 4], u64), Fail> {
     let tally = Tally::new(alloc)?;
     let (mut list, twin) = pair(alloc, &tally, 5, is_shared)?;

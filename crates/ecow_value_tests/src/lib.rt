@@ -1,6 +1,6 @@
 //! Tests of vectors, bytes and texts: what no contract says and no script can. What is cloned and
-//! dropped, what a refusal leaves, iterators, writers and elements of other kinds. Scripts with their
-//! answers stand in `ecow_cases`.
+//! dropped, what a refusal leaves, iterators, writers and elements of other kinds. Scripts with
+//! their answers stand in `ecow_cases`.
 #![tactic(auto)]
 
 #[cfg(test)]

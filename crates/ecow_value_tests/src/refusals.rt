@@ -229,8 +229,8 @@ impl Gift {
     }
 }
 
-/// Whether a shared vector comes back as it was while so many clones are left; not where it is given
-/// away.
+/// Whether a shared vector comes back as it was while so many clones are left; not where it is
+/// given away.
 fn comes_back(alloc: Global, gift: Gift, clones: u64) -> Result<bool, EcoError> {
     let left = Rc::new(alloc, Cell::new(clones))?;
     let list = Refusing::list(alloc, &[1, 2, 3], &left)?;

@@ -1,5 +1,6 @@
-//! Texts at several limits: what std's text answers, what is shared, and the types around them. Calls
-//! stand in functions that say nothing of what they answer: a test of many is proved faster over these.
+//! Texts at several limits: what std's text answers, what is shared, and the types around them.
+//! Calls stand in functions that say nothing of what they answer: a test of many is proved faster
+//! over these.
 use crate::laws::{is_found, is_found_in_order};
 use ecow_bytes::EcoBytes;
 use ecow_list::{EcoError, EcoVec};

@@ -1,5 +1,5 @@
-//! Types that hold a vector of themselves: which shapes there may be, what a change below copies, and
-//! how deep a tree may be that is dropped.
+//! Types that hold a vector of themselves: which shapes there may be, what a change below copies,
+//! and how deep a tree may be that is dropped.
 use crate::calls::{push, write};
 use ecow_bytes::EcoBytes;
 use ecow_list::{EcoError, EcoVec};

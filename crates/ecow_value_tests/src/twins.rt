@@ -14,7 +14,8 @@ struct Twins {
     alloc: Global,
 }
 
-/// Whether the elements by value are those of a list: the first from the front, the others from the back.
+/// Whether the elements by value are those of a list: the first from the front, the others from the
+/// back.
 fn is_rest(rest: Rest<i64>, items: Vec<i64>) -> bool {
     let mut rest = rest;
     if rest.as_slice() != items.as_slice() {

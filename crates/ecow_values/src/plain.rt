@@ -1,4 +1,5 @@
-//! Bytes and texts as contracts see them: what they hold, and whether it stands in the value itself.
+//! Bytes and texts as contracts see them: what they hold, and whether it stands in the value
+//! itself.
 use crate::items::{Items, Text};
 
 /// Bytes, and whether they stand in the value itself.

@@ -1,10 +1,10 @@
 -- The sums of a script on shared blocks, computed over the entries of its names.
 use Rattle.std.proofs.Common.{◌≡◌, ℕ, ◌+◌, ◌*◌, not, is_some, List, [], ◌∷◌, map, length, sum_by, true, ◌&&◌, Option, Some, None, Result, Ok, Err, if◌then◌else◌, cond, nat_lt, false, refl, ap, ◌∙◌}
-use Rattle.std.specs.Option.{unwrap_or}
+use Rattle.std.specs.Option.{unwrap_or, ok_or}
 use Rattle.std.specs.Ordering.{nat_cmp, eq_by_cmp}
 use Rattle.std.specs.FinMap as finite
 use Rattle.std.specs.FinMap.Entries.{find, put, where_key}
-use Rattle.ecow_model.specs.Refusing.{◌>>=◌, Effect, ok_or}
+use Rattle.ecow_model.specs.Refusing.{◌>>=◌, Effect}
 use Rattle.ecow_model.specs.Lists.{ListUsage, make_list, edit_list, ask_list, vec_usage}
 use Rattle.ecow_model.specs.Costs.{make_capacity, unshares, capacity_after, copied_by, moved_by, make_input, edit_input}
 use Rattle.ecow_model.specs.CountedRun.{observation_of, nothing, change, counted_carry_out, copied_in, moved_in, eager_in, input_in}

@@ -65,7 +65,8 @@ pub(crate) fn give_back<T, A: Allocator>(
     }
 }
 
-/// Makes the block one of `new_capacity` places, which may be elsewhere. If that is refused, nothing changes.
+/// Makes the block one of `new_capacity` places, which may be elsewhere. If that is refused,
+/// nothing changes.
 pub(crate) fn grow<T, A: Allocator>(
     alloc: &A,
     base: Base<T>,

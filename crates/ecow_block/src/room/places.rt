@@ -25,8 +25,8 @@ impl<T> Room<T> {
         unsafe { base.ptr.add(at).write(item) }
     }
 
-    /// Puts an item, as an array of one, into the first empty place, numbered `at`. The compiler moves
-    /// an array as memory, and not part by part.
+    /// Puts an item, as an array of one, into the first empty place, numbered `at`. The compiler
+    /// moves an array as memory, and not part by part.
     pub(crate) fn put_one(&mut self, base: Base<T>, at: usize, item: [T; 1])
         requires { (base.ptr ≡ self.old.at) × (at ≡ self.old.start + length self.old.items)
             × (length self.old.items < self.old.capacity) }
@@ -46,8 +46,8 @@ impl<T> Room<T> {
         unsafe { base.ptr.add(at).cast::<[T; CHUNK]>().write(items) }
     }
 
-    /// Moves all items, of which there are `count`, behind those of `other`, whose first empty place is numbered `to`, in one
-    /// move of memory. Their own first place is numbered `from`.
+    /// Moves all items, of which there are `count`, behind those of `other`, whose first empty
+    /// place is numbered `to`, in one move of memory. Their own first place is numbered `from`.
     pub(crate) fn move_run(
         &mut self,
         base: Base<T>,
@@ -141,8 +141,8 @@ impl<T> Room<T> {
         let Room { mark: _ } = spare;
     }
 
-    /// Empty places, the first of them numbered `at`, as slots. There are as many as `like` has items, which stand for what they
-    /// hold.
+    /// Empty places, the first of them numbered `at`, as slots. There are as many as `like` has
+    /// items, which stand for what they hold.
     pub(crate) fn into_slots(self, base: Base<T>, at: usize, like: &[T]) -> Slots<T>
         requires { (base.ptr ≡ self.at) × (at ≡ self.start) × (self.items ≡ [])
             × (self.capacity ≡ length like.now) }
@@ -166,8 +166,8 @@ impl<T> Room<T> {
         Room { mark: PhantomData }
     }
 
-    /// Numbers the places from 0 on, as if the block began with them, and returns where that is. Before, the first was numbered
-    /// `start`.
+    /// Numbers the places from 0 on, as if the block began with them, and returns where that is.
+    /// Before, the first was numbered `start`.
     pub(crate) fn begin_here(&mut self, base: Base<T>, start: usize) -> Base<T>
         requires { (base.ptr ≡ self.old.at) × (start ≡ self.old.start) }
         ensures items { self.new.items ≡ self.old.items }

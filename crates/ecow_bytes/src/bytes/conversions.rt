@@ -13,9 +13,9 @@ impl<const N: usize> SmallBytes<N> {
         Ok(Vec::from_clones(self.alloc, self.as_slice())?)
     }
 
-    /// The bytes in a vector: that of spilled bytes as it is, shared or not, which is never refused,
-    /// and a new one for inline bytes. The one error is `Memory`, with which the bytes come back as
-    /// they were.
+    /// The bytes in a vector: that of spilled bytes as it is, shared or not, which is never
+    /// refused, and a new one for inline bytes. The one error is `Memory`, with which the bytes
+    /// come back as they were.
     pub fn into_eco_vec(self) -> Result<EcoVec<u8>, Rejected<Self>>
         ensures bytes { IfOk result (λ vec. vec ≡ self.entry.bytes) }
         ensures memory { IfErr result (λ rejected. rejected.error ≡ EcoError.Memory) }

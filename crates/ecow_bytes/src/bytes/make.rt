@@ -37,8 +37,8 @@ impl<const N: usize> SmallBytes<N> {
         Self::try_inline(alloc, bytes).unwrap()
     }
 
-    /// No bytes, with room for `capacity`: inline where that is at most `N`, which is never refused,
-    /// and else spilled. Answers `Capacity` where that passes 2^63 - 1, and else `Memory`.
+    /// No bytes, with room for `capacity`: inline where that is at most `N`, which is never
+    /// refused, and else spilled. Answers `Capacity` where that passes 2^63 - 1, and else `Memory`.
     pub fn with_capacity(alloc: Global, capacity: usize) -> Result<Self, EcoError>
         ensures bytes { IfOk result (λ made. made.bytes ≡ []) }
         ensures mode { IfOk result (λ made. made.inline ≡ inline_for N capacity) }
@@ -124,7 +124,8 @@ impl<const N: usize> SmallBytes<N> {
     }
 }
 
-/// The bytes of a vector, which keep its block, shared or not: spilled, however few. Takes no memory.
+/// The bytes of a vector, which keep its block, shared or not: spilled, however few. Takes no
+/// memory.
 impl<const N: usize> From<EcoVec<u8>> for SmallBytes<N> {
     ghost from_gives = { λ vec made. made ≡ plain_bytes vec false };
 

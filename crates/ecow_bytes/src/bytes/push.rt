@@ -11,8 +11,8 @@ use ecow_base::{MAX_LEN, room_for};
 use ecow_list::{EcoError, EcoVec};
 
 impl<const N: usize> SmallBytes<N> {
-    /// Appends `byte`: inline where it fits, which is never refused, and else spilled. Spilled bytes
-    /// that are shared are copied first.
+    /// Appends `byte`: inline where it fits, which is never refused, and else spilled. Spilled
+    /// bytes that are shared are copied first.
     ///
     /// A refusal changes nothing: `Capacity` where there are 2^63 - 1 bytes, and else `Memory`.
     #[inline]
@@ -43,8 +43,8 @@ impl<const N: usize> SmallBytes<N> {
     }
 
     /// Appends `bytes`: all, or none where it is refused. They are inline where they fit, which is
-    /// never refused, and else spilled. Spilled bytes that are shared are copied first. For no bytes
-    /// it is never refused and changes nothing, sharing included.
+    /// never refused, and else spilled. Spilled bytes that are shared are copied first. For no
+    /// bytes it is never refused and changes nothing, sharing included.
     ///
     /// A refusal changes nothing: `Capacity` where the new length passes 2^63 - 1, and else
     /// `Memory`.
@@ -76,9 +76,9 @@ impl<const N: usize> SmallBytes<N> {
         self.spill_with(end, bytes)
     }
 
-    /// Appends the bytes of `iter`, one after another, each as `push` does: so inline bytes spill at
-    /// the one with which they pass `N`, and nothing changes where there is none. The size hint isn't
-    /// asked.
+    /// Appends the bytes of `iter`, one after another, each as `push` does: so inline bytes spill
+    /// at the one with which they pass `N`, and nothing changes where there is none. The size hint
+    /// isn't asked.
     ///
     /// Where a byte is refused those before it stay, and no further one is asked for: `Capacity`
     /// where there are 2^63 - 1 bytes then, and else `Memory`. No byte is refused that fits inline.
@@ -123,8 +123,8 @@ impl<const N: usize> SmallBytes<N> {
         Ok(())
     }
 
-    /// A vector of the bytes, with room for `additional` more. Answers `Capacity` where the length and
-    /// `additional` together pass 2^63 - 1, and else `Memory`.
+    /// A vector of the bytes, with room for `additional` more. Answers `Capacity` where the length
+    /// and `additional` together pass 2^63 - 1, and else `Memory`.
     #[cold]
     #[inline(never)]
     pub(super) fn spill(&self, additional: usize) -> Result<EcoVec<u8>, EcoError>

@@ -9,8 +9,8 @@ use ecow_list::EcoError;
 
 impl<const N: usize> SmallBytes<N> {
     /// The bytes `count` times over: inline where they come to at most `N`, which is never refused,
-    /// and else spilled. Each step appends as many copies as there are, in one move of memory. Of no
-    /// bytes it returns at once, however often.
+    /// and else spilled. Each step appends as many copies as there are, in one move of memory. Of
+    /// no bytes it returns at once, however often.
     ///
     /// Answers `Capacity` where they come to more than 2^63 - 1, and else `Memory`.
     pub fn repeat(&self, count: usize) -> Result<Self, EcoError>

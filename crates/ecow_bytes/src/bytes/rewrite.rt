@@ -8,10 +8,10 @@ use ecow_list::EcoError;
 
 impl<const N: usize> SmallBytes<N> {
     /// Lends the bytes to `f` for writing, once, and keeps as many of them from the front as it
-    /// answers, or all where it answers more. They stay in their mode. Where there are none, `f` gets
-    /// an empty slice. Spilled bytes that are shared are copied first. Never refused for inline bytes
-    /// or none. The one error is `Memory`, where that copy was refused: then `f` wasn't called, and
-    /// nothing has changed.
+    /// answers, or all where it answers more. They stay in their mode. Where there are none, `f`
+    /// gets an empty slice. Spilled bytes that are shared are copied first. Never refused for
+    /// inline bytes or none. The one error is `Memory`, where that copy was refused: then `f`
+    /// wasn't called, and nothing has changed.
     ///
     /// This project's own: the original writes through `make_mut`, of whose borrow a proved caller
     /// learns less.

@@ -28,7 +28,8 @@ pub enum IntoArray<T> {
 
 impl<T: Drop> EcoVec<T> {
     /// The elements of a `Vec`, none of them cloned; without a block where there are none. A
-    /// refusal hands the `Vec` back, with `Capacity` past 2^63 - 1 elements, and else with `Memory`.
+    /// refusal hands the `Vec` back, with `Capacity` past 2^63 - 1 elements, and else with
+    /// `Memory`.
     pub fn from_vec(alloc: Global, elements: Vec<T>) -> Result<Self, Rejected<Vec<T>>>
         ensures ok { IfOk result (λ v. v ≡ elements.items) }
         ensures value_returned { IfErr result (λ rejected. rejected.value.items ≡ elements.items) }
@@ -56,7 +57,8 @@ impl<T: Drop> EcoVec<T> {
     }
 
     /// The elements of an array, none of them cloned; without a block where there are none. A
-    /// refusal hands the array back, with `Capacity` past 2^63 - 1 elements, and else with `Memory`.
+    /// refusal hands the array back, with `Capacity` past 2^63 - 1 elements, and else with
+    /// `Memory`.
     pub fn from_array<const N: usize>(
         alloc: Global,
         elements: [T; N],
@@ -81,8 +83,8 @@ impl<T: Drop> EcoVec<T> {
         }
     }
 
-    /// The items of `iter`, none of them cloned; without a block, and never refused, where there are
-    /// none. Its size hint isn't asked. Answers `Capacity` at the item past 2^63 - 1, and else
+    /// The items of `iter`, none of them cloned; without a block, and never refused, where there
+    /// are none. Its size hint isn't asked. Answers `Capacity` at the item past 2^63 - 1, and else
     /// `Memory`: the items so far are dropped then, and no further one is asked for.
     pub fn from_iter<I: IntoIterator<Item = T>>(alloc: Global, iter: I) -> Result<Self, EcoError>
         requires { (it : I.IntoIter)
@@ -233,7 +235,8 @@ impl<T: Clone> EcoVec<T> {
     }
 
     /// The elements by value, in order, from both ends. A sole vector moves them, and a shared one
-    /// clones them all first. The one error is `Memory`, with which the vector comes back as it was.
+    /// clones them all first. The one error is `Memory`, with which the vector comes back as it
+    /// was.
     pub fn into_iter(self) -> Result<IntoIter<T>, Rejected<Self>>
         ensures ok { ClonesAreEqual T.is_clone → IfOk result (λ rest. rest ≡ self) }
         ensures kept { IfOk result (IsKept T.is_clone self) }
@@ -258,8 +261,8 @@ impl<T: Clone> EcoVec<T> {
     }
 
     /// The elements as an array of `N`. A sole vector moves them, and a shared one clones them.
-    /// Answers `Length` where there is another number of them, and else `Refused` with `Memory`; the
-    /// vector comes back as it was with either.
+    /// Answers `Length` where there is another number of them, and else `Refused` with `Memory`;
+    /// the vector comes back as it was with either.
     pub fn into_array<const N: usize>(self) -> Result<[T; N], IntoArray<T>>
         ensures ok { ClonesAreEqual T.is_clone → IfOk result (λ elements. elements ≡ self) }
         ensures kept { IfOk result (IsKept T.is_clone self) }

@@ -63,10 +63,10 @@ impl<T: Clone + Copy> EcoVec<T> {
     }
 
     /// Appends copies of the elements of `range`, which `range_in` tests, in one move of memory:
-    /// all, or none where it is refused. A vector that is shared copies its elements into a block of
-    /// its own first, and one that is too full gets a larger block. For an empty range it is never
-    /// refused and changes nothing, sharing included. Else a refusal changes nothing: `Capacity`
-    /// where the new length passes 2^63 - 1, and `Memory` where that isn't so.
+    /// all, or none where it is refused. A vector that is shared copies its elements into a block
+    /// of its own first, and one that is too full gets a larger block. For an empty range it is
+    /// never refused and changes nothing, sharing included. Else a refusal changes nothing:
+    /// `Capacity` where the new length passes 2^63 - 1, and `Memory` where that isn't so.
     ///
     /// This project's own: the original has no such call, and the standard library's vector has.
     pub fn extend_from_within<R: RangeBounds<usize>>(&mut self, range: R) -> Result<(), EcoError>

@@ -10,7 +10,7 @@ ghost use Rattle.ecow_list.specs.Vectors.{Changes, IsKept, IsKeptBefore, SomeKep
 use crate::error::{EcoError, Rejected};
 use crate::vec::EcoVec;
 use crate::vec::own::{Clones, Room};
-use ecow_base::MAX_LEN;
+use ecow_base::{MAX_LEN, fresh_capacity};
 
 impl<T: Clone> EcoVec<T> {
     /// Keeps the first `len` elements, or all where there are fewer. A shared vector copies only
@@ -36,7 +36,7 @@ impl<T: Clone> EcoVec<T> {
             block.truncate(len);
             return Ok(());
         }
-        *self = EcoVec::from_slice(self.alloc, &self.as_slice()[..len])?;
+        self.block = Some(self.copy::<Clones>(&self.as_slice()[..len], fresh_capacity(len))?);
         Ok(())
     }
 

@@ -1,11 +1,11 @@
-//! Edits of a vector's own block. A sole block is edited where it is. The elements of a shared one
-//! are copied into a new block; that is edited, and takes the old one's place last. So a refusal
-//! leaves all as it was.
-ghost use Rattle.std.specs.Prelude.{◌≡◌, ◌+◌, ◌<◌, ◌≤◌, ◌↔◌, length, IfOk};
+//! Edits of a vector's own block. A sole block is enlarged where it is too small, and edited. The
+//! elements of a shared one are copied into a new block; that is edited, and takes the old one's
+//! place last. So a refusal leaves all elements as they were.
+ghost use Rattle.std.specs.Prelude.{◌≡◌, ◌+◌, ◌<◌, ◌≤◌, ◌↔◌, length, IfOk, OnOk, IsOk, IsErrOf};
 ghost use Rattle.std.specs.List.{AllZip};
 ghost use Rattle.ecow_list.specs.Edits.{Edited, Edits, KeepsRoom, RefusesClean};
 
-use crate::error::Rejected;
+use crate::error::{EcoError, Rejected};
 use crate::vec::EcoVec;
 use ecow_base::{MAX_LEN, fresh_capacity, room_for};
 use ecow_block::Block;
@@ -76,16 +76,18 @@ impl<T: Drop> EcoVec<T> {
         requires clean { RefusesClean F.FnOnce edit given }
         ensures edited { Edited F.FnOnce edit given C.makes self.old additional result self.new }
     {
-        if let Some(block) = self.sole_block()
-            && additional <= block.capacity() - block.len()
-        {
+        if let Some(block) = self.sole_block() {
+            if additional > block.capacity() - block.len()
+                && let Err(error) = enlarge(block, additional)
+            {
+                return Err(Rejected { error, value: given });
+            }
             return edit(block, given).map_err(Rejected::for_memory);
         }
         self.edit_anew(by, room, additional, given, edit)
     }
 
-    /// Enlarges a block that is too small, copies one that is shared, makes one that isn't there,
-    /// and then edits it.
+    /// Copies a block that is shared, or makes one where there is none, and then edits it.
     #[cold]
     #[inline(never)]
     fn edit_anew<C: Copying<T>, A, R, F: FnOnce(&mut Block<T>, A) -> Result<R, A>>(
@@ -105,13 +107,6 @@ impl<T: Drop> EcoVec<T> {
         if additional > MAX_LEN - len {
             return Err(Rejected::for_capacity(given));
         }
-        if let Some(block) = self.sole_block() {
-            let capacity = room_for(len, additional, block.capacity());
-            if block.grow(capacity).is_err() {
-                return Err(Rejected::for_memory(given));
-            }
-            return edit(block, given).map_err(Rejected::for_memory);
-        }
         let least = match room {
             Room::Fresh => fresh_capacity(len),
             Room::Shared => self.capacity(),
@@ -126,7 +121,7 @@ impl<T: Drop> EcoVec<T> {
             self.block = None;
             return Ok(answer);
         }
-        if let Ok(mut fresh) = self.copy::<C>(capacity)
+        if let Ok(mut fresh) = self.copy::<C>(self.as_slice(), capacity)
             && let Some(block) = Rc::get_mut(&mut fresh)
         {
             let answer = edit(block, given).map_err(Rejected::for_memory)?;
@@ -136,19 +131,42 @@ impl<T: Drop> EcoVec<T> {
         Err(Rejected::for_memory(given))
     }
 
-    /// A block that no vector shares, with copies of the elements and room for `capacity`.
-    fn copy<C: Copying<T>>(&self, capacity: usize) -> Result<Rc<Block<T>>, AllocError>
-        requires room { length self.now ≤ capacity }
+    /// A block that no vector shares, with copies of `elements` and room for `capacity`.
+    #[inline(never)]
+    pub(super) fn copy<C: Copying<T>>(
+        &self,
+        elements: &[T],
+        capacity: usize,
+    ) -> Result<Rc<Block<T>>, AllocError>
+        requires room { length elements.now ≤ capacity }
         requires bounded { capacity ≤ MAX_LEN }
-        ensures copies { IfOk result (λ shared. AllZip C.makes self.now shared.value.items) }
-        ensures len { IfOk result (λ shared. length shared.value.items ≡ length self.now) }
+        ensures copies { IfOk result (λ shared. AllZip C.makes elements.now shared.value.items) }
+        ensures len { IfOk result (λ shared. length shared.value.items ≡ length elements.now) }
         ensures capacity { IfOk result (λ shared. shared.value.capacity ≡ capacity) }
     {
-        let block = if self.is_empty() {
+        let block = if elements.is_empty() {
             Block::with_capacity(self.alloc, capacity)?
         } else {
-            C::block(self.alloc, self.as_slice(), capacity)?
+            C::block(self.alloc, elements, capacity)?
         };
         Ok(Rc::new(self.alloc, block)?)
     }
+}
+
+/// Makes room for `additional` more elements, and for as many again as there are. Answers
+/// `Capacity` where the length and `additional` pass 2^63 - 1, and else `Memory`.
+#[cold]
+#[inline(never)]
+fn enlarge<T: Drop>(block: &mut Block<T>, additional: usize) -> Result<(), EcoError>
+    ensures items { block.new.items ≡ block.old.items }
+    ensures room { OnOk result (length block.old.items + additional ≤ block.new.capacity) }
+    ensures capacity { IsErrOf result EcoError.Capacity
+        ↔ (MAX_LEN < length block.old.items + additional) }
+    ensures nothing { additional ≡ 0 → IsOk result }
+{
+    let len = block.len();
+    if additional > MAX_LEN - len {
+        return Err(EcoError::Capacity);
+    }
+    Ok(block.grow(room_for(len, additional, block.capacity()))?)
 }

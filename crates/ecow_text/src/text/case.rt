@@ -15,9 +15,9 @@ use ecow_bytes::SmallBytes;
 use ecow_list::{EcoError, EcoVec};
 
 impl<const N: usize> SmallText<N> {
-    /// Maps the letters `A` to `Z` to lower case where they stand, and leaves all others and the mode.
-    /// Never refused for an inline text. A spilled text that is shared is copied first, and the one
-    /// error is `Memory`, which changes nothing.
+    /// Maps the letters `A` to `Z` to lower case where they stand, and leaves all others and the
+    /// mode. Never refused for an inline text. A spilled text that is shared is copied first, and
+    /// the one error is `Memory`, which changes nothing.
     pub fn make_ascii_lowercase(&mut self) -> Result<(), EcoError>
         ensures chars { OnOk result (self.new.chars ≡ map to_ascii_lowercase self.old.chars) }
         ensures mode { self.new.inline ≡ self.old.inline }
@@ -39,8 +39,8 @@ impl<const N: usize> SmallText<N> {
         self.make_ascii(Case::Upper)
     }
 
-    /// The text with the letters `A` to `Z` in lower case, in the mode of this one. Never refused of
-    /// an inline text; the one error is `Memory`.
+    /// The text with the letters `A` to `Z` in lower case, in the mode of this one. Never refused
+    /// of an inline text; the one error is `Memory`.
     pub fn to_ascii_lowercase(&self) -> Result<Self, EcoError>
         ensures chars { IfOk result (λ made. made.chars ≡ map to_ascii_lowercase self.now.chars) }
         ensures mode { IfOk result (λ made. made.inline ≡ self.now.inline) }
@@ -50,7 +50,8 @@ impl<const N: usize> SmallText<N> {
         self.to_ascii(Case::Lower)
     }
 
-    /// The text with the letters `a` to `z` in upper case, as `to_ascii_lowercase` has them in lower.
+    /// The text with the letters `a` to `z` in upper case, as `to_ascii_lowercase` has them in
+    /// lower.
     pub fn to_ascii_uppercase(&self) -> Result<Self, EcoError>
         ensures chars { IfOk result (λ made. made.chars ≡ map to_ascii_uppercase self.now.chars) }
         ensures mode { IfOk result (λ made. made.inline ≡ self.now.inline) }
@@ -64,8 +65,8 @@ impl<const N: usize> SmallText<N> {
     /// ASCII by Unicode. It is inline where it has at most `N` bytes, which is never refused of an
     /// ASCII text, and else spilled. Past ASCII memory for std's text may be refused too.
     ///
-    /// Answers `Memory`, or `Capacity` where std's text has more than 2^63 - 1 bytes, which no ASCII
-    /// text has.
+    /// Answers `Memory`, or `Capacity` where std's text has more than 2^63 - 1 bytes, which no
+    /// ASCII text has.
     pub fn to_lowercase(&self) -> Result<Self, EcoError>
         ensures bytes { IfOk result (λ made. encode_utf8_all made.chars
             ≡ str_to_lowercase (encode_utf8_all self.now.chars)) }
@@ -86,8 +87,8 @@ impl<const N: usize> SmallText<N> {
     /// ASCII by Unicode. It is inline where it has at most `N` bytes, which is never refused of an
     /// ASCII text, and else spilled. Past ASCII memory for std's text may be refused too.
     ///
-    /// Answers `Memory`, or `Capacity` where std's text has more than 2^63 - 1 bytes, which no ASCII
-    /// text has.
+    /// Answers `Memory`, or `Capacity` where std's text has more than 2^63 - 1 bytes, which no
+    /// ASCII text has.
     pub fn to_uppercase(&self) -> Result<Self, EcoError>
         ensures bytes { IfOk result (λ made. encode_utf8_all made.chars
             ≡ str_to_uppercase (encode_utf8_all self.now.chars)) }

@@ -40,9 +40,9 @@ impl Joined for &str {
 }
 
 impl<const N: usize> SmallText<N> {
-    /// The characters of `iter`, one after another: inline where they come to at most `N` bytes, which
-    /// is never refused, and else spilled. Answers `Capacity` at the character with which they come to
-    /// more than 2^63 - 1, and else `Memory`: no further one is asked for then.
+    /// The characters of `iter`, one after another: inline where they come to at most `N` bytes,
+    /// which is never refused, and else spilled. Answers `Capacity` at the character with which
+    /// they come to more than 2^63 - 1, and else `Memory`: no further one is asked for then.
     pub fn from_chars<I: IntoIterator<Item = char>>(
         alloc: Global,
         iter: I,
@@ -62,8 +62,8 @@ impl<const N: usize> SmallText<N> {
     }
 
     /// The texts of `iter`, one after another: inline where they come to at most `N` bytes, which
-    /// is never refused, and else spilled. Answers `Capacity` at the text with which they come to more
-    /// than 2^63 - 1, and else `Memory`: no further one is asked for then.
+    /// is never refused, and else spilled. Answers `Capacity` at the text with which they come to
+    /// more than 2^63 - 1, and else `Memory`: no further one is asked for then.
     pub fn from_strs<'a, I: IntoIterator<Item = &'a str>>(
         alloc: Global,
         iter: I,
@@ -108,9 +108,9 @@ impl<const N: usize> SmallText<N> {
     /// Appends the characters of `iter`, one after another, each as `push` does: so an inline text
     /// spills at the one with which it passes `N` bytes, and nothing changes where there is none.
     ///
-    /// Where a character is refused those before it stay, and no further one is asked for: `Capacity`
-    /// where the text would pass 2^63 - 1 bytes with it, and else `Memory`. None is refused that fits
-    /// inline.
+    /// Where a character is refused those before it stay, and no further one is asked for:
+    /// `Capacity` where the text would pass 2^63 - 1 bytes with it, and else `Memory`. None is
+    /// refused that fits inline.
     pub fn extend_chars<I: IntoIterator<Item = char>>(&mut self, iter: I) -> Result<(), EcoError>
         requires { (it : I.IntoIter) → I.into_iter_gives iter it → I.IntoIter.can_next it
             × IsFinite (I.IntoIter.remaining it) }
@@ -136,8 +136,8 @@ impl<const N: usize> SmallText<N> {
     /// spills at the one with which it passes `N` bytes, and nothing changes where there is none.
     ///
     /// Where a text is refused those before it stay, and no further one is asked for: `Capacity`
-    /// where the text would pass 2^63 - 1 bytes with it, and else `Memory`. None is refused that fits
-    /// inline.
+    /// where the text would pass 2^63 - 1 bytes with it, and else `Memory`. None is refused that
+    /// fits inline.
     pub fn extend_strs<'a, I: IntoIterator<Item = &'a str>>(
         &mut self,
         iter: I,
@@ -151,8 +151,10 @@ impl<const N: usize> SmallText<N> {
         ensures refused { OnErr result
             ((items : List (Bor (List ℕ)))
             × GivesFirst I.into_iter_gives I.IntoIter.next_gives iter items
-            × (inline_after N self.old.inline (utf8_len (self.old.chars ++ joined_strs items)) 0 ≡ false)
-            × (IsErrOf result EcoError.Capacity ↔ (MAX_LEN < utf8_len (self.old.chars ++ joined_strs items)))
+            × (inline_after N self.old.inline
+                (utf8_len (self.old.chars ++ joined_strs items)) 0 ≡ false)
+            × (IsErrOf result EcoError.Capacity
+                ↔ (MAX_LEN < utf8_len (self.old.chars ++ joined_strs items)))
             × LeavesLastOut (λ text. chars text.now) self.old.chars items self.new.chars) }
     {
         self.extend_texts(iter)?;
@@ -173,8 +175,10 @@ impl<const N: usize> SmallText<N> {
         ensures refused { OnErr result
             ((items : List T)
             × GivesFirst I.into_iter_gives I.IntoIter.next_gives iter items
-            × (inline_after N self.old.inline (utf8_len (self.old.chars ++ joined_by T.text_of items)) 0 ≡ false)
-            × (IsErrOf result EcoError.Capacity ↔ (MAX_LEN < utf8_len (self.old.chars ++ joined_by T.text_of items)))
+            × (inline_after N self.old.inline
+                (utf8_len (self.old.chars ++ joined_by T.text_of items)) 0 ≡ false)
+            × (IsErrOf result EcoError.Capacity
+                ↔ (MAX_LEN < utf8_len (self.old.chars ++ joined_by T.text_of items)))
             × LeavesLastOut T.text_of self.old.chars items self.new.chars) }
     {
         // For the proof alone: an inline text has at most `N` bytes.

@@ -35,8 +35,8 @@ impl<const N: usize> SmallText<N> {
     }
 
     /// Keeps the first `target` bytes, or all where there are fewer: `target` is a boundary or past
-    /// the end. Never refused for an inline text and where all or nothing stays. Else a spilled text
-    /// that is shared copies what stays, and the one error is `Memory`, which changes nothing.
+    /// the end. Never refused for an inline text and where all or nothing stays. Else a spilled
+    /// text that is shared copies what stays, and the one error is `Memory`, which changes nothing.
     pub fn truncate(&mut self, target: usize) -> Result<(), EcoError>
         requires { target ≤ utf8_len self.old.chars → is_boundary self.old.chars target ≡ true }
         ensures chars { OnOk result
@@ -100,9 +100,9 @@ impl<const N: usize> SmallText<N> {
         Ok(())
     }
 
-    /// Takes the character at `index`, a boundary below the length. Never refused for an inline text.
-    /// A spilled text that is shared is copied first, and the one error is `Memory`, which changes
-    /// nothing.
+    /// Takes the character at `index`, a boundary below the length. Never refused for an inline
+    /// text. A spilled text that is shared is copied first, and the one error is `Memory`, which
+    /// changes nothing.
     pub fn remove(&mut self, index: usize) -> Result<char, EcoError>
         requires boundary { is_boundary self.old.chars index ≡ true }
         requires in_bounds { index < utf8_len self.old.chars }

@@ -71,8 +71,8 @@ impl<const N: usize> SmallText<N> {
     }
 
     /// The text of a `String`: inline where it has at most `N` bytes, which is never refused, and
-    /// else spilled, with a block of its own. A refusal hands the `String` back, with `Capacity` past
-    /// 2^63 - 1 bytes, and else with `Memory`.
+    /// else spilled, with a block of its own. A refusal hands the `String` back, with `Capacity`
+    /// past 2^63 - 1 bytes, and else with `Memory`.
     pub fn from_string(alloc: Global, text: String) -> Result<Self, Rejected<String>>
         ensures chars { IfOk result (λ made. made.chars ≡ chars (string_bytes text)) }
         ensures mode { IfOk result (λ made. made.inline

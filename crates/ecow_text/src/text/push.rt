@@ -55,8 +55,8 @@ impl<const N: usize> SmallText<N> {
         Ok(())
     }
 
-    /// The text with `text` behind it, as `push_str` appends it. A refusal hands this text back as it
-    /// was, with `push_str`'s error.
+    /// The text with `text` behind it, as `push_str` appends it. A refusal hands this text back as
+    /// it was, with `push_str`'s error.
     pub fn add(self, text: &str) -> Result<Self, Rejected<Self>>
         ensures chars { IfOk result (λ sum. sum.chars ≡ self.entry.chars ++ chars text.now) }
         ensures mode { IfOk result (λ sum. sum.inline

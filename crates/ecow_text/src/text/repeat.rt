@@ -10,8 +10,8 @@ use ecow_list::EcoError;
 
 impl<const N: usize> SmallText<N> {
     /// The text `count` times over: inline where its bytes come to at most `N`, which is never
-    /// refused, and else spilled. Answers `Capacity` where they come to more than 2^63 - 1, and else
-    /// `Memory`.
+    /// refused, and else spilled. Answers `Capacity` where they come to more than 2^63 - 1, and
+    /// else `Memory`.
     pub fn repeat(&self, count: usize) -> Result<Self, EcoError>
         ensures chars { IfOk result (λ made. made.chars ≡ repeat count self.now.chars) }
         ensures mode { IfOk result (λ made. made.inline

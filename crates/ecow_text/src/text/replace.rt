@@ -19,8 +19,8 @@ use memchr::memmem::Finder;
 
 impl<const N: usize> SmallText<N> {
     /// The text with `replacement` in place of the first `count` occurrences of `pattern`, from the
-    /// left and without overlap; an empty pattern occurs at each boundary, the end too. It is inline
-    /// where it has at most `N` bytes, which is never refused, and else spilled.
+    /// left and without overlap; an empty pattern occurs at each boundary, the end too. It is
+    /// inline where it has at most `N` bytes, which is never refused, and else spilled.
     ///
     /// Answers `Capacity` where it comes to more than 2^63 - 1 bytes, and else `Memory`.
     pub fn replacen(&self, pattern: &str, replacement: &str, count: usize) -> Result<Self, EcoError>

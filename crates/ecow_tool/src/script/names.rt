@@ -6,8 +6,8 @@ use std::collections::{BTreeMap, HashMap};
 /// The most bytes of a name that is kept as a number.
 const SHORT: usize = 7;
 
-/// How many names stand in maps that hash. Who makes a script can choose names that lie close together
-/// there and are found one after another; so further names stand in a tree.
+/// How many names stand in maps that hash. Who makes a script can choose names that lie close
+/// together there and are found one after another; so further names stand in a tree.
 const HASHED: usize = 1024;
 
 /// The names that were read so far, numbered from 0 in the order in which they came.

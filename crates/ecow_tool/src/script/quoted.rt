@@ -35,8 +35,8 @@ impl<'a> Reader<'a> {
     }
 }
 
-/// Reads up to the closing quote into `text`: what stands behind it. Each turn reads one escape, with
-/// what stands before it.
+/// Reads up to the closing quote into `text`: what stands behind it. Each turn reads one escape,
+/// with what stands before it.
 fn read_quoted<'a>(quoted: &'a str, text: &mut String) -> Result<&'a str, Misfit> {
     let mut rest = quoted;
     for _ in 0..quoted.len() {

@@ -32,7 +32,7 @@ pub returns-in-Refused-clause-taken : goal.returns-in-Refused-clause-taken
 returns-in-Refused-clause-taken g c = λ there. (
   refl,
   ap (λ (o : Outcome g.row.T.Denot). refusal_in o) (is_taken c.args.self.now.names c.args.name (Refused c.in-Refused.refusal) c.step.new.self.names c.in-Refused.ensures.verdict there),
-  c.in-Refused.ensures.refused,
+  c.in-Refused.ensures.unchanged,
 )
 
 pub returns-in-Refused-step-clause-run : goal.returns-in-Refused-step-clause-run
@@ -54,7 +54,7 @@ returns-in-Refused-step-clause-moves g c =
     let so_far = c.loop-value.invariant in
     let is = c.in-Refused-step.ensures in
     let next = next_of c.loop-value.accepted c.args.items.items c.in-Some.value _ (sym so_far.left ∙ c.in-Some.ensures.items) in
-    λ clones. subst (λ (k : CountedState g.row.T.Denot). k.moved ≤ c.args.self.now.moved + 2 * c.loop-value.accepted) (sym is.refused) (moves_at_most c.args.self.now.moved c.args.name c.loop-value.accepted c.loop-value.self (so_far.moves clones))
+    λ clones. subst (λ (k : CountedState g.row.T.Denot). k.moved ≤ c.args.self.now.moved + 2 * c.loop-value.accepted) (sym is.unchanged) (moves_at_most c.args.self.now.moved c.args.name c.loop-value.accepted c.loop-value.self (so_far.moves clones))
 
 pub loop-value-preserved : goal.loop-value-preserved
 loop-value-preserved g c =
