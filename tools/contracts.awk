@@ -11,10 +11,11 @@ function heading() {
         block = impl
     }
 }
-FNR == 1 { impl = ""; inside = 0; of_trait = 0 }
+FNR == 1 { impl = ""; inside = 0; of_trait = 0; defines = 0 }
 /^impl/ { impl = $0; sub(/ \{\}?$/, "", impl); of_trait = impl ~ / for / && impl !~ /(Model|Joined|Cased|Copying|Kind).* for /; next }
 /^}/ { impl = ""; of_trait = 0; next }
-of_trait && /^    ghost [a-z_]+ =/ { heading(); line = $0; sub(/;$/, "", line); print line; next }
+of_trait && /^    ghost [a-z_]+ =/ { heading(); defines = 1 }
+defines { defines = !/;$/; sub(/;$/, ""); print; next }
 /^(    )?pub fn / { heading(); inside = 1 }
 of_trait && /^    fn / { heading(); inside = 1 }
 inside && /^ *\{\}?$/ { inside = 0; next }

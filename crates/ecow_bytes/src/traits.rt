@@ -38,11 +38,10 @@ impl<'a, const N: usize> IntoIterator for &'a SmallBytes<N> {
 
     type IntoIter = slice::Iter<'a, u8>;
 
-    ghost into_iter_gives = {
-        λ value it. (iter_rest it ≡ value.now.bytes) × (length (iter_rest it) < 2 ^ 64)
-            × EveryRun (iter_steps {A = ℕ})
-                (λ p. ItemsMapTo p (λ byte. byte.now) (iter_rest p.from))
-    };
+    ghost into_iter_gives = { λ value it. (iter_rest it ≡ value.now.bytes)
+        × (length (iter_rest it) < 2 ^ 64)
+        × EveryRun (iter_steps {A = ℕ})
+        (λ p. ItemsMapTo p (λ byte. byte.now) (iter_rest p.from)) };
 
     #[inline]
     fn into_iter(self) -> slice::Iter<'a, u8> {
@@ -54,9 +53,8 @@ impl<'a, const N: usize> IntoIterator for &'a SmallBytes<N> {
 impl<const N: usize> FromIterator<u8> for SmallBytes<N> {
     type Alloc = Global;
 
-    ghost from_iter_gives = {
-        λ items made. (made.bytes ≡ items) × (made.inline ≡ inline_for N (length items))
-    };
+    ghost from_iter_gives = { λ items made. (made.bytes ≡ items)
+        × (made.inline ≡ inline_for N (length items)) };
 
     fn from_iter<I: IntoIterator<Item = u8>>(alloc: Global, iter: I) -> Result<Self, AllocError> {
         match SmallBytes::from_iter(alloc, iter) {

@@ -42,9 +42,8 @@ impl<T> Model for Counted<T> {
 
     ghost use Rattle.ecow_counted.specs.State.{IsValid};
 
-    ghost invariant = {
-        λ a. IsValid (record { names = a.blocks.names; copied = a.copied; moved = a.moved })
-    };
+    ghost invariant = { λ a. IsValid
+        (record { names = a.blocks.names; copied = a.copied; moved = a.moved }) };
 }
 
 /// A total that stops at the greatest `u64`.

@@ -61,5 +61,5 @@ pub fn capacities_are_exact<T>()
     ensures { (names : Names T) (name : ℕ) (held : Held T) → IsSharing names
         → finite.get names name ≡ Some held
         → counted_carry_out names (Usage.Ask name ListAsk.Capacity)
-            ≡ Ok (Outcome.Count held.capacity, names) }
+        ≡ Ok (Outcome.Count held.capacity, names) }
 {}

@@ -38,11 +38,9 @@ impl<'a, T> IntoIterator for &'a EcoVec<T> {
 
     type IntoIter = slice::Iter<'a, T>;
 
-    ghost into_iter_gives = {
-        λ v it. (iter_rest it ≡ v.now) × (length (iter_rest it) < 2 ^ 64)
-            × EveryRun (iter_steps {A = T})
-                (λ p. ItemsMapTo p (λ element. element.now) (iter_rest p.from))
-    };
+    ghost into_iter_gives = { λ v it. (iter_rest it ≡ v.now) × (length (iter_rest it) < 2 ^ 64)
+        × EveryRun (iter_steps {A = T})
+        (λ p. ItemsMapTo p (λ element. element.now) (iter_rest p.from)) };
 
     #[inline]
     fn into_iter(self) -> slice::Iter<'a, T> {

@@ -20,9 +20,8 @@ impl<const N: usize> fmt::Display for SmallText<N> {
 
 /// What is written is appended: a whole piece, or the error and nothing.
 impl<const N: usize> fmt::Write for SmallText<N> {
-    ghost write_str_gives = {
-        λ old bytes new. encode_utf8_all new.chars ≡ encode_utf8_all old.chars ++ bytes
-    };
+    ghost write_str_gives = { λ old bytes new. encode_utf8_all new.chars
+        ≡ encode_utf8_all old.chars ++ bytes };
 
     fn write_str(&mut self, text: &str) -> fmt::Result
         ensures ok { IsOk result → encode_utf8_all self.new.chars ≡ encode_utf8_all self.old.chars

@@ -20,9 +20,8 @@ use std::hash::{Hash, Hasher};
 impl<const N: usize> PartialEq for SmallText<N> {
     ghost eq = { λ t u. pointwise nat_eq (encode_utf8_all t.chars) (encode_utf8_all u.chars) };
 
-    ghost laws = {
-        on_per (λ t. encode_utf8_all t.chars) (partial_equiv_from_equiv nat_list_eq_equiv)
-    };
+    ghost laws = { on_per (λ t. encode_utf8_all t.chars)
+        (partial_equiv_from_equiv nat_list_eq_equiv) };
 
     #[inline]
     fn eq(&self, other: &Self) -> bool {
@@ -35,9 +34,8 @@ impl<const N: usize> Eq for SmallText<N> {
 }
 
 impl<const N: usize> PartialOrd for SmallText<N> {
-    ghost partial_cmp = {
-        λ t u. Some (slice_cmp nat_cmp (encode_utf8_all t.chars) (encode_utf8_all u.chars))
-    };
+    ghost partial_cmp = { λ t u. Some
+        (slice_cmp nat_cmp (encode_utf8_all t.chars) (encode_utf8_all u.chars)) };
 
     ghost laws = { on_po (λ t. encode_utf8_all t.chars) texts_po };
 
@@ -65,10 +63,8 @@ impl<const N: usize> Ord for SmallText<N> {
 impl<const N: usize> Hash for SmallText<N> {
     ghost hash_input = { λ t. fed.str (encode_utf8_all t.chars) };
 
-    ghost respects_eq = {
-        (on_Alike (λ t. encode_utf8_all t.chars)
-            (same_Alike (λ bytes. fed.str bytes) bytes_decides)).fed
-    };
+    ghost respects_eq = { (on_Alike (λ t. encode_utf8_all t.chars)
+        (same_Alike (λ bytes. fed.str bytes) bytes_decides)).fed };
 
     fn hash<H: Hasher>(&self, state: &mut H) {
         self.as_str().hash(state);

@@ -44,9 +44,8 @@ impl<const N: usize> AsSlice<u8> for SmallText<N> {
 impl<const N: usize> FromIterator<char> for SmallText<N> {
     type Alloc = Global;
 
-    ghost from_iter_gives = {
-        λ items made. (made.chars ≡ items) × (made.inline ≡ inline_for N (utf8_len items))
-    };
+    ghost from_iter_gives = { λ items made. (made.chars ≡ items)
+        × (made.inline ≡ inline_for N (utf8_len items)) };
 
     fn from_iter<I: IntoIterator<Item = char>>(alloc: Global, iter: I) -> Result<Self, AllocError> {
         match SmallText::from_chars(alloc, iter) {
@@ -60,9 +59,8 @@ impl<const N: usize> FromIterator<char> for SmallText<N> {
 impl<'a, const N: usize> FromIterator<&'a str> for SmallText<N> {
     type Alloc = Global;
 
-    ghost from_iter_gives = {
-        λ items made. (made.chars ≡ joined_strs items) × (made.inline ≡ inline_for N (utf8_len made.chars))
-    };
+    ghost from_iter_gives = { λ items made. (made.chars ≡ joined_strs items)
+        × (made.inline ≡ inline_for N (utf8_len made.chars)) };
 
     fn from_iter<I: IntoIterator<Item = &'a str>>(
         alloc: Global,
@@ -80,9 +78,8 @@ impl<'a, const N: usize> FromIterator<&'a str> for SmallText<N> {
 impl<const N: usize> FromIterator<SmallText<N>> for SmallText<N> {
     type Alloc = Global;
 
-    ghost from_iter_gives = {
-        λ items made. (made.chars ≡ joined_texts items) × (made.inline ≡ inline_for N (utf8_len made.chars))
-    };
+    ghost from_iter_gives = { λ items made. (made.chars ≡ joined_texts items)
+        × (made.inline ≡ inline_for N (utf8_len made.chars)) };
 
     fn from_iter<I: IntoIterator<Item = SmallText<N>>>(
         alloc: Global,

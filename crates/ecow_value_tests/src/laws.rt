@@ -95,7 +95,8 @@ impl Eq for LastDigit {
 impl PartialOrd for LastDigit {
     ghost partial_cmp = { as_partial_cmp (on (λ n. n.0 % 10) nat_cmp) };
 
-    ghost laws = { partial_order_from_own_ties (Prim.search (comparing, rules)) (Prim.search (comparing, rules)) };
+    ghost laws = { partial_order_from_own_ties (Prim.search (comparing, rules))
+        (Prim.search (comparing, rules)) };
 
     fn partial_cmp(&self, other: &Self) -> Option<Ordering> {
         Some(self.cmp(other))

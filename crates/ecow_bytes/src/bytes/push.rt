@@ -15,7 +15,7 @@ impl<const N: usize> SmallBytes<N> {
     /// bytes that are shared are copied first.
     ///
     /// A refusal changes nothing: `Capacity` where there are 2^63 - 1 bytes, and else `Memory`.
-    #[inline]
+    #[inline(always)]
     #[tactic(auto, using(crate::proofs::Limits::past_limit, crate::proofs::Moves::put_at_end))]
     pub fn push(&mut self, byte: u8) -> Result<(), EcoError>
         ensures bytes { OnOk result (self.new.bytes ≡ self.old.bytes ++ byte ∷ []) }

@@ -80,7 +80,10 @@ impl<T: Drop> EcoVec<T> {
             if additional > block.capacity() - block.len()
                 && let Err(error) = enlarge(block, additional)
             {
-                return Err(Rejected { error, value: given });
+                return Err(Rejected {
+                    error,
+                    value: given,
+                });
             }
             return edit(block, given).map_err(Rejected::for_memory);
         }

@@ -59,7 +59,8 @@ impl<T: Clone> EcoVec<T> {
     /// Puts the items of `replace_with` in place of the elements of `range`, which `range_in`
     /// tests, and gives these. The vector is final when the call answers. All items are collected
     /// first, and the size hint isn't asked. A shared vector then copies its elements into a block
-    /// of its own, also where nothing changes. Where it has none and gets none, it gives its block
+    /// of its own, also where nothing changes. Its room is that of a new block, and twice as much
+    /// at least where the items need more. A shared empty vector that gets no item gives its block
     /// up.
     ///
     /// A refusal leaves the vector as it was. The items so far are dropped, and no further one is

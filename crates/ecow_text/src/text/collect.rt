@@ -152,9 +152,9 @@ impl<const N: usize> SmallText<N> {
             ((items : List (Bor (List ℕ)))
             × GivesFirst I.into_iter_gives I.IntoIter.next_gives iter items
             × (inline_after N self.old.inline
-                (utf8_len (self.old.chars ++ joined_strs items)) 0 ≡ false)
+            (utf8_len (self.old.chars ++ joined_strs items)) 0 ≡ false)
             × (IsErrOf result EcoError.Capacity
-                ↔ (MAX_LEN < utf8_len (self.old.chars ++ joined_strs items)))
+            ↔ (MAX_LEN < utf8_len (self.old.chars ++ joined_strs items)))
             × LeavesLastOut (λ text. chars text.now) self.old.chars items self.new.chars) }
     {
         self.extend_texts(iter)?;
@@ -176,9 +176,9 @@ impl<const N: usize> SmallText<N> {
             ((items : List T)
             × GivesFirst I.into_iter_gives I.IntoIter.next_gives iter items
             × (inline_after N self.old.inline
-                (utf8_len (self.old.chars ++ joined_by T.text_of items)) 0 ≡ false)
+            (utf8_len (self.old.chars ++ joined_by T.text_of items)) 0 ≡ false)
             × (IsErrOf result EcoError.Capacity
-                ↔ (MAX_LEN < utf8_len (self.old.chars ++ joined_by T.text_of items)))
+            ↔ (MAX_LEN < utf8_len (self.old.chars ++ joined_by T.text_of items)))
             × LeavesLastOut T.text_of self.old.chars items self.new.chars) }
     {
         // For the proof alone: an inline text has at most `N` bytes.
