@@ -13,13 +13,16 @@ const ADDED: [u8; 12] = [46, 47, 48, 49, 50, 51, 52, 53, 54, 55, 56, 57];
 
 const LETTERS: [u8; 40] = *b"abcdefghijklmnopqrstuvwxyz{|}~ABCDEFGHIJ";
 
-pub(crate) const STEPS: [Row; 34] = [
+pub(crate) const STEPS: [Row; 37] = [
     (Word::Push, 0, 0, 1),
     (Word::Insert, 0, 0, 1),
     (Word::Insert, 2, 2, 1),
     (Word::Write, 0, 1, 1),
     (Word::Write, 2, 3, 1),
     (Word::MakeMut, 0, 0, 0),
+    (Word::Rewrite, 0, 0, 0),
+    (Word::Rewrite, 2, 0, 0),
+    (Word::Rewrite, 100, 0, 0),
     (Word::Pop, 0, 0, 0),
     (Word::Remove, 0, 1, 0),
     (Word::Remove, 2, 3, 0),
@@ -168,6 +171,10 @@ fn several<const N: usize>(bytes: &mut SmallBytes<N>, call: &Call) -> Result<boo
 fn shorten<const N: usize>(bytes: &mut SmallBytes<N>, call: &Call) -> Result<bool, EcoError> {
     match call.step.word {
         Word::Truncate => bytes.truncate(call.step.start)?,
+        Word::Rewrite => {
+            let kept = call.step.start;
+            bytes.rewrite(|_| kept)?;
+        }
         Word::Clear => bytes.clear(),
         Word::Shrink => bytes.shrink_to_fit(),
         Word::Reserve => bytes.reserve(call.step.count)?,

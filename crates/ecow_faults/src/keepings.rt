@@ -451,7 +451,8 @@ const OTHERS: [(Verb, usize); 17] = [
 fn is_command(kind: Kind, row: &Row) -> bool {
     let (word, _, _, count) = *row;
     match word {
-        Word::MakeMut | Word::ExtendEach | Word::ExtendPieces | Word::Put => false,
+        Word::MakeMut | Word::Rewrite => false,
+        Word::ExtendEach | Word::ExtendPieces | Word::Put => false,
         Word::Reserve | Word::InsertSlice => kind == Kind::List || count != 2,
         _ => true,
     }

@@ -8,6 +8,8 @@ pub(crate) enum Word {
     Write,
     Update,
     MakeMut,
+    /// The items are lent to a closure, which keeps the first of them.
+    Rewrite,
     Pop,
     Remove,
     Truncate,
@@ -74,7 +76,7 @@ impl Step {
             Word::Reserve | Word::Truncate | Word::Pop | Word::Retain => 0,
             Word::ExtendWithin => self.end.saturating_sub(self.start),
             Word::MakeMut => len.min(1),
-            Word::Upper | Word::Lower | Word::Shrink => 0,
+            Word::Rewrite | Word::Upper | Word::Lower | Word::Shrink => 0,
             _ => self.count,
         };
         Some(Edit { start, end, count })
@@ -87,7 +89,7 @@ impl Step {
             Word::ExtendWithin if self.end <= len => (len, len),
             Word::Upper | Word::Lower | Word::Shrink => (len, len),
             Word::Pop => (len.saturating_sub(1), len),
-            Word::Truncate => (self.start.min(len), len),
+            Word::Truncate | Word::Rewrite => (self.start.min(len), len),
             Word::Clear => (0, len),
             Word::MakeMut => (0, len.min(1)),
             _ => (self.start, self.end),
@@ -123,7 +125,7 @@ impl Step {
             Word::Clear | Word::Shrink => true,
             Word::Truncate if self.start == 0 => true,
             // What is empty is made its own by giving the block up.
-            Word::Retain | Word::MakeMut | Word::Upper | Word::Lower => len == 0,
+            Word::Retain | Word::MakeMut | Word::Rewrite | Word::Upper | Word::Lower => len == 0,
             _ => self.is_nothing(len),
         }
     }
