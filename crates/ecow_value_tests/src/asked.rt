@@ -180,25 +180,26 @@ fn len_of_strs(
     Ok(text.len())
 }
 
+/// Whether characters of two bytes each are asked for once, and for the end.
+fn asks_for_chars(way: Way, alloc: Global, n: usize) -> Result<bool, EcoError> {
+    let mut chars = several(alloc, &'é', n)?;
+    let len = len_of_chars(way, alloc, &mut chars)?;
+    Ok(len == n.wrapping_mul(2) && chars.was_asked(n.wrapping_add(1)))
+}
+
+/// Whether `str`s of two bytes each are.
+fn asks_for_strs(way: Way, alloc: Global, n: usize) -> Result<bool, EcoError> {
+    let mut strs = several(alloc, &"ab", n)?;
+    let len = len_of_strs(way, alloc, &mut strs)?;
+    Ok(len == n.wrapping_mul(2) && strs.was_asked(n.wrapping_add(1)))
+}
+
 #[test]
 fn texts_ask_for_each_item_and_the_end(rt: HostRuntime) -> Result<(), Fail> {
     for way in [Way::Extend, Way::FromIter, Way::Collect] {
         for n in [0usize, 1, 7, 8, 20] {
-            let (asked, bytes) = (n.wrapping_add(1), n.wrapping_mul(2));
-            let mut chars = several(rt.alloc(), &'é', n)?;
-            assert_eq!(rt;
-                len_of_chars(way, rt.alloc(), &mut chars)?,
-                bytes,
-                "{way:?} {n}"
-            );
-            assert!(rt; chars.was_asked(asked), "{way:?} {n}");
-            let mut strs = several(rt.alloc(), &"ab", n)?;
-            assert_eq!(rt;
-                len_of_strs(way, rt.alloc(), &mut strs)?,
-                bytes,
-                "{way:?} {n}"
-            );
-            assert!(rt; strs.was_asked(asked), "{way:?} {n}");
+            assert!(rt; asks_for_chars(way, rt.alloc(), n)?, "{way:?} {n}");
+            assert!(rt; asks_for_strs(way, rt.alloc(), n)?, "{way:?} {n}");
         }
     }
     Ok(())
@@ -209,17 +210,26 @@ fn texts_collected(alloc: Global, items: &mut Asked<EcoString>) -> Result<EcoStr
     Ok(made)
 }
 
+/// Whether texts of two bytes each ask for each and the end.
+fn joins_once(alloc: Global, two: &EcoString, n: usize) -> Result<bool, EcoError> {
+    let mut items = several(alloc, two, n)?;
+    let joined = EcoString::from_eco_strings(alloc, &mut items)?;
+    Ok(joined.len() == n.wrapping_mul(2) && items.was_asked(n.wrapping_add(1)))
+}
+
+/// Whether `collect` of them does.
+fn collects_once(alloc: Global, two: &EcoString, n: usize) -> Result<bool, EcoError> {
+    let mut items = several(alloc, two, n)?;
+    let joined = texts_collected(alloc, &mut items)?;
+    Ok(joined.len() == n.wrapping_mul(2) && items.was_asked(n.wrapping_add(1)))
+}
+
 #[test]
 fn joined_texts_are_asked_for_once(rt: HostRuntime) -> Result<(), Fail> {
     let two = EcoString::from_str(rt.alloc(), "ab")?;
     for n in [0usize, 1, 7, 8, 20] {
-        let (asked, bytes) = (n.wrapping_add(1), n.wrapping_mul(2));
-        let mut items = several(rt.alloc(), &two, n)?;
-        let joined = EcoString::from_eco_strings(rt.alloc(), &mut items)?;
-        assert!(rt; joined.len() == bytes && items.was_asked(asked), "{n}");
-        let mut items = several(rt.alloc(), &two, n)?;
-        let joined = texts_collected(rt.alloc(), &mut items)?;
-        assert!(rt; joined.len() == bytes && items.was_asked(asked), "{n}");
+        assert!(rt; joins_once(rt.alloc(), &two, n)?, "{n}");
+        assert!(rt; collects_once(rt.alloc(), &two, n)?, "{n}");
     }
     Ok(())
 }

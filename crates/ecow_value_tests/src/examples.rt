@@ -63,15 +63,24 @@ fn put_in(
     insert(list, index, word).map_err(error_of)
 }
 
+/// Puts words in one by one.
+fn put_all(
+    list: &mut EcoVec<&'static str>,
+    words: &[(usize, &'static str)],
+) -> Result<(), EcoError> {
+    for (index, word) in words {
+        put_in(list, *index, *word)?;
+    }
+    Ok(())
+}
+
 #[test]
 fn words_are_put_into_two_vectors(rt: HostRuntime) -> Result<(), Fail> {
     let mut first = EcoVec::new(rt.alloc());
-    put_in(&mut first, 0, "okay")?;
-    put_in(&mut first, 0, "reverse")?;
+    put_all(&mut first, &[(0, "okay"), (0, "reverse")])?;
     let mut second = shared(&first)?;
-    put_in(&mut first, 2, "a")?;
-    put_in(&mut first, 1, "b")?;
-    put_in(&mut second, 2, "last")?;
+    put_all(&mut first, &[(2, "a"), (1, "b")])?;
+    put_all(&mut second, &[(2, "last")])?;
     assert!(rt; first.iter().copied().eq(["reverse", "b", "okay", "a"]));
     assert!(rt; second.iter().copied().eq(["reverse", "okay", "last"]));
     Ok(())

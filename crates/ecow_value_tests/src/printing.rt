@@ -42,17 +42,21 @@ const LISTS: [(&[u8], &str); 5] = [
     (&[0; 16], "[0, 0, 0, 0, 0, 0, 0, 0, 0, 0, 0, 0, 0, 0, 0, 0]"),
 ];
 
+/// What a vector, spilled bytes, and bytes in the form that they are made in print.
+fn debugged_lists(alloc: Global, bytes: &[u8]) -> Result<(String, String, String), EcoError> {
+    let list = EcoVec::from_slice(alloc, bytes)?;
+    let spilled = debugged(alloc, EcoBytes::from(list.clone()?))?;
+    let made = debugged(alloc, EcoBytes::from_slice(alloc, bytes)?)?;
+    Ok((debugged(alloc, list)?, spilled, made))
+}
+
 #[test]
 fn lists_and_bytes_are_debugged_as_slices(rt: HostRuntime) -> Result<(), Fail> {
     for (bytes, printed) in LISTS {
-        let list = EcoVec::from_slice(rt.alloc(), bytes)?;
-        assert_eq!(rt; debugged(rt.alloc(), list.clone()?)?.as_str(), printed);
-        assert_eq!(rt;
-            debugged(rt.alloc(), EcoBytes::from(list))?.as_str(),
-            printed
-        );
-        let made = EcoBytes::from_slice(rt.alloc(), bytes)?;
-        assert_eq!(rt; debugged(rt.alloc(), made)?.as_str(), printed);
+        let (list, spilled, made) = debugged_lists(rt.alloc(), bytes)?;
+        assert_eq!(rt; list.as_str(), printed);
+        assert_eq!(rt; spilled.as_str(), printed);
+        assert_eq!(rt; made.as_str(), printed);
     }
     Ok(())
 }
@@ -80,18 +84,21 @@ fn padded(alloc: Global, text: &EcoString) -> Result<String, AllocError> {
     format!(in alloc; "{text:>8}|{text:*^8}|{text:<8}|{text:.2}|{text:-^7.3}|{text:02}|")
 }
 
+/// Texts, and what they are padded to.
+const PADDED: [(&str, &str); 2] = [
+    ("grün", "    grün|**grün**|grün    |gr|--grü--|grün|"),
+    (
+        "0123456789abcdef",
+        "0123456789abcdef|0123456789abcdef|0123456789abcdef|01|--012--|0123456789abcdef|",
+    ),
+];
+
 #[test]
 fn texts_are_padded_by_characters(rt: HostRuntime) -> Result<(), Fail> {
-    let short: EcoString = text(rt.alloc(), "grün")?;
-    let printed = padded(rt.alloc(), &short)?;
-    assert_eq!(rt;
-        printed.as_str(),
-        "    grün|**grün**|grün    |gr|--grü--|grün|"
-    );
-    let long: EcoString = text(rt.alloc(), "0123456789abcdef")?;
-    let printed = padded(rt.alloc(), &long)?;
-    let whole = "0123456789abcdef|0123456789abcdef|0123456789abcdef|01|--012--|0123456789abcdef|";
-    assert_eq!(rt; printed.as_str(), whole);
+    for (of, printed) in PADDED {
+        let made: EcoString = text(rt.alloc(), of)?;
+        assert_eq!(rt; padded(rt.alloc(), &made)?.as_str(), printed);
+    }
     Ok(())
 }
 
