@@ -76,29 +76,36 @@ fn is_by_length(text: &EcoString, wanted: &str) -> bool {
     holds(text, wanted, wanted.len() <= 15)
 }
 
+/// Whether a text has these letters in each case, inline by their length.
+fn has_cases(of: &EcoString, lower: &str, upper: &str) -> Result<bool, EcoError> {
+    let (lowercase, uppercase) = cased(of)?;
+    Ok(is_by_length(&lowercase, lower) && is_by_length(&uppercase, upper))
+}
+
 #[test]
 fn case_is_that_of_unicode(rt: HostRuntime) -> Result<(), Fail> {
     for (of, lower, upper) in CASES {
-        for of in [text(rt.alloc(), of)?, spilled(rt.alloc(), of)?] {
-            let (lowercase, uppercase) = cased(&of)?;
-            assert!(rt; is_by_length(&lowercase, lower), "{lower}");
-            assert!(rt; is_by_length(&uppercase, upper), "{upper}");
-        }
+        let made: EcoString = text(rt.alloc(), of)?;
+        assert!(rt; has_cases(&made, lower, upper)?, "{of}");
+        assert!(rt; has_cases(&spilled(rt.alloc(), of)?, lower, upper)?, "{of}");
     }
     Ok(())
 }
 
-/// A text in ASCII lower and upper case, and put into these where it stands.
-fn in_ascii_case(text: &EcoString) -> Result<[EcoString; 4], EcoError> {
-    let (mut lower, mut upper) = (text.clone()?, text.clone()?);
-    lower.make_ascii_lowercase()?;
-    upper.make_ascii_uppercase()?;
-    Ok([
-        text.to_ascii_lowercase()?,
-        text.to_ascii_uppercase()?,
-        lower,
-        upper,
-    ])
+/// Whether a text in ASCII lower case, made and in place, has these letters in its mode.
+fn is_lowered(of: &EcoString, lower: &str) -> Result<bool, EcoError> {
+    let mut copy = of.clone()?;
+    copy.make_ascii_lowercase()?;
+    let made = of.to_ascii_lowercase()?;
+    Ok(holds(&copy, lower, of.is_inline()) && holds(&made, lower, of.is_inline()))
+}
+
+/// Whether it has them in upper case.
+fn is_raised(of: &EcoString, upper: &str) -> Result<bool, EcoError> {
+    let mut copy = of.clone()?;
+    copy.make_ascii_uppercase()?;
+    let made = of.to_ascii_uppercase()?;
+    Ok(holds(&copy, upper, of.is_inline()) && holds(&made, upper, of.is_inline()))
 }
 
 /// A text, and its ASCII letters in lower and in upper case.
@@ -112,12 +119,16 @@ const LETTERS: [(&str, &str, &str); 4] = [
 #[test]
 fn ascii_case_leaves_all_else_and_the_mode(rt: HostRuntime) -> Result<(), Fail> {
     for (of, lower, upper) in LETTERS {
-        for of in [text(rt.alloc(), of)?, spilled(rt.alloc(), of)?] {
-            let inline = of.is_inline();
-            for (made, wanted) in in_ascii_case(&of)?.iter().zip([lower, upper, lower, upper]) {
-                assert!(rt; holds(made, wanted, inline), "{wanted}");
-            }
-        }
+        let made: EcoString = text(rt.alloc(), of)?;
+        assert!(rt;
+            is_lowered(&made, lower)? && is_raised(&made, upper)?,
+            "{of}"
+        );
+        let long = spilled(rt.alloc(), of)?;
+        assert!(rt;
+            is_lowered(&long, lower)? && is_raised(&long, upper)?,
+            "{of}"
+        );
     }
     Ok(())
 }
