@@ -58,10 +58,11 @@ fn answers(alloc: Global, name: &str, script: &[u8]) -> io::Result<Vec<u8>> {
 
 /// Runs a script, and adds its answer lines, and after them the program's message.
 fn run(alloc: Global, counted: bool, script: &[u8], answers: &mut Vec<u8>) -> io::Result<()> {
+    let mut rest = script;
     let end = if counted {
-        run_counted(alloc, script, &mut *answers)
+        run_counted(alloc, &mut rest, answers)
     } else {
-        run_store(alloc, script, &mut *answers)
+        run_store(alloc, &mut rest, answers)
     };
     if end != End::Done {
         writeln!(answers, "ecow-run: {end}")?;

@@ -141,7 +141,8 @@ fn store_script_holds(alloc: Global, watch: &Watch, script: &[u8], parts: &[Part
     let Ok(mut written) = Vec::with_capacity(alloc, 1000) else {
         return watch.may_refuse();
     };
-    let end = run_store(alloc, script, &mut written);
+    let mut rest = script;
+    let end = run_store(alloc, &mut rest, &mut written);
     if let Some(holds) = lacks(watch, end, written.as_slice()) {
         return holds;
     }
@@ -156,7 +157,8 @@ pub(crate) fn counted_holds(alloc: Global, watch: &Watch) -> bool {
     let Ok(mut written) = Vec::with_capacity(alloc, 1000) else {
         return watch.may_refuse();
     };
-    let end = run_counted(alloc, LISTS, &mut written);
+    let mut script = LISTS;
+    let end = run_counted(alloc, &mut script, &mut written);
     if let Some(holds) = lacks(watch, end, written.as_slice()) {
         return holds;
     }

@@ -14,10 +14,11 @@ fn ended<R: Read + Drop, W: Write + Drop>(
     reader: R,
     writer: W,
 ) -> End {
+    let (mut reader, mut writer) = (reader, writer);
     if counted {
-        run_counted(alloc, reader, writer)
+        run_counted(alloc, &mut reader, &mut writer)
     } else {
-        run_store(alloc, reader, writer)
+        run_store(alloc, &mut reader, &mut writer)
     }
 }
 

@@ -49,8 +49,8 @@ fn run(rt: &HostRuntime, words: &[String]) -> Exit {
         return Exit::Usage;
     };
     Exit::After(match File::open(rt, &words[place]) {
-        Ok(file) if counted => run_counted(rt.alloc(), file, io::writer(rt)),
-        Ok(file) => run_store(rt.alloc(), file, io::writer(rt)),
+        Ok(mut file) if counted => run_counted(rt.alloc(), &mut file, &mut io::writer(rt)),
+        Ok(mut file) => run_store(rt.alloc(), &mut file, &mut io::writer(rt)),
         Err(_) => End::File,
     })
 }

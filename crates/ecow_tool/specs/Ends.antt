@@ -6,10 +6,9 @@ use Rattle.ecow_tool.specs.declared.program.End.{End}
 use Rattle.ecow_tool.specs.declared.program.End.TheVariants as program
 use Rattle.ecow_tool.specs.declared.program.Exit.{Exit}
 use Rattle.ecow_tool.specs.declared.program.Exit.TheVariants.{After, Usage}
-use Rattle.ecow_tool.specs.declared.script.Fault.{Fault}
-use Rattle.ecow_tool.specs.declared.script.Fault.TheVariants as script
-use Rattle.ecow_tool.specs.declared.script.Reason.{Reason}
-use Rattle.ecow_tool.specs.declared.script.Reason.TheVariants as reason
+use Rattle.ecow_script.specs.Reasons.{reason_text}
+use Rattle.ecow_script.specs.declared.script.Fault.{Fault}
+use Rattle.ecow_script.specs.declared.script.Fault.TheVariants as script
 
 -- the end that a fault of a script gives
 abbrev pub end_for : Fault → End
@@ -30,18 +29,6 @@ status_after program.Output = 3
 abbrev pub status_of : Exit → ℕ
 status_of Usage = 2
 status_of (After end) = status_after end
-
--- what was expected where a line doesn't fit
-abbrev pub reason_text : Reason → List ℕ
-reason_text reason.Kind = codes "kind"
-reason_text reason.Command = codes "command"
-reason_text reason.Name = codes "name"
-reason_text reason.Number = codes "number"
-reason_text reason.List = codes "list"
-reason_text reason.Marks = codes "marks"
-reason_text reason.Bounds = codes "bounds"
-reason_text reason.Text = codes "text"
-reason_text reason.Arguments = codes "arguments"
 
 -- what an end says
 abbrev pub end_text : End → List ℕ

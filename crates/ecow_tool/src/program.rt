@@ -1,13 +1,13 @@
 //! The program over any reader and writer.
-ghost use Rattle.std.specs.Prelude.{◌≡◌, ◌<◌, length, IfSome, Some};
+ghost use Rattle.std.specs.Prelude.{◌≡◌, ◌<◌, ◌≤◌, length, List, ℕ, IfOk, IfErr, IfSome, Some};
+ghost use Rattle.std.specs.Io.KnownBytes.{Appends};
+ghost use Rattle.ecow_script.specs.Commands.{counted_form, store_form};
+ghost use Rattle.ecow_script.specs.Runs.{Answers, CountedAnswers};
+ghost use Rattle.ecow_tool.specs.Programs.{EndsBy, EndsReading, EndsWriting, size_limit};
 ghost use Rattle.ecow_tool.specs.Arguments.{asked, is_flag};
-ghost use Rattle.ecow_tool.specs.Ends.{end_text, exit_text, reason_text, status_after, status_of};
+ghost use Rattle.ecow_tool.specs.Ends.{end_text, exit_text, status_after, status_of};
 
-use crate::answer::{write_answer, write_totals};
-use crate::script::{Fault, Reason, read_script};
-use ecow_counted::Counted;
-use ecow_model::Outcome;
-use ecow_store::Store;
+use ecow_script::{Fault, Reason, answers_to, counted_answers_to};
 use std::alloc::{AllocError, Global};
 use std::fmt;
 use std::io::{ErrorKind, Read, Write};
@@ -94,76 +94,78 @@ fn is_flag(word: &String) -> bool
 
 /// Reads a script, carries its commands out on a new `Store`, and writes an answer line for each.
 /// Nothing is written before all lines are made.
-pub fn run_store<R: Read + Drop, W: Write + Drop>(alloc: Global, reader: R, writer: W) -> End {
-    let (mut reader, mut writer) = (reader, writer);
-    match store_answers(alloc, &mut reader) {
-        Ok(answers) => write_out(&mut writer, answers.as_str()),
-        Err(end) => end,
+pub fn run_store<R: Read, W: Write>(alloc: Global, reader: &mut R, writer: &mut W) -> End
+    ensures { IfSome (R.remaining reader.old)
+        (λ bytes. (written : List ℕ)
+        × Appends (W.contents writer.old) (W.contents writer.new) written
+        × EndsBy store_form Answers bytes written result) }
+{
+    let script = match read_script(alloc, reader) {
+        Ok(script) => script,
+        Err(end) => return end,
+    };
+    let Ok(text) = str::from_utf8(script.as_slice()) else {
+        return End::NotUtf8;
+    };
+    match answers_to(alloc, text) {
+        Ok(answers) => write_out(writer, answers.as_bytes()),
+        Err(fault) => End::from(fault),
     }
 }
 
 /// Does the same on a new `Counted`, and writes a last line: the number of blocks, and how many
 /// elements were copied and moved.
-pub fn run_counted<R: Read + Drop, W: Write + Drop>(alloc: Global, reader: R, writer: W) -> End {
-    let (mut reader, mut writer) = (reader, writer);
-    match counted_answers(alloc, &mut reader) {
-        Ok(answers) => write_out(&mut writer, answers.as_str()),
-        Err(end) => end,
+pub fn run_counted<R: Read, W: Write>(alloc: Global, reader: &mut R, writer: &mut W) -> End
+    ensures { IfSome (R.remaining reader.old)
+        (λ bytes. (written : List ℕ)
+        × Appends (W.contents writer.old) (W.contents writer.new) written
+        × EndsBy counted_form CountedAnswers bytes written result) }
+{
+    let script = match read_script(alloc, reader) {
+        Ok(script) => script,
+        Err(end) => return end,
+    };
+    let Ok(text) = str::from_utf8(script.as_slice()) else {
+        return End::NotUtf8;
+    };
+    match counted_answers_to(alloc, text) {
+        Ok(answers) => write_out(writer, answers.as_bytes()),
+        Err(fault) => End::from(fault),
     }
 }
 
-fn store_answers<R: Read>(alloc: Global, reader: &mut R) -> Result<String, End> {
-    let script = read_limited(alloc, reader)?;
-    let mut store = Store::new(alloc);
-    let mut answers = String::new(alloc);
-    read_script(alloc, text_of(script.as_slice())?, |commands| {
-        let Ok(outcomes) = store.run(commands) else {
-            return Err(AllocError);
-        };
-        write_answers(&mut answers, outcomes.as_slice())
-    })?;
-    Ok(answers)
-}
-
-fn counted_answers<R: Read>(alloc: Global, reader: &mut R) -> Result<String, End> {
-    let script = read_limited(alloc, reader)?;
-    let mut counted = Counted::new(alloc);
-    let mut answers = String::new(alloc);
-    read_script(alloc, text_of(script.as_slice())?, |commands| {
-        let Ok(outcomes) = counted.run(commands) else {
-            return Err(AllocError);
-        };
-        write_answers(&mut answers, outcomes.as_slice())
-    })?;
-    write_totals(&mut answers, &counted)?;
-    Ok(answers)
-}
-
-/// The bytes of a script as text.
-fn text_of(script: &[u8]) -> Result<&str, End> {
-    match str::from_utf8(script) {
-        Ok(text) => Ok(text),
-        Err(_) => Err(End::NotUtf8),
+/// Writes all bytes and flushes them, unless the writer fails.
+fn write_out<W: Write>(writer: &mut W, answers: &[u8]) -> End
+    ensures { (written : List ℕ)
+        × Appends (W.contents writer.old) (W.contents writer.new) written
+        × EndsWriting answers.now written result }
+{
+    let mut rest = answers;
+    for _ in 0..u64::MAX {
+        if rest.is_empty() {
+            break;
+        }
+        match writer.write(rest) {
+            Ok(0) => return End::Output,
+            Ok(count) => rest = &rest[count..],
+            Err(error) if error.kind() == ErrorKind::Interrupted => {}
+            Err(_) => return End::Output,
+        }
     }
-}
-
-/// Appends the answer lines of outcomes.
-fn write_answers(answers: &mut String, outcomes: &[Outcome<i64>]) -> Result<(), AllocError> {
-    for outcome in outcomes {
-        write_answer(answers, outcome)?;
-    }
-    Ok(())
-}
-
-fn write_out<W: Write>(writer: &mut W, answers: &str) -> End {
-    if writer.write_all(answers.as_bytes()).is_err() || writer.flush().is_err() {
+    if !rest.is_empty() || writer.flush().is_err() {
         return End::Output;
     }
     End::Done
 }
 
 /// All that the reader gives, if it is within `SIZE_LIMIT`.
-fn read_limited<R: Read>(alloc: Global, reader: &mut R) -> Result<Vec<u8>, End> {
+fn read_script<R: Read>(alloc: Global, reader: &mut R) -> Result<Vec<u8>, End>
+    ensures script { IfOk result
+        (λ script. IfSome (R.remaining reader.old) (λ bytes. script.items ≡ bytes)) }
+    ensures fits { IfOk result (λ script. length script.items ≤ size_limit) }
+    ensures end { IfErr result
+        (λ end. IfSome (R.remaining reader.old) (λ bytes. EndsReading bytes end)) }
+{
     let mut script = Vec::new(alloc);
     let mut piece = [0u8; BYTES_AT_ONCE];
     for _ in 0..u64::MAX {
@@ -232,23 +234,5 @@ impl fmt::Display for End {
             End::Memory => f.write_str("memory"),
             End::Output => f.write_str("output"),
         }
-    }
-}
-
-impl fmt::Display for Reason {
-    ghost output = { λ reason. Some (reason_text reason) };
-
-    fn fmt<W: fmt::Write>(&self, f: &mut fmt::Formatter<W>) -> fmt::Result {
-        f.write_str(match self {
-            Reason::Kind => "kind",
-            Reason::Command => "command",
-            Reason::Name => "name",
-            Reason::Number => "number",
-            Reason::List => "list",
-            Reason::Marks => "marks",
-            Reason::Bounds => "bounds",
-            Reason::Text => "text",
-            Reason::Arguments => "arguments",
-        })
     }
 }

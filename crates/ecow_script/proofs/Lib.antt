@@ -1,0 +1,10 @@
+pub mod Digits
+pub mod PartsLemmas
+pub mod Cuts
+pub mod LinesLemmas
+pub mod NamesLemmas
+pub mod QuotedLemmas
+pub mod NumbersAgain
+pub mod ListsAgain
+pub mod TextsAgain
+pub mod WordsAgain

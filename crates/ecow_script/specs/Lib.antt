@@ -1,0 +1,17 @@
+pub mod Answers
+pub mod Numbers
+pub mod Outcomes
+pub mod Parts
+pub mod Words
+pub mod Forms
+pub mod ListCommands
+pub mod BytesCommands
+pub mod TextCommands
+pub mod Commands
+pub mod Scripts
+pub mod Reasons
+pub mod Naming
+pub mod Quoted
+pub mod QuotedViews
+pub mod Runs
+pub mod RunLaws

@@ -1,0 +1,21 @@
+//! Scripts and answers: the text of commands, read and carried out, and the text of their outcomes.
+#![tactic(auto)]
+
+mod answer;
+mod commands;
+mod counted;
+pub mod laws;
+mod lists;
+mod names;
+mod numbers;
+mod quoted;
+mod reason;
+mod run;
+mod script;
+mod store;
+mod words;
+
+pub use counted::counted_answers_to;
+pub use reason::Reason;
+pub use script::Fault;
+pub use store::answers_to;

@@ -1,0 +1,181 @@
+//! The numbers of names.
+ghost use Rattle.std.specs.Prelude.{◌≡◌, ◌∷◌, [], ◌++◌, length, IsNone, IfOk, OnOk, OnErr, map, None, List, ℕ, Some, if◌then◌else◌, nat_eq};
+ghost use Rattle.std.specs.Str.{bytes_eq};
+ghost use Rattle.ecow_script.specs.Words.{number_of};
+ghost use Rattle.ecow_script.specs.Naming.{packed, number_at, by_key, short_at, long_at, further_at, IsBytes};
+
+use ecow_model::Name;
+use std::alloc::{AllocError, Global};
+use std::collections::{BTreeMap, HashMap};
+use std::marker::Model;
+
+/// The most bytes of a name that is kept as a number.
+const SHORT: usize = 7;
+
+/// How many names stand in maps that hash. Who makes a script can choose names that lie close
+/// together there and are found one after another; so further names stand in a tree.
+const HASHED: usize = 1024;
+
+/// The names that were read so far, numbered from 0 in the order in which they came.
+#[derive(Drop)]
+pub(crate) struct Names<'a> {
+    words: Vec<&'a str>,
+    maps: Maps<'a>,
+}
+
+/// The numbers of names.
+#[derive(Drop)]
+pub(crate) struct Maps<'a> {
+    short: HashMap<u64, Name>,
+    long: HashMap<&'a str, Name>,
+    further: BTreeMap<&'a str, Name>,
+}
+
+impl<'a> Maps<'a> {
+    fn new(alloc: Global) -> Self
+        ensures { (word : List ℕ) → number_at result word ≡ None }
+    {
+        Maps {
+            short: HashMap::new(alloc),
+            long: HashMap::new(alloc),
+            further: BTreeMap::new(alloc),
+        }
+    }
+
+    /// The number that is kept for a word.
+    fn get(&self, word: &'a str) -> Option<Name>
+        ensures { result ≡ number_at self.now word.now }
+    {
+        match self.hashed(word) {
+            Some(number) => Some(number),
+            None => self.further.get(&word).copied(),
+        }
+    }
+
+    fn hashed(&self, word: &'a str) -> Option<Name>
+        ensures { result ≡ by_key (short_at self.now.short) (packed word.now)
+            (long_at self.now.long word.now) }
+    {
+        match packed(word.as_bytes()) {
+            Some(key) => self.short.get(&key).copied(),
+            None => self.long.get(&word).copied(),
+        }
+    }
+
+    /// Keeps a number for a word that has none.
+    fn put(&mut self, word: &'a str, number: Name) -> Result<(), AllocError>
+        requires { number_at self.old word.now ≡ None }
+        ensures ok { OnOk result ((w : List ℕ) → IsBytes w
+            → number_at self.new w
+            ≡ (if bytes_eq word.now w then Some number else number_at self.old w)) }
+        ensures unchanged { OnErr result
+            ((w : List ℕ) → number_at self.new w ≡ number_at self.old w) }
+    {
+        if self.short.len().saturating_add(self.long.len()) >= HASHED {
+            return put_further(&mut self.further, word, number);
+        }
+        match packed(word.as_bytes()) {
+            Some(key) => put_short(&mut self.short, key, number),
+            None => put_long(&mut self.long, word, number),
+        }
+    }
+}
+
+fn put_short(map: &mut HashMap<u64, Name>, key: u64, number: Name) -> Result<(), AllocError>
+    ensures ok { OnOk result ((q : ℕ)
+        → short_at map.new q ≡ (if nat_eq key q then Some number else short_at map.old q)) }
+    ensures unchanged { OnErr result ((q : ℕ) → short_at map.new q ≡ short_at map.old q) }
+{
+    map.insert(key, number)?;
+    Ok(())
+}
+
+fn put_long<'a>(
+    map: &mut HashMap<&'a str, Name>,
+    word: &'a str,
+    number: Name,
+) -> Result<(), AllocError>
+    ensures ok { OnOk result ((q : List ℕ)
+        → long_at map.new q ≡ (if bytes_eq word.now q then Some number else long_at map.old q)) }
+    ensures unchanged { OnErr result ((q : List ℕ) → long_at map.new q ≡ long_at map.old q) }
+{
+    map.insert(word, number)?;
+    Ok(())
+}
+
+fn put_further<'a>(
+    map: &mut BTreeMap<&'a str, Name>,
+    word: &'a str,
+    number: Name,
+) -> Result<(), AllocError>
+    ensures ok { OnOk result ((q : List ℕ)
+        → further_at map.new q
+        ≡ (if bytes_eq word.now q then Some number else further_at map.old q)) }
+    ensures unchanged { OnErr result ((q : List ℕ) → further_at map.new q ≡ further_at map.old q) }
+{
+    map.insert(word, number)?;
+    Ok(())
+}
+
+/// A short word as a number, which is found sooner than its bytes: the length, and then the bytes.
+/// So different words have different numbers.
+fn packed(word: &[u8]) -> Option<u64>
+    ensures { result ≡ packed word.now }
+{
+    if word.len() > SHORT {
+        return None;
+    }
+    let mut key = word.len() as u64;
+    for byte in word {
+        key = key * 256 + u64::from(*byte);
+    }
+    Some(key)
+}
+
+impl<'a> Model for Names<'a> {
+    ghost use Rattle.std.specs.Prelude.{◌≡◌, List, ℕ, map};
+    ghost use Rattle.ecow_script.specs.Naming.{number_at, IsBytes};
+    ghost use Rattle.ecow_script.specs.Words.{number_of};
+
+    ghost Value = { List (List ℕ) };
+
+    ghost view = { λ a. map (λ w. w.now) a.words.items };
+
+    ghost invariant = { λ a. (word : List ℕ) → IsBytes word
+        → number_at a.maps word ≡ number_of word (map (λ w. w.now) a.words.items) };
+}
+
+impl<'a> Names<'a> {
+    /// No names. Takes no memory.
+    pub(crate) fn new(alloc: Global) -> Self
+        ensures { result ≡ [] }
+    {
+        Names {
+            words: Vec::new(alloc),
+            maps: Maps::new(alloc),
+        }
+    }
+
+    /// The number of a name that was read before.
+    pub(crate) fn get(&self, word: &'a str) -> Option<Name>
+        ensures { result ≡ number_of word.now self.now }
+    {
+        self.maps.get(word)
+    }
+
+    /// Gives a new name the next number.
+    pub(crate) fn add(&mut self, word: &'a str) -> Result<Name, AllocError>
+        requires { number_of word.now self.old ≡ None }
+        ensures number { IfOk result (λ number. number ≡ length self.old) }
+        ensures ok { OnOk result (self.new ≡ self.old ++ word.now ∷ []) }
+        ensures unchanged { OnErr result (self.new ≡ self.old) }
+    {
+        let Ok(number) = Name::try_from(self.words.len()) else {
+            return Err(AllocError);
+        };
+        self.words.reserve(1)?;
+        self.maps.put(word, number)?;
+        self.words.push_reserved(word);
+        Ok(number)
+    }
+}

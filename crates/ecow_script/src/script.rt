@@ -1,0 +1,221 @@
+//! Scripts: the text of a file, read into commands.
+ghost use Rattle.std.specs.Prelude.{◌≡◌, ◌<◌, ◌≤◌, ◌+◌, ◌^◌, [], List, ℕ, length, IfOk, IfErr, OnOk, IsTrue, OnSome, IfSome, Ok, MatchOption, MatchBool, ◌++◌};
+ghost use Rattle.std.specs.Option.{option_to_list};
+ghost use Rattle.std.specs.Bool.{OnTrue, OnFalse};
+ghost use Rattle.std.specs.List.{before_first, after_first, position_or_len, position};
+ghost use Rattle.ecow_script.specs.Words.{Reading, Reads, place};
+ghost use Rattle.ecow_script.specs.Scripts.{script_lines, without_return, is_feed, is_comment, line_command, ended, whole_command, commands_ahead, with_front, with_command, unread, IsFaultOf};
+
+use crate::reason::{Misfit, Reason};
+use crate::words::Reader;
+use memchr::memchr;
+use std::alloc::{AllocError, AllocFailed, Global};
+use std::marker::Model;
+
+/// How many commands are read before they are carried out.
+const COMMANDS_AT_ONCE: usize = 1024;
+
+/// Why a script was not read.
+#[derive(Clone, Copy, Debug, PartialEq, Eq)]
+pub enum Fault {
+    /// A line, counted from 1, doesn't fit.
+    Unreadable(usize, Reason),
+    /// There was no memory.
+    Memory,
+}
+
+/// Commands that are read from a script.
+pub(crate) trait Scripted: Drop + Sized {
+    /// The form of a command behind its first word.
+    ghost form: { List ℕ → Reading Self };
+
+    /// The command on a line, of which `kind` is the first word.
+    fn read<'a>(reader: &mut Reader<'a>, kind: &str) -> Result<Self, Misfit>
+        ensures { Reads (form kind.now) reader.old result reader.new };
+}
+
+impl From<AllocError> for Fault {
+    ghost use Rattle.std.specs.Prelude.{◌≡◌};
+    ghost use Rattle.ecow_script.specs.declared.script.Fault.{Fault};
+
+    ghost from_gives = { λ _ fault. fault ≡ Fault.Memory };
+
+    fn from(_: AllocError) -> Fault {
+        Fault::Memory
+    }
+}
+
+impl<T: Drop> From<AllocFailed<T>> for Fault {
+    ghost use Rattle.std.specs.Prelude.{◌≡◌};
+    ghost use Rattle.ecow_script.specs.declared.script.Fault.{Fault};
+
+    ghost from_gives = { λ _ fault. fault ≡ Fault.Memory };
+
+    fn from(_: AllocFailed<T>) -> Fault {
+        Fault::Memory
+    }
+}
+
+/// What is left of a script.
+#[derive(Drop)]
+pub(crate) struct Script<'a> {
+    alloc: Global,
+    reader: Reader<'a>,
+    text: &'a str,
+    number: usize,
+    ghost counted: { number + length text.now < 2 ^ 64 },
+}
+
+impl<'a> Model for Script<'a> {
+    ghost use Rattle.ecow_script.specs.Scripts.{Unread, unread};
+
+    ghost Value = { Unread };
+
+    ghost view = { λ a. unread a.text.now a.number a.reader.names };
+}
+
+impl<'a> Script<'a> {
+    /// The whole of a script.
+    pub(crate) fn new(alloc: Global, text: &'a str) -> Self
+        requires { length text.now < 2 ^ 63 }
+        ensures { result ≡ unread text.now 1 [] }
+    {
+        Script {
+            alloc,
+            reader: Reader::new(alloc),
+            text,
+            number: 1,
+        }
+    }
+
+    /// The next commands, at most `COMMANDS_AT_ONCE`; none where the script is at its end.
+    #[tactic(auto, using(crate::proofs::LinesLemmas::front_behind, crate::proofs::LinesLemmas::front_nil))]
+    pub(crate) fn next_piece<C: Scripted>(&mut self) -> Result<Vec<C>, Fault>
+        ensures commands { IfOk result
+            (λ piece. commands_ahead C.form self.old
+            ≡ with_front piece.items (commands_ahead C.form self.new)) }
+        ensures end { IfOk result
+            (λ piece. length piece.items ≡ 0 → length self.new.text ≡ 0) }
+        ensures shorter { IfOk result
+            (λ piece. 0 < length piece.items → length self.new.text < length self.old.text) }
+        ensures fault { IfErr result (λ fault. IsFaultOf fault (commands_ahead C.form self.old)) }
+    {
+        let mut piece = Vec::with_capacity(self.alloc, COMMANDS_AT_ONCE)?;
+        while piece.len() < COMMANDS_AT_ONCE && !self.text.is_empty() {
+            let command = self.next_line()?;
+            put(&mut piece, command)?;
+        }
+        Ok(piece)
+    }
+
+    /// The command on the next line, if there is one on it.
+    #[tactic(auto, using(crate::proofs::LinesLemmas::commands_step))]
+    fn next_line<C: Scripted>(&mut self) -> Result<Option<C>, Fault>
+        requires { 0 < length self.old.text }
+        ensures shorter { OnOk result (length self.new.text < length self.old.text) }
+        ensures commands { IfOk result
+            (λ command. commands_ahead C.form self.old
+            ≡ with_command command (commands_ahead C.form self.new)) }
+        ensures fault { IfErr result (λ fault. IsFaultOf fault (commands_ahead C.form self.old)) }
+    {
+        let (line, rest) = first_line(self.text);
+        let number = self.number;
+        self.text = rest;
+        self.number += 1;
+        match self.reader.read_line(line) {
+            Ok(command) => Ok(command),
+            Err(Misfit::Expected(reason)) => Err(Fault::Unreadable(number, reason)),
+            Err(Misfit::Memory) => Err(Fault::Memory),
+        }
+    }
+}
+
+fn put<C: Drop>(piece: &mut Vec<C>, command: Option<C>) -> Result<(), AllocError>
+    ensures { OnOk result (piece.new.items ≡ piece.old.items ++ option_to_list command) }
+{
+    if let Some(command) = command {
+        piece.push(command)?;
+    }
+    Ok(())
+}
+
+impl<'a> Reader<'a> {
+    /// The command on a line; none on a line of blanks, and none on a comment.
+    fn read_line<C: Scripted>(&mut self, line: &'a str) -> Result<Option<C>, Misfit>
+        ensures { Reads (line_command C.form) (place line.now self.old.names) result self.new }
+    {
+        self.begin(line);
+        let Some(kind) = self.next_word() else {
+            return Ok(None);
+        };
+        if is_comment(kind) {
+            return Ok(None);
+        }
+        let command = C::read(self, kind)?;
+        self.ended(command)
+    }
+
+    fn ended<C: Drop>(&mut self, command: C) -> Result<Option<C>, Misfit>
+        ensures { Reads (ended (Some command)) self.old result self.new }
+    {
+        match self.next_word() {
+            None => Ok(Some(command)),
+            Some(_) => Err(Misfit::Expected(Reason::Arguments)),
+        }
+    }
+}
+
+fn is_comment(kind: &str) -> bool
+    ensures { result ≡ is_comment kind.now }
+{
+    match kind.as_bytes() {
+        [b'#', ..] => true,
+        _ => false,
+    }
+}
+
+/// A text up to its first line feed without a carriage return before that, and what stands behind
+/// it.
+fn first_line(text: &str) -> (&str, &str)
+    requires { 0 < length text.now }
+    ensures line { result.0.now ≡ without_return (before_first is_feed text.now) }
+    ensures rest { result.1.now ≡ after_first is_feed text.now }
+    ensures shorter { length result.1.now < length text.now }
+{
+    let feed = feed_at(text.as_bytes());
+    let line = without_return(text.split_at(feed).0);
+    if feed < text.len() {
+        (line, text.split_at(feed + 1).1)
+    } else {
+        (line, "")
+    }
+}
+
+/// How many bytes stand before the first line feed: all where there is none.
+#[tactic(auto, using(crate::proofs::Digits::or_all))]
+fn feed_at(bytes: &[u8]) -> usize
+    ensures value { result ≡ position_or_len is_feed bytes.now }
+    ensures within { result ≤ length bytes.now }
+{
+    first_feed(bytes).unwrap_or(bytes.len())
+}
+
+fn first_feed(bytes: &[u8]) -> Option<usize>
+    ensures { result ≡ position is_feed bytes.now }
+{
+    memchr(b'\n', bytes)
+}
+
+#[tactic(auto, using(crate::proofs::LinesLemmas::return_push, std::proofs::lemmas::List::take_at))]
+fn without_return(line: &str) -> &str
+    ensures { result.now ≡ without_return line.now }
+{
+    let Some((last, kept)) = line.as_bytes().split_last() else {
+        return line;
+    };
+    if *last == b'\r' {
+        line.split_at(kept.len()).0
+    } else {
+        line
+    }
+}
