@@ -1,6 +1,6 @@
 //! The program over any reader and writer.
-ghost use Rattle.std.specs.Prelude.{◌≡◌, ◌<◌, ◌≤◌, length, List, ℕ, IfOk, IfErr, IfSome, Some};
-ghost use Rattle.std.specs.Io.KnownBytes.{Appends};
+ghost use Rattle.std.specs.Prelude.{◌≡◌, ◌<◌, ◌≤◌, ◌++◌, [], length, List, ℕ, IfOk, OnOk, IfErr, IfSome, IsNone, IsTrue, Some};
+ghost use Rattle.std.specs.Io.KnownBytes.{Appends, Consumes, IsAtEnd};
 ghost use Rattle.ecow_script.specs.Commands.{counted_form, store_form};
 ghost use Rattle.ecow_script.specs.Runs.{Answers, CountedAnswers};
 ghost use Rattle.ecow_tool.specs.Programs.{EndsBy, EndsReading, EndsWriting, size_limit};
@@ -145,17 +145,44 @@ fn write_out<W: Write>(writer: &mut W, answers: &[u8]) -> End
         if rest.is_empty() {
             break;
         }
-        match writer.write(rest) {
-            Ok(0) => return End::Output,
-            Ok(count) => rest = &rest[count..],
-            Err(error) if error.kind() == ErrorKind::Interrupted => {}
-            Err(_) => return End::Output,
-        }
+        let Some(left) = write_some(writer, rest) else {
+            return End::Output;
+        };
+        rest = left;
     }
-    if !rest.is_empty() || writer.flush().is_err() {
-        return End::Output;
+    if is_flushed(writer, rest) {
+        End::Done
+    } else {
+        End::Output
     }
-    End::Done
+}
+
+/// Writes some of the bytes, none after an interruption: those that are left. `None` where the
+/// writer fails.
+fn write_some<'a, W: Write>(writer: &mut W, bytes: &'a [u8]) -> Option<&'a [u8]>
+    ensures written { IfSome result
+        (λ rest. (written : List ℕ)
+        × Appends (W.contents writer.old) (W.contents writer.new) written
+        × (bytes.now ≡ written ++ rest.now)) }
+    ensures nothing { IsNone result → Appends (W.contents writer.old) (W.contents writer.new) [] }
+{
+    match writer.write(bytes) {
+        Ok(0) => None,
+        Ok(count) => Some(&bytes[count..]),
+        Err(error) if error.kind() == ErrorKind::Interrupted => Some(bytes),
+        Err(_) => None,
+    }
+}
+
+/// Whether no byte is left to write, and what was written is flushed.
+fn is_flushed<W: Write>(writer: &mut W, rest: &[u8]) -> bool
+    ensures whole { IsTrue result → rest.now ≡ [] }
+    ensures nothing { Appends (W.contents writer.old) (W.contents writer.new) [] }
+{
+    if !rest.is_empty() {
+        return false;
+    }
+    writer.flush().is_ok()
 }
 
 /// All that the reader gives, if it is within `SIZE_LIMIT`.
@@ -169,19 +196,38 @@ fn read_script<R: Read>(alloc: Global, reader: &mut R) -> Result<Vec<u8>, End>
     let mut script = Vec::new(alloc);
     let mut piece = [0u8; BYTES_AT_ONCE];
     for _ in 0..u64::MAX {
-        match reader.read(&mut piece) {
-            Ok(0) => return Ok(script),
-            Ok(count) => {
-                script.extend_from_slice(&piece[..count])?;
-                if script.len() > SIZE_LIMIT {
-                    return Err(End::TooLarge);
-                }
-            }
-            Err(error) if error.kind() == ErrorKind::Interrupted => {}
-            Err(_) => return Err(End::File),
+        if read_piece(reader, &mut piece, &mut script)? {
+            return Ok(script);
         }
     }
     Err(End::File)
+}
+
+/// Appends what one read gives, nothing after an interruption: whether the reader is at its end.
+fn read_piece<R: Read>(reader: &mut R, piece: &mut [u8], script: &mut Vec<u8>) -> Result<bool, End>
+    requires room { 0 < length piece.old }
+    requires fits { length script.old.items ≤ size_limit }
+    ensures read { OnOk result ((bytes : List ℕ)
+        × (script.new.items ≡ script.old.items ++ bytes)
+        × Consumes (R.remaining reader.old) (R.remaining reader.new) bytes) }
+    ensures ended { IfOk result (λ ended. IsTrue ended → IsAtEnd (R.remaining reader.new)) }
+    ensures fits { OnOk result (length script.new.items ≤ size_limit) }
+    ensures room { length piece.new ≡ length piece.old }
+    ensures end { IfErr result (λ end. IfSome (R.remaining reader.old)
+        (λ bytes. EndsReading (script.old.items ++ bytes) end)) }
+{
+    match reader.read(piece) {
+        Ok(0) => Ok(true),
+        Ok(count) => {
+            script.extend_from_slice(&piece[..count])?;
+            if script.len() > SIZE_LIMIT {
+                return Err(End::TooLarge);
+            }
+            Ok(false)
+        }
+        Err(error) if error.kind() == ErrorKind::Interrupted => Ok(false),
+        Err(_) => Err(End::File),
+    }
 }
 
 impl End {
