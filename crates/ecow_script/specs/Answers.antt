@@ -16,6 +16,7 @@ abbrev pub items_behind : {A : Type 0} → List ℕ → (A → List ℕ) → Lis
 items_behind before show [] = []
 items_behind before show (x ∷ xs) = before ++ show x ++ items_behind (codes ",") show xs
 
+-- values parted by commas
 abbrev pub items_text : {A : Type 0} → (A → List ℕ) → List A → List ℕ
 items_text show xs = items_behind [] show xs
 
@@ -38,6 +39,7 @@ escaped c =
 abbrev pub text_form : List ℕ → List ℕ
 text_form cs = codes "\"" ++ flat_map escaped cs ++ codes "\""
 
+-- the word for a refusal
 abbrev pub refusal_word : Refusal → List ℕ
 refusal_word NoName = codes "no-name"
 refusal_word Taken = codes "taken"
@@ -50,10 +52,12 @@ refusal_word NotUtf8 = codes "not-utf8"
 refusal_word Capacity = codes "capacity"
 refusal_word Memory = codes "memory"
 
+-- a value that may be absent
 abbrev pub or_none : {A : Type 0} → (A → List ℕ) → Option A → List ℕ
 or_none show (Some x) = show x
 or_none show None = codes "none"
 
+-- what an outcome says, without the end of its line
 abbrev pub answer : Outcome ℤ → List ℕ
 answer Done = codes "ok"
 answer (Element value) = signed_decimal value

@@ -7,6 +7,7 @@ use Rattle.ecow_script.specs.declared.commands.bytes.BytesWord.TheVariants as wo
 use Rattle.ecow_model.specs.declared.bytes.BytesCommand.{BytesCommand}
 use Rattle.ecow_model.specs.declared.bytes.BytesCommand.TheVariants.{New, TryInline, WithCapacity, FromList, FromEcoVec, FromText, Clone, Drop, Push, Pop, Insert, Remove, Extend, InsertSlice, Truncate, Clear, Reserve, Write, Read, Repeat, ShrinkToFit, Len, Capacity, Contents, IsInline}
 
+-- the words of the commands
 abbrev pub bytes_words : List (List ℕ × BytesWord)
 bytes_words =
     (codes "new", word.New)
@@ -36,6 +37,7 @@ bytes_words =
     ∷ (codes "is_inline", word.IsInline)
     ∷ []
 
+-- the command that a word stands for
 abbrev pub bytes_word : List ℕ → Option BytesWord
 bytes_word bytes = beside bytes bytes_words
 

@@ -11,12 +11,14 @@ one make a = do
   x ← a
   gives (make x)
 
+-- what is made of two arguments
 abbrev pub two : {A B C : Type 0} → (A → B → C) → Reading A → Reading B → Reading C
 two make a b = do
   x ← a
   y ← b
   gives (make x y)
 
+-- what is made of three arguments
 abbrev pub three : {A B C D : Type 0} → (A → B → C → D) → Reading A → Reading B → Reading C
     → Reading D
 three make a b c = do
@@ -25,6 +27,7 @@ three make a b c = do
   z ← c
   gives (make x y z)
 
+-- what is made of five arguments
 abbrev pub five : {A B C D E F : Type 0} → (A → B → C → D → E → F) → Reading A
     → Reading B → Reading C → Reading D → Reading E → Reading F
 five make a b c d e = do

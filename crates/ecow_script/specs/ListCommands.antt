@@ -7,6 +7,7 @@ use Rattle.ecow_script.specs.declared.commands.lists.ListWord.TheVariants as wor
 use Rattle.ecow_model.specs.declared.lists.VecCommand.{VecCommand}
 use Rattle.ecow_model.specs.declared.lists.VecCommand.TheVariants.{New, WithCapacity, FromList, FromElem, Clone, Drop, Push, Pop, Insert, Remove, Write, Truncate, Clear, Retain, Drain, Splice, Extend, Reserve, Read, Len, Contents, Capacity, Unique}
 
+-- the words of the commands
 abbrev pub list_words : List (List ℕ × ListWord)
 list_words =
     (codes "new", word.New)
@@ -34,6 +35,7 @@ list_words =
     ∷ (codes "unique", word.Unique)
     ∷ []
 
+-- the command that a word stands for
 abbrev pub list_word : List ℕ → Option ListWord
 list_word bytes = beside bytes list_words
 

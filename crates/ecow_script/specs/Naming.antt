@@ -10,9 +10,11 @@ use Rattle.std.specs.BTreeMap as tree
 use denote.Ref.{Bor}
 use Rattle.ecow_script.specs.declared.names.Maps.{Maps}
 
+-- each of these is a byte
 abbrev pub IsBytes : List ℕ → Type 0
 IsBytes word = (i : ℕ) → slice_index word i < 256
 
+-- the number whose base-256 digits are those of `key` and then these
 abbrev pub key_behind : ℕ → List ℕ → ℕ
 key_behind key [] = key
 key_behind key (b ∷ bs) = key_behind (key * 256 + b) bs
@@ -21,10 +23,12 @@ key_behind key (b ∷ bs) = key_behind (key * 256 + b) bs
 abbrev pub packed : List ℕ → Option ℕ
 packed word = if nat_le (length word) 7 then Some (key_behind (length word) word) else None
 
+-- a number, or where there is none another
 abbrev pub or_else : Option ℕ → Option ℕ → Option ℕ
 or_else (Some x) o = Some x
 or_else None o = o
 
+-- the number of a short word by its key, and of a long one by itself
 abbrev pub by_key : (ℕ → Option ℕ) → Option ℕ → Option ℕ → Option ℕ
 by_key short (Some key) long = short key
 by_key short None long = long
@@ -34,12 +38,15 @@ abbrev pub kept : (ℕ → Option ℕ) → (List ℕ → Option ℕ) → (List �
     → List ℕ → Option ℕ
 kept short long further word = or_else (by_key short (packed word) (long word)) (further word)
 
+-- the number under a key
 abbrev pub short_at : {S : Type 0} → HashMap ℕ ℕ S → ℕ → Option ℕ
 short_at m key = hash.get nat_eq m key
 
+-- the number under a word, among those that are hashed
 abbrev pub long_at : {S : Type 0} → HashMap (Bor (List ℕ)) ℕ S → List ℕ → Option ℕ
 long_at m word = hash.get_by (λ k. bytes_eq word k.now) m
 
+-- the number under a word, among those in the tree
 abbrev pub further_at : BTreeMap (Bor (List ℕ)) ℕ → List ℕ → Option ℕ
 further_at m word = tree.get_by (λ k. slice_cmp nat_cmp word k.now) m
 

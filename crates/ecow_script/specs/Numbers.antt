@@ -6,10 +6,12 @@ use Rattle.std.specs.declared.ops.Bound.{Bound}
 use Rattle.std.specs.declared.ops.Bound.TheVariants.{Included, Excluded, Unbounded}
 
 infixl 10 ◌>>=◌
+-- a value that may be absent, and then another that it decides
 abbrev pub ◌>>=◌ : {A B : Type 0} → Option A → (A → Option B) → Option B
 (Some x) >>= f = f x
 None >>= f = None
 
+-- a decimal digit
 abbrev pub is_digit : ℕ → Bool
 is_digit c = nat_le 48 c && nat_le c 57
 
@@ -23,6 +25,7 @@ abbrev pub number_in : List ℕ → Option ℕ
 number_in [] = None
 number_in (c ∷ cs) = digits_behind 0 (c ∷ cs)
 
+-- a number that is not too great
 abbrev pub up_to : ℕ → Option ℕ → Option ℕ
 up_to most None = None
 up_to most (Some n) = if nat_le n most then Some n else None
@@ -35,6 +38,7 @@ count_in word = up_to 18446744073709551615 (number_in word)
 abbrev pub byte_in : List ℕ → Option ℕ
 byte_in word = up_to 255 (number_in word)
 
+-- the negative of a number
 abbrev pub negative : ℕ → ℤ
 negative n = pos 0 -ℤ pos n
 
@@ -80,6 +84,7 @@ list_in read word = do
 abbrev pub mark_in : ℕ → Option Bool
 mark_in c = if c == 43 then Some true else if c == 45 then Some false else None
 
+-- what each byte marks
 abbrev pub each_mark : List ℕ → Option (List Bool)
 each_mark [] = Some []
 each_mark (c ∷ cs) = do
@@ -93,6 +98,7 @@ marks_in word = do
   inner ← bracketed word
   each_mark inner
 
+-- a dot
 abbrev pub is_dot : ℕ → Bool
 is_dot c = c == 46
 
@@ -103,6 +109,7 @@ start_in (c ∷ cs) =
     if c == 62 then option_map Excluded (count_in cs)
     else option_map Included (count_in (c ∷ cs))
 
+-- an index behind its sign, where the range ends
 abbrev pub end_in : List ℕ → Option (Bound ℕ)
 end_in [] = Some Unbounded
 end_in (c ∷ cs) =

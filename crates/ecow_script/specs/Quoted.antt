@@ -14,6 +14,7 @@ hex_behind n (c ∷ cs) =
 abbrev pub is_scalar : ℕ → Bool
 is_scalar n = nat_lt n 55296 || nat_le 57344 n && nat_lt n 1114112
 
+-- a number that is a Unicode scalar value
 abbrev pub scalar : Option ℕ → Option ℕ
 scalar None = None
 scalar (Some n) = if is_scalar n then Some n else None
@@ -47,6 +48,7 @@ behind_char (Some c) spelled = behind_bytes (encode_utf8 c) spelled
 
 -- the bytes that are spelled up to the closing quote, and what stands behind it
 abbrev mutual
+  -- up to the closing quote, from any character on
   pub text_from : List ℕ → Option (List ℕ × List ℕ)
   text_from [] = None
   text_from (c ∷ cs) =
@@ -76,9 +78,11 @@ abbrev mutual
 abbrev pub is_special : ℕ → Bool
 is_special c = c == 34 || c == 92
 
+-- a closing brace
 abbrev pub is_close : ℕ → Bool
 is_close c = c == 125
 
+-- a character that may be absent, and what stands behind it
 abbrev pub with_rest : List ℕ → Option ℕ → Option (ℕ × List ℕ)
 with_rest rest None = None
 with_rest rest (Some c) = Some (c, rest)
@@ -90,6 +94,7 @@ digits_at cs =
     then with_rest (after_first is_close cs) (scalar_in (before_first is_close cs))
     else None
 
+-- behind `\u`
 abbrev pub brace_at : List ℕ → Option (ℕ × List ℕ)
 brace_at [] = None
 brace_at (c ∷ cs) = if c == 123 then digits_at cs else None
@@ -99,6 +104,7 @@ abbrev pub escape_at : List ℕ → Option (ℕ × List ℕ)
 escape_at [] = None
 escape_at (c ∷ cs) = if c == 117 then brace_at cs else with_rest cs (plain_escape c)
 
+-- the text behind an escape, with the character in front
 abbrev pub behind_escape : Option (ℕ × List ℕ) → Option (List ℕ × List ℕ)
 behind_escape None = None
 behind_escape (Some e) = behind_bytes (encode_utf8 e.0) (text_from e.1)

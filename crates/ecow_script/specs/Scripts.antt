@@ -7,6 +7,7 @@ use Rattle.ecow_script.specs.declared.reason.Reason.TheVariants as reason
 use Rattle.ecow_script.specs.declared.script.Fault.{Fault}
 use Rattle.ecow_script.specs.declared.script.Fault.TheVariants as fault
 
+-- a line feed
 abbrev pub is_feed : ℕ → Bool
 is_feed c = c == 10
 
@@ -27,6 +28,7 @@ lines_of_parts [] = []
 lines_of_parts (part ∷ []) = last_line part
 lines_of_parts (part ∷ next ∷ parts) = without_return part ∷ lines_of_parts (next ∷ parts)
 
+-- the lines of a script
 abbrev pub script_lines : List ℕ → List (List ℕ)
 script_lines script = lines_of_parts (slice_split is_feed script)
 
@@ -41,6 +43,7 @@ abbrev pub ended_at : {A : Type 0} → A → Option (List ℕ) × Place
 ended_at x (None, new) = Ok (x, new)
 ended_at x (Some word, new) = Err reason.Arguments
 
+-- a value, behind which the line ends
 abbrev pub ended : {A : Type 0} → A → Reading A
 ended x old = ended_at x (next_word old)
 
@@ -55,6 +58,7 @@ module _ {C : Type 0} where
   with_command (Some command) (Ok commands) = Ok (command ∷ commands)
   with_command (Some command) (Err fault) = Err fault
 
+  -- the commands from a line on, of which this number is the line's
   abbrev pub behind_line : ℕ → Result (Option C × Place) Reason
       → (List (List ℕ) → Commands C) → Commands C
   behind_line number (Err reason) rest = Err (number, reason)
@@ -72,10 +76,12 @@ module _ {C : Type 0} (form : List ℕ → Reading C) where
     command ← form kind
     ended (Some command)
 
+  -- what a line has from its first word on
   abbrev pub line_at : Option (List ℕ) × Place → Result (Option C × Place) Reason
   line_at (None, new) = Ok (None, new)
   line_at (Some kind, new) = if is_comment kind then Ok (None, new) else whole_command kind new
 
+  -- the command on a line, or nothing where it is blank or a comment
   abbrev pub line_command : Reading (Option C)
   line_command old = line_at (next_word old)
 
@@ -95,6 +101,7 @@ pub record Unread : Type 0 where
   pub number : ℕ
   pub names : List (List ℕ)
 
+-- a script from a place on
 abbrev pub unread : List ℕ → ℕ → List (List ℕ) → Unread
 unread text number names = record { text = text; number = number; names = names }
 

@@ -7,6 +7,7 @@ use Rattle.ecow_script.specs.declared.commands.texts.TextWord.TheVariants as wor
 use Rattle.ecow_model.specs.declared.texts.TextCommand.{TextCommand}
 use Rattle.ecow_model.specs.declared.texts.TextCommand.TheVariants.{New, TryInline, WithCapacity, FromStr, FromChar, FromBytes, Clone, Drop, Push, Pop, PushStr, Insert, InsertStr, Remove, Truncate, Clear, Reserve, Replace, Repeat, AsciiLower, AsciiUpper, ToAsciiLower, ToAsciiUpper, ShrinkToFit, Len, Capacity, Contents, IsInline}
 
+-- the words of the commands
 abbrev pub text_words : List (List ℕ × TextWord)
 text_words =
     (codes "new", word.New)
@@ -39,6 +40,7 @@ text_words =
     ∷ (codes "is_inline", word.IsInline)
     ∷ []
 
+-- the command that a word stands for
 abbrev pub text_word : List ℕ → Option TextWord
 text_word bytes = beside bytes text_words
 

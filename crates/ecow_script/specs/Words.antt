@@ -13,9 +13,11 @@ use denote.Ref.{Bor}
 use Rattle.std.specs.Str.{chars}
 use Rattle.ecow_script.specs.Quoted.{text_from}
 
+-- a space or a tab
 abbrev pub is_blank : ℕ → Bool
 is_blank c = c == 32 || c == 9
 
+-- any other byte
 abbrev pub is_ink : ℕ → Bool
 is_ink c = not (is_blank c)
 
@@ -27,6 +29,7 @@ behind_blanks line = drop (position_or_len is_ink line) line
 abbrev pub word_at : List ℕ → List ℕ
 word_at text = before_first is_blank text
 
+-- what stands behind the word at the front
 abbrev pub behind_word : List ℕ → List ℕ
 behind_word text = drop (position_or_len is_blank text) text
 
@@ -35,6 +38,7 @@ pub record Place : Type 0 where
   pub rest : List ℕ
   pub names : List (List ℕ)
 
+-- a place in a line
 abbrev pub place : List ℕ → List (List ℕ) → Place
 place rest names = record { rest = rest; names = names }
 
@@ -43,6 +47,7 @@ abbrev pub word_of : List ℕ → List (List ℕ) → Option (List ℕ) × Place
 word_of [] names = (None, place [] names)
 word_of (c ∷ cs) names = (Some (word_at (c ∷ cs)), place (behind_word (c ∷ cs)) names)
 
+-- the next word of a line, if there is one
 abbrev pub next_word : Place → Option (List ℕ) × Place
 next_word old = word_of (behind_blanks old.rest) old.names
 
@@ -57,12 +62,15 @@ read_on (Ok x) f = f x.0 x.1
 read_on (Err reason) f = Err reason
 
 infixl 10 ◌>>=◌
+-- a reading, and then another that its value decides
 abbrev pub ◌>>=◌ : {A B : Type 0} → Reading A → (A → Reading B) → Reading B
 ◌>>=◌ form f old = read_on (form old) f
 
+-- a value for which nothing is read
 abbrev pub gives : {A : Type 0} → A → Reading A
 gives x old = Ok (x, old)
 
+-- no value, since this was expected
 abbrev pub expected : {A : Type 0} → Reason → Reading A
 expected reason old = Err reason
 
@@ -71,6 +79,7 @@ abbrev pub wanted : {A : Type 0} → Reason → Option A → Reading A
 wanted reason None = expected reason
 wanted reason (Some x) = gives x
 
+-- a value that may be absent, and the place behind it
 abbrev pub wanted_at : {A : Type 0} → Reason → Option A × Place → Result (A × Place) Reason
 wanted_at reason found = wanted reason found.0 found.1
 
@@ -82,36 +91,47 @@ argument old = wanted_at reason.Arguments (next_word old)
 abbrev pub spelled : {A : Type 0} → Reason → (List ℕ → Option A) → Reading A
 spelled reason form = argument >>= λ word. wanted reason (form word)
 
+-- COUNT
 abbrev pub count : Reading ℕ
 count = spelled reason.Number count_in
 
+-- INT
 abbrev pub integer : Reading ℤ
 integer = spelled reason.Number integer_in
 
+-- BYTE
 abbrev pub byte : Reading ℕ
 byte = spelled reason.Number byte_in
 
+-- INTS
 abbrev pub integers : Reading (List ℤ)
 integers = spelled reason.List (list_in integer_in)
 
+-- BYTES
 abbrev pub bytes : Reading (List ℕ)
 bytes = spelled reason.List (list_in byte_in)
 
+-- MARKS
 abbrev pub marks : Reading (List Bool)
 marks = spelled reason.Marks marks_in
 
+-- BOUNDS
 abbrev pub bounds : Reading (Bound ℕ × Bound ℕ)
 bounds = spelled reason.Bounds bounds_in
 
+-- whether two words are equal
 abbrev pub same : List ℕ → List ℕ → Bool
 same = pointwise nat_eq
 
+-- a lower case letter
 abbrev pub is_lower : ℕ → Bool
 is_lower c = nat_le 97 c && nat_le c 122
 
+-- a letter, a digit or an underscore
 abbrev pub is_name_byte : ℕ → Bool
 is_name_byte c = is_lower c || nat_le 48 c && nat_le c 57 || c == 95
 
+-- a letter, and then at most 31 of these
 abbrev pub is_name : List ℕ → Bool
 is_name [] = false
 is_name (c ∷ cs) = is_lower c && nat_lt (length cs) 32 && list_all is_name_byte cs
@@ -120,15 +140,18 @@ is_name (c ∷ cs) = is_lower c && nat_lt (length cs) 32 && list_all is_name_byt
 abbrev pub number_of : List ℕ → List (List ℕ) → Option ℕ
 number_of word names = position (same word) names
 
+-- a name that was not read before gets the next number
 abbrev pub new_name : List ℕ → Reading ℕ
 new_name word old =
     if is_name word then Ok (length old.names, place old.rest (old.names ++ word ∷ []))
     else Err reason.Name
 
+-- a name with this number, or a new one
 abbrev pub name_or_new : List ℕ → Option ℕ → Reading ℕ
 name_or_new word (Some number) = gives number
 name_or_new word None = new_name word
 
+-- the number of a name
 abbrev pub numbered : List ℕ → Reading ℕ
 numbered word old = name_or_new word (number_of word old.names) old
 
@@ -152,6 +175,7 @@ abbrev pub ends_word : List ℕ → Bool
 ends_word [] = true
 ends_word (c ∷ cs) = is_blank c
 
+-- a text that was spelled, behind which the word ends
 abbrev pub text_behind : Option (List ℕ × List ℕ) → List (List ℕ)
     → Result (List ℕ × Place) Reason
 text_behind None names = Err reason.Text
@@ -159,6 +183,7 @@ text_behind (Some spelled) names =
     if ends_word spelled.1 then Ok (chars spelled.0, place spelled.1 names)
     else Err reason.Text
 
+-- a text from its quote on
 abbrev pub text_at : List ℕ → List (List ℕ) → Result (List ℕ × Place) Reason
 text_at [] names = Err reason.Arguments
 text_at (c ∷ cs) names = if c == 34 then text_behind (text_from cs) names else Err reason.Text

@@ -103,7 +103,8 @@ fn write_escaped(answers: &mut String, c: char) -> Result<(), AllocError>
 }
 
 fn write_refusal(answers: &mut String, refusal: Refusal) -> Result<(), AllocError>
-    ensures { OnOk result (Appended answers.old answers.new (codes "refused " ++ refusal_word refusal)) }
+    ensures { OnOk result
+        (Appended answers.old answers.new (codes "refused " ++ refusal_word refusal)) }
 {
     answers.push_str("refused ")?;
     answers.push_str(refusal_word(refusal))

@@ -44,7 +44,8 @@ pub(crate) fn integer_list(alloc: Global, word: &[u8]) -> Result<Items<i64>, Mis
 }
 
 fn integers_in(alloc: Global, inner: &[u8]) -> Result<Vec<i64>, Misfit>
-    ensures { SpellsItems reason.List result (each_in integer_in (slice_split (λ b. b == 44) inner.now)) }
+    ensures { SpellsItems reason.List result
+        (each_in integer_in (slice_split (λ b. b == 44) inner.now)) }
 {
     let mut items = Vec::new(alloc);
     for part in inner.split(|byte| *byte == b',') {
@@ -69,7 +70,8 @@ pub(crate) fn byte_list(alloc: Global, word: &[u8]) -> Result<Items<u8>, Misfit>
 }
 
 fn bytes_in(alloc: Global, inner: &[u8]) -> Result<Vec<u8>, Misfit>
-    ensures { SpellsItems reason.List result (each_in byte_in (slice_split (λ b. b == 44) inner.now)) }
+    ensures { SpellsItems reason.List result
+        (each_in byte_in (slice_split (λ b. b == 44) inner.now)) }
 {
     let mut items = Vec::new(alloc);
     for part in inner.split(|byte| *byte == b',') {
