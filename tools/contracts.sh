@@ -20,4 +20,4 @@ awk -f tools/contracts.awk crates/ecow_base/src/range.rt \
     crates/ecow_counted/src/counted.rt crates/ecow_counted/src/counted/*.rt crates/ecow_counted/src/fill.rt \
     crates/ecow_values/src/laws.rt crates/ecow_model/src/laws.rt crates/ecow_bytes/src/laws.rt crates/ecow_text/src/laws.rt \
     crates/ecow_laws/src/*.rt crates/ecow_script/src/store.rt crates/ecow_script/src/counted.rt \
-    crates/ecow_script/src/laws.rt crates/ecow_tool/src/program.rt
+    crates/ecow_script/src/laws.rt crates/ecow_script/src/example.rt crates/ecow_tool/src/program.rt

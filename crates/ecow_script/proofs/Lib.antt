@@ -8,3 +8,4 @@ pub mod NumbersAgain
 pub mod ListsAgain
 pub mod TextsAgain
 pub mod WordsAgain
+pub mod FirstExample

@@ -14,4 +14,5 @@ pub mod Naming
 pub mod Quoted
 pub mod QuotedViews
 pub mod Runs
+pub mod FirstExample
 pub mod RunLaws

@@ -4,6 +4,7 @@
 mod answer;
 mod commands;
 mod counted;
+pub mod example;
 pub mod laws;
 mod lists;
 mod names;

@@ -1,0 +1,27 @@
+//! The first example, from the characters of its file to the lines of its answers.
+ghost use Rattle.std.specs.Prelude.{◌≡◌, ◌++◌, ℤ, List, Ok};
+ghost use Rattle.std.specs.FinMap as finite;
+ghost use Rattle.ecow_counted.specs.Filling.{IsRunOf};
+ghost use Rattle.ecow_counted.specs.State.{CountedState};
+ghost use Rattle.ecow_model.specs.Run.{Run};
+ghost use Rattle.ecow_model.specs.State.{State};
+ghost use Rattle.ecow_model.specs.declared.command.Outcome.{Outcome};
+ghost use Rattle.ecow_script.specs.Answers.{answer_lines};
+ghost use Rattle.ecow_script.specs.Commands.{counted_form, store_form};
+ghost use Rattle.ecow_script.specs.FirstExample.{LackNothing, first_answers, first_commands, first_list_commands, first_script, first_totals};
+ghost use Rattle.ecow_script.specs.Runs.{new_table, totals_line};
+ghost use Rattle.ecow_script.specs.Scripts.{script_commands};
+
+/// The characters of `examples/first.eco` are nine commands. Where no memory is lacking a store
+/// answers them with the nine lines that the file foretells, and a table with these and its totals.
+#[tactic(auto, using(crate::proofs::FirstExample::first_read, crate::proofs::FirstExample::first_counted_read, crate::proofs::FirstExample::first_counted))]
+pub fn first_example()
+    ensures commands { script_commands store_form first_script ≡ Ok first_commands }
+    ensures answers { (outcomes : List (Outcome ℤ)) (last : State ℤ)
+        → Run 15 finite.empty first_commands outcomes last → LackNothing outcomes
+        → answer_lines outcomes ≡ first_answers }
+    ensures list_commands { script_commands counted_form first_script ≡ Ok first_list_commands }
+    ensures counted_answers { (outcomes : List (Outcome ℤ)) (last : CountedState ℤ)
+        → IsRunOf new_table first_list_commands outcomes last → LackNothing outcomes
+        → answer_lines outcomes ++ totals_line last ≡ first_answers ++ first_totals }
+{}
