@@ -1,12 +1,12 @@
 -- The first example, computed.
-use Rattle.std.proofs.Common.{◌≡◌, ℕ, ℤ, pos, cond, not, map, ◌++◌, List, [], ◌∷◌, Option, Some, None, Result, Ok, Err, false, refl, sym, ap, ◌∙◌, subst, inl, inr}
+use Rattle.std.proofs.Common.{◌≡◌, ℕ, ℤ, pos, cond, not, map, ◌++◌, List, [], ◌∷◌, Some, None, Result, Ok, Err, false, refl, ap, ◌∙◌, subst, inl, inr}
 use Rattle.std.specs.Ordering.{nat_cmp, eq_by_cmp}
 use Rattle.std.specs.Cmp.{nat_cmp_total}
 use Rattle.std.specs.FinMap.{empty, get, insert, remove, get-insert, get-remove, get-empty}
 use Rattle.std.specs.FinMap as finite
 use Rattle.std.specs.FinMap.Entries.{find, put, where_key}
 use Rattle.std.specs.Prelude.{codes, decimal}
-use Rattle.ecow_model.specs.CountedRun.{CountedRun, counted_carry_out, counted_is_free, names_or, copied_in_run, moved_in_run, saturating}
+use Rattle.ecow_model.specs.CountedRun.{CountedRun, counted_carry_out, counted_is_free, copied_in_run, moved_in_run, saturating}
 use Rattle.ecow_model.specs.Names.{Names, Held, blocks, map_values}
 use Rattle.ecow_model.proofs.Entries.{entries-empty, entries-remove, entries-insert, get-entries, entries-map_values}
 use Rattle.ecow_counted.specs.Filling.{IsRunOf}
@@ -15,7 +15,7 @@ use Rattle.ecow_script.specs.Runs.{new_table, totals_line}
 use Rattle.ecow_model.specs.State.{State, Plain}
 use Rattle.ecow_model.specs.Uses.{Observation, Gives, carry_out, use_is_free, observation_in}
 use Rattle.ecow_model.specs.Lists.{list_rules, vec_usage}
-use Rattle.ecow_model.specs.Run.{Run, IsVecStep, outcomes, outcome_then}
+use Rattle.ecow_model.specs.Run.{Run, outcomes, outcome_then}
 use Rattle.ecow_model.specs.declared.command.Command.{Command}
 use Rattle.ecow_model.specs.declared.command.Command.TheVariants.{Vec, Bytes, Text}
 use Rattle.ecow_model.specs.declared.command.Outcome.{Outcome}

@@ -1,11 +1,11 @@
 -- A list that is printed is read again.
-use Rattle.std.proofs.Common.{◌≡◌, ℕ, zero, suc, ◌+◌, ◌<◌, ◌≤◌, Bool, true, false, cond, List, [], ◌∷◌, ◌++◌, length, get_or, map, Option, Some, None, ℤ, pos, negsuc, eqb, refl, sym, ap, ◌∙◌, arith, append_assoc, length-append}
+use Rattle.std.proofs.Common.{◌≡◌, ℕ, zero, suc, ◌<◌, Bool, true, false, List, [], ◌∷◌, ◌++◌, length, map, Option, Some, ℤ, pos, negsuc, eqb, refl, ap, ◌∙◌, arith, length-append}
 use Rattle.std.specs.List.{All, slice_split}
 use Rattle.std.specs.Fmt.{decimal, signed_decimal}
 use Rattle.std.proofs.lemmas.Bool.Decides.{nat_tests}
 use Rattle.std.proofs.lemmas.List.Splits.{slice_split_at, slice_split_none}
 use Rattle.std.proofs.lemmas.List.{append-nil}
-use Rattle.ecow_script.specs.Numbers.{◌>>=◌, is_digit, each_in, parted_in, bracketed, list_in, IsI64, integer_in, byte_in}
+use Rattle.ecow_script.specs.Numbers.{◌>>=◌, is_digit, each_in, parted_in, list_in, IsI64, integer_in, byte_in}
 use Rattle.ecow_script.specs.Answers.{items_behind, items_text, list_text}
 use Rattle.ecow_script.proofs.Digits.{closed_push}
 use Rattle.ecow_script.proofs.NumbersAgain.{AreDigits, decimal_digits, integer_again, byte_again}

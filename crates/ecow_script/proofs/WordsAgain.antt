@@ -1,14 +1,14 @@
 -- Words that are printed are read again.
-use Rattle.std.proofs.Common.{◌≡◌, ℕ, zero, suc, ◌+◌, ◌^◌, ◌<◌, ◌≤◌, Bool, true, false, cond, not, ◌&&◌, List, [], ◌∷◌, ◌++◌, length, get_or, take, drop, append_assoc, Option, Some, None, Result, Ok, Err, ℤ, pos, negsuc, refl, sym, ap, ◌∙◌, subst, arith}
+use Rattle.std.proofs.Common.{◌≡◌, ℕ, suc, ◌+◌, ◌^◌, ◌<◌, true, false, cond, not, ◌&&◌, List, [], ◌∷◌, ◌++◌, length, get_or, take, drop, append_assoc, Option, Some, Ok, Err, ℤ, pos, negsuc, refl, ap, ◌∙◌, arith}
 use Rattle.std.specs.List.{All, flat_map, position_or_len}
 use Rattle.std.specs.Fmt.{decimal, signed_decimal}
 use Rattle.std.specs.Str.{chars, encode_utf8_all}
 use Rattle.std.specs.Char.{IsScalar}
-use lib.Utf8.{scalar, scalars}
+use lib.Utf8.{scalars}
 use Rattle.std.proofs.lemmas.Bool.Decides.{nat_tests}
 use Rattle.std.proofs.lemmas.List.{take_all, drop_all}
 use Rattle.std.proofs.lemmas.Str.{chars-encodes}
-use Rattle.ecow_script.specs.Numbers.{is_digit, count_in, byte_in, integer_in, list_in, up_to, number_in, IsI64}
+use Rattle.ecow_script.specs.Numbers.{is_digit, count_in, byte_in, integer_in, list_in, up_to, IsI64}
 use Rattle.ecow_script.specs.Words.{place, next_word, word_of, argument, wanted_at, read_on, spelled, wanted, count, integer, byte, integers, bytes, text, text_behind, ends_word, is_blank, is_ink}
 use Rattle.ecow_script.specs.Quoted.{text_from}
 use Rattle.ecow_script.specs.Answers.{items_behind, items_text, list_text, text_form, escaped}

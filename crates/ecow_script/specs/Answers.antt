@@ -1,5 +1,5 @@
 -- The answer line of an outcome: the bytes of its text.
-use Rattle.std.specs.Prelude.{ℕ, List, [], ◌∷◌, ◌++◌, Bool, true, false, if◌then◌else◌, ◌==◌, ◌||◌, nat_lt, Option, Some, None, codes, decimal, encode_utf8, ℤ, ◌≡◌, String, string_bytes}
+use Rattle.std.specs.Prelude.{ℕ, List, [], ◌∷◌, ◌++◌, false, if◌then◌else◌, ◌==◌, ◌||◌, nat_lt, Option, Some, None, codes, decimal, encode_utf8, ℤ, ◌≡◌, String, string_bytes}
 use Rattle.std.specs.List.{flat_map}
 use Rattle.std.specs.Fmt.{digits, signed_decimal}
 use Rattle.ecow_model.specs.declared.command.Outcome.{Outcome}

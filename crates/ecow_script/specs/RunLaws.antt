@@ -1,9 +1,9 @@
 -- Runs, one behind another.
 use Rattle.std.specs.Prelude.{ℕ, ℤ, ◌+◌, ◌≡◌, List, [], ◌∷◌, ◌++◌}
-use Rattle.std.proofs.Common.{subst, sym, ap, ◌∙◌, arith, refl}
+use Rattle.std.proofs.Common.{subst, ap, arith, refl}
 use Rattle.ecow_model.specs.State.{State}
 use Rattle.ecow_model.specs.Run.{Run, RunBy, Step}
-use Rattle.ecow_model.specs.CountedRun.{CountedRun, CountedStep, saturating, if_accepted, copied_in, moved_in, sum_in_run}
+use Rattle.ecow_model.specs.CountedRun.{CountedRun, CountedStep, copied_in, moved_in, sum_in_run}
 use Rattle.ecow_model.specs.Lists.{ListUsage, vec_usage}
 use Rattle.ecow_model.specs.Names.{Names, IsSharing}
 use Rattle.ecow_model.specs.declared.command.Command.{Command}

@@ -1,7 +1,7 @@
 -- A script: its lines, and the commands on them.
-use Rattle.std.specs.Prelude.{◌≡◌, ℕ, ◌+◌, Bool, true, false, if◌then◌else◌, ◌==◌, List, [], ◌∷◌, ◌++◌, length, take, drop, slice_index, ◌-◌, Option, Some, None, Result, Ok, Err}
-use Rattle.std.specs.List.{before_first, after_first, slice_split}
-use Rattle.ecow_script.specs.Words.{Reading, Place, place, next_word, gives, ◌>>=◌}
+use Rattle.std.specs.Prelude.{◌≡◌, ℕ, ◌+◌, Bool, false, if◌then◌else◌, ◌==◌, List, [], ◌∷◌, ◌++◌, Option, Some, None, Result, Ok, Err}
+use Rattle.std.specs.List.{slice_split}
+use Rattle.ecow_script.specs.Words.{Reading, Place, place, next_word, ◌>>=◌}
 use Rattle.ecow_script.specs.declared.reason.Reason.{Reason}
 use Rattle.ecow_script.specs.declared.reason.Reason.TheVariants as reason
 use Rattle.ecow_script.specs.declared.script.Fault.{Fault}

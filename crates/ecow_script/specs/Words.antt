@@ -4,7 +4,7 @@ use Rattle.std.specs.Prelude.{◌≡◌, ℕ, Bool, true, false, not, if◌then�
 use Rattle.std.specs.List.{before_first, position_or_len, position, list_all}
 use Rattle.std.specs.Cmp.Lexicographic.{pointwise}
 use Rattle.ecow_script.specs.Numbers.{count_in, integer_in, byte_in, list_in, marks_in, bounds_in}
-use Rattle.ecow_script.specs.Outcomes.{or_expected, Fails}
+use Rattle.ecow_script.specs.Outcomes.{Fails}
 use Rattle.ecow_script.specs.declared.reason.Reason.{Reason}
 use Rattle.ecow_script.specs.declared.reason.Reason.TheVariants as reason
 use Rattle.ecow_script.specs.declared.reason.Misfit.{Misfit}

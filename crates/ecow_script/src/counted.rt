@@ -34,7 +34,8 @@ impl Keeping<VecCommand<i64>> for Counted<i64> {
 }
 
 /// The answer lines of a new `Counted` to the commands of a script, all on lists, and a last line:
-/// the number of blocks, and how many elements were copied and moved.
+/// the number of blocks, and how many elements were copied and moved. The script has fewer than
+/// 2^63 bytes. The errors are those of `answers_to`.
 pub fn counted_answers_to(alloc: Global, script: &str) -> Result<String, Fault>
     requires { length script.now < 2 ^ 63 }
     ensures answers { IfOk result (λ answers. CountedAnswers script.now (string_bytes answers)) }

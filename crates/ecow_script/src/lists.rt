@@ -1,8 +1,8 @@
 //! The forms of lists and bounds.
-ghost use Rattle.std.specs.Prelude.{◌≡◌, ◌++◌, List, ℕ, Option, IfOk, IfSome, ◌==◌, ◌≤◌, length};
+ghost use Rattle.std.specs.Prelude.{◌≡◌, List, Option, ◌==◌, ◌≤◌, length};
 ghost use Rattle.std.specs.Option.{option_copied};
 ghost use Rattle.std.specs.List.{slice_split, position_or_len, position};
-ghost use Rattle.ecow_script.specs.Numbers.{byte_in, integer_in, bracketed, parted_in, each_in, list_in, marks_in, each_mark, mark_in, bounds_in, start_in, end_in, closed, behind_dots, is_dot};
+ghost use Rattle.ecow_script.specs.Numbers.{byte_in, integer_in, bracketed, each_in, list_in, marks_in, each_mark, mark_in, bounds_in, start_in, end_in, closed, behind_dots, is_dot};
 ghost use Rattle.ecow_script.specs.Outcomes.{Spells, SpellsItems};
 ghost use Rattle.ecow_script.specs.declared.reason.Reason.TheVariants as reason;
 

@@ -1,5 +1,5 @@
 //! The numbers of names.
-ghost use Rattle.std.specs.Prelude.{◌≡◌, ◌∷◌, [], ◌++◌, length, IsNone, IfOk, OnOk, OnErr, map, None, List, ℕ, Some, if◌then◌else◌, nat_eq};
+ghost use Rattle.std.specs.Prelude.{◌≡◌, ◌∷◌, [], ◌++◌, length, IfOk, OnOk, OnErr, map, None, List, ℕ, Some, if◌then◌else◌, nat_eq};
 ghost use Rattle.std.specs.Str.{bytes_eq};
 ghost use Rattle.ecow_script.specs.Words.{number_of};
 ghost use Rattle.ecow_script.specs.Naming.{packed, number_at, by_key, short_at, long_at, further_at, IsBytes};

@@ -1,6 +1,6 @@
 //! Quoted texts, and the escapes in them.
 ghost use Rattle.std.specs.Prelude.{◌≡◌, ◌<◌, ◌≤◌, length, drop, slice_index, IfSome};
-ghost use Rattle.ecow_script.specs.Quoted.{scalar_in, plain_escape, hex_behind, escape_at, brace_at, digits_at, is_special, is_close, text_from, behind_bytes, behind_escape};
+ghost use Rattle.ecow_script.specs.Quoted.{scalar_in, plain_escape, hex_behind, escape_at, brace_at, digits_at, is_special, is_close, text_from, behind_bytes};
 ghost use Rattle.std.specs.List.{position, position_or_len, before_first};
 ghost use Rattle.ecow_script.specs.QuotedViews.{escape_view, TurnIs, GivesText, behind_quote};
 ghost use Rattle.ecow_script.specs.Words.{Reads, text, character, only, ends_word};

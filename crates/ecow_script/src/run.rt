@@ -1,5 +1,5 @@
 //! A script carried out.
-ghost use Rattle.std.specs.Prelude.{◌≡◌, ◌<◌, ◌^◌, [], ◌++◌, List, length, IfOk, IfErr, OnOk, Ok, string_bytes, ℤ, IsTrue};
+ghost use Rattle.std.specs.Prelude.{◌≡◌, ◌<◌, ◌^◌, [], ◌++◌, List, length, IfOk, IfErr, Ok, string_bytes, ℤ, IsTrue};
 ghost use Rattle.ecow_script.specs.Scripts.{script_commands, IsFaultOf};
 ghost use Rattle.ecow_script.specs.Answers.{Appended, answer_lines};
 ghost use Rattle.ecow_model.specs.declared.command.Outcome.{Outcome};

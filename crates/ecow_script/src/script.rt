@@ -1,10 +1,9 @@
 //! Scripts: the text of a file, read into commands.
-ghost use Rattle.std.specs.Prelude.{◌≡◌, ◌<◌, ◌≤◌, ◌+◌, ◌^◌, [], List, ℕ, length, IfOk, IfErr, OnOk, IsTrue, OnSome, IfSome, Ok, MatchOption, MatchBool, ◌++◌};
+ghost use Rattle.std.specs.Prelude.{◌≡◌, ◌<◌, ◌≤◌, ◌+◌, ◌^◌, [], List, ℕ, length, IfOk, IfErr, OnOk, Ok, ◌++◌};
 ghost use Rattle.std.specs.Option.{option_to_list};
-ghost use Rattle.std.specs.Bool.{OnTrue, OnFalse};
 ghost use Rattle.std.specs.List.{before_first, after_first, position_or_len, position};
 ghost use Rattle.ecow_script.specs.Words.{Reading, Reads, place};
-ghost use Rattle.ecow_script.specs.Scripts.{script_lines, without_return, is_feed, is_comment, line_command, ended, whole_command, commands_ahead, with_front, with_command, unread, IsFaultOf};
+ghost use Rattle.ecow_script.specs.Scripts.{without_return, is_feed, is_comment, line_command, ended, commands_ahead, with_front, with_command, unread, IsFaultOf};
 
 use crate::reason::{Misfit, Reason};
 use crate::words::Reader;

@@ -32,7 +32,11 @@ impl Keeping<Command<i64>> for Store<i64> {
     }
 }
 
-/// The answer lines of a new `Store` to the commands of a script.
+/// The answer lines of a new `Store` to the commands of a script, which has fewer than 2^63 bytes,
+/// as every text in memory has.
+///
+/// Answers `Unreadable` for the first line that doesn't fit, whatever memory is lacking for the
+/// commands before it, and else `Memory`.
 pub fn answers_to(alloc: Global, script: &str) -> Result<String, Fault>
     requires { length script.now < 2 ^ 63 }
     ensures answers { IfOk result (λ answers. Answers script.now (string_bytes answers)) }

@@ -1,7 +1,7 @@
 //! The words of a line.
 ghost use Rattle.std.specs.Prelude.{◌≡◌, ◌≤◌, length, []};
 ghost use Rattle.std.specs.Option.{option_copied};
-ghost use Rattle.std.specs.List.{list_all, position, position_or_len, before_first};
+ghost use Rattle.std.specs.List.{list_all, position, position_or_len};
 ghost use Rattle.ecow_script.specs.Words.{is_blank, is_ink, behind_blanks, word_at, behind_word, next_word, argument, count, integer, integers, byte, bytes, bounds, marks, name, numbered, is_name, is_name_byte, Reads, ReadsRef, place};
 
 use crate::lists::{bounds_in, byte_list, integer_list, marks_in};

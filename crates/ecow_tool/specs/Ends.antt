@@ -1,6 +1,6 @@
 -- How the program ends: which end a fault is, the exit status, and what is printed to standard
 -- error.
-use Rattle.std.specs.Prelude.{ℕ, List, [], ◌∷◌, ◌++◌, codes}
+use Rattle.std.specs.Prelude.{ℕ, List, [], ◌++◌, codes}
 use Rattle.std.specs.Fmt.{decimal}
 use Rattle.ecow_tool.specs.declared.program.End.{End}
 use Rattle.ecow_tool.specs.declared.program.End.TheVariants as program

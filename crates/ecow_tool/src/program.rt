@@ -93,7 +93,8 @@ fn is_flag(word: &String) -> bool
 }
 
 /// Reads a script, carries its commands out on a new `Store`, and writes an answer line for each.
-/// Nothing is written before all lines are made.
+/// Nothing is written before all lines are made; so only where the writer fails is there a front of
+/// them. A read or a write that is interrupted is tried again.
 pub fn run_store<R: Read, W: Write>(alloc: Global, reader: &mut R, writer: &mut W) -> End
     ensures { IfSome (R.remaining reader.old)
         (λ bytes. (written : List ℕ)

@@ -1,4 +1,4 @@
-use Rattle.std.proofs.Common.{refl, rules, ◌≡◌, ◌∷◌, [], ◌++◌, ℕ, ◌+◌, ◌≤◌, List, Option, Some, None, eqb, length, get_or, drop, sym, ap, ◌∙◌, true, false, arith}
+use Rattle.std.proofs.Common.{refl, rules, ℕ, ◌+◌, eqb, length, drop, sym, ap, ◌∙◌, arith}
 use Rattle.std.specs.List.{slice_split}
 use Rattle.std.proofs.lemmas.Iterator.Consumers.{YieldsList-turn, YieldsList-end}
 use Rattle.std.proofs.lemmas.Iterator.Splits.{YieldsList-from_slice_split}

@@ -1,13 +1,10 @@
-use Rattle.std.proofs.Common.{◌≡◌, ℕ, ℤ, List, [], ◌++◌, length, true, string_bytes, Result, Ok, Err, refl, sym, ap, ◌∙◌, arith, subst, ◌∷◌, rules}
+use Rattle.std.proofs.Common.{◌≡◌, ℕ, List, [], ◌++◌, length, Ok, refl, sym, ap, ◌∙◌, arith, ◌∷◌, rules}
 use Rattle.std.proofs.lemmas.Bool.{eqb-true}
-use Rattle.std.specs.Prelude.{IfErr}
 use Rattle.std.proofs.lemmas.List.{append-nil}
 use Rattle.std.proofs.lemmas.List.Concat.{flat_map-append}
-use Rattle.ecow_script.specs.declared.script.Fault.{Fault}
-use Rattle.ecow_script.specs.Scripts.{script_commands, commands_ahead, with_front, unread, IsFaultOf}
+use Rattle.ecow_script.specs.Scripts.{commands_ahead, with_front}
 use Rattle.ecow_script.specs.Answers.{answer_lines, answer_line}
 use Rattle.ecow_script.proofs.LinesLemmas.{front_nil, front_front, all_read, front_fault}
-use Rattle.ecow_model.specs.declared.command.Outcome.{Outcome}
 use Rattle.ecow_script.proofs.run.answers_of.Goals as goal
 
 pub pieces-init : goal.pieces-init

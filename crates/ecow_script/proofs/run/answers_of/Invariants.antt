@@ -1,4 +1,4 @@
-use Rattle.std.proofs.Common.{◌≡◌, ℕ, ℤ, List, length, true, string_bytes}
+use Rattle.std.proofs.Common.{◌≡◌, ℤ, List, length, true, string_bytes}
 use Rattle.ecow_script.specs.Scripts.{script_commands, commands_ahead, with_front}
 use Rattle.ecow_script.specs.Answers.{answer_lines}
 use Rattle.ecow_model.specs.declared.command.Outcome.{Outcome}

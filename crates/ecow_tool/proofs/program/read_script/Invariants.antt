@@ -1,4 +1,4 @@
-use Rattle.std.proofs.Common.{◌≡◌, ◌≤◌, ◌<◌, length}
+use Rattle.std.proofs.Common.{◌≤◌, ◌<◌, length}
 use Rattle.std.specs.Io.KnownBytes.{Consumes}
 use Rattle.ecow_tool.specs.Programs.{size_limit}
 use Rattle.ecow_tool.proofs.program.read_script.Given as goal

@@ -1,4 +1,4 @@
-use Rattle.std.proofs.Common.{◌≡◌, ◌<◌, ◌≤◌, length, ℕ}
+use Rattle.std.proofs.Common.{◌≡◌, ◌<◌, ◌≤◌, length}
 use Rattle.ecow_script.specs.Scripts.{commands_ahead, with_front}
 use Rattle.ecow_script.proofs.script.Script.next_piece.Given as goal
 
