@@ -24,7 +24,8 @@ items_text show xs = items_behind [] show xs
 abbrev pub list_text : {A : Type 0} → (A → List ℕ) → List A → List ℕ
 list_text show xs = codes "[" ++ items_text show xs ++ codes "]"
 
--- a character as it stands in a quoted text
+-- a character as it stands in a quoted text, by its code: backslash, quote, line feed, carriage
+-- return, tab, and the other control characters of ASCII
 abbrev pub escaped : ℕ → List ℕ
 escaped c =
     if c == 92 then codes "\\\\"

@@ -11,7 +11,7 @@ abbrev pub ◌>>=◌ : {A B : Type 0} → Option A → (A → Option B) → Opti
 (Some x) >>= f = f x
 None >>= f = None
 
--- a decimal digit
+-- a decimal digit: 48 is `0`, and 57 is `9`
 abbrev pub is_digit : ℕ → Bool
 is_digit c = nat_le 48 c && nat_le c 57
 
@@ -42,20 +42,20 @@ byte_in word = up_to 255 (number_in word)
 abbrev pub negative : ℕ → ℤ
 negative n = pos 0 -ℤ pos n
 
--- INT
+-- INT: 45 is `-`
 abbrev pub integer_in : List ℕ → Option ℤ
 integer_in [] = None
 integer_in (c ∷ cs) =
     if c == 45 then option_map negative (up_to 9223372036854775808 (number_in cs))
     else option_map pos (up_to 9223372036854775807 (number_in (c ∷ cs)))
 
--- what stands in front of a closing bracket, which is the last
+-- what stands in front of a closing bracket (93), which is the last
 abbrev pub closed : List ℕ → Option (List ℕ)
 closed [] = None
 closed (c ∷ []) = if c == 93 then Some [] else None
 closed (c ∷ d ∷ ds) = option_map (λ inner. c ∷ inner) (closed (d ∷ ds))
 
--- what stands between brackets
+-- what stands between brackets, of which the opening one is 91
 abbrev pub bracketed : List ℕ → Option (List ℕ)
 bracketed [] = None
 bracketed (c ∷ cs) = if c == 91 then closed cs else None
@@ -69,7 +69,7 @@ each_in read (part ∷ parts) = do
   xs ← each_in read parts
   Some (x ∷ xs)
 
--- the values that parts between commas spell; nothing is no part
+-- the values that parts between commas (44) spell; nothing is no part
 abbrev pub parted_in : {A : Type 0} → (List ℕ → Option A) → List ℕ → Option (List A)
 parted_in read [] = Some []
 parted_in read (c ∷ cs) = each_in read (slice_split (λ b. b == 44) (c ∷ cs))
@@ -80,7 +80,7 @@ list_in read word = do
   inner ← bracketed word
   parted_in read inner
 
--- a mark of what is kept, or is not
+-- a mark of what is kept (`+`, 43), or is not (`-`, 45)
 abbrev pub mark_in : ℕ → Option Bool
 mark_in c = if c == 43 then Some true else if c == 45 then Some false else None
 
@@ -98,18 +98,18 @@ marks_in word = do
   inner ← bracketed word
   each_mark inner
 
--- a dot
+-- a dot, in BOUNDS
 abbrev pub is_dot : ℕ → Bool
 is_dot c = c == 46
 
--- an index behind its sign
+-- where a range starts: nothing, an index, or `>` (62) and an excluded one
 abbrev pub start_in : List ℕ → Option (Bound ℕ)
 start_in [] = Some Unbounded
 start_in (c ∷ cs) =
     if c == 62 then option_map Excluded (count_in cs)
     else option_map Included (count_in (c ∷ cs))
 
--- an index behind its sign, where the range ends
+-- where a range ends: nothing, an index, or `=` (61) and an included one
 abbrev pub end_in : List ℕ → Option (Bound ℕ)
 end_in [] = Some Unbounded
 end_in (c ∷ cs) =

@@ -24,7 +24,8 @@ scalar_in digits =
     if nat_le 1 (length digits) && nat_le (length digits) 6 then scalar (hex_behind 0 digits)
     else None
 
--- the character that one letter behind a backslash stands for
+-- the character that one letter behind a backslash stands for: `\` (92), `"` (34), `n` (110) for
+-- the line feed (10), `r` (114) for the carriage return (13), `t` (116) for the tab (9)
 abbrev pub plain_escape : ℕ → Option ℕ
 plain_escape c =
     if c == 92 then Some 92
@@ -47,7 +48,7 @@ behind_char (Some c) spelled = behind_bytes (encode_utf8 c) spelled
 
 -- the bytes that are spelled up to the closing quote, and what stands behind it
 abbrev mutual
-  -- up to the closing quote, from any character on
+  -- up to the closing quote (34), from any character on; 92 is the backslash
   pub text_from : List ℕ → Option (List ℕ × List ℕ)
   text_from [] = None
   text_from (c ∷ cs) =
@@ -55,18 +56,18 @@ abbrev mutual
       else if c == 92 then escape_from cs
       else behind_bytes (c ∷ []) (text_from cs)
 
-  -- behind a backslash
+  -- behind a backslash: 117 is `u`
   pub escape_from : List ℕ → Option (List ℕ × List ℕ)
   escape_from [] = None
   escape_from (c ∷ cs) =
       if c == 117 then brace_from cs else behind_char (plain_escape c) (text_from cs)
 
-  -- behind `\u`
+  -- behind `\u`: 123 is `{`
   pub brace_from : List ℕ → Option (List ℕ × List ℕ)
   brace_from [] = None
   brace_from (c ∷ cs) = if c == 123 then digits_from [] cs else None
 
-  -- behind the brace and these digits
+  -- behind the brace and these digits: 125 is `}`
   pub digits_from : List ℕ → List ℕ → Option (List ℕ × List ℕ)
   digits_from digits [] = None
   digits_from digits (c ∷ cs) =

@@ -7,11 +7,11 @@ use Rattle.ecow_script.specs.declared.reason.Reason.TheVariants as reason
 use Rattle.ecow_script.specs.declared.script.Fault.{Fault}
 use Rattle.ecow_script.specs.declared.script.Fault.TheVariants as fault
 
--- a line feed
+-- a line feed (10)
 abbrev pub is_feed : ℕ → Bool
 is_feed c = c == 10
 
--- a line without a carriage return at its end
+-- a line without a carriage return (13) at its end
 abbrev pub without_return : List ℕ → List ℕ
 without_return [] = []
 without_return (c ∷ []) = if c == 13 then [] else c ∷ []
@@ -32,7 +32,7 @@ lines_of_parts (part ∷ next ∷ parts) = without_return part ∷ lines_of_part
 abbrev pub script_lines : List ℕ → List (List ℕ)
 script_lines script = lines_of_parts (slice_split is_feed script)
 
--- a first word that begins a comment
+-- a first word that begins a comment, with `#` (35)
 abbrev pub is_comment : List ℕ → Bool
 is_comment [] = false
 is_comment (c ∷ cs) = c == 35

@@ -13,7 +13,7 @@ use denote.Ref.{Bor}
 use Rattle.std.specs.Str.{chars}
 use Rattle.ecow_script.specs.Quoted.{text_from}
 
--- a space or a tab
+-- a space (32) or a tab (9)
 abbrev pub is_blank : ℕ → Bool
 is_blank c = c == 32 || c == 9
 
@@ -123,15 +123,15 @@ bounds = spelled reason.Bounds bounds_in
 abbrev pub same : List ℕ → List ℕ → Bool
 same = pointwise nat_eq
 
--- a lower case letter
+-- a letter from `a` (97) to `z` (122)
 abbrev pub is_lower : ℕ → Bool
 is_lower c = nat_le 97 c && nat_le c 122
 
--- a letter, a digit or an underscore
+-- such a letter, a digit (48 to 57) or an underscore (95)
 abbrev pub is_name_byte : ℕ → Bool
 is_name_byte c = is_lower c || nat_le 48 c && nat_le c 57 || c == 95
 
--- a letter, and then at most 31 of these
+-- a name: such a letter, and then at most 31 of these
 abbrev pub is_name : List ℕ → Bool
 is_name [] = false
 is_name (c ∷ cs) = is_lower c && nat_lt (length cs) 32 && list_all is_name_byte cs
@@ -183,7 +183,7 @@ text_behind (Some spelled) names =
     if ends_word spelled.1 then Ok (chars spelled.0, place spelled.1 names)
     else Err reason.Text
 
--- a text from its quote on
+-- a text from its quote (34) on
 abbrev pub text_at : List ℕ → List (List ℕ) → Result (List ℕ × Place) Reason
 text_at [] names = Err reason.Arguments
 text_at (c ∷ cs) names = if c == 34 then text_behind (text_from cs) names else Err reason.Text
