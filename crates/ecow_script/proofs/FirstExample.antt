@@ -49,7 +49,8 @@ AskNeither (Bytes c ∷ commands) = ⊥
 AskNeither (Text c ∷ commands) = ⊥
 
 module _ {T : Type 0} where
-  as_unread : (seen : Observation) (old : State T) (c : VecCommand T) → AsksNeither c → carry_out list_rules seen old (vec_usage c) ≡ carry_out list_rules unread old (vec_usage c)
+  as_unread : (seen : Observation) (old : State T) (c : VecCommand T) → AsksNeither c
+      → carry_out list_rules seen old (vec_usage c) ≡ carry_out list_rules unread old (vec_usage c)
   as_unread seen old (vec.New x) h = refl
   as_unread seen old (vec.WithCapacity x n) h = refl
   as_unread seen old (vec.FromList x xs) h = refl
@@ -76,25 +77,32 @@ module _ {T : Type 0} where
 
   -- a step that lacks nothing gives what the definitions give
   next_given : (given : Result (Outcome T × State T) Refusal) (free : _) (old mid : State T) (o : Outcome T) (os : List (Outcome T)) (commands : List (Command T)) → (o ≡ Refused Memory → ⊥) → Gives given free old o mid → os ≡ outcomes 15 unread mid commands → o ∷ os ≡ outcome_then 15 given old (λ new. outcomes 15 unread new commands)
-  next_given (Ok answer) free old mid o os commands lacks (inl w) e = ap (λ more. o ∷ more) e ∙ ap (λ (a : Outcome T × State T). a.0 ∷ outcomes 15 unread a.1 commands) w
+  next_given (Ok answer) free old mid o os commands lacks (inl w) e =
+      ap (λ more. o ∷ more) e
+      ∙ ap (λ (a : Outcome T × State T). a.0 ∷ outcomes 15 unread a.1 commands) w
   next_given (Ok answer) free old mid o os commands lacks (inr h) e = absurd (lacks h.0)
   next_given (Err refusal) free old mid o os commands lacks h e =
       ap (λ more. o ∷ more) e ∙ ap (λ (state : State T). o ∷ outcomes 15 unread state commands) h.1
       ∙ ap (λ (first : Outcome T). first ∷ outcomes 15 unread old commands) h.0
 
   -- a run that lacks nothing has the outcomes of the definitions
-  outcomes_of_run : (commands : List (Command T)) (os : List (Outcome T)) (old new : State T) → AskNeither commands → LackNothing os → Run 15 old commands os new → os ≡ outcomes 15 unread old commands
+  outcomes_of_run : (commands : List (Command T)) (os : List (Outcome T)) (old new : State T)
+      → AskNeither commands → LackNothing os → Run 15 old commands os new
+      → os ≡ outcomes 15 unread old commands
   outcomes_of_run [] [] old new h lacks run = refl
   outcomes_of_run [] (o ∷ os) old new h lacks run = absurd run
   outcomes_of_run (c ∷ commands) [] old new h lacks run = absurd run
   outcomes_of_run (Bytes c ∷ commands) (o ∷ os) old new h lacks run = absurd h
   outcomes_of_run (Text c ∷ commands) (o ∷ os) old new h lacks run = absurd h
   outcomes_of_run (Vec c ∷ commands) (o ∷ os) old new h lacks run =
-      next_given (carry_out list_rules unread old (vec_usage c)) (use_is_free list_rules old (vec_usage c)) old run.0 o os commands lacks.0
-      (subst (λ given. Gives given (use_is_free list_rules old (vec_usage c)) old o run.0) (as_unread (observation_in o) old c h.0) run.1)
+      next_given (carry_out list_rules unread old (vec_usage c))
+      (use_is_free list_rules old (vec_usage c)) old run.0 o os commands lacks.0
+      (subst (λ given. Gives given (use_is_free list_rules old (vec_usage c)) old o run.0)
+      (as_unread (observation_in o) old c h.0) run.1)
       (outcomes_of_run commands os run.0 new h.1 lacks.1 run.2)
 
-get_inserted : (m : State ℤ) (k : ℕ) (v : Plain ℤ) (q : ℕ) → get (insert m k v) q ≡ cond (eq_by_cmp nat_cmp q k) (Some v) (get m q)
+get_inserted : (m : State ℤ) (k : ℕ) (v : Plain ℤ) (q : ℕ)
+    → get (insert m k v) q ≡ cond (eq_by_cmp nat_cmp q k) (Some v) (get m q)
 get_inserted = get-insert nat_cmp_total
 
 get_none : (q : ℕ) → get (empty {X = Plain ℤ} {R = nat_cmp}) q ≡ None
@@ -104,7 +112,8 @@ ruleset rules = (get_inserted, get_none)
 
 abbrev nine : List (Outcome ℤ)
 nine =
-    Done ∷ Done ∷ Done ∷ Done ∷ Done ∷ Done ∷ Elements [] ∷ Elements (pos 1 ∷ pos 2 ∷ pos 3 ∷ pos 4 ∷ []) ∷ Elements (pos 1 ∷ [])
+    Done ∷ Done ∷ Done ∷ Done ∷ Done ∷ Done ∷ Elements [] ∷ Elements
+    (pos 1 ∷ pos 2 ∷ pos 3 ∷ pos 4 ∷ []) ∷ Elements (pos 1 ∷ [])
     ∷ []
 
 nine_outcomes : outcomes 15 unread empty first_commands ≡ nine
@@ -115,8 +124,12 @@ unfolding Rattle.std.specs.Fmt.digits
 nine_lines = refl
 
 -- every run that lacks nothing answers the nine lines
-pub first_answered : (os : List (Outcome ℤ)) (last : State ℤ) → Run 15 empty first_commands os last → LackNothing os → answer_lines os ≡ first_answers
-first_answered os last run lacks = ap answer_lines (outcomes_of_run first_commands os empty last (tt, (tt, (tt, (tt, (tt, (tt, (tt, (tt, (tt, tt))))))))) lacks run ∙ nine_outcomes) ∙ nine_lines
+pub first_answered : (os : List (Outcome ℤ)) (last : State ℤ) → Run 15 empty first_commands os last
+    → LackNothing os → answer_lines os ≡ first_answers
+first_answered os last run lacks =
+    ap answer_lines
+    (outcomes_of_run first_commands os empty last
+    (tt, (tt, (tt, (tt, (tt, (tt, (tt, (tt, (tt, tt))))))))) lacks run ∙ nine_outcomes) ∙ nine_lines
 
 -- ---- in the counted keeping
 
@@ -125,26 +138,35 @@ first_counted_read = refl
 
 module _ {T : Type 0} where
   -- what follows a command, by the names after it
-  abbrev go_on : {X : Type 0} → Result (Outcome T × Names T) Refusal → Names T → (Outcome T → Names T → X) → X
+  abbrev go_on : {X : Type 0} → Result (Outcome T × Names T) Refusal → Names T
+      → (Outcome T → Names T → X) → X
   go_on (Ok answer) old rest = rest answer.0 answer.1
   go_on (Err refusal) old rest = rest (Refused refusal) old
 
   -- the outcomes of these commands where none lacks memory
   abbrev outcomes_of_all : Names T → List (VecCommand T) → List (Outcome T)
   outcomes_of_all names [] = []
-  outcomes_of_all names (c ∷ cs) = go_on (counted_carry_out names (vec_usage c)) names (λ outcome new. outcome ∷ outcomes_of_all new cs)
+  outcomes_of_all names (c ∷ cs) =
+      go_on (counted_carry_out names (vec_usage c)) names
+      (λ outcome new. outcome ∷ outcomes_of_all new cs)
 
   -- the names after them
   abbrev names_after_all : Names T → List (VecCommand T) → Names T
   names_after_all names [] = names
-  names_after_all names (c ∷ cs) = go_on (counted_carry_out names (vec_usage c)) names (λ outcome new. names_after_all new cs)
+  names_after_all names (c ∷ cs) =
+      go_on (counted_carry_out names (vec_usage c)) names (λ outcome new. names_after_all new cs)
 
   step_goes_on : {X : Type 0} (given : Result (Outcome T × Names T) Refusal) (free : _) (old mid : Names T) (o : Outcome T) (rest : Outcome T → Names T → X) → (o ≡ Refused Memory → ⊥) → Gives given free old o mid → rest o mid ≡ go_on given old rest
-  step_goes_on (Ok answer) free old mid o rest lacks (inl w) = ap (λ (a : Outcome T × Names T). rest a.0 a.1) w
+  step_goes_on (Ok answer) free old mid o rest lacks (inl w) =
+      ap (λ (a : Outcome T × Names T). rest a.0 a.1) w
   step_goes_on (Ok answer) free old mid o rest lacks (inr h) = absurd (lacks h.0)
-  step_goes_on (Err refusal) free old mid o rest lacks h = ap (λ (first : Outcome T). rest first mid) h.0 ∙ ap (λ (names : Names T). rest (Refused refusal) names) h.1
+  step_goes_on (Err refusal) free old mid o rest lacks h =
+      ap (λ (first : Outcome T). rest first mid) h.0
+      ∙ ap (λ (names : Names T). rest (Refused refusal) names) h.1
 
-  counted_run_is : (cs : List (VecCommand T)) (os : List (Outcome T)) (old new : Names T) → LackNothing os → CountedRun old cs os new → (os ≡ outcomes_of_all old cs) × (new ≡ names_after_all old cs)
+  counted_run_is : (cs : List (VecCommand T)) (os : List (Outcome T)) (old new : Names T)
+      → LackNothing os → CountedRun old cs os new
+      → (os ≡ outcomes_of_all old cs) × (new ≡ names_after_all old cs)
   counted_run_is [] [] old new lacks run = (refl, run)
   counted_run_is [] (o ∷ os) old new lacks run = absurd run
   counted_run_is (c ∷ cs) [] old new lacks run = absurd run
@@ -153,8 +175,10 @@ module _ {T : Type 0} where
       let free = counted_is_free old (vec_usage c) in
       let more = counted_run_is cs os run.0 new lacks.1 run.2 in (
         ap (λ (rest : List (Outcome T)). o ∷ rest) more.0
-            ∙ step_goes_on given free old run.0 o (λ outcome names. outcome ∷ outcomes_of_all names cs) lacks.0 run.1,
-        more.1 ∙ step_goes_on given free old run.0 o (λ outcome names. names_after_all names cs) lacks.0 run.1,
+            ∙ step_goes_on given free old run.0 o
+            (λ outcome names. outcome ∷ outcomes_of_all names cs) lacks.0 run.1,
+        more.1 ∙ step_goes_on given free old run.0 o
+            (λ outcome names. names_after_all names cs) lacks.0 run.1,
       )
 
 none_entered : finite.entries (finite.empty {X = Held ℤ} {R = nat_cmp}) ≡ []
@@ -163,13 +187,15 @@ none_entered = entries-empty
 removed : (m : Names ℤ) (k : ℕ) → finite.entries (finite.remove m k) ≡ where_key nat_cmp (λ x. not (eq_by_cmp nat_cmp k x)) (finite.entries m)
 removed = entries-remove
 
-entered : (m : Names ℤ) (k : ℕ) (v : Held ℤ) → finite.entries (finite.insert m k v) ≡ put nat_cmp k v (finite.entries m)
+entered : (m : Names ℤ) (k : ℕ) (v : Held ℤ)
+    → finite.entries (finite.insert m k v) ≡ put nat_cmp k v (finite.entries m)
 entered = entries-insert
 
 looked_up : (m : Names ℤ) (q : ℕ) → finite.get m q ≡ find nat_cmp q (finite.entries m)
 looked_up = get-entries
 
-mapped : (f : Held ℤ → Held ℤ) (m : Names ℤ) → finite.entries (map_values f m) ≡ map (λ e. (e.0, f e.1)) (finite.entries m)
+mapped : (f : Held ℤ → Held ℤ) (m : Names ℤ)
+    → finite.entries (map_values f m) ≡ map (λ e. (e.0, f e.1)) (finite.entries m)
 mapped = entries-map_values
 
 ruleset table_rules = (none_entered, removed, entered, looked_up, mapped)
@@ -194,12 +220,22 @@ unfolding Rattle.std.specs.Fmt.digits
 last_line = refl
 
 -- every run in the counted keeping that lacks nothing answers them, and a tenth
-pub first_counted : (os : List (Outcome ℤ)) (last : CountedState ℤ) → IsRunOf new_table first_list_commands os last → LackNothing os → answer_lines os ++ totals_line last ≡ first_answers ++ first_totals
+pub first_counted : (os : List (Outcome ℤ)) (last : CountedState ℤ)
+    → IsRunOf new_table first_list_commands os last → LackNothing os
+    → answer_lines os ++ totals_line last ≡ first_answers ++ first_totals
 first_counted os last run lacks =
     let is = counted_run_is first_list_commands os finite.empty last.names lacks run.run in
     let outcomes_are : os ≡ nine = is.0 ∙ nine_counted in
-    let copied : last.copied ≡ 4 = run.copied ∙ ap (λ (answers : List (Outcome ℤ)). saturating 0 (copied_in_run finite.empty first_list_commands answers)) outcomes_are ∙ ap (saturating 0) four_copied in
-    let moved : last.moved ≡ 0 = run.moved ∙ ap (λ (answers : List (Outcome ℤ)). saturating 0 (moved_in_run finite.empty first_list_commands answers)) outcomes_are ∙ ap (saturating 0) none_moved in
+    let copied : last.copied ≡ 4 =
+    run.copied
+    ∙ ap (λ (answers : List (Outcome ℤ)). saturating 0
+    (copied_in_run finite.empty first_list_commands answers)) outcomes_are
+    ∙ ap (saturating 0) four_copied in
+    let moved : last.moved ≡ 0 =
+    run.moved
+    ∙ ap (λ (answers : List (Outcome ℤ)). saturating 0
+    (moved_in_run finite.empty first_list_commands answers)) outcomes_are
+    ∙ ap (saturating 0) none_moved in
     let held : blocks last.names ≡ 3 = ap (λ (names : Names ℤ). blocks names) is.1 ∙ three_blocks in
     ap (λ (answers : List (Outcome ℤ)). answer_lines answers ++ totals_line last) outcomes_are
     ∙ ap (λ (lines : List ℕ). lines ++ totals_line last) nine_lines

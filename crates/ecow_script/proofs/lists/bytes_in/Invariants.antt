@@ -6,4 +6,8 @@ use Rattle.ecow_script.specs.Parts.{behind}
 use Rattle.ecow_script.proofs.lists.bytes_in.Given as goal
 
 abbrev pub invariant-loop-part : goal.invariant-loop-part
-invariant-loop-part l = behind l.items.items (each_in byte_in (drop (length l.yielded) (slice_split (λ b. b == 44) l.inner))) ≡ each_in byte_in (slice_split (λ b. b == 44) l.inner)
+invariant-loop-part l =
+    behind l.items.items
+    (each_in byte_in
+    (drop (length l.yielded) (slice_split (λ b. b == 44) l.inner))) ≡ each_in byte_in
+    (slice_split (λ b. b == 44) l.inner)

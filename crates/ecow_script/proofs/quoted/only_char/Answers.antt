@@ -28,4 +28,5 @@ returns-in-Some c =
     sym c.chars-chars.ensures.rest ∙ c.in_ok-first.ensures.steps.0 in
     let utf8 : IsUtf8 rest = IsUtf8-past_char c.args.text.now rest first c.utf8.text e in
     sym (ap only (chars_past_char c.args.text.now rest first c.utf8.text e
-    ∙ ap (λ (cs : List ℕ). first ∷ cs) (chars_past_char rest behind second utf8 c.in-Some.ensures.steps.0)))
+    ∙ ap (λ (cs : List ℕ). first ∷ cs)
+    (chars_past_char rest behind second utf8 c.in-Some.ensures.steps.0)))

@@ -10,7 +10,8 @@ use Rattle.ecow_script.proofs.run.answers_of.Goals as goal
 pub pieces-init : goal.pieces-init
 pieces-init g c = (
   [],
-  sym (front_nil (commands_ahead g.C.Scripted.form c.new-rest.result) ∙ ap (commands_ahead g.C.Scripted.form) c.new-rest.ensures),
+  sym (front_nil (commands_ahead g.C.Scripted.form c.new-rest.result)
+      ∙ ap (commands_ahead g.C.Scripted.form) c.new-rest.ensures),
   λ _. ([], g.K.Keeping.runs_none c.args.keeping.now, c.new-answers.ensures.bytes),
 )
 
@@ -19,13 +20,15 @@ pieces-preserved g c =
     let done = c.pieces.invariant in
     let piece = c.in_ok-piece.piece.items in (
       done.0 ++ piece,
-      done.1 ∙ ap (λ r. with_front done.0 r) c.in_ok-piece.ensures.commands ∙ front_front done.0 piece (commands_ahead g.C.Scripted.form c.next_piece.new.self),
+      done.1 ∙ ap (λ r. with_front done.0 r) c.in_ok-piece.ensures.commands
+          ∙ front_front done.0 piece (commands_ahead g.C.Scripted.form c.next_piece.new.self),
       λ is.
           let more = c.run_piece-ran.ensures is in
           let before = done.2 more.1 in (
             before.0 ++ more.0,
             g.K.Keeping.runs_on _ _ _ _ _ _ _ before.1 more.2,
-            more.3 ∙ ap (λ (bytes : List ℕ). bytes ++ answer_lines more.0) before.2 ∙ sym (flat_map-append answer_line before.0 more.0),
+            more.3 ∙ ap (λ (bytes : List ℕ). bytes ++ answer_lines more.0) before.2
+                ∙ sym (flat_map-append answer_line before.0 more.0),
           ),
     )
 
@@ -43,7 +46,11 @@ returns-then-ran-clause-answers g c =
       done.0,
       before.0,
       done.1
-          ∙ ap (with_front done.0) (c.in_ok-piece.ensures.commands ∙ ap (with_front piece.items) (all_read form c.next_piece.new.self (c.in_ok-piece.ensures.end none)) ∙ ap (λ xs. with_front xs (Ok [])) (empty piece.items none))
+          ∙ ap (with_front done.0)
+          (c.in_ok-piece.ensures.commands
+          ∙ ap (with_front piece.items)
+          (all_read form c.next_piece.new.self (c.in_ok-piece.ensures.end none))
+          ∙ ap (λ xs. with_front xs (Ok [])) (empty piece.items none))
           ∙ ap Ok (append-nil done.0),
       before.1,
       before.2,

@@ -12,7 +12,8 @@ loop-self-preserved g c =
           c.loop-self.invariant.commands
           ∙ ap (λ r. with_front front r) c.in_ok-command.ensures.commands
           ∙ front_behind front c.in_ok-command.command (commands_ahead form c.next_line.new.self)
-          ∙ ap (λ xs. with_front xs (commands_ahead form c.next_line.new.self)) (sym c.in_ok-put.ensures);
+          ∙ ap (λ xs. with_front xs (commands_ahead form c.next_line.new.self))
+          (sym c.in_ok-put.ensures);
       shorter = λ _. omega (arith, c.in_ok-command.ensures.shorter, c.loop-self.invariant.behind);
       behind = omega (arith, c.in_ok-command.ensures.shorter, c.loop-self.invariant.behind);
     }
