@@ -33,8 +33,8 @@ pub first_read : script_commands store_form first_script ≡ Ok first_commands
 first_read = refl
 
 -- what Capacity and Unique read in scripts that don't ask for them
-abbrev unread : Observation
-unread = record { capacity = 0; unique = false }
+abbrev unseen : Observation
+unseen = record { capacity = 0; unique = false }
 
 -- commands on lists that ask for neither
 abbrev AsksNeither : {T : Type 0} → VecCommand T → Type 0
@@ -49,56 +49,59 @@ AskNeither (Bytes c ∷ commands) = ⊥
 AskNeither (Text c ∷ commands) = ⊥
 
 module _ {T : Type 0} where
-  as_unread : (seen : Observation) (old : State T) (c : VecCommand T) → AsksNeither c
-      → carry_out list_rules seen old (vec_usage c) ≡ carry_out list_rules unread old (vec_usage c)
-  as_unread seen old (vec.New x) h = refl
-  as_unread seen old (vec.WithCapacity x n) h = refl
-  as_unread seen old (vec.FromList x xs) h = refl
-  as_unread seen old (vec.FromElem x v n) h = refl
-  as_unread seen old (vec.Clone x y) h = refl
-  as_unread seen old (vec.Drop x) h = refl
-  as_unread seen old (vec.Push x v) h = refl
-  as_unread seen old (vec.Pop x) h = refl
-  as_unread seen old (vec.Insert x i v) h = refl
-  as_unread seen old (vec.Remove x i) h = refl
-  as_unread seen old (vec.Write x i v) h = refl
-  as_unread seen old (vec.Truncate x n) h = refl
-  as_unread seen old (vec.Clear x) h = refl
-  as_unread seen old (vec.Retain x marks) h = refl
-  as_unread seen old (vec.Drain x bounds) h = refl
-  as_unread seen old (vec.Splice x bounds xs) h = refl
-  as_unread seen old (vec.Extend x xs) h = refl
-  as_unread seen old (vec.Reserve x n) h = refl
-  as_unread seen old (vec.Read x i) h = refl
-  as_unread seen old (vec.Len x) h = refl
-  as_unread seen old (vec.Contents x) h = refl
-  as_unread seen old (vec.Capacity x) h = absurd h
-  as_unread seen old (vec.Unique x) h = absurd h
+  as_unseen : (seen : Observation) (old : State T) (c : VecCommand T) → AsksNeither c
+      → carry_out list_rules seen old (vec_usage c) ≡ carry_out list_rules unseen old (vec_usage c)
+  as_unseen seen old (vec.New x) h = refl
+  as_unseen seen old (vec.WithCapacity x n) h = refl
+  as_unseen seen old (vec.FromList x xs) h = refl
+  as_unseen seen old (vec.FromElem x v n) h = refl
+  as_unseen seen old (vec.Clone x y) h = refl
+  as_unseen seen old (vec.Drop x) h = refl
+  as_unseen seen old (vec.Push x v) h = refl
+  as_unseen seen old (vec.Pop x) h = refl
+  as_unseen seen old (vec.Insert x i v) h = refl
+  as_unseen seen old (vec.Remove x i) h = refl
+  as_unseen seen old (vec.Write x i v) h = refl
+  as_unseen seen old (vec.Truncate x n) h = refl
+  as_unseen seen old (vec.Clear x) h = refl
+  as_unseen seen old (vec.Retain x marks) h = refl
+  as_unseen seen old (vec.Drain x bounds) h = refl
+  as_unseen seen old (vec.Splice x bounds xs) h = refl
+  as_unseen seen old (vec.Extend x xs) h = refl
+  as_unseen seen old (vec.Reserve x n) h = refl
+  as_unseen seen old (vec.Read x i) h = refl
+  as_unseen seen old (vec.Len x) h = refl
+  as_unseen seen old (vec.Contents x) h = refl
+  as_unseen seen old (vec.Capacity x) h = absurd h
+  as_unseen seen old (vec.Unique x) h = absurd h
 
   -- a step that lacks nothing gives what the definitions give
-  next_given : (given : Result (Outcome T × State T) Refusal) (free : _) (old mid : State T) (o : Outcome T) (os : List (Outcome T)) (commands : List (Command T)) → (o ≡ Refused Memory → ⊥) → Gives given free old o mid → os ≡ outcomes 15 unread mid commands → o ∷ os ≡ outcome_then 15 given old (λ new. outcomes 15 unread new commands)
+  next_given : (given : Result (Outcome T × State T) Refusal) (free : _) (old mid : State T)
+      (o : Outcome T) (os : List (Outcome T)) (commands : List (Command T))
+      → (o ≡ Refused Memory → ⊥) → Gives given free old o mid → os ≡ outcomes 15 unseen mid commands
+      → o ∷ os ≡ outcome_then 15 given old (λ new. outcomes 15 unseen new commands)
   next_given (Ok answer) free old mid o os commands lacks (inl w) e =
       ap (λ more. o ∷ more) e
-      ∙ ap (λ (a : Outcome T × State T). a.0 ∷ outcomes 15 unread a.1 commands) w
+      ∙ ap (λ (a : Outcome T × State T). a.0 ∷ outcomes 15 unseen a.1 commands) w
   next_given (Ok answer) free old mid o os commands lacks (inr h) e = absurd (lacks h.0)
   next_given (Err refusal) free old mid o os commands lacks h e =
-      ap (λ more. o ∷ more) e ∙ ap (λ (state : State T). o ∷ outcomes 15 unread state commands) h.1
-      ∙ ap (λ (first : Outcome T). first ∷ outcomes 15 unread old commands) h.0
+      ap (λ more. o ∷ more) e ∙ ap (λ (state : State T). o ∷ outcomes 15 unseen state commands) h.1
+      ∙ ap (λ (first : Outcome T). first ∷ outcomes 15 unseen old commands) h.0
 
   -- a run that lacks nothing has the outcomes of the definitions
   outcomes_of_run : (commands : List (Command T)) (os : List (Outcome T)) (old new : State T)
       → AskNeither commands → LackNothing os → Run 15 old commands os new
-      → os ≡ outcomes 15 unread old commands
+      → os ≡ outcomes 15 unseen old commands
   outcomes_of_run [] [] old new h lacks run = refl
   outcomes_of_run [] (o ∷ os) old new h lacks run = absurd run
   outcomes_of_run (c ∷ commands) [] old new h lacks run = absurd run
   outcomes_of_run (Bytes c ∷ commands) (o ∷ os) old new h lacks run = absurd h
   outcomes_of_run (Text c ∷ commands) (o ∷ os) old new h lacks run = absurd h
   outcomes_of_run (Vec c ∷ commands) (o ∷ os) old new h lacks run =
-      next_given (carry_out list_rules unread old (vec_usage c))
+      next_given (carry_out list_rules unseen old (vec_usage c))
       (use_is_free list_rules old (vec_usage c)) old run.0 o os commands lacks.0
       (subst (λ given. Gives given (use_is_free list_rules old (vec_usage c)) old o run.0)
-      (as_unread (observation_in o) old c h.0) run.1)
+      (as_unseen (observation_in o) old c h.0) run.1)
       (outcomes_of_run commands os run.0 new h.1 lacks.1 run.2)
 
 get_inserted : (m : State ℤ) (k : ℕ) (v : Plain ℤ) (q : ℕ)
@@ -116,7 +119,7 @@ nine =
     (pos 1 ∷ pos 2 ∷ pos 3 ∷ pos 4 ∷ []) ∷ Elements (pos 1 ∷ [])
     ∷ []
 
-nine_outcomes : outcomes 15 unread empty first_commands ≡ nine
+nine_outcomes : outcomes 15 unseen empty first_commands ≡ nine
 nine_outcomes = simp rules refl
 
 nine_lines : answer_lines nine ≡ first_answers
@@ -156,7 +159,9 @@ module _ {T : Type 0} where
   names_after_all names (c ∷ cs) =
       go_on (counted_carry_out names (vec_usage c)) names (λ outcome new. names_after_all new cs)
 
-  step_goes_on : {X : Type 0} (given : Result (Outcome T × Names T) Refusal) (free : _) (old mid : Names T) (o : Outcome T) (rest : Outcome T → Names T → X) → (o ≡ Refused Memory → ⊥) → Gives given free old o mid → rest o mid ≡ go_on given old rest
+  step_goes_on : {X : Type 0} (given : Result (Outcome T × Names T) Refusal) (free : _)
+      (old mid : Names T) (o : Outcome T) (rest : Outcome T → Names T → X)
+      → (o ≡ Refused Memory → ⊥) → Gives given free old o mid → rest o mid ≡ go_on given old rest
   step_goes_on (Ok answer) free old mid o rest lacks (inl w) =
       ap (λ (a : Outcome T × Names T). rest a.0 a.1) w
   step_goes_on (Ok answer) free old mid o rest lacks (inr h) = absurd (lacks h.0)
@@ -184,7 +189,9 @@ module _ {T : Type 0} where
 none_entered : finite.entries (finite.empty {X = Held ℤ} {R = nat_cmp}) ≡ []
 none_entered = entries-empty
 
-removed : (m : Names ℤ) (k : ℕ) → finite.entries (finite.remove m k) ≡ where_key nat_cmp (λ x. not (eq_by_cmp nat_cmp k x)) (finite.entries m)
+removed : (m : Names ℤ) (k : ℕ)
+    → finite.entries (finite.remove m k)
+    ≡ where_key nat_cmp (λ x. not (eq_by_cmp nat_cmp k x)) (finite.entries m)
 removed = entries-remove
 
 entered : (m : Names ℤ) (k : ℕ) (v : Held ℤ)
@@ -213,7 +220,9 @@ none_moved : moved_in_run finite.empty first_list_commands nine ≡ 0
 none_moved = simp table_rules refl
 
 abbrev totals : ℕ → ℕ → ℕ → List ℕ
-totals b c m = codes "blocks " ++ decimal b ++ codes " copied " ++ decimal c ++ codes " moved " ++ decimal m ++ codes "\n"
+totals b c m =
+    codes "blocks " ++ decimal b ++ codes " copied " ++ decimal c ++ codes " moved " ++ decimal m
+    ++ codes "\n"
 
 last_line : totals 3 4 0 ≡ first_totals
 unfolding Rattle.std.specs.Fmt.digits

@@ -62,7 +62,9 @@ split_again : (part : List ℕ) (parts : List (List ℕ)) → 0 < length parts
 split_again part [] h = absurd (omega arith)
 split_again part (next ∷ parts) h = refl
 
-parts_next : (part : List ℕ) (xs : List ℕ) → lines_of_parts (part ∷ slice_split is_feed xs) ≡ without_return part ∷ lines_of_parts (slice_split is_feed xs)
+parts_next : (part : List ℕ) (xs : List ℕ)
+    → lines_of_parts (part ∷ slice_split is_feed xs)
+    ≡ without_return part ∷ lines_of_parts (slice_split is_feed xs)
 parts_next part xs =
     split_again part (slice_split is_feed xs) (omega (arith, length-slice_split is_feed xs))
 
@@ -71,7 +73,9 @@ last_is [] h = absurd (omega arith)
 last_is (c ∷ cs) h = refl
 
 -- the first line of a text, and the lines of what stands behind it
-pub lines_step : (text : List ℕ) → 0 < length text → script_lines text ≡ without_return (before_first is_feed text) ∷ script_lines (after_first is_feed text)
+pub lines_step : (text : List ℕ) → 0 < length text
+    → script_lines text
+    ≡ without_return (before_first is_feed text) ∷ script_lines (after_first is_feed text)
 lines_step text h =
     elim (cases_place is_feed text) [
       | inl l ↦
@@ -92,7 +96,11 @@ lines_step text h =
 -- ---- commands
 
 module _ {C : Type 0} where
-  pub commands_step : (form : List ℕ → Reading C) (l : Unread) → 0 < length l.text → commands_ahead form l ≡ behind_line l.number (line_command form (place (without_return (before_first is_feed l.text)) l.names)) (commands_on form (script_lines (after_first is_feed l.text)) (l.number + 1))
+  pub commands_step : (form : List ℕ → Reading C) (l : Unread) → 0 < length l.text
+      → commands_ahead form l
+      ≡ behind_line l.number
+      (line_command form (place (without_return (before_first is_feed l.text)) l.names))
+      (commands_on form (script_lines (after_first is_feed l.text)) (l.number + 1))
   commands_step form l h =
       ap (λ lines. commands_on form lines l.number l.names) (lines_step l.text h)
 

@@ -10,11 +10,7 @@ use Rattle.std.proofs.lemmas.Bool.Decides.{nat_tests}
 use Rattle.std.proofs.lemmas.Fmt.{hex_one_digit, hex_two_digits}
 use Rattle.ecow_script.specs.Quoted.{text_from, escape_from, digits_from, behind_bytes, behind_char, scalar_in, hex_behind, scalar}
 use Rattle.ecow_script.specs.Answers.{escaped}
-use Rattle.ecow_script.proofs.QuotedLemmas.{bytes_bytes}
-
-no_bytes : (r : Option (List ℕ × List ℕ)) → r ≡ behind_bytes [] r
-no_bytes None = refl
-no_bytes (Some s) = refl
+use Rattle.ecow_script.proofs.QuotedLemmas.{bytes_bytes, no_bytes}
 
 -- bytes that stand for themselves
 abbrev ArePlain : List ℕ → Type 0
@@ -106,13 +102,17 @@ two_digits c d h k =
 abbrev control : List ℕ → List ℕ
 control ds = (92 ∷ 117 ∷ 123 ∷ []) ++ ds ++ 125 ∷ []
 
-one_again : (d : ℕ) (tail : List ℕ) → d < 16 → text_from (control (digit_glyph false d ∷ []) ++ tail) ≡ behind_bytes (encode_utf8 d) (text_from tail)
+one_again : (d : ℕ) (tail : List ℕ) → d < 16
+    → text_from (control (digit_glyph false d ∷ []) ++ tail)
+    ≡ behind_bytes (encode_utf8 d) (text_from tail)
 one_again d tail h =
     ap (λ b. cond b (behind_char (scalar_in []) (text_from (125 ∷ tail)))
     (behind_char (scalar_in (digit_glyph false d ∷ [])) (text_from tail))) (glyph_open d h)
     ∙ ap (λ s. behind_char s (text_from tail)) (one_digit d h)
 
-two_again : (c d : ℕ) (tail : List ℕ) → c < 16 → d < 16 → text_from (control (digit_glyph false c ∷ digit_glyph false d ∷ []) ++ tail) ≡ behind_bytes (encode_utf8 (c * 16 + d)) (text_from tail)
+two_again : (c d : ℕ) (tail : List ℕ) → c < 16 → d < 16
+    → text_from (control (digit_glyph false c ∷ digit_glyph false d ∷ []) ++ tail)
+    ≡ behind_bytes (encode_utf8 (c * 16 + d)) (text_from tail)
 two_again c d tail h k =
     ap (λ b. cond b (behind_char (scalar_in []) (text_from (digit_glyph false d ∷ 125 ∷ tail)))
     (digits_from (digit_glyph false c ∷ []) (digit_glyph false d ∷ 125 ∷ tail)))
@@ -122,7 +122,9 @@ two_again c d tail h k =
     (glyph_open d k)
     ∙ ap (λ s. behind_char s (text_from tail)) (two_digits c d h k)
 
-control_again : (c : ℕ) (tail : List ℕ) → c < 256 → text_from (control (digits 16 false c) ++ tail) ≡ behind_bytes (encode_utf8 c) (text_from tail)
+control_again : (c : ℕ) (tail : List ℕ) → c < 256
+    → text_from (control (digits 16 false c) ++ tail)
+    ≡ behind_bytes (encode_utf8 c) (text_from tail)
 control_again c tail h =
     elim (cases_lt c 16) [
       | inl low ↦

@@ -4,11 +4,6 @@ use Rattle.ecow_script.specs.declared.reason.Reason.{Reason}
 use Rattle.ecow_script.specs.declared.reason.Misfit.{Misfit}
 use Rattle.ecow_script.specs.declared.reason.Misfit.TheVariants.{Expected, Memory}
 
--- a value that may be absent, and the reason where it is
-abbrev pub or_expected : {A : Type 0} → Reason → Option A → Result A Reason
-or_expected reason (Some x) = Ok x
-or_expected reason None = Err reason
-
 -- a reader fails where the form does, and for its reason, unless memory ran out
 abbrev pub Fails : {A : Type 0} → Misfit → Result A Reason → Type 0
 Fails (Expected reason) form = form ≡ Err reason

@@ -19,6 +19,7 @@ returns-clause-answers c =
       read.1,
       last,
       read.2,
-      subst (λ (table : CountedState ℤ). CountedRuns table read.0 read.1 last) is_new read.3 new_is_valid,
+      subst (λ (table : CountedState ℤ). CountedRuns table read.0 read.1 last) is_new read.3
+          new_is_valid,
       c.in_ok-write_totals.ensures ∙ ap (λ (bytes : List ℕ). bytes ++ totals_line last) read.4,
     )

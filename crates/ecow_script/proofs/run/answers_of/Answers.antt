@@ -58,5 +58,7 @@ returns-then-ran-clause-answers g c =
 
 pub returns-in_err-piece-clause-fault : goal.returns-in_err-piece-clause-fault
 returns-in_err-piece-clause-fault g c =
-    let all = front_fault c.pieces.invariant.0 _ _ c.in_err-piece.field-0.0 c.pieces.invariant.1 c.in_err-piece.ensures.fault in
+    let all =
+    front_fault c.pieces.invariant.0 _ _ c.in_err-piece.field-0.0 c.pieces.invariant.1
+    c.in_err-piece.ensures.fault in
     search rules

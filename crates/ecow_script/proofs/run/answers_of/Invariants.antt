@@ -7,7 +7,9 @@ use Rattle.ecow_script.proofs.run.answers_of.Given as goal
 -- the commands that were read, and, where all were carried out, their outcomes
 abbrev pub invariant-pieces : goal.invariant-pieces
 invariant-pieces g l =
-    (done : List g.row.C.Denot) × (script_commands g.C.Scripted.form l.fn.script ≡ with_front done (commands_ahead g.C.Scripted.form l.rest))
+    (done : List g.row.C.Denot) ×
+    (script_commands g.C.Scripted.form l.fn.script
+    ≡ with_front done (commands_ahead g.C.Scripted.form l.rest))
     × (l.ran ≡ true →
     (outcomes : List (Outcome ℤ)) × g.K.Keeping.runs l.fn.keeping done outcomes l.keeping ×
     (string_bytes l.answers ≡ answer_lines outcomes))
