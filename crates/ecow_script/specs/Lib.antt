@@ -11,6 +11,7 @@ pub mod Commands
 pub mod Scripts
 pub mod Reasons
 pub mod Naming
+pub mod Numbering
 pub mod Quoted
 pub mod QuotedViews
 pub mod Runs

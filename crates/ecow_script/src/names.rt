@@ -3,6 +3,7 @@ ghost use Rattle.std.specs.Prelude.{◌≡◌, ◌∷◌, [], ◌++◌, length, 
 ghost use Rattle.std.specs.Str.{bytes_eq};
 ghost use Rattle.ecow_script.specs.Words.{number_of};
 ghost use Rattle.ecow_script.specs.Naming.{packed, number_at, by_key, short_at, long_at, further_at, IsBytes};
+ghost use Rattle.ecow_script.specs.Numbering.{Numbering, Numbering-prop};
 
 use ecow_model::Name;
 use std::alloc::{AllocError, Global};
@@ -16,11 +17,13 @@ const SHORT: usize = 7;
 /// together there and are found one after another; so further names stand in a tree.
 const HASHED: usize = 1024;
 
-/// The names that were read so far, numbered from 0 in the order in which they came.
+/// The names that were read so far, numbered from 0 in the order in which they came. Their list is
+/// known to a proof alone.
 #[derive(Drop)]
 pub(crate) struct Names<'a> {
-    words: Vec<&'a str>,
+    count: Name,
     maps: Maps<'a>,
+    ghost listed: { Numbering (number_at maps) count } by { Numbering-prop (number_at maps) count },
 }
 
 /// The numbers of names.
@@ -133,16 +136,11 @@ fn packed(word: &[u8]) -> Option<u64>
 }
 
 impl<'a> Model for Names<'a> {
-    ghost use Rattle.std.specs.Prelude.{◌≡◌, List, ℕ, map};
-    ghost use Rattle.ecow_script.specs.Naming.{number_at, IsBytes};
-    ghost use Rattle.ecow_script.specs.Words.{number_of};
+    ghost use Rattle.std.specs.Prelude.{List, ℕ};
 
     ghost Value = { List (List ℕ) };
 
-    ghost view = { λ a. map (λ w. w.now) a.words.items };
-
-    ghost invariant = { λ a. (word : List ℕ) → IsBytes word
-        → number_at a.maps word ≡ number_of word (map (λ w. w.now) a.words.items) };
+    ghost view = { λ a. a.listed.0 };
 }
 
 impl<'a> Names<'a> {
@@ -151,7 +149,7 @@ impl<'a> Names<'a> {
         ensures { result ≡ [] }
     {
         Names {
-            words: Vec::new(alloc),
+            count: 0,
             maps: Maps::new(alloc),
         }
     }
@@ -170,12 +168,12 @@ impl<'a> Names<'a> {
         ensures ok { OnOk result (self.new ≡ self.old ++ word.now ∷ []) }
         ensures unchanged { OnErr result (self.new ≡ self.old) }
     {
-        let Ok(number) = Name::try_from(self.words.len()) else {
+        let number = self.count;
+        let Some(count) = number.checked_add(1) else {
             return Err(AllocError);
         };
-        self.words.reserve(1)?;
         self.maps.put(word, number)?;
-        self.words.push_reserved(word);
+        self.count = count;
         Ok(number)
     }
 }
