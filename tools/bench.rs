@@ -1,17 +1,19 @@
 //! Times the loops of `ecow_bench` beside the same loops on the original crate, those of lists also on `Rc<Vec<T>>`. Each is
 //! run in a process of its own, by turns, and what counts is the least processor time of so many runs, less that of a run of
 //! no rounds.
-//! `bench PROGRAM [SAMPLES [WORD [CURVES]]]`: PROGRAM is the built `ecow_bench`; WORD keeps the calls whose name holds it;
-//! CURVES is a file that gets a picture of how times grow with the length.
+//! `bench PROGRAM [SAMPLES [WORD [FOLDER]]]`: PROGRAM is the built `ecow_bench`; WORD keeps the calls and workloads whose name
+//! holds it; FOLDER gets pictures of the workloads, and of how times grow with the length.
 //! `bench WHICH CALL ELEMENT LENGTH COUNT` goes round one loop, as PROGRAM does without the first word, and prints what it
-//! saw; WHICH is `ecow` or `rc`.
+//! saw; WHICH is `ecow` or `rc`. Where ELEMENT is `workload`, CALL is a whole program of those two sizes.
 mod curves;
 mod lists;
+mod workloads;
 
 use ecow::{EcoBytes, EcoString, eco_format};
 use std::cmp::Ordering;
 use std::hash::{DefaultHasher, Hash, Hasher};
 use std::hint::black_box;
+use std::io::Read;
 use std::process::{Command, Stdio};
 
 type ByteLoop = fn(&[u8], u64) -> u64;
@@ -431,30 +433,26 @@ struct Usage {
     rest: [i64; 14],
 }
 
-const CHILDREN: i32 = -1;
-
 unsafe extern "C" {
-    fn getrusage(who: i32, usage: *mut Usage) -> i32;
+    fn wait4(process: i32, status: *mut i32, options: i32, usage: *mut Usage) -> i32;
 }
 
-/// The processor time of all processes that ended, in nanoseconds.
-fn processor_time() -> f64 {
-    let mut usage = Usage::default();
-    assert_eq!(unsafe { getrusage(CHILDREN, &mut usage) }, 0);
-    (usage.user[0] + usage.system[0]) as f64 * 1e9 + (usage.user[1] + usage.system[1]) as f64 * 1e3
+/// What one run of a program printed, its processor time in nanoseconds, and the most memory that it had, in MiB.
+fn measured(program: &[&str], words: &[String]) -> (String, [f64; 2]) {
+    let mut child = Command::new(program[0]).args(&program[1..]).args(words).stdout(Stdio::piped()).spawn().unwrap();
+    let mut printed = String::new();
+    child.stdout.take().unwrap().read_to_string(&mut printed).unwrap();
+    let (process, mut status, mut usage) = (child.id() as i32, 0, Usage::default());
+    assert_eq!(unsafe { wait4(process, &mut status, 0, &mut usage) }, process);
+    assert_eq!(status, 0);
+    let time = (usage.user[0] + usage.system[0]) as f64 * 1e9 + (usage.user[1] + usage.system[1]) as f64 * 1e3;
+    (printed, [time, usage.rest[0] as f64 / 1024.0])
 }
 
 /// What one run of a program printed, and its processor time.
 fn run(program: &[&str], words: &[String]) -> (String, f64) {
-    let before = processor_time();
-    let output = Command::new(program[0])
-        .args(&program[1..])
-        .args(words)
-        .stderr(Stdio::inherit())
-        .output()
-        .unwrap();
-    assert!(output.status.success());
-    (String::from_utf8(output.stdout).unwrap(), processor_time() - before)
+    let (printed, [time, _memory]) = measured(program, words);
+    (printed, time)
 }
 
 /// The least processor times of one round of each program, in nanoseconds. The first program is this, the second the original.
@@ -495,6 +493,46 @@ fn row(programs: &[&[&str]], samples: u32, call: &str, name: &str, element: &str
     let rc = times.get(2).map_or(String::new(), |time| format!("{time:.2}"));
     println!("{name:<30} {element:>8} {length:>8} {:>14.2} {rc:>14} {:>14.2} {ratio:>6.2}", times[1], times[0]);
     (ratio, format!("{name}, {length} of {element}"))
+}
+
+/// The least processor time and the least peak of memory of each program, of so many runs by turns.
+fn least_of_workload(programs: &[&[&str]], name: &str, length: usize, count: u64, samples: u32) -> Vec<[f64; 2]> {
+    let words = [name, "workload", &length.to_string(), &count.to_string()].map(str::to_string);
+    let mut least = vec![[f64::INFINITY; 2]; programs.len()];
+    let mut answer = None;
+    for _ in 0..samples {
+        for (program, least) in programs.iter().zip(&mut least) {
+            let (printed, measures) = measured(program, &words);
+            assert_eq!(*answer.get_or_insert_with(|| printed.clone()), printed, "{name} saw something else");
+            *least = [least[0].min(measures[0]), least[1].min(measures[1])];
+        }
+    }
+    least
+}
+
+/// Runs the workloads whose name holds `word`, prints a line for each, and leaves a picture of them in `file`.
+fn run_workloads(programs: &[&[&str]], samples: u32, word: &str, file: Option<&String>) {
+    println!("{:<14} {:>10} {:>10} {:>10} {:>6} {:>6}   {:>8} {:>8} {:>8} {:>6}", "workload", "original s", "std s", "this s", "ratio", "to std", "original", "std MiB", "this MiB", "ratio");
+    let mut all = Vec::new();
+    let (mut to_original, mut to_std, mut memory) = (Vec::new(), Vec::new(), Vec::new());
+    for (call, name, length, count) in workloads::WORKLOADS.iter().filter(|row| row.1.contains(word)) {
+        let least = least_of_workload(programs, call, *length, *count, samples);
+        let ([this, own], [original, theirs], [std, plain]) = (least[0], least[1], least[2]);
+        println!(
+            "{name:<14} {:>10.2} {:>10.2} {:>10.2} {:>6.2} {:>6.2}   {theirs:>8.0} {plain:>8.0} {own:>8.0} {:>6.2}",
+            original / 1e9, std / 1e9, this / 1e9, this / original, this / std, own / theirs,
+        );
+        to_original.push((this / original, name.to_string()));
+        to_std.push((this / std, name.to_string()));
+        memory.push((own / theirs, name.to_string()));
+        all.push((*name, [[1.0, 1.0], [std / original, plain / theirs], [this / original, own / theirs]]));
+    }
+    report("workloads, time to the original's", &to_original);
+    report("workloads, time to std's", &to_std);
+    report("workloads, memory to the original's", &memory);
+    if let Some(file) = file {
+        std::fs::write(file, workloads::picture(&all)).unwrap();
+    }
 }
 
 /// Times some calls at lengths that grow, prints them, and leaves a picture of them in `file`.
@@ -541,8 +579,9 @@ fn compare(program: &str, samples: u32, word: &str, picture: Option<&String>) {
     short.append(&mut bytes);
     short.append(&mut texts);
     report("all", &short);
-    if let Some(file) = picture {
-        draw(&programs, samples, file);
+    run_workloads(&programs, samples, word, picture.map(|folder| format!("{folder}/workloads.svg")).as_ref());
+    if let Some(folder) = picture {
+        draw(&programs, samples, &format!("{folder}/curves.svg"));
     }
 }
 
@@ -551,8 +590,14 @@ fn main() {
     if let [which, word, element, length, count] = words.as_slice()
         && let (Ok(length), Ok(count)) = (length.parse(), count.parse())
     {
-        let numbers = numbers(length);
-        let sum = if let Some(call) = BYTE_CALLS.iter().find(|call| call.0 == word) {
+        let workload = match which.as_str() {
+            "rc" => workloads::sum::<workloads::Std>(word, length, count),
+            _ => workloads::sum::<workloads::Original>(word, length, count),
+        };
+        let numbers = numbers(if element == "workload" { 0 } else { length });
+        let sum = if let Some(sum) = workload {
+            sum
+        } else if let Some(call) = BYTE_CALLS.iter().find(|call| call.0 == word) {
             call.3(&letters(&numbers), count)
         } else if let Some(call) = TEXT_CALLS.iter().find(|call| call.0 == word) {
             call.3(&prose(&numbers), count)

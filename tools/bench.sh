@@ -1,8 +1,9 @@
 #!/bin/sh
-# Times the calls of vectors, bytes and texts beside those of the original crate, those of vectors also beside Rc<Vec<T>>.
+# Times the calls of vectors, bytes and texts beside those of the original crate, those of vectors also beside Rc<Vec<T>>,
+# and four whole programs beside the same on the original and on std alone.
 # usage: tools/bench.sh FOLDER [SAMPLES [WORD]]
-# FOLDER is that of the original crate. SAMPLES (9) are taken of each call whose name holds WORD. Without WORD it also shows
-# how times grow with the length, and leaves a picture of that at bin/bench/curves.svg.
+# FOLDER is that of the original crate. SAMPLES (9) are taken of each call and program whose name holds WORD. Without WORD it
+# also shows how times grow with the length, and leaves pictures at bin/bench/curves.svg and bin/bench/workloads.svg.
 # CPU=x86-64-v3 in the environment has both compiled for a processor with AVX2.
 # Needs cargo beside the kit's rt. What cargo makes stays below bin/.
 set -eu
@@ -17,6 +18,7 @@ cpu=${CPU:-x86-64-v2}
 cp "$root/tools/bench.rs" "$build/src/main.rs"
 cp "$root/tools/bench_lists.rs" "$build/src/lists.rs"
 cp "$root/tools/bench_curves.rs" "$build/src/curves.rs"
+cp "$root/tools/bench_workloads.rs" "$build/src/workloads.rs"
 cat > "$build/Cargo.toml" <<MANIFEST
 [package]
 name = "bench"
@@ -34,6 +36,6 @@ lto = true
 [workspace]
 MANIFEST
 (cd "$build" && RUSTFLAGS="-C target-cpu=$cpu" cargo build --quiet --release)
-picture=
-[ -n "${2:-}" ] || picture=$build/curves.svg
-exec "$build/target/release/bench" "$root/crates/ecow_bench/out/ecow_bench" "${1:-9}" "${2:-}" $picture
+pictures=
+[ -n "${2:-}" ] || pictures=$build
+exec "$build/target/release/bench" "$root/crates/ecow_bench/out/ecow_bench" "${1:-9}" "${2:-}" $pictures

@@ -1,15 +1,21 @@
-//! What `make bench` times: `ecow_bench CALL LENGTH COUNT` goes round one loop on a list of that
-//! length, or on so many bytes or letters where CALL begins with `bytes_` or `text_`, and prints a
-//! sum of what it saw. Without arguments it goes three times round each loop.
+//! What `make bench` times: `ecow_bench CALL ELEMENT LENGTH COUNT` goes round one loop on a list of
+//! so many elements, or on so many bytes or letters where CALL begins with `bytes_` or `text_`, and
+//! prints a sum of what it saw. `ecow_bench NAME workload SIZE COUNT` runs a whole program. Without
+//! arguments it goes three times round each loop, and runs each program on little.
 #![tactic(auto)]
 
 mod bytes;
 mod elements;
+mod history;
 mod loops;
 mod pairs;
+mod random;
+mod symbols;
+mod templates;
 mod texts;
+mod trees;
 
-use ecow_list::EcoVec;
+use ecow_list::{EcoError, EcoVec};
 use elements::Element;
 use std::alloc::{AllocError, Global};
 use std::env::Env;
@@ -63,6 +69,14 @@ const CALLS: [&str; 45] = [
     "text_to_eco_string",
 ];
 
+/// Each whole program, and two small sizes.
+const WORKLOADS: [(&str, usize, u64); 4] = [
+    ("history", 5000, 20),
+    ("symbols", 10, 1000),
+    ("templates", 10, 20),
+    ("trees", 3, 20),
+];
+
 fn main(rt: HostRuntime) -> io::Result<()> {
     let words = arguments(&rt)?;
     let [call, element, length, count] = words.as_slice() else {
@@ -74,12 +88,28 @@ fn main(rt: HostRuntime) -> io::Result<()> {
     }
 }
 
-/// Prints what the loop of each call saw, three times on eight numbers.
+/// What a workload saw, or 0 where there is no such one or no memory.
+fn workload(alloc: Global, name: &str, length: usize, count: u64) -> u64 {
+    let seen: Result<u64, EcoError> = match name {
+        "history" => history::history(alloc, length, count),
+        "symbols" => symbols::symbols(alloc, length, count),
+        "templates" => templates::templates(alloc, length, count),
+        "trees" => trees::trees(alloc, length, count),
+        _ => Ok(0),
+    };
+    seen.unwrap_or(0)
+}
+
+/// Prints what the loop of each call saw, three times on eight numbers, and what each whole program
+/// saw of little.
 fn print_all(rt: &HostRuntime) -> io::Result<()> {
     let numbers = numbers(rt.alloc(), 8)?;
     for call in CALLS {
         let seen = sum(rt.alloc(), call, "u64", numbers.as_slice(), 3)?;
         println!(rt; "{call} {seen}")?;
+    }
+    for (name, length, count) in WORKLOADS {
+        println!(rt; "{name} {}", workload(rt.alloc(), name, length, count))?;
     }
     Ok(())
 }
@@ -92,6 +122,10 @@ fn print_one(
     length: usize,
     count: u64,
 ) -> io::Result<()> {
+    if element == "workload" {
+        println!(rt; "{}", workload(rt.alloc(), call, length, count))?;
+        return Ok(());
+    }
     let numbers = numbers(rt.alloc(), length)?;
     let seen = sum(rt.alloc(), call, element, numbers.as_slice(), count)?;
     println!(rt; "{seen}")?;
