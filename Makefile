@@ -24,7 +24,8 @@ help:
 	@echo "make hostile           runs the program with each request for memory refused in turn, with files and outputs"
 	@echo "                       that fail, and with scripts of 16 MiB (needs python3 and a C compiler); PEER=\"COMMAND\""
 	@echo "                       times another program beside it"
-	@echo "make bench ECOW=FOLDER times vector, bytes and text beside the original crate in FOLDER (needs cargo);"
+	@echo "make bench ECOW=FOLDER times vector, bytes, text and four whole programs beside the original crate in FOLDER,"
+	@echo "                       and the programs beside std alone (needs cargo);"
 	@echo "                       CPU=x86-64-v3 has both compiled for a processor with AVX2"
 	@echo "make clean             removes what was built"
 

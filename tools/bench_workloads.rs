@@ -246,6 +246,7 @@ struct Interner<K: Kind> {
     table: Vec<u32>,
 }
 
+/// FNV-1a, folded once.
 fn hash(word: &[u8]) -> u64 {
     let mut hash = 0xcbf29ce484222325u64;
     for byte in word {
@@ -272,6 +273,7 @@ impl<K: Kind> Interner<K> {
         place
     }
 
+    /// Twice as many places.
     fn grow(&mut self) {
         self.table = vec![0; 2 * self.table.len()];
         for number in 0..self.names.items().len() {

@@ -37,6 +37,7 @@ impl Random {
 pub(crate) fn prose(alloc: Global, random: &mut Random) -> Result<String, AllocError> {
     let mut prose = String::with_capacity(alloc, PROSE)?;
     for _ in 0..PROSE {
+        // The second remainder is for the proof alone.
         prose.push(char::from(b'a' + (random.below(26) % 26) as u8))?;
     }
     Ok(prose)

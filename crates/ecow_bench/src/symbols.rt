@@ -17,10 +17,12 @@ struct Interner {
 /// A name's number, and where it was bound.
 type Scope = EcoVec<(u32, u32)>;
 
+/// The number in 32 bits, into which all that this program counts go.
 fn narrow(number: usize) -> u32 {
     u32::try_from(number).unwrap_or(u32::MAX)
 }
 
+/// FNV-1a, folded once.
 fn hash(word: &[u8]) -> u64 {
     let mut hash = 0xcbf29ce484222325u64;
     for byte in word {
@@ -68,12 +70,14 @@ impl Interner {
         place
     }
 
+    /// Writes a number into a place.
     fn set(&mut self, place: usize, number: u32) {
         if let Some(kept) = self.table.get_mut(place) {
             *kept = number;
         }
     }
 
+    /// Twice as many places.
     fn grow(&mut self) -> Result<(), AllocError> {
         self.table = Vec::from_elem(self.alloc, 0u32, self.table.len().saturating_mul(2))?;
         for number in 0..self.names.len() {
@@ -142,7 +146,8 @@ pub(crate) fn symbols(alloc: Global, bits: usize, words: u64) -> Result<u64, Eco
     let mut outer: Vec<Scope> = Vec::new(alloc);
     let mut sum = 0u64;
     for at in 0..words {
-        // Of 2, 4, 8, .. words by turns, so that few words are frequent.
+        // Of 2, 4, 8, .. words by turns, so that few words are frequent. The remainder by 63 is for
+        // the proof alone.
         let range = 1usize << (random.below(bits) % 63 + 1);
         spell(&mut word, random.below(range) as u64)?;
         let symbol = interner.intern(word.as_str())?;

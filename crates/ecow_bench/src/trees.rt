@@ -1,5 +1,4 @@
 //! A syntax tree in which leaves are replaced while the old trees live.
-
 ghost use Rattle.std.specs.Prelude.{◌≡◌};
 
 use crate::random::{Random, part, prose};
