@@ -3,7 +3,8 @@
 # and four whole programs beside the same on the original and on std alone.
 # usage: tools/bench.sh FOLDER [SAMPLES [WORD]]
 # FOLDER is that of the original crate. SAMPLES (9) are taken of each call and program whose name holds WORD. Without WORD it
-# also shows how times grow with the length, and leaves pictures at bin/bench/curves.svg and bin/bench/workloads.svg.
+# also shows how times grow with the length, and leaves pictures at bin/bench/curves.svg and bin/bench/workloads.svg, of
+# which docs/workloads.svg is a copy.
 # CPU=x86-64-v3 in the environment has both compiled for a processor with AVX2.
 # Needs cargo beside the kit's rt. What cargo makes stays below bin/.
 set -eu
