@@ -72,12 +72,44 @@ impl Element for String {
 }
 
 /// A list whose clones share its elements until one of them is written to.
-trait List<T: Element>: Clone + Ord + Hash {
-    fn new() -> Self;
-    fn of(items: &[T]) -> Self;
+pub trait Shared<T>: Clone + Default {
     fn items(&self) -> &[T];
     fn items_mut(&mut self) -> &mut [T];
     fn push(&mut self, item: T);
+}
+
+impl<T: Clone> Shared<T> for EcoVec<T> {
+    fn items(&self) -> &[T] {
+        self
+    }
+
+    fn items_mut(&mut self) -> &mut [T] {
+        self.make_mut()
+    }
+
+    fn push(&mut self, item: T) {
+        self.push(item);
+    }
+}
+
+impl<T: Clone> Shared<T> for Rc<Vec<T>> {
+    fn items(&self) -> &[T] {
+        self
+    }
+
+    fn items_mut(&mut self) -> &mut [T] {
+        Rc::<Vec<T>>::make_mut(self)
+    }
+
+    fn push(&mut self, item: T) {
+        Rc::<Vec<T>>::make_mut(self).push(item);
+    }
+}
+
+/// Such a list with the calls that are timed.
+trait List<T: Element>: Shared<T> + Ord + Hash {
+    fn new() -> Self;
+    fn of(items: &[T]) -> Self;
     fn pop(&mut self) -> Option<T>;
     fn insert(&mut self, index: usize, item: T);
     fn remove(&mut self, index: usize) -> T;
@@ -100,18 +132,6 @@ impl<T: Element> List<T> for EcoVec<T> {
 
     fn of(items: &[T]) -> Self {
         EcoVec::from(items)
-    }
-
-    fn items(&self) -> &[T] {
-        self
-    }
-
-    fn items_mut(&mut self) -> &mut [T] {
-        self.make_mut()
-    }
-
-    fn push(&mut self, item: T) {
-        self.push(item);
     }
 
     fn pop(&mut self) -> Option<T> {
@@ -158,18 +178,6 @@ impl<T: Element> List<T> for Rc<Vec<T>> {
 
     fn of(items: &[T]) -> Self {
         Rc::new(items.to_vec())
-    }
-
-    fn items(&self) -> &[T] {
-        self
-    }
-
-    fn items_mut(&mut self) -> &mut [T] {
-        Rc::<Vec<T>>::make_mut(self)
-    }
-
-    fn push(&mut self, item: T) {
-        Rc::make_mut(self).push(item);
     }
 
     fn pop(&mut self) -> Option<T> {

@@ -1,42 +1,9 @@
 //! Whole programs, each written once for this crate's peers: the original's types, and what std alone has.
+use crate::lists::Shared;
 use ecow::{EcoString, EcoVec};
 use std::fmt::Write;
+use std::ops::Deref;
 use std::rc::Rc;
-
-/// A list that shares its elements until it is written to.
-pub trait List<T>: Clone + Default {
-    fn items(&self) -> &[T];
-    fn items_mut(&mut self) -> &mut [T];
-    fn push(&mut self, item: T);
-}
-
-impl<T: Clone> List<T> for EcoVec<T> {
-    fn items(&self) -> &[T] {
-        self
-    }
-
-    fn items_mut(&mut self) -> &mut [T] {
-        self.make_mut()
-    }
-
-    fn push(&mut self, item: T) {
-        self.push(item);
-    }
-}
-
-impl<T: Clone> List<T> for Rc<Vec<T>> {
-    fn items(&self) -> &[T] {
-        self
-    }
-
-    fn items_mut(&mut self) -> &mut [T] {
-        Rc::<Vec<T>>::make_mut(self)
-    }
-
-    fn push(&mut self, item: T) {
-        Rc::<Vec<T>>::make_mut(self).push(item);
-    }
-}
 
 /// A text that is kept and shared.
 pub trait Text: Clone {
@@ -73,46 +40,12 @@ impl Text for Rc<str> {
     }
 }
 
-/// A text that is put together.
-pub trait Built {
-    fn new() -> Self;
-    fn add(&mut self, part: &str);
-    fn text(&self) -> &str;
-}
-
-impl Built for EcoString {
-    fn new() -> Self {
-        EcoString::new()
-    }
-
-    fn add(&mut self, part: &str) {
-        self.push_str(part);
-    }
-
-    fn text(&self) -> &str {
-        self
-    }
-}
-
-impl Built for String {
-    fn new() -> Self {
-        String::new()
-    }
-
-    fn add(&mut self, part: &str) {
-        self.push_str(part);
-    }
-
-    fn text(&self) -> &str {
-        self
-    }
-}
-
 /// The types of one peer.
 pub trait Kind {
-    type List<T: Clone>: List<T>;
+    type List<T: Clone>: Shared<T>;
     type Text: Text;
-    type Built: Built;
+    /// A text that is put together.
+    type Built: Default + Write + Deref<Target = str>;
 }
 
 pub struct Original;
@@ -366,14 +299,14 @@ fn templates<K: Kind>(holes: usize, fills: u64) -> u64 {
         let mut own = values.clone();
         let at = random.below(NAMES);
         own.items_mut()[at] = K::Text::made(part(&mut random, &prose, 30));
-        let mut page = K::Built::new();
+        let mut page = K::Built::default();
         for (literal, name) in &template {
-            page.add(literal.text());
-            page.add(own.items()[*name].text());
+            page.write_str(literal.text()).unwrap();
+            page.write_str(own.items()[*name].text()).unwrap();
         }
         pages.push(page);
     }
-    pages.iter().fold(0, |sum, page| sum.wrapping_add(page.text().len() as u64))
+    pages.iter().fold(0, |sum, page| sum.wrapping_add(page.len() as u64))
 }
 
 // A syntax tree.
