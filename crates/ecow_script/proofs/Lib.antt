@@ -1,9 +1,9 @@
 pub mod Digits
 pub mod PartsLemmas
 pub mod Cuts
-pub mod LinesLemmas
+pub mod Lines
 pub mod NamesLemmas
-pub mod QuotedLemmas
+pub mod Quotes
 pub mod NumbersAgain
 pub mod ListsAgain
 pub mod TextsAgain

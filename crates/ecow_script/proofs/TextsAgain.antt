@@ -10,7 +10,7 @@ use Rattle.std.proofs.lemmas.Bool.Decides.{nat_tests}
 use Rattle.std.proofs.lemmas.Fmt.{hex_one_digit, hex_two_digits}
 use Rattle.ecow_script.specs.Quoted.{text_from, escape_from, digits_from, behind_bytes, behind_char, scalar_in, hex_behind, scalar}
 use Rattle.ecow_script.specs.Answers.{escaped}
-use Rattle.ecow_script.proofs.QuotedLemmas.{bytes_bytes, no_bytes}
+use Rattle.ecow_script.proofs.Quotes.{bytes_bytes, no_bytes}
 
 -- bytes that stand for themselves
 abbrev ArePlain : List ℕ → Type 0

@@ -11,7 +11,7 @@ use Rattle.ecow_model.specs.declared.lists.VecCommand.TheVariants.{FromList, Clo
 -- the characters of the file, a line of it on each line
 abbrev pub first_script : List ℕ
 first_script =
-    codes "# Three names of one list, each changed. Each answer stands behind its command, hand-worked.\n"
+    codes "# Three names of one list, each changed. The answers are hand-worked.\n"
     ++ codes "vec from_list a [1,2,3]\n"
     ++ codes "#> ok\n"
     ++ codes "vec clone a b\n"

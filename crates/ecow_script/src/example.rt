@@ -14,7 +14,6 @@ ghost use Rattle.ecow_script.specs.Scripts.{script_commands};
 
 /// The characters of `examples/first.eco` are nine commands. Where no memory is lacking a store
 /// answers them with the nine lines that the file foretells, and a table with these and its totals.
-#[tactic(auto, using(crate::proofs::FirstExample::first_read, crate::proofs::FirstExample::first_counted_read, crate::proofs::FirstExample::first_counted))]
 pub fn first_example()
     ensures commands { script_commands store_form first_script ≡ Ok first_commands }
     ensures answers { (outcomes : List (Outcome ℤ)) (last : State ℤ)

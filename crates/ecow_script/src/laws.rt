@@ -9,7 +9,6 @@ ghost use Rattle.ecow_script.specs.Words.{place, count, integer, byte, integers,
 
 /// A number, a list or a text that an answer shows is the same one as an argument, whatever names
 /// were read before. So what `contents` answers can be given to `from_list` or `from_str`.
-#[tactic(auto, using(crate::proofs::WordsAgain::count_read, crate::proofs::WordsAgain::integer_read, crate::proofs::WordsAgain::byte_read, crate::proofs::WordsAgain::integers_read, crate::proofs::WordsAgain::bytes_read, crate::proofs::WordsAgain::text_read))]
 pub fn answers_are_arguments()
     ensures counts { (n : ℕ) (names : List (List ℕ)) → n < 2 ^ 64
         → count (place (decimal n) names) ≡ Ok (n, place [] names) }

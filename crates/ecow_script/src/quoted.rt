@@ -103,7 +103,7 @@ fn close_in(bytes: &[u8]) -> Option<usize>
 }
 
 /// What stands before the first quote or backslash, and the text from that on.
-#[tactic(auto, using(crate::proofs::QuotedLemmas::plain_front, crate::proofs::QuotedLemmas::at_special))]
+#[tactic(auto, using(crate::proofs::Quotes::plain_front, crate::proofs::Quotes::at_special))]
 fn plain_part(text: &str) -> (&str, &str)
     ensures spelled { text_from text.now ≡ behind_bytes result.0.now (text_from result.1.now) }
     ensures special { position_or_len is_special result.1.now ≡ 0 }
@@ -137,7 +137,7 @@ enum Turn<'a> {
     Misfit,
 }
 
-#[tactic(auto, using(crate::proofs::QuotedLemmas::escape_is))]
+#[tactic(auto, using(crate::proofs::Quotes::escape_is))]
 fn turn_at<'a>(text: &'a str) -> Turn<'a>
     requires { position_or_len is_special text.now ≡ 0 }
     ensures { TurnIs result text.now }

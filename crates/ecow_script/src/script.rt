@@ -88,7 +88,7 @@ impl<'a> Script<'a> {
     }
 
     /// The next commands, at most `COMMANDS_AT_ONCE`; none where the script is at its end.
-    #[tactic(auto, using(crate::proofs::LinesLemmas::front_behind, crate::proofs::LinesLemmas::front_nil))]
+    #[tactic(auto, using(crate::proofs::Lines::front_behind, crate::proofs::Lines::front_nil))]
     pub(crate) fn next_piece<C: Scripted>(&mut self) -> Result<Vec<C>, Fault>
         ensures commands { IfOk result
             (λ piece. commands_ahead C.form self.old
@@ -108,7 +108,7 @@ impl<'a> Script<'a> {
     }
 
     /// The command on the next line, if there is one on it.
-    #[tactic(auto, using(crate::proofs::LinesLemmas::commands_step))]
+    #[tactic(auto, using(crate::proofs::Lines::commands_step))]
     fn next_line<C: Scripted>(&mut self) -> Result<Option<C>, Fault>
         requires { 0 < length self.old.text }
         ensures shorter { OnOk result (length self.new.text < length self.old.text) }
@@ -205,7 +205,7 @@ fn first_feed(bytes: &[u8]) -> Option<usize>
     memchr(b'\n', bytes)
 }
 
-#[tactic(auto, using(crate::proofs::LinesLemmas::return_push, std::proofs::lemmas::List::take_at))]
+#[tactic(auto, using(crate::proofs::Lines::return_push, std::proofs::lemmas::List::take_at))]
 fn without_return(line: &str) -> &str
     ensures { result.now ≡ without_return line.now }
 {

@@ -1,5 +1,14 @@
-use Rattle.ecow_script.proofs.FirstExample.{first_answered}
+use Rattle.ecow_script.proofs.FirstExample.{first_read, first_answered, first_counted_read, first_counted}
 use Rattle.ecow_script.proofs.example.first_example.Goals as goal
+
+pub returns-clause-commands : goal.returns-clause-commands
+returns-clause-commands c = first_read
 
 pub returns-clause-answers : goal.returns-clause-answers
 returns-clause-answers c = first_answered
+
+pub returns-clause-list_commands : goal.returns-clause-list_commands
+returns-clause-list_commands c = first_counted_read
+
+pub returns-clause-counted_answers : goal.returns-clause-counted_answers
+returns-clause-counted_answers c = first_counted

@@ -4,7 +4,7 @@ use Rattle.std.proofs.lemmas.List.{append-nil}
 use Rattle.std.proofs.lemmas.List.Concat.{flat_map-append}
 use Rattle.ecow_script.specs.Scripts.{commands_ahead, with_front}
 use Rattle.ecow_script.specs.Answers.{answer_lines, answer_line}
-use Rattle.ecow_script.proofs.LinesLemmas.{front_nil, front_front, all_read, front_fault}
+use Rattle.ecow_script.proofs.Lines.{front_nil, front_front, all_read, front_fault}
 use Rattle.ecow_script.proofs.run.answers_of.Goals as goal
 
 pub pieces-init : goal.pieces-init

@@ -1,6 +1,6 @@
 use Rattle.std.proofs.Common.{ap, sym, ◌∙◌, arith}
 use Rattle.ecow_script.specs.Scripts.{commands_ahead, with_front}
-use Rattle.ecow_script.proofs.LinesLemmas.{front_behind}
+use Rattle.ecow_script.proofs.Lines.{front_behind}
 use Rattle.ecow_script.proofs.script.Script.next_piece.Goals as goal
 
 pub loop-self-preserved : goal.loop-self-preserved
