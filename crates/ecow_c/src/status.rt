@@ -1,0 +1,30 @@
+//! What a call answers.
+ghost use Rattle.std.specs.Prelude.{◌≡◌, MatchResult};
+
+use ecow_list::EcoError;
+
+/// The call did what it says.
+pub const OK: u32 = 0;
+/// There was no memory.
+pub const MEMORY: u32 = 1;
+/// The length would pass 2^63 - 1.
+pub const CAPACITY: u32 = 2;
+/// An index or a range passes the end, or there is nothing to take.
+pub const INDEX: u32 = 3;
+/// An index is inside a character.
+pub const BOUNDARY: u32 = 4;
+/// The bytes are no UTF-8, or the number is no character.
+pub const UTF8: u32 = 5;
+/// The pointer to a value is null.
+pub const NULL: u32 = 6;
+
+/// The status for a refusal of the library.
+pub(crate) fn refusal(error: EcoError) -> u32
+    ensures memory { error ≡ EcoError.Memory → result ≡ MEMORY }
+    ensures capacity { error ≡ EcoError.Capacity → result ≡ CAPACITY }
+{
+    match error {
+        EcoError::Memory => MEMORY,
+        EcoError::Capacity => CAPACITY,
+    }
+}
