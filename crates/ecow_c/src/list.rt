@@ -1,14 +1,20 @@
 //! Lists of numbers: an `EcoVec<i64>` at a pointer of C's.
-ghost use Rattle.std.specs.Prelude.{◌≡◌, ◌≢◌, ◌↔◌, ◌≤◌, ◌<◌, ◌-◌, [], ◌∷◌, ◌++◌, length, take, insert, remove, slice_get, slice_set, true, Some, None, IfSome, IsSomeAnd};
-ghost use Rattle.ecow_c.specs.Answers.{Alters, is_one_of};
+ghost use Rattle.std.specs.Prelude.{◌≡◌, ◌≢◌, ◌↔◌, ◌≤◌, ◌<◌, ◌+◌, ◌-◌, ◌||◌, [], ◌∷◌, ◌++◌, length, take, insert, remove, slice_get, slice_set, nat_lt, true, Some, IfSome, IsSomeAnd};
+ghost use Rattle.std.specs.List.{splice};
+ghost use Rattle.std.specs.Cmp.Lexicographic.{pointwise, slice_cmp};
+ghost use Rattle.std.specs.Ordering.{int_eq, int_cmp};
+ghost use Rattle.std.specs.Hash as fed;
+ghost use Rattle.ecow_c.specs.Answers.{Alters, is_one_of, are_both, numbers_at, order_of, hash_of};
 
 mod place;
 
-use crate::status::{CAPACITY, INDEX, MEMORY, NULL, OK, refusal};
+use crate::status::{CAPACITY, INDEX, MEMORY, NULL, OK, order, refusal};
 use ecow_base::MAX_LEN;
 use ecow_list::EcoVec;
 use place::ListPlace;
 use std::alloc::Global;
+use std::hash::{DefaultHasher, Hash, Hasher};
+use std::ptr::from_ref;
 
 /// Puts a copy of `numbers` in place of the list.
 #[unsafe(no_mangle)]
@@ -72,8 +78,7 @@ pub extern "C" fn ecow_proved_list_drop(alloc: Global, place: &mut ListPlace) ->
 /// The number of numbers; 0 at a null pointer.
 #[unsafe(no_mangle)]
 pub extern "C" fn ecow_proved_list_len(place: &mut ListPlace) -> usize
-    ensures len { IfSome place.old.value (λ xs. result ≡ length xs) }
-    ensures null { place.old.value ≡ None → result ≡ 0 }
+    ensures len { result ≡ length (numbers_at place.old.value) }
     ensures unchanged { place.new.value ≡ place.old.value }
 {
     match place.list() {
@@ -140,5 +145,231 @@ pub extern "C" fn ecow_proved_list_pop(place: &mut ListPlace, out: &mut i64) -> 
         }
         Ok(None) => INDEX,
         Err(error) => refusal(error),
+    }
+}
+
+/// Puts `number` in place of the number at `index`.
+#[unsafe(no_mangle)]
+pub extern "C" fn ecow_proved_list_set(place: &mut ListPlace, index: usize, number: i64) -> u32
+    ensures list { Alters (λ xs. slice_set xs index number)
+        place.old.value result place.new.value }
+    ensures index { result ≡ INDEX ↔ IsSomeAnd place.old.value (λ xs. length xs ≤ index) }
+    ensures codes { is_one_of (OK ∷ MEMORY ∷ INDEX ∷ NULL ∷ []) result ≡ true }
+{
+    let Some(list) = place.list() else {
+        return NULL;
+    };
+    if index >= list.len() {
+        return INDEX;
+    }
+    match list.set(index, number) {
+        Ok(()) => OK,
+        Err(rejected) => refusal(rejected.error),
+    }
+}
+
+/// Puts `number` in at `index`, before the number that stands there.
+#[unsafe(no_mangle)]
+pub extern "C" fn ecow_proved_list_insert(place: &mut ListPlace, index: usize, number: i64) -> u32
+    ensures list { Alters (λ xs. insert xs index number) place.old.value result place.new.value }
+    ensures index { result ≡ INDEX ↔ IsSomeAnd place.old.value (λ xs. length xs < index) }
+    ensures codes { is_one_of (OK ∷ MEMORY ∷ CAPACITY ∷ INDEX ∷ NULL ∷ []) result ≡ true }
+    ensures capacity { result ≡ CAPACITY → IsSomeAnd place.old.value (λ xs. MAX_LEN ≤ length xs) }
+{
+    let Some(list) = place.list() else {
+        return NULL;
+    };
+    if index > list.len() {
+        return INDEX;
+    }
+    match list.insert(index, number) {
+        Ok(()) => OK,
+        Err(rejected) => refusal(rejected.error),
+    }
+}
+
+/// Takes the number at `index` out and writes it to `out`.
+#[unsafe(no_mangle)]
+pub extern "C" fn ecow_proved_list_remove(
+    place: &mut ListPlace,
+    index: usize,
+    out: &mut i64,
+) -> u32
+    ensures list { Alters (λ xs. remove xs index) place.old.value result place.new.value }
+    ensures value { result ≡ OK → IfSome place.old.value (λ xs. slice_get xs index ≡ Some out.new) }
+    ensures out { result ≢ OK → out.new ≡ out.old }
+    ensures index { result ≡ INDEX ↔ IsSomeAnd place.old.value (λ xs. length xs ≤ index) }
+    ensures codes { is_one_of (OK ∷ MEMORY ∷ INDEX ∷ NULL ∷ []) result ≡ true }
+{
+    let Some(list) = place.list() else {
+        return NULL;
+    };
+    if index >= list.len() {
+        return INDEX;
+    }
+    match list.remove(index) {
+        Ok(number) => {
+            *out = number;
+            OK
+        }
+        Err(error) => refusal(error),
+    }
+}
+
+/// Keeps the first `len` numbers, or all where there are fewer.
+#[unsafe(no_mangle)]
+pub extern "C" fn ecow_proved_list_truncate(place: &mut ListPlace, len: usize) -> u32
+    ensures list { Alters (λ xs. take len xs) place.old.value result place.new.value }
+    ensures codes { is_one_of (OK ∷ MEMORY ∷ NULL ∷ []) result ≡ true }
+{
+    let Some(list) = place.list() else {
+        return NULL;
+    };
+    match list.truncate(len) {
+        Ok(()) => OK,
+        Err(error) => refusal(error),
+    }
+}
+
+/// Keeps no number. A block that no other list shares stays, with its room.
+#[unsafe(no_mangle)]
+pub extern "C" fn ecow_proved_list_clear(place: &mut ListPlace) -> u32
+    ensures list { Alters (λ _. []) place.old.value result place.new.value }
+    ensures codes { is_one_of (OK ∷ NULL ∷ []) result ≡ true }
+{
+    let Some(list) = place.list() else {
+        return NULL;
+    };
+    list.clear();
+    OK
+}
+
+/// Asks for room for `additional` more numbers.
+#[unsafe(no_mangle)]
+pub extern "C" fn ecow_proved_list_reserve(place: &mut ListPlace, additional: usize) -> u32
+    ensures list { Alters (λ xs. xs) place.old.value result place.new.value }
+    ensures codes { is_one_of (OK ∷ MEMORY ∷ CAPACITY ∷ NULL ∷ []) result ≡ true }
+    ensures capacity { result ≡ CAPACITY
+        ↔ IsSomeAnd place.old.value (λ xs. MAX_LEN < length xs + additional) }
+{
+    let Some(list) = place.list() else {
+        return NULL;
+    };
+    match list.reserve(additional) {
+        Ok(()) => OK,
+        Err(error) => refusal(error),
+    }
+}
+
+/// Appends copies of `numbers`: all, or none where it is refused.
+#[unsafe(no_mangle)]
+pub extern "C" fn ecow_proved_list_extend(place: &mut ListPlace, numbers: &[i64]) -> u32
+    ensures list { Alters (λ xs. xs ++ numbers.now) place.old.value result place.new.value }
+    ensures codes { is_one_of (OK ∷ MEMORY ∷ CAPACITY ∷ NULL ∷ []) result ≡ true }
+    ensures capacity { result ≡ CAPACITY
+        ↔ IsSomeAnd place.old.value (λ xs. MAX_LEN < length xs + length numbers.now) }
+{
+    let Some(list) = place.list() else {
+        return NULL;
+    };
+    match list.extend_from_copied(numbers) {
+        Ok(()) => OK,
+        Err(error) => refusal(error),
+    }
+}
+
+/// Puts copies of `numbers` in place of the numbers from `start` up to `end`.
+#[unsafe(no_mangle)]
+pub extern "C" fn ecow_proved_list_splice(
+    alloc: Global,
+    place: &mut ListPlace,
+    start: usize,
+    end: usize,
+    numbers: &[i64],
+) -> u32
+    ensures list { Alters (λ xs. splice xs start end numbers.now)
+        place.old.value result place.new.value }
+    ensures index { result ≡ INDEX
+        ↔ IsSomeAnd place.old.value (λ xs. nat_lt end start || nat_lt (length xs) end ≡ true) }
+    ensures codes { is_one_of (OK ∷ MEMORY ∷ CAPACITY ∷ INDEX ∷ NULL ∷ []) result ≡ true }
+{
+    let Some(list) = place.list() else {
+        return NULL;
+    };
+    if start > end || end > list.len() {
+        return INDEX;
+    }
+    let Ok(added) = Vec::from_slice(alloc, numbers) else {
+        return MEMORY;
+    };
+    match list.splice(start..end, added) {
+        Ok(_removed) => OK,
+        Err(error) => refusal(error),
+    }
+}
+
+/// Whether two lists hold the same numbers.
+#[unsafe(no_mangle)]
+pub extern "C" fn ecow_proved_list_equal(left: &mut ListPlace, right: &mut ListPlace) -> bool
+    ensures equal { result
+        ≡ are_both (pointwise int_eq) left.old.value right.old.value }
+    ensures unchanged { (left.new.value ≡ left.old.value) × (right.new.value ≡ right.old.value) }
+{
+    let Some(left) = left.list() else {
+        return false;
+    };
+    let Some(right) = right.list() else {
+        return false;
+    };
+    left.as_slice() == right.as_slice()
+}
+
+/// How two lists compare: below 0 where the left one comes first, 0 where they are equal.
+#[unsafe(no_mangle)]
+pub extern "C" fn ecow_proved_list_compare(left: &mut ListPlace, right: &mut ListPlace) -> i32
+    ensures order { result ≡ order_of (slice_cmp int_cmp) left.old.value right.old.value }
+    ensures unchanged { (left.new.value ≡ left.old.value) × (right.new.value ≡ right.old.value) }
+{
+    let Some(left) = left.list() else {
+        return 0;
+    };
+    let Some(right) = right.list() else {
+        return 0;
+    };
+    order(left.as_slice().cmp(&right.as_slice()))
+}
+
+/// The hash of the numbers, by std's hasher. Equal lists have the same.
+#[unsafe(no_mangle)]
+pub extern "C" fn ecow_proved_list_hash(alloc: Global, place: &mut ListPlace) -> u64
+    ensures hash { result ≡ hash_of (fed.slice fed.i64 (numbers_at place.old.value)) }
+    ensures unchanged { place.new.value ≡ place.old.value }
+{
+    let mut hasher = DefaultHasher::new();
+    match place.list() {
+        Some(list) => list.hash(&mut hasher),
+        None => EcoVec::<i64>::new(alloc).hash(&mut hasher),
+    }
+    hasher.finish()
+}
+
+/// Writes where the numbers begin to `start`, unless there is none, and how many there are to
+/// `len`.
+#[unsafe(no_mangle)]
+pub extern "C" fn ecow_proved_list_slice(
+    place: &mut ListPlace,
+    start: &mut *const i64,
+    len: &mut usize,
+)
+    ensures len { len.new ≡ length (numbers_at place.old.value) }
+    ensures unchanged { place.new.value ≡ place.old.value }
+{
+    let Some(list) = place.list() else {
+        *len = 0;
+        return;
+    };
+    *len = list.len();
+    if let Some(first) = list.as_slice().first() {
+        *start = from_ref(first);
     }
 }

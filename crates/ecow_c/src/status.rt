@@ -1,7 +1,9 @@
 //! What a call answers.
 ghost use Rattle.std.specs.Prelude.{◌≡◌, MatchResult};
+ghost use Rattle.ecow_c.specs.Answers.{sign_of};
 
 use ecow_list::EcoError;
+use std::cmp::Ordering;
 
 /// The call did what it says.
 pub const OK: u32 = 0;
@@ -26,5 +28,16 @@ pub(crate) fn refusal(error: EcoError) -> u32
     match error {
         EcoError::Memory => MEMORY,
         EcoError::Capacity => CAPACITY,
+    }
+}
+
+/// An order as C has it.
+pub(crate) fn order(order: Ordering) -> i32
+    ensures { result ≡ sign_of order }
+{
+    match order {
+        Ordering::Less => -1,
+        Ordering::Equal => 0,
+        Ordering::Greater => 1,
     }
 }
