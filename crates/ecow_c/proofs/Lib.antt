@@ -1,1 +1,2 @@
 pub mod Spliced
+pub mod Tails

@@ -5,6 +5,8 @@ use Rattle.std.specs.List.{fold}
 use Rattle.std.specs.Hash.DefaultHasher.{initial, write, finish}
 use Rattle.std.specs.declared.cmp.Ordering.{Ordering}
 use Rattle.std.specs.declared.cmp.Ordering.TheVariants.{Less, Equal, Greater}
+use Rattle.ecow_values.specs.declared.plain.PlainBytes.{PlainBytes}
+use Rattle.ecow_values.specs.declared.plain.PlainText.{PlainText}
 use Rattle.ecow_c.specs.declared.status.TheConstants.{OK, NULL}
 
 -- the status is one of these
@@ -12,16 +14,34 @@ abbrev pub is_one_of : List ℕ → ℕ → Bool
 is_one_of [] status = false
 is_one_of (code ∷ codes) status = (status == code) || is_one_of codes status
 
--- the value is what `change` makes of it, and where the call was refused what it was
-pub record Alters {X : Type 0} (change : X → X) (old : Option X) (status : ℕ) (new : Option X)
-    : Type 0 where
-  pub ok : status ≡ OK → new ≡ option_map change old
+-- the contents are what `change` makes of them, and where the call was refused nothing has changed
+pub record Alters {X C : Type 0} (contents : X → C) (change : C → C) (old : Option X) (status : ℕ)
+    (new : Option X) : Type 0 where
+  pub ok : status ≡ OK → option_map contents new ≡ option_map (λ x. change (contents x)) old
   pub refused : status ≢ OK → new ≡ old
   pub null : status ≡ NULL ↔ old ≡ None
+
+-- the same of numbers, bytes and characters
+abbrev pub AltersList : (List ℤ → List ℤ) → Option (List ℤ) → ℕ → Option (List ℤ) → Type 0
+AltersList = Alters (λ numbers. numbers)
+
+abbrev pub AltersBytes : (List ℕ → List ℕ) → Option PlainBytes → ℕ → Option PlainBytes → Type 0
+AltersBytes = Alters (λ value. value.bytes)
+
+abbrev pub AltersText : (List ℕ → List ℕ) → Option PlainText → ℕ → Option PlainText → Type 0
+AltersText = Alters (λ value. value.chars)
 
 -- the numbers of a list; at a null pointer there are none
 abbrev pub numbers_at : Option (List ℤ) → List ℤ
 numbers_at value = option_map_or (λ numbers. numbers) value []
+
+-- the bytes of a value; at a null pointer there are none
+abbrev pub bytes_at : Option PlainBytes → List ℕ
+bytes_at value = option_map_or (λ value. value.bytes) value []
+
+-- the characters of a text; at a null pointer there are none
+abbrev pub chars_at : Option PlainText → List ℕ
+chars_at value = option_map_or (λ value. value.chars) value []
 
 -- the test holds of two values; a null pointer has none of which it could hold
 abbrev pub are_both : {X : Type 0} → (X → X → Bool) → Option X → Option X → Bool

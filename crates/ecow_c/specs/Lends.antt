@@ -1,12 +1,25 @@
--- What a pointer from C owns, once a borrow of the value there has ended.
+-- What a pointer from C owns, once a borrow of the value there has ended: the pointer stays, and
+-- the value is the one that was lent.
 use Rattle.std.specs.Prelude.{List, ℤ, Option, Some}
-use Rattle.std.specs.Borrow.{LendsIf, Fml, MutBor, i64}
-use Rattle.ecow_list.specs.contracts.vec.EcoVec.{the_row as vec_row}
-use Rattle.ecow_c.specs.declared.list.place.ListPlace.{ListPlace}
-use Rattle.ecow_c.specs.contracts.list.place.ListPlace.{the_row as list_row}
+use Rattle.std.specs.Borrow.{LendsIf, Fml, MutBor}
+use Rattle.ecow_values.specs.declared.plain.PlainBytes.{PlainBytes}
+use Rattle.ecow_values.specs.declared.plain.PlainText.{PlainText}
+use Rattle.ecow_c.specs.Rows.{list_row, bytes_row, text_row}
+use Rattle.ecow_c.specs.contracts.list.place.ListPlace.{the_row as list_place}
+use Rattle.ecow_c.specs.contracts.bytes.place.BytesPlace.{the_row as bytes_place}
+use Rattle.ecow_c.specs.contracts.text.place.TextPlace.{the_row as text_place}
 
--- the pointer stays, and the value is the one that was lent
-abbrev pub lends_list : MutBor ListPlace → Option (MutBor (List ℤ)) → Fml
+abbrev pub lends_list : MutBor list_place.Denot → Option (MutBor (List ℤ)) → Fml
 lends_list place lent =
-    LendsIf list_row (vec_row i64) place lent
-    (λ xs. record { at = place.now.at; value = Some xs }) place.now
+    LendsIf list_place list_row place lent
+    (λ numbers. record { at = place.now.at; value = Some numbers }) place.now
+
+abbrev pub lends_bytes : MutBor bytes_place.Denot → Option (MutBor PlainBytes) → Fml
+lends_bytes place lent =
+    LendsIf bytes_place bytes_row place lent
+    (λ bytes. record { at = place.now.at; value = Some bytes }) place.now
+
+abbrev pub lends_text : MutBor text_place.Denot → Option (MutBor PlainText) → Fml
+lends_text place lent =
+    LendsIf text_place text_row place lent
+    (λ text. record { at = place.now.at; value = Some text }) place.now

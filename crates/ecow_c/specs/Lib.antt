@@ -1,3 +1,5 @@
 pub mod Answers
+pub mod Indices
 pub mod Lends
 pub mod Places
+pub mod Rows

@@ -1,5 +1,5 @@
 -- What C hands over at a pointer, and what is left there.
-use Rattle.std.specs.Prelude.{ℕ, ◌^◌, ◌<◌, Option, Some, None}
+use Rattle.std.specs.Prelude.{◌^◌, Option, Some, None}
 use Rattle.std.specs.Borrow.{Fml, RattleType, ftrue, ffalse, fsep}
 use Rattle.core.specs.Ptr.{Ptr, block_ptr, null_ptr, points_to}
 use base.Fml.{flt}

@@ -4,7 +4,7 @@ ghost use Rattle.std.specs.List.{splice};
 ghost use Rattle.std.specs.Cmp.Lexicographic.{pointwise, slice_cmp};
 ghost use Rattle.std.specs.Ordering.{int_eq, int_cmp};
 ghost use Rattle.std.specs.Hash as fed;
-ghost use Rattle.ecow_c.specs.Answers.{Alters, is_one_of, are_both, numbers_at, order_of, hash_of};
+ghost use Rattle.ecow_c.specs.Answers.{AltersList, is_one_of, are_both, numbers_at, order_of, hash_of};
 
 mod place;
 
@@ -23,7 +23,7 @@ pub extern "C" fn ecow_proved_list_assign(
     place: &mut ListPlace,
     numbers: &[i64],
 ) -> u32
-    ensures list { Alters (λ _. numbers.now) place.old.value result place.new.value }
+    ensures list { AltersList (λ _. numbers.now) place.old.value result place.new.value }
     ensures codes { is_one_of (OK ∷ MEMORY ∷ CAPACITY ∷ NULL ∷ []) result ≡ true }
     ensures capacity { result ≡ CAPACITY → MAX_LEN < length numbers.now }
 {
@@ -65,7 +65,7 @@ pub extern "C" fn ecow_proved_list_clone(from: &mut ListPlace, to: &mut ListPlac
 /// Gives the list up: an empty one stands in its place.
 #[unsafe(no_mangle)]
 pub extern "C" fn ecow_proved_list_drop(alloc: Global, place: &mut ListPlace) -> u32
-    ensures list { Alters (λ _. []) place.old.value result place.new.value }
+    ensures list { AltersList (λ _. []) place.old.value result place.new.value }
     ensures codes { is_one_of (OK ∷ NULL ∷ []) result ≡ true }
 {
     let Some(list) = place.list() else {
@@ -111,7 +111,7 @@ pub extern "C" fn ecow_proved_list_get(place: &mut ListPlace, index: usize, out:
 /// Appends a number.
 #[unsafe(no_mangle)]
 pub extern "C" fn ecow_proved_list_push(place: &mut ListPlace, number: i64) -> u32
-    ensures list { Alters (λ xs. xs ++ number ∷ []) place.old.value result place.new.value }
+    ensures list { AltersList (λ xs. xs ++ number ∷ []) place.old.value result place.new.value }
     ensures codes { is_one_of (OK ∷ MEMORY ∷ CAPACITY ∷ NULL ∷ []) result ≡ true }
     ensures capacity { result ≡ CAPACITY
         ↔ IsSomeAnd place.old.value (λ xs. MAX_LEN ≤ length xs) }
@@ -128,7 +128,7 @@ pub extern "C" fn ecow_proved_list_push(place: &mut ListPlace, number: i64) -> u
 /// Takes the last number out and writes it to `out`; `INDEX` where there is none.
 #[unsafe(no_mangle)]
 pub extern "C" fn ecow_proved_list_pop(place: &mut ListPlace, out: &mut i64) -> u32
-    ensures list { Alters (λ xs. take (length xs - 1) xs) place.old.value result place.new.value }
+    ensures list { AltersList (λ xs. take (length xs - 1) xs) place.old.value result place.new.value }
     ensures value { result ≡ OK
         → IfSome place.old.value (λ xs. slice_get xs (length xs - 1) ≡ Some out.new) }
     ensures out { result ≢ OK → out.new ≡ out.old }
@@ -151,7 +151,7 @@ pub extern "C" fn ecow_proved_list_pop(place: &mut ListPlace, out: &mut i64) -> 
 /// Puts `number` in place of the number at `index`.
 #[unsafe(no_mangle)]
 pub extern "C" fn ecow_proved_list_set(place: &mut ListPlace, index: usize, number: i64) -> u32
-    ensures list { Alters (λ xs. slice_set xs index number)
+    ensures list { AltersList (λ xs. slice_set xs index number)
         place.old.value result place.new.value }
     ensures index { result ≡ INDEX ↔ IsSomeAnd place.old.value (λ xs. length xs ≤ index) }
     ensures codes { is_one_of (OK ∷ MEMORY ∷ INDEX ∷ NULL ∷ []) result ≡ true }
@@ -171,7 +171,7 @@ pub extern "C" fn ecow_proved_list_set(place: &mut ListPlace, index: usize, numb
 /// Puts `number` in at `index`, before the number that stands there.
 #[unsafe(no_mangle)]
 pub extern "C" fn ecow_proved_list_insert(place: &mut ListPlace, index: usize, number: i64) -> u32
-    ensures list { Alters (λ xs. insert xs index number) place.old.value result place.new.value }
+    ensures list { AltersList (λ xs. insert xs index number) place.old.value result place.new.value }
     ensures index { result ≡ INDEX ↔ IsSomeAnd place.old.value (λ xs. length xs < index) }
     ensures codes { is_one_of (OK ∷ MEMORY ∷ CAPACITY ∷ INDEX ∷ NULL ∷ []) result ≡ true }
     ensures capacity { result ≡ CAPACITY → IsSomeAnd place.old.value (λ xs. MAX_LEN ≤ length xs) }
@@ -190,12 +190,8 @@ pub extern "C" fn ecow_proved_list_insert(place: &mut ListPlace, index: usize, n
 
 /// Takes the number at `index` out and writes it to `out`.
 #[unsafe(no_mangle)]
-pub extern "C" fn ecow_proved_list_remove(
-    place: &mut ListPlace,
-    index: usize,
-    out: &mut i64,
-) -> u32
-    ensures list { Alters (λ xs. remove xs index) place.old.value result place.new.value }
+pub extern "C" fn ecow_proved_list_remove(place: &mut ListPlace, index: usize, out: &mut i64) -> u32
+    ensures list { AltersList (λ xs. remove xs index) place.old.value result place.new.value }
     ensures value { result ≡ OK → IfSome place.old.value (λ xs. slice_get xs index ≡ Some out.new) }
     ensures out { result ≢ OK → out.new ≡ out.old }
     ensures index { result ≡ INDEX ↔ IsSomeAnd place.old.value (λ xs. length xs ≤ index) }
@@ -219,7 +215,7 @@ pub extern "C" fn ecow_proved_list_remove(
 /// Keeps the first `len` numbers, or all where there are fewer.
 #[unsafe(no_mangle)]
 pub extern "C" fn ecow_proved_list_truncate(place: &mut ListPlace, len: usize) -> u32
-    ensures list { Alters (λ xs. take len xs) place.old.value result place.new.value }
+    ensures list { AltersList (λ xs. take len xs) place.old.value result place.new.value }
     ensures codes { is_one_of (OK ∷ MEMORY ∷ NULL ∷ []) result ≡ true }
 {
     let Some(list) = place.list() else {
@@ -234,7 +230,7 @@ pub extern "C" fn ecow_proved_list_truncate(place: &mut ListPlace, len: usize) -
 /// Keeps no number. A block that no other list shares stays, with its room.
 #[unsafe(no_mangle)]
 pub extern "C" fn ecow_proved_list_clear(place: &mut ListPlace) -> u32
-    ensures list { Alters (λ _. []) place.old.value result place.new.value }
+    ensures list { AltersList (λ _. []) place.old.value result place.new.value }
     ensures codes { is_one_of (OK ∷ NULL ∷ []) result ≡ true }
 {
     let Some(list) = place.list() else {
@@ -247,7 +243,7 @@ pub extern "C" fn ecow_proved_list_clear(place: &mut ListPlace) -> u32
 /// Asks for room for `additional` more numbers.
 #[unsafe(no_mangle)]
 pub extern "C" fn ecow_proved_list_reserve(place: &mut ListPlace, additional: usize) -> u32
-    ensures list { Alters (λ xs. xs) place.old.value result place.new.value }
+    ensures list { AltersList (λ xs. xs) place.old.value result place.new.value }
     ensures codes { is_one_of (OK ∷ MEMORY ∷ CAPACITY ∷ NULL ∷ []) result ≡ true }
     ensures capacity { result ≡ CAPACITY
         ↔ IsSomeAnd place.old.value (λ xs. MAX_LEN < length xs + additional) }
@@ -264,7 +260,7 @@ pub extern "C" fn ecow_proved_list_reserve(place: &mut ListPlace, additional: us
 /// Appends copies of `numbers`: all, or none where it is refused.
 #[unsafe(no_mangle)]
 pub extern "C" fn ecow_proved_list_extend(place: &mut ListPlace, numbers: &[i64]) -> u32
-    ensures list { Alters (λ xs. xs ++ numbers.now) place.old.value result place.new.value }
+    ensures list { AltersList (λ xs. xs ++ numbers.now) place.old.value result place.new.value }
     ensures codes { is_one_of (OK ∷ MEMORY ∷ CAPACITY ∷ NULL ∷ []) result ≡ true }
     ensures capacity { result ≡ CAPACITY
         ↔ IsSomeAnd place.old.value (λ xs. MAX_LEN < length xs + length numbers.now) }
@@ -287,7 +283,7 @@ pub extern "C" fn ecow_proved_list_splice(
     end: usize,
     numbers: &[i64],
 ) -> u32
-    ensures list { Alters (λ xs. splice xs start end numbers.now)
+    ensures list { AltersList (λ xs. splice xs start end numbers.now)
         place.old.value result place.new.value }
     ensures index { result ≡ INDEX
         ↔ IsSomeAnd place.old.value (λ xs. nat_lt end start || nat_lt (length xs) end ≡ true) }

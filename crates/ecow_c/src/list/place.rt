@@ -1,8 +1,7 @@
 //! A pointer at which C keeps a list.
 ghost use Rattle.std.specs.Prelude.{ℤ, List, Option};
-ghost use Rattle.std.specs.Borrow.{i64};
 ghost use Rattle.std.specs.Coded.{coded_option};
-ghost use Rattle.ecow_list.specs.contracts.vec.EcoVec.{the_row as vec_row};
+ghost use Rattle.ecow_c.specs.Rows.{list_row};
 ghost use Rattle.ecow_c.specs.Places.{place_owns};
 
 use std::marker::Model;
@@ -13,9 +12,9 @@ mod list;
 #[repr(C)]
 pub struct ListPlace {
     at: *mut u8,
-    pub ghost value: { Option (List ℤ) } by { coded_option (vec_row i64).coded },
+    pub ghost value: { Option (List ℤ) } by { coded_option list_row.coded },
 }
 
 impl Model for ListPlace {
-    ghost also_owns = { λ place. place_owns (vec_row i64) place.at place.value };
+    ghost also_owns = { λ place. place_owns list_row place.at place.value };
 }

@@ -1,26 +1,25 @@
--- `value` lends what lies at a pointer that isn't null, and the place follows it. Assumes `Logic`.
+-- `list` lends what lies at a pointer that isn't null, and the place follows it. Assumes `Logic`.
 use mathlib.Core.Path.{◌≡◌, refl, sym, subst, ap}
 use Prim.Native.Nat.{ℕ, ◌<◌, ◌^◌}
 use mathlib.Core.List.{List, [], ◌∷◌, ◌++◌}
 use seplogic.Ra.Ura.{Ura}
 use lib.Dec.{lit<}
 use base.Fraction.{full_share}
-use base.Logic.{SProp, ent, sep, emp, via, fst∗, never_e, id⊢}
-use base.Fml.{Lft, GName, Share, Fml, ftrue, fsep, flft, fobs, fauth, fobor, fres, fbor}
-use mir.Syntax.{Fn, Body, named}
-use mir.Val.{Val, Vals, vptr, vnull, vstruct, vcons, vnil, of_list}
+use base.Logic.{SProp, ent, sep, emp, via, fst∗, never_e}
+use base.Fml.{Lft, GName, Share, Fml, ftrue, fsep, flft, fres}
+use mir.Syntax.{Fn, named}
+use mir.Val.{Val, vptr, vstruct, vcons, vnil, of_list}
 use prog.Memory.{Memory}
 use prog.Routine.{Routine}
 use prog.Wp.{Env, Calls, Loops, WpFn, Tables}
 use types.Logic.{Logic, sem}
-use contract.Monad.{Fun, fact}
+use contract.Monad.{Fun}
 use contract.Running.{tables, tables_of}
 use sound.WpLaws.{WpFn-mono}
-use types.Kit.{Item, Goal, Seq, Step, Soaks, step, ‵, raw, some, later, ◌⊛◌, at_ret, given, learn, ◌$◌, ◌∵◌, !, qed, by, move, keep, drop, use0, use1, split, split3, join, group, pick, await, rewrite, fsplit, fsplit3, fjoin, fpick, fpack, flt_l, flt_i, feq_l, feq_i, suffices, frame, done}
+use types.Kit.{Item, Goal, Seq, Step, step, ‵, some, later, ◌⊛◌, at_ret, given, learn, ◌$◌, ◌∵◌, !, qed, move, keep, drop, use0, use1, split, split3, join, group, pick, await, rewrite, fsplit, fsplit3, fjoin, fpick, fpack, flt_l, flt_i, feq_l, feq_i, suffices, frame, done}
 use types.Match.{live}
 use types.Part.{look_in, sub, whole, agg}
 use types.Run.{stop, fld, addr, load, lit, bin, of_opd, and_then, no_more, first, blocks, skips, branches, exec, returns, returns_within, enter}
-use types.SemTy.{Body as Borrowed}
 use types.ByLocal.{alloc_all, pass_all, free_all, look_at, get, through, sets, sets_last, is, env}
 use denote.Exit.{no}
 use denote.Follow.{follows, follows_by, lends_Part}
@@ -37,14 +36,13 @@ use denote.Triple.Entry.{on_entry}
 use denote.Triple.Spec.{Meets, triple_of}
 use denote.Triple.Table.{entered}
 use denote.Triple.Walked.{says, Stays, stay_dropped, walk_of, walked, ends_at, Goes-spent_ref, walk_Meets}
-use denote.Builtin.{i64}
-use Rattle.ecow_list.specs.contracts.vec.EcoVec.{the_row as vec_row}
+use Rattle.ecow_c.specs.Rows.{list_row}
 use Rattle.core.specs.contracts.option.Option as Opt
 use Rattle.core.specs.declared.option.Option.{Option}
 use Rattle.core.specs.declared.option.Option.TheVariants.{None, Some}
 use Rattle.core.proofs.option.Made.{Some-of, none_of}
 use Rattle.std_alloc.proofs.VecSteps.Shapes.{after}
-use Rattle.ecow_c.specs.Places.{lies_there, place_owns}
+use Rattle.ecow_c.specs.Places.{lies_there}
 use Rattle.ecow_c.specs.contracts.list.place.ListPlace as L
 use Rattle.ecow_c.specs.contracts.list.place.ListPlace.list as F
 use Rattle.ecow_c.specs.contracts.list.place.ListPlace.list.Key.{name as #self}
@@ -52,7 +50,7 @@ use Rattle.ecow_c.proofs.list.place.ListPlace.list.Statement.{statement}
 use Rattle.ecow_c.proofs.list.place.ListPlace.list.Code as code
 
 abbrev R : RattleType
-R = vec_row i64
+R = list_row
 
 abbrev B : RattleType
 B = L.the_row
@@ -136,31 +134,31 @@ module _ {M : Type 1} {𝓤 : Ura M} (𝓛 : Logic 𝓤) (at_mem : Memory → SP
       (λ e none. sets ! (is ! (of_opd ! (load ! (through ! refl (fld ! refl (stop !))) (look_in ! 0 (sub ! 0 refl (whole !))))) (ap ptr_val e)) refl (tt, record { fits = lit< tt }) $
       sets ! (bin ! (get ! refl) (lit ! tt) tt) refl (tt, tt) $ first ! $ branches ! (get ! refl)
       (λ null. sets ! (agg ! (and_then ! (lit ! tt) (no_more !))) refl (tt, (record { fits = lit< tt }, tt)) $
-          nothing ! $ rewrite ! 0 (λ (p : Ptr). ‵ (lies_there R p None)) (sym e) refl $ rewrite ! 0 (λ (v : Option R.Denot). ‵ (lies_there R d.at v)) (sym none) refl $
-          flt_i ! (count_of d.at) (2 ^ 63) low $ fjoin ! $ word_made d.at ! $ fjoin ! $ move ! (1 ∷ 0 ∷ 2 ∷ 3 ∷ 4 ∷ []) $ closes ! tt B d (word d.at ∷ []) rb ro $
-          use1 𝓛 (‵ (fres γ (B.coded.code d))) (𝓛.names.obs-res γ (B.coded.code d)) $ move ! (1 ∷ []) $ drop ! $
-          use0 𝓛 (‵ ((Opt.the_row (Lent κ)).own_val None (live 0 vnil ∷ []))) (none_of 𝓛 (Lent κ)) $
-          returns_within ! Post refl (look_at ! 0 refl) $ free_all ! refl $ keep ! (0 ∷ 2 ∷ 1 ∷ []) $
-          suffices ! _ (ends_at 𝓛 ended stayed held bound (live 0 vnil) None (tt, tt) (tt, tt)) $
-          nothing ! $ nothing ! $ fjoin ! $ join ! $ nothing ! $ move ! (2 ∷ 0 ∷ []) $ join ! $ join ! $ frame ! $ says ! (sym none) $ done !)
+      nothing ! $ rewrite ! 0 (λ (p : Ptr). ‵ (lies_there R p None)) (sym e) refl $ rewrite ! 0 (λ (v : Option R.Denot). ‵ (lies_there R d.at v)) (sym none) refl $
+      flt_i ! (count_of d.at) (2 ^ 63) low $ fjoin ! $ word_made d.at ! $ fjoin ! $ move ! (1 ∷ 0 ∷ 2 ∷ 3 ∷ 4 ∷ []) $ closes ! tt B d (word d.at ∷ []) rb ro $
+      use1 𝓛 (‵ (fres γ (B.coded.code d))) (𝓛.names.obs-res γ (B.coded.code d)) $ move ! (1 ∷ []) $ drop ! $
+      use0 𝓛 (‵ ((Opt.the_row (Lent κ)).own_val None (live 0 vnil ∷ []))) (none_of 𝓛 (Lent κ)) $
+      returns_within ! Post refl (look_at ! 0 refl) $ free_all ! refl $ keep ! (0 ∷ 2 ∷ 1 ∷ []) $
+      suffices ! _ (ends_at 𝓛 ended stayed held bound (live 0 vnil) None (tt, tt) (tt, tt)) $
+      nothing ! $ nothing ! $ fjoin ! $ join ! $ nothing ! $ move ! (2 ∷ 0 ∷ []) $ join ! $ join ! $ frame ! $ says ! (sym none) $ done !)
       (λ null. absurd null))
       (λ b o x e there. let at : Val = vptr b o in
       sets ! (is ! (of_opd ! (load ! (through ! refl (fld ! refl (stop !))) (look_in ! 1 (sub ! 0 refl (whole !))))) (ap ptr_val e)) refl (tt, tt) $
       sets ! (bin ! (get ! refl) (lit ! tt) (tests_null (block_ptr b o) (subst (λ (p : Ptr). count_of p < 2 ^ 63) e low))) refl (tt, tt) $ first ! $ branches ! (get ! refl)
       (λ null. absurd null)
       (λ null. skips ! $ exec ! C Λ En (after 3 here.body) (at_ret En Post) $ first ! $ blocks ! $
-          sets ! (is ! (of_opd ! (load ! (through ! refl (fld ! refl (stop !))) (look_in ! 1 (sub ! 0 refl (whole !))))) (ap ptr_val e)) refl (tt, tt) $
-          sets ! (of_opd ! (get ! refl)) refl (tt, tt) $ sets_last ! (addr ! (through ! refl (stop !))) refl (tt, tt) $
-          exec ! C Λ En (after 4 here.body) (at_ret En Post) $ sets ! (of_opd ! (get ! refl)) refl (tt, tt) $
-          sets ! (agg ! (and_then ! (lit ! tt) (and_then ! (get ! refl) (no_more !)))) refl (tt, (record { fits = lit< tt }, (tt, tt))) $
-          move ! (2 ∷ 3 ∷ 4 ∷ 0 ∷ 1 ∷ []) $ group ! 5 $
-          use1 𝓛 (later (some (λ (γ' : GName). ‵ ((Lent κ).own_val (record { ref_ptr = (b, o); ghost_name = γ'; now = x }) (at ∷ [])) ⊛ ‵ (flft κ q) ⊛ ‵ (follows B R γ γ' (with_value d)))))
-          (lends_Part 𝓛 B R (with_value d) (named 0) κ q rb ro b o γ (sem 𝓛 Rest) (back b o e low) (B.coded.code d) (B.coded.code d) x) $ await ! tt $ pick ! (λ γ'.
-          let r : MutBor R.Denot = record { ref_ptr = (b, o); ghost_name = γ'; now = x } in
-          split3 ! $ use1 𝓛 (‵ ((Opt.the_row (Lent κ)).own_val (Some r) (live 1 (vcons at vnil) ∷ []))) (Some-of 𝓛 (Lent κ) r at) $
-          returns ! (look_at ! 0 refl) $ free_all ! refl $ keep ! (0 ∷ 1 ∷ 2 ∷ []) $
-          suffices ! _ (ends_at 𝓛 ended stayed held bound (live 1 (vcons at vnil)) (Some r) (tt, tt) (tt, tt)) $
-          nothing ! $ nothing ! $ fjoin ! $ join ! $ nothing ! $ move ! (2 ∷ 0 ∷ []) $ join ! $ join ! $ frame ! $ says ! (sym there) $ done !)))))))
+      sets ! (is ! (of_opd ! (load ! (through ! refl (fld ! refl (stop !))) (look_in ! 1 (sub ! 0 refl (whole !))))) (ap ptr_val e)) refl (tt, tt) $
+      sets ! (of_opd ! (get ! refl)) refl (tt, tt) $ sets_last ! (addr ! (through ! refl (stop !))) refl (tt, tt) $
+      exec ! C Λ En (after 4 here.body) (at_ret En Post) $ sets ! (of_opd ! (get ! refl)) refl (tt, tt) $
+      sets ! (agg ! (and_then ! (lit ! tt) (and_then ! (get ! refl) (no_more !)))) refl (tt, (record { fits = lit< tt }, (tt, tt))) $
+      move ! (2 ∷ 3 ∷ 4 ∷ 0 ∷ 1 ∷ []) $ group ! 5 $
+      use1 𝓛 (later (some (λ (γ' : GName). ‵ ((Lent κ).own_val (record { ref_ptr = (b, o); ghost_name = γ'; now = x }) (at ∷ [])) ⊛ ‵ (flft κ q) ⊛ ‵ (follows B R γ γ' (with_value d)))))
+      (lends_Part 𝓛 B R (with_value d) (named 0) κ q rb ro b o γ (sem 𝓛 Rest) (back b o e low) (B.coded.code d) (B.coded.code d) x) $ await ! tt $ pick ! (λ γ'.
+      let r : MutBor R.Denot = record { ref_ptr = (b, o); ghost_name = γ'; now = x } in
+      split3 ! $ use1 𝓛 (‵ ((Opt.the_row (Lent κ)).own_val (Some r) (live 1 (vcons at vnil) ∷ []))) (Some-of 𝓛 (Lent κ) r at) $
+      returns ! (look_at ! 0 refl) $ free_all ! refl $ keep ! (0 ∷ 1 ∷ 2 ∷ []) $
+      suffices ! _ (ends_at 𝓛 ended stayed held bound (live 1 (vcons at vnil)) (Some r) (tt, tt) (tt, tt)) $
+      nothing ! $ nothing ! $ fjoin ! $ join ! $ nothing ! $ move ! (2 ∷ 0 ∷ []) $ join ! $ join ! $ frame ! $ says ! (sym there) $ done !)))))))
 
 meets : {M : Type 1} {𝓤 : Ura M} (𝓛 : Logic 𝓤) (at_mem : Memory → SProp 𝓤) (run : Routine → Fun 𝓤) (𝓣 : Tables 𝓤 𝓛.H)
     → Meets 𝓛 ended.signature (WpFn 𝓤 𝓛.H 𝓣.C 𝓣.Λ here) (closing 𝓛 ended (F.clauses 𝓛 at_mem run))

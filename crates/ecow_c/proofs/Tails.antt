@@ -1,0 +1,17 @@
+-- The characters behind a boundary.
+use Rattle.std.proofs.Common.{◌≡◌, ℕ, true, List, take, drop, take-append-drop, sym, ap, ◌∙◌, subst}
+use Rattle.std.specs.Str.{chars, encode_utf8_all}
+use Rattle.std.proofs.lemmas.Str.{chars-encodes}
+use Rattle.std.proofs.lemmas.List.{drop_at}
+use Rattle.ecow_values.specs.Utf8.{chars_before, is_boundary}
+use Rattle.ecow_values.proofs.Boundaries.{chars_before-front, passes_boundary}
+use Rattle.ecow_text.specs.Text.{AreChars}
+use Rattle.ecow_text.proofs.Texts.{AreChars-append, split_encoded}
+
+pub chars-drop : (cs : List ℕ) (index : ℕ) → AreChars cs → is_boundary cs index ≡ true → chars (drop index (encode_utf8_all cs)) ≡ drop (chars_before cs index) cs
+chars-drop cs index valid passes =
+    let at = passes_boundary cs index passes in
+    let place : chars_before cs index ≡ at.front = rw at.ends at (chars_before-front cs at.front at.fits) in
+    let after : drop index (encode_utf8_all cs) ≡ encode_utf8_all (drop at.front cs) =
+    ap (drop index) (split_encoded cs at.front) ∙ drop_at (encode_utf8_all (take at.front cs)) _ index at.ends in
+    ap chars after ∙ chars-encodes _ (AreChars-append (take at.front cs) (drop at.front cs) (subst AreChars (sym (take-append-drop at.front cs)) valid)).1 ∙ ap (λ k. drop k cs) (sym place)

@@ -1,0 +1,15 @@
+-- The types of the values that C keeps, as the logic describes them.
+use Rattle.std.specs.Borrow.{RattleType, i64}
+use Rattle.ecow_list.specs.contracts.vec.EcoVec as list
+use Rattle.ecow_bytes.specs.contracts.bytes.SmallBytes as bytes
+use Rattle.ecow_text.specs.contracts.text.SmallText as text
+use denote.Param.{number}
+
+abbrev pub list_row : RattleType
+list_row = list.the_row i64
+
+abbrev pub bytes_row : RattleType
+bytes_row = bytes.the_row (number 15)
+
+abbrev pub text_row : RattleType
+text_row = text.the_row (number 15)

@@ -1,0 +1,21 @@
+//! A pointer at which C keeps bytes.
+ghost use Rattle.std.specs.Prelude.{Option};
+ghost use Rattle.std.specs.Coded.{coded_option};
+ghost use Rattle.ecow_values.specs.declared.plain.PlainBytes.{PlainBytes};
+ghost use Rattle.ecow_c.specs.Rows.{bytes_row};
+ghost use Rattle.ecow_c.specs.Places.{place_owns};
+
+use std::marker::Model;
+
+mod bytes;
+
+/// A pointer to an `EcoBytes` in C's memory, or null. C passes the address of its pointer.
+#[repr(C)]
+pub struct BytesPlace {
+    at: *mut u8,
+    pub ghost value: { Option PlainBytes } by { coded_option bytes_row.coded },
+}
+
+impl Model for BytesPlace {
+    ghost also_owns = { λ place. place_owns bytes_row place.at place.value };
+}

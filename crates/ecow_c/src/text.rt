@@ -1,0 +1,544 @@
+//! Texts: an `EcoString` at a pointer of C's. Indices and lengths count bytes.
+ghost use Rattle.std.specs.Prelude.{◌≡◌, ◌≢◌, ◌↔◌, ◌≤◌, ◌<◌, ◌+◌, ◌-◌, ◌*◌, ◌&&◌, [], ◌∷◌, ◌++◌, length, take, drop, insert, remove, slice_get, true, false, Some, IfOk, IfSome, IsErrOf, IsSomeAnd, is_some, nat_eq};
+ghost use Rattle.std.specs.List.{insert_slice, repeat, splice};
+ghost use Rattle.std.specs.Option.{option_map_or};
+ghost use Rattle.std.specs.Char.{IsScalar, len_utf8};
+ghost use Rattle.std.specs.Str.{chars, encode_utf8_all, is_utf8};
+ghost use Rattle.std.specs.StrCase.Lower.{str_to_lowercase};
+ghost use Rattle.std.specs.StrCase.Upper.{str_to_uppercase};
+ghost use Rattle.std.specs.Cmp.Lexicographic.{pointwise, slice_cmp};
+ghost use Rattle.std.specs.Ordering.{nat_cmp};
+ghost use Rattle.std.specs.Hash as fed;
+ghost use Rattle.ecow_values.specs.Replaced.{replace_all};
+ghost use Rattle.ecow_values.specs.Utf8.{utf8_len, is_boundary, chars_before};
+ghost use Rattle.ecow_c.specs.Answers.{Alters, AltersText, is_one_of, are_both, chars_at, order_of, hash_of};
+ghost use Rattle.ecow_c.specs.Indices.{index_status, range_status, Heeds};
+
+mod place;
+
+use crate::status::{BOUNDARY, CAPACITY, INDEX, MEMORY, NULL, OK, UTF8, order, refusal};
+use ecow_base::MAX_LEN;
+use ecow_list::EcoError;
+use ecow_text::EcoString;
+use place::TextPlace;
+use std::alloc::Global;
+use std::hash::{DefaultHasher, Hash, Hasher};
+use std::ptr::from_ref;
+
+/// Whether the text may be cut at `index`: `OK`, or why not.
+fn cut_at(text: &EcoString, index: usize) -> u32
+    ensures { result ≡ index_status text.now.chars index }
+{
+    if index > text.len() {
+        INDEX
+    } else if text.is_char_boundary(index) {
+        OK
+    } else {
+        BOUNDARY
+    }
+}
+
+/// The text that bytes spell, if they are UTF-8.
+fn spelled(bytes: &[u8]) -> Option<&str>
+    ensures bytes { IfSome result (λ text. text.now ≡ bytes.now) }
+    ensures utf8 { is_utf8 bytes.now ≡ is_some result }
+{
+    match str::from_utf8(bytes) {
+        Ok(text) => Some(text),
+        Err(_) => None,
+    }
+}
+
+/// Whether the bytes are UTF-8.
+#[unsafe(no_mangle)]
+pub extern "C" fn ecow_proved_is_utf8(bytes: &[u8]) -> bool
+    ensures { result ≡ is_utf8 bytes.now }
+{
+    spelled(bytes).is_some()
+}
+
+/// Puts a copy of the text that `added` spells in place of the text.
+#[unsafe(no_mangle)]
+pub extern "C" fn ecow_proved_text_assign(alloc: Global, place: &mut TextPlace, added: &[u8]) -> u32
+    ensures text { AltersText (λ _. chars added.now) place.old.value result place.new.value }
+    ensures codes { is_one_of (OK ∷ MEMORY ∷ CAPACITY ∷ UTF8 ∷ NULL ∷ []) result ≡ true }
+    ensures utf8 { result ≡ UTF8 ↔ IsSomeAnd place.old.value (λ _. is_utf8 added.now ≡ false) }
+    ensures capacity { result ≡ CAPACITY → MAX_LEN < length added.now }
+{
+    let Some(text) = place.text() else {
+        return NULL;
+    };
+    let Some(added) = spelled(added) else {
+        return UTF8;
+    };
+    match EcoString::from_str(alloc, added) {
+        Ok(made) => {
+            *text = made;
+            OK
+        }
+        Err(error) => refusal(error),
+    }
+}
+
+/// Puts a clone of the text at `from`, which shares its block, in place of the text at `to`.
+#[unsafe(no_mangle)]
+pub extern "C" fn ecow_proved_text_clone(from: &mut TextPlace, to: &mut TextPlace) -> u32
+    ensures ok { result ≡ OK → to.new.value ≡ from.old.value }
+    ensures source { from.new.value ≡ from.old.value }
+    ensures refused { result ≢ OK → to.new.value ≡ to.old.value }
+    ensures codes { is_one_of (OK ∷ MEMORY ∷ NULL ∷ []) result ≡ true }
+{
+    let Some(text) = from.text() else {
+        return NULL;
+    };
+    let Some(to) = to.text() else {
+        return NULL;
+    };
+    match text.clone() {
+        Ok(clone) => {
+            *to = clone;
+            OK
+        }
+        Err(_) => MEMORY,
+    }
+}
+
+/// Gives the text up: an empty one stands in its place.
+#[unsafe(no_mangle)]
+pub extern "C" fn ecow_proved_text_drop(alloc: Global, place: &mut TextPlace) -> u32
+    ensures text { AltersText (λ _. []) place.old.value result place.new.value }
+    ensures codes { is_one_of (OK ∷ NULL ∷ []) result ≡ true }
+{
+    let Some(text) = place.text() else {
+        return NULL;
+    };
+    *text = EcoString::new(alloc);
+    OK
+}
+
+/// The number of bytes; 0 at a null pointer.
+#[unsafe(no_mangle)]
+pub extern "C" fn ecow_proved_text_len(place: &mut TextPlace) -> usize
+    ensures len { result ≡ utf8_len (chars_at place.old.value) }
+    ensures unchanged { place.new.value ≡ place.old.value }
+{
+    match place.text() {
+        Some(text) => text.len(),
+        None => 0,
+    }
+}
+
+/// Writes where the bytes begin to `start`, unless there is none, and how many there are to `len`.
+#[unsafe(no_mangle)]
+pub extern "C" fn ecow_proved_text_slice(
+    place: &mut TextPlace,
+    start: &mut *const u8,
+    len: &mut usize,
+)
+    ensures len { len.new ≡ utf8_len (chars_at place.old.value) }
+    ensures unchanged { place.new.value ≡ place.old.value }
+{
+    let Some(text) = place.text() else {
+        *len = 0;
+        return;
+    };
+    *len = text.len();
+    if let Some(first) = text.as_str().as_bytes().first() {
+        *start = from_ref(first);
+    }
+}
+
+/// Whether a character begins at `index` or the text ends there; not so at a null pointer.
+#[unsafe(no_mangle)]
+pub extern "C" fn ecow_proved_text_is_boundary(place: &mut TextPlace, index: usize) -> bool
+    ensures boundary { result
+        ≡ option_map_or (λ text. is_boundary text.chars index) place.old.value false }
+    ensures unchanged { place.new.value ≡ place.old.value }
+{
+    match place.text() {
+        Some(text) => text.is_char_boundary(index),
+        None => false,
+    }
+}
+
+/// Appends a character, given by its number.
+#[unsafe(no_mangle)]
+pub extern "C" fn ecow_proved_text_push(place: &mut TextPlace, character: u32) -> u32
+    ensures text { AltersText (λ cs. cs ++ character ∷ []) place.old.value result place.new.value }
+    ensures codes { is_one_of (OK ∷ MEMORY ∷ CAPACITY ∷ UTF8 ∷ NULL ∷ []) result ≡ true }
+    ensures utf8 { IsScalar character → result ≢ UTF8 }
+    ensures valid { result ≡ OK → IsScalar character }
+    ensures capacity { result ≡ CAPACITY → IsSomeAnd place.old.value
+        (λ text. MAX_LEN < utf8_len text.chars + len_utf8 character) }
+{
+    let Some(text) = place.text() else {
+        return NULL;
+    };
+    let Some(c) = char::from_u32(character) else {
+        return UTF8;
+    };
+    match text.push(c) {
+        Ok(()) => OK,
+        Err(error) => refusal(error),
+    }
+}
+
+/// Takes the last character out and writes its number to `out`; `INDEX` where there is none.
+#[unsafe(no_mangle)]
+pub extern "C" fn ecow_proved_text_pop(place: &mut TextPlace, out: &mut u32) -> u32
+    ensures text { AltersText (λ cs. take (length cs - 1) cs)
+        place.old.value result place.new.value }
+    ensures value { result ≡ OK → IfSome place.old.value
+        (λ text. slice_get text.chars (length text.chars - 1) ≡ Some out.new) }
+    ensures out { result ≢ OK → out.new ≡ out.old }
+    ensures index { result ≡ INDEX
+        ↔ IsSomeAnd place.old.value (λ text. text.chars ≡ []) }
+    ensures codes { is_one_of (OK ∷ MEMORY ∷ INDEX ∷ NULL ∷ []) result ≡ true }
+{
+    let Some(text) = place.text() else {
+        return NULL;
+    };
+    match text.pop() {
+        Ok(Some(c)) => {
+            *out = c as u32;
+            OK
+        }
+        Ok(None) => INDEX,
+        Err(error) => refusal(error),
+    }
+}
+
+/// Puts the text that `added` spells in at `index`: all, or nothing where it is refused.
+#[unsafe(no_mangle)]
+pub extern "C" fn ecow_proved_text_insert(place: &mut TextPlace, index: usize, added: &[u8]) -> u32
+    ensures text { AltersText (λ cs. insert_slice cs (chars_before cs index) (chars added.now))
+        place.old.value result place.new.value }
+    ensures utf8 { result ≡ UTF8 ↔ IsSomeAnd place.old.value (λ _. is_utf8 added.now ≡ false) }
+    ensures index { IfSome place.old.value
+        (λ text. is_utf8 added.now ≡ true → Heeds (index_status text.chars index) result) }
+    ensures codes { is_one_of (OK ∷ MEMORY ∷ CAPACITY ∷ INDEX ∷ BOUNDARY ∷ UTF8 ∷ NULL ∷ []) result
+        ≡ true }
+    ensures capacity { result ≡ CAPACITY → IsSomeAnd place.old.value
+        (λ text. MAX_LEN < utf8_len text.chars + length added.now) }
+{
+    let Some(text) = place.text() else {
+        return NULL;
+    };
+    let Some(added) = spelled(added) else {
+        return UTF8;
+    };
+    let cut = cut_at(text, index);
+    if cut != OK {
+        return cut;
+    }
+    match text.insert_str(index, added) {
+        Ok(()) => OK,
+        Err(error) => refusal(error),
+    }
+}
+
+/// Takes the character that begins at `index` out and writes its number to `out`; `INDEX` at the
+/// end.
+#[unsafe(no_mangle)]
+pub extern "C" fn ecow_proved_text_remove(place: &mut TextPlace, index: usize, out: &mut u32) -> u32
+    ensures text { AltersText (λ cs. remove cs (chars_before cs index))
+        place.old.value result place.new.value }
+    ensures value { result ≡ OK → IfSome place.old.value
+        (λ text. slice_get text.chars (chars_before text.chars index) ≡ Some out.new) }
+    ensures out { result ≢ OK → out.new ≡ out.old }
+    ensures index { result ≡ INDEX
+        ↔ IsSomeAnd place.old.value (λ text. utf8_len text.chars ≤ index) }
+    ensures boundary { result ≡ BOUNDARY ↔ IsSomeAnd place.old.value
+        (λ text. (index < utf8_len text.chars) × (is_boundary text.chars index ≡ false)) }
+    ensures codes { is_one_of (OK ∷ MEMORY ∷ INDEX ∷ BOUNDARY ∷ NULL ∷ []) result ≡ true }
+{
+    let Some(text) = place.text() else {
+        return NULL;
+    };
+    if index >= text.len() {
+        return INDEX;
+    }
+    if !text.is_char_boundary(index) {
+        return BOUNDARY;
+    }
+    match text.remove(index) {
+        Ok(c) => {
+            *out = c as u32;
+            OK
+        }
+        Err(error) => refusal(error),
+    }
+}
+
+/// Keeps the first `len` bytes, or all where there are fewer.
+#[unsafe(no_mangle)]
+pub extern "C" fn ecow_proved_text_truncate(place: &mut TextPlace, len: usize) -> u32
+    ensures text { AltersText (λ cs. take (chars_before cs len) cs)
+        place.old.value result place.new.value }
+    ensures boundary { result ≡ BOUNDARY ↔ IsSomeAnd place.old.value
+        (λ text. (len ≤ utf8_len text.chars) × (is_boundary text.chars len ≡ false)) }
+    ensures codes { is_one_of (OK ∷ MEMORY ∷ BOUNDARY ∷ NULL ∷ []) result ≡ true }
+{
+    let Some(text) = place.text() else {
+        return NULL;
+    };
+    if len <= text.len() && !text.is_char_boundary(len) {
+        return BOUNDARY;
+    }
+    match text.truncate(len) {
+        Ok(()) => OK,
+        Err(error) => refusal(error),
+    }
+}
+
+/// Keeps no character. A block that no other text shares stays, with its room.
+#[unsafe(no_mangle)]
+pub extern "C" fn ecow_proved_text_clear(place: &mut TextPlace) -> u32
+    ensures text { AltersText (λ _. []) place.old.value result place.new.value }
+    ensures codes { is_one_of (OK ∷ NULL ∷ []) result ≡ true }
+{
+    let Some(text) = place.text() else {
+        return NULL;
+    };
+    text.clear();
+    OK
+}
+
+/// Asks for room for `additional` more bytes.
+#[unsafe(no_mangle)]
+pub extern "C" fn ecow_proved_text_reserve(place: &mut TextPlace, additional: usize) -> u32
+    ensures text { AltersText (λ cs. cs) place.old.value result place.new.value }
+    ensures codes { is_one_of (OK ∷ MEMORY ∷ CAPACITY ∷ NULL ∷ []) result ≡ true }
+    ensures capacity { result ≡ CAPACITY ↔ IsSomeAnd place.old.value
+        (λ text. MAX_LEN < utf8_len text.chars + additional) }
+{
+    let Some(text) = place.text() else {
+        return NULL;
+    };
+    match text.reserve(additional) {
+        Ok(()) => OK,
+        Err(error) => refusal(error),
+    }
+}
+
+/// Appends the text that `added` spells: all, or nothing where it is refused.
+#[unsafe(no_mangle)]
+pub extern "C" fn ecow_proved_text_extend(place: &mut TextPlace, added: &[u8]) -> u32
+    ensures text { AltersText (λ cs. cs ++ chars added.now)
+        place.old.value result place.new.value }
+    ensures utf8 { result ≡ UTF8 ↔ IsSomeAnd place.old.value (λ _. is_utf8 added.now ≡ false) }
+    ensures codes { is_one_of (OK ∷ MEMORY ∷ CAPACITY ∷ UTF8 ∷ NULL ∷ []) result ≡ true }
+    ensures capacity { result ≡ CAPACITY → IsSomeAnd place.old.value
+        (λ text. MAX_LEN < utf8_len text.chars + length added.now) }
+{
+    let Some(text) = place.text() else {
+        return NULL;
+    };
+    let Some(added) = spelled(added) else {
+        return UTF8;
+    };
+    match text.push_str(added) {
+        Ok(()) => OK,
+        Err(error) => refusal(error),
+    }
+}
+
+/// Puts the text that `added` spells in place of the bytes from `start` up to `end`: all, or
+/// nothing where it is refused.
+#[unsafe(no_mangle)]
+pub extern "C" fn ecow_proved_text_splice(
+    place: &mut TextPlace,
+    start: usize,
+    end: usize,
+    added: &[u8],
+) -> u32
+    ensures text { AltersText (λ cs. splice cs (chars_before cs start) (chars_before cs end)
+        (chars added.now))
+        place.old.value result place.new.value }
+    ensures utf8 { result ≡ UTF8 ↔ IsSomeAnd place.old.value (λ _. is_utf8 added.now ≡ false) }
+    ensures index { IfSome place.old.value
+        (λ text. is_utf8 added.now ≡ true → Heeds (range_status text.chars start end) result) }
+    ensures codes { is_one_of (OK ∷ MEMORY ∷ CAPACITY ∷ INDEX ∷ BOUNDARY ∷ UTF8 ∷ NULL ∷ []) result
+        ≡ true }
+{
+    let Some(text) = place.text() else {
+        return NULL;
+    };
+    let Some(added) = spelled(added) else {
+        return UTF8;
+    };
+    if start > end {
+        return INDEX;
+    }
+    let cut = cut_at(text, end);
+    if cut != OK {
+        return cut;
+    }
+    let cut = cut_at(text, start);
+    if cut != OK {
+        return cut;
+    }
+    match spliced(text, start, end, added) {
+        Ok(made) => {
+            *text = made;
+            OK
+        }
+        Err(error) => refusal(error),
+    }
+}
+
+/// A text with another in place of a range.
+fn spliced(text: &EcoString, start: usize, end: usize, added: &str) -> Result<EcoString, EcoError>
+    requires start { is_boundary text.now.chars start ≡ true }
+    requires end { is_boundary text.now.chars end ≡ true }
+    ensures chars { IfOk result (λ made. made.chars
+        ≡ splice text.now.chars (chars_before text.now.chars start)
+        (chars_before text.now.chars end) (chars added.now)) }
+{
+    let mut made = text.clone()?;
+    made.truncate(start)?;
+    made.push_str(added)?;
+    made.push_str(&text.as_str()[end..])?;
+    Ok(made)
+}
+
+/// Whether two texts are equal.
+#[unsafe(no_mangle)]
+pub extern "C" fn ecow_proved_text_equal(left: &mut TextPlace, right: &mut TextPlace) -> bool
+    ensures equal { result ≡ are_both
+        (λ x y. pointwise nat_eq (encode_utf8_all x.chars) (encode_utf8_all y.chars))
+        left.old.value right.old.value }
+    ensures unchanged { (left.new.value ≡ left.old.value) × (right.new.value ≡ right.old.value) }
+{
+    let Some(left) = left.text() else {
+        return false;
+    };
+    let Some(right) = right.text() else {
+        return false;
+    };
+    left.as_str() == right.as_str()
+}
+
+/// How two texts compare: below 0 where the left one comes first, 0 where they are equal.
+#[unsafe(no_mangle)]
+pub extern "C" fn ecow_proved_text_compare(left: &mut TextPlace, right: &mut TextPlace) -> i32
+    ensures order { result ≡ order_of
+        (λ x y. slice_cmp nat_cmp (encode_utf8_all x.chars) (encode_utf8_all y.chars))
+        left.old.value right.old.value }
+    ensures unchanged { (left.new.value ≡ left.old.value) × (right.new.value ≡ right.old.value) }
+{
+    let Some(left) = left.text() else {
+        return 0;
+    };
+    let Some(right) = right.text() else {
+        return 0;
+    };
+    order(left.as_str().cmp(&right.as_str()))
+}
+
+/// The hash of the text, by std's hasher. Equal texts have the same.
+#[unsafe(no_mangle)]
+pub extern "C" fn ecow_proved_text_hash(alloc: Global, place: &mut TextPlace) -> u64
+    ensures hash { result ≡ hash_of (fed.str (encode_utf8_all (chars_at place.old.value))) }
+    ensures unchanged { place.new.value ≡ place.old.value }
+{
+    let mut hasher = DefaultHasher::new();
+    match place.text() {
+        Some(text) => text.hash(&mut hasher),
+        None => EcoString::new(alloc).hash(&mut hasher),
+    }
+    hasher.finish()
+}
+
+/// Puts the text in lower case, as std's `str` has it.
+#[unsafe(no_mangle)]
+pub extern "C" fn ecow_proved_text_to_lowercase(place: &mut TextPlace) -> u32
+    ensures text { Alters (λ text. encode_utf8_all text.chars) str_to_lowercase
+        place.old.value result place.new.value }
+    ensures codes { is_one_of (OK ∷ MEMORY ∷ CAPACITY ∷ NULL ∷ []) result ≡ true }
+{
+    let Some(text) = place.text() else {
+        return NULL;
+    };
+    match text.to_lowercase() {
+        Ok(made) => {
+            *text = made;
+            OK
+        }
+        Err(error) => refusal(error),
+    }
+}
+
+/// Puts the text in upper case, as std's `str` has it.
+#[unsafe(no_mangle)]
+pub extern "C" fn ecow_proved_text_to_uppercase(place: &mut TextPlace) -> u32
+    ensures text { Alters (λ text. encode_utf8_all text.chars) str_to_uppercase
+        place.old.value result place.new.value }
+    ensures codes { is_one_of (OK ∷ MEMORY ∷ CAPACITY ∷ NULL ∷ []) result ≡ true }
+{
+    let Some(text) = place.text() else {
+        return NULL;
+    };
+    match text.to_uppercase() {
+        Ok(made) => {
+            *text = made;
+            OK
+        }
+        Err(error) => refusal(error),
+    }
+}
+
+/// Puts the text `count` times over in its place.
+#[unsafe(no_mangle)]
+pub extern "C" fn ecow_proved_text_repeat(place: &mut TextPlace, count: usize) -> u32
+    ensures text { AltersText (repeat count) place.old.value result place.new.value }
+    ensures codes { is_one_of (OK ∷ MEMORY ∷ CAPACITY ∷ NULL ∷ []) result ≡ true }
+    ensures capacity { result ≡ CAPACITY ↔ IsSomeAnd place.old.value
+        (λ text. MAX_LEN < utf8_len text.chars * count) }
+{
+    let Some(text) = place.text() else {
+        return NULL;
+    };
+    match text.repeat(count) {
+        Ok(made) => {
+            *text = made;
+            OK
+        }
+        Err(error) => refusal(error),
+    }
+}
+
+/// Puts the text that `replacement` spells in place of each occurrence of the one that `pattern`
+/// spells, from the left and without overlap.
+#[unsafe(no_mangle)]
+pub extern "C" fn ecow_proved_text_replace(
+    place: &mut TextPlace,
+    pattern: &[u8],
+    replacement: &[u8],
+) -> u32
+    ensures text { AltersText (replace_all (chars pattern.now) (chars replacement.now))
+        place.old.value result place.new.value }
+    ensures utf8 { result ≡ UTF8 ↔ IsSomeAnd place.old.value
+        (λ _. is_utf8 pattern.now && is_utf8 replacement.now ≡ false) }
+    ensures codes { is_one_of (OK ∷ MEMORY ∷ CAPACITY ∷ UTF8 ∷ NULL ∷ []) result ≡ true }
+    ensures capacity { result ≡ CAPACITY → IsSomeAnd place.old.value
+        (λ text. MAX_LEN
+        < utf8_len (replace_all (chars pattern.now) (chars replacement.now) text.chars)) }
+{
+    let Some(text) = place.text() else {
+        return NULL;
+    };
+    let Some(pattern) = spelled(pattern) else {
+        return UTF8;
+    };
+    let Some(replacement) = spelled(replacement) else {
+        return UTF8;
+    };
+    match text.replace(pattern, replacement) {
+        Ok(made) => {
+            *text = made;
+            OK
+        }
+        Err(error) => refusal(error),
+    }
+}
