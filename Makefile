@@ -3,7 +3,9 @@
 
 SOURCES := $(shell find crates -path '*/out' -prune -o \( -name '*.rt' -o -name '*.antt' \) -print) crates.txt
 
-.PHONY: help try build run test agree costs vendor vendor-test contracts edits times faults fuzz hostile bench clean
+PREFIX := /usr/local
+
+.PHONY: help try build run lib install c-test test agree costs vendor vendor-test contracts edits times faults fuzz hostile bench clean
 
 help:
 	@echo "make try SCRIPT=FILE   runs the script with no proof, in half a minute"
@@ -11,6 +13,9 @@ help:
 	@echo "make build             leaves the proved program at bin/ecow-run"
 	@echo "make test              the whole gate: every proof from nothing, must-fail edits, tests, programs, the table"
 	@echo "                       of costs, and each request for memory refused in turn"
+	@echo "make lib               leaves the library for C at bin/libecow.a and bin/libecow.so, with its headers (needs a C"
+	@echo "                       compiler); make install PREFIX=$(PREFIX) puts them there"
+	@echo "make c-test            tests it from C, C++, Python and Rust (needs gcc, clang, valgrind, python3 and rustc)"
 	@echo "make vendor TO=FOLDER  copies the crates of the vector into another repository, with their rows, so that its"
 	@echo "                       gate proves them; KIND=text: of all three types, KIND=store: of both keepings too"
 	@echo "make vendor-test       tries that on a new repository, whose gate it runs; KIND as above"
@@ -45,6 +50,27 @@ build: bin/ecow-run
 run:
 	@$(MAKE) --no-print-directory --silent bin/ecow-run >&2
 	@bin/ecow-run $(SCRIPT)
+
+# The library for C: the proved one, and what tests null pointers before it.
+crates/ecow_c/out/libecow_c.a: $(SOURCES)
+	@tools/prove.sh ecow_c
+	@cd crates/ecow_c && rt lib > ../../bin/lib.log 2>&1 || { cat ../../bin/lib.log; exit 1; }
+
+bin/libecow.so: crates/ecow_c/out/libecow_c.a $(wildcard c/* include/*) tools/lib.sh VERSION
+	@tools/lib.sh
+
+lib: bin/libecow.so
+
+install: lib
+	install -d $(DESTDIR)$(PREFIX)/lib/pkgconfig $(DESTDIR)$(PREFIX)/include
+	install -m 644 bin/libecow.a $(DESTDIR)$(PREFIX)/lib
+	install -m 755 bin/libecow.so $(DESTDIR)$(PREFIX)/lib/libecow.so.0
+	ln -sf libecow.so.0 $(DESTDIR)$(PREFIX)/lib/libecow.so
+	install -m 644 include/ecow.h include/ecow.hpp $(DESTDIR)$(PREFIX)/include
+	sed 's|@PREFIX@|$(PREFIX)|' bin/ecow.pc > $(DESTDIR)$(PREFIX)/lib/pkgconfig/ecow.pc
+
+c-test: lib
+	tools/c_test.sh
 
 COSTS := crates/ecow_costs/out/ecow_costs
 FAULTS := crates/ecow_faults/out/ecow_faults

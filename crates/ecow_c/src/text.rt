@@ -161,6 +161,41 @@ pub extern "C" fn ecow_proved_text_is_boundary(place: &mut TextPlace, index: usi
     }
 }
 
+/// Writes the number of the character that begins at `index` to `out`; `INDEX` at the end.
+#[unsafe(no_mangle)]
+pub extern "C" fn ecow_proved_text_get(place: &mut TextPlace, index: usize, out: &mut u32) -> u32
+    ensures ok { result ≡ OK → IfSome place.old.value
+        (λ text. slice_get text.chars (chars_before text.chars index) ≡ Some out.new) }
+    ensures refused { result ≢ OK → out.new ≡ out.old }
+    ensures index { result ≡ INDEX
+        ↔ IsSomeAnd place.old.value (λ text. utf8_len text.chars ≤ index) }
+    ensures boundary { result ≡ BOUNDARY ↔ IsSomeAnd place.old.value
+        (λ text. (index < utf8_len text.chars) × (is_boundary text.chars index ≡ false)) }
+    ensures codes { is_one_of (OK ∷ INDEX ∷ BOUNDARY ∷ NULL ∷ []) result ≡ true }
+    ensures unchanged { place.new.value ≡ place.old.value }
+{
+    let Some(text) = place.text() else {
+        return NULL;
+    };
+    if index >= text.len() {
+        return INDEX;
+    }
+    if !text.is_char_boundary(index) {
+        return BOUNDARY;
+    }
+    *out = char_at(text, index) as u32;
+    OK
+}
+
+/// The character that begins at `index`.
+fn char_at(text: &EcoString, index: usize) -> char
+    requires boundary { is_boundary text.now.chars index ≡ true }
+    requires in_bounds { index < utf8_len text.now.chars }
+    ensures { slice_get text.now.chars (chars_before text.now.chars index) ≡ Some result }
+{
+    text.as_str()[index..].chars().next().unwrap()
+}
+
 /// Appends a character, given by its number.
 #[unsafe(no_mangle)]
 pub extern "C" fn ecow_proved_text_push(place: &mut TextPlace, character: u32) -> u32

@@ -1,0 +1,136 @@
+/* The calls of the header over those of the proved library. Nothing here is proved: it takes the
+ * address of each pointer, tells arrays and results that are null, two pointers to one value, and
+ * arrays that lie in the value that is changed. */
+#include "proved.h"
+
+#include <string.h>
+
+/* Where an array of no items begins. */
+static const int64_t nothing[1] = {0};
+
+static bool lies_in(const void *at, const void *start, size_t size) {
+    return (uintptr_t)at - (uintptr_t)start < size;
+}
+
+const char *ecow_status_text(ecow_status status) {
+    switch (status) {
+    case ECOW_OK:
+        return "done";
+    case ECOW_MEMORY:
+        return "out of memory";
+    case ECOW_CAPACITY:
+        return "capacity overflow";
+    case ECOW_INDEX:
+        return "index past the end";
+    case ECOW_BOUNDARY:
+        return "index inside a character";
+    case ECOW_UTF8:
+        return "invalid UTF-8";
+    case ECOW_NULL:
+        return "null pointer";
+    }
+    return "no status";
+}
+
+#define VALUE ecow_list
+#define ITEM int64_t
+#define CALL(name) ecow_list_##name
+#define PROVED(name) ecow_proved_list_##name
+#include "values.h"
+#include "items.h"
+#undef VALUE
+#undef ITEM
+#undef CALL
+#undef PROVED
+
+#define VALUE ecow_bytes
+#define ITEM uint8_t
+#define CALL(name) ecow_bytes_##name
+#define PROVED(name) ecow_proved_bytes_##name
+#include "values.h"
+#include "items.h"
+#undef VALUE
+#undef ITEM
+#undef CALL
+#undef PROVED
+
+#define VALUE ecow_text
+#define ITEM char
+#define CALL(name) ecow_text_##name
+#define PROVED(name) ecow_proved_text_##name
+#include "values.h"
+#undef VALUE
+#undef ITEM
+#undef CALL
+#undef PROVED
+
+bool ecow_is_utf8(const char *bytes, size_t count) {
+    if (!bytes || count > PTRDIFF_MAX) {
+        return count == 0;
+    }
+    return ecow_proved_is_utf8(bytes, count);
+}
+
+bool ecow_text_is_boundary(const ecow_text *text, size_t index) {
+    ecow_text *place = (ecow_text *)text;
+    return text ? ecow_proved_text_is_boundary(&place, index) : index == 0;
+}
+
+ecow_status ecow_text_get(const ecow_text *text, size_t index, uint32_t *character) {
+    ecow_text *place = (ecow_text *)text;
+    uint32_t ignored = 0;
+    return ecow_proved_text_get(&place, index, character ? character : &ignored);
+}
+
+ecow_status ecow_text_push(ecow_text *text, uint32_t character) {
+    return ecow_proved_text_push(&text, character);
+}
+
+ecow_status ecow_text_pop(ecow_text *text, uint32_t *character) {
+    uint32_t ignored = 0;
+    return ecow_proved_text_pop(&text, character ? character : &ignored);
+}
+
+ecow_status ecow_text_insert(ecow_text *text, size_t index, const char *added, size_t count) {
+    ecow_text_array array;
+    ecow_status status = ecow_text_keep(&array, text, added, count);
+    if (status == ECOW_OK) {
+        status = ecow_proved_text_insert(&text, index, array.items, count);
+    }
+    ecow_text_drop(&array.held);
+    return status;
+}
+
+ecow_status ecow_text_remove(ecow_text *text, size_t index, uint32_t *character) {
+    uint32_t ignored = 0;
+    return ecow_proved_text_remove(&text, index, character ? character : &ignored);
+}
+
+ecow_status ecow_text_replace(ecow_text *text, const char *pattern, size_t pattern_count,
+                              const char *replacement, size_t replacement_count) {
+    ecow_text_array from, to;
+    ecow_status status = ecow_text_keep(&from, text, pattern, pattern_count);
+    ecow_status other = ecow_text_keep(&to, text, replacement, replacement_count);
+    if (status == ECOW_OK) {
+        status = other;
+    }
+    if (status == ECOW_OK) {
+        status = ecow_proved_text_replace(&text, from.items, pattern_count, to.items,
+                                          replacement_count);
+    }
+    ecow_text_drop(&from.held);
+    ecow_text_drop(&to.held);
+    return status;
+}
+
+ecow_status ecow_text_to_lowercase(ecow_text *text) {
+    return ecow_proved_text_to_lowercase(&text);
+}
+
+ecow_status ecow_text_to_uppercase(ecow_text *text) {
+    return ecow_proved_text_to_uppercase(&text);
+}
+
+ecow_status ecow_text_repeat(ecow_text *text, size_t count) {
+    return ecow_proved_text_repeat(&text, count);
+}

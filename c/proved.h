@@ -1,0 +1,78 @@
+/* What the static library of the crate `ecow_c` exports. Its contracts stand in the crate's source.
+ * A value is given by the address of a pointer to it, and an array by its start and its count. */
+#ifndef ECOW_PROVED_H
+#define ECOW_PROVED_H
+
+#include "ecow.h"
+
+ecow_status ecow_proved_list_clone(ecow_list **from, ecow_list **to);
+ecow_status ecow_proved_list_drop(ecow_list **value);
+ecow_status ecow_proved_list_assign(ecow_list **value, const int64_t *items, size_t count);
+size_t ecow_proved_list_len(ecow_list **value);
+void ecow_proved_list_slice(ecow_list **value, const int64_t **start, size_t *len);
+ecow_status ecow_proved_list_truncate(ecow_list **value, size_t len);
+ecow_status ecow_proved_list_clear(ecow_list **value);
+ecow_status ecow_proved_list_reserve(ecow_list **value, size_t additional);
+ecow_status ecow_proved_list_extend(ecow_list **value, const int64_t *items, size_t count);
+ecow_status ecow_proved_list_splice(ecow_list **value, size_t start, size_t end, const int64_t *items,
+                                    size_t count);
+bool ecow_proved_list_equal(ecow_list **left, ecow_list **right);
+int32_t ecow_proved_list_compare(ecow_list **left, ecow_list **right);
+uint64_t ecow_proved_list_hash(ecow_list **value);
+ecow_status ecow_proved_list_get(ecow_list **value, size_t index, int64_t *out);
+ecow_status ecow_proved_list_set(ecow_list **value, size_t index, int64_t item);
+ecow_status ecow_proved_list_push(ecow_list **value, int64_t item);
+ecow_status ecow_proved_list_pop(ecow_list **value, int64_t *out);
+ecow_status ecow_proved_list_insert(ecow_list **value, size_t index, int64_t item);
+ecow_status ecow_proved_list_remove(ecow_list **value, size_t index, int64_t *out);
+
+ecow_status ecow_proved_bytes_clone(ecow_bytes **from, ecow_bytes **to);
+ecow_status ecow_proved_bytes_drop(ecow_bytes **value);
+ecow_status ecow_proved_bytes_assign(ecow_bytes **value, const uint8_t *items, size_t count);
+size_t ecow_proved_bytes_len(ecow_bytes **value);
+void ecow_proved_bytes_slice(ecow_bytes **value, const uint8_t **start, size_t *len);
+ecow_status ecow_proved_bytes_truncate(ecow_bytes **value, size_t len);
+ecow_status ecow_proved_bytes_clear(ecow_bytes **value);
+ecow_status ecow_proved_bytes_reserve(ecow_bytes **value, size_t additional);
+ecow_status ecow_proved_bytes_extend(ecow_bytes **value, const uint8_t *items, size_t count);
+ecow_status ecow_proved_bytes_splice(ecow_bytes **value, size_t start, size_t end, const uint8_t *items,
+                                     size_t count);
+bool ecow_proved_bytes_equal(ecow_bytes **left, ecow_bytes **right);
+int32_t ecow_proved_bytes_compare(ecow_bytes **left, ecow_bytes **right);
+uint64_t ecow_proved_bytes_hash(ecow_bytes **value);
+ecow_status ecow_proved_bytes_get(ecow_bytes **value, size_t index, uint8_t *out);
+ecow_status ecow_proved_bytes_set(ecow_bytes **value, size_t index, uint8_t item);
+ecow_status ecow_proved_bytes_push(ecow_bytes **value, uint8_t item);
+ecow_status ecow_proved_bytes_pop(ecow_bytes **value, uint8_t *out);
+ecow_status ecow_proved_bytes_insert(ecow_bytes **value, size_t index, uint8_t item);
+ecow_status ecow_proved_bytes_remove(ecow_bytes **value, size_t index, uint8_t *out);
+
+ecow_status ecow_proved_text_clone(ecow_text **from, ecow_text **to);
+ecow_status ecow_proved_text_drop(ecow_text **value);
+ecow_status ecow_proved_text_assign(ecow_text **value, const char *items, size_t count);
+size_t ecow_proved_text_len(ecow_text **value);
+void ecow_proved_text_slice(ecow_text **value, const char **start, size_t *len);
+ecow_status ecow_proved_text_truncate(ecow_text **value, size_t len);
+ecow_status ecow_proved_text_clear(ecow_text **value);
+ecow_status ecow_proved_text_reserve(ecow_text **value, size_t additional);
+ecow_status ecow_proved_text_extend(ecow_text **value, const char *items, size_t count);
+ecow_status ecow_proved_text_splice(ecow_text **value, size_t start, size_t end, const char *items,
+                                    size_t count);
+bool ecow_proved_text_equal(ecow_text **left, ecow_text **right);
+int32_t ecow_proved_text_compare(ecow_text **left, ecow_text **right);
+uint64_t ecow_proved_text_hash(ecow_text **value);
+ecow_status ecow_proved_text_get(ecow_text **value, size_t index, uint32_t *out);
+ecow_status ecow_proved_text_push(ecow_text **value, uint32_t character);
+ecow_status ecow_proved_text_pop(ecow_text **value, uint32_t *out);
+ecow_status ecow_proved_text_insert(ecow_text **value, size_t index, const char *items,
+                                    size_t count);
+ecow_status ecow_proved_text_remove(ecow_text **value, size_t index, uint32_t *out);
+ecow_status ecow_proved_text_replace(ecow_text **value, const char *pattern, size_t pattern_count,
+                                     const char *replacement, size_t replacement_count);
+ecow_status ecow_proved_text_to_lowercase(ecow_text **value);
+ecow_status ecow_proved_text_to_uppercase(ecow_text **value);
+ecow_status ecow_proved_text_repeat(ecow_text **value, size_t count);
+bool ecow_proved_text_is_boundary(ecow_text **value, size_t index);
+bool ecow_proved_is_utf8(const char *bytes, size_t count);
+
+#endif

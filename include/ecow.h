@@ -1,0 +1,285 @@
+/* Lists of numbers, bytes and texts whose clones share memory until one of them is changed.
+ *
+ * Values. A value is a struct of this header, in memory of yours: on the stack, in another struct,
+ * in an array. Zeroed memory is an empty value (`ecow_list list = {0};`). A value that isn't empty
+ * owns memory, so give each up with its `_drop`, which leaves it empty. Values may be moved by
+ * assignment or `memcpy`, if only one of the two is used afterwards: copy with `_clone`, never `=`.
+ *
+ * Clones. A clone takes the same time however long the value is, and asks for no memory. A change
+ * copies what it must first, so no other value sees it.
+ *
+ * Answers. A call that changes a value answers an `ecow_status`. Unless that is `ECOW_OK`, the
+ * value is as it was, and nothing is written to the other pointers.
+ *
+ * Pointers. A null pointer is answered, never followed: `ECOW_NULL` where a value is changed, and
+ * what an empty value would give where one is read. An array may be null where its count is 0, and
+ * a pointer for a result where the result isn't wanted. An array may lie in the value that a call
+ * changes. Any other pointer has to be one at which a value, an array or a result lies.
+ *
+ * Lifetimes. What a `_slice` returns stays valid until the next call that changes or drops that
+ * value, or until the value is moved. It is never null.
+ *
+ * Threads. A value and its clones stay on one thread: their count of owners isn't atomic.
+ *
+ * Memory is asked of `malloc`, `realloc` and `free`. */
+#ifndef ECOW_H
+#define ECOW_H
+
+#include <stdbool.h>
+#include <stddef.h>
+#include <stdint.h>
+
+#ifdef __cplusplus
+extern "C" {
+#endif
+
+/* What a call answers. */
+typedef enum ecow_status {
+    ECOW_OK = 0,       /* It is done. */
+    ECOW_MEMORY = 1,   /* There was no memory. */
+    ECOW_CAPACITY = 2, /* The length would pass 2^63 - 1. */
+    ECOW_INDEX = 3,    /* An index or a range passes the end, or there is nothing to take. */
+    ECOW_BOUNDARY = 4, /* An index is inside a character. */
+    ECOW_UTF8 = 5,     /* The bytes are no UTF-8, or the number is no character. */
+    ECOW_NULL = 6      /* A pointer that is needed is null. */
+} ecow_status;
+
+/* A few words for people: "out of memory". Never null. */
+const char *ecow_status_text(ecow_status status);
+
+/* The values. Their words are the library's: neither read nor write them. */
+typedef struct ecow_list {
+    uint64_t word[2];
+} ecow_list;
+
+typedef struct ecow_bytes {
+    uint64_t word[4];
+} ecow_bytes;
+
+typedef struct ecow_text {
+    uint64_t word[4];
+} ecow_text;
+
+/* ---- Lists of numbers ---- */
+
+/* An empty value. */
+ecow_list ecow_list_new(void);
+
+/* Gives the value's memory up, and leaves it empty. */
+void ecow_list_drop(ecow_list *list);
+
+/* Makes `to` a clone of `from`. What it held is given up. */
+ecow_status ecow_list_clone(ecow_list *to, const ecow_list *from);
+
+/* Makes it a copy of `count` numbers. */
+ecow_status ecow_list_assign(ecow_list *list, const int64_t *numbers, size_t count);
+
+/* How many numbers there are. */
+size_t ecow_list_len(const ecow_list *list);
+
+/* The numbers, to read, and how many there are. */
+const int64_t *ecow_list_slice(const ecow_list *list, size_t *len);
+
+/* Reads the number at `index`: ECOW_INDEX from the length on. */
+ecow_status ecow_list_get(const ecow_list *list, size_t index, int64_t *number);
+
+/* Writes the number at `index`: ECOW_INDEX from the length on. */
+ecow_status ecow_list_set(ecow_list *list, size_t index, int64_t number);
+
+/* Appends a number. */
+ecow_status ecow_list_push(ecow_list *list, int64_t number);
+
+/* Takes the last number: ECOW_INDEX where there is none. */
+ecow_status ecow_list_pop(ecow_list *list, int64_t *number);
+
+/* Puts a number in at `index`, before the one that stands there: ECOW_INDEX past the length. */
+ecow_status ecow_list_insert(ecow_list *list, size_t index, int64_t number);
+
+/* Takes the number at `index`: ECOW_INDEX from the length on. */
+ecow_status ecow_list_remove(ecow_list *list, size_t index, int64_t *number);
+
+/* Keeps the first `len` numbers, or all where there are fewer. */
+ecow_status ecow_list_truncate(ecow_list *list, size_t len);
+
+/* Keeps none. Memory that no clone shares is kept for what comes. */
+ecow_status ecow_list_clear(ecow_list *list);
+
+/* Makes room for `additional` more. */
+ecow_status ecow_list_reserve(ecow_list *list, size_t additional);
+
+/* Appends `count` numbers: all or none. */
+ecow_status ecow_list_extend(ecow_list *list, const int64_t *numbers, size_t count);
+
+/* Puts `count` numbers in place of those from `start` up to `end`, which isn't included: ECOW_INDEX
+ * where `start` passes `end`, or `end` the length. */
+ecow_status ecow_list_splice(ecow_list *list, size_t start, size_t end, const int64_t *numbers,
+                             size_t count);
+
+/* Whether both have the same numbers. A null pointer equals a null pointer alone. */
+bool ecow_list_equal(const ecow_list *left, const ecow_list *right);
+
+/* The order of their numbers, one by one: below 0 where `left` comes first, 0 where they are equal.
+ * A null pointer comes before every value. */
+int ecow_list_compare(const ecow_list *left, const ecow_list *right);
+
+/* A hash (SipHash-1-3, with keys of 0). Equal values have the same. */
+uint64_t ecow_list_hash(const ecow_list *list);
+
+/* ---- Bytes: at most 15 take no memory beside the value ---- */
+
+/* An empty value. */
+ecow_bytes ecow_bytes_new(void);
+
+/* Gives the value's memory up, and leaves it empty. */
+void ecow_bytes_drop(ecow_bytes *bytes);
+
+/* Makes `to` a clone of `from`. What it held is given up. */
+ecow_status ecow_bytes_clone(ecow_bytes *to, const ecow_bytes *from);
+
+/* Makes it a copy of `count` bytes. */
+ecow_status ecow_bytes_assign(ecow_bytes *bytes, const uint8_t *added, size_t count);
+
+/* How many bytes there are. */
+size_t ecow_bytes_len(const ecow_bytes *bytes);
+
+/* The bytes, to read, and how many there are. */
+const uint8_t *ecow_bytes_slice(const ecow_bytes *bytes, size_t *len);
+
+/* Reads the byte at `index`: ECOW_INDEX from the length on. */
+ecow_status ecow_bytes_get(const ecow_bytes *bytes, size_t index, uint8_t *byte);
+
+/* Writes the byte at `index`: ECOW_INDEX from the length on. */
+ecow_status ecow_bytes_set(ecow_bytes *bytes, size_t index, uint8_t byte);
+
+/* Appends a byte. */
+ecow_status ecow_bytes_push(ecow_bytes *bytes, uint8_t byte);
+
+/* Takes the last byte: ECOW_INDEX where there is none. */
+ecow_status ecow_bytes_pop(ecow_bytes *bytes, uint8_t *byte);
+
+/* Puts a byte in at `index`, before the one that stands there: ECOW_INDEX past the length. */
+ecow_status ecow_bytes_insert(ecow_bytes *bytes, size_t index, uint8_t byte);
+
+/* Takes the byte at `index`: ECOW_INDEX from the length on. */
+ecow_status ecow_bytes_remove(ecow_bytes *bytes, size_t index, uint8_t *byte);
+
+/* Keeps the first `len` bytes, or all where there are fewer. */
+ecow_status ecow_bytes_truncate(ecow_bytes *bytes, size_t len);
+
+/* Keeps none. Memory that no clone shares is kept for what comes. */
+ecow_status ecow_bytes_clear(ecow_bytes *bytes);
+
+/* Makes room for `additional` more. */
+ecow_status ecow_bytes_reserve(ecow_bytes *bytes, size_t additional);
+
+/* Appends `count` bytes: all or none. */
+ecow_status ecow_bytes_extend(ecow_bytes *bytes, const uint8_t *added, size_t count);
+
+/* Puts `count` bytes in place of those from `start` up to `end`, which isn't included: ECOW_INDEX
+ * where `start` passes `end`, or `end` the length. */
+ecow_status ecow_bytes_splice(ecow_bytes *bytes, size_t start, size_t end, const uint8_t *added,
+                              size_t count);
+
+/* Whether both have the same bytes. A null pointer equals a null pointer alone. */
+bool ecow_bytes_equal(const ecow_bytes *left, const ecow_bytes *right);
+
+/* The order of their bytes, one by one: below 0 where `left` comes first, 0 where they are equal. A
+ * null pointer comes before every value. */
+int ecow_bytes_compare(const ecow_bytes *left, const ecow_bytes *right);
+
+/* A hash (SipHash-1-3, with keys of 0). Equal values have the same. */
+uint64_t ecow_bytes_hash(const ecow_bytes *bytes);
+
+/* ---- Texts: UTF-8, always; at most 15 bytes take no memory beside the value ---- */
+
+/* Indices and lengths count bytes. An index is a boundary where a character begins or the text
+ * ends. A character is given by its number (a Unicode scalar value). Texts are given by their
+ * bytes, which need no 0 at their end: ECOW_UTF8 where they aren't UTF-8. */
+
+/* Whether the bytes are UTF-8. */
+bool ecow_is_utf8(const char *bytes, size_t count);
+
+/* An empty text. */
+ecow_text ecow_text_new(void);
+
+/* Gives the text's memory up, and leaves it empty. */
+void ecow_text_drop(ecow_text *text);
+
+/* Makes `to` a clone of `from`. What it held is given up. */
+ecow_status ecow_text_clone(ecow_text *to, const ecow_text *from);
+
+/* Makes it a copy of `added`. */
+ecow_status ecow_text_assign(ecow_text *text, const char *added, size_t count);
+
+/* How many bytes there are. */
+size_t ecow_text_len(const ecow_text *text);
+
+/* The bytes, to read, and how many there are. No 0 stands behind them. */
+const char *ecow_text_slice(const ecow_text *text, size_t *len);
+
+/* Whether `index` is a boundary. */
+bool ecow_text_is_boundary(const ecow_text *text, size_t index);
+
+/* Reads the character that begins at `index`: ECOW_INDEX from the length on, ECOW_BOUNDARY inside a
+ * character. */
+ecow_status ecow_text_get(const ecow_text *text, size_t index, uint32_t *character);
+
+/* Appends a character: ECOW_UTF8 where there is none of that number. */
+ecow_status ecow_text_push(ecow_text *text, uint32_t character);
+
+/* Takes the last character: ECOW_INDEX where there is none. */
+ecow_status ecow_text_pop(ecow_text *text, uint32_t *character);
+
+/* Puts `added` in at `index`: ECOW_INDEX past the length, ECOW_BOUNDARY inside a character. */
+ecow_status ecow_text_insert(ecow_text *text, size_t index, const char *added, size_t count);
+
+/* Takes the character that begins at `index`: ECOW_INDEX from the length on, ECOW_BOUNDARY inside a
+ * character. */
+ecow_status ecow_text_remove(ecow_text *text, size_t index, uint32_t *character);
+
+/* Keeps the first `len` bytes, or all where there are fewer: ECOW_BOUNDARY inside a character. */
+ecow_status ecow_text_truncate(ecow_text *text, size_t len);
+
+/* Keeps nothing. Memory that no clone shares is kept for what comes. */
+ecow_status ecow_text_clear(ecow_text *text);
+
+/* Makes room for `additional` more bytes. */
+ecow_status ecow_text_reserve(ecow_text *text, size_t additional);
+
+/* Appends `added`: all or nothing. */
+ecow_status ecow_text_extend(ecow_text *text, const char *added, size_t count);
+
+/* Puts `added` in place of the bytes from `start` up to `end`, which isn't included: ECOW_INDEX
+ * where `start` passes `end`, or `end` the length, ECOW_BOUNDARY where one is inside a character. */
+ecow_status ecow_text_splice(ecow_text *text, size_t start, size_t end, const char *added,
+                             size_t count);
+
+/* Puts `replacement` in place of each `pattern`, from the left and without overlap. An empty
+ * pattern is found at each boundary. */
+ecow_status ecow_text_replace(ecow_text *text, const char *pattern, size_t pattern_count,
+                              const char *replacement, size_t replacement_count);
+
+/* Puts it in lower case, by Unicode. */
+ecow_status ecow_text_to_lowercase(ecow_text *text);
+
+/* Puts it in upper case, by Unicode. */
+ecow_status ecow_text_to_uppercase(ecow_text *text);
+
+/* Makes it `count` times as long: itself, that often. */
+ecow_status ecow_text_repeat(ecow_text *text, size_t count);
+
+/* Whether both are the same text. A null pointer equals a null pointer alone. */
+bool ecow_text_equal(const ecow_text *left, const ecow_text *right);
+
+/* The order of their bytes, which is that of their characters: below 0 where `left` comes first, 0
+ * where they are equal. A null pointer comes before every text. */
+int ecow_text_compare(const ecow_text *left, const ecow_text *right);
+
+/* A hash (SipHash-1-3, with keys of 0). Equal texts have the same. */
+uint64_t ecow_text_hash(const ecow_text *text);
+
+#ifdef __cplusplus
+}
+#endif
+
+#endif
