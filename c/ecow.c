@@ -115,8 +115,8 @@ ecow_status ecow_text_replace(ecow_text *text, const char *pattern, size_t patte
         status = other;
     }
     if (status == ECOW_OK) {
-        status = ecow_proved_text_replace(&text, from.items, pattern_count, to.items,
-                                          replacement_count);
+        status =
+            ecow_proved_text_replace(&text, from.items, pattern_count, to.items, replacement_count);
     }
     ecow_text_drop(&from.held);
     ecow_text_drop(&to.held);

@@ -14,8 +14,8 @@ ecow_status ecow_proved_list_truncate(ecow_list **value, size_t len);
 ecow_status ecow_proved_list_clear(ecow_list **value);
 ecow_status ecow_proved_list_reserve(ecow_list **value, size_t additional);
 ecow_status ecow_proved_list_extend(ecow_list **value, const int64_t *items, size_t count);
-ecow_status ecow_proved_list_splice(ecow_list **value, size_t start, size_t end, const int64_t *items,
-                                    size_t count);
+ecow_status ecow_proved_list_splice(ecow_list **value, size_t start, size_t end,
+                                    const int64_t *items, size_t count);
 bool ecow_proved_list_equal(ecow_list **left, ecow_list **right);
 int32_t ecow_proved_list_compare(ecow_list **left, ecow_list **right);
 uint64_t ecow_proved_list_hash(ecow_list **value);
@@ -35,8 +35,8 @@ ecow_status ecow_proved_bytes_truncate(ecow_bytes **value, size_t len);
 ecow_status ecow_proved_bytes_clear(ecow_bytes **value);
 ecow_status ecow_proved_bytes_reserve(ecow_bytes **value, size_t additional);
 ecow_status ecow_proved_bytes_extend(ecow_bytes **value, const uint8_t *items, size_t count);
-ecow_status ecow_proved_bytes_splice(ecow_bytes **value, size_t start, size_t end, const uint8_t *items,
-                                     size_t count);
+ecow_status ecow_proved_bytes_splice(ecow_bytes **value, size_t start, size_t end,
+                                     const uint8_t *items, size_t count);
 bool ecow_proved_bytes_equal(ecow_bytes **left, ecow_bytes **right);
 int32_t ecow_proved_bytes_compare(ecow_bytes **left, ecow_bytes **right);
 uint64_t ecow_proved_bytes_hash(ecow_bytes **value);

@@ -75,7 +75,7 @@ typedef struct CALL(array) {
     VALUE held;
 } CALL(array);
 
-static ecow_status CALL(keep)(CALL(array) *array, const VALUE *value, const ITEM *items,
+static ecow_status CALL(keep)(CALL(array) * array, const VALUE *value, const ITEM *items,
                               size_t count) {
     size_t len;
     const ITEM *start = CALL(slice)(value, &len);
@@ -118,8 +118,7 @@ ecow_status CALL(extend)(VALUE *value, const ITEM *items, size_t count) {
     return status;
 }
 
-ecow_status CALL(splice)(VALUE *value, size_t start, size_t end, const ITEM *items,
-                         size_t count) {
+ecow_status CALL(splice)(VALUE *value, size_t start, size_t end, const ITEM *items, size_t count) {
     CALL(array) array;
     ecow_status status = CALL(keep)(&array, value, items, count);
     if (status == ECOW_OK) {

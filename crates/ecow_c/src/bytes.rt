@@ -1,5 +1,5 @@
 //! Bytes: an `EcoBytes` at a pointer of C's.
-ghost use Rattle.std.specs.Prelude.{◌≡◌, ◌≢◌, ◌↔◌, ◌≤◌, ◌<◌, ◌+◌, ◌-◌, ◌||◌, [], ◌∷◌, ◌++◌, length, take, insert, remove, slice_get, slice_set, nat_eq, nat_lt, true, Some, IfOk, IfSome, IsErrOf, IsSomeAnd};
+ghost use Rattle.std.specs.Prelude.{◌≡◌, ◌≢◌, ◌↔◌, ◌≤◌, ◌<◌, ◌+◌, ◌-◌, ◌||◌, [], ◌∷◌, ◌++◌, length, take, insert, remove, slice_get, slice_set, nat_eq, nat_lt, true, None, Some, IfOk, IfSome, IsErrOf, IsSomeAnd, is_none};
 ghost use Rattle.std.specs.List.{splice};
 ghost use Rattle.std.specs.Cmp.Lexicographic.{pointwise, slice_cmp};
 ghost use Rattle.std.specs.Ordering.{nat_cmp};
@@ -40,13 +40,15 @@ pub extern "C" fn ecow_proved_bytes_assign(
     }
 }
 
-/// Puts a clone of the bytes at `from`, which shares its block, in place of the bytes at `to`.
+/// Puts a clone of the bytes at `from`, which shares their block, in place of the bytes at `to`.
 #[unsafe(no_mangle)]
 pub extern "C" fn ecow_proved_bytes_clone(from: &mut BytesPlace, to: &mut BytesPlace) -> u32
     ensures ok { result ≡ OK → to.new.value ≡ from.old.value }
     ensures source { from.new.value ≡ from.old.value }
     ensures refused { result ≢ OK → to.new.value ≡ to.old.value }
     ensures codes { is_one_of (OK ∷ MEMORY ∷ NULL ∷ []) result ≡ true }
+    ensures null { result ≡ NULL
+        ↔ is_none from.old.value || is_none to.old.value ≡ true }
 {
     let Some(bytes) = from.bytes() else {
         return NULL;
@@ -63,7 +65,7 @@ pub extern "C" fn ecow_proved_bytes_clone(from: &mut BytesPlace, to: &mut BytesP
     }
 }
 
-/// Gives the bytes up: an empty one stands in its place.
+/// Gives the bytes up: none stand in their place.
 #[unsafe(no_mangle)]
 pub extern "C" fn ecow_proved_bytes_drop(alloc: Global, place: &mut BytesPlace) -> u32
     ensures bytes { AltersBytes (λ _. []) place.old.value result place.new.value }
@@ -76,7 +78,7 @@ pub extern "C" fn ecow_proved_bytes_drop(alloc: Global, place: &mut BytesPlace) 
     OK
 }
 
-/// The byte of bytes; 0 at a null pointer.
+/// The number of bytes; 0 at a null pointer.
 #[unsafe(no_mangle)]
 pub extern "C" fn ecow_proved_bytes_len(place: &mut BytesPlace) -> usize
     ensures len { result ≡ length (bytes_at place.old.value) }
@@ -91,9 +93,12 @@ pub extern "C" fn ecow_proved_bytes_len(place: &mut BytesPlace) -> usize
 /// Writes the byte at `index` to `out`.
 #[unsafe(no_mangle)]
 pub extern "C" fn ecow_proved_bytes_get(place: &mut BytesPlace, index: usize, out: &mut u8) -> u32
-    ensures ok { result ≡ OK → IfSome place.old.value (λ value. slice_get value.bytes index ≡ Some out.new) }
+    ensures ok { result ≡ OK → IfSome place.old.value
+        (λ value. slice_get value.bytes index ≡ Some out.new) }
     ensures refused { result ≢ OK → out.new ≡ out.old }
-    ensures index { result ≡ INDEX ↔ IsSomeAnd place.old.value (λ value. length value.bytes ≤ index) }
+    ensures index { result ≡ INDEX
+        ↔ IsSomeAnd place.old.value (λ value. length value.bytes ≤ index) }
+    ensures null { result ≡ NULL ↔ place.old.value ≡ None }
     ensures codes { is_one_of (OK ∷ INDEX ∷ NULL ∷ []) result ≡ true }
     ensures unchanged { place.new.value ≡ place.old.value }
 {
@@ -129,9 +134,10 @@ pub extern "C" fn ecow_proved_bytes_push(place: &mut BytesPlace, byte: u8) -> u3
 /// Takes the last byte out and writes it to `out`; `INDEX` where there is none.
 #[unsafe(no_mangle)]
 pub extern "C" fn ecow_proved_bytes_pop(place: &mut BytesPlace, out: &mut u8) -> u32
-    ensures bytes { AltersBytes (λ xs. take (length xs - 1) xs) place.old.value result place.new.value }
-    ensures value { result ≡ OK
-        → IfSome place.old.value (λ value. slice_get value.bytes (length value.bytes - 1) ≡ Some out.new) }
+    ensures bytes { AltersBytes (λ xs. take (length xs - 1) xs)
+        place.old.value result place.new.value }
+    ensures value { result ≡ OK → IfSome place.old.value
+        (λ value. slice_get value.bytes (length value.bytes - 1) ≡ Some out.new) }
     ensures out { result ≢ OK → out.new ≡ out.old }
     ensures index { result ≡ INDEX
         ↔ IsSomeAnd place.old.value (λ value. value.bytes ≡ []) }
@@ -155,7 +161,8 @@ pub extern "C" fn ecow_proved_bytes_pop(place: &mut BytesPlace, out: &mut u8) ->
 pub extern "C" fn ecow_proved_bytes_set(place: &mut BytesPlace, index: usize, byte: u8) -> u32
     ensures bytes { AltersBytes (λ xs. slice_set xs index byte)
         place.old.value result place.new.value }
-    ensures index { result ≡ INDEX ↔ IsSomeAnd place.old.value (λ value. length value.bytes ≤ index) }
+    ensures index { result ≡ INDEX
+        ↔ IsSomeAnd place.old.value (λ value. length value.bytes ≤ index) }
     ensures codes { is_one_of (OK ∷ MEMORY ∷ INDEX ∷ NULL ∷ []) result ≡ true }
 {
     let Some(bytes) = place.bytes() else {
@@ -173,10 +180,13 @@ pub extern "C" fn ecow_proved_bytes_set(place: &mut BytesPlace, index: usize, by
 /// Puts `byte` in at `index`, before the byte that stands there.
 #[unsafe(no_mangle)]
 pub extern "C" fn ecow_proved_bytes_insert(place: &mut BytesPlace, index: usize, byte: u8) -> u32
-    ensures bytes { AltersBytes (λ xs. insert xs index byte) place.old.value result place.new.value }
-    ensures index { result ≡ INDEX ↔ IsSomeAnd place.old.value (λ value. length value.bytes < index) }
+    ensures bytes { AltersBytes (λ xs. insert xs index byte)
+        place.old.value result place.new.value }
+    ensures index { result ≡ INDEX
+        ↔ IsSomeAnd place.old.value (λ value. length value.bytes < index) }
     ensures codes { is_one_of (OK ∷ MEMORY ∷ CAPACITY ∷ INDEX ∷ NULL ∷ []) result ≡ true }
-    ensures capacity { result ≡ CAPACITY → IsSomeAnd place.old.value (λ value. MAX_LEN ≤ length value.bytes) }
+    ensures capacity { result ≡ CAPACITY
+        → IsSomeAnd place.old.value (λ value. MAX_LEN ≤ length value.bytes) }
 {
     let Some(bytes) = place.bytes() else {
         return NULL;
@@ -198,9 +208,11 @@ pub extern "C" fn ecow_proved_bytes_remove(
     out: &mut u8,
 ) -> u32
     ensures bytes { AltersBytes (λ xs. remove xs index) place.old.value result place.new.value }
-    ensures value { result ≡ OK → IfSome place.old.value (λ value. slice_get value.bytes index ≡ Some out.new) }
+    ensures value { result ≡ OK → IfSome place.old.value
+        (λ value. slice_get value.bytes index ≡ Some out.new) }
     ensures out { result ≢ OK → out.new ≡ out.old }
-    ensures index { result ≡ INDEX ↔ IsSomeAnd place.old.value (λ value. length value.bytes ≤ index) }
+    ensures index { result ≡ INDEX
+        ↔ IsSomeAnd place.old.value (λ value. length value.bytes ≤ index) }
     ensures codes { is_one_of (OK ∷ MEMORY ∷ INDEX ∷ NULL ∷ []) result ≡ true }
 {
     let Some(bytes) = place.bytes() else {
@@ -233,7 +245,7 @@ pub extern "C" fn ecow_proved_bytes_truncate(place: &mut BytesPlace, len: usize)
     }
 }
 
-/// Keeps no byte. A block that no other list shares stays, with its room.
+/// Keeps no byte. A block that no other value shares stays, with its room.
 #[unsafe(no_mangle)]
 pub extern "C" fn ecow_proved_bytes_clear(place: &mut BytesPlace) -> u32
     ensures bytes { AltersBytes (λ _. []) place.old.value result place.new.value }
@@ -263,7 +275,7 @@ pub extern "C" fn ecow_proved_bytes_reserve(place: &mut BytesPlace, additional: 
     }
 }
 
-/// Appends copies of `bytes`: all, or none where it is refused.
+/// Appends copies of `added`: all, or none where it is refused.
 #[unsafe(no_mangle)]
 pub extern "C" fn ecow_proved_bytes_extend(place: &mut BytesPlace, added: &[u8]) -> u32
     ensures bytes { AltersBytes (λ xs. xs ++ added.now) place.old.value result place.new.value }
@@ -280,7 +292,7 @@ pub extern "C" fn ecow_proved_bytes_extend(place: &mut BytesPlace, added: &[u8])
     }
 }
 
-/// Puts copies of `bytes` in place of the bytes from `start` up to `end`.
+/// Puts copies of `added` in place of the bytes from `start` up to `end`.
 #[unsafe(no_mangle)]
 pub extern "C" fn ecow_proved_bytes_splice(
     alloc: Global,
@@ -292,8 +304,11 @@ pub extern "C" fn ecow_proved_bytes_splice(
     ensures bytes { AltersBytes (λ xs. splice xs start end added.now)
         place.old.value result place.new.value }
     ensures index { result ≡ INDEX
-        ↔ IsSomeAnd place.old.value (λ value. nat_lt end start || nat_lt (length value.bytes) end ≡ true) }
+        ↔ IsSomeAnd place.old.value
+        (λ value. nat_lt end start || nat_lt (length value.bytes) end ≡ true) }
     ensures codes { is_one_of (OK ∷ MEMORY ∷ CAPACITY ∷ INDEX ∷ NULL ∷ []) result ≡ true }
+    ensures capacity { result ≡ CAPACITY → IsSomeAnd place.old.value
+        (λ value. MAX_LEN < length value.bytes - (end - start) + length added.now) }
 {
     let Some(bytes) = place.bytes() else {
         return NULL;
@@ -323,7 +338,7 @@ fn joined(alloc: Global, front: &[u8], middle: &[u8], back: &[u8]) -> Result<Eco
     Ok(made)
 }
 
-/// Whether two values of bytes hold the same bytes.
+/// Whether two values hold the same bytes.
 #[unsafe(no_mangle)]
 pub extern "C" fn ecow_proved_bytes_equal(left: &mut BytesPlace, right: &mut BytesPlace) -> bool
     ensures equal { result
@@ -339,10 +354,12 @@ pub extern "C" fn ecow_proved_bytes_equal(left: &mut BytesPlace, right: &mut Byt
     left.as_slice() == right.as_slice()
 }
 
-/// How two values of bytes compare: below 0 where the left one comes first, 0 where they are equal.
+/// How the bytes of two values compare: below 0 where the left ones come first, 0 where they are
+/// equal.
 #[unsafe(no_mangle)]
 pub extern "C" fn ecow_proved_bytes_compare(left: &mut BytesPlace, right: &mut BytesPlace) -> i32
-    ensures order { result ≡ order_of (λ x y. slice_cmp nat_cmp x.bytes y.bytes) left.old.value right.old.value }
+    ensures order { result ≡ order_of (λ x y. slice_cmp nat_cmp x.bytes y.bytes)
+        left.old.value right.old.value }
     ensures unchanged { (left.new.value ≡ left.old.value) × (right.new.value ≡ right.old.value) }
 {
     let Some(left) = left.bytes() else {
@@ -354,7 +371,7 @@ pub extern "C" fn ecow_proved_bytes_compare(left: &mut BytesPlace, right: &mut B
     order(left.as_slice().cmp(&right.as_slice()))
 }
 
-/// The hash of the bytes, by std's hasher. Equal values of bytes have the same.
+/// The hash of the bytes, by std's hasher. Equal bytes have the same.
 #[unsafe(no_mangle)]
 pub extern "C" fn ecow_proved_bytes_hash(alloc: Global, place: &mut BytesPlace) -> u64
     ensures hash { result ≡ hash_of (hash_writes (bytes_at place.old.value)) }

@@ -1,5 +1,5 @@
 //! Lists of numbers: an `EcoVec<i64>` at a pointer of C's.
-ghost use Rattle.std.specs.Prelude.{◌≡◌, ◌≢◌, ◌↔◌, ◌≤◌, ◌<◌, ◌+◌, ◌-◌, ◌||◌, [], ◌∷◌, ◌++◌, length, take, insert, remove, slice_get, slice_set, nat_lt, true, Some, IfSome, IsSomeAnd};
+ghost use Rattle.std.specs.Prelude.{◌≡◌, ◌≢◌, ◌↔◌, ◌≤◌, ◌<◌, ◌+◌, ◌-◌, ◌||◌, [], ◌∷◌, ◌++◌, length, take, insert, remove, slice_get, slice_set, nat_lt, true, None, Some, IfSome, IsSomeAnd, is_none};
 ghost use Rattle.std.specs.List.{splice};
 ghost use Rattle.std.specs.Cmp.Lexicographic.{pointwise, slice_cmp};
 ghost use Rattle.std.specs.Ordering.{int_eq, int_cmp};
@@ -46,6 +46,8 @@ pub extern "C" fn ecow_proved_list_clone(from: &mut ListPlace, to: &mut ListPlac
     ensures source { from.new.value ≡ from.old.value }
     ensures refused { result ≢ OK → to.new.value ≡ to.old.value }
     ensures codes { is_one_of (OK ∷ MEMORY ∷ NULL ∷ []) result ≡ true }
+    ensures null { result ≡ NULL
+        ↔ is_none from.old.value || is_none to.old.value ≡ true }
 {
     let Some(list) = from.list() else {
         return NULL;
@@ -93,6 +95,7 @@ pub extern "C" fn ecow_proved_list_get(place: &mut ListPlace, index: usize, out:
     ensures ok { result ≡ OK → IfSome place.old.value (λ xs. slice_get xs index ≡ Some out.new) }
     ensures refused { result ≢ OK → out.new ≡ out.old }
     ensures index { result ≡ INDEX ↔ IsSomeAnd place.old.value (λ xs. length xs ≤ index) }
+    ensures null { result ≡ NULL ↔ place.old.value ≡ None }
     ensures codes { is_one_of (OK ∷ INDEX ∷ NULL ∷ []) result ≡ true }
     ensures unchanged { place.new.value ≡ place.old.value }
 {
@@ -128,7 +131,8 @@ pub extern "C" fn ecow_proved_list_push(place: &mut ListPlace, number: i64) -> u
 /// Takes the last number out and writes it to `out`; `INDEX` where there is none.
 #[unsafe(no_mangle)]
 pub extern "C" fn ecow_proved_list_pop(place: &mut ListPlace, out: &mut i64) -> u32
-    ensures list { AltersList (λ xs. take (length xs - 1) xs) place.old.value result place.new.value }
+    ensures list { AltersList (λ xs. take (length xs - 1) xs)
+        place.old.value result place.new.value }
     ensures value { result ≡ OK
         → IfSome place.old.value (λ xs. slice_get xs (length xs - 1) ≡ Some out.new) }
     ensures out { result ≢ OK → out.new ≡ out.old }
@@ -171,7 +175,8 @@ pub extern "C" fn ecow_proved_list_set(place: &mut ListPlace, index: usize, numb
 /// Puts `number` in at `index`, before the number that stands there.
 #[unsafe(no_mangle)]
 pub extern "C" fn ecow_proved_list_insert(place: &mut ListPlace, index: usize, number: i64) -> u32
-    ensures list { AltersList (λ xs. insert xs index number) place.old.value result place.new.value }
+    ensures list { AltersList (λ xs. insert xs index number)
+        place.old.value result place.new.value }
     ensures index { result ≡ INDEX ↔ IsSomeAnd place.old.value (λ xs. length xs < index) }
     ensures codes { is_one_of (OK ∷ MEMORY ∷ CAPACITY ∷ INDEX ∷ NULL ∷ []) result ≡ true }
     ensures capacity { result ≡ CAPACITY → IsSomeAnd place.old.value (λ xs. MAX_LEN ≤ length xs) }

@@ -1,5 +1,5 @@
 //! Texts: an `EcoString` at a pointer of C's. Indices and lengths count bytes.
-ghost use Rattle.std.specs.Prelude.{◌≡◌, ◌≢◌, ◌↔◌, ◌≤◌, ◌<◌, ◌+◌, ◌-◌, ◌*◌, ◌&&◌, [], ◌∷◌, ◌++◌, length, take, drop, insert, remove, slice_get, true, false, Some, IfOk, IfSome, IsErrOf, IsSomeAnd, is_some, nat_eq};
+ghost use Rattle.std.specs.Prelude.{◌≡◌, ◌≢◌, ◌↔◌, ◌≤◌, ◌<◌, ◌+◌, ◌-◌, ◌*◌, ◌&&◌, ◌||◌, [], ◌∷◌, ◌++◌, length, take, drop, insert, remove, slice_get, true, false, None, Some, IfOk, IfSome, IsErrOf, IsSomeAnd, is_none, is_some, nat_eq};
 ghost use Rattle.std.specs.List.{insert_slice, repeat, splice};
 ghost use Rattle.std.specs.Option.{option_map_or};
 ghost use Rattle.std.specs.Char.{IsScalar, len_utf8};
@@ -87,6 +87,8 @@ pub extern "C" fn ecow_proved_text_clone(from: &mut TextPlace, to: &mut TextPlac
     ensures source { from.new.value ≡ from.old.value }
     ensures refused { result ≢ OK → to.new.value ≡ to.old.value }
     ensures codes { is_one_of (OK ∷ MEMORY ∷ NULL ∷ []) result ≡ true }
+    ensures null { result ≡ NULL
+        ↔ is_none from.old.value || is_none to.old.value ≡ true }
 {
     let Some(text) = from.text() else {
         return NULL;
@@ -171,6 +173,7 @@ pub extern "C" fn ecow_proved_text_get(place: &mut TextPlace, index: usize, out:
         ↔ IsSomeAnd place.old.value (λ text. utf8_len text.chars ≤ index) }
     ensures boundary { result ≡ BOUNDARY ↔ IsSomeAnd place.old.value
         (λ text. (index < utf8_len text.chars) × (is_boundary text.chars index ≡ false)) }
+    ensures null { result ≡ NULL ↔ place.old.value ≡ None }
     ensures codes { is_one_of (OK ∷ INDEX ∷ BOUNDARY ∷ NULL ∷ []) result ≡ true }
     ensures unchanged { place.new.value ≡ place.old.value }
 {
@@ -491,6 +494,8 @@ pub extern "C" fn ecow_proved_text_to_lowercase(place: &mut TextPlace) -> u32
     ensures text { Alters (λ text. encode_utf8_all text.chars) str_to_lowercase
         place.old.value result place.new.value }
     ensures codes { is_one_of (OK ∷ MEMORY ∷ CAPACITY ∷ NULL ∷ []) result ≡ true }
+    ensures capacity { result ≡ CAPACITY → IsSomeAnd place.old.value
+        (λ text. MAX_LEN < length (str_to_lowercase (encode_utf8_all text.chars))) }
 {
     let Some(text) = place.text() else {
         return NULL;
@@ -510,6 +515,8 @@ pub extern "C" fn ecow_proved_text_to_uppercase(place: &mut TextPlace) -> u32
     ensures text { Alters (λ text. encode_utf8_all text.chars) str_to_uppercase
         place.old.value result place.new.value }
     ensures codes { is_one_of (OK ∷ MEMORY ∷ CAPACITY ∷ NULL ∷ []) result ≡ true }
+    ensures capacity { result ≡ CAPACITY → IsSomeAnd place.old.value
+        (λ text. MAX_LEN < length (str_to_uppercase (encode_utf8_all text.chars))) }
 {
     let Some(text) = place.text() else {
         return NULL;

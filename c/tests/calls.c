@@ -1,0 +1,300 @@
+/* Every call of the header once, or more often: its result, each status that it can answer, and
+ * what it leaves. Requests for memory aren't refused here. */
+#include "check.h"
+
+static void lists(void) {
+    const int64_t numbers[] = {5, -7, INT64_MAX, INT64_MIN};
+    ecow_list list = ecow_list_new(), clone = {{0}};
+    int64_t out = 99;
+    CHECK(list_holds(&list, NULL, 0) && ecow_list_slice(&list, NULL) != NULL);
+    CHECK(ecow_list_pop(&list, &out) == ECOW_INDEX && out == 99);
+    CHECK(ecow_list_assign(&list, numbers, 4) == ECOW_OK && list_holds(&list, numbers, 4));
+    CHECK(ecow_list_get(&list, 3, &out) == ECOW_OK && out == INT64_MIN);
+    CHECK(ecow_list_get(&list, 0, NULL) == ECOW_OK);
+    CHECK(ecow_list_get(&list, 4, &out) == ECOW_INDEX && out == INT64_MIN);
+    CHECK(ecow_list_clone(&clone, &list) == ECOW_OK);
+    CHECK(ecow_list_slice(&clone, NULL) == ecow_list_slice(&list, NULL));
+    CHECK(ecow_list_set(&list, 1, 8) == ECOW_OK && list_holds(&clone, numbers, 4));
+    CHECK(list_holds(&list, (int64_t[]){5, 8, INT64_MAX, INT64_MIN}, 4));
+    CHECK(ecow_list_set(&list, 4, 8) == ECOW_INDEX);
+    CHECK(ecow_list_push(&list, 9) == ECOW_OK && ecow_list_len(&list) == 5);
+    CHECK(ecow_list_pop(&list, &out) == ECOW_OK && out == 9);
+    CHECK(ecow_list_pop(&list, NULL) == ECOW_OK && ecow_list_len(&list) == 3);
+    CHECK(ecow_list_insert(&list, 3, 1) == ECOW_OK && ecow_list_insert(&list, 0, 2) == ECOW_OK);
+    CHECK(ecow_list_insert(&list, 6, 1) == ECOW_INDEX);
+    CHECK(list_holds(&list, (int64_t[]){2, 5, 8, INT64_MAX, 1}, 5));
+    CHECK(ecow_list_remove(&list, 3, &out) == ECOW_OK && out == INT64_MAX);
+    CHECK(ecow_list_remove(&list, 0, NULL) == ECOW_OK);
+    CHECK(ecow_list_remove(&list, 3, &out) == ECOW_INDEX && out == INT64_MAX);
+    CHECK(list_holds(&list, (int64_t[]){5, 8, 1}, 3));
+    CHECK(ecow_list_extend(&list, numbers, 2) == ECOW_OK
+          && ecow_list_extend(&list, NULL, 0) == ECOW_OK);
+    CHECK(list_holds(&list, (int64_t[]){5, 8, 1, 5, -7}, 5));
+    CHECK(ecow_list_splice(&list, 1, 4, numbers + 2, 1) == ECOW_OK);
+    CHECK(list_holds(&list, (int64_t[]){5, INT64_MAX, -7}, 3));
+    CHECK(ecow_list_splice(&list, 3, 3, numbers, 1) == ECOW_OK && ecow_list_len(&list) == 4);
+    CHECK(ecow_list_splice(&list, 2, 1, numbers, 1) == ECOW_INDEX);
+    CHECK(ecow_list_splice(&list, 0, 5, numbers, 1) == ECOW_INDEX);
+    CHECK(ecow_list_truncate(&list, 9) == ECOW_OK && ecow_list_len(&list) == 4);
+    CHECK(ecow_list_truncate(&list, 2) == ECOW_OK
+          && list_holds(&list, (int64_t[]){5, INT64_MAX}, 2));
+    CHECK(ecow_list_reserve(&list, 100) == ECOW_OK && ecow_list_len(&list) == 2);
+    CHECK(ecow_list_reserve(&list, SIZE_MAX) == ECOW_CAPACITY);
+    CHECK(ecow_list_extend(&list, numbers, SIZE_MAX) == ECOW_CAPACITY);
+    const int64_t *before = ecow_list_slice(&list, NULL);
+    CHECK(ecow_list_clear(&list) == ECOW_OK && list_holds(&list, NULL, 0));
+    CHECK(ecow_list_push(&list, 3) == ECOW_OK && ecow_list_slice(&list, NULL) == before);
+    ecow_list_drop(&list);
+    CHECK(list_holds(&list, NULL, 0) && list_holds(&clone, numbers, 4));
+    ecow_list_drop(&list);
+    ecow_list_drop(&clone);
+}
+
+static void orders_of_lists(void) {
+    ecow_list left = {{0}}, right = {{0}};
+    CHECK(ecow_list_equal(&left, &right) && ecow_list_compare(&left, &right) == 0);
+    CHECK(ecow_list_hash(&left) == ecow_list_hash(&right));
+    CHECK(ecow_list_push(&left, -1) == ECOW_OK && !ecow_list_equal(&left, &right));
+    CHECK(ecow_list_compare(&left, &right) > 0 && ecow_list_compare(&right, &left) < 0);
+    CHECK(ecow_list_hash(&left) != ecow_list_hash(&right));
+    CHECK(ecow_list_push(&right, 1) == ECOW_OK && ecow_list_compare(&left, &right) < 0);
+    CHECK(ecow_list_push(&left, 5) == ECOW_OK && ecow_list_compare(&left, &right) < 0);
+    CHECK(ecow_list_set(&right, 0, -1) == ECOW_OK && ecow_list_push(&right, 5) == ECOW_OK);
+    CHECK(ecow_list_equal(&left, &right) && ecow_list_hash(&left) == ecow_list_hash(&right));
+    CHECK(ecow_list_equal(&left, &left) && ecow_list_compare(&left, &left) == 0);
+    CHECK(ecow_list_equal(NULL, NULL) && !ecow_list_equal(&left, NULL)
+          && !ecow_list_equal(NULL, &left));
+    CHECK(ecow_list_compare(NULL, NULL) == 0 && ecow_list_compare(NULL, &left) < 0);
+    CHECK(ecow_list_compare(&left, NULL) > 0);
+    ecow_list_drop(&left);
+    ecow_list_drop(&right);
+}
+
+static void all_bytes(void) {
+    const uint8_t letters[] = "abcdefghijklmnopqrst";
+    ecow_bytes bytes = ecow_bytes_new(), clone = {{0}};
+    uint8_t out = 99;
+    CHECK(bytes_hold(&bytes, NULL, 0) && ecow_bytes_pop(&bytes, &out) == ECOW_INDEX && out == 99);
+    for (size_t len = 0; len <= 20; len++) {
+        CHECK(ecow_bytes_assign(&bytes, letters, len) == ECOW_OK
+              && bytes_hold(&bytes, letters, len));
+        CHECK(ecow_bytes_clone(&clone, &bytes) == ECOW_OK && ecow_bytes_equal(&clone, &bytes));
+        CHECK(ecow_bytes_hash(&clone) == ecow_bytes_hash(&bytes));
+        CHECK(ecow_bytes_push(&clone, 0) == ECOW_OK && bytes_hold(&bytes, letters, len));
+        CHECK(ecow_bytes_compare(&bytes, &clone) < 0 && ecow_bytes_compare(&clone, &bytes) > 0);
+    }
+    CHECK(ecow_bytes_get(&bytes, 19, &out) == ECOW_OK && out == 't');
+    CHECK(ecow_bytes_get(&bytes, 20, &out) == ECOW_INDEX && out == 't');
+    CHECK(ecow_bytes_set(&bytes, 0, 255) == ECOW_OK && ecow_bytes_set(&bytes, 20, 1) == ECOW_INDEX);
+    CHECK(ecow_bytes_get(&bytes, 0, &out) == ECOW_OK && out == 255);
+    CHECK(ecow_bytes_truncate(&bytes, 3) == ECOW_OK && bytes_hold(&bytes, "\377bc", 3));
+    CHECK(ecow_bytes_insert(&bytes, 1, 'x') == ECOW_OK
+          && ecow_bytes_insert(&bytes, 5, 0) == ECOW_INDEX);
+    CHECK(ecow_bytes_remove(&bytes, 0, &out) == ECOW_OK && out == 255);
+    CHECK(ecow_bytes_remove(&bytes, 3, &out) == ECOW_INDEX && bytes_hold(&bytes, "xbc", 3));
+    CHECK(ecow_bytes_extend(&bytes, letters, 20) == ECOW_OK);
+    CHECK(ecow_bytes_splice(&bytes, 3, 23, letters + 3, 1) == ECOW_OK
+          && bytes_hold(&bytes, "xbcd", 4));
+    CHECK(ecow_bytes_splice(&bytes, 0, 5, letters, 1) == ECOW_INDEX);
+    CHECK(ecow_bytes_splice(&bytes, 3, 2, letters, 1) == ECOW_INDEX);
+    CHECK(ecow_bytes_pop(&bytes, &out) == ECOW_OK && out == 'd' && bytes_hold(&bytes, "xbc", 3));
+    CHECK(ecow_bytes_reserve(&bytes, SIZE_MAX) == ECOW_CAPACITY
+          && ecow_bytes_reserve(&bytes, 9) == ECOW_OK);
+    CHECK(ecow_bytes_clear(&bytes) == ECOW_OK && bytes_hold(&bytes, NULL, 0));
+    ecow_bytes_drop(&bytes);
+    ecow_bytes_drop(&clone);
+}
+
+static void texts(void) {
+    ecow_text text = ecow_text_new(), clone = {{0}};
+    uint32_t out = 99;
+    CHECK(text_is(&text, "") && ecow_text_pop(&text, &out) == ECOW_INDEX && out == 99);
+    CHECK(ecow_text_assign(&text, "h\xc3\xa9\xf0\x9f\x8c\xb1!", 8) == ECOW_OK);
+    CHECK(ecow_text_clone(&clone, &text) == ECOW_OK && ecow_text_equal(&clone, &text));
+    CHECK(ecow_text_get(&text, 1, &out) == ECOW_OK && out == 0xe9);
+    CHECK(ecow_text_get(&text, 3, &out) == ECOW_OK && out == 0x1f331);
+    CHECK(ecow_text_get(&text, 2, &out) == ECOW_BOUNDARY && out == 0x1f331);
+    CHECK(ecow_text_get(&text, 8, &out) == ECOW_INDEX
+          && ecow_text_get(&text, 9, NULL) == ECOW_INDEX);
+    CHECK(ecow_text_is_boundary(&text, 0) && ecow_text_is_boundary(&text, 8));
+    CHECK(!ecow_text_is_boundary(&text, 2) && !ecow_text_is_boundary(&text, 9));
+    CHECK(ecow_text_push(&text, 0x20ac) == ECOW_OK && ecow_text_len(&text) == 11);
+    CHECK(ecow_text_push(&text, 0xd800) == ECOW_UTF8
+          && ecow_text_push(&text, 0x110000) == ECOW_UTF8);
+    CHECK(ecow_text_pop(&text, &out) == ECOW_OK && out == 0x20ac
+          && ecow_text_pop(&text, NULL) == ECOW_OK);
+    CHECK(ecow_text_insert(&text, 1, "\xc3\xbc", 2) == ECOW_OK);
+    CHECK(ecow_text_insert(&text, 2, "x", 1) == ECOW_BOUNDARY);
+    CHECK(ecow_text_insert(&text, 10, "x", 1) == ECOW_INDEX);
+    CHECK(ecow_text_insert(&text, 0, "\xff", 1) == ECOW_UTF8);
+    CHECK(text_is(&text, "h\xc3\xbc\xc3\xa9\xf0\x9f\x8c\xb1"));
+    CHECK(ecow_text_remove(&text, 5, &out) == ECOW_OK && out == 0x1f331);
+    CHECK(ecow_text_remove(&text, 5, &out) == ECOW_INDEX
+          && ecow_text_remove(&text, 2, &out) == ECOW_BOUNDARY);
+    CHECK(text_is(&text, "h\xc3\xbc\xc3\xa9") && out == 0x1f331);
+    CHECK(ecow_text_truncate(&text, 4) == ECOW_BOUNDARY && ecow_text_truncate(&text, 3) == ECOW_OK);
+    CHECK(ecow_text_truncate(&text, 99) == ECOW_OK && text_is(&text, "h\xc3\xbc"));
+    CHECK(ecow_text_extend(&text, "\xc3", 1) == ECOW_UTF8
+          && ecow_text_extend(&text, "t, hot", 6) == ECOW_OK);
+    CHECK(ecow_text_splice(&text, 1, 3, "u", 1) == ECOW_OK && text_is(&text, "hut, hot"));
+    CHECK(ecow_text_assign(&text, "\xc3\xa9\xc3\xa9", 4) == ECOW_OK);
+    CHECK(ecow_text_splice(&text, 1, 2, "", 0) == ECOW_BOUNDARY);
+    CHECK(ecow_text_splice(&text, 0, 3, "", 0) == ECOW_BOUNDARY);
+    CHECK(ecow_text_splice(&text, 2, 0, "", 0) == ECOW_INDEX
+          && ecow_text_splice(&text, 0, 5, "", 0) == ECOW_INDEX);
+    CHECK(ecow_text_splice(&text, 0, 2, "\xed\xa0\x80", 3) == ECOW_UTF8);
+    CHECK(ecow_text_assign(&text, "\xf0\x9f", 2) == ECOW_UTF8
+          && text_is(&text, "\xc3\xa9\xc3\xa9"));
+    CHECK(ecow_text_to_uppercase(&text) == ECOW_OK && text_is(&text, "\xc3\x89\xc3\x89"));
+    CHECK(ecow_text_assign(&text,
+                           "Stra\xc3\x9f"
+                           "E",
+                           7)
+          == ECOW_OK);
+    CHECK(ecow_text_to_uppercase(&text) == ECOW_OK && text_is(&text, "STRASSE"));
+    CHECK(ecow_text_to_lowercase(&text) == ECOW_OK && text_is(&text, "strasse"));
+    CHECK(ecow_text_replace(&text, "s", 1, "\xc3\xa9", 2) == ECOW_OK);
+    CHECK(text_is(&text, "\xc3\xa9tra\xc3\xa9\xc3\xa9"
+                         "e"));
+    CHECK(ecow_text_assign(&text, "ab", 2) == ECOW_OK);
+    CHECK(ecow_text_replace(&text, "", 0, "-", 1) == ECOW_OK && text_is(&text, "-a-b-"));
+    CHECK(ecow_text_replace(&text, "\xff", 1, "", 0) == ECOW_UTF8);
+    CHECK(ecow_text_replace(&text, "a", 1, "\xff", 1) == ECOW_UTF8 && text_is(&text, "-a-b-"));
+    CHECK(ecow_text_repeat(&text, 4) == ECOW_OK && text_is(&text, "-a-b--a-b--a-b--a-b-"));
+    CHECK(ecow_text_repeat(&text, SIZE_MAX) == ECOW_CAPACITY && ecow_text_len(&text) == 20);
+    CHECK(ecow_text_reserve(&text, SIZE_MAX) == ECOW_CAPACITY
+          && ecow_text_reserve(&text, 9) == ECOW_OK);
+    CHECK(ecow_text_compare(&text, &clone) < 0 && ecow_text_compare(&clone, &text) > 0);
+    CHECK(ecow_text_hash(&text) != ecow_text_hash(&clone));
+    CHECK(ecow_text_repeat(&text, 0) == ECOW_OK && text_is(&text, ""));
+    CHECK(ecow_text_clear(&clone) == ECOW_OK && ecow_text_equal(&text, &clone));
+    CHECK(ecow_text_compare(&text, &clone) == 0 && ecow_text_hash(&text) == ecow_text_hash(&clone));
+    CHECK(ecow_is_utf8("h\xc3\xa9", 3) && !ecow_is_utf8("h\xc3\xa9", 2) && ecow_is_utf8(NULL, 0));
+    CHECK(!ecow_is_utf8(NULL, 1) && !ecow_is_utf8("\xc0\x80", 2) && !ecow_is_utf8("", SIZE_MAX));
+    ecow_text_drop(&text);
+    ecow_text_drop(&clone);
+}
+
+/* A null pointer at each place where a value, an array or a result stands. */
+static void null_pointers(void) {
+    ecow_list list = {{0}};
+    ecow_bytes bytes = {{0}};
+    ecow_text text = {{0}};
+    size_t len = 99;
+    CHECK(ecow_list_len(NULL) == 0 && ecow_bytes_len(NULL) == 0 && ecow_text_len(NULL) == 0);
+    CHECK(ecow_list_slice(NULL, &len) != NULL && len == 0);
+    CHECK(ecow_bytes_slice(NULL, NULL) != NULL && ecow_text_slice(NULL, NULL) != NULL);
+    CHECK(ecow_list_hash(NULL) == ecow_list_hash(&list)
+          && ecow_text_hash(NULL) == ecow_text_hash(&text));
+    CHECK(ecow_bytes_hash(NULL) == ecow_bytes_hash(&bytes));
+    CHECK(ecow_text_is_boundary(NULL, 0) && !ecow_text_is_boundary(NULL, 1));
+    CHECK(ecow_list_get(NULL, 0, NULL) == ECOW_NULL && ecow_bytes_get(NULL, 0, NULL) == ECOW_NULL);
+    CHECK(ecow_text_get(NULL, 0, NULL) == ECOW_NULL);
+    CHECK(ecow_list_clone(NULL, &list) == ECOW_NULL && ecow_list_clone(&list, NULL) == ECOW_NULL);
+    CHECK(ecow_list_clone(NULL, NULL) == ECOW_NULL && ecow_list_clone(&list, &list) == ECOW_OK);
+    CHECK(ecow_bytes_clone(NULL, &bytes) == ECOW_NULL && ecow_text_clone(&text, NULL) == ECOW_NULL);
+    ecow_list_drop(NULL);
+    ecow_bytes_drop(NULL);
+    ecow_text_drop(NULL);
+    CHECK(ecow_list_assign(NULL, NULL, 0) == ECOW_NULL
+          && ecow_list_assign(&list, NULL, 1) == ECOW_NULL);
+    CHECK(ecow_list_set(NULL, 0, 1) == ECOW_NULL && ecow_list_push(NULL, 1) == ECOW_NULL);
+    CHECK(ecow_list_pop(NULL, NULL) == ECOW_NULL && ecow_list_insert(NULL, 0, 1) == ECOW_NULL);
+    CHECK(ecow_list_remove(NULL, 0, NULL) == ECOW_NULL && ecow_list_truncate(NULL, 0) == ECOW_NULL);
+    CHECK(ecow_list_clear(NULL) == ECOW_NULL && ecow_list_reserve(NULL, 1) == ECOW_NULL);
+    CHECK(ecow_list_extend(NULL, NULL, 0) == ECOW_NULL
+          && ecow_list_extend(&list, NULL, 1) == ECOW_NULL);
+    CHECK(ecow_list_splice(NULL, 0, 0, NULL, 0) == ECOW_NULL);
+    CHECK(ecow_list_splice(&list, 0, 0, NULL, 1) == ECOW_NULL && list_holds(&list, NULL, 0));
+    CHECK(ecow_bytes_assign(NULL, NULL, 0) == ECOW_NULL && ecow_bytes_set(NULL, 0, 1) == ECOW_NULL);
+    CHECK(ecow_bytes_push(NULL, 1) == ECOW_NULL && ecow_bytes_pop(NULL, NULL) == ECOW_NULL);
+    CHECK(ecow_bytes_insert(NULL, 0, 1) == ECOW_NULL
+          && ecow_bytes_remove(NULL, 0, NULL) == ECOW_NULL);
+    CHECK(ecow_bytes_truncate(NULL, 0) == ECOW_NULL && ecow_bytes_clear(NULL) == ECOW_NULL);
+    CHECK(ecow_bytes_reserve(NULL, 1) == ECOW_NULL
+          && ecow_bytes_extend(NULL, NULL, 0) == ECOW_NULL);
+    CHECK(ecow_bytes_splice(NULL, 0, 0, NULL, 0) == ECOW_NULL);
+    CHECK(ecow_text_assign(NULL, NULL, 0) == ECOW_NULL && ecow_text_push(NULL, 'a') == ECOW_NULL);
+    CHECK(ecow_text_pop(NULL, NULL) == ECOW_NULL
+          && ecow_text_insert(NULL, 0, NULL, 0) == ECOW_NULL);
+    CHECK(ecow_text_insert(&text, 0, NULL, 1) == ECOW_NULL
+          && ecow_text_remove(NULL, 0, NULL) == ECOW_NULL);
+    CHECK(ecow_text_truncate(NULL, 0) == ECOW_NULL && ecow_text_clear(NULL) == ECOW_NULL);
+    CHECK(ecow_text_reserve(NULL, 1) == ECOW_NULL && ecow_text_extend(NULL, "", 0) == ECOW_NULL);
+    CHECK(ecow_text_splice(NULL, 0, 0, "", 0) == ECOW_NULL);
+    CHECK(ecow_text_replace(NULL, "", 0, "", 0) == ECOW_NULL);
+    CHECK(ecow_text_replace(&text, NULL, 1, "", 0) == ECOW_NULL);
+    CHECK(ecow_text_replace(&text, "", 0, NULL, 1) == ECOW_NULL && text_is(&text, ""));
+    CHECK(ecow_text_to_lowercase(NULL) == ECOW_NULL && ecow_text_to_uppercase(NULL) == ECOW_NULL);
+    CHECK(ecow_text_repeat(NULL, 1) == ECOW_NULL);
+}
+
+/* Arrays that lie in the value that a call changes, inline and in its block. */
+static void arrays_of_the_value(void) {
+    ecow_list list = {{0}};
+    size_t len;
+    for (int64_t number = 0; number < 4; number++) {
+        CHECK(ecow_list_push(&list, number) == ECOW_OK);
+    }
+    const int64_t *numbers = ecow_list_slice(&list, &len);
+    CHECK(ecow_list_extend(&list, numbers, len) == ECOW_OK);
+    CHECK(list_holds(&list, (int64_t[]){0, 1, 2, 3, 0, 1, 2, 3}, 8));
+    numbers = ecow_list_slice(&list, &len);
+    CHECK(ecow_list_splice(&list, 0, 8, numbers + 1, 3) == ECOW_OK);
+    CHECK(list_holds(&list, (int64_t[]){1, 2, 3}, 3));
+    numbers = ecow_list_slice(&list, &len);
+    CHECK(ecow_list_assign(&list, numbers + 2, 1) == ECOW_OK
+          && list_holds(&list, (int64_t[]){3}, 1));
+    ecow_list_drop(&list);
+    for (size_t size = 1; size <= 16; size++) {
+        ecow_text text = {{0}};
+        char twice[32];
+        memset(twice, 'a', sizeof twice);
+        twice[size - 1] = twice[2 * size - 1] = 'z';
+        CHECK(ecow_text_assign(&text, twice, size) == ECOW_OK);
+        const char *held = ecow_text_slice(&text, &len);
+        CHECK(ecow_text_extend(&text, held, len) == ECOW_OK && text_holds(&text, twice, 2 * size));
+        held = ecow_text_slice(&text, &len);
+        CHECK(ecow_text_insert(&text, 0, held + size - 1, 1) == ECOW_OK);
+        CHECK(ecow_text_len(&text) == 2 * size + 1 && *ecow_text_slice(&text, NULL) == 'z');
+        held = ecow_text_slice(&text, &len);
+        CHECK(ecow_text_replace(&text, held, 1, held, len) == ECOW_OK);
+        CHECK(ecow_text_len(&text) == 2 * size - 2 + 3 * (2 * size + 1));
+        held = ecow_text_slice(&text, &len);
+        CHECK(ecow_text_splice(&text, 1, len, held, 1) == ECOW_OK && text_is(&text, "zz"));
+        held = ecow_text_slice(&text, &len);
+        CHECK(ecow_text_assign(&text, held + 1, 1) == ECOW_OK && text_is(&text, "z"));
+        ecow_text_drop(&text);
+    }
+}
+
+/* Values may be moved, and a clone shares its block with what it was cloned from. */
+static void moves_and_shares(void) {
+    ecow_text first = {{0}}, second = {{0}}, moved;
+    CHECK(ecow_text_assign(&first, "sixteen letters.", 16) == ECOW_OK);
+    CHECK(ecow_text_clone(&second, &first) == ECOW_OK);
+    CHECK(ecow_text_slice(&first, NULL) == ecow_text_slice(&second, NULL));
+    memcpy(&moved, &first, sizeof moved);
+    CHECK(ecow_text_push(&moved, '!') == ECOW_OK && text_is(&moved, "sixteen letters.!"));
+    CHECK(text_is(&second, "sixteen letters."));
+    ecow_text_drop(&moved);
+    CHECK(ecow_text_assign(&second, "short", 5) == ECOW_OK);
+    moved = second;
+    CHECK(ecow_text_push(&moved, '!') == ECOW_OK && text_is(&moved, "short!"));
+    ecow_text_drop(&moved);
+}
+
+int main(void) {
+    lists();
+    orders_of_lists();
+    all_bytes();
+    texts();
+    null_pointers();
+    arrays_of_the_value();
+    moves_and_shares();
+    for (int status = ECOW_OK; status <= ECOW_NULL; status++) {
+        CHECK(strlen(ecow_status_text((ecow_status)status)) > 3);
+    }
+    printf("calls: %ld checks\n", checks);
+    return 0;
+}

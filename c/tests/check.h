@@ -1,0 +1,59 @@
+/* What the tests share: a check that counts, and numbers by a seed. */
+#ifndef ECOW_CHECK_H
+#define ECOW_CHECK_H
+
+#include "ecow.h"
+
+#include <stdio.h>
+#include <stdlib.h>
+#include <string.h>
+
+static long checks;
+
+#define CHECK(holds)                                                    \
+    do {                                                                \
+        checks++;                                                       \
+        if (!(holds)) {                                                 \
+            fprintf(stderr, "%s:%d: %s\n", __FILE__, __LINE__, #holds); \
+            exit(1);                                                    \
+        }                                                               \
+    } while (0)
+
+/* The next number of a sequence (xorshift). */
+static uint64_t next_number(uint64_t *seed) {
+    *seed ^= *seed << 13;
+    *seed ^= *seed >> 7;
+    *seed ^= *seed << 17;
+    return *seed;
+}
+
+static inline size_t below(uint64_t *seed, size_t end) {
+    return next_number(seed) % end;
+}
+
+static inline bool list_holds(const ecow_list *list, const int64_t *numbers, size_t count) {
+    size_t len;
+    const int64_t *held = ecow_list_slice(list, &len);
+    return len == count && ecow_list_len(list) == count
+           && (!count || memcmp(held, numbers, count * sizeof *numbers) == 0);
+}
+
+static inline bool bytes_hold(const ecow_bytes *bytes, const void *items, size_t count) {
+    size_t len;
+    const uint8_t *held = ecow_bytes_slice(bytes, &len);
+    return len == count && ecow_bytes_len(bytes) == count
+           && (!count || memcmp(held, items, count) == 0);
+}
+
+static inline bool text_holds(const ecow_text *text, const char *bytes, size_t count) {
+    size_t len;
+    const char *held = ecow_text_slice(text, &len);
+    return len == count && ecow_text_len(text) == count
+           && (!count || memcmp(held, bytes, count) == 0);
+}
+
+static inline bool text_is(const ecow_text *text, const char *bytes) {
+    return text_holds(text, bytes, strlen(bytes));
+}
+
+#endif

@@ -1,0 +1,384 @@
+/* Edits by a seed, of lists, bytes and texts, beside plain arrays: edits [COUNT]. Some values are
+ * kept, cloned from others, and none may change with another. Every call may answer ECOW_MEMORY,
+ * and then leaves its value as it was: so the program serves also while requests are refused. */
+#include "check.h"
+
+/* How many values of a kind there are, and how many bytes each has at most. */
+enum { VALUES = 6, MOST = 2400 };
+
+/* What a value has to hold. */
+typedef struct array {
+    char bytes[MOST];
+    size_t size;
+} array;
+
+static void array_splice(array *all, size_t start, size_t end, const void *added, size_t size) {
+    char kept[MOST];
+    if (size) {
+        memcpy(kept, added, size);
+    }
+    memmove(all->bytes + start + size, all->bytes + end, all->size - end);
+    memcpy(all->bytes + start, kept, size);
+    all->size += size - (end - start);
+}
+
+static size_t least(size_t left, size_t right) {
+    return left < right ? left : right;
+}
+
+/* Whether a call that may be refused for want of memory was done; any other status is a fault. */
+static bool is_done(ecow_status status) {
+    CHECK(status == ECOW_OK || status == ECOW_MEMORY);
+    return status == ECOW_OK;
+}
+
+static void edit_list(ecow_list lists[VALUES], array models[VALUES], uint64_t *seed) {
+    size_t which = below(seed, VALUES), other = below(seed, VALUES);
+    ecow_list *list = &lists[which];
+    array *model = &models[which];
+    size_t size = sizeof(int64_t), len = model->size / size;
+    size_t index = below(seed, len + 1), end = index + below(seed, len - index + 1);
+    int64_t number = (int64_t)next_number(seed), out = number;
+    const int64_t *items = ecow_list_slice(&lists[other], NULL);
+    size_t count = least(models[other].size, MOST - model->size) / size;
+    switch (below(seed, 14)) {
+    case 0:
+    case 1:
+        if (model->size + size <= MOST && is_done(ecow_list_push(list, number))) {
+            array_splice(model, model->size, model->size, &number, size);
+        }
+        break;
+    case 2:
+        if (!len) {
+            CHECK(ecow_list_pop(list, &out) == ECOW_INDEX && out == number);
+        } else if (is_done(ecow_list_pop(list, &out))) {
+            CHECK(memcmp(&out, model->bytes + model->size - size, size) == 0);
+            model->size -= size;
+        }
+        break;
+    case 3:
+        if (model->size + size <= MOST && is_done(ecow_list_insert(list, index, number))) {
+            array_splice(model, index * size, index * size, &number, size);
+        }
+        CHECK(ecow_list_insert(list, model->size / size + 1, number) == ECOW_INDEX);
+        break;
+    case 4:
+        if (index == len) {
+            CHECK(ecow_list_remove(list, index, &out) == ECOW_INDEX && out == number);
+        } else if (is_done(ecow_list_remove(list, index, &out))) {
+            CHECK(memcmp(&out, model->bytes + index * size, size) == 0);
+            array_splice(model, index * size, (index + 1) * size, NULL, 0);
+        }
+        break;
+    case 5:
+        if (index == len) {
+            CHECK(ecow_list_set(list, index, number) == ECOW_INDEX);
+        } else if (is_done(ecow_list_set(list, index, number))) {
+            memcpy(model->bytes + index * size, &number, size);
+        }
+        break;
+    case 6:
+        if (is_done(ecow_list_truncate(list, index))) {
+            model->size = index * size;
+        }
+        break;
+    case 7:
+        if (below(seed, 8) == 0 && is_done(ecow_list_clear(list))) {
+            model->size = 0;
+        }
+        break;
+    case 8:
+        is_done(ecow_list_reserve(list, index));
+        break;
+    case 9:
+        if (is_done(ecow_list_extend(list, items, count))) {
+            array_splice(model, model->size, model->size, models[other].bytes, count * size);
+        }
+        break;
+    case 10:
+        if (is_done(ecow_list_splice(list, index, end, items, least(count, 5)))) {
+            array_splice(model, index * size, end * size, models[other].bytes,
+                         least(count, 5) * size);
+        }
+        break;
+    case 11:
+        if (is_done(ecow_list_assign(list, items, models[other].size / size))) {
+            *model = models[other];
+        }
+        break;
+    case 12:
+        if (is_done(ecow_list_clone(list, &lists[other]))) {
+            *model = models[other];
+        }
+        break;
+    default:
+        if (below(seed, 8) == 0) {
+            ecow_list_drop(list);
+            model->size = 0;
+        }
+        CHECK(ecow_list_get(list, model->size / size, &out) == ECOW_INDEX && out == number);
+        CHECK(ecow_list_equal(list, &lists[other])
+              == (model->size == models[other].size
+                  && !memcmp(model->bytes, models[other].bytes, model->size)));
+    }
+    CHECK(list_holds(list, (const int64_t *)(const void *)model->bytes, model->size / size));
+}
+
+static void edit_bytes(ecow_bytes values[VALUES], array models[VALUES], uint64_t *seed) {
+    size_t which = below(seed, VALUES), other = below(seed, VALUES);
+    ecow_bytes *bytes = &values[which];
+    array *model = &models[which];
+    size_t len = model->size, index = below(seed, len + 1);
+    size_t end = index + below(seed, len - index + 1);
+    uint8_t byte = (uint8_t)next_number(seed), out = byte;
+    const uint8_t *items = ecow_bytes_slice(&values[other], NULL);
+    size_t count = least(models[other].size, MOST - len);
+    int order;
+    switch (below(seed, 14)) {
+    case 0:
+    case 1:
+        if (len < MOST && is_done(ecow_bytes_push(bytes, byte))) {
+            array_splice(model, len, len, &byte, 1);
+        }
+        break;
+    case 2:
+        if (!len) {
+            CHECK(ecow_bytes_pop(bytes, &out) == ECOW_INDEX && out == byte);
+        } else if (is_done(ecow_bytes_pop(bytes, &out))) {
+            CHECK(out == (uint8_t)model->bytes[--model->size]);
+        }
+        break;
+    case 3:
+        if (len < MOST && is_done(ecow_bytes_insert(bytes, index, byte))) {
+            array_splice(model, index, index, &byte, 1);
+        }
+        break;
+    case 4:
+        if (index == len) {
+            CHECK(ecow_bytes_remove(bytes, index, &out) == ECOW_INDEX && out == byte);
+        } else if (is_done(ecow_bytes_remove(bytes, index, &out))) {
+            CHECK(out == (uint8_t)model->bytes[index]);
+            array_splice(model, index, index + 1, NULL, 0);
+        }
+        break;
+    case 5:
+        if (index == len) {
+            CHECK(ecow_bytes_set(bytes, index, byte) == ECOW_INDEX);
+        } else if (is_done(ecow_bytes_set(bytes, index, byte))) {
+            model->bytes[index] = (char)byte;
+        }
+        break;
+    case 6:
+        if (is_done(ecow_bytes_truncate(bytes, index))) {
+            model->size = index;
+        }
+        break;
+    case 7:
+        if (below(seed, 8) == 0 && is_done(ecow_bytes_clear(bytes))) {
+            model->size = 0;
+        }
+        break;
+    case 8:
+        is_done(ecow_bytes_reserve(bytes, index % 20));
+        break;
+    case 9:
+        if (is_done(ecow_bytes_extend(bytes, items, least(count, 20)))) {
+            array_splice(model, len, len, models[other].bytes, least(count, 20));
+        }
+        break;
+    case 10:
+        if (is_done(ecow_bytes_splice(bytes, index, end, items, least(count, 9)))) {
+            array_splice(model, index, end, models[other].bytes, least(count, 9));
+        }
+        break;
+    case 11:
+        if (is_done(ecow_bytes_assign(bytes, items, models[other].size))) {
+            *model = models[other];
+        }
+        break;
+    case 12:
+        if (is_done(ecow_bytes_clone(bytes, &values[other]))) {
+            *model = models[other];
+        }
+        break;
+    default:
+        if (below(seed, 4) == 0) {
+            ecow_bytes_drop(bytes);
+            model->size = 0;
+        }
+        order = memcmp(model->bytes, models[other].bytes, least(model->size, models[other].size));
+        if (!order) {
+            order = (model->size > models[other].size) - (model->size < models[other].size);
+        }
+        out = (uint8_t)ecow_bytes_compare(bytes, &values[other]);
+        CHECK(order ? (order < 0) == ((int8_t)out < 0) && out : !out);
+    }
+    CHECK(bytes_hold(bytes, model->bytes, model->size));
+}
+
+static bool is_boundary(const array *text, size_t index) {
+    return index == text->size || (index < text->size && (text->bytes[index] & 0xc0) != 0x80);
+}
+
+/* The status for a call at an index. */
+static ecow_status status_at(const array *text, size_t index) {
+    return index > text->size ? ECOW_INDEX : is_boundary(text, index) ? ECOW_OK : ECOW_BOUNDARY;
+}
+
+static void edit_text(ecow_text texts[VALUES], array models[VALUES], uint64_t *seed) {
+    static const struct {
+        uint32_t number;
+        const char *bytes;
+    } characters[] = {{'a', "a"},
+                      {'z', "z"},
+                      {0xe9, "\xc3\xa9"},
+                      {0x20ac, "\xe2\x82\xac"},
+                      {0x1f331, "\xf0\x9f\x8c\xb1"}};
+    size_t chosen = below(seed, 5), which = below(seed, VALUES), other = below(seed, VALUES);
+    const char *bytes = characters[chosen].bytes;
+    ecow_text *text = &texts[which];
+    array *model = &models[which];
+    size_t len = model->size, size = strlen(bytes), index = below(seed, len + 2);
+    size_t end = index + below(seed, len + 2), width = 1;
+    uint32_t out = 99;
+    ecow_status status = status_at(model, index);
+    const char *items = ecow_text_slice(&texts[other], NULL);
+    size_t count = models[other].size;
+    switch (below(seed, 14)) {
+    case 0:
+    case 1:
+        if (len + size <= MOST && is_done(ecow_text_push(text, characters[chosen].number))) {
+            array_splice(model, len, len, bytes, size);
+        }
+        break;
+    case 2:
+        if (!len) {
+            CHECK(ecow_text_pop(text, &out) == ECOW_INDEX && out == 99);
+        } else if (is_done(ecow_text_pop(text, &out))) {
+            while (!is_boundary(model, model->size - width)) {
+                width++;
+            }
+            model->size -= width;
+            CHECK(width == (out < 0x80 ? 1 : out < 0x800 ? 2 : out < 0x10000 ? 3 : 4));
+        }
+        break;
+    case 3:
+        if (len + size > MOST) {
+            break;
+        }
+        if (status != ECOW_OK) {
+            CHECK(ecow_text_insert(text, index, bytes, size) == status);
+        } else if (is_done(ecow_text_insert(text, index, bytes, size))) {
+            array_splice(model, index, index, bytes, size);
+        }
+        break;
+    case 4:
+        if (index >= len || status != ECOW_OK) {
+            status = index >= len ? ECOW_INDEX : status;
+            CHECK(ecow_text_remove(text, index, &out) == status && out == 99);
+        } else if (is_done(ecow_text_remove(text, index, &out))) {
+            while (!is_boundary(model, index + width)) {
+                width++;
+            }
+            array_splice(model, index, index + width, NULL, 0);
+        }
+        break;
+    case 5:
+        if (index < len && status == ECOW_OK) {
+            CHECK(ecow_text_get(text, index, &out) == ECOW_OK);
+            CHECK(out < 0x80 ? out == (uint8_t)model->bytes[index] : is_boundary(model, index));
+        } else {
+            status = index >= len ? ECOW_INDEX : status;
+            CHECK(ecow_text_get(text, index, &out) == status && out == 99);
+        }
+        break;
+    case 6:
+        if (status == ECOW_BOUNDARY) {
+            CHECK(ecow_text_truncate(text, index) == status);
+        } else if (is_done(ecow_text_truncate(text, index))) {
+            model->size = least(index, len);
+        }
+        break;
+    case 7:
+        if (below(seed, 8) == 0 && is_done(ecow_text_clear(text))) {
+            model->size = 0;
+        }
+        break;
+    case 8:
+        is_done(ecow_text_reserve(text, index % 20));
+        CHECK(ecow_text_is_boundary(text, index) == is_boundary(model, index));
+        break;
+    case 9:
+        if (len + count <= MOST && is_done(ecow_text_extend(text, items, count))) {
+            array_splice(model, len, len, models[other].bytes, count);
+        }
+        break;
+    case 10:
+        if (end > len) {
+            status = ECOW_INDEX;
+        } else if (!is_boundary(model, end)) {
+            status = ECOW_BOUNDARY;
+        }
+        if (len + count > MOST) {
+            break;
+        }
+        if (status != ECOW_OK) {
+            CHECK(ecow_text_splice(text, index, end, items, count) == status);
+        } else if (is_done(ecow_text_splice(text, index, end, items, count))) {
+            array_splice(model, index, end, models[other].bytes, count);
+        }
+        break;
+    case 11:
+        if (is_done(ecow_text_assign(text, items, count))) {
+            *model = models[other];
+        }
+        break;
+    case 12:
+        if (is_done(ecow_text_clone(text, &texts[other]))) {
+            *model = models[other];
+        }
+        break;
+    default:
+        if (below(seed, 4) == 0) {
+            ecow_text_drop(text);
+            model->size = 0;
+        } else if (2 * len <= MOST && is_done(ecow_text_repeat(text, 2))) {
+            array_splice(model, len, len, model->bytes, len);
+        }
+        if (is_done(ecow_text_replace(text, "z", 1, "a", 1))) {
+            for (size_t at = 0; at < model->size; at++) {
+                if (model->bytes[at] == 'z') {
+                    model->bytes[at] = 'a';
+                }
+            }
+        }
+    }
+    CHECK(text_holds(text, model->bytes, model->size));
+}
+
+int main(int argc, char **argv) {
+    long edits = argc > 1 ? atol(argv[1]) : 1000000;
+    uint64_t seed = 20260915;
+    static ecow_list lists[VALUES];
+    static ecow_bytes bytes[VALUES];
+    static ecow_text texts[VALUES];
+    static array of_lists[VALUES], of_bytes[VALUES], of_texts[VALUES];
+    for (long edit = 0; edit < edits; edit++) {
+        edit_list(lists, of_lists, &seed);
+        edit_bytes(bytes, of_bytes, &seed);
+        edit_text(texts, of_texts, &seed);
+        for (size_t at = 0; at < VALUES; at++) {
+            const int64_t *numbers = (const int64_t *)(const void *)of_lists[at].bytes;
+            CHECK(list_holds(&lists[at], numbers, of_lists[at].size / sizeof *numbers));
+            CHECK(bytes_hold(&bytes[at], of_bytes[at].bytes, of_bytes[at].size));
+            CHECK(text_holds(&texts[at], of_texts[at].bytes, of_texts[at].size));
+        }
+    }
+    for (size_t at = 0; at < VALUES; at++) {
+        ecow_list_drop(&lists[at]);
+        ecow_bytes_drop(&bytes[at]);
+        ecow_text_drop(&texts[at]);
+    }
+    printf("edits: %ld of each kind, %ld checks\n", edits, checks);
+    return 0;
+}

@@ -1,0 +1,60 @@
+#!/bin/sh
+# Tests the library for C, which `make lib` has left in bin/, from C, C++, Python and Rust: tools/c_test.sh [EDITS].
+# Needs gcc and clang with g++ and clang++, valgrind, python3 and rustc.
+set -eu
+cd "$(dirname "$0")/.."
+edits=${1:-1000000}
+out=$(mktemp -d)
+trap 'rm -rf "$out"' EXIT
+warnings="-Wall -Wextra -Wpedantic -Werror"
+checked="valgrind -q --leak-check=full --show-leak-kinds=all --error-exitcode=1"
+sanitized="-g -fsanitize=address,undefined -fno-sanitize-recover=all"
+
+# A test by a compiler: as it is, under valgrind, with the shared library, and under the sanitizers.
+run() { # NAME EDITS SOURCE COMPILER FLAGS..
+    name=$1 count=$2 source=$3
+    shift 3
+    "$@" $warnings -O2 -Iinclude "$source" bin/libecow.a -o "$out/$name"
+    "$out/$name" "$count"
+    $checked "$out/$name" "$((count / 200))" > /dev/null
+    "$@" $warnings -O2 -Iinclude "$source" bin/libecow.so -Wl,-rpath,"$out" -o "$out/$name-shared"
+    "$out/$name-shared" "$((count / 200))" > /dev/null
+    "$@" $warnings $sanitized -Iinclude "$source" "$out/ecow.o" bin/libecow.a -o "$out/$name-sanitized"
+    "$out/$name-sanitized" "$((count / 10))" > /dev/null
+}
+
+cp bin/libecow.so "$out/libecow.so.0"
+for compilers in "gcc g++" "clang clang++"; do
+    set -- $compilers
+    echo "$1:"
+    "$1" -std=c11 $warnings $sanitized -Iinclude -c c/ecow.c -o "$out/ecow.o"
+    run calls "$edits" c/tests/calls.c "$1" -std=c11
+    run edits "$edits" c/tests/edits.c "$1" -std=c11
+    run test "$((edits / 5))" c/tests/test.cpp "$2" -std=c++20
+done
+
+# Each request for memory is refused in turn.
+tools/shim.sh "$out/refuse.so"
+cc -std=c11 -O2 -Iinclude c/tests/edits.c bin/libecow.a -o "$out/edits"
+total=$(TOTAL=1 LD_PRELOAD="$out/refuse.so" "$out/edits" 300 2>&1 > /dev/null)
+number=0
+while [ "$number" -lt "$total" ]; do
+    number=$((number + 1))
+    REFUSE=$number LD_PRELOAD="$out/refuse.so" "$out/edits" 300 > /dev/null
+done
+echo "refused: $total requests in turn"
+
+# The examples of docs/C.md.
+for example in first history; do
+    cc -std=c11 $warnings $sanitized -Iinclude "c/examples/$example.c" bin/libecow.a -o "$out/$example"
+    "$out/$example" > "$out/$example.out"
+    cmp "$out/$example.out" "c/examples/$example.out"
+done
+c++ -std=c++20 $warnings $sanitized -Iinclude c/examples/interned.cpp bin/libecow.a -o "$out/interned"
+"$out/interned" < include/ecow.h > /dev/null
+
+ECOW_LIBRARY=bin/libecow.so python3 python/test_ecow.py "$((edits / 50))"
+ECOW_LIBRARY=bin/libecow.so python3 python/texts.py > /dev/null
+rustc -O --edition 2021 -D warnings rust/ecow.rs -L bin -l static=ecow -o "$out/rust"
+"$out/rust" "$((edits / 5))"
+$checked "$out/rust" "$((edits / 1000))" > /dev/null
