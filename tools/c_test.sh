@@ -7,7 +7,7 @@ edits=${1:-1000000}
 out=$(mktemp -d)
 trap 'rm -rf "$out"' EXIT
 warnings="-Wall -Wextra -Wpedantic -Werror"
-checked="valgrind -q --leak-check=full --show-leak-kinds=all --error-exitcode=1"
+checked="valgrind -q --leak-check=full --error-exitcode=1"
 sanitized="-g -fsanitize=address,undefined -fno-sanitize-recover=all"
 
 # A test by a compiler: as it is, under valgrind, with the shared library, and under the sanitizers.
@@ -36,13 +36,16 @@ done
 # Each request for memory is refused in turn.
 tools/shim.sh "$out/refuse.so"
 cc -std=c11 -O2 -Iinclude c/tests/edits.c bin/libecow.a -o "$out/edits"
-total=$(TOTAL=1 LD_PRELOAD="$out/refuse.so" "$out/edits" 300 2>&1 > /dev/null)
-number=0
-while [ "$number" -lt "$total" ]; do
-    number=$((number + 1))
-    REFUSE=$number LD_PRELOAD="$out/refuse.so" "$out/edits" 300 > /dev/null
+c++ -std=c++20 -O2 -Iinclude c/tests/test.cpp bin/libecow.a -o "$out/test"
+for refused in "edits 300" "test 30"; do
+    total=$(TOTAL=1 LD_PRELOAD="$out/refuse.so" $out/$refused 2>&1 > /dev/null)
+    number=0
+    while [ "$number" -lt "$total" ]; do
+        number=$((number + 1))
+        REFUSE=$number LD_PRELOAD="$out/refuse.so" $out/$refused > /dev/null
+    done
+    echo "refused in turn: $total requests"
 done
-echo "refused: $total requests in turn"
 
 # The examples of docs/C.md.
 for example in first history; do

@@ -284,6 +284,29 @@ static void moves_and_shares(void) {
     ecow_text_drop(&moved);
 }
 
+/* The library's values fit into the structs of the header: nothing around them is written. */
+static void sizes(void) {
+    struct {
+        uint64_t before;
+        ecow_list list;
+        uint64_t between;
+        ecow_bytes bytes;
+        uint64_t behind;
+        ecow_text text;
+        uint64_t after;
+    } all = {1, {{0}}, 2, {{0}}, 3, {{0}}, 4};
+    for (int time = 0; time < 40; time++) {
+        CHECK(ecow_list_push(&all.list, -1) == ECOW_OK);
+        CHECK(ecow_bytes_push(&all.bytes, 255) == ECOW_OK);
+        CHECK(ecow_text_push(&all.text, 0x10ffff) == ECOW_OK);
+        CHECK(all.before == 1 && all.between == 2 && all.behind == 3 && all.after == 4);
+    }
+    ecow_list_drop(&all.list);
+    ecow_bytes_drop(&all.bytes);
+    ecow_text_drop(&all.text);
+    CHECK(all.before == 1 && all.between == 2 && all.behind == 3 && all.after == 4);
+}
+
 int main(void) {
     lists();
     orders_of_lists();
@@ -292,6 +315,7 @@ int main(void) {
     null_pointers();
     arrays_of_the_value();
     moves_and_shares();
+    sizes();
     for (int status = ECOW_OK; status <= ECOW_NULL; status++) {
         CHECK(strlen(ecow_status_text((ecow_status)status)) > 3);
     }
