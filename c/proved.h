@@ -1,12 +1,11 @@
 /* What the static library of the crate `ecow_c` exports. Its contracts stand in the crate's source.
- * A value is given by the address of a pointer to it, and an array by its start and its count. */
+ * A value is given by the address of a pointer to it, and an array by its start and its count.
+ * `ecow.h` declares `_clone` and `_drop`. */
 #ifndef ECOW_PROVED_H
 #define ECOW_PROVED_H
 
 #include "ecow.h"
 
-ecow_status ecow_proved_list_clone(ecow_list **from, ecow_list **to);
-ecow_status ecow_proved_list_drop(ecow_list **value);
 ecow_status ecow_proved_list_assign(ecow_list **value, const int64_t *items, size_t count);
 size_t ecow_proved_list_len(ecow_list **value);
 void ecow_proved_list_slice(ecow_list **value, const int64_t **start, size_t *len);
@@ -26,8 +25,6 @@ ecow_status ecow_proved_list_pop(ecow_list **value, int64_t *out);
 ecow_status ecow_proved_list_insert(ecow_list **value, size_t index, int64_t item);
 ecow_status ecow_proved_list_remove(ecow_list **value, size_t index, int64_t *out);
 
-ecow_status ecow_proved_bytes_clone(ecow_bytes **from, ecow_bytes **to);
-ecow_status ecow_proved_bytes_drop(ecow_bytes **value);
 ecow_status ecow_proved_bytes_assign(ecow_bytes **value, const uint8_t *items, size_t count);
 size_t ecow_proved_bytes_len(ecow_bytes **value);
 void ecow_proved_bytes_slice(ecow_bytes **value, const uint8_t **start, size_t *len);
@@ -47,8 +44,6 @@ ecow_status ecow_proved_bytes_pop(ecow_bytes **value, uint8_t *out);
 ecow_status ecow_proved_bytes_insert(ecow_bytes **value, size_t index, uint8_t item);
 ecow_status ecow_proved_bytes_remove(ecow_bytes **value, size_t index, uint8_t *out);
 
-ecow_status ecow_proved_text_clone(ecow_text **from, ecow_text **to);
-ecow_status ecow_proved_text_drop(ecow_text **value);
 ecow_status ecow_proved_text_assign(ecow_text **value, const char *items, size_t count);
 size_t ecow_proved_text_len(ecow_text **value);
 void ecow_proved_text_slice(ecow_text **value, const char **start, size_t *len);

@@ -9,17 +9,9 @@ VALUE CALL(new)(void) {
     return value;
 }
 
-void CALL(drop)(VALUE *value) {
-    (void)PROVED(drop)(&value);
-}
+extern inline void CALL(drop)(VALUE *value);
 
-ecow_status CALL(clone)(VALUE *to, const VALUE *from) {
-    VALUE *source = (VALUE *)from;
-    if (to == source) {
-        return to ? ECOW_OK : ECOW_NULL;
-    }
-    return PROVED(clone)(&source, &to);
-}
+extern inline ecow_status CALL(clone)(VALUE *to, const VALUE *from);
 
 size_t CALL(len)(const VALUE *value) {
     VALUE *place = (VALUE *)value;

@@ -66,10 +66,10 @@ typedef struct ecow_text {
 ecow_list ecow_list_new(void);
 
 /* Gives the value's memory up, and leaves it empty. */
-void ecow_list_drop(ecow_list *list);
+inline void ecow_list_drop(ecow_list *list);
 
 /* Makes `to` a clone of `from`. What it held is given up. */
-ecow_status ecow_list_clone(ecow_list *to, const ecow_list *from);
+inline ecow_status ecow_list_clone(ecow_list *to, const ecow_list *from);
 
 /* Makes it a copy of `count` numbers. */
 ecow_status ecow_list_assign(ecow_list *list, const int64_t *numbers, size_t count);
@@ -131,10 +131,10 @@ uint64_t ecow_list_hash(const ecow_list *list);
 ecow_bytes ecow_bytes_new(void);
 
 /* Gives the value's memory up, and leaves it empty. */
-void ecow_bytes_drop(ecow_bytes *bytes);
+inline void ecow_bytes_drop(ecow_bytes *bytes);
 
 /* Makes `to` a clone of `from`. What it held is given up. */
-ecow_status ecow_bytes_clone(ecow_bytes *to, const ecow_bytes *from);
+inline ecow_status ecow_bytes_clone(ecow_bytes *to, const ecow_bytes *from);
 
 /* Makes it a copy of `count` bytes. */
 ecow_status ecow_bytes_assign(ecow_bytes *bytes, const uint8_t *added, size_t count);
@@ -203,10 +203,10 @@ bool ecow_is_utf8(const char *bytes, size_t count);
 ecow_text ecow_text_new(void);
 
 /* Gives the text's memory up, and leaves it empty. */
-void ecow_text_drop(ecow_text *text);
+inline void ecow_text_drop(ecow_text *text);
 
 /* Makes `to` a clone of `from`. What it held is given up. */
-ecow_status ecow_text_clone(ecow_text *to, const ecow_text *from);
+inline ecow_status ecow_text_clone(ecow_text *to, const ecow_text *from);
 
 /* Makes it a copy of `added`. */
 ecow_status ecow_text_assign(ecow_text *text, const char *added, size_t count);
@@ -277,6 +277,30 @@ int ecow_text_compare(const ecow_text *left, const ecow_text *right);
 
 /* A hash (SipHash-1-3, with keys of 0). Equal texts have the same. */
 uint64_t ecow_text_hash(const ecow_text *text);
+
+/* ---- The library's own ---- */
+
+/* Two calls that are short enough to be expanded where they stand. */
+#define ECOW_EXPANDED(kind)                                                                        \
+    ecow_status ecow_proved_##kind##_clone(ecow_##kind **from, ecow_##kind **to);                  \
+    ecow_status ecow_proved_##kind##_drop(ecow_##kind **value);                                    \
+                                                                                                   \
+    inline void ecow_##kind##_drop(ecow_##kind *kind) {                                            \
+        (void)ecow_proved_##kind##_drop(&kind);                                                    \
+    }                                                                                              \
+                                                                                                   \
+    inline ecow_status ecow_##kind##_clone(ecow_##kind *to, const ecow_##kind *from) {             \
+        ecow_##kind *source = (ecow_##kind *)from;                                                 \
+        if (to == source) {                                                                        \
+            return to ? ECOW_OK : ECOW_NULL;                                                       \
+        }                                                                                          \
+        return ecow_proved_##kind##_clone(&source, &to);                                           \
+    }
+
+ECOW_EXPANDED(list)
+ECOW_EXPANDED(bytes)
+ECOW_EXPANDED(text)
+#undef ECOW_EXPANDED
 
 #ifdef __cplusplus
 }
