@@ -67,7 +67,7 @@ install: lib
 	install -m 755 bin/libecow.so $(DESTDIR)$(PREFIX)/lib/libecow.so.0
 	ln -sf libecow.so.0 $(DESTDIR)$(PREFIX)/lib/libecow.so
 	install -m 644 include/ecow.h include/ecow.hpp $(DESTDIR)$(PREFIX)/include
-	sed 's|@PREFIX@|$(PREFIX)|' bin/ecow.pc > $(DESTDIR)$(PREFIX)/lib/pkgconfig/ecow.pc
+	sed 's|^prefix=.*|prefix=$(PREFIX)|' bin/ecow.pc > $(DESTDIR)$(PREFIX)/lib/pkgconfig/ecow.pc
 
 c-test: lib
 	tools/c_test.sh

@@ -1,7 +1,12 @@
 # The crates of crates.txt that those named stand on, and these themselves, lowest first:
 # awk -F: -v tops="NAME .." -f tools/below.awk crates.txt
 /^#/ || NF < 2 { next }
-{ order[++count] = $1; needs[$1] = $2 }
+{
+    # A static library's row has a word behind its name.
+    sub(/ .*/, "", $1)
+    order[++count] = $1
+    needs[$1] = $2
+}
 END {
     split(tops, names, " ")
     for (i in names) needed[names[i]] = 1

@@ -13,4 +13,4 @@ rm -f bin/libecow.a
 ar rcs bin/libecow.a bin/lib/*.o
 ${CC:-cc} -shared -o bin/libecow.so -Wl,-soname,libecow.so.${version%%.*} -Wl,--version-script,c/exports.map bin/lib/*.o
 cp include/ecow.h include/ecow.hpp bin/
-sed "s|@VERSION@|$version|" c/ecow.pc.in > bin/ecow.pc
+sed "s|@VERSION@|$version|; s|@PREFIX@|/usr/local|" c/ecow.pc.in > bin/ecow.pc
