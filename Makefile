@@ -1,5 +1,5 @@
-# Proves, builds, runs and tests. Everything but `make fuzz`, `make hostile`, `make bench`, `make edits` and
-# `make times` needs the kit's `rt` on the path, make, git and the usual POSIX tools, and nothing else.
+# Proves, builds, runs and tests. Everything but `make lib`, `make c-test`, `make fuzz`, `make hostile`, `make bench`,
+# `make edits` and `make times` needs the kit's `rt` on the path, make, git and the usual POSIX tools, and nothing else.
 
 SOURCES := $(shell find crates -path '*/out' -prune -o \( -name '*.rt' -o -name '*.antt' \) -print) crates.txt
 
