@@ -30,7 +30,7 @@ pub extern "C" fn ecow_proved_list_assign(
     let Some(list) = place.list() else {
         return NULL;
     };
-    match EcoVec::from_slice(alloc, numbers) {
+    match EcoVec::from_copied(alloc, numbers) {
         Ok(made) => {
             *list = made;
             OK
