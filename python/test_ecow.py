@@ -5,6 +5,7 @@ import copy
 import gc
 import pickle
 import random
+import resource
 import sys
 
 from ecow import Bytes, List, Text, is_utf8
@@ -23,7 +24,7 @@ def outcome(call):
     """What a call returns, or the kind of error that it raises."""
     try:
         return call()
-    except (IndexError, OverflowError, TypeError, ValueError) as error:
+    except (IndexError, MemoryError, OverflowError, TypeError, ValueError) as error:
         return type(error)
 
 
@@ -93,6 +94,51 @@ def arguments():
     check(bytes(bytes_) == b"ab" and bytes(text) == b"caf\xc3\xa9" and "\u00e9" in text)
 
 
+def limits():
+    """Numbers that pass what the library takes mean what they do in Python."""
+    far = 2**70
+    list_, text = List([1, 2]), Text("ab")
+    list_.insert(far, 3)
+    list_.insert(-far, 0)
+    list_.truncate(far)
+    text.truncate(far)
+    check(same(list_, [0, 1, 2, 3]) and same(list_[-far:far], [0, 1, 2, 3]) and same(text, "ab"))
+    check(not text.is_boundary(far) and not text.is_boundary(-1))
+    raises(IndexError, lambda: list_[far])
+    raises(IndexError, lambda: list_.pop(-far))
+    raises(IndexError, lambda: text.insert(far, "x"))
+    raises(OverflowError, lambda: list_.reserve(far))
+    raises(MemoryError, lambda: text.repeat(2**61))
+    text.repeat(-1)
+    check(same(text, "") and repr(list_) == "List([0, 1, 2, 3])" and repr(text) == "Text('')")
+
+
+def sources():
+    """Whatever gives numbers, bytes or characters makes a value."""
+    check(same(List(b"ab"), [97, 98]) and same(List(n for n in (1, 2)), [1, 2]))
+    check(same(Bytes(bytearray(b"ab")), b"ab") and same(Bytes(memoryview(b"ab")), b"ab"))
+    check(same(Bytes(n for n in (1, 2)), b"\x01\x02") and same(Text(Text("ab")), "ab"))
+    raises(ValueError, lambda: Text("caf\u00e9")[:4])
+    raises(ValueError, lambda: Text("caf\u00e9")[4:])
+    list_ = List([1, 2])
+    for number in list_:
+        list_.append(number)
+    check(same(list_, [1, 2, 1, 2]) and same(Text("caf\u00e9")[3:], "\u00e9"))
+    kind = type("Kind", (List,), {})
+    check(type(copy.copy(kind([1]))) is kind and same(kind([1]).copy(), [1]))
+
+
+def memory():
+    """A value that is gone has given its memory up, and a copy takes none."""
+    value = Bytes(bytes(10**6))
+    before = resource.getrusage(resource.RUSAGE_SELF).ru_maxrss
+    kept = [value.copy() for _ in range(500)]
+    for _ in range(500):
+        Bytes(value[1:])
+    after = resource.getrusage(resource.RUSAGE_SELF).ru_maxrss
+    check(len(kept) == 500 and after - before < 100_000)
+
+
 def aliases():
     """A value may be an argument of its own call."""
     for size in (1, 15, 16, 40):
@@ -122,6 +168,10 @@ def orders():
                 check((first < second) == (left < right) and (first >= second) == (left >= right))
                 check((first > second) == (left > right) and (first <= second) == (left <= right))
                 check((first == second) == (left == right) == (first.hash() == second.hash()))
+    # What the hasher of Rust's standard library gives for the same.
+    check(List([1, 2, 3]).hash() == 1561758979349565031)
+    check(Bytes([1, 2, 3]).hash() == 8086395815454877121)
+    check(Text("caf\u00e9").hash() == 11281344579646283583)
 
 
 def sequences(edits):
@@ -150,6 +200,8 @@ def sequences(edits):
                 lambda each: list(each[part]),
                 lambda each: number in each,
                 lambda each: each.index(number),
+                lambda each: each.index(number, 2),
+                lambda each: each.index(number, 1, 9),
                 lambda each: each.count(number),
                 lambda each: list(reversed(each)),
                 lambda each: list(each),
@@ -225,6 +277,9 @@ if __name__ == "__main__":
     count = int(sys.argv[1]) if len(sys.argv) > 1 else 20000
     copies()
     arguments()
+    limits()
+    sources()
+    memory()
     aliases()
     orders()
     sequences(count)

@@ -61,6 +61,9 @@ static void orders_of_lists(void) {
     CHECK(ecow_list_push(&left, 5) == ECOW_OK && ecow_list_compare(&left, &right) < 0);
     CHECK(ecow_list_set(&right, 0, -1) == ECOW_OK && ecow_list_push(&right, 5) == ECOW_OK);
     CHECK(ecow_list_equal(&left, &right) && ecow_list_hash(&left) == ecow_list_hash(&right));
+    /* What the hasher of Rust's standard library gives for the same. */
+    CHECK(ecow_list_assign(&left, (int64_t[]){1, 2, 3}, 3) == ECOW_OK);
+    CHECK(ecow_list_hash(&left) == UINT64_C(1561758979349565031));
     CHECK(ecow_list_equal(&left, &left) && ecow_list_compare(&left, &left) == 0);
     CHECK(ecow_list_equal(NULL, NULL) && !ecow_list_equal(&left, NULL)
           && !ecow_list_equal(NULL, &left));
@@ -98,6 +101,8 @@ static void all_bytes(void) {
     CHECK(ecow_bytes_splice(&bytes, 0, 5, letters, 1) == ECOW_INDEX);
     CHECK(ecow_bytes_splice(&bytes, 3, 2, letters, 1) == ECOW_INDEX);
     CHECK(ecow_bytes_pop(&bytes, &out) == ECOW_OK && out == 'd' && bytes_hold(&bytes, "xbc", 3));
+    CHECK(ecow_bytes_assign(&bytes, (uint8_t[]){1, 2, 3}, 3) == ECOW_OK);
+    CHECK(ecow_bytes_hash(&bytes) == UINT64_C(8086395815454877121));
     CHECK(ecow_bytes_reserve(&bytes, SIZE_MAX) == ECOW_CAPACITY
           && ecow_bytes_reserve(&bytes, 9) == ECOW_OK);
     CHECK(ecow_bytes_clear(&bytes) == ECOW_OK && bytes_hold(&bytes, NULL, 0));
@@ -166,6 +171,8 @@ static void texts(void) {
           && ecow_text_reserve(&text, 9) == ECOW_OK);
     CHECK(ecow_text_compare(&text, &clone) < 0 && ecow_text_compare(&clone, &text) > 0);
     CHECK(ecow_text_hash(&text) != ecow_text_hash(&clone));
+    CHECK(ecow_text_assign(&text, "caf\xc3\xa9", 5) == ECOW_OK);
+    CHECK(ecow_text_hash(&text) == UINT64_C(11281344579646283583));
     CHECK(ecow_text_repeat(&text, 0) == ECOW_OK && text_is(&text, ""));
     CHECK(ecow_text_clear(&clone) == ECOW_OK && ecow_text_equal(&text, &clone));
     CHECK(ecow_text_compare(&text, &clone) == 0 && ecow_text_hash(&text) == ecow_text_hash(&clone));

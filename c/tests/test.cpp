@@ -62,7 +62,8 @@ template <typename Value, typename Model> static void values(const Model &long_e
     other = copy;
     CHECK(other.data() == value.data());
     other.append(view(few));
-    CHECK(other.data() != value.data() && holds(copy, long_enough) && other > copy);
+    CHECK(other.data() != value.data() && holds(copy, long_enough) && other > copy
+          && other != copy);
     const Value &same = other;
     other = same;
     CHECK(other.size() == long_enough.size() + 3);
@@ -87,6 +88,8 @@ template <typename Value, typename Model> static void values(const Model &long_e
     auto start = moved.data();
     moved.append(view(few));
     CHECK(moved.size() == 5 && moved.data() == start && moved[0] == moved[1]);
+    moved.assign(moved.slice());
+    CHECK(moved.size() == 5);
     moved.clear();
     CHECK(holds(moved, none));
     std::map<Value, int> sorted{{value, 1}, {moved, 2}};
