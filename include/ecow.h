@@ -11,8 +11,8 @@
  * Answers. A call that changes a value answers an `ecow_status`. Unless that is `ECOW_OK`, the
  * value is as it was, and nothing is written to the other pointers.
  *
- * Pointers. A null pointer is answered, never followed: `ECOW_NULL` where a value is changed, and
- * what an empty value would give where one is read. An array may be null where its count is 0, and
+ * Pointers. A null pointer is answered, never followed: `ECOW_NULL` by each call that answers a
+ * status, and else what an empty value would give. An array may be null where its count is 0, and
  * a pointer for a result where the result isn't wanted. An array may lie in the value that a call
  * changes. Any other pointer has to be one at which a value, an array or a result lies.
  *
@@ -196,7 +196,7 @@ uint64_t ecow_bytes_hash(const ecow_bytes *bytes);
  * ends. A character is given by its number (a Unicode scalar value). Texts are given by their
  * bytes, which need no 0 at their end: ECOW_UTF8 where they aren't UTF-8. */
 
-/* Whether the bytes are UTF-8. */
+/* Whether the bytes are UTF-8; not so of a null pointer, unless `count` is 0. */
 bool ecow_is_utf8(const char *bytes, size_t count);
 
 /* An empty text. */
@@ -250,7 +250,7 @@ ecow_status ecow_text_reserve(ecow_text *text, size_t additional);
 ecow_status ecow_text_extend(ecow_text *text, const char *added, size_t count);
 
 /* Puts `added` in place of the bytes from `start` up to `end`, which isn't included: ECOW_INDEX
- * where `start` passes `end`, or `end` the length, ECOW_BOUNDARY where one is inside a character. */
+ * where `start` passes `end`, or `end` the length, ECOW_BOUNDARY inside a character. */
 ecow_status ecow_text_splice(ecow_text *text, size_t start, size_t end, const char *added,
                              size_t count);
 

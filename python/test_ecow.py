@@ -105,6 +105,12 @@ def limits():
     check(same(list_, [0, 1, 2, 3]) and same(list_[-far:far], [0, 1, 2, 3]) and same(text, "ab"))
     check(not text.is_boundary(far) and not text.is_boundary(-1))
     raises(IndexError, lambda: list_[far])
+    raises(IndexError, lambda: text.insert(-1, "x"))
+    wide = [-(2**63), -1, 2**63 - 1]
+    check(same(List(wide), wide) and List(wide)[0] == wide[0] and List([7] * 300).count(7) == 300)
+    kept = wide_list = List(wide)
+    wide_list += wide
+    check(kept is wide_list and same(kept, wide * 2))
     raises(IndexError, lambda: list_.pop(-far))
     raises(IndexError, lambda: text.insert(far, "x"))
     raises(OverflowError, lambda: list_.reserve(far))

@@ -236,6 +236,43 @@ static void null_pointers(void) {
     CHECK(ecow_text_repeat(NULL, 1) == ECOW_NULL);
 }
 
+/* Results that aren't wanted, and indices and numbers that 32 bits can't hold. */
+static void wide_numbers(void) {
+    const size_t far = (size_t)1 << 32;
+    ecow_list list = {{0}}, other = {{0}};
+    ecow_bytes bytes = {{0}};
+    ecow_text text = {{0}};
+    int64_t number = 0;
+    CHECK(ecow_list_push(&list, INT64_MIN) == ECOW_OK);
+    CHECK(ecow_list_insert(&list, 1, INT64_MAX) == ECOW_OK);
+    CHECK(list_holds(&list, (int64_t[]){INT64_MIN, INT64_MAX}, 2));
+    CHECK(ecow_list_get(&list, far, &number) == ECOW_INDEX && number == 0);
+    CHECK(ecow_list_set(&list, far, 1) == ECOW_INDEX);
+    CHECK(ecow_list_insert(&list, far, 1) == ECOW_INDEX);
+    CHECK(ecow_list_remove(&list, far, NULL) == ECOW_INDEX);
+    CHECK(ecow_list_truncate(&list, far) == ECOW_OK && ecow_list_len(&list) == 2);
+    CHECK(ecow_list_set(&list, 0, INT64_MIN + 1) == ECOW_OK);
+    CHECK(list_holds(&list, (int64_t[]){INT64_MIN + 1, INT64_MAX}, 2));
+    CHECK(ecow_list_clone(&list, NULL) == ECOW_NULL && ecow_list_len(&list) == 2);
+    CHECK(ecow_list_clone(NULL, &list) == ECOW_NULL && ecow_list_clone(&other, &list) == ECOW_OK);
+    CHECK(ecow_bytes_assign(&bytes, (const uint8_t *)"abc", 3) == ECOW_OK);
+    CHECK(ecow_bytes_get(&bytes, 0, NULL) == ECOW_OK
+          && ecow_bytes_get(&bytes, far, NULL) == ECOW_INDEX);
+    CHECK(ecow_bytes_set(&bytes, far, 1) == ECOW_INDEX
+          && ecow_bytes_insert(&bytes, far, 1) == ECOW_INDEX);
+    CHECK(ecow_bytes_pop(&bytes, NULL) == ECOW_OK && ecow_bytes_remove(&bytes, 0, NULL) == ECOW_OK);
+    CHECK(ecow_bytes_truncate(&bytes, far) == ECOW_OK && bytes_hold(&bytes, "b", 1));
+    CHECK(ecow_text_assign(&text, "abc", 3) == ECOW_OK && ecow_text_get(&text, 0, NULL) == ECOW_OK);
+    CHECK(ecow_text_get(&text, far, NULL) == ECOW_INDEX && !ecow_text_is_boundary(&text, far));
+    CHECK(ecow_text_insert(&text, far, "x", 1) == ECOW_INDEX);
+    CHECK(ecow_text_pop(&text, NULL) == ECOW_OK && ecow_text_remove(&text, 0, NULL) == ECOW_OK);
+    CHECK(ecow_text_truncate(&text, far) == ECOW_OK && text_is(&text, "b"));
+    ecow_list_drop(&list);
+    ecow_list_drop(&other);
+    ecow_bytes_drop(&bytes);
+    ecow_text_drop(&text);
+}
+
 /* Arrays that lie in the value that a call changes, inline and in its block. */
 static void arrays_of_the_value(void) {
     ecow_list list = {{0}};
@@ -320,6 +357,7 @@ int main(void) {
     all_bytes();
     texts();
     null_pointers();
+    wide_numbers();
     arrays_of_the_value();
     moves_and_shares();
     sizes();
