@@ -20,9 +20,9 @@ use crate::error::EcoError;
 pub use conversions::IntoArray;
 use ecow_base::MAX_LEN;
 use ecow_block::Block;
+use ecow_shared::Shared;
 use std::alloc::{AllocError, Global};
 use std::marker::Model;
-use std::rc::Rc;
 use std::slice;
 
 /// A vector whose clones share its elements until one of them is written to.
@@ -31,17 +31,17 @@ use std::slice;
 /// its elements into a block of its own first, element by element; no other vector sees the change.
 #[derive(Drop)]
 pub struct EcoVec<T> {
-    block: Option<Rc<Block<T>>>,
+    block: Shared<Block<T>, Global>,
     alloc: Global,
 }
 
 impl<T> Model for EcoVec<T> {
-    ghost use Rattle.std.specs.Prelude.{List, []};
-    ghost use Rattle.std.specs.Option.{option_map_or};
+    ghost use Rattle.std.specs.Prelude.{List};
+    ghost use Rattle.ecow_list.specs.Vectors.{items_of};
 
     ghost Value = { List T };
 
-    ghost view = { λ v. option_map_or (λ shared. shared.value.items) v.block [] };
+    ghost view = { λ v. items_of v.block.value };
 }
 
 impl<T> EcoVec<T> {
@@ -51,7 +51,10 @@ impl<T> EcoVec<T> {
     pub fn new(alloc: Global) -> Self
         ensures { result ≡ [] }
     {
-        EcoVec { block: None, alloc }
+        EcoVec {
+            block: Shared::none(),
+            alloc,
+        }
     }
 
     /// The allocator of which the vector asks its memory.
@@ -63,7 +66,7 @@ impl<T> EcoVec<T> {
     pub fn as_slice(&self) -> &[T]
         ensures { result.now ≡ self.now }
     {
-        match &self.block {
+        match self.block.get() {
             Some(shared) => shared.as_slice(),
             None => &[],
         }
@@ -74,7 +77,7 @@ impl<T> EcoVec<T> {
         ensures len { result ≡ length self.now }
         ensures bounded { result ≤ MAX_LEN }
     {
-        match &self.block {
+        match self.block.get() {
             Some(shared) => shared.len(),
             None => 0,
         }
@@ -92,7 +95,7 @@ impl<T> EcoVec<T> {
         ensures room { length self.now ≤ result }
         ensures bounded { result ≤ MAX_LEN }
     {
-        match &self.block {
+        match self.block.get() {
             Some(shared) => {
                 // For the proof alone: the length is bounded.
                 let _len = shared.len();
@@ -114,9 +117,12 @@ impl<T> EcoVec<T> {
     pub fn is_unique(&mut self) -> bool
         ensures { self.new ≡ self.old }
     {
+        if self.block.get().is_none() {
+            return true;
+        }
         match self.sole_block() {
             Some(_) => true,
-            None => self.block.is_none(),
+            None => false,
         }
     }
 
@@ -125,10 +131,7 @@ impl<T> EcoVec<T> {
         ensures* writes_back { sem 𝓛 (lends_block T.row self.entry result) }
         ensures items { IfSome result (λ b. b.now.items ≡ self.old) }
     {
-        match &mut self.block {
-            Some(shared) => Rc::get_mut(shared),
-            None => None,
-        }
+        Shared::get_mut(&mut self.block)
     }
 }
 
@@ -148,7 +151,7 @@ impl<T: Drop> EcoVec<T> {
         }
         let block = Block::with_capacity(alloc, capacity)?;
         Ok(EcoVec {
-            block: Some(Rc::new(alloc, block)?),
+            block: Shared::new(alloc, block)?,
             alloc,
         })
     }
@@ -163,7 +166,7 @@ impl<T: Drop> EcoVec<T> {
         }
         match self.sole_block() {
             Some(block) => block.truncate(0),
-            None => self.block = None,
+            None => self.block = Shared::none(),
         }
     }
 }
@@ -172,12 +175,8 @@ impl<T: Drop> Clone for EcoVec<T> {
     ghost is_clone = { λ v w. w ≡ v };
 
     fn clone(&self) -> Result<Self, AllocError> {
-        let block = match &self.block {
-            Some(shared) => Some(shared.clone()?),
-            None => None,
-        };
         Ok(EcoVec {
-            block,
+            block: self.block.clone()?,
             alloc: self.alloc,
         })
     }

@@ -11,8 +11,8 @@ use crate::vec::EcoVec;
 use crate::vec::collect::collect;
 use ecow_base::{MAX_LEN, fresh_capacity};
 use ecow_block::Block;
+use ecow_shared::Shared;
 use std::alloc::{AllocError, Global};
-use std::rc::Rc;
 use thiserror::Error;
 
 /// Why a vector was not made an array. The vector comes back as it was.
@@ -44,12 +44,12 @@ impl<T: Drop> EcoVec<T> {
             return Ok(EcoVec::new(alloc));
         }
         if let Ok(block) = Block::with_capacity(alloc, fresh_capacity(len))
-            && let Ok(mut shared) = Rc::new(alloc, block)
-            && let Some(block) = Rc::get_mut(&mut shared)
+            && let Ok(mut shared) = Shared::new(alloc, block)
+            && let Some(block) = Shared::get_mut(&mut shared)
         {
             block.fill_within_capacity(elements);
             return Ok(EcoVec {
-                block: Some(shared),
+                block: shared,
                 alloc,
             });
         }
@@ -103,7 +103,7 @@ impl<T: Drop> EcoVec<T> {
             return Ok(EcoVec::new(alloc));
         }
         Ok(EcoVec {
-            block: Some(Rc::new(alloc, items)?),
+            block: Shared::new(alloc, items)?,
             alloc,
         })
     }
@@ -131,7 +131,7 @@ impl<T: Clone> EcoVec<T> {
         }
         let block = Block::from_clones(alloc, elements, fresh_capacity(len))?;
         Ok(EcoVec {
-            block: Some(Rc::new(alloc, block)?),
+            block: Shared::new(alloc, block)?,
             alloc,
         })
     }
@@ -173,7 +173,7 @@ impl<T: Clone> EcoVec<T> {
             block.push_within_capacity(value.clone()?);
         }
         Ok(EcoVec {
-            block: Some(Rc::new(alloc, block)?),
+            block: Shared::new(alloc, block)?,
             alloc,
         })
     }
@@ -217,20 +217,15 @@ impl<T: Clone> EcoVec<T> {
         ensures value_returned { IfErr result (λ rejected. rejected.value ≡ self) }
         ensures memory { IfErr result (λ rejected. rejected.error ≡ EcoError.Memory) }
     {
-        let EcoVec { block, alloc } = self;
-        let Some(mut shared) = block else {
-            return Ok(Vec::new(alloc));
-        };
-        let taken = match Rc::get_mut(&mut shared) {
+        let alloc = self.alloc;
+        let mut vector = self;
+        let taken = match vector.sole_block() {
             Some(block) => block.take_vec(),
-            None => Vec::from_clones(alloc, shared.as_slice()),
+            None => Vec::from_clones(alloc, vector.as_slice()),
         };
         match taken {
             Ok(elements) => Ok(elements),
-            Err(_) => Err(Rejected::for_memory(EcoVec {
-                block: Some(shared),
-                alloc,
-            })),
+            Err(_) => Err(Rejected::for_memory(vector)),
         }
     }
 
@@ -245,18 +240,15 @@ impl<T: Clone> EcoVec<T> {
         ensures memory { IfErr result (λ rejected. rejected.error ≡ EcoError.Memory) }
     {
         let EcoVec { block, alloc } = self;
-        let Some(shared) = block else {
-            return Ok(IntoIter::new(Block::new(alloc).into_rest()));
-        };
-        match Rc::try_unwrap(shared) {
+        match Shared::try_unwrap(block) {
             Ok(block) => Ok(IntoIter::new(block.into_rest())),
-            Err(shared) => match Block::from_clones(alloc, shared.as_slice(), shared.len()) {
-                Ok(copy) => Ok(IntoIter::new(copy.into_rest())),
-                Err(_) => Err(Rejected::for_memory(EcoVec {
-                    block: Some(shared),
-                    alloc,
-                })),
-            },
+            Err(block) => {
+                let vector = EcoVec { block, alloc };
+                match Block::from_clones(alloc, vector.as_slice(), vector.len()) {
+                    Ok(copy) => Ok(IntoIter::new(copy.into_rest())),
+                    Err(_) => Err(Rejected::for_memory(vector)),
+                }
+            }
         }
     }
 

@@ -9,9 +9,9 @@ use crate::vec::EcoVec;
 use crate::vec::own::{Copies, Room};
 use ecow_base::{MAX_LEN, fresh_capacity, resolve};
 use ecow_block::Block;
+use ecow_shared::Shared;
 use std::alloc::Global;
 use std::ops::RangeBounds;
-use std::rc::Rc;
 
 impl<T: Clone + Copy> EcoVec<T> {
     /// Copies of the elements of a slice; without a block, and never refused, where there are none.
@@ -33,7 +33,7 @@ impl<T: Clone + Copy> EcoVec<T> {
         }
         let block = Block::from_copies(alloc, elements, fresh_capacity(len))?;
         Ok(EcoVec {
-            block: Some(Rc::new(alloc, block)?),
+            block: Shared::new(alloc, block)?,
             alloc,
         })
     }

@@ -36,7 +36,7 @@ impl<T: Clone> EcoVec<T> {
             block.truncate(len);
             return Ok(());
         }
-        self.block = Some(self.copy::<Clones>(&self.as_slice()[..len], fresh_capacity(len))?);
+        self.block = self.copy::<Clones>(&self.as_slice()[..len], fresh_capacity(len))?;
         Ok(())
     }
 

@@ -8,6 +8,7 @@ use crate::error::EcoError;
 use crate::vec::EcoVec;
 use crate::vec::own::{Clones, Room};
 use ecow_block::Block;
+use ecow_shared::Shared;
 
 impl<T: Clone> EcoVec<T> {
     ghost use Rattle.ecow_list.specs.Lends.{lends_own_block, lends_slice};
@@ -58,7 +59,7 @@ impl<T: Clone> EcoVec<T> {
     {
         if self.is_empty() {
             if !self.is_unique() {
-                self.block = None;
+                self.block = Shared::none();
             }
             return Err(None);
         }

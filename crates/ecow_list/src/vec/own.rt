@@ -1,16 +1,17 @@
 //! Edits of a vector's own block. A sole block is enlarged where it is too small, and edited. The
 //! elements of a shared one are copied into a new block; that is edited, and takes the old one's
 //! place last. So a refusal leaves all elements as they were.
-ghost use Rattle.std.specs.Prelude.{◌≡◌, ◌+◌, ◌<◌, ◌≤◌, ◌↔◌, length, IfOk, OnOk, IsOk, IsErrOf};
+ghost use Rattle.std.specs.Prelude.{◌≡◌, ◌+◌, ◌<◌, ◌≤◌, ◌↔◌, length, IfOk, OnOk, IsOk, IsErrOf, IsSomeAnd};
 ghost use Rattle.std.specs.List.{AllZip};
 ghost use Rattle.ecow_list.specs.Edits.{Edited, Edits, KeepsRoom, RefusesClean};
+ghost use Rattle.ecow_list.specs.Vectors.{items_of};
 
 use crate::error::{EcoError, Rejected};
 use crate::vec::EcoVec;
 use ecow_base::{MAX_LEN, fresh_capacity, room_for};
 use ecow_block::Block;
+use ecow_shared::Shared;
 use std::alloc::{AllocError, Global};
-use std::rc::Rc;
 
 /// A way to copy the elements of a shared block.
 pub(super) trait Copying<T>: Drop {
@@ -121,14 +122,14 @@ impl<T: Drop> EcoVec<T> {
             let answer = edit(&mut none, given).map_err(Rejected::for_memory)?;
             // For the proof alone: a block without room has no element.
             let _room = none.capacity();
-            self.block = None;
+            self.block = Shared::none();
             return Ok(answer);
         }
         if let Ok(mut fresh) = self.copy::<C>(self.as_slice(), capacity)
-            && let Some(block) = Rc::get_mut(&mut fresh)
+            && let Some(block) = Shared::get_mut(&mut fresh)
         {
             let answer = edit(block, given).map_err(Rejected::for_memory)?;
-            self.block = Some(fresh);
+            self.block = fresh;
             return Ok(answer);
         }
         Err(Rejected::for_memory(given))
@@ -140,19 +141,22 @@ impl<T: Drop> EcoVec<T> {
         &self,
         elements: &[T],
         capacity: usize,
-    ) -> Result<Rc<Block<T>>, AllocError>
+    ) -> Result<Shared<Block<T>, Global>, AllocError>
         requires room { length elements.now ≤ capacity }
         requires bounded { capacity ≤ MAX_LEN }
-        ensures copies { IfOk result (λ shared. AllZip C.makes elements.now shared.value.items) }
-        ensures len { IfOk result (λ shared. length shared.value.items ≡ length elements.now) }
-        ensures capacity { IfOk result (λ shared. shared.value.capacity ≡ capacity) }
+        ensures copies { IfOk result
+            (λ shared. AllZip C.makes elements.now (items_of shared.value)) }
+        ensures len { IfOk result
+            (λ shared. length (items_of shared.value) ≡ length elements.now) }
+        ensures capacity { IfOk result (λ shared. IsSomeAnd shared.value
+            (λ block. block.capacity ≡ capacity)) }
     {
         let block = if elements.is_empty() {
             Block::with_capacity(self.alloc, capacity)?
         } else {
             C::block(self.alloc, elements, capacity)?
         };
-        Ok(Rc::new(self.alloc, block)?)
+        Ok(Shared::new(self.alloc, block)?)
     }
 }
 

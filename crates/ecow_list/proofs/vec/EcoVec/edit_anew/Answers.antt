@@ -1,4 +1,5 @@
 use Rattle.std.proofs.Common.{rules, inr}
+use Rattle.ecow_list.specs.Vectors.{items_of}
 use Rattle.ecow_list.proofs.Kept.{clones_equal}
 use Rattle.ecow_list.proofs.vec.EcoVec.edit_anew.Goals as goal
 
@@ -7,7 +8,7 @@ pub returns : goal.returns
 returns g c = record {
   edited = record {
     ok = λ equal. let same = clones_equal _ equal _ _ c.in-Ok.ensures.copies in search rules;
-    kept = record { kept = c.in-Ok.fresh.value.items; is_kept = inr (search rules); same_length = search rules; edited = search rules };
+    kept = record { kept = items_of c.in-Ok.fresh.value; is_kept = inr (search rules); same_length = search rules; edited = search rules };
     unchanged = search rules;
     value_returned = search rules;
     capacity = search rules;

@@ -1,0 +1,3 @@
+pub mod Places
+pub mod Settling
+pub mod Steps
