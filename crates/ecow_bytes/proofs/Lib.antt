@@ -1,3 +1,4 @@
+mod Counted
 mod Groups
 mod Limits
 mod Moves

@@ -1,6 +1,6 @@
 -- What bytes end as, where they are lent for writing.
 use mathlib.Core.Option as maybe
-use Rattle.std.specs.Prelude.{◌≡◌, ℕ, Bool, true, false, List, [], length, Result, IsOk, OnErr}
+use Rattle.std.specs.Prelude.{◌≡◌, ℕ, Bool, true, false, List, [], ◌++◌, length, take, drop, Result, IsOk, OnErr}
 use Rattle.std.specs.List.{refill}
 use Rattle.std.specs.Borrow.{Lends, follows_so, name_if_ok, Fml, GName, RattleType, MutBor, Array, u8 as byte}
 use Rattle.ecow_values.specs.Plain.{plain_bytes}
@@ -14,9 +14,13 @@ use Rattle.ecow_bytes.specs.contracts.inline.InlineVec.{the_row as inline_row}
 use Rattle.ecow_bytes.specs.contracts.bytes.Form.{the_row as form_row}
 use Rattle.ecow_bytes.specs.contracts.bytes.SmallBytes.{the_row as bytes_row}
 
--- once the borrow r ends, the bytes begin with what was written through r
-abbrev pub lends_first : MutBor (List ℕ) → MutBor (List ℕ) → Fml
-lends_first all r = Lends (Array byte 0) (Array byte 0) all r (refill (length all.now) all.now)
+-- xs with ws in place of the first len, cut or filled up to as many
+abbrev pub with_front : ℕ → List ℕ → List ℕ → List ℕ
+with_front len xs ws = refill len (take len xs) ws ++ drop len xs
+
+-- once the borrow r ends, what was written through r stands in place of the first len bytes
+abbrev pub lends_first : MutBor (List ℕ) → ℕ → MutBor (List ℕ) → Fml
+lends_first all len r = Lends (Array byte 0) (Array byte 0) all r (with_front len all.now)
 
 module _ (N : RattleType) where
   -- once the borrow r ends, the array is what was written through r
@@ -24,11 +28,11 @@ module _ (N : RattleType) where
   lends_all cells r =
       Lends (cells_row N) (Array byte 0) cells r (λ written. record { bytes = written })
 
-  -- the array begins with it
-  abbrev pub lends_front : MutBor (cells_row N).Denot → MutBor (List ℕ) → Fml
-  lends_front cells r =
+  -- it stands in place of the first len bytes of the array
+  abbrev pub lends_front : MutBor (cells_row N).Denot → ℕ → MutBor (List ℕ) → Fml
+  lends_front cells len r =
       Lends (cells_row N) (Array byte 0) cells r
-      (λ written. record { bytes = refill (length cells.now.bytes) cells.now.bytes written })
+      (λ written. record { bytes = with_front len cells.now.bytes written })
 
   -- the bytes of the list are what was written, as many as they were
   abbrev pub lends_inline : MutBor (List ℕ) → MutBor (List ℕ) → Fml

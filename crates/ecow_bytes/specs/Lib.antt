@@ -1,3 +1,4 @@
+pub mod Counts
 pub mod Form
 pub mod Hashes
 pub mod Lends

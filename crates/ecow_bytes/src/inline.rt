@@ -2,7 +2,7 @@
 ghost use Rattle.std.specs.Prelude.{◌≡◌, ◌+◌, ◌-◌, ◌<◌, ◌≤◌, ◌↔◌, [], ◌∷◌, ◌++◌, length, take, IsOk, OnOk, OnErr, slice_get, slice_set, Some};
 ghost use Rattle.std.specs.List.{remove, insert_slice};
 
-use crate::cells::{Buffer, Cells};
+use crate::cells::Buffer;
 use ecow_base::MAX_LEN;
 use std::marker::Model;
 
@@ -18,12 +18,14 @@ pub(crate) struct Full;
 
 impl<const N: usize> Model for InlineVec<N> {
     ghost use Rattle.std.specs.Prelude.{◌≡◌, ◌≤◌, ℕ, List, length, take};
+    ghost use Rattle.ecow_bytes.specs.Counts.{counted};
 
     ghost Value = { List ℕ };
 
-    ghost view = { λ v. take v.buffer.len v.buffer.cells.bytes };
+    ghost view = { λ v. take (counted N v.buffer.code v.buffer.cells.bytes) v.buffer.cells.bytes };
 
-    ghost invariant = { λ v. (v.buffer.len ≤ N) × (length v.buffer.cells.bytes ≡ N) };
+    ghost invariant = { λ v. (counted N v.buffer.code v.buffer.cells.bytes ≤ N)
+        × (length v.buffer.cells.bytes ≡ N) };
 }
 
 impl<const N: usize> InlineVec<N> {
@@ -36,10 +38,7 @@ impl<const N: usize> InlineVec<N> {
         ensures bounded { N ≤ MAX_LEN }
     {
         InlineVec {
-            buffer: Buffer {
-                cells: Cells { bytes: [0; N] },
-                len: 0,
-            },
+            buffer: Buffer::new(),
         }
     }
 
@@ -49,7 +48,7 @@ impl<const N: usize> InlineVec<N> {
         ensures fits { result ≤ N }
         ensures bounded { N ≤ MAX_LEN }
     {
-        self.buffer.len
+        self.buffer.len()
     }
 
     /// For how many bytes there is room.
@@ -66,7 +65,7 @@ impl<const N: usize> InlineVec<N> {
         ensures value { result.now ≡ self.now }
         ensures fits { length result.now ≤ N }
     {
-        &self.buffer.cells.bytes[..self.buffer.len]
+        &self.buffer.cells.bytes[..self.buffer.len()]
     }
 
     /// A copy of these bytes.
@@ -86,12 +85,12 @@ impl<const N: usize> InlineVec<N> {
         ensures ok { OnOk result (self.new ≡ self.old ++ byte ∷ []) }
         ensures unchanged { OnErr result (self.new ≡ self.old) }
     {
-        let len = self.buffer.len;
+        let len = self.buffer.len();
         if len == N {
             return Err(Full);
         }
         self.buffer.cells.bytes[len] = byte;
-        self.buffer.len = len + 1;
+        self.buffer.set_len(len + 1);
         Ok(())
     }
 
@@ -101,19 +100,21 @@ impl<const N: usize> InlineVec<N> {
         ensures value { result ≡ slice_get self.old (length self.old - 1) }
         ensures bytes { self.new ≡ take (length self.old - 1) self.old }
     {
-        if self.buffer.len == 0 {
+        let len = self.buffer.len();
+        if len == 0 {
             return None;
         }
-        self.buffer.len -= 1;
-        Some(self.buffer.cells.bytes[self.buffer.len])
+        let byte = self.buffer.cells.bytes[len - 1];
+        self.buffer.set_len(len - 1);
+        Some(byte)
     }
 
     /// Keeps the first `target` bytes, or all where there are fewer.
     pub(crate) fn truncate(&mut self, target: usize)
         ensures { self.new ≡ take target self.old }
     {
-        if target < self.buffer.len {
-            self.buffer.len = target;
+        if target < self.buffer.len() {
+            self.buffer.set_len(target);
         }
     }
 
@@ -121,7 +122,7 @@ impl<const N: usize> InlineVec<N> {
     pub(crate) fn clear(&mut self)
         ensures { self.new ≡ [] }
     {
-        self.buffer.len = 0;
+        self.buffer.set_len(0);
     }
 
     /// Appends `bytes`. Refused where there were more than `N` then.
@@ -132,13 +133,14 @@ impl<const N: usize> InlineVec<N> {
         ensures ok { OnOk result (self.new ≡ self.old ++ bytes.now) }
         ensures unchanged { OnErr result (self.new ≡ self.old) }
     {
-        if N - self.buffer.len < bytes.len() {
+        let len = self.buffer.len();
+        if N - len < bytes.len() {
             return Err(Full);
         }
-        let end = self.buffer.len + bytes.len();
+        let end = len + bytes.len();
         let all = &mut self.buffer.cells.bytes[..];
-        all[self.buffer.len..end].copy_from_slice(bytes);
-        self.buffer.len = end;
+        all[len..end].copy_from_slice(bytes);
+        self.buffer.set_len(end);
         Ok(())
     }
 
@@ -149,14 +151,14 @@ impl<const N: usize> InlineVec<N> {
         ensures ok { OnOk result (self.new ≡ insert_slice self.old index bytes.now) }
         ensures unchanged { OnErr result (self.new ≡ self.old) }
     {
-        if N - self.buffer.len < bytes.len() {
+        let end = self.buffer.len();
+        if N - end < bytes.len() {
             return Err(Full);
         }
-        let end = self.buffer.len;
         let all = &mut self.buffer.cells.bytes[..];
         all.copy_within(index..end, index + bytes.len());
         all[index..index + bytes.len()].copy_from_slice(bytes);
-        self.buffer.len = end + bytes.len();
+        self.buffer.set_len(end + bytes.len());
         Ok(())
     }
 
@@ -167,9 +169,9 @@ impl<const N: usize> InlineVec<N> {
         ensures bytes { self.new ≡ remove self.old index }
     {
         let byte = self.buffer.cells.bytes[index];
-        let end = self.buffer.len;
+        let end = self.buffer.len();
         self.buffer.cells.bytes.copy_within(index + 1..end, index);
-        self.buffer.len = end - 1;
+        self.buffer.set_len(end - 1);
         byte
     }
 
@@ -186,7 +188,7 @@ impl<const N: usize> InlineVec<N> {
         ensures* writes_back { sem 𝓛 (lends_inline N.row self.entry result) }
         ensures value { result.now ≡ self.old }
     {
-        let len = self.buffer.len;
+        let len = self.buffer.len();
         let buffer = &mut self.buffer;
         buffer.cells.front_mut(len)
     }

@@ -6,7 +6,6 @@ use Prim.Native.Nat.{ℕ, ◌^◌, ◌<◌, ◌≤◌}
 use native.Mathlib.Omega.{arith}
 use mathlib.Core.List.{List, [], ◌∷◌, ◌++◌}
 use lib.ListN.{length, take, drop as drop_list, take-append-drop, length-drop, length-append}
-use lib.Seq.{take_all}
 use seplogic.Ra.Ura.{Ura}
 use mir.Syntax.{named, w64}
 use mir.Val.{Val, vint}
@@ -45,19 +44,16 @@ use denote.Triple.Spec.{Meets, triple_of}
 use denote.Triple.Table.{entered}
 use denote.Triple.Walked.{says, Stays, stay_dropped, walk_of, ends_at, walked, Goes-dropped, Goes-spent_slice, walk_Meets}
 use borrow.Table.Elements.{at, cut_app, join_app, length-take-le}
-use Rattle.std.specs.List.{refill}
+use Rattle.std.proofs.lemmas.List.{take_at}
+use Rattle.ecow_bytes.specs.Lends.{with_front}
 use Rattle.ecow_bytes.specs.contracts.cells.first_bytes as F
 use Rattle.ecow_bytes.specs.contracts.cells.first_bytes.Key.{name as #self}
 use Rattle.ecow_bytes.proofs.cells.first_bytes.Statement as stated
 use Rattle.ecow_bytes.proofs.cells.first_bytes.Code as code
 
--- as many bytes as were lent, and the rest behind them, are the slice refilled
-refilled : (m : ℕ) (xs ws : List ℕ) → m ≤ length xs → length ws ≡ m → ws ++ drop_list m xs ≡ refill (length xs) xs ws
-refilled m xs ws le e =
-    let both = length-append ws (drop_list m xs) in
-    let rest = length-drop m xs in
-    sym (take_all (length xs) (ws ++ drop_list m xs) (omega arith))
-    ∙ ap (λ k. take (length xs) (ws ++ drop_list k xs)) (sym e)
+-- as many bytes as were lent, and the rest behind them
+in_front : (m : ℕ) (xs ws : List ℕ) → length ws ≡ m → ws ++ drop_list m xs ≡ with_front m xs ws
+in_front m xs ws e = ap (λ front. front ++ drop_list m xs) (sym (take_at ws (drop_list (length ws) (take m xs)) m e))
 
 abbrev stayed : Stays F.ended.signature.params F.ended.kept
 stayed = (stay_dropped (mut_slice_of (0 ∷ []) tt (plain (λ _. u8))) no, (stay_dropped (plain (λ _. usize)) yes, tt))
@@ -90,23 +86,23 @@ module _ {M : Type 1} {𝓤 : Ura M} (𝓛 : Logic 𝓤) where
     count : k ≡ m
     count = length-take-le m xs within
 
-    put : (ws : List ℕ) → ent 𝓤 (sep 𝓤 (sem 𝓛 ((Arr (mem u8) k).own_at ws b o)) Rest) (sem 𝓛 ((Arr (mem u8) n).own_at (refill n xs ws) b o))
+    put : (ws : List ℕ) → ent 𝓤 (sep 𝓤 (sem 𝓛 ((Arr (mem u8) k).own_at ws b o)) Rest) (sem 𝓛 ((Arr (mem u8) n).own_at (with_front m xs ws) b o))
     put ws =
         qed 𝓛 (‵ ((Arr (mem u8) k).own_at ws b o) ∷ ‵ (bytes back (past k)) ∷ []) ∵ fsplit ! $ feq_l ! (λ e.
-        let same : ws ++ back ≡ refill n xs ws = refilled m xs ws within (e ∙ count) in
+        let same : ws ++ back ≡ with_front m xs ws = in_front m xs ws (e ∙ count) in
         let all = ap length same in
         let both = length-append ws back in
         let rest = length-drop m xs in
         move ! (1 ∷ 0 ∷ []) $ rewrite ! 0 (λ (j : ℕ). ‵ (bytes back (past j))) (sym e) refl $ move ! (1 ∷ 0 ∷ []) $
         use2 𝓛 (‵ (bytes (ws ++ back) o)) (join_app 𝓛 (mem u8) ws back b o) $
         rewrite ! 0 (λ (l : List ℕ). ‵ (bytes l o)) same refl $
-        feq_i ! ℕ (length (refill n xs ws)) n (omega (arith, all, both, rest, e, count, within)) $ fjoin ! $ done !)
+        feq_i ! ℕ (length (with_front m xs ws)) n (omega (arith, all, both, rest, e, count, within)) $ fjoin ! $ done !)
 
     abbrev Lent : GName → SProp 𝓤
-    Lent δ = sep 𝓤 (sem 𝓛 ((MutSlice (named 0) κ u8).own_val (record { ref_ptr = (b, o); ghost_name = δ; now = front }) (slice_val (b, o) k ∷ []))) (sep 𝓤 (A.lft κ q) (sem 𝓛 (follows (Array u8 0) (Array u8 0) γ δ (refill n xs))))
+    Lent δ = sep 𝓤 (sem 𝓛 ((MutSlice (named 0) κ u8).own_val (record { ref_ptr = (b, o); ghost_name = δ; now = front }) (slice_val (b, o) k ∷ []))) (sep 𝓤 (A.lft κ q) (sem 𝓛 (follows (Array u8 0) (Array u8 0) γ δ (with_front m xs))))
 
     abbrev lent : GName → Item 𝓤
-    lent δ = ‵ ((MutSlice (named 0) κ u8).own_val (record { ref_ptr = (b, o); ghost_name = δ; now = front }) (slice_val (b, o) k ∷ [])) ⊛ ‵ (flft κ q) ⊛ ‵ (follows (Array u8 0) (Array u8 0) γ δ (refill n xs))
+    lent δ = ‵ ((MutSlice (named 0) κ u8).own_val (record { ref_ptr = (b, o); ghost_name = δ; now = front }) (slice_val (b, o) k ∷ [])) ⊛ ‵ (flft κ q) ⊛ ‵ (follows (Array u8 0) (Array u8 0) γ δ (with_front m xs))
 
     small : Room u8 k
     small = (omega (arith, count, roomy.0), omega (arith, count, roomy.1))
@@ -120,8 +116,8 @@ module _ {M : Type 1} {𝓤 : Ura M} (𝓛 : Logic 𝓤) where
         rewrite ! 0 (λ (l : List ℕ). ‵ (bytes l o)) (heres_id u8 xs ∙ sym (take-append-drop m xs)) refl $
         use1 𝓛 (‵ (bytes front o) ⊛ ‵ (bytes back (past k))) (cut_app 𝓛 (mem u8) front back b o) $ split ! $
         feq_i ! ℕ k k refl $ fjoin ! $ move ! (2 ∷ 3 ∷ 4 ∷ 0 ∷ 1 ∷ []) $ group ! 5 $
-        use1 𝓛 (later (some (λ (δ : GName). ‵ (fobs δ ((Arr (mem u8) k).coded.code front)) ⊛ ‵ (fbor κ (Body (Arr (mem u8) k) b o δ)) ⊛ ‵ (flft κ q) ⊛ ‵ (follows (Array u8 0) (Array u8 0) γ δ (refill n xs)))))
-        (takes_part 𝓛 (Arr (mem u8) n) (Arr (mem u8) k) (refill n xs) κ q b o b o γ Rest put _ _ front) $ await ! tt $ pick ! (λ δ. split3 ! $
+        use1 𝓛 (later (some (λ (δ : GName). ‵ (fobs δ ((Arr (mem u8) k).coded.code front)) ⊛ ‵ (fbor κ (Body (Arr (mem u8) k) b o δ)) ⊛ ‵ (flft κ q) ⊛ ‵ (follows (Array u8 0) (Array u8 0) γ δ (with_front m xs)))))
+        (takes_part 𝓛 (Arr (mem u8) n) (Arr (mem u8) k) (with_front m xs) κ q b o b o γ Rest put _ _ front) $ await ! tt $ pick ! (λ δ. split3 ! $
         use2 𝓛 (‵ ((MutSlice (named 0) κ u8).own_val (record { ref_ptr = (b, o); ghost_name = δ; now = front }) (slice_val (b, o) k ∷ []))) (slice_of 𝓛 u8 (named 0) κ b o δ front small) $
         now ! $ show ! Lent δ $ done !)
 

@@ -1,4 +1,5 @@
-use Rattle.std.proofs.Common.{◌≡◌, ◌+◌, ◌*◌, ◌≤◌, length, arith, rules, ◌∙◌, sym, ap}
+use Rattle.std.proofs.Common.{◌≡◌, ◌+◌, ◌*◌, ◌<◌, ◌≤◌, length, arith, rules, ◌∙◌, sym, ap}
+use Rattle.std.proofs.Math.Nat.{le-mul_of_pos_right}
 use Rattle.std.specs.List.{repeat}
 use Rattle.std_alloc.proofs.Concat.{repeat-nil, length-repeat}
 use Rattle.ecow_base.specs.declared.capacity.TheConstants.{MAX_LEN}
@@ -13,6 +14,12 @@ returns-then-len-eq0-clause-bytes g c =
       | then-len-eq0-via-then-len-eq0 w ↦ (let none : length c.args.self.now.bytes ≡ 0 = search rules in c.new.ensures.bytes ∙ repeat-nil c.args.count c.args.self.now.bytes none)
       | then-len-eq0-via-else-len-eq0+then-count-eq0 w ↦ (let never : 0 ≡ c.args.count = search rules in c.new.ensures.bytes ∙ ap (λ k. repeat k c.args.self.now.bytes) never)
     ]
+
+pub returns-in_err-extend_from_slice-clause-free : goal.returns-in_err-extend_from_slice-clause-free
+returns-in_err-extend_from_slice-clause-free g c =
+    let some : 0 < c.args.count = search rules in
+    let once = le-mul_of_pos_right (length c.args.self.now.bytes) some in
+    search rules
 
 pub append_front-requires : goal.append_front-requires
 append_front-requires g c =

@@ -42,7 +42,7 @@ use denote.Triple.Spec.{Meets, triple_of}
 use denote.Triple.Statement.{Contract, Triple}
 use denote.Triple.Table.{entered}
 use denote.Triple.Walked.{says, Stays, stay_dropped, walk_of, walked, ends_at, Goes-dropped, Goes-spent_ref, walk_Meets}
-use Rattle.std.specs.List.{refill}
+use Rattle.ecow_bytes.specs.Lends.{with_front}
 use Rattle.ecow_bytes.specs.contracts.cells.Cells.{the_row}
 use Rattle.ecow_bytes.specs.contracts.cells.Cells.all_mut as W
 use Rattle.ecow_bytes.specs.contracts.cells.Cells.all_mut.Key.{name as #all}
@@ -99,8 +99,8 @@ module _ (n : ℕ) where
       abbrev with_all : List ℕ → S.Denot
       with_all w = record { bytes = w }
 
-      abbrev with_front : List ℕ → S.Denot
-      with_front w = record { bytes = refill (length d.bytes) d.bytes w }
+      abbrev with_written : List ℕ → S.Denot
+      with_written w = record { bytes = with_front m d.bytes w }
 
       module _ (𝓣 : Tables 𝓤 H) (all : Triple 𝓤 (𝓣.C (#all args)) All) (first : Triple 𝓤 (𝓣.C #first) First) where
         walk : m < 2 ^ 64 → ent 𝓤 (sep 𝓤 (on_entry 𝓛 ended.signature (κ, (κN, tt)) (q, (qN, tt)) (self, (m, tt)) (mut_vals self, (vint w64 m ∷ [], tt))) ((held (κ, (κN, tt)) (self, (m, tt))).requires tt)) (WpFn 𝓤 H 𝓣.C 𝓣.Λ function (vptr b o ∷ vint w64 m ∷ []) Ends)
@@ -129,15 +129,15 @@ module _ (n : ℕ) where
             use0 𝓛 (raw (fact 𝓤 (m ≤ length x.now))) (fact_i 𝓤 (m ≤ length x.now) (emp 𝓤) enough) $ move ! (1 ∷ 0 ∷ []) $ use2 𝓛 (raw (First.pre z')) (id⊢ 𝓤 _) $
             calls_at ! (fm_of 𝓤 H 𝓛.laws 𝓣) First first z' (and_then ! (get ! refl) (and_then ! (get ! refl) (no_more !))) (λ w.
             use1 𝓛 (later (some (λ (s : MutBor (List ℕ)). ((‵ (flft κ q) ⊛ ‵ ftrue) ⊛ ‵ (Items.own_val s (w ∷ []))) ⊛
-            some (λ (ws : Unit {0} × (Unit {0} × Unit {0})). ‵ (lasts P.ended z'.0.0 z'.0.3 ws) ⊛ ‵ (follows (Array u8 0) (Array u8 0) x.ghost_name s.ghost_name (refill (length x.now) x.now)) ⊛ raw (fact 𝓤 (s.now ≡ take m x.now)))))) (id⊢ 𝓤 _) $
+            some (λ (ws : Unit {0} × (Unit {0} × Unit {0})). ‵ (lasts P.ended z'.0.0 z'.0.3 ws) ⊛ ‵ (follows (Array u8 0) (Array u8 0) x.ghost_name s.ghost_name (with_front m x.now)) ⊛ raw (fact 𝓤 (s.now ≡ take m x.now)))))) (id⊢ 𝓤 _) $
             await ! tt $ pick ! (λ s. split ! $ split ! $ split ! $ move ! (3 ∷ []) $ pick ! (λ us. split3 ! $ drop ! $ move ! (1 ∷ []) $ heard ! _ (λ front.
             -- [the clause of `first_bytes`; κ's token; nothing; the slice; the clause of `all_mut`; the other token]
             move ! (3 ∷ []) $ peeks ! Items _ (shows 𝓛 Items) s (w ∷ []) (λ fits'.
             rewrite ! 0 (λ (us : List Val). ‵ (Items.own_val s us)) fits'.0.0 refl $
             lands_as ! (ap only fits'.0.0) refl (tt, (tt, (record { fits = fits'.0.1.0 }, tt))) $
             returns ! (look_at ! 0 refl) $ free_all ! refl $ move ! (4 ∷ 1 ∷ []) $
-            use2 𝓛 (‵ (follows S (Array u8 0) γ s.ghost_name (λ ys. with_all (refill (length x.now) x.now ys)))) (follows_then 𝓛 S (Array u8 0) (Array u8 0) with_all (refill (length x.now) x.now) γ x.ghost_name s.ghost_name) $
-            rewrite ! 0 (λ (l : List ℕ). ‵ (follows S (Array u8 0) γ s.ghost_name (λ ys. with_all (refill (length l) l ys)))) same refl $ keep ! (0 ∷ 1 ∷ 2 ∷ 4 ∷ []) $
+            use2 𝓛 (‵ (follows S (Array u8 0) γ s.ghost_name (λ ys. with_all (with_front m x.now ys)))) (follows_then 𝓛 S (Array u8 0) (Array u8 0) with_all (with_front m x.now) γ x.ghost_name s.ghost_name) $
+            rewrite ! 0 (λ (l : List ℕ). ‵ (follows S (Array u8 0) γ s.ghost_name (λ ys. with_all (with_front m l ys)))) same refl $ keep ! (0 ∷ 1 ∷ 2 ∷ 4 ∷ []) $
             suffices ! _ (ends_at 𝓛 ended stayed held bound (slice_val s.ref_ptr (length s.now)) s (tt, (tt, tt)) (tt, (tt, tt))) $
             nothing ! $ nothing ! $ fjoin ! $ nothing ! $ fjoin ! $ move ! (0 ∷ 2 ∷ []) $ join ! $ nothing ! $ move ! (4 ∷ 0 ∷ []) $ join ! $ move ! (3 ∷ 0 ∷ []) $ join ! $ join ! $ frame ! $ says ! (front ∙ ap (take m) same) $ done !)))))))))))))))
 

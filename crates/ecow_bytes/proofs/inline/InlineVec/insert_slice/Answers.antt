@@ -4,9 +4,10 @@ use Rattle.ecow_bytes.proofs.inline.InlineVec.insert_slice.Goals as goal
 
 pub returns-clause-ok : goal.returns-clause-ok
 returns-clause-ok g c =
-    let inside = c.self.inside in
+    let cells = c.self.inside.buffer.cells.bytes in
     let index = c.args.index in
-    let within : index ≤ inside.buffer.len = search rules in
-    let split : inside.buffer.len ≡ index + (inside.buffer.len - index) = omega arith in
-    rw (← c.self.view_is, c.copy_within.ensures.after, c.copy_from_slice.ensures.after, split)
-    (insert_in_front inside.buffer.cells.bytes c.args.bytes.now index (inside.buffer.len - index) (length c.args.bytes.now) refl (omega arith))
+    let end = c.len-end.result in
+    let within : index ≤ end = search rules in
+    let split : end ≡ index + (end - index) = omega arith in
+    rw (← c.self.view_is, c.set_len.ensures.count, c.set_len.ensures.front, c.copy_from_slice.ensures.after, c.copy_within.ensures.after, ← c.len-end.ensures, split)
+    (insert_in_front cells c.args.bytes.now index (end - index) (length c.args.bytes.now) refl (omega arith))

@@ -1,7 +1,8 @@
-use Rattle.std.proofs.Common.{arith, rules}
+use Rattle.std.proofs.Common.{rules}
 use Rattle.ecow_bytes.proofs.Moves.{remove_in_front}
 use Rattle.ecow_bytes.proofs.inline.InlineVec.remove.Goals as goal
 
 pub returns-clause-bytes : goal.returns-clause-bytes
 returns-clause-bytes g c =
-    rw (← c.self.view_is, c.copy_within.ensures.after) (remove_in_front _ c.args.index c.self.inside.buffer.len (search rules) (omega arith))
+    rw (← c.self.view_is, c.set_len.ensures.count, c.set_len.ensures.front, c.copy_within.ensures.after, ← c.len-end.ensures)
+    (remove_in_front _ c.args.index c.len-end.result (search rules) (search rules))
