@@ -4,6 +4,7 @@
    COUNT=1 counts requests. A request of 5555551 bytes sets the count to 0; one of 5555553 bytes
    writes it, in digits and a line feed, to standard error. These two are not counted themselves.
    TOTAL=1 writes, at the program's end, how many requests it made in all.
+   LEFT=1 says on standard error, at the program's end, where blocks weren't given back.
    tools/shim.sh builds it without any header, so its names of the C library are declared here. */
 typedef unsigned long size;
 
@@ -16,8 +17,8 @@ extern long write(int file, const void *bytes, size length);
 #define WRITES 5555553ul
 #define OUT_OF_MEMORY 12
 
-static long refused, made, counted;
-static int counts, totals;
+static long refused, made, counted, held;
+static int counts, totals, leaks;
 
 static long number_of(const char *digits) {
   long number = 0;
@@ -46,19 +47,31 @@ __attribute__((constructor)) static void begin(void) {
   refused = number_of(getenv("REFUSE"));
   counts = number_of(getenv("COUNT")) != 0;
   totals = number_of(getenv("TOTAL")) != 0;
+  leaks = number_of(getenv("LEFT")) != 0;
   made = 0;
   counted = 0;
+  held = 0;
 }
 
 __attribute__((destructor)) static void end(void) {
   if (totals) write_number(made);
   if (made < refused) (void)!write(2, "fewer requests\n", 15);
+  if (leaks && held) {
+    (void)!write(2, "blocks left: ", 13);
+    write_number(held);
+  }
+}
+
+/* Counts a block that was given. */
+static void *hands_out(void *block) {
+  if (block) held++;
+  return block;
 }
 
 void *malloc(size bytes) {
   static void *(*next)(size);
   if (!next) next = (void *(*)(size))dlsym(NEXT, "malloc");
-  return is_refused(bytes) ? 0 : next(bytes);
+  return is_refused(bytes) ? 0 : hands_out(next(bytes));
 }
 
 /* dlsym itself may ask for memory before the C library's own function is known: it gets this. */
@@ -78,23 +91,35 @@ void *calloc(size count, size bytes) {
     next = (void *(*)(size, size))dlsym(NEXT, "calloc");
     is_asking = 0;
   }
-  return is_refused(count * bytes) ? 0 : next(count, bytes);
+  return is_refused(count * bytes) ? 0 : hands_out(next(count, bytes));
 }
 
 void *realloc(void *block, size bytes) {
   static void *(*next)(void *, size);
   if (!next) next = (void *(*)(void *, size))dlsym(NEXT, "realloc");
-  return is_refused(bytes) ? 0 : next(block, bytes);
+  if (is_refused(bytes)) return 0;
+  return block ? next(block, bytes) : hands_out(next(block, bytes));
 }
 
 void *aligned_alloc(size alignment, size bytes) {
   static void *(*next)(size, size);
   if (!next) next = (void *(*)(size, size))dlsym(NEXT, "aligned_alloc");
-  return is_refused(bytes) ? 0 : next(alignment, bytes);
+  return is_refused(bytes) ? 0 : hands_out(next(alignment, bytes));
 }
 
 int posix_memalign(void **block, size alignment, size bytes) {
   static int (*next)(void **, size, size);
   if (!next) next = (int (*)(void **, size, size))dlsym(NEXT, "posix_memalign");
-  return is_refused(bytes) ? OUT_OF_MEMORY : next(block, alignment, bytes);
+  if (is_refused(bytes)) return OUT_OF_MEMORY;
+  int status = next(block, alignment, bytes);
+  if (!status) hands_out(*block);
+  return status;
+}
+
+void free(void *block) {
+  static void (*next)(void *);
+  if (!next) next = (void (*)(void *))dlsym(NEXT, "free");
+  if ((char *)block >= early && (char *)block < early + sizeof early) return;
+  if (block) held--;
+  next(block);
 }

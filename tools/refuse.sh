@@ -1,8 +1,8 @@
 #!/bin/sh
 # Runs each part of a program again and again, each time with another one of its requests for memory
-# refused, from the first to the last. It must end with status 0 and the output that it has where none
-# is refused. A program that finds a number on standard input runs the part with that number alone,
-# counted from 1; where it finds none, it runs all, and prints a line for each.
+# refused, from the first to the last. It must end with status 0, give all memory back, and print
+# what it prints where none is refused. A program that finds a number on standard input runs the part
+# with that number alone, counted from 1; where it finds none, it runs all, and prints a line for each.
 # usage: tools/refuse.sh PROGRAM
 set -eu
 program=$1
@@ -10,16 +10,17 @@ work=$(mktemp -d)
 trap 'rm -r "$work"' EXIT
 "$(dirname "$0")/shim.sh" "$work/refuse.so"
 processors=$(getconf _NPROCESSORS_ONLN 2> "$work/none" || echo 1)
-"$program" < /dev/null > "$work/lines"
+watched="env LEFT=1 LD_PRELOAD=$work/refuse.so"
+$watched "$program" < /dev/null > "$work/lines" 2>&1
 parts=$(grep -c '' < "$work/lines")
-if grep wrong "$work/lines"; then exit 1; fi
+if grep -e wrong -e left "$work/lines"; then exit 1; fi
 
 # Refuses the request with this number, and each that comes so many processors later.
 refuse_from() {
     number=$1
     while [ "$number" -le "$total" ]; do
         status=0
-        got=$(REFUSE=$number LD_PRELOAD=$work/refuse.so "$program" < "$work/part" 2>&1) || status=$?
+        got=$($watched REFUSE="$number" "$program" < "$work/part" 2>&1) || status=$?
         if [ "$status" -ne 0 ] || [ "$got" != "$want" ]; then
             echo "part $part, request $number: status $status"
             echo "$got" > "$work/got.$1"
@@ -34,7 +35,7 @@ all=0
 while part=$((part + 1)) && [ "$part" -le "$parts" ]; do
     echo "$part" > "$work/part"
     want=$(sed -n "${part}p" "$work/lines")
-    total=$(TOTAL=1 LD_PRELOAD=$work/refuse.so "$program" < "$work/part" 2>&1 > "$work/none")
+    total=$($watched TOTAL=1 "$program" < "$work/part" 2>&1 > "$work/none")
     all=$((all + total))
     first=1
     while [ "$first" -le "$processors" ]; do
