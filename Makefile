@@ -61,11 +61,14 @@ bin/libecow.so: crates/ecow_c/out/libecow_c.a $(wildcard c/* include/*) tools/li
 
 lib: bin/libecow.so
 
+# A version with the same first two numbers has the same calls, and values of the same sizes.
+LIKE = $(basename $(shell cat VERSION))
+
 install: lib
 	install -d $(DESTDIR)$(PREFIX)/lib/pkgconfig $(DESTDIR)$(PREFIX)/include
 	install -m 644 bin/libecow.a $(DESTDIR)$(PREFIX)/lib
-	install -m 755 bin/libecow.so $(DESTDIR)$(PREFIX)/lib/libecow.so.0
-	ln -sf libecow.so.0 $(DESTDIR)$(PREFIX)/lib/libecow.so
+	install -m 755 bin/libecow.so $(DESTDIR)$(PREFIX)/lib/libecow.so.$(LIKE)
+	ln -sf libecow.so.$(LIKE) $(DESTDIR)$(PREFIX)/lib/libecow.so
 	install -m 644 include/ecow.h include/ecow.hpp $(DESTDIR)$(PREFIX)/include
 	sed 's|^prefix=.*|prefix=$(PREFIX)|' bin/ecow.pc > $(DESTDIR)$(PREFIX)/lib/pkgconfig/ecow.pc
 

@@ -54,7 +54,7 @@ def _path() -> str:
         path = os.path.join(place, "libecow.so")
         if os.path.exists(path):
             return path
-    return ctypes.util.find_library("ecow") or "libecow.so.0"
+    return ctypes.util.find_library("ecow") or "libecow.so.0.7"
 
 
 # A `PyDLL` keeps the interpreter's lock during a call. The counts of owners need that: the garbage
@@ -406,7 +406,7 @@ class List(_Items, typing.MutableSequence[int]):
     """A list of numbers from -2^63 to 2^63 - 1. Iteration is over a copy."""
 
     __slots__ = ()
-    _calls = _Calls("list", 2, ctypes.c_int64)
+    _calls = _Calls("list", 1, ctypes.c_int64)
     _width = 8
 
     def __init__(self, numbers: typing.Iterable[int] = ()) -> None:
@@ -432,7 +432,7 @@ class Bytes(_Items, typing.MutableSequence[int]):
     """Bytes, each a number from 0 to 255. Iteration is over a copy."""
 
     __slots__ = ()
-    _calls = _Calls("bytes", 4, ctypes.c_uint8)
+    _calls = _Calls("bytes", 3, ctypes.c_uint8)
 
     def __init__(self, data: typing.Union[bytes, typing.Iterable[int]] = b"") -> None:
         super().__init__(data)
@@ -461,7 +461,7 @@ class Text(_Value):
     Iteration gives the characters of a copy. Slices are those of Python, but count bytes."""
 
     __slots__ = ()
-    _calls = _Calls("text", 4, ctypes.c_uint32)
+    _calls = _Calls("text", 3, ctypes.c_uint32)
 
     def __init__(self, text: typing.Union[str, Text] = "") -> None:
         super().__init__(text)

@@ -23,7 +23,7 @@ run() { # NAME EDITS SOURCE COMPILER FLAGS..
     "$out/$name-sanitized" "$((count / 10))" > /dev/null
 }
 
-cp bin/libecow.so "$out/libecow.so.0"
+cp bin/libecow.so "$out/libecow.so.$(cut -d. -f1,2 VERSION)"
 for compilers in "gcc g++" "clang clang++"; do
     set -- $compilers
     echo "$1:"

@@ -5,9 +5,14 @@ ghost use Rattle.ecow_values.specs.declared.plain.PlainBytes.{PlainBytes};
 ghost use Rattle.ecow_c.specs.Rows.{bytes_row};
 ghost use Rattle.ecow_c.specs.Places.{place_owns};
 
+use ecow_bytes::EcoBytes;
 use std::marker::Model;
+use std::mem::size_of;
 
 mod bytes;
+
+// A value fits the struct `ecow_bytes` of `include/ecow.h`, which has three words.
+const _: () = prove!(size_of::<EcoBytes>() == 24);
 
 /// A pointer to an `EcoBytes` in C's memory, or null. C passes the address of its pointer.
 #[repr(C)]

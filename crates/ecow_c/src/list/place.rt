@@ -4,9 +4,14 @@ ghost use Rattle.std.specs.Coded.{coded_option};
 ghost use Rattle.ecow_c.specs.Rows.{list_row};
 ghost use Rattle.ecow_c.specs.Places.{place_owns};
 
+use ecow_list::EcoVec;
 use std::marker::Model;
+use std::mem::size_of;
 
 mod list;
+
+// A value fits the struct `ecow_list` of `include/ecow.h`, which has one word.
+const _: () = prove!(size_of::<EcoVec<i64>>() == 8);
 
 /// A pointer to an `EcoVec<i64>` in C's memory, or null. C passes the address of its pointer.
 #[repr(C)]

@@ -5,9 +5,14 @@ ghost use Rattle.ecow_values.specs.declared.plain.PlainText.{PlainText};
 ghost use Rattle.ecow_c.specs.Rows.{text_row};
 ghost use Rattle.ecow_c.specs.Places.{place_owns};
 
+use ecow_text::EcoString;
 use std::marker::Model;
+use std::mem::size_of;
 
 mod text;
+
+// A value fits the struct `ecow_text` of `include/ecow.h`, which has three words.
+const _: () = prove!(size_of::<EcoString>() == 24);
 
 /// A pointer to an `EcoString` in C's memory, or null. C passes the address of its pointer.
 #[repr(C)]
