@@ -91,6 +91,7 @@ agree:
 	@cmp examples/first.eco crates/ecow_run/data/first.eco
 	@sed -n '/^first_script =/,/^$$/s/^[ +]*codes "\(.*\)\\n"$$/\1/p' crates/ecow_script/specs/FirstExample.antt | cmp - examples/first.eco
 	@tools/contracts.sh | cmp - docs/CONTRACTS.md
+	@grep -q '"libecow.so.$(LIKE)"' python/ecow.py || { echo "python/ecow.py loads another libecow.so"; exit 1; }
 	@for file in c/examples/first.c c/examples/first.out c/examples/history.c c/examples/interned.cpp python/texts.py; do \
 		case "$$(cat docs/C.md)" in *"$$(cat $$file)"*) ;; *) echo "docs/C.md quotes another $$file"; exit 1;; esac; \
 	done
