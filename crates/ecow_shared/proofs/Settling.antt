@@ -20,7 +20,8 @@ use Rattle.std_alloc.specs.Rc.Ownership.{counter_at}
 use Rattle.std_alloc.proofs.ArcSteps.{Settles, either-Settles}
 use Rattle.ecow_shared.specs.Ownership.{one_weak, value_offset, value_owns, given_back_by, all_owned, value_shared, sole_owns, counted_owns, shared_owns}
 
-module _ (Z T : RattleType) (holds : Z.Denot → Ty → Ptr → Fml) (L : Laws T) {M : Type 1} {𝓤 : Ura M} (𝓛 : Logic 𝓤) (c : Ptr) (x : T.Denot) (l : Lft) (within : Incl l T.lives) where
+module _ (Z T : RattleType) (holds : Z.Denot → Ty → Ptr → Fml) (L : Laws T) {M : Type 1}
+    {𝓤 : Ura M} (𝓛 : Logic 𝓤) (c : Ptr) (x : T.Denot) (l : Lft) (within : Incl l T.lives) where
   abbrev Whole : Fml
   Whole = all_owned Z T holds c x
 
@@ -28,7 +29,8 @@ module _ (Z T : RattleType) (holds : Z.Denot → Ty → Ptr → Fml) (L : Laws T
   seen = value_shared Z T holds c x
 
   lends : Lends 𝓛 Whole seen l
-  lends = Lends-first 𝓛 (value_owns Z T c x) (fex Z.Denot (given_back_by Z T holds c)) seen l (Lends-lies 𝓛 T l (c +ₚ value_offset Z T) x (Shares-less 𝓛 T T.lives l within (L.shares 𝓛) x))
+  lends = Lends-first 𝓛 (value_owns Z T c x) (fex Z.Denot (given_back_by Z T holds c)) seen l
+      (Lends-lies 𝓛 T l (c +ₚ value_offset Z T) x (Shares-less 𝓛 T T.lives l within (L.shares 𝓛) x))
 
   sole_settles : Settles 𝓛 (sole_owns Z T holds c x) (counted_owns Z T holds c x) l
   sole_settles μ q inc =

@@ -11,10 +11,17 @@ invariant_of-self-lent g c =
 
 pub returns : goal.returns
 returns g c =
-    let buffer = c.self.inside.buffer in
+    let code = c.self.inside.buffer.code in
+    let cells = c.self.inside.buffer.cells.bytes in
     let len = c.len-len.result in
-    let within : len ≤ length buffer.cells.bytes = search rules in
-    let front : take len buffer.cells.bytes ≡ c.args.self.now = ap (λ n. take n buffer.cells.bytes) c.len-len.ensures ∙ c.self.view_is in (
-      (refl, λ w. seen-with_front g.row.N buffer.code len buffer.cells.bytes w c.len-len.ensures within ∙ ap (λ bytes. refill (length bytes) bytes w) front),
+    let within : len ≤ length cells = search rules in
+    let counts = c.len-len.ensures in
+    let front : take len cells ≡ c.args.self.now =
+    ap (λ n. take n cells) counts ∙ c.self.view_is in (
+      (
+        refl,
+        λ w. seen-with_front g.row.N code len cells w counts within
+            ∙ ap (λ bytes. refill (length bytes) bytes w) front,
+      ),
       record { writes_back = tt; value = c.front_mut.ensures.value ∙ front },
     )

@@ -9,5 +9,7 @@ returns-clause-ok g c =
     let end = c.len-end.result in
     let within : index ≤ end = search rules in
     let split : end ≡ index + (end - index) = omega arith in
-    rw (← c.self.view_is, c.set_len.ensures.count, c.set_len.ensures.front, c.copy_from_slice.ensures.after, c.copy_within.ensures.after, ← c.len-end.ensures, split)
-    (insert_in_front cells c.args.bytes.now index (end - index) (length c.args.bytes.now) refl (omega arith))
+    rw (← c.self.view_is, c.set_len.ensures.count, c.set_len.ensures.front)
+    (rw (c.copy_from_slice.ensures.after, c.copy_within.ensures.after, ← c.len-end.ensures, split)
+    (insert_in_front cells c.args.bytes.now index (end - index) (length c.args.bytes.now) refl
+    (omega arith)))

@@ -8,7 +8,12 @@ pub returns : goal.returns
 returns g c = record {
   edited = record {
     ok = λ equal. let same = clones_equal _ equal _ _ c.in-Ok.ensures.copies in search rules;
-    kept = record { kept = items_of c.in-Ok.fresh.value; is_kept = inr (search rules); same_length = search rules; edited = search rules };
+    kept = record {
+      kept = items_of c.in-Ok.fresh.value;
+      is_kept = inr (search rules);
+      same_length = search rules;
+      edited = search rules;
+    };
     unchanged = search rules;
     value_returned = search rules;
     capacity = search rules;
