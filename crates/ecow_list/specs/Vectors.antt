@@ -1,8 +1,9 @@
 -- What calls leave of a list of elements.
-use Rattle.std.specs.Prelude.{◌≡◌, ◌⊎◌, ◌+◌, List, [], Option, ◌++◌, length, Result, OnOk, OnErr}
-use Rattle.std.specs.Iterator.{Drains, Yields}
+use Rattle.std.specs.Prelude.{◌≡◌, ◌⊎◌, ◌+◌, List, [], Option, None, Some, ◌++◌, length, Result, OnOk, OnErr}
+use Rattle.std.specs.Iterator.{Drains, Yields, YieldsThen}
 use Rattle.std.specs.List.{AllZip}
 use Rattle.std.specs.Option.{option_map_or}
+use Rattle.std.specs.Result.{MatchResult}
 use Rattle.ecow_base.specs.Clones.{ClonesAreEqual}
 use Rattle.ecow_block.specs.Contents.{Contents}
 
@@ -34,6 +35,14 @@ module _ {C I T : Type 0} (gives : C → I → Type 0) (steps : I → Option T �
   -- P holds of items that it gave first
   abbrev pub SomeFirst : C → (List T → Type 0) → Type 0
   SomeFirst c P = (xs : List T) × GivesFirst c xs × P xs
+
+-- new has old and all items that the iterator gave up to its end; at a refusal it was asked once more
+-- than new has items of it
+abbrev pub ExtendsBy : {I T B E : Type 0} → (I → Option T → I → Type 0) → (B → List T → B → Type 0)
+    → I → B → B → Result (Unit {0}) E → I → Type 0
+ExtendsBy {I} {T} steps extends it old new r rest = (xs : List T) × extends old xs new
+    × MatchResult r (λ _. YieldsThen steps it xs None rest)
+    (λ _. (x : T) × YieldsThen steps it xs (Some x) rest)
 
 -- P holds of the old elements, or of a clone of each
 abbrev pub SomeKept : {T : Type 0} → (T → T → Type 0) → List T → (List T → Type 0) → Type 0

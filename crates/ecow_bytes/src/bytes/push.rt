@@ -3,7 +3,7 @@
 ghost use Rattle.std.specs.Prelude.{◌≡◌, ℕ, List, ◌+◌, ◌<◌, ◌≤◌, ◌↔◌, [], ◌∷◌, ◌++◌, length, true, false, IsOk, IfOk, OnOk, OnErr, IsErrOf};
 ghost use Rattle.std.specs.Iterator.{IsFinite, ExtendsWithItems};
 ghost use Rattle.std.specs.List.{insert_slice};
-ghost use Rattle.ecow_list.specs.Vectors.{Appends, GivesFirst};
+ghost use Rattle.ecow_list.specs.Vectors.{Appends, ExtendsBy, GivesFirst};
 ghost use Rattle.ecow_values.specs.Inline.{inline_after};
 
 use crate::bytes::{Form, SmallBytes};
@@ -96,9 +96,23 @@ impl<const N: usize> SmallBytes<N> {
         ensures free { OnErr result (inline_after N self.new.inline (length self.new.bytes) 1
             ≡ false) }
     {
+        self.extend_from(&mut iter.into_iter())
+    }
+
+    /// Appends what `iter` still gives, as `extend` does.
+    fn extend_from<I: Iterator<Item = u8>>(&mut self, iter: &mut I) -> Result<(), EcoError>
+        requires ends { I.can_next iter.old × IsFinite (I.remaining iter.old) }
+        ensures bytes { ExtendsBy I.next_gives Appends iter.old
+            self.old.bytes self.new.bytes result iter.new }
+        ensures mode { self.new.inline ≡ inline_after N self.old.inline (length self.new.bytes) 0 }
+        ensures capacity { OnErr result (IsErrOf result EcoError.Capacity
+            ↔ (MAX_LEN ≤ length self.new.bytes)) }
+        ensures free { OnErr result (inline_after N self.new.inline (length self.new.bytes) 1
+            ≡ false) }
+    {
         // For the proof alone: inline bytes are at most `N`.
         let _len = self.len();
-        for byte in iter {
+        while let Some(byte) = iter.next() {
             self.push(byte)?;
         }
         Ok(())

@@ -3,7 +3,7 @@ ghost use Rattle.std.specs.Prelude.{◌≡◌, ◌≢◌, ◌+◌, ◌<◌, ◌�
 ghost use Rattle.std.specs.Iterator.{IsFinite, ExtendsWithItems};
 ghost use Rattle.std.specs.List.{AllZip};
 ghost use Rattle.ecow_base.specs.Clones.{ClonesAreEqual};
-ghost use Rattle.ecow_list.specs.Vectors.{Appends, GivesFirst, GivesItems, IsKept, Lengthens, SomeFirst};
+ghost use Rattle.ecow_list.specs.Vectors.{Appends, ExtendsBy, GivesFirst, GivesItems, IsKept, Lengthens, SomeFirst};
 
 use crate::error::{EcoError, Rejected};
 use crate::iter::IntoIter;
@@ -200,7 +200,20 @@ impl<T: Clone> EcoVec<T> {
         ensures capacity { OnErr result
             (IsErrOf result EcoError.Capacity ↔ (MAX_LEN ≤ length self.new)) }
     {
-        for item in iter {
+        self.extend_from(&mut iter.into_iter())
+    }
+
+    /// Appends what `iter` still gives, as `extend` does.
+    fn extend_from<I: Iterator<Item = T>>(&mut self, iter: &mut I) -> Result<(), EcoError>
+        requires ends { I.can_next iter.old × IsFinite (I.remaining iter.old) }
+        ensures ok { ClonesAreEqual T.is_clone
+            → ExtendsBy I.next_gives Appends iter.old self.old self.new result iter.new }
+        ensures len { ExtendsBy I.next_gives Lengthens
+            iter.old self.old self.new result iter.new }
+        ensures capacity { OnErr result
+            (IsErrOf result EcoError.Capacity ↔ (MAX_LEN ≤ length self.new)) }
+    {
+        while let Some(item) = iter.next() {
             if let Err(rejected) = self.push(item) {
                 return Err(rejected.error);
             }

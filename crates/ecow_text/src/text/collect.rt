@@ -2,8 +2,8 @@
 ghost use Rattle.std.specs.Prelude.{◌≡◌, ℕ, List, ◌+◌, ◌<◌, ◌↔◌, ◌++◌, length, false, IfOk, OnOk, OnErr, IsErrOf};
 ghost use Rattle.std.specs.Borrow.{Bor};
 ghost use Rattle.std.specs.Str.{chars};
-ghost use Rattle.std.specs.Iterator.{IsFinite, ExtendsWithItems};
-ghost use Rattle.ecow_list.specs.Vectors.{Appends, GivesFirst, GivesItems};
+ghost use Rattle.std.specs.Iterator.{IsFinite, ExtendsWithItems, Yields};
+ghost use Rattle.ecow_list.specs.Vectors.{Appends, ExtendsBy, GivesFirst, GivesItems};
 ghost use Rattle.ecow_values.specs.Inline.{inline_after, inline_for};
 ghost use Rattle.ecow_values.specs.Utf8.{utf8_len};
 ghost use Rattle.ecow_values.specs.declared.plain.PlainText.{PlainText};
@@ -101,7 +101,7 @@ impl<const N: usize> SmallText<N> {
             × (IsErrOf result EcoError.Capacity ↔ (MAX_LEN < utf8_len (joined_texts items)))) }
     {
         let mut made = Self::new(alloc);
-        made.extend_texts(iter)?;
+        made.extend_from_texts(&mut iter.into_iter())?;
         Ok(made)
     }
 
@@ -124,9 +124,25 @@ impl<const N: usize> SmallText<N> {
             × (inline_after N self.old.inline (utf8_len (self.old.chars ++ items)) 0 ≡ false)
             × (IsErrOf result EcoError.Capacity ↔ (MAX_LEN < utf8_len (self.old.chars ++ items)))) }
     {
+        self.extend_from_chars(&mut iter.into_iter())
+    }
+
+    /// Appends what `iter` still gives, as `extend_chars` does.
+    fn extend_from_chars<I: Iterator<Item = char>>(&mut self, iter: &mut I) -> Result<(), EcoError>
+        requires ends { I.can_next iter.old × IsFinite (I.remaining iter.old) }
+        ensures chars { ExtendsBy I.next_gives Appends iter.old
+            self.old.chars self.new.chars result iter.new }
+        ensures mode { self.new.inline
+            ≡ inline_after N self.old.inline (utf8_len self.new.chars) 0 }
+        ensures refused { OnErr result ((items : List ℕ)
+            × Yields I.next_gives iter.old items iter.new
+            × (length self.new.chars + 1 ≡ length self.old.chars + length items)
+            × (inline_after N self.old.inline (utf8_len (self.old.chars ++ items)) 0 ≡ false)
+            × (IsErrOf result EcoError.Capacity ↔ (MAX_LEN < utf8_len (self.old.chars ++ items)))) }
+    {
         // For the proof alone: an inline text has at most `N` bytes.
         let _len = self.len();
-        for c in iter {
+        while let Some(c) = iter.next() {
             self.push(c)?;
         }
         Ok(())
@@ -157,24 +173,22 @@ impl<const N: usize> SmallText<N> {
             ↔ (MAX_LEN < utf8_len (self.old.chars ++ joined_strs items)))
             × LeavesLastOut (λ text. chars text.now) self.old.chars items self.new.chars) }
     {
-        self.extend_texts(iter)?;
-        Ok(())
+        self.extend_from_texts(&mut iter.into_iter())
     }
 
-    /// What `extend_strs` and `from_eco_strings` share.
-    fn extend_texts<T: Joined, I: IntoIterator<Item = T>>(
+    /// Appends what `iter` still gives, as `extend_strs` does.
+    fn extend_from_texts<T: Joined, I: Iterator<Item = T>>(
         &mut self,
-        iter: I,
+        iter: &mut I,
     ) -> Result<(), EcoError>
-        requires { (it : I.IntoIter) → I.into_iter_gives iter it → I.IntoIter.can_next it
-            × IsFinite (I.IntoIter.remaining it) }
-        ensures chars { ExtendsWithItems I.into_iter_gives I.IntoIter.next_gives
-            (AppendsBy T.text_of) iter self.old.chars self.new.chars result }
+        requires ends { I.can_next iter.old × IsFinite (I.remaining iter.old) }
+        ensures chars { ExtendsBy I.next_gives (AppendsBy T.text_of) iter.old
+            self.old.chars self.new.chars result iter.new }
         ensures mode { self.new.inline
             ≡ inline_after N self.old.inline (utf8_len self.new.chars) 0 }
         ensures refused { OnErr result
             ((items : List T)
-            × GivesFirst I.into_iter_gives I.IntoIter.next_gives iter items
+            × Yields I.next_gives iter.old items iter.new
             × (inline_after N self.old.inline
             (utf8_len (self.old.chars ++ joined_by T.text_of items)) 0 ≡ false)
             × (IsErrOf result EcoError.Capacity
@@ -183,7 +197,7 @@ impl<const N: usize> SmallText<N> {
     {
         // For the proof alone: an inline text has at most `N` bytes.
         let _len = self.len();
-        for text in iter {
+        while let Some(text) = iter.next() {
             self.push_next(text.text())?;
         }
         Ok(())

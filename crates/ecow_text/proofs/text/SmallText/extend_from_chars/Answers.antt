@@ -2,23 +2,26 @@ use Rattle.std.proofs.Common.{◌≡◌, ◌+◌, length, ◌∷◌, ◌++◌, [
 use Rattle.std.specs.Char.{len_utf8}
 use Rattle.std.proofs.lemmas.Result.{err_from_is_err_and}
 use Rattle.ecow_values.specs.Utf8.{utf8_len}
-use Rattle.ecow_list.proofs.Fronts.{one_more, on_err}
+use Rattle.std.proofs.iter.Next.{Yields-more}
+use Rattle.ecow_list.proofs.Fronts.{on_err}
 use Rattle.ecow_text.proofs.Limits.{stays}
 use Rattle.ecow_text.proofs.Steps.{one_char_more}
-use Rattle.ecow_text.proofs.text.SmallText.extend_chars.Goals as goal
+use Rattle.ecow_text.proofs.text.SmallText.extend_from_chars.Goals as goal
 
 pub loop-c-preserved : goal.loop-c-preserved
 loop-c-preserved g c =
     let now = c.loop-c.self in
     let x = c.in-Some.c in
-    let given = c.in_ok-push.ensures in (
+    let given = c.in_ok-push.ensures in
+    let goes = c.in-Some.ensures.goes.on c.loop-c.invariant.3 in (
       given.chars ∙ ap (λ l. l ++ x ∷ []) c.loop-c.invariant.0 ∙ append_assoc c.args.self.now.chars c.loop-c.yielded (x ∷ []),
       given.mode ∙ stays g.row.N c.args.self.now.inline now.inline (utf8_len now.chars) (len_utf8 x) _ c.loop-c.invariant.1 (ap utf8_len given.chars ∙ one_char_more now.chars x),
+      goes.0,
+      goes.1,
     )
 
 pub returns-in_err-push-clause-refused : goal.returns-in_err-push-clause-refused
 returns-in_err-push-clause-refused g c =
-    let it = c.into_iter-c-iterator in
     let old = c.args.self.now in
     let now = c.loop-c.self in
     let xs = c.loop-c.yielded in
@@ -32,7 +35,7 @@ returns-in_err-push-clause-refused g c =
     let p = err_from_is_err_and c.from_residual.result c.from_residual.ensures.1 in
     on_err c.from_residual.result (
       xs ++ x ∷ [],
-      one_more g.I.IntoIterator.into_iter_gives g.I.IntoIter.Iterator.next_gives c.args.iter it.result xs c.loop-c.c-iterator x c.next.new.self it.ensures.into_iter_gives c.loop-c.yielded_by c.in-Some.ensures.steps,
+      Yields-more g.I.Iterator.next_gives c.args.iter.now xs c.loop-c.iter x c.next.new.self c.loop-c.yielded_by c.in-Some.ensures.steps,
       omega arith,
       sym (stays g.row.N old.inline now.inline (utf8_len now.chars) (len_utf8 x) _ c.loop-c.invariant.1 whole) ∙ given.free,
       rw (p.1, p.2, whole) given.capacity,

@@ -1,15 +1,15 @@
 use Rattle.std.proofs.Common.{◌≡◌, ◌+◌, length, ◌∷◌, ◌++◌, [], refl, sym, ap, ◌∙◌}
 use Rattle.std.proofs.lemmas.Result.{err_from_is_err_and}
 use Rattle.ecow_values.specs.Utf8.{utf8_len}
-use Rattle.ecow_list.proofs.Fronts.{one_more, on_err}
+use Rattle.std.proofs.iter.Next.{Yields-more}
+use Rattle.ecow_list.proofs.Fronts.{on_err}
 use Rattle.ecow_text.specs.Appends.{joined_by}
 use Rattle.ecow_text.proofs.Joined.{joined_by_more}
 use Rattle.ecow_text.proofs.Limits.{stays}
-use Rattle.ecow_text.proofs.text.SmallText.extend_texts.Goals as goal
+use Rattle.ecow_text.proofs.text.SmallText.extend_from_texts.Goals as goal
 
 pub returns-in_err-push_next-clause-refused : goal.returns-in_err-push_next-clause-refused
 returns-in_err-push_next-clause-refused g c =
-    let it = c.into_iter-text-iterator in
     let old = c.args.self.now in
     let now = c.loop-text.self in
     let xs = c.loop-text.yielded in
@@ -20,7 +20,7 @@ returns-in_err-push_next-clause-refused g c =
     let p = err_from_is_err_and c.from_residual.result c.from_residual.ensures.1 in
     on_err c.from_residual.result (
       xs ++ x ∷ [],
-      one_more g.I.IntoIterator.into_iter_gives g.I.IntoIter.Iterator.next_gives c.args.iter it.result xs c.loop-text.text-iterator x c.next.new.self it.ensures.into_iter_gives c.loop-text.yielded_by c.in-Some.ensures.steps,
+      Yields-more g.I.Iterator.next_gives c.args.iter.now xs c.loop-text.iter x c.next.new.self c.loop-text.yielded_by c.in-Some.ensures.steps,
       sym (stays g.row.N old.inline now.inline (utf8_len now.chars) (length c.text.result.now) _ c.loop-text.invariant.1 whole) ∙ given.free,
       rw (p.1, p.2, whole) given.capacity,
       (xs, x, refl, ap (λ t. t.chars) given.unchanged ∙ c.loop-text.invariant.0),
