@@ -1,15 +1,17 @@
 /* The calls of the header over those of the proved library. Nothing here is proved: it takes the
- * address of each pointer, tells arrays and results that are null, two pointers to one value, and
- * arrays that lie in the value that is changed. */
+ * address of each pointer, tells arrays and results that are null, two pointers to one value,
+ * arrays that overlap the value that is changed, and arrays that no memory holds. */
 #include "proved.h"
-
-#include <string.h>
 
 /* Where an array of no items begins. */
 static const int64_t nothing[1] = {0};
 
-static bool lies_in(const void *at, const void *start, size_t size) {
-    return (uintptr_t)at - (uintptr_t)start < size;
+/* No memory holds as many items. */
+#define PAST_MEMORY ((size_t)1 << 60)
+
+static bool overlap(const void *left, size_t left_size, const void *right, size_t right_size) {
+    return (uintptr_t)left - (uintptr_t)right < right_size
+           || (uintptr_t)right - (uintptr_t)left < left_size;
 }
 
 const char *ecow_status_text(ecow_status status) {
@@ -36,36 +38,42 @@ const char *ecow_status_text(ecow_status status) {
 #define ITEM int64_t
 #define CALL(name) ecow_list_##name
 #define PROVED(name) ecow_proved_list_##name
+#define CAN_CUT(value, index) true
 #include "values.h"
 #include "items.h"
 #undef VALUE
 #undef ITEM
 #undef CALL
 #undef PROVED
+#undef CAN_CUT
 
 #define VALUE ecow_bytes
 #define ITEM uint8_t
 #define CALL(name) ecow_bytes_##name
 #define PROVED(name) ecow_proved_bytes_##name
+#define CAN_CUT(value, index) true
 #include "values.h"
 #include "items.h"
 #undef VALUE
 #undef ITEM
 #undef CALL
 #undef PROVED
+#undef CAN_CUT
 
 #define VALUE ecow_text
 #define ITEM char
 #define CALL(name) ecow_text_##name
 #define PROVED(name) ecow_proved_text_##name
+#define CAN_CUT ecow_text_is_boundary
 #include "values.h"
 #undef VALUE
 #undef ITEM
 #undef CALL
 #undef PROVED
+#undef CAN_CUT
 
 bool ecow_is_utf8(const char *bytes, size_t count) {
-    if (!bytes || count > PTRDIFF_MAX) {
+    if (!bytes || count >= PAST_MEMORY) {
         return count == 0;
     }
     return ecow_proved_is_utf8(bytes, count);
@@ -93,7 +101,7 @@ ecow_status ecow_text_pop(ecow_text *text, uint32_t *character) {
 
 ecow_status ecow_text_insert(ecow_text *text, size_t index, const char *added, size_t count) {
     ecow_text_array array;
-    ecow_status status = ecow_text_keep(&array, text, added, count);
+    ecow_status status = ecow_text_keep(&array, text, index, index, added, count);
     if (status == ECOW_OK) {
         status = ecow_proved_text_insert(&text, index, array.items, count);
     }
@@ -109,8 +117,14 @@ ecow_status ecow_text_remove(ecow_text *text, size_t index, uint32_t *character)
 ecow_status ecow_text_replace(ecow_text *text, const char *pattern, size_t pattern_count,
                               const char *replacement, size_t replacement_count) {
     ecow_text_array from, to;
-    ecow_status status = ecow_text_keep(&from, text, pattern, pattern_count);
-    ecow_status other = ecow_text_keep(&to, text, replacement, replacement_count);
+    if (!text || (!pattern && pattern_count) || (!replacement && replacement_count)) {
+        return ECOW_NULL;
+    }
+    if (pattern_count >= PAST_MEMORY || replacement_count >= PAST_MEMORY) {
+        return ECOW_MEMORY;
+    }
+    ecow_status status = ecow_text_keep(&from, text, 0, 0, pattern, pattern_count);
+    ecow_status other = ecow_text_keep(&to, text, 0, 0, replacement, replacement_count);
     if (status == ECOW_OK) {
         status = other;
     }

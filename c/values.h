@@ -1,8 +1,9 @@
 /* The calls that the three kinds of value have in common. It is included once for each:
- *     VALUE          the type of the value
- *     ITEM           the type of an item of its arrays
- *     CALL(name)     a call of the header
- *     PROVED(name)   a call of the proved library */
+ *     VALUE                   the type of the value
+ *     ITEM                    the type of an item of its arrays
+ *     CALL(name)              a call of the header
+ *     PROVED(name)            a call of the proved library
+ *     CAN_CUT(value, index)   whether an index isn't inside a character */
 
 VALUE CALL(new)(void) {
     VALUE value = {{0}};
@@ -59,40 +60,53 @@ uint64_t CALL(hash)(const VALUE *value) {
     return PROVED(hash)(&place);
 }
 
-/* An array that a call was given, as it stays while the value changes: items in the value itself
- * are copied, and a clone holds those in its memory. */
+/* What a call answers of an array that no memory holds, put in place of a range. */
+static ecow_status CALL(refuse)(const VALUE *value, size_t start, size_t end, size_t count) {
+    size_t len = CALL(len)(value);
+    if (start > end || end > len) {
+        return ECOW_INDEX;
+    }
+    if (!CAN_CUT(value, start) || !CAN_CUT(value, end)) {
+        return ECOW_BOUNDARY;
+    }
+    return count > PTRDIFF_MAX - (len - (end - start)) ? ECOW_CAPACITY : ECOW_MEMORY;
+}
+
+/* An array that a call was given, as it stays while the value changes. */
 typedef struct CALL(array) {
     const ITEM *items;
-    ITEM copied[sizeof(VALUE) / sizeof(ITEM)];
     VALUE held;
 } CALL(array);
 
-static ecow_status CALL(keep)(CALL(array) * array, const VALUE *value, const ITEM *items,
-                              size_t count) {
+/* Keeps an array that is put in place of a range. One that overlaps the value itself is copied, and
+ * a clone holds one in the value's memory. */
+static ecow_status CALL(keep)(CALL(array) * array, const VALUE *value, size_t start, size_t end,
+                              const ITEM *items, size_t count) {
+    VALUE *held = &array->held;
     size_t len;
-    const ITEM *start = CALL(slice)(value, &len);
+    const ITEM *all = CALL(slice)(value, &len);
     array->items = items ? items : (const ITEM *)nothing;
     array->held = CALL(new)();
-    if (!items && count) {
+    if (!value || (!items && count)) {
         return ECOW_NULL;
     }
-    if (count > PTRDIFF_MAX / sizeof(ITEM)) {
-        return ECOW_CAPACITY;
+    if (count >= PAST_MEMORY) {
+        return CALL(refuse)(value, start, end, count);
     }
-    if (!count || !lies_in(items, start, len * sizeof(ITEM))) {
-        return ECOW_OK;
+    if (overlap(items, count * sizeof(ITEM), value, sizeof(VALUE))) {
+        ecow_status status = PROVED(assign)(&held, items, count);
+        array->items = CALL(slice)(held, NULL);
+        return status;
     }
-    if (!lies_in(start, value, sizeof(VALUE))) {
-        return CALL(clone)(&array->held, value);
+    if (overlap(items, count * sizeof(ITEM), all, len * sizeof(ITEM))) {
+        return CALL(clone)(held, value);
     }
-    memcpy(array->copied, items, count * sizeof(ITEM));
-    array->items = array->copied;
     return ECOW_OK;
 }
 
 ecow_status CALL(assign)(VALUE *value, const ITEM *items, size_t count) {
     CALL(array) array;
-    ecow_status status = CALL(keep)(&array, value, items, count);
+    ecow_status status = CALL(keep)(&array, value, 0, CALL(len)(value), items, count);
     if (status == ECOW_OK) {
         status = PROVED(assign)(&value, array.items, count);
     }
@@ -102,7 +116,8 @@ ecow_status CALL(assign)(VALUE *value, const ITEM *items, size_t count) {
 
 ecow_status CALL(extend)(VALUE *value, const ITEM *items, size_t count) {
     CALL(array) array;
-    ecow_status status = CALL(keep)(&array, value, items, count);
+    size_t len = CALL(len)(value);
+    ecow_status status = CALL(keep)(&array, value, len, len, items, count);
     if (status == ECOW_OK) {
         status = PROVED(extend)(&value, array.items, count);
     }
@@ -112,7 +127,7 @@ ecow_status CALL(extend)(VALUE *value, const ITEM *items, size_t count) {
 
 ecow_status CALL(splice)(VALUE *value, size_t start, size_t end, const ITEM *items, size_t count) {
     CALL(array) array;
-    ecow_status status = CALL(keep)(&array, value, items, count);
+    ecow_status status = CALL(keep)(&array, value, start, end, items, count);
     if (status == ECOW_OK) {
         status = PROVED(splice)(&value, start, end, array.items, count);
     }

@@ -9,12 +9,18 @@
  * copies what it must first, so no other value sees it.
  *
  * Answers. A call that changes a value answers an `ecow_status`. Unless that is `ECOW_OK`, the
- * value is as it was, and nothing is written to the other pointers.
+ * value is as it was, and nothing is written to the other pointers. Where several refusals apply,
+ * the first of these is answered: a null value, a null array, `ECOW_UTF8`, `ECOW_INDEX`,
+ * `ECOW_BOUNDARY`, `ECOW_CAPACITY`. `ECOW_MEMORY` may stand in place of any but `ECOW_NULL`.
  *
  * Pointers. A null pointer is answered, never followed: `ECOW_NULL` by each call that answers a
  * status, and else what an empty value would give. An array may be null where its count is 0, and
- * a pointer for a result where the result isn't wanted. An array may lie in the value that a call
- * changes. Any other pointer has to be one at which a value, an array or a result lies.
+ * a pointer for a result where the result isn't wanted. Any other pointer has to be one at which a
+ * value, an array or a result lies.
+ *
+ * Arrays. An array may lie in the value that a call changes, or overlap its struct. One of 2^60
+ * items or more isn't read, since no memory holds it: `ECOW_CAPACITY` where the length would pass
+ * 2^63 - 1, and else `ECOW_MEMORY`. `ecow_text_replace` answers it with `ECOW_MEMORY` alone.
  *
  * Lifetimes. What a `_slice` returns stays valid until the next call that changes or drops that
  * value, or until the value is moved. It is never null.
@@ -196,7 +202,7 @@ uint64_t ecow_bytes_hash(const ecow_bytes *bytes);
  * ends. A character is given by its number (a Unicode scalar value). Texts are given by their
  * bytes, which need no 0 at their end: ECOW_UTF8 where they aren't UTF-8. */
 
-/* Whether the bytes are UTF-8; not so of a null pointer, unless `count` is 0. */
+/* Whether the bytes are UTF-8; not so of 2^60 or more, or of a null pointer unless `count` is 0. */
 bool ecow_is_utf8(const char *bytes, size_t count);
 
 /* An empty text. */
@@ -281,20 +287,20 @@ uint64_t ecow_text_hash(const ecow_text *text);
 /* ---- The library's own ---- */
 
 /* Two calls that are short enough to be expanded where they stand. */
-#define ECOW_EXPANDED(kind)                                                                        \
-    ecow_status ecow_proved_##kind##_clone(ecow_##kind **from, ecow_##kind **to);                  \
-    ecow_status ecow_proved_##kind##_drop(ecow_##kind **value);                                    \
-                                                                                                   \
-    inline void ecow_##kind##_drop(ecow_##kind *kind) {                                            \
-        (void)ecow_proved_##kind##_drop(&kind);                                                    \
-    }                                                                                              \
-                                                                                                   \
-    inline ecow_status ecow_##kind##_clone(ecow_##kind *to, const ecow_##kind *from) {             \
-        ecow_##kind *source = (ecow_##kind *)from;                                                 \
-        if (to == source) {                                                                        \
-            return to ? ECOW_OK : ECOW_NULL;                                                       \
-        }                                                                                          \
-        return ecow_proved_##kind##_clone(&source, &to);                                           \
+#define ECOW_EXPANDED(kind)                                                            \
+    ecow_status ecow_proved_##kind##_clone(ecow_##kind **from, ecow_##kind **to);      \
+    ecow_status ecow_proved_##kind##_drop(ecow_##kind **value);                        \
+                                                                                       \
+    inline void ecow_##kind##_drop(ecow_##kind *kind) {                                \
+        (void)ecow_proved_##kind##_drop(&kind);                                        \
+    }                                                                                  \
+                                                                                       \
+    inline ecow_status ecow_##kind##_clone(ecow_##kind *to, const ecow_##kind *from) { \
+        ecow_##kind *source = (ecow_##kind *)from;                                     \
+        if (to == source) {                                                            \
+            return to ? ECOW_OK : ECOW_NULL;                                           \
+        }                                                                              \
+        return ecow_proved_##kind##_clone(&source, &to);                               \
     }
 
 ECOW_EXPANDED(list)

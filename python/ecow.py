@@ -33,14 +33,21 @@ _Kind = typing.TypeVar("_Kind", bound="_Value")
 _MOST = ctypes.c_size_t(-1).value
 # The most bytes that `ctypes.string_at` copies: it takes its size as an `int`.
 _MOST_AT_ONCE = 2**31 - 1
+# The statuses of `ecow.h`.
+_OK = 0
+_MEMORY = 1
+_CAPACITY = 2
+_INDEX = 3
 _BOUNDARY = 4
+_UTF8 = 5
+_NULL = 6
 _ERRORS = {
-    1: MemoryError,
-    2: OverflowError,
-    3: IndexError,
+    _MEMORY: MemoryError,
+    _CAPACITY: OverflowError,
+    _INDEX: IndexError,
     _BOUNDARY: ValueError,
-    5: UnicodeError,
-    6: ValueError,
+    _UTF8: UnicodeError,
+    _NULL: ValueError,
 }
 
 
@@ -67,8 +74,8 @@ _library.ecow_is_utf8.restype = ctypes.c_bool
 
 
 def _check(status: int, *_call: typing.Any) -> None:
-    """Raises the error of a status, unless it is 0."""
-    if status:
+    """Raises the error of a status, unless the call was done."""
+    if status != _OK:
         raise _ERRORS[status](_library.ecow_status_text(status).decode())
 
 

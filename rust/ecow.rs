@@ -8,6 +8,7 @@ use std::ptr::{null, null_mut};
 type Status = c_int;
 
 const OK: Status = 0;
+const MEMORY: Status = 1;
 const CAPACITY: Status = 2;
 const INDEX: Status = 3;
 const BOUNDARY: Status = 4;
@@ -212,6 +213,7 @@ fn lists(checks: &mut u32) {
             ecow_list_extend(&mut list, ecow_list_slice(&list, null_mut()), 3) == OK,
             ecow_list_splice(&mut list, 1, 5, null(), 0) == OK && ecow_list_len(&list) == 2,
             ecow_list_reserve(&mut list, usize::MAX) == CAPACITY,
+            ecow_list_reserve(&mut list, 1 << 62) == MEMORY && ecow_list_len(&list) == 2,
             ecow_list_truncate(&mut list, 1) == OK && ecow_list_len(&list) == 1,
             *ecow_list_slice(&list, &mut len) == 1 && len == 1,
             ecow_list_clear(&mut list) == OK && ecow_list_pop(&mut list, null_mut()) == INDEX,

@@ -1,6 +1,6 @@
 #!/bin/sh
-# Tests the library for C, which `make lib` has left in bin/, from C, C++, Python and Rust: tools/c_test.sh [EDITS].
-# Needs gcc and clang with g++ and clang++, valgrind, python3 and rustc.
+# Tests the library for C, which `make lib` has left in bin/, from C, C++, Python and Rust, beside what
+# tools/c_short.sh does: tools/c_test.sh [EDITS]. Needs gcc and clang with g++ and clang++, valgrind, python3 and rustc.
 set -eu
 cd "$(dirname "$0")/.."
 edits=${1:-1000000}
@@ -9,6 +9,8 @@ trap 'rm -rf "$out"' EXIT
 warnings="-Wall -Wextra -Wpedantic -Werror"
 checked="valgrind -q --leak-check=full --error-exitcode=1"
 sanitized="-g -fsanitize=address,undefined -fno-sanitize-recover=all"
+# A request for more than the sanitizer gives is refused, as any other.
+export ASAN_OPTIONS=allocator_may_return_null=1
 
 # A test by a compiler: as it is, under valgrind, with the shared library, and under the sanitizers.
 run() { # NAME EDITS SOURCE COMPILER FLAGS..
@@ -29,22 +31,9 @@ for compilers in "gcc g++" "clang clang++"; do
     echo "$1:"
     "$1" -std=c11 $warnings $sanitized -Iinclude -c c/ecow.c -o "$out/ecow.o"
     run calls "$edits" c/tests/calls.c "$1" -std=c11
+    run arrays "$edits" c/tests/arrays.c "$1" -std=c11
     run edits "$edits" c/tests/edits.c "$1" -std=c11
     run test "$((edits / 5))" c/tests/test.cpp "$2" -std=c++20
-done
-
-# Each request for memory is refused in turn.
-tools/shim.sh "$out/refuse.so"
-cc -std=c11 -O2 -Iinclude c/tests/edits.c bin/libecow.a -o "$out/edits"
-c++ -std=c++20 -O2 -Iinclude c/tests/test.cpp bin/libecow.a -o "$out/test"
-for refused in "edits 300" "test 30"; do
-    total=$(TOTAL=1 LD_PRELOAD="$out/refuse.so" $out/$refused 2>&1 > /dev/null)
-    number=0
-    while [ "$number" -lt "$total" ]; do
-        number=$((number + 1))
-        REFUSE=$number LD_PRELOAD="$out/refuse.so" $out/$refused > /dev/null
-    done
-    echo "refused in turn: $total requests"
 done
 
 # The examples of docs/C.md.

@@ -19,6 +19,11 @@ static long checks;
         }                                                               \
     } while (0)
 
+/* Has standard output ask for no memory, so that what a test leaves at its end is the library's. */
+static inline void take_no_buffer(void) {
+    setvbuf(stdout, NULL, _IONBF, 0);
+}
+
 /* The next number of a sequence (xorshift). */
 static uint64_t next_number(uint64_t *seed) {
     *seed ^= *seed << 13;

@@ -363,6 +363,7 @@ int main(int argc, char **argv) {
     static ecow_bytes bytes[VALUES];
     static ecow_text texts[VALUES];
     static array of_lists[VALUES], of_bytes[VALUES], of_texts[VALUES];
+    take_no_buffer();
     for (long edit = 0; edit < edits; edit++) {
         edit_list(lists, of_lists, &seed);
         edit_bytes(bytes, of_bytes, &seed);

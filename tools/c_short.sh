@@ -1,0 +1,112 @@
+#!/bin/sh
+# Tests the library for C, which is in bin/, in less than a minute: with a C compiler ($CC, or cc), and with each of
+# nm, pkg-config, C++20, python3 and valgrind that is there. The last line says which were.
+set -eu
+cd "$(dirname "$0")/.."
+cc=${CC:-cc}
+cxx=${CXX:-c++}
+out=$(mktemp -d)
+trap 'rm -rf "$out"' EXIT
+export LC_ALL=C
+with= without=
+
+# Whether a program is there: has NAME COMMAND.., which is tried.
+has() {
+    name=$1
+    shift
+    if "$@" > /dev/null 2>&1; then with="$with, $name"; else without="$without, $name"; return 1; fi
+}
+
+# Runs a test that says nothing on standard error.
+silent() {
+    status=0
+    "$@" 2> "$out/said" || status=$?
+    cat "$out/said" >&2
+    [ "$status" -eq 0 ] && [ ! -s "$out/said" ]
+}
+
+# The library that counts requests or refuses them, and says at the end what wasn't given back.
+tools/shim.sh "$out/shim.so"
+watched="env LEFT=1 LD_PRELOAD=$out/shim.so"
+
+for test in calls arrays edits costs; do
+    $cc -std=c11 -O2 -Iinclude "c/tests/$test.c" bin/libecow.a -o "$out/$test"
+done
+silent $watched "$out/calls"
+silent $watched "$out/arrays"
+silent $watched "$out/edits" 100000
+
+# What calls ask for.
+$watched COUNT=1 "$out/costs" > "$out/rows" 2> "$out/counts" || { cat "$out/counts"; exit 1; }
+paste -d ' ' "$out/rows" "$out/counts" | diff c/tests/costs.out - || {
+    echo "c/tests/costs.out (<) and what was counted (>) differ"
+    exit 1
+}
+
+# Each request for memory is refused in turn.
+refuse_each() { # PROGRAM EDITS SETTING.., of the library that refuses
+    run="$out/$1 $2"
+    shift 2
+    total=$(env TOTAL=1 LD_PRELOAD="$out/shim.so" $run 2>&1 > /dev/null)
+    number=0
+    while [ "$number" -lt "$total" ]; do
+        number=$((number + 1))
+        silent env "$@" REFUSE=$number LD_PRELOAD="$out/shim.so" $run > /dev/null || {
+            echo "request $number of $run"
+            exit 1
+        }
+    done
+    echo "refused in turn: $total requests"
+}
+refuse_each edits 1000 LEFT=1
+
+# The shared library's names are those that the header declares.
+if has nm nm --version; then
+    {
+        sed -n 's/^[a-z].*[ *]\(ecow_[a-z0-9_]*\)(.*/\1/p' include/ecow.h
+        for kind in list bytes text; do
+            printf '%s\n' "ecow_proved_${kind}_clone" "ecow_proved_${kind}_drop"
+        done
+    } | sort > "$out/declared"
+    nm -D --defined-only bin/libecow.so | sed 's/.* //' | sort | diff "$out/declared" - || {
+        echo "include/ecow.h (<) and bin/libecow.so (>) have other names"
+        exit 1
+    }
+fi
+
+# What is installed compiles and runs the first program, with the shared library and with the other one.
+prefix=$out/prefix
+described=$prefix/lib/pkgconfig/ecow.pc
+make --no-print-directory install PREFIX="$prefix" > /dev/null
+for header in ecow.h ecow.hpp; do cmp "include/$header" "$prefix/include/$header"; done
+grep -qx "Version: $(cat VERSION)" "$described" || { echo "ecow.pc has another version"; exit 1; }
+if has pkg-config pkg-config --version; then
+    flags=$(PKG_CONFIG_PATH=${described%/*} pkg-config --cflags --libs ecow)
+else
+    eval "$(grep '^[a-z]*=' "$described")"
+    eval "flags=\"$(sed -n 's/^Cflags: //p; s/^Libs: //p' "$described" | tr '\n' ' ')\""
+fi
+cp c/examples/first.c "$out"
+$cc "$out/first.c" $flags -Wl,-rpath,"$prefix/lib" -o "$out/first-shared"
+$cc "$out/first.c" -I"$prefix/include" "$prefix/lib/libecow.a" -o "$out/first-static"
+for program in first-shared first-static; do "$out/$program" | cmp - c/examples/first.out; done
+rm "$prefix"/lib/libecow.so*
+if "$out/first-shared" > /dev/null 2>&1; then
+    echo "the flags of ecow.pc don't link the shared library"
+    exit 1
+fi
+
+if has C++20 $cxx -std=c++20 -fsyntax-only -include compare -x c++ /dev/null; then
+    $cxx -std=c++20 -O2 -Iinclude c/tests/test.cpp bin/libecow.a -o "$out/test"
+    "$out/test" 20000
+    refuse_each test 30
+fi
+if has python3 python3 -c 'import ctypes'; then
+    ECOW_LIBRARY=bin/libecow.so python3 python/test_ecow.py 2000
+fi
+if has valgrind valgrind --version; then
+    for run in calls arrays "edits 500"; do
+        valgrind -q --leak-check=full --error-exitcode=1 "$out"/$run > /dev/null
+    done
+fi
+echo "the library for C was tested with $cc$with${without:+; not here: ${without#, }}"
