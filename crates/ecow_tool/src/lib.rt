@@ -1,6 +1,7 @@
 //! Commands on named values: both keepings, the script, and the program over either.
 #![tactic(auto)]
 
+pub mod examples;
 pub mod program;
 
 pub use ecow_counted::{Counted, Filled};

@@ -1,0 +1,51 @@
+//! The status and the message of each end, written out by hand beside the definitions.
+ghost use Rattle.std.specs.Prelude.{◌≡◌, [], codes};
+ghost use Rattle.ecow_script.specs.declared.reason.Reason.TheVariants as reason;
+ghost use Rattle.ecow_tool.specs.Ends.{exit_text, status_of};
+ghost use Rattle.ecow_tool.specs.declared.program.End.TheVariants as program;
+ghost use Rattle.ecow_tool.specs.declared.program.Exit.TheVariants.{After, Usage};
+
+/// What the program ends with.
+pub fn statuses()
+    ensures usage { status_of Usage ≡ 2 }
+    ensures done { status_of (After program.Done) ≡ 0 }
+    ensures unreadable { status_of (After (program.Unreadable 3001 reason.Arguments)) ≡ 1 }
+    ensures not_utf8 { status_of (After program.NotUtf8) ≡ 1 }
+    ensures file { status_of (After program.File) ≡ 3 }
+    ensures too_large { status_of (After program.TooLarge) ≡ 3 }
+    ensures memory { status_of (After program.Memory) ≡ 3 }
+    ensures output { status_of (After program.Output) ≡ 3 }
+{}
+
+/// What it prints to standard error.
+pub fn messages()
+    ensures usage { exit_text Usage ≡ codes "usage: ecow-run [--counted] FILE\n" }
+    ensures done { exit_text (After program.Done) ≡ [] }
+    ensures not_utf8 { exit_text (After program.NotUtf8) ≡ codes "ecow-run: not UTF-8\n" }
+    ensures file { exit_text (After program.File) ≡ codes "ecow-run: file\n" }
+    ensures too_large { exit_text (After program.TooLarge) ≡ codes "ecow-run: too large\n" }
+    ensures memory { exit_text (After program.Memory) ≡ codes "ecow-run: memory\n" }
+    ensures output { exit_text (After program.Output) ≡ codes "ecow-run: output\n" }
+{}
+
+/// What it prints where a line doesn't fit.
+pub fn unreadable_lines()
+    ensures kind { exit_text (After (program.Unreadable 1 reason.Kind))
+        ≡ codes "ecow-run: line 1: kind\n" }
+    ensures command { exit_text (After (program.Unreadable 2 reason.Command))
+        ≡ codes "ecow-run: line 2: command\n" }
+    ensures name { exit_text (After (program.Unreadable 30 reason.Name))
+        ≡ codes "ecow-run: line 30: name\n" }
+    ensures number { exit_text (After (program.Unreadable 9 reason.Number))
+        ≡ codes "ecow-run: line 9: number\n" }
+    ensures list { exit_text (After (program.Unreadable 10 reason.List))
+        ≡ codes "ecow-run: line 10: list\n" }
+    ensures marks { exit_text (After (program.Unreadable 100 reason.Marks))
+        ≡ codes "ecow-run: line 100: marks\n" }
+    ensures bounds { exit_text (After (program.Unreadable 1024 reason.Bounds))
+        ≡ codes "ecow-run: line 1024: bounds\n" }
+    ensures text { exit_text (After (program.Unreadable 1025 reason.Text))
+        ≡ codes "ecow-run: line 1025: text\n" }
+    ensures arguments { exit_text (After (program.Unreadable 3001 reason.Arguments))
+        ≡ codes "ecow-run: line 3001: arguments\n" }
+{}

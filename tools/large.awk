@@ -1,0 +1,206 @@
+# A large script and its answers, worked out by the rules of docs/SCRIPT.md with awk's own arrays and texts:
+# awk -v part=PART -v counted=0|1 -v script=FILE -v answers=FILE -f tools/large.awk
+# PART is names, owners, list, or texts, which only a store has.
+
+function says(command, answer) {
+    print command > script
+    print answer > answers
+}
+
+# Numbers from `first` to at most `last`, `step` apart, with commas between them. By halves, since awk copies a
+# text that it appends to.
+function numbers(first, last, step,    half) {
+    if (first + step > last) return first
+    half = first + step * int((last - first) / step / 2)
+    return numbers(first, half, step) "," numbers(half + step, last, step)
+}
+
+# So many of a text.
+function times(count, text,    all) {
+    all = ""
+    while (count > 0) {
+        if (count % 2) all = all text
+        text = text text
+        count = int(count / 2)
+    }
+    return all
+}
+
+# The answer to how much memory was shared, which a store doesn't give.
+function ends(blocks, copied, moved) {
+    if (counted) print "blocks " blocks " copied " copied " moved " moved > answers
+}
+
+# More names than have a slot each, and more blocks than a table of thousands.
+function names(    i, count) {
+    count = 70000
+    for (i = 1; i <= count; i++) says("vec from_list n" i " [" i "]", "ok")
+    for (i = 1; i <= count; i++) says("vec contents n" i, "[" i "]")
+    for (i = 2; i <= count; i += 2) says("vec drop n" i, "ok")
+    for (i = 1; i <= count; i++) says("vec len n" i, i % 2 ? 1 : "refused no-name")
+    for (i = 2; i <= count; i += 2) says("vec clone n" (i - 1) " n" i, "ok")
+    for (i = 1; i <= count; i++) says("vec push n" i " 0", "ok")
+    for (i = 1; i <= count; i++) says("vec contents n" i, "[" (i % 2 ? i : i - 1) ",0]")
+    # Of each pair the first name's push copies, and the second one is alone by then.
+    ends(count, count / 2, 0)
+}
+
+# More owners than a byte or two of them count. Where a count of so few bits would be back at one, a clone is changed.
+function owners(    i, count, copied) {
+    count = 70000
+    says("vec from_list a [1,2,3]", "ok")
+    for (i = 1; i <= count; i++) {
+        says("vec clone a b" i, "ok")
+        if (i == 1 || i == 255 || i == 256 || i == 257 || i == 65535 || i == 65536 || i == 65537 || i == count) {
+            says("vec unique a", "false")
+            says("vec push b" i " 4", "ok")
+            says("vec contents a", "[1,2,3]")
+            says("vec contents b" i, "[1,2,3,4]")
+            says("vec unique b" i, "true")
+            says("vec drop b" i, "ok")
+            says("vec clone a b" i, "ok")
+            copied += 3
+        }
+    }
+    for (i = count; i > 1; i--) says("vec drop b" i, "ok")
+    says("vec unique a", "false")
+    says("vec drop b1", "ok")
+    says("vec unique a", "true")
+    says("vec push a 4", "ok")
+    says("vec contents a", "[1,2,3,4]")
+    ends(1, copied, 0)
+}
+
+# A list of 100,000 numbers: made at once, pushed one by one, changed while it is shared and while it isn't.
+function list(    i, count, whole) {
+    count = 100000
+    whole = numbers(1, count, 1)
+    says("vec from_list a [" whole "]", "ok")
+    says("vec len a", count)
+    says("vec contents a", "[" whole "]")
+    says("vec capacity a", count)
+    says("vec clone a b", "ok")
+    says("vec push b 7", "ok")
+    says("vec capacity b", 2 * count)
+    says("vec contents b", "[" whole ",7]")
+    says("vec contents a", "[" whole "]")
+    says("vec insert b 50000 8", "ok")
+    says("vec read b 50000", 8)
+    says("vec read b 50001", 50001)
+    says("vec remove b 50000", 8)
+    says("vec write b 99999 9", "ok")
+    says("vec read b 99999", 9)
+    says("vec read a 99999", count)
+    says("vec read a 100000", "refused index")
+    says("vec pop b", 7)
+    says("vec drain b 1000..100001", "refused range")
+    says("vec drain b 1000..99000", "[" numbers(1001, 99000, 1) "]")
+    says("vec splice b 1000..1000 [" numbers(1001, 99000, 1) "]", "[]")
+    says("vec contents b", "[" numbers(1, count - 1, 1) ",9]")
+    says("vec capacity b", 2 * count)
+    says("vec truncate b 50000", "ok")
+    says("vec contents b", "[" numbers(1, 50000, 1) "]")
+    says("vec extend b [" whole "]", "ok")
+    says("vec len b", 150000)
+    says("vec clear b", "ok")
+    says("vec capacity b", 2 * count)
+    says("vec clone a c", "ok")
+    says("vec retain c [" times(count / 2, "+-") "]", "ok")
+    says("vec contents c", "[" numbers(1, count, 2) "]")
+    says("vec clone a d", "ok")
+    says("vec truncate d 60000", "ok")
+    says("vec contents d", "[" numbers(1, 60000, 1) "]")
+    says("vec capacity d", 60000)
+    says("vec clone a e", "ok")
+    says("vec clear e", "ok")
+    says("vec contents a", "[" whole "]")
+    says("vec unique a", "true")
+    says("vec from_elem f 5 " count, "ok")
+    says("vec contents f", "[" times(count - 1, "5,") "5]")
+    says("vec reserve f 1", "ok")
+    says("vec capacity f", 2 * count)
+    says("vec new p", "ok")
+    for (i = 1; i <= count; i++) says("vec push p " i, "ok")
+    says("vec contents p", "[" whole "]")
+    says("vec capacity p", 131072)
+    for (i = count; i > count - 1000; i--) says("vec pop p", i)
+    says("vec capacity p", 131072)
+    # A name that was shared and cleared has no block. Copied: all for the push and for the marks, and what the cut
+    # keeps. Moved: by the reservation, and by the pushes, whose block grew from 4 to 8 and so on up to 131072.
+    ends(6, count + count + 60000, count + 131068)
+}
+
+# Bytes and texts of 100,000 bytes.
+function texts(    i, count, letters, bytes, upper) {
+    count = 100000
+    letters = times(count / 10, "abcdefghij")
+    upper = times(count / 10, "ABCDEFGHIJ")
+    says("text from_str t \"" letters "\"", "ok")
+    says("text len t", count)
+    says("text contents t", "\"" letters "\"")
+    says("text capacity t", count)
+    says("text clone t u", "ok")
+    says("text push u \"\303\251\"", "ok")
+    says("text capacity u", 2 * count)
+    says("text contents u", "\"" letters "\303\251\"")
+    says("text contents t", "\"" letters "\"")
+    says("text truncate u 100001", "refused boundary")
+    says("text pop u", "\"\303\251\"")
+    says("text insert_str u 50000 \"" upper "\"", "ok")
+    says("text contents u", "\"" substr(letters, 1, 50000) upper substr(letters, 50001) "\"")
+    says("text remove u 50000", "\"A\"")
+    says("text insert u 50000 \"A\"", "ok")
+    says("text truncate u 60000", "ok")
+    says("text contents u", "\"" substr(letters, 1, 50000) substr(upper, 1, 10000) "\"")
+    says("text push_str u \"" letters "\"", "ok")
+    says("text len u", 160000)
+    says("text replace t r \"cd\" \"\" 18446744073709551615", "ok")
+    says("text contents r", "\"" times(count / 10, "abefghij") "\"")
+    says("text replace t s \"j\" \"\342\202\254\" 9999", "ok")
+    says("text len s", count + 2 * 9999)
+    says("text contents s", "\"" times(9999, "abcdefghi\342\202\254") "abcdefghij\"")
+    says("text repeat t v 3", "ok")
+    says("text contents v", "\"" letters letters letters "\"")
+    says("text clone t w", "ok")
+    says("text ascii_upper w", "ok")
+    says("text contents w", "\"" upper "\"")
+    says("text to_ascii_upper t x", "ok")
+    says("text contents x", "\"" upper "\"")
+    says("text contents t", "\"" letters "\"")
+    says("text new p", "ok")
+    for (i = 0; i < count; i++) says("text push p \"" substr(letters, i + 1, 1) "\"", "ok")
+    says("text contents p", "\"" letters "\"")
+    says("text capacity p", 131072)
+    says("text clear p", "ok")
+    says("text capacity p", 131072)
+    bytes = times(count / 10 - 1, "97,98,99,100,101,102,103,104,105,106,") "97,98,99,100,101,102,103,104,105,106"
+    says("bytes from_text t b", "ok")
+    says("bytes contents b", "[" bytes "]")
+    says("bytes clone b c", "ok")
+    says("bytes push c 255", "ok")
+    says("bytes capacity c", 2 * count)
+    says("bytes contents c", "[" bytes ",255]")
+    says("text from_bytes c y", "refused not-utf8")
+    says("bytes pop c", 255)
+    says("bytes insert c 50000 0", "ok")
+    says("bytes read c 50000", 0)
+    says("bytes remove c 50000", 0)
+    says("bytes write c 99999 1", "ok")
+    says("bytes read c 99999", 1)
+    says("bytes read b 99999", 106)
+    says("bytes insert_slice c 0 [" bytes "]", "ok")
+    says("bytes len c", 2 * count)
+    says("bytes truncate c " count, "ok")
+    says("bytes contents c", "[" bytes "]")
+    says("bytes extend c [" bytes "]", "ok")
+    says("bytes contents c", "[" bytes "," bytes "]")
+    says("text from_bytes c y", "ok")
+    says("text contents y", "\"" letters letters "\"")
+}
+
+BEGIN {
+    if (part == "names") names()
+    if (part == "owners") owners()
+    if (part == "list") list()
+    if (part == "texts") texts()
+}
