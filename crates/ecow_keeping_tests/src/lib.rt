@@ -9,6 +9,8 @@ mod counted;
 #[cfg(test)]
 mod counted_refusals;
 #[cfg(test)]
+mod drops;
+#[cfg(test)]
 mod limits;
 #[cfg(test)]
 mod scripts;
