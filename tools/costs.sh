@@ -1,7 +1,7 @@
 #!/bin/sh
 # Compares docs/COSTS.md with crates/ecow_costs: its rows without the last column with what the program is
 # to print, and whole rows with what PROGRAM, the program built, costs while its requests for memory are
-# counted. Says what differs.
+# counted. Says what differs, and whether memory isn't given back.
 # usage: tools/costs.sh PROGRAM
 set -eu
 program=$(realpath "$1")
@@ -19,7 +19,8 @@ sort crates/ecow_costs/stdout | diff "$work/said_of_all_but_requests" - > "$work
 }
 
 tools/shim.sh "$work/shim.so"
-COUNT=1 LD_PRELOAD=$work/shim.so "$program" marked > "$work/rows" 2> "$work/counts"
+COUNT=1 LEFT=1 LD_PRELOAD=$work/shim.so "$program" marked > "$work/rows" 2> "$work/counts"
+if grep left "$work/counts"; then exit 1; fi
 if [ "$(wc -l < "$work/rows")" -ne "$(wc -l < "$work/counts")" ]; then
     echo "$(wc -l < "$work/rows") rows and $(wc -l < "$work/counts") counts"
     exit 1

@@ -1,24 +1,28 @@
 //! The calls of bytes.
 use crate::marks::Meter;
-use crate::rows::{Kind, Rows};
-use crate::small::{Calls, Gift, Out, Row, add_calls, add_few, given, letters, maker, row_of};
+use crate::rows::{Kind, Rows, USUAL};
+use crate::small;
+use crate::small::{Call, Gift, Out, Row, add_calls, add_few, add_growth, add_makers, given};
 use crate::states::error_of;
-use ecow_bytes::EcoBytes;
+use ecow_bytes::SmallBytes;
 use ecow_list::EcoError;
 use std::alloc::Global;
 use std::hash::{DefaultHasher, Hash};
 use std::io::Write;
 use std::mem;
 
-/// A call, with the number that it is given.
+/// A call, with the number that it is given. What adds bytes takes them of the gift.
 #[derive(Clone, Copy)]
-enum Bytes {
+pub(crate) enum Bytes {
     Read,
     Push,
+    PushReserved,
     Insert,
-    InsertSlice(usize),
-    ExtendFromSlice(usize),
-    Extend(u8),
+    InsertLast,
+    InsertSlice,
+    InsertSliceLast,
+    ExtendFromSlice,
+    Extend,
     Write,
     Set,
     Pop,
@@ -33,81 +37,189 @@ enum Bytes {
     Clone,
     Repeat(usize),
     ToVec,
+    Made(Maker),
+}
+
+/// A call that makes bytes of something else.
+#[derive(Clone, Copy)]
+pub(crate) enum Maker {
     New,
     Inline,
     TryInline,
     WithCapacity,
     FromSlice,
-    FromArray,
+    FromArray(usize),
     FromVec,
     FromIter,
     Collect,
     FromEcoVec,
 }
 
-fn changes() -> [Row<Bytes>; 23] {
+fn row_of(call: Bytes, name: &'static str, brings: usize, needs: usize) -> Row {
+    small::row_of(Call::Bytes(call), name, brings, needs)
+}
+
+fn repeated(call: Bytes, name: &'static str, brings: usize, times: usize) -> Row {
+    small::repeated(Call::Bytes(call), name, brings, times)
+}
+
+fn changes() -> [Row; 29] {
     [
         row_of(
             Bytes::Read,
             "b.as_slice, len, is_empty, capacity, is_inline, ==, cmp, hash",
             0,
+            0,
         ),
-        row_of(Bytes::Push, "b.push(x)", 0),
-        row_of(Bytes::Insert, "b.insert(0, x)", 0),
-        row_of(Bytes::InsertSlice(2), "b.insert_slice(0, 2)", 0),
-        row_of(Bytes::InsertSlice(0), "b.insert_slice(0, none)", 0),
-        row_of(Bytes::ExtendFromSlice(2), "b.extend_from_slice(2)", 0),
-        row_of(Bytes::ExtendFromSlice(0), "b.extend_from_slice(none)", 0),
-        row_of(Bytes::Extend(2), "b.extend(2)", 0),
-        row_of(Bytes::Extend(0), "b.extend(none)", 0),
-        row_of(Bytes::Write, "b.write(2)", 0),
-        row_of(Bytes::Set, "b.set(0, x)", 1),
-        row_of(Bytes::Pop, "b.pop()", 0),
-        row_of(Bytes::Remove, "b.remove(0)", 1),
-        row_of(Bytes::Truncate(3), "b.truncate(3)", 3),
-        row_of(Bytes::Truncate(0), "b.truncate(0)", 0),
-        row_of(Bytes::Clear, "b.clear()", 0),
-        row_of(Bytes::Reserve(0), "b.reserve(0)", 0),
-        row_of(Bytes::Reserve(1), "b.reserve(1)", 0),
-        row_of(Bytes::Reserve(20), "b.reserve(20)", 0),
-        row_of(Bytes::MakeMut, "b.make_mut()", 0),
-        row_of(Bytes::Rewrite, "b.rewrite(f)", 0),
-        row_of(Bytes::Shrink, "b.shrink_to_fit()", 0),
-        row_of(Bytes::IntoEcoVec, "b.into_eco_vec()", 0),
+        row_of(Bytes::Push, "b.push(x)", 0, 0),
+        row_of(Bytes::Insert, "b.insert(0, x)", 0, 0),
+        row_of(Bytes::InsertSlice, "b.insert_slice(0, 2)", 2, 0),
+        row_of(Bytes::InsertSlice, "b.insert_slice(0, none)", 0, 0),
+        row_of(Bytes::InsertSlice, "b.insert_slice(0, 1000)", 1000, 1000),
+        row_of(Bytes::ExtendFromSlice, "b.extend_from_slice(2)", 2, 0),
+        row_of(Bytes::ExtendFromSlice, "b.extend_from_slice(none)", 0, 0),
+        row_of(
+            Bytes::ExtendFromSlice,
+            "b.extend_from_slice(1000)",
+            1000,
+            1000,
+        ),
+        row_of(Bytes::Extend, "b.extend(2)", 2, 0),
+        row_of(Bytes::Extend, "b.extend(none)", 0, 0),
+        row_of(Bytes::Extend, "b.extend(1000)", 1000, 1000),
+        row_of(Bytes::Write, "b.write(2)", 2, 0),
+        row_of(Bytes::Write, "b.write(1000)", 1000, 1000),
+        row_of(Bytes::Set, "b.set(0, x)", 0, 1),
+        row_of(Bytes::Pop, "b.pop()", 0, 0),
+        row_of(Bytes::Remove, "b.remove(0)", 0, 1),
+        row_of(Bytes::Truncate(3), "b.truncate(3)", 0, 3),
+        row_of(Bytes::Truncate(900), "b.truncate(900)", 0, 1000),
+        row_of(Bytes::Truncate(0), "b.truncate(0)", 0, 0),
+        row_of(Bytes::Clear, "b.clear()", 0, 0),
+        row_of(Bytes::Reserve(0), "b.reserve(0)", 0, 0),
+        row_of(Bytes::Reserve(1), "b.reserve(1)", 0, 0),
+        row_of(Bytes::Reserve(20), "b.reserve(20)", 0, 0),
+        row_of(Bytes::Reserve(1000), "b.reserve(1000)", 0, 1000),
+        row_of(Bytes::MakeMut, "b.make_mut()", 0, 0),
+        row_of(Bytes::Rewrite, "b.rewrite(f)", 0, 0),
+        row_of(Bytes::Shrink, "b.shrink_to_fit()", 0, 0),
+        row_of(Bytes::IntoEcoVec, "b.into_eco_vec()", 0, 0),
     ]
 }
 
-fn derivations() -> [Row<Bytes>; 5] {
+/// Calls by which bytes grow.
+fn growing() -> [Row; 8] {
     [
-        row_of(Bytes::Clone, "b.clone()", 0),
-        row_of(Bytes::ToVec, "b.to_vec()", 0),
-        row_of(Bytes::Repeat(0), "b.repeat(0)", 0),
-        row_of(Bytes::Repeat(1), "b.repeat(1)", 0),
-        row_of(Bytes::Repeat(3), "b.repeat(3)", 0),
+        repeated(Bytes::Push, "b.push(x), 100000 times", 0, 100000),
+        repeated(
+            Bytes::PushReserved,
+            "b.reserve(1), b.push(x), 100000 times",
+            0,
+            100000,
+        ),
+        repeated(
+            Bytes::InsertLast,
+            "b.insert(len, x), 100000 times",
+            0,
+            100000,
+        ),
+        repeated(
+            Bytes::InsertSliceLast,
+            "b.insert_slice(len, 7), 14286 times",
+            7,
+            14286,
+        ),
+        repeated(
+            Bytes::ExtendFromSlice,
+            "b.extend_from_slice(7), 14286 times",
+            7,
+            14286,
+        ),
+        repeated(Bytes::Write, "b.write(7), 14286 times", 7, 14286),
+        repeated(Bytes::Extend, "b.extend(7), 14286 times", 7, 14286),
+        repeated(Bytes::Extend, "b.extend(100000)", 100000, 1),
     ]
 }
 
-fn makers() -> [Row<Bytes>; 15] {
+fn derivations() -> [Row; 5] {
     [
-        maker(Bytes::New, "EcoBytes::new()", 0),
-        maker(Bytes::Inline, "EcoBytes::inline(15)", 15),
-        maker(Bytes::TryInline, "EcoBytes::try_inline(15)", 15),
-        maker(Bytes::WithCapacity, "EcoBytes::with_capacity(15)", 15),
-        maker(Bytes::WithCapacity, "EcoBytes::with_capacity(16)", 16),
-        maker(Bytes::FromSlice, "EcoBytes::from_slice(15)", 15),
-        maker(Bytes::FromSlice, "EcoBytes::from_slice(16)", 16),
-        maker(Bytes::FromArray, "EcoBytes::from_array(16)", 16),
-        maker(Bytes::FromVec, "EcoBytes::from_vec(15)", 15),
-        maker(Bytes::FromVec, "EcoBytes::from_vec(16)", 16),
-        maker(Bytes::FromIter, "EcoBytes::from_iter(15)", 15),
-        maker(Bytes::FromIter, "EcoBytes::from_iter(16)", 16),
-        maker(Bytes::FromIter, "EcoBytes::from_iter(33)", 33),
-        maker(Bytes::Collect, "EcoBytes: collect(16)", 16),
-        maker(Bytes::FromEcoVec, "EcoBytes::from(vector of 5)", 5),
+        row_of(Bytes::Clone, "b.clone()", 0, 0),
+        row_of(Bytes::ToVec, "b.to_vec()", 0, 0),
+        row_of(Bytes::Repeat(0), "b.repeat(0)", 0, 0),
+        row_of(Bytes::Repeat(1), "b.repeat(1)", 0, 0),
+        row_of(Bytes::Repeat(3), "b.repeat(3)", 0, 0),
     ]
 }
 
-fn read(value: &EcoBytes) {
+fn making(maker: Maker, name: &'static str, brings: usize) -> Row {
+    row_of(Bytes::Made(maker), name, brings, 0)
+}
+
+fn makers() -> [Row; 24] {
+    [
+        making(Maker::New, "EcoBytes::new()", 0),
+        making(Maker::Inline, "EcoBytes::inline(15)", 15),
+        making(Maker::TryInline, "EcoBytes::try_inline(15)", 15),
+        making(Maker::WithCapacity, "EcoBytes::with_capacity(15)", 15),
+        making(Maker::WithCapacity, "EcoBytes::with_capacity(16)", 16),
+        making(Maker::WithCapacity, "EcoBytes::with_capacity(1000)", 1000),
+        making(Maker::FromSlice, "EcoBytes::from_slice(15)", 15),
+        making(Maker::FromSlice, "EcoBytes::from_slice(16)", 16),
+        making(Maker::FromSlice, "EcoBytes::from_slice(1000)", 1000),
+        making(Maker::FromArray(16), "EcoBytes::from_array(16)", 0),
+        making(Maker::FromArray(1000), "EcoBytes::from_array(1000)", 0),
+        making(Maker::FromVec, "EcoBytes::from_vec(15)", 15),
+        making(Maker::FromVec, "EcoBytes::from_vec(16)", 16),
+        making(Maker::FromVec, "EcoBytes::from_vec(1000)", 1000),
+        making(Maker::FromIter, "EcoBytes::from_iter(15)", 15),
+        making(Maker::FromIter, "EcoBytes::from_iter(16)", 16),
+        making(Maker::FromIter, "EcoBytes::from_iter(33)", 33),
+        making(Maker::FromIter, "EcoBytes::from_iter(1000)", 1000),
+        making(Maker::Collect, "EcoBytes: collect(16)", 16),
+        making(Maker::Collect, "EcoBytes: collect(1000)", 1000),
+        making(Maker::FromIter, "EcoBytes::from_iter(100000)", 100000),
+        making(Maker::Collect, "EcoBytes: collect(100000)", 100000),
+        making(Maker::FromEcoVec, "EcoBytes::from(vector of 5)", 5),
+        making(Maker::FromEcoVec, "EcoBytes::from(vector of 1000)", 1000),
+    ]
+}
+
+/// Calls at any other limit, on both sides of it.
+fn makers_at(limit: usize) -> [Row; 16] {
+    let more = limit.saturating_add(1);
+    [
+        making(Maker::New, "SmallBytes::new()", 0),
+        making(Maker::Inline, "SmallBytes::inline(limit)", limit),
+        making(Maker::TryInline, "SmallBytes::try_inline(limit)", limit),
+        making(
+            Maker::WithCapacity,
+            "SmallBytes::with_capacity(limit)",
+            limit,
+        ),
+        making(
+            Maker::WithCapacity,
+            "SmallBytes::with_capacity(limit + 1)",
+            more,
+        ),
+        making(Maker::FromSlice, "SmallBytes::from_slice(limit)", limit),
+        making(Maker::FromSlice, "SmallBytes::from_slice(limit + 1)", more),
+        making(Maker::FromArray(limit), "SmallBytes::from_array(limit)", 0),
+        making(Maker::FromArray(1000), "SmallBytes::from_array(1000)", 0),
+        making(Maker::FromVec, "SmallBytes::from_vec(limit)", limit),
+        making(Maker::FromVec, "SmallBytes::from_vec(limit + 1)", more),
+        making(Maker::FromIter, "SmallBytes::from_iter(limit)", limit),
+        making(Maker::FromIter, "SmallBytes::from_iter(limit + 1)", more),
+        making(Maker::Collect, "SmallBytes: collect(limit)", limit),
+        making(Maker::Collect, "SmallBytes: collect(limit + 1)", more),
+        making(
+            Maker::FromEcoVec,
+            "SmallBytes::from(vector of limit)",
+            limit,
+        ),
+    ]
+}
+
+fn read<const N: usize>(value: &SmallBytes<N>) {
     let _seen = value.as_slice().len() == value.len() && value.is_empty() == (value.len() == 0);
     let _room = value.capacity();
     let _mode = value.is_inline();
@@ -117,45 +229,41 @@ fn read(value: &EcoBytes) {
     value.hash(&mut hasher);
 }
 
-fn write(value: &mut EcoBytes) -> Result<(), EcoError> {
-    match value.write(b"ab") {
+fn write<const N: usize>(value: &mut SmallBytes<N>, bytes: &[u8]) -> Result<(), EcoError> {
+    match value.write(bytes) {
         Ok(_) => Ok(()),
         Err(_) => Err(EcoError::Memory),
     }
 }
 
-fn set(value: &mut EcoBytes) -> Result<(), EcoError> {
+fn set<const N: usize>(value: &mut SmallBytes<N>) -> Result<(), EcoError> {
     if value.len() == 0 {
         return Ok(());
     }
     value.set(0, b'x')
 }
 
-fn remove(value: &mut EcoBytes) -> Result<(), EcoError> {
+fn remove<const N: usize>(value: &mut SmallBytes<N>) -> Result<(), EcoError> {
     if value.len() == 0 {
         return Ok(());
     }
     value.remove(0).map(drop)
 }
 
-fn loan(value: &mut EcoBytes) -> Result<(), EcoError> {
+fn loan<const N: usize>(value: &mut SmallBytes<N>) -> Result<(), EcoError> {
     value.make_mut()?.reverse();
     Ok(())
 }
 
-fn rewrite(value: &mut EcoBytes) -> Result<(), EcoError> {
+fn rewrite<const N: usize>(value: &mut SmallBytes<N>) -> Result<(), EcoError> {
     value.rewrite(|bytes| {
         bytes.reverse();
         bytes.len()
     })
 }
 
-fn front(len: usize) -> &'static [u8] {
-    letters(len).as_bytes()
-}
-
 /// Makes a call that is never refused.
-fn settle(call: Bytes, value: &mut EcoBytes) {
+fn settle<const N: usize>(call: Bytes, value: &mut SmallBytes<N>) {
     match call {
         Bytes::Clear => value.clear(),
         Bytes::Shrink => value.shrink_to_fit(),
@@ -164,7 +272,7 @@ fn settle(call: Bytes, value: &mut EcoBytes) {
 }
 
 /// Makes a call that adds no bytes.
-fn change(call: Bytes, value: &mut EcoBytes) -> Result<(), EcoError> {
+fn change<const N: usize>(call: Bytes, value: &mut SmallBytes<N>) -> Result<(), EcoError> {
     match call {
         Bytes::Set => set(value),
         Bytes::Pop => value.pop().map(drop),
@@ -180,41 +288,57 @@ fn change(call: Bytes, value: &mut EcoBytes) -> Result<(), EcoError> {
     }
 }
 
+fn push_reserved<const N: usize>(value: &mut SmallBytes<N>) -> Result<(), EcoError> {
+    value.reserve(1)?;
+    value.push(b'x')
+}
+
 /// Makes a call that adds bytes.
-fn add(call: Bytes, value: &mut EcoBytes) -> Result<(), EcoError> {
+fn add<const N: usize>(
+    call: Bytes,
+    value: &mut SmallBytes<N>,
+    bytes: &[u8],
+) -> Result<(), EcoError> {
     match call {
         Bytes::Push => value.push(b'x'),
         Bytes::Insert => value.insert(0, b'x'),
-        Bytes::InsertSlice(len) => value.insert_slice(0, front(len)),
-        Bytes::ExtendFromSlice(len) => value.extend_from_slice(front(len)),
-        Bytes::Extend(n) => value.extend(0..n),
-        Bytes::Write => write(value),
+        Bytes::InsertSlice => value.insert_slice(0, bytes),
+        Bytes::ExtendFromSlice => value.extend_from_slice(bytes),
+        Bytes::InsertLast => value.insert(value.len(), b'x'),
+        Bytes::InsertSliceLast => value.insert_slice(value.len(), bytes),
+        Bytes::PushReserved => push_reserved(value),
+        Bytes::Extend => value.extend(bytes.iter().copied()),
+        Bytes::Write => write(value, bytes),
         _ => change(call, value),
     }
 }
 
-fn clone(value: &EcoBytes) -> Result<EcoBytes, EcoError> {
+fn clone<const N: usize>(value: &SmallBytes<N>) -> Result<SmallBytes<N>, EcoError> {
     match value.clone() {
         Ok(clone) => Ok(clone),
         Err(error) => Err(error.into()),
     }
 }
 
-fn inline(alloc: Global, bytes: &[u8]) -> EcoBytes {
-    if bytes.len() > 15 {
-        return EcoBytes::new(alloc);
+fn inline<const N: usize>(alloc: Global, bytes: &[u8], _none: &SmallBytes<N>) -> SmallBytes<N> {
+    if bytes.len() > N {
+        return SmallBytes::new(alloc);
     }
-    EcoBytes::inline(alloc, bytes)
+    SmallBytes::inline(alloc, bytes)
 }
 
-fn try_inline(alloc: Global, bytes: &[u8]) -> EcoBytes {
-    match EcoBytes::try_inline(alloc, bytes) {
+fn try_inline<const N: usize>(alloc: Global, bytes: &[u8], _none: &SmallBytes<N>) -> SmallBytes<N> {
+    match SmallBytes::try_inline(alloc, bytes) {
         Some(made) => made,
-        None => EcoBytes::new(alloc),
+        None => SmallBytes::new(alloc),
     }
 }
 
-fn collected(alloc: Global, bytes: Vec<u8>) -> Result<EcoBytes, EcoError> {
+fn collected<const N: usize>(
+    alloc: Global,
+    bytes: Vec<u8>,
+    _none: &SmallBytes<N>,
+) -> Result<SmallBytes<N>, EcoError> {
     match bytes.into_iter().collect(alloc) {
         Ok(made) => Ok(made),
         Err(error) => Err(error.into()),
@@ -222,65 +346,72 @@ fn collected(alloc: Global, bytes: Vec<u8>) -> Result<EcoBytes, EcoError> {
 }
 
 /// Makes bytes of what is given.
-fn make(call: Bytes, gift: Gift, alloc: Global) -> Result<EcoBytes, EcoError> {
+fn make<const N: usize>(
+    call: Maker,
+    gift: Gift<N>,
+    alloc: Global,
+    none: &SmallBytes<N>,
+) -> Result<SmallBytes<N>, EcoError> {
     match call {
-        Bytes::Inline => Ok(inline(alloc, gift.bytes.as_slice())),
-        Bytes::TryInline => Ok(try_inline(alloc, gift.bytes.as_slice())),
-        Bytes::WithCapacity => EcoBytes::with_capacity(alloc, gift.bytes.len()),
-        Bytes::FromSlice => EcoBytes::from_slice(alloc, gift.bytes.as_slice()),
-        Bytes::FromArray => EcoBytes::from_array(alloc, *b"0123456789abcdef"),
-        Bytes::FromVec => EcoBytes::from_vec(alloc, gift.bytes).map_err(error_of),
-        Bytes::FromIter => EcoBytes::from_iter(alloc, gift.bytes),
-        Bytes::Collect => collected(alloc, gift.bytes),
-        Bytes::FromEcoVec => Ok(EcoBytes::from(gift.list)),
-        _ => Ok(EcoBytes::new(alloc)),
+        Maker::New => Ok(SmallBytes::new(alloc)),
+        Maker::Inline => Ok(inline(alloc, gift.bytes.as_slice(), none)),
+        Maker::TryInline => Ok(try_inline(alloc, gift.bytes.as_slice(), none)),
+        Maker::WithCapacity => SmallBytes::with_capacity(alloc, gift.bytes.len()),
+        Maker::FromSlice => SmallBytes::from_slice(alloc, gift.bytes.as_slice()),
+        Maker::FromArray(16) => SmallBytes::from_array(alloc, [b'x'; 16]),
+        Maker::FromArray(1000) => SmallBytes::from_array(alloc, [b'x'; 1000]),
+        Maker::FromArray(_) => SmallBytes::from_array(alloc, [b'x'; N]),
+        Maker::FromVec => SmallBytes::from_vec(alloc, gift.bytes).map_err(error_of),
+        Maker::FromIter => SmallBytes::from_iter(alloc, gift.bytes),
+        Maker::Collect => collected(alloc, gift.bytes, none),
+        Maker::FromEcoVec => Ok(SmallBytes::from(gift.list)),
     }
 }
 
-fn made(made: Result<EcoBytes, EcoError>) -> Result<Out, EcoError> {
-    made.map(|bytes| Out::Bytes(bytes))
-}
-
-fn nothing(done: Result<(), EcoError>) -> Result<Out, EcoError> {
-    done.map(|()| Out::Nothing)
+fn made<const N: usize>(made: Result<SmallBytes<N>, EcoError>) -> Result<Out<N>, EcoError> {
+    Ok(Out::Bytes(made?))
 }
 
 /// Leaves the vector in the value's place.
-fn give(value: &mut EcoBytes, alloc: Global) -> Result<(), EcoError> {
-    let whole = mem::replace(value, EcoBytes::new(alloc));
-    *value = given(whole.into_eco_vec())?;
+fn give<const N: usize>(value: &mut SmallBytes<N>, alloc: Global) -> Result<(), EcoError> {
+    let whole = mem::replace(value, SmallBytes::new(alloc));
+    *value = given(whole.into_eco_vec(), value)?;
     Ok(())
 }
 
-impl Calls for Bytes {
-    fn call(&self, value: &mut EcoBytes, gift: Gift, alloc: Global) -> Result<Out, EcoError> {
-        match *self {
-            Bytes::IntoEcoVec => nothing(give(value, alloc)),
-            Bytes::Clone => made(clone(value)),
-            Bytes::Repeat(count) => made(value.repeat(count)),
-            Bytes::ToVec => value.to_vec().map(|vec| Out::Vec(vec)),
-            Bytes::New
-            | Bytes::Inline
-            | Bytes::TryInline
-            | Bytes::WithCapacity
-            | Bytes::FromSlice
-            | Bytes::FromArray
-            | Bytes::FromVec
-            | Bytes::FromIter
-            | Bytes::Collect
-            | Bytes::FromEcoVec => made(make(*self, gift, alloc)),
-            _ => nothing(add(*self, value)),
+/// Makes a call, so often, of what it is given.
+pub(crate) fn call_on<const N: usize>(
+    call: Bytes,
+    value: &mut SmallBytes<N>,
+    gift: Gift<N>,
+    times: usize,
+    alloc: Global,
+) -> Result<Out<N>, EcoError> {
+    match call {
+        Bytes::IntoEcoVec => give(value, alloc)?,
+        Bytes::Clone => return made(clone(value)),
+        Bytes::Repeat(count) => return made(value.repeat(count)),
+        Bytes::ToVec => return Ok(Out::Vec(value.to_vec()?)),
+        Bytes::Made(call) => return made(make(call, gift, alloc, value)),
+        _ => {
+            for _ in 0..times {
+                add(call, value, gift.bytes.as_slice())?;
+            }
         }
     }
+    Ok(Out::Nothing)
 }
 
-pub(crate) fn add_rows(meter: Meter, rows: &mut Rows) {
-    add_calls(Kind::Change, meter, rows, &changes());
-    add_few(
-        meter,
-        rows,
-        &[row_of(Bytes::Shrink, "b.shrink_to_fit()", 0)],
-    );
-    add_calls(Kind::Derive, meter, rows, &derivations());
-    add_calls(Kind::Make, meter, rows, &makers());
+/// `none` names the type of the values.
+pub(crate) fn add_rows<const N: usize>(meter: Meter, rows: &mut Rows, none: &SmallBytes<N>) {
+    let shrink = [row_of(Bytes::Shrink, "b.shrink_to_fit()", 0, 0)];
+    add_calls(Kind::Change, meter, rows, &changes(), none);
+    add_few(meter, rows, &shrink, none);
+    add_calls(Kind::Derive, meter, rows, &derivations(), none);
+    if N == USUAL {
+        add_makers(meter, rows, &makers(), none);
+        add_growth(meter, rows, &growing(), none);
+    } else {
+        add_makers(meter, rows, &makers_at(N), none);
+    }
 }

@@ -1,7 +1,7 @@
 //! The calls of vectors that take elements of a slice as memory, and those that compare, over
 //! bytes.
 use crate::marks::Meter;
-use crate::rows::{Cost, Form, Kind, Rows, Standing};
+use crate::rows::{Cost, Form, Kind, Rows, Standing, USUAL};
 use crate::states::{State, form_of, kept_pair, vectors};
 use ecow_list::{EcoError, EcoVec, range_in};
 use std::hash::{DefaultHasher, Hash};
@@ -13,12 +13,15 @@ enum Call {
     Extend(usize),
     ExtendWithin(usize),
     Insert(usize),
+    InsertLast(usize),
     Write(usize),
     Compare,
 }
 
-/// How a call is written, and how many elements there must be.
-fn calls() -> [(Call, &'static str, usize); 9] {
+/// A call, how it is written, and how many elements there must be.
+type Row = (Call, &'static str, usize);
+
+fn rows_once() -> [Row; 13] {
     [
         (Call::Extend(2), "extend_from_copied(2)", 0),
         (Call::Extend(0), "extend_from_copied(none)", 0),
@@ -29,13 +32,34 @@ fn calls() -> [(Call, &'static str, usize); 9] {
         (Call::Write(2), "write(2)", 0),
         (Call::Write(0), "write(none)", 0),
         (Call::Compare, "==, cmp, hash", 0),
+        (Call::Extend(1000), "extend_from_copied(1000)", 1000),
+        (Call::ExtendWithin(1000), "extend_from_within(..1000)", 1000),
+        (Call::Insert(1000), "insert_slice(0, 1000)", 1000),
+        (Call::Write(1000), "write(1000)", 1000),
     ]
 }
 
-const FIVE: &[u8; 5] = b"abcde";
+/// How often calls of seven elements are made.
+const TIMES: usize = 14286;
+
+/// Calls that are made so often.
+fn rows_again() -> [Row; 4] {
+    [
+        (Call::Extend(7), "extend_from_copied(7), 14286 times", 0),
+        (Call::InsertLast(7), "insert_slice(len, 7), 14286 times", 0),
+        (Call::Write(7), "write(7), 14286 times", 0),
+        (
+            Call::ExtendWithin(7),
+            "extend_from_within(..7), 14286 times",
+            1000,
+        ),
+    ]
+}
+
+const MANY: &[u8; 1000] = &[b'x'; 1000];
 
 fn front(len: usize) -> &'static [u8] {
-    FIVE.get(..len).unwrap_or(&[])
+    MANY.get(..len).unwrap_or(&[])
 }
 
 fn extend_within_capacity(list: &mut EcoVec<u8>, len: usize) -> Result<(), EcoError> {
@@ -64,6 +88,7 @@ fn make(call: Call, list: &mut EcoVec<u8>, other: &EcoVec<u8>) -> Result<(), Eco
         Call::Extend(len) => list.extend_from_copied(front(len)),
         Call::ExtendWithin(len) => extend_within_capacity(list, len),
         Call::Insert(len) => list.insert_slice(0, front(len)),
+        Call::InsertLast(len) => list.insert_slice(list.len(), front(len)),
         Call::Write(len) => write(list, front(len)),
         Call::Compare => {
             compare(list, other);
@@ -72,17 +97,20 @@ fn make(call: Call, list: &mut EcoVec<u8>, other: &EcoVec<u8>) -> Result<(), Eco
     }
 }
 
-fn cost(meter: Meter, call: Call, name: &'static str, state: State) -> Result<Cost, EcoError> {
-    let other = EcoVec::from_slice(meter.alloc, FIVE)?;
+fn cost(meter: Meter, row: Row, times: usize, state: State) -> Result<Cost, EcoError> {
+    let other = EcoVec::from_slice(meter.alloc, front(state.len))?;
     let elements = Vec::from_clones(meter.alloc, front(state.len))?;
     let mut kept = kept_pair(meter.alloc, state, elements)?;
     let before = kept.standing();
     let _begun = meter.begin();
-    make(call, &mut kept.list, &other)?;
+    for _ in 0..times {
+        make(row.0, &mut kept.list, &other)?;
+    }
     let _ended = meter.end();
     Ok(Cost {
         kind: Kind::Change,
-        call: name,
+        limit: USUAL,
+        call: row.1,
         state: state.name,
         counts: None,
         before,
@@ -95,30 +123,35 @@ fn cost_of_making(meter: Meter, name: &'static str, len: usize) -> Result<Cost, 
     let _begun = meter.begin();
     let mut list = EcoVec::from_copied(meter.alloc, front(len))?;
     let _ended = meter.end();
-    let none = Standing {
-        form: Form::Absent,
-        twin: Form::Absent,
-        capacity: 0,
-    };
     Ok(Cost {
         kind: Kind::Make,
+        limit: USUAL,
         call: name,
         state: "",
         counts: None,
-        before: none,
+        before: Standing::none(),
         after: Kind::Make.after(form_of(&mut list), Form::Absent, list.capacity()),
     })
 }
 
-pub(crate) fn add_rows(meter: Meter, rows: &mut Rows) {
-    for (call, name, needs) in calls() {
-        for state in vectors() {
-            if needs <= state.len {
-                rows.add(cost(meter, call, name, state));
+/// Adds a row of each call, made so often, in each of the states.
+fn add_each(meter: Meter, rows: &mut Rows, calls: &[Row], times: usize, states: &[State]) {
+    for row in calls {
+        for state in states {
+            if row.2 <= state.len {
+                rows.add(cost(meter, *row, times, *state));
             }
         }
     }
+}
+
+pub(crate) fn add_rows(meter: Meter, rows: &mut Rows) {
+    let states = vectors();
+    add_each(meter, rows, &rows_once(), 1, &states);
+    add_each(meter, rows, &rows_again()[..3], TIMES, &states[..1]);
+    add_each(meter, rows, &rows_again()[3..], TIMES, &states);
     rows.add(cost_of_making(meter, "EcoVec::from_copied(none)", 0));
     rows.add(cost_of_making(meter, "EcoVec::from_copied(2)", 2));
     rows.add(cost_of_making(meter, "EcoVec::from_copied(5)", 5));
+    rows.add(cost_of_making(meter, "EcoVec::from_copied(1000)", 1000));
 }

@@ -6,6 +6,7 @@
 mod bytes;
 mod copies;
 mod marks;
+mod prints;
 mod rows;
 mod small;
 mod states;
@@ -14,6 +15,7 @@ mod vectors;
 
 use crate::marks::Meter;
 use crate::rows::Rows;
+use ecow_bytes::SmallBytes;
 use std::env::Env;
 use std::{env, io};
 
@@ -24,12 +26,23 @@ fn is_marked(rt: &(impl Env + AllocGlobal)) -> io::Result<bool> {
     Ok(words.next().is_some())
 }
 
+/// The rows of bytes and texts of which at most `N` bytes stand inline. `none` names their type.
+fn small_rows<const N: usize>(meter: Meter, rows: &mut Rows, none: &SmallBytes<N>) {
+    bytes::add_rows(meter, rows, none);
+    texts::add_rows(meter, rows, none);
+}
+
 fn main(rt: HostRuntime) -> io::Result<()> {
     let meter = Meter::new(rt.alloc(), is_marked(&rt)?);
     let mut rows = Rows::new(rt.alloc());
     vectors::add_rows(meter, &mut rows);
     copies::add_rows(meter, &mut rows);
-    bytes::add_rows(meter, &mut rows);
-    texts::add_rows(meter, &mut rows);
+    small_rows::<0>(meter, &mut rows, &SmallBytes::new(meter.alloc));
+    small_rows::<1>(meter, &mut rows, &SmallBytes::new(meter.alloc));
+    small_rows::<3>(meter, &mut rows, &SmallBytes::new(meter.alloc));
+    small_rows::<15>(meter, &mut rows, &SmallBytes::new(meter.alloc));
+    small_rows::<23>(meter, &mut rows, &SmallBytes::new(meter.alloc));
+    small_rows::<255>(meter, &mut rows, &SmallBytes::new(meter.alloc));
+    prints::add_rows(meter, &mut rows);
     print!(rt; "{}", rows.text)
 }

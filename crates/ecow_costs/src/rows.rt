@@ -39,6 +39,17 @@ pub(crate) struct Standing {
     pub(crate) capacity: usize,
 }
 
+impl Standing {
+    /// Where a value stands that there isn't.
+    pub(crate) fn none() -> Self {
+        Standing {
+            form: Form::Absent,
+            twin: Form::Absent,
+            capacity: 0,
+        }
+    }
+}
+
 /// What a call does with the value.
 #[derive(Clone, Copy, PartialEq)]
 pub(crate) enum Kind {
@@ -77,20 +88,17 @@ impl Kind {
             capacity,
         }
     }
-
-    /// The state in which the value was; none where there was no value.
-    fn state(self, name: &'static str) -> &'static str {
-        if self == Kind::Make {
-            return "–";
-        }
-        name
-    }
 }
 
+/// The inline limit of `EcoBytes` and `EcoString`. A state of theirs is named without it.
+pub(crate) const USUAL: usize = 15;
+
 /// A call, the state before it, and what it cost. Clones and drops are counted of some elements.
+/// `limit` is the inline limit of bytes and texts; vectors have the usual one here.
 #[derive(Clone, Copy)]
 pub(crate) struct Cost {
     pub(crate) kind: Kind,
+    pub(crate) limit: usize,
     pub(crate) call: &'static str,
     pub(crate) state: &'static str,
     pub(crate) counts: Option<(u64, u64)>,
@@ -103,6 +111,26 @@ impl Cost {
     fn keeps_room(&self) -> bool {
         let keeps = self.after.form == self.before.form || self.after.form == Form::Shared;
         keeps && self.after.capacity == self.before.capacity
+    }
+
+    /// Whether the value is made inline, in the room that such a value has.
+    fn is_within_limit(&self) -> bool {
+        self.after.form == Form::Inline && self.after.capacity == self.limit
+    }
+
+    /// The state in which the value was; a call that makes one needs none.
+    fn state(&self, alloc: Global) -> Result<String, AllocError> {
+        let state = if self.kind != Kind::Make {
+            self.state
+        } else if self.limit == USUAL {
+            "–"
+        } else {
+            "limit"
+        };
+        if self.limit == USUAL {
+            return format!(in alloc; "{state}");
+        }
+        format!(in alloc; "{state}: {}", self.limit)
     }
 
     fn twin(&self) -> &'static str {
@@ -119,6 +147,9 @@ impl Cost {
         if self.keeps_room() {
             return format!(in alloc; "same");
         }
+        if self.is_within_limit() {
+            return format!(in alloc; "limit");
+        }
         format!(in alloc; "{}", self.after.capacity)
     }
 
@@ -131,7 +162,7 @@ impl Cost {
 
     fn line(&self, alloc: Global) -> Result<String, AllocError> {
         let (room, counted) = (self.room(alloc)?, self.counted(alloc)?);
-        let (call, state, twin) = (self.call, self.kind.state(self.state), self.twin());
+        let (call, state, twin) = (self.call, self.state(alloc)?, self.twin());
         let form = if self.after.form == Form::Absent {
             "–"
         } else {

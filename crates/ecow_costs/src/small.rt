@@ -1,11 +1,15 @@
-//! What calls of bytes and texts cost. A text is measured by its bytes.
+//! What calls of bytes and texts cost, of which at most `N` bytes stand inline. A text is measured
+//! by its bytes.
+use crate::bytes::Bytes;
 use crate::marks::Meter;
-use crate::rows::{Cost, Form, Kind, Rows, Standing};
+use crate::rows::{Cost, Form, Kind, Rows, Standing, USUAL};
 use crate::states::{error_of, form_of};
-use ecow_bytes::EcoBytes;
+use crate::texts::Text;
+use crate::{bytes, texts};
+use ecow_bytes::SmallBytes;
 use ecow_list::{EcoError, EcoVec};
-use ecow_text::EcoString;
-use std::alloc::Global;
+use ecow_text::SmallText;
+use std::alloc::{AllocError, Global};
 
 /// A state of bytes and texts: so many, inline or in a block with so much room, shared or not.
 #[derive(Clone, Copy)]
@@ -25,8 +29,8 @@ fn state_of(name: &'static str, len: usize, capacity: Option<usize>, shared: boo
     }
 }
 
-/// The states that tell.
-fn states() -> [State; 7] {
+/// The states of few bytes that tell, at the usual limit.
+fn usual() -> [State; 7] {
     [
         state_of("inline", 5, None, false),
         state_of("inline full", 15, None, false),
@@ -38,99 +42,157 @@ fn states() -> [State; 7] {
     ]
 }
 
-/// States of few bytes that are spilled.
-fn few() -> [State; 2] {
+/// The states at any other limit in which that tells.
+fn edge(limit: usize) -> [State; 2] {
     [
-        state_of("few room", 5, Some(32), false),
-        state_of("few shared room", 5, Some(32), true),
+        state_of("inline full", limit, None, false),
+        state_of("one left", limit.saturating_sub(1), None, false),
+    ]
+}
+
+/// No byte at all.
+fn nothing() -> [State; 1] {
+    [state_of("empty", 0, None, false)]
+}
+
+/// States of many bytes.
+fn many() -> [State; 4] {
+    [
+        state_of("room of 1000", 1000, Some(1600), false),
+        state_of("full of 1000", 1000, Some(1000), false),
+        state_of("shared room of 1000", 1000, Some(1600), true),
+        state_of("shared full of 1000", 1000, Some(1000), true),
+    ]
+}
+
+/// States of spilled bytes that would stand inline, and of one more.
+fn few(limit: usize) -> [State; 3] {
+    let (more, room) = (limit.saturating_add(1), limit.saturating_add(17));
+    [
+        state_of("few", limit, Some(room), false),
+        state_of("shared few", limit, Some(room), true),
+        state_of("one too many", more, Some(room), false),
     ]
 }
 
 /// What a call is given, made before it: so many letters in each form, and two texts.
 #[derive(Drop)]
-pub(crate) struct Gift {
+pub(crate) struct Gift<const N: usize> {
     pub(crate) bytes: Vec<u8>,
     pub(crate) string: String,
     pub(crate) list: EcoVec<u8>,
-    pub(crate) texts: [EcoString; 2],
+    pub(crate) texts: Vec<SmallText<N>>,
 }
 
 /// What a call makes.
 #[derive(Drop)]
-pub(crate) enum Out {
+pub(crate) enum Out<const N: usize> {
     Nothing,
-    Bytes(EcoBytes),
+    Bytes(SmallBytes<N>),
     Vec(Vec<u8>),
     String(String),
 }
 
-/// The calls of one type.
-pub(crate) trait Calls {
-    /// Makes the call on a value, of what it is given.
-    fn call(&self, value: &mut EcoBytes, gift: Gift, alloc: Global) -> Result<Out, EcoError>;
+/// A call of either type.
+#[derive(Clone, Copy)]
+pub(crate) enum Call {
+    Bytes(Bytes),
+    Text(Text),
 }
 
-/// How a call is written, how many letters it is given, and how many there must be.
-#[derive(Drop)]
-pub(crate) struct Row<C> {
-    pub(crate) call: C,
-    name: &'static str,
-    brings: usize,
-    needs: usize,
-}
-
-pub(crate) fn row_of<C>(call: C, name: &'static str, needs: usize) -> Row<C> {
-    Row {
-        call,
-        name,
-        brings: 0,
-        needs,
+impl Call {
+    /// Makes the call on a value, so often, of what it is given.
+    fn make<const N: usize>(
+        self,
+        value: &mut SmallBytes<N>,
+        gift: Gift<N>,
+        times: usize,
+        alloc: Global,
+    ) -> Result<Out<N>, EcoError> {
+        match self {
+            Call::Bytes(call) => bytes::call_on(call, value, gift, times, alloc),
+            Call::Text(call) => texts::call_on(call, value, gift, times, alloc),
+        }
     }
 }
 
-/// A call that makes a value of so many letters.
-pub(crate) fn maker<C>(call: C, name: &'static str, brings: usize) -> Row<C> {
+/// How a call is written, how many letters it is given, how many there must be, and how often it
+/// is made.
+#[derive(Clone, Copy)]
+pub(crate) struct Row {
+    call: Call,
+    name: &'static str,
+    brings: usize,
+    needs: usize,
+    times: usize,
+}
+
+pub(crate) fn row_of(call: Call, name: &'static str, brings: usize, needs: usize) -> Row {
     Row {
         call,
         name,
         brings,
-        needs: 0,
+        needs,
+        times: 1,
     }
 }
 
-const LETTERS: &str = "ABCDEFGHIJKLMNOPQRSTUVWXYZabcdefgh";
-
-/// So many letters.
-pub(crate) fn letters(len: usize) -> &'static str {
-    LETTERS.get(..len).unwrap_or("")
+/// A call that is made again and again.
+pub(crate) fn repeated(call: Call, name: &'static str, brings: usize, times: usize) -> Row {
+    Row {
+        times,
+        ..row_of(call, name, brings, 0)
+    }
 }
 
-fn gift_of(alloc: Global, len: usize) -> Result<Gift, EcoError> {
-    let letters = letters(len);
+/// So many letters: the first is an A.
+pub(crate) fn letters(alloc: Global, len: usize) -> Result<String, AllocError> {
+    let mut letters = String::new(alloc);
+    for place in 0..len {
+        letters.push(if place == 0 { 'A' } else { 'b' })?;
+    }
+    Ok(letters)
+}
+
+/// `_none` names the type of the texts: a proof knows then that they have a size.
+fn gift_of<const N: usize>(
+    alloc: Global,
+    len: usize,
+    _none: &SmallBytes<N>,
+) -> Result<Gift<N>, EcoError> {
+    let string = letters(alloc, len)?;
+    let letters = string.as_str();
+    let mut texts = Vec::new(alloc);
+    texts.push(SmallText::from_str(alloc, letters)?)?;
+    texts.push(SmallText::from_str(alloc, "12345678")?)?;
     Ok(Gift {
         bytes: Vec::from_clones(alloc, letters.as_bytes())?,
-        string: letters.to_string(alloc)?,
         list: EcoVec::from_slice(alloc, letters.as_bytes())?,
-        texts: [
-            EcoString::from_str(alloc, letters)?,
-            EcoString::from_str(alloc, "12345678")?,
-        ],
+        texts,
+        string,
     })
 }
 
 /// A value in a state.
-fn value_of(alloc: Global, state: State) -> Result<EcoBytes, EcoError> {
-    let letters = letters(state.len).as_bytes();
+fn value_of<const N: usize>(
+    alloc: Global,
+    state: State,
+    _none: &SmallBytes<N>,
+) -> Result<SmallBytes<N>, EcoError> {
+    let letters = letters(alloc, state.len)?;
     let Some(capacity) = state.capacity else {
-        return EcoBytes::from_slice(alloc, letters);
+        return SmallBytes::from_slice(alloc, letters.as_bytes());
     };
     let mut list = EcoVec::with_capacity(alloc, capacity)?;
-    list.extend_from_slice(letters)?;
-    Ok(EcoBytes::from(list))
+    list.extend_from_slice(letters.as_bytes())?;
+    Ok(SmallBytes::from(list))
 }
 
 /// A clone of a value that is to be shared.
-fn twin_of(value: &EcoBytes, state: State) -> Result<Option<EcoBytes>, EcoError> {
+fn twin_of<const N: usize>(
+    value: &SmallBytes<N>,
+    state: State,
+) -> Result<Option<SmallBytes<N>>, EcoError> {
     if !state.shared {
         return Ok(None);
     }
@@ -141,7 +203,7 @@ fn twin_of(value: &EcoBytes, state: State) -> Result<Option<EcoBytes>, EcoError>
 }
 
 /// The block of spilled bytes; none of inline ones.
-fn block_of(value: EcoBytes) -> Option<EcoVec<u8>> {
+fn block_of<const N: usize>(value: SmallBytes<N>) -> Option<EcoVec<u8>> {
     if value.is_inline() {
         return None;
     }
@@ -156,7 +218,7 @@ fn form_of_block(block: &mut Option<EcoVec<u8>>) -> Form {
 }
 
 /// Where two values stand, and the room of the first. Both are let go.
-fn standing_of(value: EcoBytes, twin: EcoBytes) -> Standing {
+fn standing_of<const N: usize>(value: SmallBytes<N>, twin: SmallBytes<N>) -> Standing {
     let capacity = value.capacity();
     let (mut value, mut twin) = (block_of(value), block_of(twin));
     Standing {
@@ -167,7 +229,7 @@ fn standing_of(value: EcoBytes, twin: EcoBytes) -> Standing {
 }
 
 /// Where a value stands that has no twin.
-fn standing_alone(value: EcoBytes) -> Standing {
+pub(crate) fn standing_alone<const N: usize>(value: SmallBytes<N>) -> Standing {
     let capacity = value.capacity();
     Standing {
         form: form_of_block(&mut block_of(value)),
@@ -176,7 +238,7 @@ fn standing_alone(value: EcoBytes) -> Standing {
     }
 }
 
-fn standing(value: EcoBytes, twin: Option<EcoBytes>) -> Standing {
+fn standing<const N: usize>(value: SmallBytes<N>, twin: Option<SmallBytes<N>>) -> Standing {
     match twin {
         Some(twin) => standing_of(value, twin),
         None => standing_alone(value),
@@ -184,14 +246,24 @@ fn standing(value: EcoBytes, twin: Option<EcoBytes>) -> Standing {
 }
 
 /// What stands before a call.
-fn before(kind: Kind, alloc: Global, state: State) -> Result<Standing, EcoError> {
-    let value = value_of(alloc, state)?;
+fn before<const N: usize>(
+    kind: Kind,
+    alloc: Global,
+    state: State,
+    none: &SmallBytes<N>,
+) -> Result<Standing, EcoError> {
+    let value = value_of(alloc, state, none)?;
     let twin = twin_of(&value, state)?;
     Ok(kind.before(standing(value, twin)))
 }
 
 /// What stands after a call.
-fn after(kind: Kind, value: EcoBytes, twin: Option<EcoBytes>, out: Out) -> Standing {
+fn after<const N: usize>(
+    kind: Kind,
+    value: SmallBytes<N>,
+    twin: Option<SmallBytes<N>>,
+    out: Out<N>,
+) -> Standing {
     match out {
         Out::Nothing => standing(value, twin),
         Out::Bytes(made) => {
@@ -207,16 +279,23 @@ fn after(kind: Kind, value: EcoBytes, twin: Option<EcoBytes>, out: Out) -> Stand
     }
 }
 
-fn cost<C: Calls>(kind: Kind, meter: Meter, row: &Row<C>, state: State) -> Result<Cost, EcoError> {
-    let before = before(kind, meter.alloc, state)?;
-    let mut value = value_of(meter.alloc, state)?;
+fn cost<const N: usize>(
+    kind: Kind,
+    meter: Meter,
+    row: Row,
+    state: State,
+    none: &SmallBytes<N>,
+) -> Result<Cost, EcoError> {
+    let before = before(kind, meter.alloc, state, none)?;
+    let mut value = value_of(meter.alloc, state, none)?;
     let twin = twin_of(&value, state)?;
-    let gift = gift_of(meter.alloc, row.brings)?;
+    let gift = gift_of(meter.alloc, row.brings, none)?;
     let _begun = meter.begin();
-    let out = row.call.call(&mut value, gift, meter.alloc)?;
+    let out = row.call.make(&mut value, gift, row.times, meter.alloc)?;
     let _ended = meter.end();
     Ok(Cost {
         kind,
+        limit: N,
         call: row.name,
         state: state.name,
         counts: None,
@@ -225,39 +304,78 @@ fn cost<C: Calls>(kind: Kind, meter: Meter, row: &Row<C>, state: State) -> Resul
     })
 }
 
-fn add_each<C: Calls>(
+/// Adds a row of each call in each of the states. `none` names the type of the values.
+fn add_each<const N: usize>(
     kind: Kind,
     meter: Meter,
     rows: &mut Rows,
-    calls: &[Row<C>],
+    calls: &[Row],
     states: &[State],
+    none: &SmallBytes<N>,
 ) {
     for row in calls {
         for state in states {
             if row.needs <= state.len {
-                rows.add(cost(kind, meter, row, *state));
+                rows.add(cost(kind, meter, *row, *state, none));
             }
         }
     }
 }
 
-/// Adds a row of each call in each state; of one that makes a value, one row.
-pub(crate) fn add_calls<C: Calls>(kind: Kind, meter: Meter, rows: &mut Rows, calls: &[Row<C>]) {
-    if kind == Kind::Make {
-        add_each(kind, meter, rows, calls, &states()[..1]);
+/// Adds a row of each call in each state.
+pub(crate) fn add_calls<const N: usize>(
+    kind: Kind,
+    meter: Meter,
+    rows: &mut Rows,
+    calls: &[Row],
+    none: &SmallBytes<N>,
+) {
+    if N == USUAL {
+        add_each(kind, meter, rows, calls, &usual(), none);
     } else {
-        add_each(kind, meter, rows, calls, &states());
+        let states = if N == 0 { 1 } else { 2 };
+        add_each(kind, meter, rows, calls, &edge(N)[..states], none);
     }
+    add_each(kind, meter, rows, calls, &many(), none);
+}
+
+/// Adds a row of each call that makes a value.
+pub(crate) fn add_makers<const N: usize>(
+    meter: Meter,
+    rows: &mut Rows,
+    calls: &[Row],
+    none: &SmallBytes<N>,
+) {
+    add_each(Kind::Make, meter, rows, calls, &edge(N)[..1], none);
+}
+
+/// Adds a row of each call by which a value grows that is empty.
+pub(crate) fn add_growth<const N: usize>(
+    meter: Meter,
+    rows: &mut Rows,
+    calls: &[Row],
+    none: &SmallBytes<N>,
+) {
+    add_each(Kind::Change, meter, rows, calls, &nothing(), none);
 }
 
 /// Adds rows of few spilled bytes.
-pub(crate) fn add_few<C: Calls>(meter: Meter, rows: &mut Rows, calls: &[Row<C>]) {
-    add_each(Kind::Change, meter, rows, calls, &few());
+pub(crate) fn add_few<const N: usize>(
+    meter: Meter,
+    rows: &mut Rows,
+    calls: &[Row],
+    none: &SmallBytes<N>,
+) {
+    add_each(Kind::Change, meter, rows, calls, &few(N), none);
 }
 
 /// The bytes of a vector that comes of a value.
-pub(crate) fn given<V: Drop>(
+pub(crate) fn given<V: Drop, const N: usize>(
     list: Result<EcoVec<u8>, ecow_list::Rejected<V>>,
-) -> Result<EcoBytes, EcoError> {
-    list.map(|list| EcoBytes::from(list)).map_err(error_of)
+    _none: &SmallBytes<N>,
+) -> Result<SmallBytes<N>, EcoError> {
+    match list {
+        Ok(list) => Ok(SmallBytes::from(list)),
+        Err(rejected) => Err(error_of(rejected)),
+    }
 }

@@ -22,7 +22,7 @@ fn state_of(name: &'static str, len: usize, capacity: usize, shared: bool) -> St
 }
 
 /// The states of a vector.
-pub(crate) fn vectors() -> [State; 7] {
+pub(crate) fn vectors() -> [State; 11] {
     [
         state_of("no block", 0, 0, false),
         state_of("empty", 0, 8, false),
@@ -31,6 +31,10 @@ pub(crate) fn vectors() -> [State; 7] {
         state_of("shared room", 5, 8, true),
         state_of("shared full", 5, 5, true),
         state_of("shared empty", 0, 8, true),
+        state_of("room of 1000", 1000, 1600, false),
+        state_of("full of 1000", 1000, 1000, false),
+        state_of("shared room of 1000", 1000, 1600, true),
+        state_of("shared full of 1000", 1000, 1000, true),
     ]
 }
 

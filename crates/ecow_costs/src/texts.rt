@@ -1,26 +1,35 @@
 //! The calls of texts, each between two that take no memory: that of bytes and that to bytes.
 use crate::marks::Meter;
-use crate::rows::{Kind, Rows};
-use crate::small::{Calls, Gift, Out, Row, add_calls, add_few, given, maker, row_of};
+use crate::rows::{Kind, Rows, USUAL};
+use crate::small;
+use crate::small::{Call, Gift, Out, Row, add_calls, add_few, add_growth, add_makers, given};
 use crate::states::error_of;
-use ecow_bytes::EcoBytes;
+use ecow_bytes::SmallBytes;
 use ecow_list::EcoError;
-use ecow_text::{EcoString, ToEcoString, eco_format};
+use ecow_text::SmallText;
 use std::alloc::{AllocError, Global};
 use std::fmt::Write;
 use std::hash::{DefaultHasher, Hash};
+use std::iter::repeat_n;
 use std::{fmt, mem};
 
-/// A call, with what it is given.
+/// How many pieces an iterator gives that gives many.
+pub(crate) const PIECES: usize = 14286;
+
+/// A call, with the number that it is given. What adds text takes it of the gift.
 #[derive(Clone, Copy)]
-enum Text {
+pub(crate) enum Text {
     Read,
-    Push,
-    PushStr(&'static str),
-    Insert,
-    InsertStr(&'static str),
-    ExtendChars(&'static str),
-    ExtendStrs(&'static str),
+    Push(char),
+    PushReserved,
+    PushStr,
+    Insert(char),
+    InsertLast,
+    InsertStr,
+    InsertStrLast,
+    ExtendChars,
+    ExtendStrs,
+    ExtendManyStrs,
     Write,
     Pop,
     Remove,
@@ -40,10 +49,10 @@ enum Text {
 
 /// A call that makes a text of another.
 #[derive(Clone, Copy)]
-enum Derived {
+pub(crate) enum Derived {
     Clone,
     Repeat(usize),
-    Replace,
+    Replace(&'static str, &'static str),
     Replacen,
     AsciiLower,
     AsciiUpper,
@@ -53,7 +62,7 @@ enum Derived {
 
 /// A call that makes a text of something else.
 #[derive(Clone, Copy)]
-enum Maker {
+pub(crate) enum Maker {
     New,
     Inline,
     TryInline,
@@ -63,141 +72,230 @@ enum Maker {
     FromString,
     FromChars,
     FromStrs,
+    FromManyStrs,
     FromEcoStrings,
     Collect,
-    ToEcoString,
     Format,
 }
 
-fn changes() -> [Row<Text>; 27] {
+fn row_of(call: Text, name: &'static str, brings: usize, needs: usize) -> Row {
+    small::row_of(Call::Text(call), name, brings, needs)
+}
+
+fn repeated(call: Text, name: &'static str, brings: usize, times: usize) -> Row {
+    small::repeated(Call::Text(call), name, brings, times)
+}
+
+fn additions() -> [Row; 22] {
+    [
+        row_of(Text::Push('x'), "t.push(c)", 0, 0),
+        row_of(Text::Push('é'), "t.push(é)", 0, 0),
+        row_of(Text::PushStr, "t.push_str(2)", 2, 0),
+        row_of(Text::PushStr, "t.push_str(none)", 0, 0),
+        row_of(Text::PushStr, "t.push_str(1000)", 1000, 1000),
+        row_of(Text::Insert('x'), "t.insert(0, c)", 0, 0),
+        row_of(Text::Insert('é'), "t.insert(0, é)", 0, 0),
+        row_of(Text::InsertStr, "t.insert_str(0, 2)", 2, 0),
+        row_of(Text::InsertStr, "t.insert_str(0, none)", 0, 0),
+        row_of(Text::InsertStr, "t.insert_str(0, 1000)", 1000, 1000),
+        row_of(Text::ExtendChars, "t.extend_chars(2)", 2, 0),
+        row_of(Text::ExtendChars, "t.extend_chars(none)", 0, 0),
+        row_of(Text::ExtendChars, "t.extend_chars(1000)", 1000, 1000),
+        row_of(Text::ExtendStrs, "t.extend_strs(one of 2)", 2, 0),
+        row_of(Text::ExtendStrs, "t.extend_strs(one of none)", 0, 0),
+        row_of(Text::ExtendStrs, "t.extend_strs(one of 1000)", 1000, 1000),
+        row_of(Text::Write, "t.write_str(2)", 2, 0),
+        row_of(Text::Write, "t.write_str(1000)", 1000, 1000),
+        row_of(Text::Add, "t.add(2)", 2, 0),
+        row_of(Text::Add, "t.add(1000)", 1000, 1000),
+        row_of(Text::IntoBytes, "EcoBytes::from(t)", 0, 0),
+        row_of(Text::IntoBytes, "EcoString::try_from(bytes)", 0, 0),
+    ]
+}
+
+/// Calls by which a text grows.
+fn growing() -> [Row; 12] {
+    [
+        repeated(Text::Push('x'), "t.push(c), 100000 times", 0, 100000),
+        repeated(
+            Text::PushReserved,
+            "t.reserve(1), t.push(c), 100000 times",
+            0,
+            100000,
+        ),
+        repeated(
+            Text::InsertLast,
+            "t.insert(len, c), 100000 times",
+            0,
+            100000,
+        ),
+        repeated(
+            Text::InsertStrLast,
+            "t.insert_str(len, 7), 14286 times",
+            7,
+            14286,
+        ),
+        repeated(Text::PushStr, "t.push_str(7), 14286 times", 7, 14286),
+        repeated(Text::Write, "t.write_str(7), 14286 times", 7, 14286),
+        repeated(Text::Add, "t.add(7), 14286 times", 7, 14286),
+        repeated(
+            Text::ExtendChars,
+            "t.extend_chars(7), 14286 times",
+            7,
+            14286,
+        ),
+        repeated(
+            Text::ExtendStrs,
+            "t.extend_strs(one of 7), 14286 times",
+            7,
+            14286,
+        ),
+        repeated(Text::ExtendChars, "t.extend_chars(100000)", 100000, 1),
+        repeated(Text::ExtendManyStrs, "t.extend_strs(14286 of 7)", 7, 1),
+        repeated(Text::Push('é'), "t.push(é), 50000 times", 0, 50000),
+    ]
+}
+
+fn changes() -> [Row; 15] {
     [
         row_of(
             Text::Read,
             "t.as_str, len, is_empty, capacity, is_inline, is_char_boundary, ==, cmp, hash",
             0,
+            0,
         ),
-        row_of(Text::Push, "t.push(c)", 0),
-        row_of(Text::PushStr("ab"), "t.push_str(2)", 0),
-        row_of(Text::PushStr(""), "t.push_str(none)", 0),
-        row_of(Text::Insert, "t.insert(0, c)", 0),
-        row_of(Text::InsertStr("ab"), "t.insert_str(0, 2)", 0),
-        row_of(Text::InsertStr(""), "t.insert_str(0, none)", 0),
-        row_of(Text::ExtendChars("ab"), "t.extend_chars(2)", 0),
-        row_of(Text::ExtendChars(""), "t.extend_chars(none)", 0),
-        row_of(Text::ExtendStrs("ab"), "t.extend_strs(one of 2)", 0),
-        row_of(Text::ExtendStrs(""), "t.extend_strs(one of none)", 0),
-        row_of(Text::Write, "t.write_str(2)", 0),
-        row_of(Text::Pop, "t.pop()", 0),
-        row_of(Text::Remove, "t.remove(0)", 1),
-        row_of(Text::Truncate(3), "t.truncate(3)", 3),
-        row_of(Text::Truncate(0), "t.truncate(0)", 0),
-        row_of(Text::Clear, "t.clear()", 0),
-        row_of(Text::Reserve(0), "t.reserve(0)", 0),
-        row_of(Text::Reserve(1), "t.reserve(1)", 0),
-        row_of(Text::Reserve(20), "t.reserve(20)", 0),
-        row_of(Text::Lower, "t.make_ascii_lowercase()", 0),
-        row_of(Text::Upper, "t.make_ascii_uppercase()", 0),
-        row_of(Text::Shrink, "t.shrink_to_fit()", 0),
-        row_of(Text::Add, "t.add(2)", 0),
-        row_of(Text::IntoBytes, "EcoBytes::from(t)", 0),
-        row_of(Text::IntoEcoVec, "t.into_eco_vec()", 0),
-        row_of(Text::IntoBytes, "EcoString::try_from(bytes)", 0),
+        row_of(Text::Pop, "t.pop()", 0, 0),
+        row_of(Text::Remove, "t.remove(0)", 0, 1),
+        row_of(Text::Truncate(3), "t.truncate(3)", 0, 3),
+        row_of(Text::Truncate(900), "t.truncate(900)", 0, 1000),
+        row_of(Text::Truncate(0), "t.truncate(0)", 0, 0),
+        row_of(Text::Clear, "t.clear()", 0, 0),
+        row_of(Text::Reserve(0), "t.reserve(0)", 0, 0),
+        row_of(Text::Reserve(1), "t.reserve(1)", 0, 0),
+        row_of(Text::Reserve(20), "t.reserve(20)", 0, 0),
+        row_of(Text::Reserve(1000), "t.reserve(1000)", 0, 1000),
+        row_of(Text::Lower, "t.make_ascii_lowercase()", 0, 0),
+        row_of(Text::Upper, "t.make_ascii_uppercase()", 0, 0),
+        row_of(Text::Shrink, "t.shrink_to_fit()", 0, 0),
+        row_of(Text::IntoEcoVec, "t.into_eco_vec()", 0, 0),
     ]
 }
 
-fn derivations() -> [Row<Text>; 11] {
+fn derivation(call: Derived, name: &'static str) -> Row {
+    row_of(Text::Derived(call), name, 0, 0)
+}
+
+fn derivations() -> [Row; 13] {
     [
-        row_of(Text::Derived(Derived::Clone), "t.clone()", 0),
-        row_of(Text::ToString, "t.to_std_string()", 0),
-        row_of(Text::Derived(Derived::Repeat(0)), "t.repeat(0)", 0),
-        row_of(Text::Derived(Derived::Repeat(1)), "t.repeat(1)", 0),
-        row_of(Text::Derived(Derived::Repeat(3)), "t.repeat(3)", 0),
-        row_of(Text::Derived(Derived::Replace), "t.replace(1, 2)", 0),
-        row_of(
-            Text::Derived(Derived::Replacen),
-            "t.replacen(none, 2, 1)",
-            0,
-        ),
-        row_of(
-            Text::Derived(Derived::AsciiLower),
-            "t.to_ascii_lowercase()",
-            0,
-        ),
-        row_of(
-            Text::Derived(Derived::AsciiUpper),
-            "t.to_ascii_uppercase()",
-            0,
-        ),
-        row_of(Text::Derived(Derived::Lower), "t.to_lowercase()", 0),
-        row_of(Text::Derived(Derived::Upper), "t.to_uppercase()", 0),
+        row_of(Text::ToString, "t.to_std_string()", 0, 0),
+        derivation(Derived::Clone, "t.clone()"),
+        derivation(Derived::Repeat(0), "t.repeat(0)"),
+        derivation(Derived::Repeat(1), "t.repeat(1)"),
+        derivation(Derived::Repeat(3), "t.repeat(3)"),
+        derivation(Derived::Replace("A", "aa"), "t.replace(1, 2)"),
+        derivation(Derived::Replace("b", "bb"), "t.replace(all but 1, 2)"),
+        derivation(Derived::Replace("", "-"), "t.replace(none, 1)"),
+        derivation(Derived::Replacen, "t.replacen(none, 2, 1)"),
+        derivation(Derived::AsciiLower, "t.to_ascii_lowercase()"),
+        derivation(Derived::AsciiUpper, "t.to_ascii_uppercase()"),
+        derivation(Derived::Lower, "t.to_lowercase()"),
+        derivation(Derived::Upper, "t.to_uppercase()"),
     ]
 }
 
-fn makers() -> [Row<Text>; 19] {
+fn making(maker: Maker, name: &'static str, brings: usize) -> Row {
+    row_of(Text::Made(maker), name, brings, 0)
+}
+
+fn makers() -> [Row; 28] {
     [
-        maker(Text::Made(Maker::New), "EcoString::new()", 0),
-        maker(Text::Made(Maker::Inline), "EcoString::inline(15)", 15),
-        maker(
-            Text::Made(Maker::TryInline),
-            "EcoString::try_inline(15)",
-            15,
-        ),
-        maker(
-            Text::Made(Maker::WithCapacity),
-            "EcoString::with_capacity(15)",
-            15,
-        ),
-        maker(
-            Text::Made(Maker::WithCapacity),
-            "EcoString::with_capacity(16)",
-            16,
-        ),
-        maker(Text::Made(Maker::FromChar), "EcoString::from_char(c)", 1),
-        maker(Text::Made(Maker::FromStr), "EcoString::from_str(15)", 15),
-        maker(Text::Made(Maker::FromStr), "EcoString::from_str(16)", 16),
-        maker(
-            Text::Made(Maker::FromString),
-            "EcoString::from_string(15)",
-            15,
-        ),
-        maker(
-            Text::Made(Maker::FromString),
-            "EcoString::from_string(16)",
-            16,
-        ),
-        maker(
-            Text::Made(Maker::FromChars),
-            "EcoString::from_chars(15)",
-            15,
-        ),
-        maker(
-            Text::Made(Maker::FromChars),
-            "EcoString::from_chars(16)",
-            16,
-        ),
-        maker(
-            Text::Made(Maker::FromStrs),
-            "EcoString::from_strs(one of 16)",
-            16,
-        ),
-        maker(
-            Text::Made(Maker::FromEcoStrings),
+        making(Maker::New, "EcoString::new()", 0),
+        making(Maker::Inline, "EcoString::inline(15)", 15),
+        making(Maker::TryInline, "EcoString::try_inline(15)", 15),
+        making(Maker::WithCapacity, "EcoString::with_capacity(15)", 15),
+        making(Maker::WithCapacity, "EcoString::with_capacity(16)", 16),
+        making(Maker::WithCapacity, "EcoString::with_capacity(1000)", 1000),
+        making(Maker::FromChar, "EcoString::from_char(c)", 0),
+        making(Maker::FromStr, "EcoString::from_str(15)", 15),
+        making(Maker::FromStr, "EcoString::from_str(16)", 16),
+        making(Maker::FromStr, "EcoString::from_str(1000)", 1000),
+        making(Maker::FromString, "EcoString::from_string(15)", 15),
+        making(Maker::FromString, "EcoString::from_string(16)", 16),
+        making(Maker::FromString, "EcoString::from_string(1000)", 1000),
+        making(Maker::FromChars, "EcoString::from_chars(15)", 15),
+        making(Maker::FromChars, "EcoString::from_chars(16)", 16),
+        making(Maker::FromChars, "EcoString::from_chars(1000)", 1000),
+        making(Maker::FromStrs, "EcoString::from_strs(one of 16)", 16),
+        making(Maker::FromStrs, "EcoString::from_strs(one of 1000)", 1000),
+        making(
+            Maker::FromEcoStrings,
             "EcoString::from_eco_strings(16, 8)",
             16,
         ),
-        maker(
-            Text::Made(Maker::Collect),
-            "EcoString: collect(16 chars)",
-            16,
+        making(
+            Maker::FromEcoStrings,
+            "EcoString::from_eco_strings(1000, 8)",
+            1000,
         ),
-        maker(Text::Made(Maker::ToEcoString), "to_eco_string(15)", 15),
-        maker(Text::Made(Maker::ToEcoString), "to_eco_string(16)", 16),
-        maker(Text::Made(Maker::Format), "eco_format!(15)", 15),
-        maker(Text::Made(Maker::Format), "eco_format!(16)", 16),
+        making(Maker::Collect, "EcoString: collect(16 chars)", 16),
+        making(Maker::Collect, "EcoString: collect(1000 chars)", 1000),
+        making(Maker::FromChars, "EcoString::from_chars(100000)", 100000),
+        making(Maker::FromManyStrs, "EcoString::from_strs(14286 of 7)", 7),
+        making(Maker::Collect, "EcoString: collect(100000 chars)", 100000),
+        making(Maker::FromStr, "EcoString::from_str(100000)", 100000),
+        making(Maker::Format, "EcoString::format(15)", 15),
+        making(Maker::Format, "EcoString::format(16)", 16),
     ]
 }
 
-fn read(text: &EcoString) {
+/// Calls at any other limit, on both sides of it.
+fn makers_at(limit: usize) -> [Row; 20] {
+    let more = limit.saturating_add(1);
+    [
+        making(Maker::New, "SmallText::new()", 0),
+        making(Maker::Inline, "SmallText::inline(limit)", limit),
+        making(Maker::TryInline, "SmallText::try_inline(limit)", limit),
+        making(
+            Maker::WithCapacity,
+            "SmallText::with_capacity(limit)",
+            limit,
+        ),
+        making(
+            Maker::WithCapacity,
+            "SmallText::with_capacity(limit + 1)",
+            more,
+        ),
+        making(Maker::FromChar, "SmallText::from_char(é)", 0),
+        making(Maker::FromStr, "SmallText::from_str(limit)", limit),
+        making(Maker::FromStr, "SmallText::from_str(limit + 1)", more),
+        making(Maker::FromString, "SmallText::from_string(limit)", limit),
+        making(Maker::FromString, "SmallText::from_string(limit + 1)", more),
+        making(Maker::FromChars, "SmallText::from_chars(limit)", limit),
+        making(Maker::FromChars, "SmallText::from_chars(limit + 1)", more),
+        making(Maker::FromStrs, "SmallText::from_strs(one of limit)", limit),
+        making(
+            Maker::FromStrs,
+            "SmallText::from_strs(one of limit + 1)",
+            more,
+        ),
+        making(
+            Maker::FromEcoStrings,
+            "SmallText::from_eco_strings(limit, 8)",
+            limit,
+        ),
+        making(
+            Maker::FromEcoStrings,
+            "SmallText::from_eco_strings(limit + 1, 8)",
+            more,
+        ),
+        making(Maker::Collect, "SmallText: collect(limit chars)", limit),
+        making(Maker::Collect, "SmallText: collect(limit + 1 chars)", more),
+        making(Maker::Format, "SmallText::format(limit)", limit),
+        making(Maker::Format, "SmallText::format(limit + 1)", more),
+    ]
+}
+
+fn read<const N: usize>(text: &SmallText<N>) {
     let _seen = text.as_str().len() == text.len() && text.is_empty() == (text.len() == 0);
     let _room = text.capacity();
     let _mode = text.is_inline() && text.is_char_boundary(0);
@@ -207,57 +305,74 @@ fn read(text: &EcoString) {
     text.hash(&mut hasher);
 }
 
-fn insert(text: &mut EcoString) -> Result<(), EcoError> {
+fn insert<const N: usize>(text: &mut SmallText<N>, c: char) -> Result<(), EcoError> {
     if !text.is_char_boundary(0) {
         return Ok(());
     }
-    text.insert(0, 'x')
+    text.insert(0, c)
 }
 
-fn insert_str(text: &mut EcoString, more: &str) -> Result<(), EcoError> {
+fn insert_str<const N: usize>(text: &mut SmallText<N>, more: &str) -> Result<(), EcoError> {
     if !text.is_char_boundary(0) {
         return Ok(());
     }
     text.insert_str(0, more)
 }
 
-fn remove(text: &mut EcoString) -> Result<(), EcoError> {
+fn insert_last<const N: usize>(text: &mut SmallText<N>, more: &str) -> Result<(), EcoError> {
+    let end = text.len();
+    if !text.is_char_boundary(end) {
+        return Ok(());
+    }
+    text.insert_str(end, more)
+}
+
+fn push_reserved<const N: usize>(text: &mut SmallText<N>) -> Result<(), EcoError> {
+    text.reserve(1)?;
+    text.push('x')
+}
+
+fn remove<const N: usize>(text: &mut SmallText<N>) -> Result<(), EcoError> {
     if text.len() == 0 || !text.is_char_boundary(0) {
         return Ok(());
     }
     text.remove(0).map(drop)
 }
 
-fn truncate(text: &mut EcoString, len: usize) -> Result<(), EcoError> {
+fn truncate<const N: usize>(text: &mut SmallText<N>, len: usize) -> Result<(), EcoError> {
     if !text.is_char_boundary(len) {
         return Ok(());
     }
     text.truncate(len)
 }
 
-fn write(text: &mut EcoString) -> Result<(), EcoError> {
-    match text.write_str("ab") {
+fn write<const N: usize>(text: &mut SmallText<N>, more: &str) -> Result<(), EcoError> {
+    match text.write_str(more) {
         Ok(()) => Ok(()),
         Err(_) => Err(EcoError::Memory),
     }
 }
 
 /// Makes a call that adds text.
-fn add(call: Text, text: &mut EcoString) -> Result<(), EcoError> {
+fn add<const N: usize>(call: Text, text: &mut SmallText<N>, more: &str) -> Result<(), EcoError> {
     match call {
-        Text::Push => text.push('x'),
-        Text::PushStr(more) => text.push_str(more),
-        Text::Insert => insert(text),
-        Text::InsertStr(more) => insert_str(text, more),
-        Text::ExtendChars(more) => text.extend_chars(more.chars()),
-        Text::ExtendStrs(more) => text.extend_strs(Some(more)),
-        Text::Write => write(text),
+        Text::Push(c) => text.push(c),
+        Text::PushStr => text.push_str(more),
+        Text::Insert(c) => insert(text, c),
+        Text::InsertStr => insert_str(text, more),
+        Text::ExtendChars => text.extend_chars(more.chars()),
+        Text::ExtendStrs => text.extend_strs(Some(more)),
+        Text::ExtendManyStrs => text.extend_strs(repeat_n(more, PIECES)),
+        Text::PushReserved => push_reserved(text),
+        Text::InsertLast => insert_last(text, "x"),
+        Text::InsertStrLast => insert_last(text, more),
+        Text::Write => write(text, more),
         _ => change(call, text),
     }
 }
 
 /// Makes a call that adds no text.
-fn change(call: Text, text: &mut EcoString) -> Result<(), EcoError> {
+fn change<const N: usize>(call: Text, text: &mut SmallText<N>) -> Result<(), EcoError> {
     match call {
         Text::Pop => text.pop().map(drop),
         Text::Remove => remove(text),
@@ -273,7 +388,7 @@ fn change(call: Text, text: &mut EcoString) -> Result<(), EcoError> {
 }
 
 /// Makes a call that is never refused.
-fn settle(call: Text, text: &mut EcoString) {
+fn settle<const N: usize>(call: Text, text: &mut SmallText<N>) {
     match call {
         Text::Clear => text.clear(),
         Text::Shrink => text.shrink_to_fit(),
@@ -282,26 +397,45 @@ fn settle(call: Text, text: &mut EcoString) {
     }
 }
 
-/// The bytes of the text after a call.
-fn changed(call: Text, text: EcoString) -> Result<EcoBytes, EcoError> {
-    match call {
-        Text::Add => text
-            .add("ab")
-            .map(|sum| EcoBytes::from(sum))
-            .map_err(error_of),
-        Text::IntoEcoVec => given(text.into_eco_vec()),
-        _ => {
-            let mut text = text;
-            add(call, &mut text).map(|()| EcoBytes::from(text))
-        }
+/// The text with more behind it, so often.
+fn sum<const N: usize>(
+    text: SmallText<N>,
+    more: &str,
+    times: usize,
+) -> Result<SmallText<N>, EcoError> {
+    let mut sum = text;
+    for _ in 0..times {
+        sum = sum.add(more).map_err(error_of)?;
     }
+    Ok(sum)
 }
 
-fn text_made(call: Derived, text: &EcoString) -> Result<EcoString, EcoError> {
+/// The bytes of the text after a call that is made so often. `none` names their type.
+fn changed<const N: usize>(
+    call: Text,
+    text: SmallText<N>,
+    more: &str,
+    times: usize,
+    none: &SmallBytes<N>,
+) -> Result<SmallBytes<N>, EcoError> {
+    let mut text = text;
+    match call {
+        Text::IntoEcoVec => return given(text.into_eco_vec(), none),
+        Text::Add => text = sum(text, more, times)?,
+        _ => {
+            for _ in 0..times {
+                add(call, &mut text, more)?;
+            }
+        }
+    }
+    Ok(SmallBytes::from(text))
+}
+
+fn text_made<const N: usize>(call: Derived, text: &SmallText<N>) -> Result<SmallText<N>, EcoError> {
     match call {
         Derived::Clone => spilled_or_inline(text.clone()),
         Derived::Repeat(count) => text.repeat(count),
-        Derived::Replace => text.replace("A", "aa"),
+        Derived::Replace(pattern, replacement) => text.replace(pattern, replacement),
         Derived::Replacen => text.replacen("", "--", 1),
         Derived::AsciiLower => text.to_ascii_lowercase(),
         Derived::AsciiUpper => text.to_ascii_uppercase(),
@@ -310,93 +444,102 @@ fn text_made(call: Derived, text: &EcoString) -> Result<EcoString, EcoError> {
     }
 }
 
-fn spilled_or_inline(made: Result<EcoString, AllocError>) -> Result<EcoString, EcoError> {
+fn spilled_or_inline<const N: usize>(
+    made: Result<SmallText<N>, AllocError>,
+) -> Result<SmallText<N>, EcoError> {
     match made {
         Ok(text) => Ok(text),
         Err(error) => Err(error.into()),
     }
 }
 
-fn printed(made: Result<EcoString, fmt::Error>) -> Result<EcoString, EcoError> {
+fn printed<const N: usize>(
+    made: Result<SmallText<N>, fmt::Error>,
+) -> Result<SmallText<N>, EcoError> {
     match made {
         Ok(text) => Ok(text),
         Err(_) => Err(EcoError::Memory),
     }
 }
 
-fn inline(alloc: Global, text: &str) -> EcoString {
-    if text.len() > 15 {
-        return EcoString::new(alloc);
+fn inline<const N: usize>(alloc: Global, text: &str, _none: &SmallText<N>) -> SmallText<N> {
+    if text.len() > N {
+        return SmallText::new(alloc);
     }
-    EcoString::inline(alloc, text)
+    SmallText::inline(alloc, text)
 }
 
-fn try_inline(alloc: Global, text: &str) -> EcoString {
-    match EcoString::try_inline(alloc, text) {
+fn try_inline<const N: usize>(alloc: Global, text: &str, _none: &SmallText<N>) -> SmallText<N> {
+    match SmallText::try_inline(alloc, text) {
         Some(made) => made,
-        None => EcoString::new(alloc),
+        None => SmallText::new(alloc),
     }
-}
-
-fn formatted(alloc: Global, text: &str) -> Result<EcoString, fmt::Error> {
-    eco_format!(in alloc; "{text}")
 }
 
 /// Makes a text of what is given.
-fn make(call: Maker, gift: Gift, alloc: Global) -> Result<EcoString, EcoError> {
+fn make<const N: usize>(
+    call: Maker,
+    gift: Gift<N>,
+    alloc: Global,
+) -> Result<SmallText<N>, EcoError> {
+    let (text, none) = (gift.string.as_str(), SmallText::new(alloc));
     match call {
-        Maker::New => Ok(EcoString::new(alloc)),
-        Maker::Inline => Ok(inline(alloc, gift.string.as_str())),
-        Maker::TryInline => Ok(try_inline(alloc, gift.string.as_str())),
-        Maker::WithCapacity => EcoString::with_capacity(alloc, gift.string.len()),
-        Maker::FromStr => EcoString::from_str(alloc, gift.string.as_str()),
-        Maker::FromChar => EcoString::from_char(alloc, 'é'),
-        Maker::FromString => EcoString::from_string(alloc, gift.string).map_err(error_of),
-        Maker::FromChars => EcoString::from_chars(alloc, gift.string.as_str().chars()),
-        Maker::FromStrs => EcoString::from_strs(alloc, Some(gift.string.as_str())),
-        Maker::FromEcoStrings => EcoString::from_eco_strings(alloc, gift.texts),
-        Maker::Collect => spilled_or_inline(gift.string.as_str().chars().collect(alloc)),
-        Maker::ToEcoString => printed(gift.string.as_str().to_eco_string(alloc)),
-        Maker::Format => printed(formatted(alloc, gift.string.as_str())),
+        Maker::New => Ok(none),
+        Maker::Inline => Ok(inline(alloc, text, &none)),
+        Maker::TryInline => Ok(try_inline(alloc, text, &none)),
+        Maker::WithCapacity => SmallText::with_capacity(alloc, text.len()),
+        Maker::FromStr => SmallText::from_str(alloc, text),
+        Maker::FromChar => SmallText::from_char(alloc, 'é'),
+        Maker::FromString => SmallText::from_string(alloc, gift.string).map_err(error_of),
+        Maker::FromChars => SmallText::from_chars(alloc, text.chars()),
+        Maker::FromStrs => SmallText::from_strs(alloc, Some(text)),
+        Maker::FromManyStrs => SmallText::from_strs(alloc, repeat_n(text, PIECES)),
+        Maker::FromEcoStrings => SmallText::from_eco_strings(alloc, gift.texts),
+        Maker::Collect => spilled_or_inline(text.chars().collect(alloc)),
+        Maker::Format => printed(SmallText::format(alloc, text)),
     }
 }
 
-fn text_of(bytes: EcoBytes) -> Result<EcoString, EcoError> {
-    match EcoString::try_from(bytes) {
+fn text_of<const N: usize>(bytes: SmallBytes<N>) -> Result<SmallText<N>, EcoError> {
+    match SmallText::try_from(bytes) {
         Ok(text) => Ok(text),
         Err(_) => Err(EcoError::Capacity),
     }
 }
 
-/// Makes a call on a text, whose bytes then stand in the value's place.
-fn call_on(call: Text, value: &mut EcoBytes, alloc: Global) -> Result<Out, EcoError> {
-    let text = text_of(mem::replace(value, EcoBytes::new(alloc)))?;
+/// Makes a call on a text, so often, of what it is given. Its bytes then stand in the value's place.
+pub(crate) fn call_on<const N: usize>(
+    call: Text,
+    value: &mut SmallBytes<N>,
+    gift: Gift<N>,
+    times: usize,
+    alloc: Global,
+) -> Result<Out<N>, EcoError> {
+    let text = text_of(mem::replace(value, SmallBytes::new(alloc)))?;
     let made = match call {
-        Text::Derived(call) => text_made(call, &text).map(|made| Out::Bytes(EcoBytes::from(made))),
-        Text::ToString => text.to_std_string().map(|made| Out::String(made)),
+        Text::Made(call) => Out::Bytes(SmallBytes::from(make(call, gift, alloc)?)),
+        Text::Derived(call) => Out::Bytes(SmallBytes::from(text_made(call, &text)?)),
+        Text::ToString => Out::String(text.to_std_string()?),
         _ => {
-            *value = changed(call, text)?;
+            *value = changed(call, text, gift.string.as_str(), times, value)?;
             return Ok(Out::Nothing);
         }
     };
-    *value = EcoBytes::from(text);
-    made
+    *value = SmallBytes::from(text);
+    Ok(made)
 }
 
-impl Calls for Text {
-    fn call(&self, value: &mut EcoBytes, gift: Gift, alloc: Global) -> Result<Out, EcoError> {
-        match *self {
-            Text::Made(call) => {
-                make(call, gift, alloc).map(|made| Out::Bytes(EcoBytes::from(made)))
-            }
-            _ => call_on(*self, value, alloc),
-        }
+/// `none` names the type of the bytes of the texts.
+pub(crate) fn add_rows<const N: usize>(meter: Meter, rows: &mut Rows, none: &SmallBytes<N>) {
+    let shrink = [row_of(Text::Shrink, "t.shrink_to_fit()", 0, 0)];
+    add_calls(Kind::Change, meter, rows, &additions(), none);
+    add_calls(Kind::Change, meter, rows, &changes(), none);
+    add_few(meter, rows, &shrink, none);
+    add_calls(Kind::Derive, meter, rows, &derivations(), none);
+    if N == USUAL {
+        add_makers(meter, rows, &makers(), none);
+        add_growth(meter, rows, &growing(), none);
+    } else {
+        add_makers(meter, rows, &makers_at(N), none);
     }
-}
-
-pub(crate) fn add_rows(meter: Meter, rows: &mut Rows) {
-    add_calls(Kind::Change, meter, rows, &changes());
-    add_few(meter, rows, &[row_of(Text::Shrink, "t.shrink_to_fit()", 0)]);
-    add_calls(Kind::Derive, meter, rows, &derivations());
-    add_calls(Kind::Make, meter, rows, &makers());
 }

@@ -1,6 +1,6 @@
 //! The calls of vectors, over elements that count their clones and drops.
 use crate::marks::Meter;
-use crate::rows::{Cost, Form, Kind, Rows, Standing};
+use crate::rows::{Cost, Form, Kind, Rows, Standing, USUAL};
 use crate::states::{Pair, State, error_of, form_of, kept_pair, vectors};
 use ecow_list::{Drain, EcoError, EcoVec, IntoArray, IntoIter, Splice, range_in};
 use ecow_testing::elements::{Counting, Tally};
@@ -12,7 +12,9 @@ use std::mem;
 enum Call {
     Read,
     Push,
+    PushReserved,
     Insert,
+    InsertLast,
     Set,
     Update,
     Pop,
@@ -23,6 +25,7 @@ enum Call {
     Reserve(usize),
     ExtendFromSlice,
     Extend,
+    ExtendByOne,
     Drain(usize, usize),
     Splice(usize, usize),
     MakeMut,
@@ -42,13 +45,15 @@ enum Call {
     Collect,
 }
 
-/// How a call is written, how many elements it is given, and how many there must be.
+/// How a call is written, how many elements it is given, how many there must be, and how often it
+/// is made.
 #[derive(Clone, Copy)]
 struct Row {
     call: Call,
     name: &'static str,
     brings: usize,
     needs: usize,
+    times: usize,
 }
 
 fn row_of(call: Call, name: &'static str, brings: usize, needs: usize) -> Row {
@@ -57,6 +62,15 @@ fn row_of(call: Call, name: &'static str, brings: usize, needs: usize) -> Row {
         name,
         brings,
         needs,
+        times: 1,
+    }
+}
+
+/// A call that is made again and again.
+fn repeated(call: Call, name: &'static str, brings: usize, times: usize) -> Row {
+    Row {
+        times,
+        ..row_of(call, name, brings, 0)
     }
 }
 
@@ -76,9 +90,9 @@ fn first_rows() -> [Row; 14] {
         row_of(Call::Remove, "remove(0)", 0, 1),
         row_of(Call::Truncate(3), "truncate(3)", 0, 3),
         row_of(Call::Truncate(0), "truncate(0)", 0, 0),
-        row_of(Call::Truncate(9), "truncate(9)", 0, 0),
+        row_of(Call::Truncate(1001), "truncate(1001)", 0, 0),
         row_of(Call::Clear, "clear()", 0, 0),
-        row_of(Call::Retain, "retain(3 of 5)", 0, 0),
+        row_of(Call::Retain, "retain(all but 2)", 0, 0),
         row_of(Call::MakeMut, "make_mut()", 0, 0),
         row_of(Call::OwnMut, "own_mut()", 0, 0),
     ]
@@ -101,12 +115,52 @@ fn last_rows() -> [Row; 17] {
         row_of(Call::Splice(0, 0), "splice(0..0, 2)", 2, 0),
         row_of(Call::IntoVec, "into_vec()", 0, 0),
         row_of(Call::IntoIter, "into_iter()", 0, 0),
-        row_of(Call::IntoArray, "into_array::<5>()", 0, 5),
+        row_of(Call::IntoArray, "into_array()", 0, 5),
         row_of(Call::Drop, "drop(v)", 0, 0),
     ]
 }
 
-fn makers() -> [Row; 16] {
+/// Calls on vectors of 1000.
+fn long_rows() -> [Row; 6] {
+    [
+        row_of(Call::Truncate(900), "truncate(900)", 0, 1000),
+        row_of(Call::Reserve(1000), "reserve(1000)", 0, 1000),
+        row_of(Call::ExtendFromSlice, "extend_from_slice(1000)", 1000, 1000),
+        row_of(Call::Extend, "extend(1000)", 1000, 1000),
+        row_of(Call::Drain(100, 900), "drain(100..900)", 0, 1000),
+        row_of(Call::Splice(100, 900), "splice(100..900, 1000)", 1000, 1000),
+    ]
+}
+
+/// Calls by which a vector without a block grows.
+fn growing_rows() -> [Row; 7] {
+    [
+        repeated(Call::Push, "push(x), 100000 times", 100000, 100000),
+        repeated(
+            Call::PushReserved,
+            "reserve(1), push(x), 100000 times",
+            100000,
+            100000,
+        ),
+        repeated(
+            Call::InsertLast,
+            "insert(len, x), 100000 times",
+            100000,
+            100000,
+        ),
+        repeated(Call::ExtendByOne, "extend(1), 100000 times", 100000, 100000),
+        repeated(
+            Call::ExtendFromSlice,
+            "extend_from_slice(7), 14286 times",
+            7,
+            14286,
+        ),
+        row_of(Call::Extend, "extend(100000)", 100000, 0),
+        row_of(Call::Splice(0, 0), "splice(0..0, 100000)", 100000, 0),
+    ]
+}
+
+fn makers() -> [Row; 25] {
     [
         row_of(Call::FromVec, "EcoVec::from_vec(none)", 0, 0),
         row_of(Call::FromVec, "EcoVec::from_vec(5)", 5, 0),
@@ -124,6 +178,20 @@ fn makers() -> [Row; 16] {
         row_of(Call::FromIter, "EcoVec::from_iter(5)", 5, 0),
         row_of(Call::Collect, "collect(5)", 5, 0),
         row_of(Call::Read, "EcoVec::new()", 0, 0),
+        row_of(Call::FromVec, "EcoVec::from_vec(1000)", 1000, 0),
+        row_of(
+            Call::WithCapacity(1000),
+            "EcoVec::with_capacity(1000)",
+            0,
+            0,
+        ),
+        row_of(Call::FromArray, "EcoVec::from_array(1000)", 1000, 0),
+        row_of(Call::FromSlice, "EcoVec::from_slice(1000)", 1000, 0),
+        row_of(Call::FromElem(1000), "EcoVec::from_elem(x, 1000)", 1, 0),
+        row_of(Call::FromIter, "EcoVec::from_iter(1000)", 1000, 0),
+        row_of(Call::Collect, "collect(1000)", 1000, 0),
+        row_of(Call::FromIter, "EcoVec::from_iter(100000)", 100000, 0),
+        row_of(Call::Collect, "collect(100000)", 100000, 0),
     ]
 }
 
@@ -145,6 +213,7 @@ enum Given {
     Vec(Vec<Counting>),
     Iter(IntoIter<Counting>),
     Array([Counting; 5]),
+    Long([Counting; 1000]),
 }
 
 type Outcome = Result<Out, EcoError>;
@@ -174,6 +243,15 @@ fn read(list: &mut EcoVec<Counting>) -> Out {
 
 fn insert(list: &mut EcoVec<Counting>, value: Counting) -> Result<(), EcoError> {
     list.insert(0, value).map_err(error_of)
+}
+
+fn insert_last(list: &mut EcoVec<Counting>, value: Counting) -> Result<(), EcoError> {
+    list.insert(list.len(), value).map_err(error_of)
+}
+
+fn push_reserved(list: &mut EcoVec<Counting>, value: Counting) -> Result<(), EcoError> {
+    list.reserve(1)?;
+    list.push(value).map_err(error_of)
 }
 
 fn set(list: &mut EcoVec<Counting>, value: Counting) -> Result<(), EcoError> {
@@ -247,6 +325,9 @@ fn taken(gift: &mut Vec<Counting>, alloc: Global) -> Vec<Counting> {
 fn put(call: Call, list: &mut EcoVec<Counting>, value: Counting) -> Outcome {
     nothing(match call {
         Call::Insert => insert(list, value),
+        Call::InsertLast => insert_last(list, value),
+        Call::PushReserved => push_reserved(list, value),
+        Call::ExtendByOne => list.extend(Some(value)),
         Call::Set => set(list, value),
         _ => list.push(value).map_err(error_of),
     })
@@ -277,7 +358,12 @@ fn call_on(
 ) -> Outcome {
     match call {
         Call::Read => Ok(read(list)),
-        Call::Push | Call::Insert | Call::Set => match gift.pop() {
+        Call::Push
+        | Call::PushReserved
+        | Call::Insert
+        | Call::InsertLast
+        | Call::ExtendByOne
+        | Call::Set => match gift.pop() {
             Some(value) => put(call, list, value),
             None => Ok(Out::Nothing),
         },
@@ -308,10 +394,22 @@ fn give(call: Call, list: EcoVec<Counting>) -> Result<Given, EcoError> {
 }
 
 fn array_of(list: EcoVec<Counting>) -> Result<Given, EcoError> {
-    match list.into_array::<5>() {
-        Ok(array) => Ok(Given::Array(array)),
-        Err(IntoArray::Length(_)) => Ok(Given::Nothing),
-        Err(IntoArray::Refused(error, _)) => Err(error),
+    if list.len() == 5 {
+        return list
+            .into_array::<5>()
+            .map(|array| Given::Array(array))
+            .map_err(error_of_array);
+    }
+    list.into_array::<1000>()
+        .map(|array| Given::Long(array))
+        .map_err(error_of_array)
+}
+
+/// Why there is no array. Another length would be a mistake of the rows.
+fn error_of_array(error: IntoArray<Counting>) -> EcoError {
+    match error {
+        IntoArray::Length(_) => EcoError::Capacity,
+        IntoArray::Refused(error, _) => error,
     }
 }
 
@@ -322,11 +420,14 @@ fn clone(list: &EcoVec<Counting>) -> Result<EcoVec<Counting>, EcoError> {
     }
 }
 
-fn from_array(alloc: Global, gift: Vec<Counting>) -> Result<EcoVec<Counting>, EcoError> {
-    if gift.len() != 5 {
-        return Ok(EcoVec::new(alloc));
+fn from_array<const N: usize>(
+    alloc: Global,
+    gift: Vec<Counting>,
+) -> Result<EcoVec<Counting>, EcoError> {
+    if gift.len() != N {
+        return Err(EcoError::Capacity);
     }
-    let elements: [Counting; 5] = gift.try_into().unwrap();
+    let elements: [Counting; N] = gift.try_into().unwrap();
     EcoVec::from_array(alloc, elements).map_err(error_of)
 }
 
@@ -358,7 +459,8 @@ fn make(call: Call, gift: &mut Vec<Counting>, alloc: Global) -> Result<EcoVec<Co
     match call {
         Call::WithCapacity(n) => EcoVec::with_capacity(alloc, n),
         Call::FromVec => EcoVec::from_vec(alloc, taken(gift, alloc)).map_err(error_of),
-        Call::FromArray => from_array(alloc, taken(gift, alloc)),
+        Call::FromArray if gift.len() == 5 => from_array::<5>(alloc, taken(gift, alloc)),
+        Call::FromArray => from_array::<1000>(alloc, taken(gift, alloc)),
         Call::FromNoArray => from_no_array(alloc),
         Call::FromSlice => EcoVec::from_slice(alloc, gift.as_slice()),
         Call::FromElem(n) => from_elem(alloc, gift, n),
@@ -419,10 +521,14 @@ fn cost(kind: Kind, meter: Meter, row: Row, state: State) -> Result<Cost, EcoErr
     let before = kind.before(kept.standing());
     let counted = counts(&tally);
     let _begun = meter.begin();
-    let mut out = call_any(kind, row.call, &mut kept, &mut gift, meter.alloc)?;
+    let mut out = Out::Nothing;
+    for _ in 0..row.times {
+        out = call_any(kind, row.call, &mut kept, &mut gift, meter.alloc)?;
+    }
     let _ended = meter.end();
     Ok(Cost {
         kind,
+        limit: USUAL,
         call: row.name,
         state: state.name,
         counts: since(&tally, counted),
@@ -446,6 +552,7 @@ pub(crate) fn add_rows(meter: Meter, rows: &mut Rows) {
     let states = vectors();
     add_each(Kind::Change, meter, rows, &first_rows(), &states);
     add_each(Kind::Change, meter, rows, &last_rows(), &states);
+    add_each(Kind::Change, meter, rows, &long_rows(), &states);
     add_each(
         Kind::Derive,
         meter,
@@ -453,5 +560,6 @@ pub(crate) fn add_rows(meter: Meter, rows: &mut Rows) {
         &[row_of(Call::Clone, "clone()", 0, 0)],
         &states,
     );
+    add_each(Kind::Change, meter, rows, &growing_rows(), &states[..1]);
     add_each(Kind::Make, meter, rows, &makers(), &states[..1]);
 }

@@ -1,5 +1,5 @@
 //! The calls of `SmallBytes`.
-use crate::short::Short;
+use crate::short::Long;
 use crate::small::{Call, Small, State, states};
 use crate::steps::{Row, Word};
 use crate::watch::Watch;
@@ -11,7 +11,13 @@ use std::io::Write;
 /// The bytes that calls bring.
 const ADDED: [u8; 12] = [46, 47, 48, 49, 50, 51, 52, 53, 54, 55, 56, 57];
 
-const LETTERS: [u8; 40] = *b"abcdefghijklmnopqrstuvwxyz{|}~ABCDEFGHIJ";
+const LETTERS: [u8; 280] = *b"abcdefghijklmnopqrstuvwxyz{|}~ABCDEFGHIJ\
+    abcdefghijklmnopqrstuvwxyz{|}~ABCDEFGHIJ\
+    abcdefghijklmnopqrstuvwxyz{|}~ABCDEFGHIJ\
+    abcdefghijklmnopqrstuvwxyz{|}~ABCDEFGHIJ\
+    abcdefghijklmnopqrstuvwxyz{|}~ABCDEFGHIJ\
+    abcdefghijklmnopqrstuvwxyz{|}~ABCDEFGHIJ\
+    abcdefghijklmnopqrstuvwxyz{|}~ABCDEFGHIJ";
 
 pub(crate) const STEPS: [Row; 37] = [
     (Word::Push, 0, 0, 1),
@@ -65,12 +71,12 @@ impl<const N: usize> Small for SmallBytes<N> {
         N
     }
 
-    fn letters(len: usize) -> Short {
-        Short::of_bytes(first(&LETTERS, len))
+    fn letters(len: usize) -> Long {
+        Long::of_bytes(first(&LETTERS, len))
     }
 
-    fn added(count: usize) -> Short {
-        Short::of_bytes(first(&ADDED, count))
+    fn added(count: usize) -> Long {
+        Long::of_bytes(first(&ADDED, count))
     }
 
     fn made(alloc: Global, state: State) -> Result<Self, EcoError> {
@@ -92,8 +98,8 @@ impl<const N: usize> Small for SmallBytes<N> {
         }
     }
 
-    fn bytes(&self) -> Short {
-        Short::of_bytes(self.as_slice())
+    fn bytes(&self) -> Long {
+        Long::of_bytes(self.as_slice())
     }
 
     fn is_inline(&self) -> bool {
@@ -246,7 +252,7 @@ fn arrays_hold<const N: usize>(alloc: Global, watch: &Watch, _none: &SmallBytes<
         watch,
         SmallBytes::<N>::from_array(alloc, *long),
         long,
-        false,
+        N >= 26,
     )
 }
 
@@ -304,7 +310,7 @@ pub(crate) fn derived_hold<const N: usize>(
 
 fn repeated_hold<const N: usize>(watch: &Watch, bytes: &SmallBytes<N>) -> bool {
     let mut hold = true;
-    let mut want = Short::new();
+    let mut want = Long::new();
     for count in 0..3 {
         let inline = want.len() <= N;
         hold = match bytes.repeat(count) {

@@ -73,17 +73,21 @@ fn lists_hold<K: Keeping>(alloc: Global, watch: &Watch) -> bool {
 }
 
 /// The parts of the program, each of which holds or is wrong.
-const PARTS: [&str; 25] = [
+const PARTS: [&str; 29] = [
     "vectors of numbers",
     "vectors of names",
     "bytes, none inline",
+    "bytes, 1 inline",
     "bytes, 3 inline",
     "bytes, 15 inline",
     "bytes, 23 inline",
+    "bytes, 255 inline",
     "texts, none inline",
+    "texts, 1 inline",
     "texts, 3 inline",
     "texts, 15 inline",
     "texts, 23 inline",
+    "texts, 255 inline",
     "printed texts",
     "lists of a store",
     "counted lists",
@@ -105,39 +109,55 @@ fn is_right(part: usize, alloc: Global, watch: &Watch) -> bool {
     let holds = match part {
         0 => vectors::calls_hold::<i64>(alloc, watch),
         1 => vectors::calls_hold::<Named>(alloc, watch),
-        2 => bytes_hold::<0>(alloc, watch, &SmallBytes::new(alloc)),
-        3 => bytes_hold::<3>(alloc, watch, &SmallBytes::new(alloc)),
-        4 => bytes_hold::<15>(alloc, watch, &SmallBytes::new(alloc)),
-        5 => bytes_hold::<23>(alloc, watch, &SmallBytes::new(alloc)),
-        6 => texts_hold::<0>(alloc, watch, &SmallText::new(alloc)),
-        7 => texts_hold::<3>(alloc, watch, &SmallText::new(alloc)),
-        8 => texts_hold::<15>(alloc, watch, &SmallText::new(alloc)),
-        9 => texts_hold::<23>(alloc, watch, &SmallText::new(alloc)),
-        10 => prints::printing_holds(alloc, watch),
-        24 => asked::items_hold(alloc, watch),
-        23 => makers::makers_hold::<i64>(alloc, watch)
+        2..=7 => is_right_bytes(part, alloc, watch),
+        8..=13 => is_right_text(part, alloc, watch),
+        14 => prints::printing_holds(alloc, watch),
+        27 => makers::makers_hold::<i64>(alloc, watch)
             && makers::makers_hold::<Named>(alloc, watch),
+        28 => asked::items_hold(alloc, watch),
         _ => is_right_keeping(part, alloc, watch),
     };
     holds && watch.is_kept()
 }
 
+fn is_right_bytes(part: usize, alloc: Global, watch: &Watch) -> bool {
+    match part {
+        2 => bytes_hold::<0>(alloc, watch, &SmallBytes::new(alloc)),
+        3 => bytes_hold::<1>(alloc, watch, &SmallBytes::new(alloc)),
+        4 => bytes_hold::<3>(alloc, watch, &SmallBytes::new(alloc)),
+        5 => bytes_hold::<15>(alloc, watch, &SmallBytes::new(alloc)),
+        6 => bytes_hold::<23>(alloc, watch, &SmallBytes::new(alloc)),
+        _ => bytes_hold::<255>(alloc, watch, &SmallBytes::new(alloc)),
+    }
+}
+
+fn is_right_text(part: usize, alloc: Global, watch: &Watch) -> bool {
+    match part {
+        8 => texts_hold::<0>(alloc, watch, &SmallText::new(alloc)),
+        9 => texts_hold::<1>(alloc, watch, &SmallText::new(alloc)),
+        10 => texts_hold::<3>(alloc, watch, &SmallText::new(alloc)),
+        11 => texts_hold::<15>(alloc, watch, &SmallText::new(alloc)),
+        12 => texts_hold::<23>(alloc, watch, &SmallText::new(alloc)),
+        _ => texts_hold::<255>(alloc, watch, &SmallText::new(alloc)),
+    }
+}
+
 fn is_right_keeping(part: usize, alloc: Global, watch: &Watch) -> bool {
     match part {
-        11 => lists_hold::<SmallStore<i64, 15>>(alloc, watch),
-        12 => lists_hold::<Counted<i64>>(alloc, watch),
-        13 => store_holds::<0>(alloc, watch, &SmallStore::new(alloc)),
-        14 => store_holds::<3>(alloc, watch, &SmallStore::new(alloc)),
-        15 => store_holds::<15>(alloc, watch, &SmallStore::new(alloc)),
-        16 => store_holds::<23>(alloc, watch, &SmallStore::new(alloc)),
-        17 => seeds::commands_hold::<SmallStore<i64, 3>>(alloc, watch, 3),
-        18 => seeds::commands_hold::<SmallStore<i64, 15>>(alloc, watch, 3),
-        19 => seeds::commands_hold::<Counted<i64>>(alloc, watch, 1),
-        20 => {
+        15 => lists_hold::<SmallStore<i64, 15>>(alloc, watch),
+        16 => lists_hold::<Counted<i64>>(alloc, watch),
+        17 => store_holds::<0>(alloc, watch, &SmallStore::new(alloc)),
+        18 => store_holds::<3>(alloc, watch, &SmallStore::new(alloc)),
+        19 => store_holds::<15>(alloc, watch, &SmallStore::new(alloc)),
+        20 => store_holds::<23>(alloc, watch, &SmallStore::new(alloc)),
+        21 => seeds::commands_hold::<SmallStore<i64, 3>>(alloc, watch, 3),
+        22 => seeds::commands_hold::<SmallStore<i64, 15>>(alloc, watch, 3),
+        23 => seeds::commands_hold::<Counted<i64>>(alloc, watch, 1),
+        24 => {
             seeds::runs_hold::<SmallStore<i64, 15>>(alloc, watch)
                 && seeds::runs_hold::<Counted<i64>>(alloc, watch)
         }
-        21 => seeds::filling_holds(alloc, watch),
+        25 => seeds::filling_holds(alloc, watch),
         _ => scripts::store_holds(alloc, watch) && scripts::counted_holds(alloc, watch),
     }
 }

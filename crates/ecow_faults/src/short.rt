@@ -1,32 +1,35 @@
 //! Short lists that take no memory.
 use crate::steps::Edit;
 
-/// The most numbers that a short list takes.
-const MOST: usize = 64;
-
-/// A short list of numbers. It takes no memory, so that it is there where memory is refused.
+/// A list of at most `M` numbers. It takes no memory, so that it is there where memory is refused.
 #[derive(Clone, Copy)]
-pub(crate) struct Short {
-    items: [i64; MOST],
+pub(crate) struct List<const M: usize> {
+    items: [i64; M],
     len: usize,
 }
 
-impl Short {
+/// The list that most tests keep.
+pub(crate) type Short = List<64>;
+
+/// The bytes of values of which up to 255 stand inline, and what is made of them.
+pub(crate) type Long = List<600>;
+
+impl<const M: usize> List<M> {
     pub(crate) fn new() -> Self {
-        Short {
-            items: [0; MOST],
+        List {
+            items: [0; M],
             len: 0,
         }
     }
 
     pub(crate) fn of(items: &[i64]) -> Self {
-        let mut list = Short::new();
+        let mut list = Self::new();
         list.append(items);
         list
     }
 
     pub(crate) fn of_bytes(bytes: &[u8]) -> Self {
-        let mut list = Short::new();
+        let mut list = Self::new();
         for byte in bytes {
             list.push(i64::from(*byte));
         }
@@ -35,7 +38,7 @@ impl Short {
 
     /// The numbers from one on, so many.
     pub(crate) fn from(first: i64, count: usize) -> Self {
-        let mut list = Short::new();
+        let mut list = Self::new();
         let mut number = first;
         for _ in 0..count {
             list.push(number);
@@ -69,15 +72,15 @@ impl Short {
     }
 
     /// The numbers from `start` up to `end`.
-    pub(crate) fn part(&self, start: usize, end: usize) -> Short {
+    pub(crate) fn part(&self, start: usize, end: usize) -> Self {
         match self.as_slice().get(start..end) {
-            Some(items) => Short::of(items),
-            None => Short::new(),
+            Some(items) => Self::of(items),
+            None => Self::new(),
         }
     }
 
     /// The list with other numbers in place of a part.
-    pub(crate) fn replaced(&self, change: Edit, added: &Short) -> Short {
+    pub(crate) fn replaced(&self, change: Edit, added: &Self) -> Self {
         let mut list = self.part(0, change.start);
         list.append(added.as_slice());
         list.append(self.part(change.end, self.len).as_slice());
@@ -89,6 +92,6 @@ impl Short {
     }
 
     pub(crate) fn is_bytes(&self, bytes: &[u8]) -> bool {
-        Short::of_bytes(bytes).is(self.as_slice())
+        Self::of_bytes(bytes).is(self.as_slice())
     }
 }

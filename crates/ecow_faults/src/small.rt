@@ -1,6 +1,6 @@
 //! The calls that change bytes or a text of which so many stand in the value itself, in each
 //! state.
-use crate::short::Short;
+use crate::short::Long;
 use crate::steps::{Edit, Row, Step, Word, step_of};
 use crate::watch::Watch;
 use ecow_list::{EcoError, EcoVec};
@@ -100,10 +100,10 @@ pub(crate) trait Small: Clone + Drop {
     fn limit() -> usize;
 
     /// What the values are made of.
-    fn letters(len: usize) -> Short;
+    fn letters(len: usize) -> Long;
 
     /// What calls bring.
-    fn added(count: usize) -> Short;
+    fn added(count: usize) -> Long;
 
     /// The letters, in the form of the state.
     fn made(alloc: Global, state: State) -> Result<Self, EcoError>;
@@ -111,7 +111,7 @@ pub(crate) trait Small: Clone + Drop {
     /// Makes a call. Answers whether what it gave is right.
     fn call(&mut self, call: &Call) -> Result<bool, EcoError>;
 
-    fn bytes(&self) -> Short;
+    fn bytes(&self) -> Long;
 
     fn is_inline(&self) -> bool;
 
@@ -167,7 +167,7 @@ fn wanted<S: Small>(
     call: &Call,
     answer: Result<bool, EcoError>,
     len: usize,
-) -> Option<(Short, bool, bool)> {
+) -> Option<(Long, bool, bool)> {
     let letters = S::letters(call.state.len);
     match answer {
         Ok(true) => Some((
@@ -193,10 +193,10 @@ fn wanted<S: Small>(
 }
 
 /// The bytes behind a call that was done.
-fn changed<S: Small>(call: &Call, letters: &Short) -> Short {
+fn changed<S: Small>(call: &Call, letters: &Long) -> Long {
     match call.step.word {
         Word::Upper => {
-            let mut upper = Short::new();
+            let mut upper = Long::new();
             for letter in letters.as_slice() {
                 let is_small = *letter >= 97 && *letter <= 122;
                 upper.push(if is_small {

@@ -1,5 +1,5 @@
 //! The calls of `SmallText`.
-use crate::short::Short;
+use crate::short::Long;
 use crate::small::{Call, Small, State, states};
 use crate::steps::{Edit, Row, Word};
 use crate::watch::Watch;
@@ -9,7 +9,13 @@ use ecow_text::SmallText;
 use std::alloc::Global;
 use std::fmt::Write;
 
-const LETTERS: &str = "abécdefghijklmnopqrstuvwxyz{|}~{|}~{|}~";
+const LETTERS: &str = "abécdefghijklmnopqrstuvwxyz{|}~{|}~{|}~\
+    bcdefghijklmnopqrstuvwxyz{|}~{|}~{|}~{|}\
+    bcdefghijklmnopqrstuvwxyz{|}~{|}~{|}~{|}\
+    bcdefghijklmnopqrstuvwxyz{|}~{|}~{|}~{|}\
+    bcdefghijklmnopqrstuvwxyz{|}~{|}~{|}~{|}\
+    bcdefghijklmnopqrstuvwxyz{|}~{|}~{|}~{|}\
+    bcdefghijklmnopqrstuvwxyz{|}~{|}~{|}~{|}";
 
 const FEW: &str = "abcd";
 
@@ -82,12 +88,12 @@ impl<const N: usize> Small for SmallText<N> {
         N
     }
 
-    fn letters(len: usize) -> Short {
-        Short::of_bytes(letters(len).as_bytes())
+    fn letters(len: usize) -> Long {
+        Long::of_bytes(letters(len).as_bytes())
     }
 
-    fn added(count: usize) -> Short {
-        Short::of_bytes(added(count).as_bytes())
+    fn added(count: usize) -> Long {
+        Long::of_bytes(added(count).as_bytes())
     }
 
     fn made(alloc: Global, state: State) -> Result<Self, EcoError> {
@@ -113,8 +119,8 @@ impl<const N: usize> Small for SmallText<N> {
         }
     }
 
-    fn bytes(&self) -> Short {
-        Short::of_bytes(self.as_str().as_bytes())
+    fn bytes(&self) -> Long {
+        Long::of_bytes(self.as_str().as_bytes())
     }
 
     fn is_inline(&self) -> bool {
@@ -266,6 +272,12 @@ fn chars_hold<const N: usize>(alloc: Global, watch: &Watch, _none: &SmallText<N>
     is_made(watch, SmallText::<N>::from_char(alloc, 'a'), &[97], N > 0)
         && is_made(
             watch,
+            SmallText::<N>::from_char(alloc, 'é'),
+            &[195, 169],
+            N > 1,
+        )
+        && is_made(
+            watch,
             SmallText::<N>::from_char(alloc, '😀'),
             four.as_slice(),
             N > 3,
@@ -278,7 +290,7 @@ fn strs_hold<const N: usize>(
     _none: &SmallText<N>,
     text: &str,
 ) -> bool {
-    let bytes = Short::of_bytes(text.as_bytes());
+    let bytes = Long::of_bytes(text.as_bytes());
     let (want, inline) = (bytes.as_slice(), text.len() <= N);
     let made = SmallText::<N>::from_strs(alloc, ["", text]);
     let collected = match text.chars().collect::<SmallText<N>>(alloc) {
@@ -298,7 +310,7 @@ fn string_holds<const N: usize>(
     let Ok(string) = String::from_str(alloc, want) else {
         return watch.may_refuse();
     };
-    let bytes = Short::of_bytes(want.as_bytes());
+    let bytes = Long::of_bytes(want.as_bytes());
     let inline = want.len() <= N;
     match SmallText::<N>::from_string(alloc, string) {
         Ok(text) => is_made(watch, Ok(text), bytes.as_slice(), inline),
@@ -325,7 +337,7 @@ fn joined_holds<const N: usize>(
             return watch.may_refuse();
         }
     }
-    let mut want = Short::of_bytes(text.as_bytes());
+    let mut want = Long::of_bytes(text.as_bytes());
     want.push(33);
     let made = SmallText::<N>::from_eco_strings(alloc, parts);
     is_made(watch, made, want.as_slice(), want.len() <= N)
@@ -358,7 +370,7 @@ pub(crate) fn derived_hold<const N: usize>(
 
 fn repeated_hold<const N: usize>(watch: &Watch, text: &SmallText<N>) -> bool {
     let mut hold = true;
-    let mut want = Short::new();
+    let mut want = Long::new();
     for count in 0..3 {
         let inline = want.len() <= N;
         hold = is_made(watch, text.repeat(count), want.as_slice(), inline) && hold;
@@ -368,7 +380,7 @@ fn repeated_hold<const N: usize>(watch: &Watch, text: &SmallText<N>) -> bool {
 }
 
 /// The text with other bytes where the letter `a` stands, which it does first.
-fn with_other<const N: usize>(text: &SmallText<N>, other: &str) -> Short {
+fn with_other<const N: usize>(text: &SmallText<N>, other: &str) -> Long {
     let bytes = text.bytes();
     let first = Edit {
         start: 0,
@@ -378,7 +390,7 @@ fn with_other<const N: usize>(text: &SmallText<N>, other: &str) -> Short {
     if bytes.len() == 0 {
         return bytes;
     }
-    bytes.replaced(first, &Short::of_bytes(other.as_bytes()))
+    bytes.replaced(first, &Long::of_bytes(other.as_bytes()))
 }
 
 fn replaced_hold<const N: usize>(watch: &Watch, text: &SmallText<N>) -> bool {
@@ -405,7 +417,7 @@ fn replaced_hold<const N: usize>(watch: &Watch, text: &SmallText<N>) -> bool {
 
 /// Nothing is found before the first letter.
 fn spread_holds<const N: usize>(watch: &Watch, text: &SmallText<N>) -> bool {
-    let mut want = Short::of_bytes(b"..");
+    let mut want = Long::of_bytes(b"..");
     want.append(text.bytes().as_slice());
     is_made(
         watch,
@@ -416,8 +428,8 @@ fn spread_holds<const N: usize>(watch: &Watch, text: &SmallText<N>) -> bool {
 }
 
 /// The letters in upper case; past ASCII those that `other` stands for in place of `é`.
-fn upper(letters: &Short, other: i64) -> Short {
-    let mut upper = Short::new();
+fn upper(letters: &Long, other: i64) -> Long {
+    let mut upper = Long::new();
     for letter in letters.as_slice() {
         let is_small = *letter >= 97 && *letter <= 122;
         upper.push(match *letter {
@@ -443,7 +455,7 @@ fn cased_hold<const N: usize>(watch: &Watch, text: &SmallText<N>, spilled: bool)
 fn is_cased<const N: usize>(
     watch: &Watch,
     made: Result<SmallText<N>, EcoError>,
-    want: &Short,
+    want: &Long,
 ) -> bool {
     let inline = want.len() <= N;
     match made {

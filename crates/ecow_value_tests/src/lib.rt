@@ -22,6 +22,8 @@ mod iterators;
 #[cfg(test)]
 mod laws;
 #[cfg(test)]
+mod owners;
+#[cfg(test)]
 mod paths;
 #[cfg(test)]
 mod printing;

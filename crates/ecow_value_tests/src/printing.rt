@@ -1,7 +1,7 @@
 //! What values print, the limits of what stands inline, and what errors say.
 use crate::texts::text;
 use ecow_bytes::{EcoBytes, SmallBytes};
-use ecow_list::{EcoError, EcoVec, Rejected};
+use ecow_list::{EcoError, EcoVec, IntoArray, Rejected};
 use ecow_text::{EcoString, SmallText};
 use std::alloc::{AllocError, Global};
 use std::fmt::Debug;
@@ -13,17 +13,21 @@ use std::test::Fail;
 fn limits_are_those_of_the_type(rt: HostRuntime) {
     let bytes = [
         SmallBytes::<0>::INLINE_LIMIT,
+        SmallBytes::<1>::INLINE_LIMIT,
         SmallBytes::<3>::INLINE_LIMIT,
         EcoBytes::INLINE_LIMIT,
         SmallBytes::<23>::INLINE_LIMIT,
+        SmallBytes::<255>::INLINE_LIMIT,
     ];
     let texts = [
         SmallText::<0>::INLINE_LIMIT,
+        SmallText::<1>::INLINE_LIMIT,
         SmallText::<3>::INLINE_LIMIT,
         EcoString::INLINE_LIMIT,
         SmallText::<23>::INLINE_LIMIT,
+        SmallText::<255>::INLINE_LIMIT,
     ];
-    assert!(rt; bytes == [0, 3, 15, 23] && texts == bytes);
+    assert!(rt; bytes == [0, 1, 3, 15, 23, 255] && texts == bytes);
 }
 
 fn debugged<T: Debug + Drop>(alloc: Global, value: T) -> Result<String, AllocError> {
@@ -61,6 +65,42 @@ fn lists_and_bytes_are_debugged_as_slices(rt: HostRuntime) -> Result<(), Fail> {
     Ok(())
 }
 
+/// So many times the piece.
+fn times(alloc: Global, piece: &str, count: usize) -> Result<String, AllocError> {
+    let mut text = String::new(alloc);
+    for _ in 0..count {
+        text.push_str(piece)?;
+    }
+    Ok(text)
+}
+
+#[test]
+fn long_lists_and_bytes_are_debugged_whole(rt: HostRuntime) -> Result<(), Fail> {
+    let (list, spilled, made) = debugged_lists(rt.alloc(), &[7; 1000])?;
+    let sevens = times(rt.alloc(), "7, ", 999)?;
+    let printed = format!(in rt.alloc(); "[{sevens}7]")?;
+    assert_eq!(rt; list.as_str(), printed.as_str());
+    assert_eq!(rt; spilled.as_str(), printed.as_str());
+    assert_eq!(rt; made.as_str(), printed.as_str());
+    Ok(())
+}
+
+/// The first hundred numbers.
+const HUNDRED: &str = "[0, 1, 2, 3, 4, 5, 6, 7, 8, 9, 10, 11, 12, 13, 14, 15, 16, 17, 18, 19, \
+    20, 21, 22, 23, 24, 25, 26, 27, 28, 29, 30, 31, 32, 33, 34, 35, 36, 37, 38, 39, \
+    40, 41, 42, 43, 44, 45, 46, 47, 48, 49, 50, 51, 52, 53, 54, 55, 56, 57, 58, 59, \
+    60, 61, 62, 63, 64, 65, 66, 67, 68, 69, 70, 71, 72, 73, 74, 75, 76, 77, 78, 79, \
+    80, 81, 82, 83, 84, 85, 86, 87, 88, 89, 90, 91, 92, 93, 94, 95, 96, 97, 98, 99]";
+
+#[test]
+fn a_hundred_numbers_are_debugged_in_order(rt: HostRuntime) -> Result<(), Fail> {
+    let list: EcoVec<i64> = (0..100).collect(rt.alloc())?;
+    let bytes: EcoBytes = (0u8..100).collect(rt.alloc())?;
+    assert_eq!(rt; debugged(rt.alloc(), list)?.as_str(), HUNDRED);
+    assert_eq!(rt; debugged(rt.alloc(), bytes)?.as_str(), HUNDRED);
+    Ok(())
+}
+
 /// Texts, and what they print.
 const TEXTS: [(&str, &str); 5] = [
     ("", "\"\""),
@@ -76,6 +116,35 @@ fn texts_are_debugged_as_str_is(rt: HostRuntime) -> Result<(), Fail> {
         let made: EcoString = text(rt.alloc(), of)?;
         assert_eq!(rt; debugged(rt.alloc(), made)?.as_str(), printed);
     }
+    Ok(())
+}
+
+#[test]
+fn a_long_text_is_printed_and_debugged_whole(rt: HostRuntime) -> Result<(), Fail> {
+    let letters = times(rt.alloc(), "é\t", 500)?;
+    let escaped = times(rt.alloc(), "é\\t", 500)?;
+    let made: EcoString = text(rt.alloc(), letters.as_str())?;
+    let printed = format!(in rt.alloc(); "{made}|{made:.150}|")?;
+    let front = times(rt.alloc(), "é\t", 75)?;
+    let wanted = format!(in rt.alloc(); "{letters}|{front}|")?;
+    assert_eq!(rt; printed.as_str(), wanted.as_str());
+    let quoted = format!(in rt.alloc(); "\"{escaped}\"")?;
+    assert_eq!(rt; debugged(rt.alloc(), made)?.as_str(), quoted.as_str());
+    Ok(())
+}
+
+/// The text padded past a hundred characters, on each side.
+fn padded_far(alloc: Global, text: &EcoString) -> Result<String, AllocError> {
+    format!(in alloc; "{text:>204}|{text:*^304}|{text:<1004}|")
+}
+
+#[test]
+fn texts_are_padded_past_a_hundred_characters(rt: HostRuntime) -> Result<(), Fail> {
+    let made: EcoString = text(rt.alloc(), "grün")?;
+    let (right, both) = (times(rt.alloc(), " ", 200)?, times(rt.alloc(), "*", 150)?);
+    let left = times(rt.alloc(), " ", 1000)?;
+    let wanted = format!(in rt.alloc(); "{right}grün|{both}grün{both}|grün{left}|")?;
+    assert_eq!(rt; padded_far(rt.alloc(), &made)?.as_str(), wanted.as_str());
     Ok(())
 }
 
@@ -113,6 +182,66 @@ fn errors_say_what_is_wanting(rt: HostRuntime) -> Result<(), Fail> {
         let wanted = format!(in rt.alloc(); "{said}|{said}|")?;
         assert_eq!(rt; both.as_str(), wanted.as_str());
     }
+    Ok(())
+}
+
+#[test]
+fn errors_are_debugged_with_their_values(rt: HostRuntime) -> Result<(), Fail> {
+    for (error, said) in [
+        (EcoError::Memory, "Rejected { error: Memory, value: 7 }"),
+        (EcoError::Capacity, "Rejected { error: Capacity, value: 7 }"),
+    ] {
+        let rejected = Rejected { error, value: 7 };
+        assert_eq!(rt; debugged(rt.alloc(), rejected)?.as_str(), said);
+    }
+    Ok(())
+}
+
+/// What an error prints, and how it is debugged.
+fn both_ways(alloc: Global, error: IntoArray<u8>) -> Result<String, AllocError> {
+    format!(in alloc; "{error}|{error:?}")
+}
+
+#[test]
+fn vectors_that_are_no_array_say_why(rt: HostRuntime) -> Result<(), Fail> {
+    let list = EcoVec::from_slice(rt.alloc(), &[3, 5])?;
+    for (error, said) in [
+        (
+            IntoArray::Length(list.clone()?),
+            "the vector has another length than the array|Length([3, 5])",
+        ),
+        (
+            IntoArray::Refused(EcoError::Memory, list.clone()?),
+            "out of memory|Refused(Memory, [3, 5])",
+        ),
+        (
+            IntoArray::Refused(EcoError::Capacity, list.clone()?),
+            "capacity overflow|Refused(Capacity, [3, 5])",
+        ),
+    ] {
+        assert_eq!(rt; both_ways(rt.alloc(), error)?.as_str(), said);
+    }
+    Ok(())
+}
+
+/// What a vector of five that is to be an array of four says.
+fn said_of_five(alloc: Global) -> Result<Option<String>, EcoError> {
+    let list = EcoVec::from_slice(alloc, &[1, 2, 3, 4, 5])?;
+    match list.into_array::<4>() {
+        Ok(_) => Ok(None),
+        Err(error) => Ok(Some(both_ways(alloc, error)?)),
+    }
+}
+
+#[test]
+fn a_vector_of_another_length_comes_back_whole(rt: HostRuntime) -> Result<(), Fail> {
+    let Some(said) = said_of_five(rt.alloc())? else {
+        return Err("five elements".into());
+    };
+    assert_eq!(rt;
+        said.as_str(),
+        "the vector has another length than the array|Length([1, 2, 3, 4, 5])"
+    );
     Ok(())
 }
 
