@@ -12,7 +12,8 @@ help:
 	@echo "make run SCRIPT=FILE   proves and builds what it must, says how far it is, and runs the script"
 	@echo "make build             leaves the proved program at bin/ecow-run"
 	@echo "make test              the whole gate: every proof from nothing, must-fail edits, tests, programs, the table"
-	@echo "                       of costs, and each request for memory refused in turn"
+	@echo "                       of costs, each request for memory refused in turn, command lines, large scripts, and the"
+	@echo "                       library for C where there is a C compiler"
 	@echo "make lib               leaves the library for C at bin/libecow.a and bin/libecow.so, with its headers (needs a C"
 	@echo "                       compiler); make install PREFIX=$(PREFIX) puts them there"
 	@echo "make c-test            tests it from C, C++, Python and Rust (needs gcc, clang, valgrind, python3 and rustc)"
@@ -73,16 +74,24 @@ install: lib
 	sed 's|^prefix=.*|prefix=$(PREFIX)|' bin/ecow.pc > $(DESTDIR)$(PREFIX)/lib/pkgconfig/ecow.pc
 
 c-test: lib
+	tools/c_short.sh
 	tools/c_test.sh
 
 COSTS := crates/ecow_costs/out/ecow_costs
 FAULTS := crates/ecow_faults/out/ecow_faults
+RUN := crates/ecow_run/out/ecow_run
 
-# `rt ci` leaves both programs built: what calls cost is counted, and requests for memory are refused in turn.
+# `rt ci` leaves these programs built: what calls cost is counted, requests for memory are refused in turn, and the
+# program is run on command lines and on large scripts. It leaves the libraries below the one for C too, where there
+# are none that it would put back.
 test: agree
+	rm -rf crates/*/out/rlib
 	rt ci
 	tools/costs.sh $(COSTS)
 	tools/refuse.sh $(FAULTS)
+	tools/ends.sh $(RUN)
+	tools/large.sh $(RUN)
+	tools/c_gate.sh
 
 # The examples are cases too, and the gate runs the program on the first, of which there is a theorem; the contracts
 # quoted are those of the code.
@@ -91,6 +100,8 @@ agree:
 	@cmp examples/first.eco crates/ecow_run/data/first.eco
 	@sed -n '/^first_script =/,/^$$/s/^[ +]*codes "\(.*\)\\n"$$/\1/p' crates/ecow_script/specs/FirstExample.antt | cmp - examples/first.eco
 	@tools/contracts.sh | cmp - docs/CONTRACTS.md
+	@tools/agree_statuses.sh
+	@tools/agree_docs.sh
 	@grep -q '"libecow.so.$(LIKE)"' python/ecow.py || { echo "python/ecow.py loads another libecow.so"; exit 1; }
 	@for file in c/examples/first.c c/examples/first.out c/examples/history.c c/examples/interned.cpp python/texts.py; do \
 		case "$$(cat docs/C.md)" in *"$$(cat $$file)"*) ;; *) echo "docs/C.md quotes another $$file"; exit 1;; esac; \

@@ -1,4 +1,4 @@
-//! `Store`: commands on named values that are handles, which share their blocks by `Rc`.
+//! `Store`: commands on named values that are handles, which share their blocks.
 #![tactic(auto)]
 
 mod answers;

@@ -28,7 +28,7 @@ pub struct NamedValues<V> {
     values: Table<V>,
 }
 
-/// Named lists, bytes and texts that share their blocks by `Rc`, where up to `N` bytes of a value
+/// Named lists, bytes and texts that share their blocks, where up to `N` bytes of a value
 /// of bytes or of a text stand in the value itself.
 pub type SmallStore<T, const N: usize> = NamedValues<Stored<T, N>>;
 

@@ -1,0 +1,49 @@
+#!/bin/sh
+# Compares what documents say of the code with the code: proofs by hand and `unsafe` blocks by crate (docs/PROVED.md),
+# the crates of each KIND (docs/CALLING.md), and the code that docs/uses quotes.
+set -eu
+cd "$(dirname "$0")/.."
+work=$(mktemp -d)
+trap 'rm -r "$work"' EXIT
+export LC_ALL=C
+
+# Compares the rows of a document with those on standard input.
+compare() { # DOCUMENT
+    diff "$work/said" - > "$work/apart" || {
+        echo "$1 (<) and the code (>) differ:"
+        cat "$work/apart"
+        exit 1
+    }
+}
+
+# How many functions of a crate are proved by hand. A `TheLaw` is that of a type.
+proved_by_hand() {
+    find "crates/$1" -path '*/out' -prune -o -path '*/proofs/*/Proof.antt' -print | grep -cv '/TheLaw/' || true
+}
+
+sed -n 's/^| `\(ecow[a-z_]*\)` | \([0-9]*\) | \([0-9]*\) |.*/\1 \2 \3/p' docs/PROVED.md | sort > "$work/said"
+for folder in crates/*; do
+    crate=${folder##*/}
+    blocks=$(find "$folder/src" -name '*.rt' -exec cat {} + | grep -c 'unsafe {' || true)
+    echo "$crate $(proved_by_hand "$crate") $blocks"
+done | grep -v ' 0 0$' | sort | compare docs/PROVED.md
+
+for kind in vector text store; do
+    sed -n "s/^| \`$kind\` | \([0-9]*\) |.*/\1/p" docs/CALLING.md > "$work/said"
+    tops=$(sed -n "s/^    $kind) tops=\"*\([a-z_ ]*\)\"* *;;/\1/p" tools/vendor.sh)
+    awk -F: -v tops="$tops" -f tools/below.awk crates.txt | grep -c '' | compare docs/CALLING.md
+done
+
+# The words of a file, with one blank between them.
+words() {
+    cat "$@" | tr -s ' \n' '  '
+}
+
+for page in docs/uses/*.md; do
+    code=$(sed -n '/^```rust$/,/^```$/p' "$page" | grep -v '^```' | words)
+    source=$(words $(sed -n 's/^`\(crates\/[^`]*\)`.*/\1/p' "$page"))
+    case $source in
+        *"${code% }"*) ;;
+        *) echo "$page quotes other code than its source has"; exit 1 ;;
+    esac
+done
