@@ -2,7 +2,7 @@
 use crate::marks::Meter;
 use crate::rows::{Kind, Rows, USUAL};
 use crate::small;
-use crate::small::{Call, Gift, Out, Row, add_calls, add_few, add_growth, add_makers, given};
+use crate::small::{Call, Gift, Row, add_calls, add_few, add_growth, add_makers, given};
 use crate::states::error_of;
 use ecow_bytes::SmallBytes;
 use ecow_list::EcoError;
@@ -368,10 +368,6 @@ fn make<const N: usize>(
     }
 }
 
-fn made<const N: usize>(made: Result<SmallBytes<N>, EcoError>) -> Result<Out<N>, EcoError> {
-    Ok(Out::Bytes(made?))
-}
-
 /// Leaves the vector in the value's place.
 fn give<const N: usize>(value: &mut SmallBytes<N>, alloc: Global) -> Result<(), EcoError> {
     let whole = mem::replace(value, SmallBytes::new(alloc));
@@ -379,27 +375,27 @@ fn give<const N: usize>(value: &mut SmallBytes<N>, alloc: Global) -> Result<(), 
     Ok(())
 }
 
-/// Makes a call, so often, of what it is given.
+/// Makes a call, so often, of what it is given. Answers the bytes that it makes.
 pub(crate) fn call_on<const N: usize>(
     call: Bytes,
     value: &mut SmallBytes<N>,
     gift: Gift<N>,
     times: usize,
     alloc: Global,
-) -> Result<Out<N>, EcoError> {
+) -> Result<Option<SmallBytes<N>>, EcoError> {
     match call {
         Bytes::IntoEcoVec => give(value, alloc)?,
-        Bytes::Clone => return made(clone(value)),
-        Bytes::Repeat(count) => return made(value.repeat(count)),
-        Bytes::ToVec => return Ok(Out::Vec(value.to_vec()?)),
-        Bytes::Made(call) => return made(make(call, gift, alloc, value)),
+        Bytes::Clone => return Ok(Some(clone(value)?)),
+        Bytes::Repeat(count) => return Ok(Some(value.repeat(count)?)),
+        Bytes::ToVec => drop(value.to_vec()?),
+        Bytes::Made(call) => return Ok(Some(make(call, gift, alloc, value)?)),
         _ => {
             for _ in 0..times {
                 add(call, value, gift.bytes.as_slice())?;
             }
         }
     }
-    Ok(Out::Nothing)
+    Ok(None)
 }
 
 /// `none` names the type of the values.

@@ -84,15 +84,6 @@ pub(crate) struct Gift<const N: usize> {
     pub(crate) texts: Vec<SmallText<N>>,
 }
 
-/// What a call makes.
-#[derive(Drop)]
-pub(crate) enum Out<const N: usize> {
-    Nothing,
-    Bytes(SmallBytes<N>),
-    Vec(Vec<u8>),
-    String(String),
-}
-
 /// A call of either type.
 #[derive(Clone, Copy)]
 pub(crate) enum Call {
@@ -101,14 +92,14 @@ pub(crate) enum Call {
 }
 
 impl Call {
-    /// Makes the call on a value, so often, of what it is given.
+    /// Makes the call on a value, so often, of what it is given. Answers the bytes that it makes.
     fn make<const N: usize>(
         self,
         value: &mut SmallBytes<N>,
         gift: Gift<N>,
         times: usize,
         alloc: Global,
-    ) -> Result<Out<N>, EcoError> {
+    ) -> Result<Option<SmallBytes<N>>, EcoError> {
         match self {
             Call::Bytes(call) => bytes::call_on(call, value, gift, times, alloc),
             Call::Text(call) => texts::call_on(call, value, gift, times, alloc),
@@ -257,25 +248,25 @@ fn before<const N: usize>(
     Ok(kind.before(standing(value, twin)))
 }
 
-/// What stands after a call.
+/// What stands after a call that made bytes, or another thing, or none.
 fn after<const N: usize>(
     kind: Kind,
     value: SmallBytes<N>,
     twin: Option<SmallBytes<N>>,
-    out: Out<N>,
+    made: Option<SmallBytes<N>>,
 ) -> Standing {
-    match out {
-        Out::Nothing => standing(value, twin),
-        Out::Bytes(made) => {
+    match made {
+        Some(made) => {
             let both = standing_of(made, value);
             drop(twin);
             kind.after(both.form, both.twin, both.capacity)
         }
-        Out::Vec(_) | Out::String(_) => {
+        None if kind == Kind::Derive => {
             let source = standing_alone(value);
             drop(twin);
             kind.after(Form::Absent, source.form, 0)
         }
+        None => standing(value, twin),
     }
 }
 
@@ -291,7 +282,7 @@ fn cost<const N: usize>(
     let twin = twin_of(&value, state)?;
     let gift = gift_of(meter.alloc, row.brings, none)?;
     let _begun = meter.begin();
-    let out = row.call.make(&mut value, gift, row.times, meter.alloc)?;
+    let made = row.call.make(&mut value, gift, row.times, meter.alloc)?;
     let _ended = meter.end();
     Ok(Cost {
         kind,
@@ -300,7 +291,7 @@ fn cost<const N: usize>(
         state: state.name,
         counts: None,
         before,
-        after: after(kind, value, twin, out),
+        after: after(kind, value, twin, made),
     })
 }
 

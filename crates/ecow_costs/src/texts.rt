@@ -2,7 +2,7 @@
 use crate::marks::Meter;
 use crate::rows::{Kind, Rows, USUAL};
 use crate::small;
-use crate::small::{Call, Gift, Out, Row, add_calls, add_few, add_growth, add_makers, given};
+use crate::small::{Call, Gift, Row, add_calls, add_few, add_growth, add_makers, given};
 use crate::states::error_of;
 use ecow_bytes::SmallBytes;
 use ecow_list::EcoError;
@@ -507,24 +507,26 @@ fn text_of<const N: usize>(bytes: SmallBytes<N>) -> Result<SmallText<N>, EcoErro
     }
 }
 
-/// Makes a call on a text, so often, of what it is given. Its bytes then stand in the value's place.
+/// Makes a call on a text, so often, of what it is given. Its bytes then stand in the value's
+/// place. Answers the bytes of the text that it makes.
 pub(crate) fn call_on<const N: usize>(
     call: Text,
     value: &mut SmallBytes<N>,
     gift: Gift<N>,
     times: usize,
     alloc: Global,
-) -> Result<Out<N>, EcoError> {
+) -> Result<Option<SmallBytes<N>>, EcoError> {
     let text = text_of(mem::replace(value, SmallBytes::new(alloc)))?;
-    let made = match call {
-        Text::Made(call) => Out::Bytes(SmallBytes::from(make(call, gift, alloc)?)),
-        Text::Derived(call) => Out::Bytes(SmallBytes::from(text_made(call, &text)?)),
-        Text::ToString => Out::String(text.to_std_string()?),
+    let mut made = None;
+    match call {
+        Text::Made(call) => made = Some(SmallBytes::from(make(call, gift, alloc)?)),
+        Text::Derived(call) => made = Some(SmallBytes::from(text_made(call, &text)?)),
+        Text::ToString => drop(text.to_std_string()?),
         _ => {
             *value = changed(call, text, gift.string.as_str(), times, value)?;
-            return Ok(Out::Nothing);
+            return Ok(None);
         }
-    };
+    }
     *value = SmallBytes::from(text);
     Ok(made)
 }

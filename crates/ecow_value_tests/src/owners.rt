@@ -24,10 +24,11 @@ fn owners(
 
 /// Drops the clones of a vector: whether it was shared as long as there was one, and no longer.
 fn drop_each(owners: Vec<EcoVec<Counting>>, list: &mut EcoVec<Counting>) -> bool {
-    let (mut owners, mut is_right) = (owners, true);
-    while let Some(owner) = owners.pop() {
+    let (mut left, mut is_right) = (owners.len(), true);
+    for owner in owners {
         drop(owner);
-        is_right = is_right && is_unique(list) == owners.is_empty();
+        left = left.wrapping_sub(1);
+        is_right = is_right && is_unique(list) == (left == 0);
     }
     is_right
 }

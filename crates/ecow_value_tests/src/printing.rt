@@ -76,7 +76,8 @@ fn times(alloc: Global, piece: &str, count: usize) -> Result<String, AllocError>
 
 #[test]
 fn long_lists_and_bytes_are_debugged_whole(rt: HostRuntime) -> Result<(), Fail> {
-    let (list, spilled, made) = debugged_lists(rt.alloc(), &[7; 1000])?;
+    let bytes = vec![in rt.alloc(); 7; 1000]?;
+    let (list, spilled, made) = debugged_lists(rt.alloc(), bytes.as_slice())?;
     let sevens = times(rt.alloc(), "7, ", 999)?;
     let printed = format!(in rt.alloc(); "[{sevens}7]")?;
     assert_eq!(rt; list.as_str(), printed.as_str());
