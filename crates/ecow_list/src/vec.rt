@@ -41,7 +41,7 @@ impl<T> Model for EcoVec<T> {
 
     ghost Value = { List T };
 
-    ghost view = { λ v. items_of v.block.value };
+    ghost view = { λ v. items_of v.block };
 }
 
 impl<T> EcoVec<T> {
@@ -131,7 +131,7 @@ impl<T> EcoVec<T> {
         ensures* writes_back { sem 𝓛 (lends_block T.row self.entry result) }
         ensures items { IfSome result (λ b. b.now.items ≡ self.old) }
     {
-        Shared::get_mut(&mut self.block)
+        self.block.get_mut()
     }
 }
 

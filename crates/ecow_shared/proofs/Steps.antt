@@ -60,7 +60,7 @@ use Rattle.std_alloc.specs.Owners.{sole_or_counted}
 use Rattle.std_alloc.proofs.RawLayout.{as_raw, as_written}
 use Rattle.std_alloc.proofs.RcSteps.{word, word_ty, cell}
 use Rattle.ecow_shared.specs.Ownership as O
-use Rattle.ecow_shared.specs.contracts.counts.Shared as Shared-type
+use Rattle.ecow_shared.specs.contracts.counts.Owner as Owner-type
 use Rattle.ecow_shared.proofs.Settling.{settles}
 
 abbrev pub Id : Type 0
@@ -68,11 +68,11 @@ Id = ℕ × ℕ
 
 module _ (E : Bx) where
   abbrev pub ν : Sym
-  ν = (Shared-type.the_type (R E) (P E) E.al.g).name
+  ν = (Owner-type.the_type (R E) (P E) E.al.g).name
 
   -- the one field of an owner that is there when the program runs
   abbrev pub Word : RattleType
-  Word = Struct (shape (Shared-type.the_type (R E) (P E) E.al.g))
+  Word = Struct (shape (Owner-type.the_type (R E) (P E) E.al.g))
 
   abbrev pub value_at : ℕ
   value_at = O.value_offset (P E) (R E)
@@ -87,7 +87,7 @@ module _ (E : Bx) where
     pub word_made : K → Step K 𝓛 (‵ (Word.own_val (c, tt) (word c ∷ [])) ∷ Γ) G Γ G
     word_made t = step (λ s.
         nothing t $ feq_i t (List Val) (ptr_val c ∷ []) (ptr_val c ∷ []) refl $ fjoin t $ feq_i t (List Val) (word c ∷ []) (word c ∷ []) refl $ fjoin t $
-        fpack t (Valss (RawPtr ∷ [])) (within (shape (Shared-type.the_type (R E) (P E) E.al.g)) (c, tt) (word c ∷ [])) (ptr_val c ∷ [], tt) $ s)
+        fpack t (Valss (RawPtr ∷ [])) (within (shape (Owner-type.the_type (R E) (P E) E.al.g)) (c, tt) (word c ∷ [])) (ptr_val c ∷ [], tt) $ s)
 
   module _ (c : Ptr) {M : Type 1} {𝓤 : Ura M} {𝓛 : Logic 𝓤} {K : Type 0} {Γ : List (Item 𝓤)}
       {G : Goal 𝓤 𝓛.H} where
@@ -98,7 +98,7 @@ module _ (E : Bx) where
         → Seq K 𝓛 (‵ (hidden_shr Word κ (c, tt) b o) ∷ ‵ (flft κ q) ∷ Γ) G
     reads t z b o k =
         let pointer : Copied 𝓛 RawPtr = plain_Copied 𝓛 Ptr coded_ptr (ty_ptr ∷ []) ptr_own rawptr_pure ptr_val RawPtr-laws.tells in
-        let copied : Copied 𝓛 Word = Struct-Copied 𝓛 (shape (Shared-type.the_type (R E) (P E) E.al.g)) (refl, tt) (pointer, tt) in
+        let copied : Copied 𝓛 Word = Struct-Copied 𝓛 (shape (Owner-type.the_type (R E) (P E) E.al.g)) (refl, tt) (pointer, tt) in
         looks t z Word copied.opens (c, tt) b o (λ q' vs. move t (3 ∷ []) $ drop t $ move t (1 ∷ []) $ word_had c t vs (λ e.
         rewrite t 0 (λ (us : List Val). ‵ (cell_at q' (word_ty ν ∷ []) us b o)) e refl $ use1 𝓛 (‵ (fat q' (word_ty ν) b o (word c))) (𝓛.laws.raw_at q' (word_ty ν) b o (word c)) $ k q'))
 

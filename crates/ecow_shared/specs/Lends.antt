@@ -1,23 +1,12 @@
 -- What a loan of the value behind an owner gives back.
-use base.Fml.{Fml}
-use denote.RattleType.{RattleType}
-use denote.Ref.{MutBor}
-use denote.Follow.{follows_if}
-use Rattle.core.specs.Option.{ghost_name_of}
 use Rattle.core.specs.declared.alloc.Allocator.{Ghosts}
-use Rattle.core.specs.declared.option.Option.{Option}
-use Rattle.core.specs.declared.option.Option.TheVariants.{Some}
-use Rattle.ecow_shared.specs.declared.counts.Shared.{Shared}
-use Rattle.ecow_shared.specs.contracts.counts.Shared.{the_row}
+use Rattle.std.specs.Prelude.{Option}
+use Rattle.std.specs.declared.option.Option.TheVariants.{Some}
+use Rattle.std.specs.Borrow.{LendsIf, Fml, RattleType, MutBor}
+use Rattle.ecow_shared.specs.contracts.shared.Shared.{the_row}
 
-module _ {X Z : Type 0} where
-  -- the same owner, of another value
-  abbrev pub with_value : Shared X Z → X → Shared X Z
-  with_value s w = record { ptr = s.ptr; value = Some w }
-
-module _ (R Z : RattleType) (g : Ghosts Z.Denot) where
-  -- once the borrow r ends, the owner behind s holds the value that was written last through r; at
-  -- `None` it is unchanged
-  abbrev pub lends_value : MutBor (Shared R.Denot Z.Denot) → Option (MutBor R.Denot) → Fml
-  lends_value s r =
-      follows_if (the_row R Z g) R s.ghost_name (ghost_name_of r) (with_value s.now) s.now
+-- once the borrow r ends, the owner holds the value that was written last through r; at `None` it is
+-- unchanged
+abbrev pub lends_value : (R Z : RattleType) (g : Ghosts Z.Denot) → MutBor (Option R.Denot)
+    → Option (MutBor R.Denot) → Fml
+lends_value R Z g s r = LendsIf (the_row R Z g) R s r (λ x. Some x) s.now

@@ -1,2 +1,4 @@
-pub mod Ownership
 pub mod Lends
+pub mod Ownership
+pub mod OwnerLends
+pub mod formers

@@ -12,49 +12,49 @@ use std::ptr;
 use std_alloc::room::{AllocFailed, Vacant};
 
 /// What lies in memory: how many owners there are, where the memory came from, and the value.
-pub struct Head<V, A> {
+pub(crate) struct Head<V, A> {
     count: usize,
     alloc: A,
     value: V,
 }
 
 /// An owner of a value that may have others, or of none. It takes one word: null stands for none.
-pub struct Shared<V, A: Allocator> {
+pub(crate) struct Owner<V, A: Allocator> {
     ptr: *const Head<V, A>,
     pub ghost value: { Option V } by { coded_option V.code },
 }
 
-impl<V, A: Allocator> Model for Shared<V, A> {
+impl<V, A: Allocator> Model for Owner<V, A> {
     ghost also_owns = { λ s. owner_owns A.row V.row A.dealloc_token s.ptr s.value };
 
     ghost also_shares = { λ s _ κ. owner_lends A.row V.row A.dealloc_token s.ptr s.value κ };
 }
 
-impl<V> Shared<V, Global> {
+impl<V> Owner<V, Global> {
     /// The first owner of `value`. Asks for memory; a refusal hands the value back.
-    pub fn new(alloc: Global, value: V) -> Result<Shared<V, Global>, AllocFailed<V>>
+    pub fn new(alloc: Global, value: V) -> Result<Owner<V, Global>, AllocFailed<V>>
         ensures ok { IfOk result (λ shared. shared.value ≡ Some value) }
         ensures value_returned { IfErr result (λ refused. refused.value ≡ value) }
     {
         match Vacant::take(alloc) {
-            Ok(vacant) => Ok(Shared::put(Place::of(vacant), value)),
+            Ok(vacant) => Ok(Owner::put(Place::of(vacant), value)),
             Err(_) => Err(AllocFailed { value }),
         }
     }
 }
 
-impl<V, A: Allocator> Shared<V, A> {
-    ghost use Rattle.ecow_shared.specs.Lends.{lends_value};
+impl<V, A: Allocator> Owner<V, A> {
+    ghost use Rattle.ecow_shared.specs.OwnerLends.{lends_owned};
 
     /// An owner of nothing. Takes no memory.
-    pub fn none() -> Shared<V, A>
+    pub fn none() -> Owner<V, A>
         ensures { result.value ≡ None }
     {
-        Shared { ptr: ptr::null() }
+        Owner { ptr: ptr::null() }
     }
 
     /// The first owner of `value`, in memory that was asked for.
-    fn put(place: Place<Head<V, A>, A>, value: V) -> Shared<V, A>
+    fn put(place: Place<Head<V, A>, A>, value: V) -> Owner<V, A>
         ensures { result.value ≡ Some value }
     {
         let Place { vacant } = place;
@@ -66,7 +66,7 @@ impl<V, A: Allocator> Shared<V, A> {
                 value,
             });
         }
-        Shared { ptr }
+        Owner { ptr }
     }
 
     /// The value, if there is one.
@@ -80,12 +80,12 @@ impl<V, A: Allocator> Shared<V, A> {
     }
 
     /// One more owner of the same, or `None` where there are 2^64 - 1.
-    fn another(&self) -> Option<Shared<V, A>>
+    fn another(&self) -> Option<Owner<V, A>>
         ensures { IfSome result (λ other. other.value ≡ self.now.value) }
     {
         let ptr = self.ptr.cast_mut();
         if ptr.is_null() {
-            return Some(Shared { ptr });
+            return Some(Owner { ptr });
         }
         unsafe {
             let count = (*ptr).count;
@@ -94,15 +94,15 @@ impl<V, A: Allocator> Shared<V, A> {
             }
             (*ptr).count = count + 1;
         }
-        Some(Shared { ptr })
+        Some(Owner { ptr })
     }
 
     /// The value, for writing, where this is its sole owner.
-    pub fn get_mut(this: &mut Shared<V, A>) -> Option<&mut V>
-        ensures* writes_back { sem 𝓛 (lends_value V.row A.row A.Allocator this.entry result) }
-        ensures value { IfSome result (λ value. this.old.value ≡ Some value.now) }
+    pub fn get_mut(&mut self) -> Option<&mut V>
+        ensures* writes_back { sem 𝓛 (lends_owned V.row A.row A.Allocator self.entry result) }
+        ensures value { IfSome result (λ value. self.old.value ≡ Some value.now) }
     {
-        let ptr = this.ptr.cast_mut();
+        let ptr = self.ptr.cast_mut();
         if ptr.is_null() {
             return None;
         }
@@ -116,11 +116,11 @@ impl<V, A: Allocator> Shared<V, A> {
     }
 
     /// The value, where this is its sole owner. Else the owner comes back.
-    pub fn try_unwrap(this: Shared<V, A>) -> Result<V, Shared<V, A>>
-        ensures ok { IfOk result (λ value. this.value ≡ Some value) }
-        ensures err { IfErr result (λ back. back ≡ this) }
+    pub fn try_unwrap(self) -> Result<V, Owner<V, A>>
+        ensures ok { IfOk result (λ value. self.value ≡ Some value) }
+        ensures err { IfErr result (λ back. back ≡ self) }
     {
-        match this.take() {
+        match self.take() {
             Ok(taken) => {
                 let (value, vacant) = taken;
                 drop(vacant.free());
@@ -131,20 +131,20 @@ impl<V, A: Allocator> Shared<V, A> {
     }
 
     /// The value and its memory, where this is its sole owner. Else the owner comes back.
-    fn take(self) -> Result<(V, Vacant<Head<V, A>, A>), Shared<V, A>>
+    fn take(self) -> Result<(V, Vacant<Head<V, A>, A>), Owner<V, A>>
         ensures { MatchResult result
             (λ taken. self.value ≡ Some taken.0)
             (λ back. back ≡ self) }
     {
-        let Shared { ptr } = self;
+        let Owner { ptr } = self;
         let ptr = ptr.cast_mut();
         if ptr.is_null() {
-            return Err(Shared { ptr });
+            return Err(Owner { ptr });
         }
         unsafe {
             let count = (*ptr).count;
             if count != 1 {
-                return Err(Shared { ptr });
+                return Err(Owner { ptr });
             }
             let value = (&raw const (*ptr).value).read();
             let alloc = (&raw const (*ptr).alloc).read();
@@ -154,7 +154,7 @@ impl<V, A: Allocator> Shared<V, A> {
 
     /// Gives this owner up, where there are others, or no value.
     fn leave(self) {
-        let Shared { ptr } = self;
+        let Owner { ptr } = self;
         let ptr = ptr.cast_mut();
         if ptr.is_null() {
             return;
@@ -168,7 +168,7 @@ impl<V, A: Allocator> Shared<V, A> {
     }
 }
 
-impl<V: Drop, A: Allocator> Drop for Shared<V, A> {
+impl<V: Drop, A: Allocator> Drop for Owner<V, A> {
     #[inline]
     fn drop(self) {
         match self.take() {
@@ -186,10 +186,10 @@ fn drop_last<V: Drop, A: Allocator>(taken: (V, Vacant<Head<V, A>, A>)) {
     drop(value);
 }
 
-impl<V: Drop, A: Allocator> Clone for Shared<V, A> {
+impl<V: Drop, A: Allocator> Clone for Owner<V, A> {
     ghost is_clone = { λ s t. t.value ≡ s.value };
 
-    fn clone(&self) -> Result<Shared<V, A>, AllocError> {
+    fn clone(&self) -> Result<Owner<V, A>, AllocError> {
         match self.another() {
             Some(other) => Ok(other),
             None => Err(AllocError),

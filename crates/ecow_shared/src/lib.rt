@@ -1,8 +1,9 @@
 //! An owner of a value that others may own too, or of none: one word, of which clones share the
-//! value.
+//! value. The count of owners is for one thread.
 #![tactic(auto)]
 
 mod counts;
 mod memory;
+mod shared;
 
-pub use counts::Shared;
+pub use shared::Shared;

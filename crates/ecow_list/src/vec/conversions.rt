@@ -45,7 +45,7 @@ impl<T: Drop> EcoVec<T> {
         }
         if let Ok(block) = Block::with_capacity(alloc, fresh_capacity(len))
             && let Ok(mut shared) = Shared::new(alloc, block)
-            && let Some(block) = Shared::get_mut(&mut shared)
+            && let Some(block) = shared.get_mut()
         {
             block.fill_within_capacity(elements);
             return Ok(EcoVec {
@@ -253,7 +253,7 @@ impl<T: Clone> EcoVec<T> {
         ensures memory { IfErr result (λ rejected. rejected.error ≡ EcoError.Memory) }
     {
         let EcoVec { block, alloc } = self;
-        match Shared::try_unwrap(block) {
+        match block.try_unwrap() {
             Ok(block) => Ok(IntoIter::new(block.into_rest())),
             Err(block) => {
                 let vector = EcoVec { block, alloc };

@@ -126,7 +126,7 @@ impl<T: Drop> EcoVec<T> {
             return Ok(answer);
         }
         if let Ok(mut fresh) = self.copy::<C>(self.as_slice(), capacity)
-            && let Some(block) = Shared::get_mut(&mut fresh)
+            && let Some(block) = fresh.get_mut()
         {
             let answer = edit(block, given).map_err(Rejected::for_memory)?;
             self.block = fresh;
@@ -145,10 +145,10 @@ impl<T: Drop> EcoVec<T> {
         requires room { length elements.now ≤ capacity }
         requires bounded { capacity ≤ MAX_LEN }
         ensures copies { IfOk result
-            (λ shared. AllZip C.makes elements.now (items_of shared.value)) }
+            (λ shared. AllZip C.makes elements.now (items_of shared)) }
         ensures len { IfOk result
-            (λ shared. length (items_of shared.value) ≡ length elements.now) }
-        ensures capacity { IfOk result (λ shared. IsSomeAnd shared.value
+            (λ shared. length (items_of shared) ≡ length elements.now) }
+        ensures capacity { IfOk result (λ shared. IsSomeAnd shared
             (λ block. block.capacity ≡ capacity)) }
     {
         let block = if elements.is_empty() {

@@ -9,7 +9,7 @@ returns g c = record {
   edited = record {
     ok = λ equal. let same = clones_equal _ equal _ _ c.in-Ok.ensures.copies in search rules;
     kept = record {
-      kept = items_of c.in-Ok.fresh.value;
+      kept = items_of c.in-Ok.fresh;
       is_kept = inr (search rules);
       same_length = search rules;
       edited = search rules;

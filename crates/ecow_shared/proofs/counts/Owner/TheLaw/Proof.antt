@@ -23,9 +23,9 @@ use Rattle.std_alloc.specs.Owners.{sole_or_counted}
 use Rattle.std_alloc.specs.Rc.Ownership.{counter_at}
 use Rattle.std_alloc.proofs.ArcSteps.{Lends-settled}
 use Rattle.ecow_shared.specs.Ownership.{may_be_tested, is_null, one_weak, value_offset, all_owned, value_shared, sole_owns, counted_owns, shared_owns, shared_lends, owner_owns, owner_lends}
-use Rattle.ecow_shared.specs.contracts.counts.Shared as S
+use Rattle.ecow_shared.specs.contracts.counts.Owner as S
 use Rattle.ecow_shared.proofs.Settling.{settles}
-use Rattle.ecow_shared.proofs.counts.Shared.TheLaw.Statement.{statement}
+use Rattle.ecow_shared.proofs.counts.Owner.TheLaw.Statement.{statement}
 
 module _ (R Z : RattleType) (g : Ghosts Z.Denot) (L : Laws R) (c : Ptr) where
   owner_shr_laws : (v : Option R.Denot) → ShrLaws (owner_lends Z R g.dealloc_token c v)

@@ -44,11 +44,11 @@ use Rattle.std_alloc.proofs.RcSteps.{Good as Good', word, word-Good}
 use Rattle.std_alloc.proofs.VecSteps.Shapes.{after}
 use Rattle.ecow_shared.proofs.Steps.{ν, head_val, head_made, word_made, sole, counted}
 use Rattle.ecow_shared.specs.contracts.counts.Head as Head-type
-use Rattle.ecow_shared.specs.contracts.counts.Shared as S
-use Rattle.ecow_shared.specs.contracts.counts.Shared.put as F
-use Rattle.ecow_shared.specs.contracts.counts.Shared.put.Key.{name as #self}
-use Rattle.ecow_shared.proofs.counts.Shared.put.Statement.{statement}
-use Rattle.ecow_shared.proofs.counts.Shared.put.Code as code
+use Rattle.ecow_shared.specs.contracts.counts.Owner as S
+use Rattle.ecow_shared.specs.contracts.counts.Owner.put as F
+use Rattle.ecow_shared.specs.contracts.counts.Owner.put.Key.{name as #self}
+use Rattle.ecow_shared.proofs.counts.Owner.put.Statement.{statement}
+use Rattle.ecow_shared.proofs.counts.Owner.put.Code as code
 
 module _ (E : Bx) where
   abbrev here : Fn

@@ -46,11 +46,11 @@ use Rattle.std_alloc.proofs.VecSteps.Shapes.{after}
 use Rattle.std_alloc.specs.Rc.Ownership.{counter_at}
 use Rattle.ecow_shared.specs.Ownership.{one_weak, owner_lends}
 use Rattle.ecow_shared.proofs.Steps.{Word, ν, value_at, key, there, sees, lent_cases, reads, read}
-use Rattle.ecow_shared.specs.contracts.counts.Shared as S
-use Rattle.ecow_shared.specs.contracts.counts.Shared.get as F
-use Rattle.ecow_shared.specs.contracts.counts.Shared.get.Key.{name as #self}
-use Rattle.ecow_shared.proofs.counts.Shared.get.Statement.{statement}
-use Rattle.ecow_shared.proofs.counts.Shared.get.Code as code
+use Rattle.ecow_shared.specs.contracts.counts.Owner as S
+use Rattle.ecow_shared.specs.contracts.counts.Owner.get as F
+use Rattle.ecow_shared.specs.contracts.counts.Owner.get.Key.{name as #self}
+use Rattle.ecow_shared.proofs.counts.Owner.get.Statement.{statement}
+use Rattle.ecow_shared.proofs.counts.Owner.get.Code as code
 
 module _ (E : Bx) where
   abbrev here : Fn

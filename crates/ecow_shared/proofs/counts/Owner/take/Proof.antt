@@ -50,12 +50,12 @@ use Rattle.std_alloc.proofs.Pairs.{pair_val, pair_of, pair_Typed}
 use Rattle.std_alloc.proofs.ResultValues.{ok_of, err_of}
 use Rattle.ecow_shared.specs.Ownership.{value_owns, given_back_by}
 use Rattle.ecow_shared.proofs.Steps.{ν, word_had, cases, null_made, value, counted_had, is_counted, owner_made, opens, shut, alone, value_out, alloc_out, head_back}
-use Rattle.ecow_shared.specs.contracts.counts.Shared as S
-use Rattle.ecow_shared.specs.contracts.counts.Shared.take as F
-use Rattle.ecow_shared.specs.contracts.counts.Shared.take.Key.{name as #self}
-use Rattle.ecow_shared.proofs.counts.Shared.take.Statement.{statement}
-use Rattle.ecow_shared.proofs.counts.Shared.take.Code as code
-use Rattle.ecow_shared.proofs.counts.Shared.take.Code.{code as body}
+use Rattle.ecow_shared.specs.contracts.counts.Owner as S
+use Rattle.ecow_shared.specs.contracts.counts.Owner.take as F
+use Rattle.ecow_shared.specs.contracts.counts.Owner.take.Key.{name as #self}
+use Rattle.ecow_shared.proofs.counts.Owner.take.Statement.{statement}
+use Rattle.ecow_shared.proofs.counts.Owner.take.Code as code
+use Rattle.ecow_shared.proofs.counts.Owner.take.Code.{code as body}
 
 module _ (E : Bx) where
   abbrev here : Fn

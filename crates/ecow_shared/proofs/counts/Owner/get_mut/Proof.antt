@@ -50,16 +50,16 @@ use Rattle.std_alloc.specs.Owners.{sole_or_counted}
 use Rattle.std_alloc.specs.Rc.Ownership.{counter_at}
 use Rattle.std_alloc.proofs.RcSteps.{is_so, word, Some-of, none_of, cell}
 use Rattle.std_alloc.proofs.VecSteps.Shapes.{after, head, inside}
-use Rattle.ecow_shared.specs.Lends.{with_value}
+use Rattle.ecow_shared.specs.OwnerLends.{with_value}
 use Rattle.ecow_shared.specs.Ownership.{value_owns, given_back_by}
 use Rattle.ecow_shared.proofs.Steps.{Id, value_at, Word, word_had, word_made, sees, sole, counted, box, value, owned, cases, null_made, counted_had, is_counted, owner_made, shut, alone}
 use Rattle.ecow_shared.proofs.Steps as steps
-use Rattle.ecow_shared.specs.contracts.counts.Shared as S
-use Rattle.ecow_shared.specs.contracts.counts.Shared.get_mut as F
-use Rattle.ecow_shared.specs.contracts.counts.Shared.get_mut.Key.{name as #self}
-use Rattle.ecow_shared.proofs.counts.Shared.get_mut.Statement.{statement}
-use Rattle.ecow_shared.proofs.counts.Shared.get_mut.Code as code
-use Rattle.ecow_shared.proofs.counts.Shared.get_mut.Code.{code as body}
+use Rattle.ecow_shared.specs.contracts.counts.Owner as S
+use Rattle.ecow_shared.specs.contracts.counts.Owner.get_mut as F
+use Rattle.ecow_shared.specs.contracts.counts.Owner.get_mut.Key.{name as #self}
+use Rattle.ecow_shared.proofs.counts.Owner.get_mut.Statement.{statement}
+use Rattle.ecow_shared.proofs.counts.Owner.get_mut.Code as code
+use Rattle.ecow_shared.proofs.counts.Owner.get_mut.Code.{code as body}
 
 module _ (E : Bx) where
   abbrev here : Fn

@@ -45,12 +45,12 @@ use Rattle.std_alloc.proofs.VecSteps.Shapes.{after, head, inside}
 use Rattle.ecow_shared.proofs.Steps.{Word, ν, lent_cases, null_made, lent_out, lent_back, reads, read, opens, shut, more, owner_made}
 use Rattle.core.proofs.alloc.Calls.{token}
 use Rattle.ecow_shared.specs.Ownership.{owner_lends}
-use Rattle.ecow_shared.specs.contracts.counts.Shared as S
-use Rattle.ecow_shared.specs.contracts.counts.Shared.another as F
-use Rattle.ecow_shared.specs.contracts.counts.Shared.another.Key.{name as #self}
-use Rattle.ecow_shared.proofs.counts.Shared.another.Statement.{statement}
-use Rattle.ecow_shared.proofs.counts.Shared.another.Code as code
-use Rattle.ecow_shared.proofs.counts.Shared.another.Code.{code as body}
+use Rattle.ecow_shared.specs.contracts.counts.Owner as S
+use Rattle.ecow_shared.specs.contracts.counts.Owner.another as F
+use Rattle.ecow_shared.specs.contracts.counts.Owner.another.Key.{name as #self}
+use Rattle.ecow_shared.proofs.counts.Owner.another.Statement.{statement}
+use Rattle.ecow_shared.proofs.counts.Owner.another.Code as code
+use Rattle.ecow_shared.proofs.counts.Owner.another.Code.{code as body}
 
 module _ (E : Bx) where
   abbrev here : Fn

@@ -40,12 +40,12 @@ use Rattle.std_alloc.proofs.BoxSteps.Form.{Bx, R, P, args}
 use Rattle.std_alloc.proofs.VecSteps.Shapes.{after}
 use Rattle.std_alloc.proofs.RcSteps.{is_not, word, word-Good}
 use Rattle.ecow_shared.proofs.Steps.{ν, word_had, cases, counted_had, is_counted, opens, shut, less}
-use Rattle.ecow_shared.specs.contracts.counts.Shared as S
-use Rattle.ecow_shared.specs.contracts.counts.Shared.leave as F
-use Rattle.ecow_shared.specs.contracts.counts.Shared.leave.Key.{name as #self}
-use Rattle.ecow_shared.proofs.counts.Shared.leave.Statement.{statement}
-use Rattle.ecow_shared.proofs.counts.Shared.leave.Code as code
-use Rattle.ecow_shared.proofs.counts.Shared.leave.Code.{code as body}
+use Rattle.ecow_shared.specs.contracts.counts.Owner as S
+use Rattle.ecow_shared.specs.contracts.counts.Owner.leave as F
+use Rattle.ecow_shared.specs.contracts.counts.Owner.leave.Key.{name as #self}
+use Rattle.ecow_shared.proofs.counts.Owner.leave.Statement.{statement}
+use Rattle.ecow_shared.proofs.counts.Owner.leave.Code as code
+use Rattle.ecow_shared.proofs.counts.Owner.leave.Code.{code as body}
 
 module _ (E : Bx) where
   abbrev here : Fn

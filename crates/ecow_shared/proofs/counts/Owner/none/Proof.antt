@@ -30,11 +30,11 @@ use denote.Triple.Walked.{says, Stays, walk_of, ends_at, walk_Meets}
 use Rattle.std_alloc.proofs.BoxSteps.Form.{Bx, R, P, args}
 use Rattle.std_alloc.proofs.RcSteps.{word, word-Good}
 use Rattle.ecow_shared.proofs.Steps.{ν, null_made}
-use Rattle.ecow_shared.specs.contracts.counts.Shared as S
-use Rattle.ecow_shared.specs.contracts.counts.Shared.none as F
-use Rattle.ecow_shared.specs.contracts.counts.Shared.none.Key.{name as #self}
-use Rattle.ecow_shared.proofs.counts.Shared.none.Statement.{statement}
-use Rattle.ecow_shared.proofs.counts.Shared.none.Code as code
+use Rattle.ecow_shared.specs.contracts.counts.Owner as S
+use Rattle.ecow_shared.specs.contracts.counts.Owner.none as F
+use Rattle.ecow_shared.specs.contracts.counts.Owner.none.Key.{name as #self}
+use Rattle.ecow_shared.proofs.counts.Owner.none.Statement.{statement}
+use Rattle.ecow_shared.proofs.counts.Owner.none.Code as code
 
 module _ (E : Bx) where
   abbrev here : Fn
