@@ -7,3 +7,4 @@ pub mod Splices
 pub mod Retained
 pub mod Bytes
 pub mod Cloned
+pub mod Crosses

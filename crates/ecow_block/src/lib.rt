@@ -6,6 +6,7 @@ pub mod block;
 mod moves;
 pub mod rest;
 mod room;
+mod threads;
 
 pub use block::Block;
 pub use rest::Rest;

@@ -6,7 +6,7 @@ ghost use denote.RawPtr.{Ptr};
 ghost use Rattle.ecow_block.specs.Ownership.{deed_owns, room_owns, room_shares};
 
 use std::alloc::{AllocError, Allocator};
-use std::marker::{Model, PhantomData};
+use std::marker::{Model, PhantomData, Send, Sync};
 
 mod heap;
 mod places;
@@ -33,6 +33,11 @@ impl<T> Clone for Base<T> {
 
 impl<T> Copy for Base<T> {}
 
+// It owns nothing.
+unsafe impl<T> Send for Base<T> {}
+
+unsafe impl<T> Sync for Base<T> {}
+
 /// Some places of a block, side by side: the first of them hold the items, the others are empty.
 /// `at` is where the block begins, and `start` the number of the first place. It takes no space.
 pub(crate) struct Room<T> {
@@ -50,6 +55,10 @@ impl<T> Model for Room<T> {
     ghost also_shares = { λ r _ κ. room_shares T.row r.at r.start r.capacity r.items κ };
 }
 
+unsafe impl<T: Send> Send for Room<T> {}
+
+unsafe impl<T: Sync> Sync for Room<T> {}
+
 /// The right to give a block of `capacity` places back to `alloc`, if it was asked of it. It takes
 /// no space.
 pub(crate) struct Deed<T, A: Allocator> {
@@ -64,3 +73,8 @@ impl<T, A: Allocator> Model for Deed<T, A> {
 
     ghost also_shares = { λ _ _ _. ftrue };
 }
+
+unsafe impl<T, A: Allocator + Send> Send for Deed<T, A> {}
+
+// A `&` to it holds nothing.
+unsafe impl<T, A: Allocator> Sync for Deed<T, A> {}

@@ -6,6 +6,7 @@ mod cells;
 mod compare;
 mod inline;
 pub mod laws;
+mod threads;
 pub mod traits;
 pub mod write;
 

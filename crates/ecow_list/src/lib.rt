@@ -5,6 +5,7 @@ pub mod comparisons;
 pub mod error;
 pub mod iter;
 mod macros;
+mod threads;
 pub mod traits;
 pub mod vec;
 pub mod write;

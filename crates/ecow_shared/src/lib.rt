@@ -5,5 +5,7 @@
 mod counts;
 mod memory;
 mod shared;
+mod threads;
 
 pub use shared::Shared;
+pub use threads::{may_be_sent, may_be_shared};

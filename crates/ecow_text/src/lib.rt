@@ -6,6 +6,7 @@ pub mod display;
 pub mod laws;
 mod macros;
 pub mod text;
+mod threads;
 pub mod traits;
 
 pub use display::ToEcoString;
