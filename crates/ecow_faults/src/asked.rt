@@ -151,6 +151,6 @@ fn is_held(watch: &Watch, held: Result<bool, EcoError>) -> bool {
     }
 }
 
-pub(crate) fn items_hold(alloc: Global, watch: &Watch) -> bool {
+pub fn items_hold(alloc: Global, watch: &Watch) -> bool {
     is_held(watch, vectors_hold(alloc, watch)) && is_held(watch, small_values_hold(alloc, watch))
 }

@@ -19,7 +19,7 @@ const LETTERS: [u8; 280] = *b"abcdefghijklmnopqrstuvwxyz{|}~ABCDEFGHIJ\
     abcdefghijklmnopqrstuvwxyz{|}~ABCDEFGHIJ\
     abcdefghijklmnopqrstuvwxyz{|}~ABCDEFGHIJ";
 
-pub(crate) const STEPS: [Row; 37] = [
+pub const STEPS: [Row; 37] = [
     (Word::Push, 0, 0, 1),
     (Word::Insert, 0, 0, 1),
     (Word::Insert, 2, 2, 1),
@@ -59,7 +59,7 @@ pub(crate) const STEPS: [Row; 37] = [
     (Word::InsertSlice, 0, 0, 12),
 ];
 
-pub(crate) fn first(bytes: &[u8], count: usize) -> &[u8] {
+pub fn first(bytes: &[u8], count: usize) -> &[u8] {
     match bytes.get(..count) {
         Some(first) => first,
         None => &[],
@@ -190,7 +190,7 @@ fn shorten<const N: usize>(bytes: &mut SmallBytes<N>, call: &Call) -> Result<boo
 }
 
 /// Whether bytes were made as they are to be, or for want of memory not at all.
-pub(crate) fn is_made<const N: usize>(
+pub fn is_made<const N: usize>(
     watch: &Watch,
     made: Result<SmallBytes<N>, EcoError>,
     want: &[u8],
@@ -207,11 +207,7 @@ pub(crate) fn is_made<const N: usize>(
 }
 
 /// `none` names the type in which values are made: a proof knows then that they have a size.
-pub(crate) fn makers_hold<const N: usize>(
-    alloc: Global,
-    watch: &Watch,
-    none: &SmallBytes<N>,
-) -> bool {
+pub fn makers_hold<const N: usize>(alloc: Global, watch: &Watch, none: &SmallBytes<N>) -> bool {
     let mut hold = arrays_hold(alloc, watch, none);
     for len in [0, 1, N, N.saturating_add(1), N.saturating_add(9)] {
         let (want, inline) = (first(&LETTERS, len), len <= N);
@@ -288,11 +284,7 @@ fn vec_holds<const N: usize>(
 }
 
 /// What is made of bytes in each state, which stay as they are.
-pub(crate) fn derived_hold<const N: usize>(
-    alloc: Global,
-    watch: &Watch,
-    _none: &SmallBytes<N>,
-) -> bool {
+pub fn derived_hold<const N: usize>(alloc: Global, watch: &Watch, _none: &SmallBytes<N>) -> bool {
     let mut hold = true;
     for state in states(N) {
         let Ok(bytes) = SmallBytes::<N>::made(alloc, state) else {

@@ -5,7 +5,7 @@ use ecow_list::{EcoError, EcoVec, IntoArray, range_in};
 use std::alloc::{AllocError, Global};
 
 /// An element that is known by a number.
-pub(crate) trait Element: Clone + Drop {
+pub trait Element: Clone + Drop {
     fn of(alloc: Global, number: i64) -> Result<Self, AllocError>;
 
     fn number(&self) -> i64;
@@ -57,7 +57,7 @@ impl Element for i64 {
 
 /// A number with a name, so that its clone takes memory.
 #[derive(Clone, Drop)]
-pub(crate) struct Named {
+pub struct Named {
     number: i64,
     name: String,
 }
@@ -107,11 +107,7 @@ fn numbers_of(elements: &[Named]) -> Short {
 }
 
 /// So many elements with numbers from `first` on.
-pub(crate) fn elements<T: Element>(
-    alloc: Global,
-    first: i64,
-    count: usize,
-) -> Result<Vec<T>, AllocError> {
+pub fn elements<T: Element>(alloc: Global, first: i64, count: usize) -> Result<Vec<T>, AllocError> {
     let mut elements = Vec::new(alloc);
     for number in Short::from(first, count).as_slice() {
         elements.push(T::of(alloc, *number)?)?;
@@ -119,7 +115,7 @@ pub(crate) fn elements<T: Element>(
     Ok(elements)
 }
 
-pub(crate) fn numbers<T: Element>(elements: &[T]) -> Short {
+pub fn numbers<T: Element>(elements: &[T]) -> Short {
     let mut numbers = Short::new();
     for element in elements {
         numbers.push(element.number());

@@ -22,7 +22,7 @@ fn is_made<T: Element>(
     }
 }
 
-pub(crate) fn makers_hold<T: Element>(alloc: Global, watch: &Watch) -> bool {
+pub fn makers_hold<T: Element>(alloc: Global, watch: &Watch) -> bool {
     let mut hold = plain_hold(alloc, watch);
     for count in [0, 1, 3, 4, 5, 9] {
         hold = handed_hold::<T>(alloc, watch, count) && hold;

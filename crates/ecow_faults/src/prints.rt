@@ -13,7 +13,7 @@ fn is_printed(watch: &Watch, printed: Result<EcoString, fmt::Error>, want: &str)
     }
 }
 
-pub(crate) fn printing_holds(alloc: Global, watch: &Watch) -> bool {
+pub fn printing_holds(alloc: Global, watch: &Watch) -> bool {
     let short = 12345.to_eco_string(alloc);
     let long = "printed past 15 bytes".to_eco_string(alloc);
     let joined = eco_format!(in alloc; "{}, {}", 12345, 6);

@@ -3,32 +3,32 @@ use crate::steps::Edit;
 
 /// A list of at most `M` numbers. It takes no memory, so that it is there where memory is refused.
 #[derive(Clone, Copy)]
-pub(crate) struct List<const M: usize> {
+pub struct List<const M: usize> {
     items: [i64; M],
     len: usize,
 }
 
 /// The list that most tests keep.
-pub(crate) type Short = List<64>;
+pub type Short = List<64>;
 
 /// The bytes of values of which up to 255 stand inline, and what is made of them.
-pub(crate) type Long = List<600>;
+pub type Long = List<600>;
 
 impl<const M: usize> List<M> {
-    pub(crate) fn new() -> Self {
+    pub fn new() -> Self {
         List {
             items: [0; M],
             len: 0,
         }
     }
 
-    pub(crate) fn of(items: &[i64]) -> Self {
+    pub fn of(items: &[i64]) -> Self {
         let mut list = Self::new();
         list.append(items);
         list
     }
 
-    pub(crate) fn of_bytes(bytes: &[u8]) -> Self {
+    pub fn of_bytes(bytes: &[u8]) -> Self {
         let mut list = Self::new();
         for byte in bytes {
             list.push(i64::from(*byte));
@@ -37,7 +37,7 @@ impl<const M: usize> List<M> {
     }
 
     /// The numbers from one on, so many.
-    pub(crate) fn from(first: i64, count: usize) -> Self {
+    pub fn from(first: i64, count: usize) -> Self {
         let mut list = Self::new();
         let mut number = first;
         for _ in 0..count {
@@ -47,24 +47,24 @@ impl<const M: usize> List<M> {
         list
     }
 
-    pub(crate) fn push(&mut self, item: i64) {
+    pub fn push(&mut self, item: i64) {
         if let Some(place) = self.items.get_mut(self.len) {
             *place = item;
             self.len = self.len.wrapping_add(1);
         }
     }
 
-    pub(crate) fn append(&mut self, items: &[i64]) {
+    pub fn append(&mut self, items: &[i64]) {
         for item in items {
             self.push(*item);
         }
     }
 
-    pub(crate) fn len(&self) -> usize {
+    pub fn len(&self) -> usize {
         self.len
     }
 
-    pub(crate) fn as_slice(&self) -> &[i64] {
+    pub fn as_slice(&self) -> &[i64] {
         match self.items.get(..self.len) {
             Some(items) => items,
             None => &[],
@@ -72,7 +72,7 @@ impl<const M: usize> List<M> {
     }
 
     /// The numbers from `start` up to `end`.
-    pub(crate) fn part(&self, start: usize, end: usize) -> Self {
+    pub fn part(&self, start: usize, end: usize) -> Self {
         match self.as_slice().get(start..end) {
             Some(items) => Self::of(items),
             None => Self::new(),
@@ -80,18 +80,18 @@ impl<const M: usize> List<M> {
     }
 
     /// The list with other numbers in place of a part.
-    pub(crate) fn replaced(&self, change: Edit, added: &Self) -> Self {
+    pub fn replaced(&self, change: Edit, added: &Self) -> Self {
         let mut list = self.part(0, change.start);
         list.append(added.as_slice());
         list.append(self.part(change.end, self.len).as_slice());
         list
     }
 
-    pub(crate) fn is(&self, items: &[i64]) -> bool {
+    pub fn is(&self, items: &[i64]) -> bool {
         self.as_slice() == items
     }
 
-    pub(crate) fn is_bytes(&self, bytes: &[u8]) -> bool {
+    pub fn is_bytes(&self, bytes: &[u8]) -> bool {
         Self::of_bytes(bytes).is(self.as_slice())
     }
 }

@@ -8,11 +8,11 @@ use std::alloc::Global;
 
 /// In which form a value stands, with how many bytes, and whether a twin shares its block.
 #[derive(Clone, Copy)]
-pub(crate) struct State {
-    pub(crate) spilled: bool,
-    pub(crate) len: usize,
-    pub(crate) room: usize,
-    pub(crate) shared: bool,
+pub struct State {
+    pub spilled: bool,
+    pub len: usize,
+    pub room: usize,
+    pub shared: bool,
 }
 
 fn in_state(spilled: bool, len: usize, room: usize, shared: bool) -> State {
@@ -26,7 +26,7 @@ fn in_state(spilled: bool, len: usize, room: usize, shared: bool) -> State {
 
 /// Inline with a place left, inline and full, spilled with room, spilled and full, and shared
 /// ones.
-pub(crate) fn states(limit: usize) -> [State; 7] {
+pub fn states(limit: usize) -> [State; 7] {
     let (more, roomy) = (limit.saturating_add(5), limit.saturating_add(8));
     [
         in_state(false, limit.saturating_sub(1), limit, false),
@@ -41,10 +41,10 @@ pub(crate) fn states(limit: usize) -> [State; 7] {
 
 /// A call, what it is to do, and what stood there before.
 #[derive(Clone, Copy)]
-pub(crate) struct Call {
-    pub(crate) state: State,
-    pub(crate) step: Step,
-    pub(crate) change: Edit,
+pub struct Call {
+    pub state: State,
+    pub step: Step,
+    pub change: Edit,
     limit: usize,
     capacity: usize,
 }
@@ -95,7 +95,7 @@ impl Call {
 }
 
 /// Bytes or a text.
-pub(crate) trait Small: Clone + Drop {
+pub trait Small: Clone + Drop {
     /// How many bytes stand inline.
     fn limit() -> usize;
 
@@ -121,7 +121,7 @@ pub(crate) trait Small: Clone + Drop {
     fn spilled(self) -> Option<EcoVec<u8>>;
 }
 
-pub(crate) fn calls_hold<S: Small>(alloc: Global, watch: &Watch, rows: &[Row]) -> bool {
+pub fn calls_hold<S: Small>(alloc: Global, watch: &Watch, rows: &[Row]) -> bool {
     let mut hold = true;
     for state in states(S::limit()) {
         for row in rows {

@@ -2,7 +2,7 @@
 
 /// What is called.
 #[derive(Clone, Copy, PartialEq, Eq)]
-pub(crate) enum Word {
+pub enum Word {
     Push,
     Insert,
     Write,
@@ -37,25 +37,25 @@ pub(crate) enum Word {
 
 /// A call on a list: the part that it is about, and how many items it brings or asks room for.
 #[derive(Clone, Copy)]
-pub(crate) struct Step {
-    pub(crate) word: Word,
-    pub(crate) start: usize,
-    pub(crate) end: usize,
-    pub(crate) count: usize,
+pub struct Step {
+    pub word: Word,
+    pub start: usize,
+    pub end: usize,
+    pub count: usize,
 }
 
 /// A part of a list, and how many items come in its place.
 #[derive(Clone, Copy)]
-pub(crate) struct Edit {
-    pub(crate) start: usize,
-    pub(crate) end: usize,
-    pub(crate) count: usize,
+pub struct Edit {
+    pub start: usize,
+    pub end: usize,
+    pub count: usize,
 }
 
 /// A call as a row of a table: what is called, start, end and count.
-pub(crate) type Row = (Word, usize, usize, usize);
+pub type Row = (Word, usize, usize, usize);
 
-pub(crate) fn step_of(row: &Row) -> Step {
+pub fn step_of(row: &Row) -> Step {
     let (word, start, end, count) = *row;
     Step {
         word,
@@ -67,7 +67,7 @@ pub(crate) fn step_of(row: &Row) -> Step {
 
 impl Step {
     /// What the call changes in a list of this length; `None` where it doesn't fit.
-    pub(crate) fn change(&self, len: usize) -> Option<Edit> {
+    pub fn change(&self, len: usize) -> Option<Edit> {
         let (start, end) = self.part(len);
         if start > end || end > len {
             return None;
@@ -97,7 +97,7 @@ impl Step {
     }
 
     /// For how many items there must be room in a list of this length.
-    pub(crate) fn room(&self, len: usize, change: Edit) -> usize {
+    pub fn room(&self, len: usize, change: Edit) -> usize {
         match self.word {
             Word::Reserve => len.saturating_add(self.count),
             _ => len
@@ -108,7 +108,7 @@ impl Step {
     }
 
     /// Whether a call changes nothing, and leaves a value shared.
-    pub(crate) fn is_nothing(&self, len: usize) -> bool {
+    pub fn is_nothing(&self, len: usize) -> bool {
         match self.word {
             Word::Pop | Word::Clear => len == 0,
             Word::Truncate => self.start >= len,
@@ -120,7 +120,7 @@ impl Step {
     }
 
     /// Whether a call on a value that shares its block needs no memory.
-    pub(crate) fn is_free_shared(&self, len: usize) -> bool {
+    pub fn is_free_shared(&self, len: usize) -> bool {
         match self.word {
             Word::Clear | Word::Shrink => true,
             Word::Truncate if self.start == 0 => true,

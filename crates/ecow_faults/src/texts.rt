@@ -21,7 +21,7 @@ const FEW: &str = "abcd";
 
 const DOTS: &str = "............";
 
-pub(crate) const STEPS: [Row; 39] = [
+pub const STEPS: [Row; 39] = [
     (Word::Push, 0, 0, 1),
     (Word::Push, 0, 0, 4),
     (Word::Insert, 0, 0, 1),
@@ -64,7 +64,7 @@ pub(crate) const STEPS: [Row; 39] = [
 ];
 
 /// So many bytes of letters; from five on one letter has two.
-pub(crate) fn letters(len: usize) -> &'static str {
+pub fn letters(len: usize) -> &'static str {
     let letters = if len < 5 { FEW } else { LETTERS };
     match letters.get(..len) {
         Some(text) => text,
@@ -73,7 +73,7 @@ pub(crate) fn letters(len: usize) -> &'static str {
 }
 
 /// So many bytes: four are one character.
-pub(crate) fn added(count: usize) -> &'static str {
+pub fn added(count: usize) -> &'static str {
     if count == 4 {
         return "😀";
     }
@@ -217,7 +217,7 @@ fn shorten<const N: usize>(text: &mut SmallText<N>, call: &Call) -> Result<bool,
 }
 
 /// Whether a text was made as it is to be, or for want of memory not at all.
-pub(crate) fn is_made<const N: usize>(
+pub fn is_made<const N: usize>(
     watch: &Watch,
     made: Result<SmallText<N>, EcoError>,
     want: &[i64],
@@ -232,11 +232,7 @@ pub(crate) fn is_made<const N: usize>(
 }
 
 /// `none` names the type in which values are made: a proof knows then that they have a size.
-pub(crate) fn makers_hold<const N: usize>(
-    alloc: Global,
-    watch: &Watch,
-    none: &SmallText<N>,
-) -> bool {
+pub fn makers_hold<const N: usize>(alloc: Global, watch: &Watch, none: &SmallText<N>) -> bool {
     let mut hold = chars_hold(alloc, watch, none);
     for len in [0, 1, N, N.saturating_add(1), N.saturating_add(9)] {
         let (text, inline) = (letters(len), text_fits(len, N));
@@ -344,11 +340,7 @@ fn joined_holds<const N: usize>(
 }
 
 /// What is made of a text in each state, which stays as it is.
-pub(crate) fn derived_hold<const N: usize>(
-    alloc: Global,
-    watch: &Watch,
-    none: &SmallText<N>,
-) -> bool {
+pub fn derived_hold<const N: usize>(alloc: Global, watch: &Watch, none: &SmallText<N>) -> bool {
     let mut hold = true;
     for state in states(N) {
         let Ok(text) = SmallText::<N>::made(alloc, state) else {

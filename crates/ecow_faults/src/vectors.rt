@@ -8,9 +8,9 @@ use std::alloc::Global;
 use std::mem;
 
 /// Room, elements, and whether a twin shares the block. Without room there is no block.
-pub(crate) type State = (usize, usize, bool);
+pub type State = (usize, usize, bool);
 
-pub(crate) const STATES: [State; 7] = [
+pub const STATES: [State; 7] = [
     (0, 0, false),
     (3, 0, false),
     (8, 4, false),
@@ -20,7 +20,7 @@ pub(crate) const STATES: [State; 7] = [
     (4, 4, true),
 ];
 
-pub(crate) const STEPS: [Row; 34] = [
+pub const STEPS: [Row; 34] = [
     (Word::Push, 0, 0, 1),
     (Word::Insert, 0, 0, 1),
     (Word::Insert, 3, 3, 1),
@@ -70,7 +70,7 @@ const COPIES: [Row; 9] = [
     (Word::InsertSlice, 0, 0, 6),
 ];
 
-pub(crate) fn calls_hold<T: Element>(alloc: Global, watch: &Watch) -> bool {
+pub fn calls_hold<T: Element>(alloc: Global, watch: &Watch) -> bool {
     let mut hold = rows_hold::<T>(alloc, watch, &STEPS);
     if T::is_plain() {
         hold = rows_hold::<T>(alloc, watch, &COPIES) && hold;
@@ -89,11 +89,7 @@ fn rows_hold<T: Element>(alloc: Global, watch: &Watch, rows: &[Row]) -> bool {
 }
 
 /// Makes a vector in a state; its elements have the numbers from 1 on.
-pub(crate) fn made<T: Element>(
-    alloc: Global,
-    room: usize,
-    len: usize,
-) -> Result<EcoVec<T>, EcoError> {
+pub fn made<T: Element>(alloc: Global, room: usize, len: usize) -> Result<EcoVec<T>, EcoError> {
     let mut list = EcoVec::with_capacity(alloc, room)?;
     for element in elements(alloc, 1, len)? {
         if list.push(element).is_err() {

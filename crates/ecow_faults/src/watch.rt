@@ -4,13 +4,13 @@ use std::cell::Cell;
 /// Counts the answers that memory is wanting. In a run one request at most is refused; in a
 /// strict one none is.
 #[derive(Drop)]
-pub(crate) struct Watch {
+pub struct Watch {
     strict: bool,
     refusals: Cell<u32>,
 }
 
 impl Watch {
-    pub(crate) fn new(strict: bool) -> Self {
+    pub fn new(strict: bool) -> Self {
         Watch {
             strict,
             refusals: Cell::new(0),
@@ -18,14 +18,14 @@ impl Watch {
     }
 
     /// Counts an answer that memory is wanting, and says whether it may be right.
-    pub(crate) fn may_refuse(&self) -> bool {
+    pub fn may_refuse(&self) -> bool {
         let refusals = self.refusals.get().saturating_add(1);
         self.refusals.set(refusals);
         !self.strict && refusals == 1
     }
 
     /// Whether no more requests were refused than may be.
-    pub(crate) fn is_kept(&self) -> bool {
+    pub fn is_kept(&self) -> bool {
         if self.strict {
             self.refusals.get() == 0
         } else {

@@ -2,10 +2,10 @@
 //! by itself, and compares.
 use crate::model::{Entry, Model, Want};
 use crate::orders::{Kind, Order, Verb, command, list_command};
-use crate::steps::{Row, Word, step_of};
-use crate::watch::Watch;
-use crate::{bytes, texts, vectors};
 use ecow_counted::Counted;
+use ecow_faults::steps::{Row, Word, step_of};
+use ecow_faults::watch::Watch;
+use ecow_faults::{bytes, texts, vectors};
 use ecow_list::EcoError;
 use ecow_model::{BytesCommand, Command, Outcome, Refusal, TextCommand, VecCommand};
 use ecow_store::SmallStore;

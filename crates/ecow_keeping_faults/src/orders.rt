@@ -1,7 +1,7 @@
 //! Commands as data, and the commands that they stand for.
-use crate::short::Short;
-use crate::steps::{Step, Word};
-use crate::texts;
+use ecow_faults::short::Short;
+use ecow_faults::steps::{Step, Word};
+use ecow_faults::texts;
 use ecow_model::{Bounds, BytesCommand, Command, Items, Text, TextCommand, VecCommand};
 use std::alloc::{AllocError, Global};
 use std::ops::Bound;

@@ -2,9 +2,9 @@
 use crate::keepings::{Keeping, Run, agrees, fits, orders_hold};
 use crate::model::{Model, Want};
 use crate::orders::{Kind, Order, Verb};
-use crate::steps::Word;
-use crate::watch::Watch;
 use ecow_counted::{Counted, Filled};
+use ecow_faults::steps::Word;
+use ecow_faults::watch::Watch;
 use ecow_list::EcoError;
 use ecow_model::{Outcome, Refusal};
 use ecow_testing::numbers::Numbers;
