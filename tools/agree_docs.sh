@@ -41,7 +41,10 @@ words() {
 
 for page in docs/uses/*.md; do
     code=$(sed -n '/^```rust$/,/^```$/p' "$page" | grep -v '^```' | words)
-    source=$(words $(sed -n 's/^`\(crates\/[^`]*\)`.*/\1/p' "$page"))
+    sources=$(sed -n 's/^`\(crates\/[^`]*\)`.*/\1/p' "$page")
+    # The code of that page stands nowhere else.
+    [ -n "$sources" ] || [ "$page" != docs/uses/threads.md ] || continue
+    source=$(words $sources)
     case $source in
         *"${code% }"*) ;;
         *) echo "$page quotes other code than its source has"; exit 1 ;;

@@ -1,20 +1,22 @@
 #!/bin/sh
 # Tries `make vendor` on a repository that is new: a second call changes nothing, and the gate there
 # proves what was copied and, above it, the code of README and of docs/CALLING.md:
-# tools/vendor_test.sh [KIND].
+# tools/vendor_test.sh [KIND [COUNT]].
 # But for KIND=vector the worked tree is copied out too, and for KIND=store all worked programs. The
-# gate there runs them.
+# gate there runs them. With COUNT=atomic the code of docs/uses/threads.md is proved too, for which
+# the repository has the handle Threads.
 set -eu
 cd "$(dirname "$0")/.."
 kind=${1:-vector}
+count=${2:-plain}
 work=$(mktemp -d)
 trap 'rm -rf "$work"' EXIT
 new=$work/new
 mkdir "$new"
 
-tools/vendor.sh "$new" "$kind"
+tools/vendor.sh "$new" "$kind" "$count"
 cp -Rp "$new" "$work/once"
-tools/vendor.sh "$new" "$kind" > /dev/null
+tools/vendor.sh "$new" "$kind" "$count" > /dev/null
 diff -r "$work/once" "$new"
 for crate in $(cut -d : -f 1 "$new/crates.txt"); do
     for part in out tests edits must-fail; do
@@ -52,6 +54,14 @@ if [ "$kind" != vector ]; then
     grep -rl 'Rattle.ecow_uses' "$trees" | xargs sed -i 's/Rattle\.ecow_uses\./Rattle.trees./g'
     echo 'trees: ecow_list ecow_text anyhow' >> "$new/crates.txt"
     (cd "$trees" && rt fmt > /dev/null)
+fi
+if [ "$count" = atomic ]; then
+    crate forks docs/uses/threads.md '# ' 'ecow_list rayon'
+    answers=$new/crates/forks/proofs/fork_for_each
+    mkdir -p "$answers"
+    sed -n '/^```antt$/,/^```$/p' docs/uses/threads.md | grep -v '^```' > "$answers/Answers.antt"
+    (cd "$new/crates/forks" && rt fmt > /dev/null)
+    echo 'Handles allowed: Threads.' > "$new/HANDLES"
 fi
 if [ "$kind" = store ]; then
     mkdir "$new/crates/ecow_uses"
