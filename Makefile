@@ -15,11 +15,13 @@ help:
 	@echo "                       of costs, each request for memory refused in turn, command lines, large scripts, and the"
 	@echo "                       library for C where there is a C compiler"
 	@echo "make lib               leaves the library for C at bin/libecow.a and bin/libecow.so, with its headers (needs a C"
-	@echo "                       compiler); make install PREFIX=$(PREFIX) puts them there"
+	@echo "                       compiler); COUNT=plain counts owners for one thread; make install PREFIX=$(PREFIX)"
+	@echo "                       puts them there"
 	@echo "make c-test            tests it from C, C++, Python and Rust (needs gcc, clang, valgrind, python3 and rustc)"
 	@echo "make vendor TO=FOLDER  copies the crates of the vector into another repository, with their rows, so that its"
-	@echo "                       gate proves them; KIND=text: of all three types, KIND=store: of both keepings too"
-	@echo "make vendor-test       tries that on a new repository, whose gate it runs; KIND as above"
+	@echo "                       gate proves them; KIND=text: of all three types, KIND=store: of both keepings too;"
+	@echo "                       COUNT=atomic: with values that threads may share"
+	@echo "make vendor-test       tries that on a new repository, whose gate it runs; KIND and COUNT as above"
 	@echo "make contracts         writes docs/CONTRACTS.md, the public calls quoted with their clauses"
 	@echo "make edits             tries each edit that must be refused, those beside the gate's too (needs"
 	@echo "                       python3); CRATES=\"NAME ..\" those of some crates"
@@ -32,7 +34,7 @@ help:
 	@echo "                       times another program beside it"
 	@echo "make bench ECOW=FOLDER times vector, bytes, text and four whole programs beside the original crate in FOLDER,"
 	@echo "                       and the programs beside std alone (needs cargo);"
-	@echo "                       CPU=x86-64-v3 has both compiled for a processor with AVX2"
+	@echo "                       CPU=x86-64-v3 has both compiled for a processor with AVX2; COUNT=atomic times that count"
 	@echo "make clean             removes what was built"
 
 # SCRIPT may begin with --counted.
@@ -52,15 +54,16 @@ run:
 	@$(MAKE) --no-print-directory --silent bin/ecow-run >&2
 	@bin/ecow-run $(SCRIPT)
 
+# How owners are counted. The library for C has the atomic count unless another is named, and a copy the plain one.
+COUNT :=
+C_COUNT := $(or $(COUNT),atomic)
+
 # The library for C: the proved one, and what tests null pointers before it.
-crates/ecow_c/out/libecow_c.a: $(SOURCES)
-	@tools/prove.sh ecow_c
-	@cd crates/ecow_c && rt lib > ../../bin/lib.log 2>&1 || { cat ../../bin/lib.log; exit 1; }
+bin/libecow_c-%.a: $(SOURCES)
+	@tools/c_archive.sh $*
 
-bin/libecow.so: crates/ecow_c/out/libecow_c.a $(wildcard c/* include/*) tools/lib.sh VERSION
-	@tools/lib.sh
-
-lib: bin/libecow.so
+lib: bin/libecow_c-$(C_COUNT).a
+	@tools/lib.sh $(C_COUNT)
 
 # A version with the same first two numbers has the same calls, and values of the same sizes.
 LIKE = $(basename $(shell cat VERSION))
@@ -73,12 +76,14 @@ install: lib
 	install -m 644 include/ecow.h include/ecow.hpp $(DESTDIR)$(PREFIX)/include
 	sed 's|^prefix=.*|prefix=$(PREFIX)|' bin/ecow.pc > $(DESTDIR)$(PREFIX)/lib/pkgconfig/ecow.pc
 
-c-test: lib
+c-test: lib bin/libecow_c-plain.a
+	tools/lib.sh plain bin/plain
 	tools/c_short.sh
 	tools/c_test.sh
 
 COSTS := crates/ecow_costs/out/ecow_costs
-FAULTS := crates/ecow_faults/out/ecow_faults
+KEEPING_FAULTS := crates/ecow_keeping_faults/out/ecow_keeping_faults
+VALUE_FAULTS := crates/ecow_value_faults/out/ecow_value_faults
 RUN := crates/ecow_run/out/ecow_run
 
 # `rt ci` leaves these programs built: what calls cost is counted, requests for memory are refused in turn, and the
@@ -88,9 +93,11 @@ test: agree
 	rm -rf crates/*/out/rlib
 	rt ci
 	tools/costs.sh $(COSTS)
-	tools/refuse.sh $(FAULTS)
+	tools/refuse.sh $(VALUE_FAULTS)
+	tools/refuse.sh $(KEEPING_FAULTS)
 	tools/ends.sh $(RUN)
 	tools/large.sh $(RUN)
+	tools/threads_gate.sh
 	tools/c_gate.sh
 
 # The examples are cases too, and the gate runs the program on the first, of which there is a theorem; the contracts
@@ -109,13 +116,13 @@ agree:
 
 KIND := vector
 vendor:
-	@tools/vendor.sh "$(TO)" $(KIND)
+	@tools/vendor.sh "$(TO)" $(KIND) $(COUNT)
 
 contracts:
 	tools/contracts.sh > docs/CONTRACTS.md
 
 vendor-test:
-	tools/vendor_test.sh $(KIND)
+	tools/vendor_test.sh $(KIND) $(COUNT)
 
 edits:
 	tools/edits.py $(CRATES)
@@ -128,8 +135,10 @@ costs:
 	tools/costs.sh $(COSTS)
 
 faults:
-	cd crates/ecow_faults && rt run -- strict
-	tools/refuse.sh $(FAULTS)
+	cd crates/ecow_value_faults && rt run -- strict
+	cd crates/ecow_keeping_faults && rt run -- strict
+	tools/refuse.sh $(VALUE_FAULTS)
+	tools/refuse.sh $(KEEPING_FAULTS)
 
 SECONDS := 60
 fuzz: bin/ecow-run
@@ -139,7 +148,7 @@ hostile: bin/ecow-run
 	tools/hostile.py --peer "$(PEER)"
 
 bench:
-	tools/bench.sh $(ECOW)
+	COUNT=$(COUNT) tools/bench.sh $(ECOW)
 
 clean:
-	rm -rf bin crates/*/out
+	rm -rf bin crates/*/out "$$(tools/for_threads.sh)"

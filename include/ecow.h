@@ -25,7 +25,10 @@
  * Lifetimes. What a `_slice` returns stays valid until the next call that changes or drops that
  * value, or until the value is moved. It is never null.
  *
- * Threads. A value and its clones stay on one thread: their count of owners isn't atomic.
+ * Threads. A value is in one call at a time, whichever thread makes it, and calls that read count
+ * too: between two calls from different threads stands a lock, a queue, or a thread's start or
+ * join. Its clones are values of their own, which other threads may use meanwhile. Over a library
+ * of `make lib COUNT=plain` a value and its clones stay on one thread.
  *
  * Memory is asked of `malloc`, `realloc` and `free`. */
 #ifndef ECOW_H
@@ -55,7 +58,7 @@ const char *ecow_status_text(ecow_status status);
 
 /* The values. Their words are the library's: neither read nor write them. */
 typedef struct ecow_list {
-    uint64_t word[1];
+    uint64_t word[2];
 } ecow_list;
 
 typedef struct ecow_bytes {

@@ -18,7 +18,9 @@
  * Lifetimes. Pointers, references and views into a value stay valid until it is changed, moved or
  * destroyed.
  *
- * Threads. A value and its copies stay on one thread: their count of owners isn't atomic. */
+ * Threads. A value is in one call at a time, whichever thread makes it, and members that read count
+ * too. Its copies are values of their own, which other threads may use meanwhile. Over a library of
+ * `make lib COUNT=plain` a value and its copies stay on one thread. */
 #ifndef ECOW_HPP
 #define ECOW_HPP
 

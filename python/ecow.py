@@ -14,7 +14,8 @@ ValueError     an index of a text is inside a character, a byte is outside 0 to 
 UnicodeError   a character or a `str` has no UTF-8
 
 Each call of the library holds the interpreter's lock, so threads may share values. Under an
-interpreter without that lock, a value and its copies stay on one thread."""
+interpreter without that lock, a value is used by one thread at a time; others may use its copies
+meanwhile. Over a library of `make lib COUNT=plain` a value and its copies stay on one thread."""
 
 from __future__ import annotations
 
@@ -61,11 +62,10 @@ def _path() -> str:
         path = os.path.join(place, "libecow.so")
         if os.path.exists(path):
             return path
-    return ctypes.util.find_library("ecow") or "libecow.so.0.7"
+    return ctypes.util.find_library("ecow") or "libecow.so.0.8"
 
 
-# A `PyDLL` keeps the interpreter's lock during a call. The counts of owners need that: the garbage
-# collector may drop a copy on any thread.
+# A `PyDLL` keeps the interpreter's lock during a call, so no value is in two calls at once.
 _library = ctypes.PyDLL(_path())
 _library.ecow_status_text.argtypes = [ctypes.c_int]
 _library.ecow_status_text.restype = ctypes.c_char_p
@@ -413,7 +413,7 @@ class List(_Items, typing.MutableSequence[int]):
     """A list of numbers from -2^63 to 2^63 - 1. Iteration is over a copy."""
 
     __slots__ = ()
-    _calls = _Calls("list", 1, ctypes.c_int64)
+    _calls = _Calls("list", 2, ctypes.c_int64)
     _width = 8
 
     def __init__(self, numbers: typing.Iterable[int] = ()) -> None:

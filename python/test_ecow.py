@@ -7,6 +7,7 @@ import pickle
 import random
 import resource
 import sys
+import threading
 
 from ecow import Bytes, List, Text, is_utf8
 
@@ -161,6 +162,31 @@ def aliases():
         check(same(bytes_, ([*range(size)] * 2)[1:]) and same(text, "a" * size * 2))
 
 
+def threads(rounds):
+    """Threads change copies of the same values, and none sees what another wrote."""
+    list_, text = List(range(100)), Text("a text that spills")
+    wrong = []
+
+    def churn(number, list_, text):
+        for at in range(rounds):
+            copied, other = list_.copy(), text.copy()
+            copied[0] = at
+            copied.append(number)
+            other.push("!")
+            if not (same(copied, [at, *range(1, 100), number]) and same(list_, range(100))
+                    and str(other) == "a text that spills!" and str(text) == "a text that spills"):
+                wrong.append(number)
+
+    running = [threading.Thread(target=churn, args=(number, list_.copy(), text.copy()))
+               for number in range(8)]
+    for each in running:
+        each.start()
+    del list_, text
+    for each in running:
+        each.join()
+    check(not wrong)
+
+
 def orders():
     """Order, equality and hash are those of the contents."""
     for kind, models in (
@@ -287,6 +313,7 @@ if __name__ == "__main__":
     sources()
     memory()
     aliases()
+    threads(count // 20)
     orders()
     sequences(count)
     texts(count)

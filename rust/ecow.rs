@@ -3,7 +3,9 @@
 //! `String`, or 200000 where there is none. It prints how many checks held.
 
 use std::ffi::{c_char, c_int, CStr};
+use std::marker::PhantomData;
 use std::ptr::{null, null_mut};
+use std::{cell::Cell, thread};
 
 type Status = c_int;
 
@@ -18,7 +20,7 @@ const NULL: Status = 6;
 #[repr(C)]
 #[derive(Default)]
 struct RawList {
-    _word: [u64; 1],
+    _word: [u64; 2],
 }
 
 #[repr(C)]
@@ -131,9 +133,10 @@ extern "C" {
     fn ecow_text_hash(text: *const RawText) -> u64;
 }
 
-/// A list of numbers. Clones share memory until one of them is changed.
+/// A list of numbers. Clones share memory until one of them is changed. It may go to another thread.
+/// No two threads may look at it at once, so the `Cell` keeps it from being `Sync`.
 #[derive(Default)]
-struct List(RawList);
+struct List(RawList, PhantomData<Cell<u8>>);
 
 /// An error for a status, unless it is `OK`.
 fn done(status: Status) -> Result<(), Status> {
@@ -331,6 +334,34 @@ fn edits(count: usize, checks: &mut u32) -> Result<(), Status> {
     Ok(())
 }
 
+/// A list goes to another thread with what it holds, and no thread sees what another wrote.
+fn threads(rounds: usize, checks: &mut u32) -> Result<(), Status> {
+    let mut list = List::default();
+    for number in 0..100 {
+        list.push(number)?;
+    }
+    let running: Vec<_> = (0..8)
+        .map(|number| {
+            let mine = list.share()?;
+            Ok(thread::spawn(move || -> Result<bool, Status> {
+                let mut right = true;
+                for _ in 0..rounds {
+                    let mut copy = mine.share()?;
+                    copy.push(number)?;
+                    let last = copy.as_slice()[100];
+                    right = right && last == number && mine.as_slice().iter().sum::<i64>() == 4950;
+                }
+                Ok(right)
+            }))
+        })
+        .collect::<Result<_, Status>>()?;
+    drop(list);
+    for each in running {
+        check!(*checks, each.join().expect("a thread ends")?);
+    }
+    Ok(())
+}
+
 fn main() {
     let count = std::env::args().nth(1).map_or(200_000, |word| word.parse().expect("a number"));
     let mut checks = 0;
@@ -338,5 +369,6 @@ fn main() {
     all_bytes(&mut checks);
     texts(&mut checks);
     edits(count, &mut checks).expect("there is memory");
+    threads(count / 100, &mut checks).expect("there is memory");
     println!("rust: {checks} checks");
 }

@@ -29,12 +29,15 @@ silent() {
 tools/shim.sh "$out/shim.so"
 watched="env LEFT=1 LD_PRELOAD=$out/shim.so"
 
-for test in calls arrays edits costs; do
-    $cc -std=c11 -O2 -Iinclude "c/tests/$test.c" bin/libecow.a -o "$out/$test"
+for test in calls arrays edits costs threads; do
+    $cc -std=c11 -O2 -pthread -Iinclude "c/tests/$test.c" bin/libecow.a -o "$out/$test"
 done
 silent $watched "$out/calls"
 silent $watched "$out/arrays"
 silent $watched "$out/edits" 100000
+# A thread's end leaves blocks of the C library's.
+silent "$out/threads" 1000000
+silent "$out/threads" 200000 handover
 
 # What calls ask for.
 $watched COUNT=1 "$out/costs" > "$out/rows" 2> "$out/counts" || { cat "$out/counts"; exit 1; }
@@ -100,13 +103,16 @@ if has C++20 $cxx -std=c++20 -fsyntax-only -include compare -x c++ /dev/null; th
     $cxx -std=c++20 -O2 -Iinclude c/tests/test.cpp bin/libecow.a -o "$out/test"
     "$out/test" 20000
     refuse_each test 30
+    $cxx -std=c++20 -O2 -pthread -Iinclude c/tests/threads.cpp bin/libecow.a -o "$out/threads-cpp"
+    silent "$out/threads-cpp" 20000
 fi
 if has python3 python3 -c 'import ctypes'; then
     ECOW_LIBRARY=bin/libecow.so python3 python/test_ecow.py 2000
 fi
 if has valgrind valgrind --version; then
-    for run in calls arrays "edits 500"; do
+    for run in calls arrays "edits 500" "threads 400" "threads 400 handover"; do
         valgrind -q --leak-check=full --error-exitcode=1 "$out"/$run > /dev/null
     done
+    tools/helgrind.sh 400
 fi
 echo "the library for C was tested with $cc$with${without:+; not here: ${without#, }}"

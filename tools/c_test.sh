@@ -1,6 +1,7 @@
 #!/bin/sh
 # Tests the library for C, which `make lib` has left in bin/, from C, C++, Python and Rust, beside what
-# tools/c_short.sh does: tools/c_test.sh [EDITS]. Needs gcc and clang with g++ and clang++, valgrind, python3 and rustc.
+# tools/c_short.sh does, and sees that helgrind tells its atomic count from the plain one in bin/plain/:
+# tools/c_test.sh [EDITS]. Needs gcc and clang with g++ and clang++, valgrind, python3 and rustc.
 set -eu
 cd "$(dirname "$0")/.."
 edits=${1:-1000000}
@@ -34,7 +35,11 @@ for compilers in "gcc g++" "clang clang++"; do
     run arrays "$edits" c/tests/arrays.c "$1" -std=c11
     run edits "$edits" c/tests/edits.c "$1" -std=c11
     run test "$((edits / 5))" c/tests/test.cpp "$2" -std=c++20
+    run threads "$edits" c/tests/threads.c "$1" -std=c11 -pthread
+    "$out/threads" "$edits" handover
+    run threads-cpp "$edits" c/tests/threads.cpp "$2" -std=c++20 -pthread
 done
+tools/helgrind.sh 2000
 
 # The examples of docs/C.md.
 for example in first history; do

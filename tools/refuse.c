@@ -17,7 +17,9 @@ extern long write(int file, const void *bytes, size length);
 #define WRITES 5555553ul
 #define OUT_OF_MEMORY 12
 
-static long refused, made, counted, held;
+static long refused;
+/* Threads may ask at the same time. */
+static _Atomic long made, counted, held;
 static int counts, totals, leaks;
 
 static long number_of(const char *digits) {

@@ -1,0 +1,244 @@
+/* Threads whose values share blocks: threads [ROUNDS [handover]]. Eight threads have clones of the
+ * same values each. They clone these, change the clones, compare and drop, ROUNDS times in all.
+ * With `handover` one thread gives clones to another instead, and both change what they have. No
+ * value is in two calls at once. */
+#include "check.h"
+
+#include <pthread.h>
+#include <sys/resource.h>
+
+enum { THREADS = 8, COUNT = 100, FEW = 7 };
+
+/* How many numbers a list has that is handed over, and how much memory the process may take more
+ * meanwhile: one block in a hundred that isn't given back passes it in 100,000 rounds. */
+enum { HANDED = 500, MOST_KIB = 3000 };
+
+static long taken_kib(void) {
+    struct rusage usage;
+    return getrusage(RUSAGE_SELF, &usage) ? 0 : usage.ru_maxrss;
+}
+
+/* The sum of the numbers below COUNT. */
+#define SUM ((int64_t)COUNT * (COUNT - 1) / 2)
+
+/* A list of the numbers below COUNT, bytes of the same, a long text of the letter a, a short one. */
+typedef struct values {
+    ecow_list list;
+    ecow_bytes bytes;
+    ecow_text text, few;
+} values;
+
+typedef struct worker {
+    pthread_t thread;
+    values all;
+    long rounds, wrong;
+    uint64_t seed;
+} worker;
+
+static values make_values(void) {
+    values all = {{{0}}, {{0}}, {{0}}, {{0}}};
+    for (int number = 0; number < COUNT; number++) {
+        CHECK(!ecow_list_push(&all.list, number) && !ecow_bytes_push(&all.bytes, (uint8_t)number));
+        CHECK(!ecow_text_push(&all.text, 'a') && (number >= FEW || !ecow_text_push(&all.few, 'a')));
+    }
+    return all;
+}
+
+static bool clone_values(values *to, const values *from) {
+    return !ecow_list_clone(&to->list, &from->list) && !ecow_bytes_clone(&to->bytes, &from->bytes)
+           && !ecow_text_clone(&to->text, &from->text) && !ecow_text_clone(&to->few, &from->few);
+}
+
+static void drop_values(values *all) {
+    ecow_list_drop(&all->list);
+    ecow_bytes_drop(&all->bytes);
+    ecow_text_drop(&all->text);
+    ecow_text_drop(&all->few);
+}
+
+static bool list_has(const ecow_list *list, size_t count, int64_t sum) {
+    size_t len;
+    const int64_t *numbers = ecow_list_slice(list, &len);
+    for (size_t at = 0; at < len; at++) {
+        sum -= numbers[at];
+    }
+    return len == count && sum == 0;
+}
+
+static bool bytes_have(const ecow_bytes *bytes, size_t count, int64_t sum) {
+    size_t len;
+    const uint8_t *items = ecow_bytes_slice(bytes, &len);
+    for (size_t at = 0; at < len; at++) {
+        sum -= items[at];
+    }
+    return len == count && sum == 0;
+}
+
+/* As many letters a as `count`, but that `last` is the last one. */
+static bool text_has(const ecow_text *text, size_t count, char last) {
+    size_t len;
+    const char *letters = ecow_text_slice(text, &len);
+    for (size_t at = 0; at + 1 < len; at++) {
+        if (letters[at] != 'a') {
+            return false;
+        }
+    }
+    return len == count && (!len || letters[len - 1] == last);
+}
+
+static bool are_untouched(const values *all) {
+    return list_has(&all->list, COUNT, SUM) && bytes_have(&all->bytes, COUNT, SUM)
+           && text_has(&all->text, COUNT, 'a') && text_has(&all->few, FEW, 'a');
+}
+
+/* Changes a list that is as it was made. */
+static bool list_changes(ecow_list *list, uint64_t *seed) {
+    int64_t at = (int64_t)below(seed, COUNT), number = (int64_t)below(seed, 1000), out;
+    switch (below(seed, 7)) {
+    case 0:
+        return !ecow_list_push(list, number) && list_has(list, COUNT + 1, SUM + number);
+    case 1:
+        return !ecow_list_set(list, (size_t)at, number) && list_has(list, COUNT, SUM - at + number);
+    case 2:
+        return !ecow_list_insert(list, (size_t)at, number)
+               && list_has(list, COUNT + 1, SUM + number);
+    case 3:
+        return !ecow_list_remove(list, (size_t)at, &out) && out == at
+               && list_has(list, COUNT - 1, SUM - at);
+    case 4:
+        return !ecow_list_truncate(list, (size_t)at)
+               && list_has(list, (size_t)at, at * (at - 1) / 2);
+    case 5:
+        return !ecow_list_extend(list, ecow_list_slice(list, NULL), COUNT)
+               && list_has(list, 2 * COUNT, 2 * SUM);
+    default:
+        return !ecow_list_clear(list) && list_has(list, 0, 0);
+    }
+}
+
+/* Changes bytes and texts that are as they were made. */
+static bool texts_change(values *all, uint64_t *seed) {
+    uint8_t at = (uint8_t)below(seed, COUNT);
+    char letter = (char)('b' + below(seed, 25));
+    return !ecow_bytes_set(&all->bytes, at, 0) && bytes_have(&all->bytes, COUNT, SUM - at)
+           && !ecow_text_push(&all->text, (uint32_t)letter)
+           && text_has(&all->text, COUNT + 1, letter) && !ecow_text_truncate(&all->text, at)
+           && text_has(&all->text, at, 'a') && !ecow_text_push(&all->few, (uint32_t)letter)
+           && text_has(&all->few, FEW + 1, letter);
+}
+
+static void *churn(void *given) {
+    worker *mine = given;
+    for (long round = 0; round < mine->rounds; round++) {
+        values copy = {{{0}}, {{0}}, {{0}}, {{0}}};
+        bool right = clone_values(&copy, &mine->all) && ecow_list_equal(&copy.list, &mine->all.list)
+                     && list_changes(&copy.list, &mine->seed) && texts_change(&copy, &mine->seed)
+                     && are_untouched(&mine->all);
+        drop_values(&copy);
+        mine->wrong += !right;
+    }
+    drop_values(&mine->all);
+    return NULL;
+}
+
+static long churn_in_threads(long rounds) {
+    static worker workers[THREADS];
+    values all = make_values();
+    for (uint64_t number = 0; number < THREADS; number++) {
+        worker *each = &workers[number];
+        each->rounds = rounds / THREADS;
+        each->seed = number + 1;
+        CHECK(clone_values(&each->all, &all));
+        CHECK(!pthread_create(&each->thread, NULL, churn, each));
+    }
+    drop_values(&all);
+    long wrong = 0;
+    for (int number = 0; number < THREADS; number++) {
+        pthread_join(workers[number].thread, NULL);
+        wrong += workers[number].wrong;
+    }
+    return wrong;
+}
+
+/* Lists that one thread gives to another, each with the sum of its numbers. */
+enum { PLACES = 16 };
+
+typedef struct queue {
+    pthread_mutex_t lock;
+    pthread_cond_t moved;
+    ecow_list lists[PLACES];
+    int64_t sums[PLACES];
+    size_t given, taken;
+    bool over;
+    long wrong;
+} queue;
+
+static void *take_lists(void *given) {
+    queue *from = given;
+    for (;;) {
+        pthread_mutex_lock(&from->lock);
+        while (from->taken == from->given && !from->over) {
+            pthread_cond_wait(&from->moved, &from->lock);
+        }
+        if (from->taken == from->given) {
+            pthread_mutex_unlock(&from->lock);
+            return NULL;
+        }
+        size_t at = from->taken++ % PLACES;
+        ecow_list mine = from->lists[at];
+        int64_t sum = from->sums[at];
+        pthread_cond_signal(&from->moved);
+        pthread_mutex_unlock(&from->lock);
+        bool right = list_has(&mine, HANDED, sum);
+        if (at % 2) {
+            right = right && !ecow_list_push(&mine, 1) && list_has(&mine, HANDED + 1, sum + 1);
+        }
+        ecow_list_drop(&mine);
+        from->wrong += !right;
+    }
+}
+
+static long hand_lists_over(long rounds) {
+    static queue all = {.lock = PTHREAD_MUTEX_INITIALIZER, .moved = PTHREAD_COND_INITIALIZER};
+    pthread_t other;
+    CHECK(!pthread_create(&other, NULL, take_lists, &all));
+    long before = taken_kib();
+    ecow_list list = {{0}};
+    int64_t sum = 0;
+    for (int number = 0; number < HANDED; number++) {
+        CHECK(!ecow_list_push(&list, 0));
+    }
+    for (long round = 0; round < rounds; round++) {
+        ecow_list copy = {{0}};
+        CHECK(!ecow_list_clone(&copy, &list));
+        pthread_mutex_lock(&all.lock);
+        while (all.given - all.taken == PLACES) {
+            pthread_cond_wait(&all.moved, &all.lock);
+        }
+        all.lists[all.given % PLACES] = copy;
+        all.sums[all.given++ % PLACES] = sum;
+        pthread_cond_signal(&all.moved);
+        pthread_mutex_unlock(&all.lock);
+        int64_t old;
+        size_t at = (size_t)round % HANDED;
+        CHECK(!ecow_list_get(&list, at, &old) && !ecow_list_set(&list, at, round));
+        sum += round - old;
+        CHECK(list_has(&list, HANDED, sum));
+    }
+    pthread_mutex_lock(&all.lock);
+    all.over = true;
+    pthread_cond_signal(&all.moved);
+    pthread_mutex_unlock(&all.lock);
+    pthread_join(other, NULL);
+    ecow_list_drop(&list);
+    CHECK(rounds < 100000 || taken_kib() - before < MOST_KIB);
+    return all.wrong;
+}
+
+int main(int count, char **words) {
+    take_no_buffer();
+    long rounds = count > 1 ? atol(words[1]) : 1000;
+    long wrong = count > 2 ? hand_lists_over(rounds) : churn_in_threads(rounds);
+    printf("%ld rounds, %ld wrong\n", rounds, wrong);
+    return wrong != 0;
+}

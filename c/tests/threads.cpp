@@ -1,0 +1,63 @@
+/* Values of ecow.hpp in eight threads, each with copies of the same ones: threads [ROUNDS]. No thread
+ * sees what another wrote, and moved values go from one to the next. */
+#include "ecow.hpp"
+
+#include <cstdio>
+#include <cstdlib>
+#include <numeric>
+#include <string>
+#include <thread>
+#include <utility>
+#include <vector>
+
+struct values {
+    ecow::list list{1, 2, 3, 4, 5, 6, 7};
+    ecow::bytes bytes{200, 100};
+    ecow::text text{std::string_view("longer than fifteen bytes")};
+};
+
+static bool are_untouched(const values &all) {
+    return std::accumulate(all.list.begin(), all.list.end(), std::int64_t{0}) == 28
+           && all.bytes.size() == 2 && all.text == std::string_view("longer than fifteen bytes");
+}
+
+/* Counts the rounds that went wrong, and gives the copies on in `given`. */
+static void churn(values given, long rounds, std::int64_t number, values &left, long &wrong) {
+    for (long round = 0; round < rounds; round++) {
+        values copy(given);
+        copy.list.push_back(number);
+        copy.list.set(0, round);
+        copy.bytes.append({1, 2, 3, 4, 5, 6, 7, 8, 9, 10, 11, 12, 13, 14});
+        copy.text += "!";
+        bool right = copy.list.size() == 8 && copy.list[7] == number && copy.list[0] == round
+                     && copy.bytes.size() == 16 && copy.text.size() == 26 && are_untouched(given);
+        std::swap(copy.list, left.list);
+        wrong += !right;
+    }
+    left = std::move(given);
+}
+
+int main(int argc, char **argv) {
+    constexpr std::size_t threads = 8;
+    long rounds = argc > 1 ? std::atol(argv[1]) : 1000, all_wrong = 0;
+    std::vector<values> left(threads);
+    std::vector<long> wrong(threads);
+    {
+        values all;
+        std::vector<std::thread> running;
+        for (std::size_t at = 0; at < threads; at++) {
+            running.emplace_back([&, at, mine = all]() mutable {
+                churn(std::move(mine), rounds / long{threads}, std::int64_t(at), left[at],
+                      wrong[at]);
+            });
+        }
+        for (auto &each : running) {
+            each.join();
+        }
+    }
+    for (std::size_t at = 0; at < threads; at++) {
+        all_wrong += wrong[at] + !are_untouched(left[at]);
+    }
+    std::printf("c++: %ld rounds in threads, %ld wrong\n", rounds, all_wrong);
+    return all_wrong != 0;
+}

@@ -1,0 +1,18 @@
+#!/bin/sh
+# Runs c/tests/threads.c under helgrind, over the library in bin/, in which it must see no error, and over the one in
+# bin/plain/ if that is there, whose count is for one thread, in which it must see some: tools/helgrind.sh ROUNDS.
+set -eu
+cd "$(dirname "$0")/.."
+out=$(mktemp -d)
+trap 'rm -rf "$out"' EXIT
+run() { # LIBRARY
+    ${CC:-cc} -std=c11 -O2 -g -pthread -Iinclude c/tests/threads.c "$1/libecow.a" -o "$out/threads"
+    valgrind -q --tool=helgrind --error-exitcode=9 "$out/threads" "$rounds" > "$out/said" 2>&1
+}
+rounds=$1
+run bin || { cat "$out/said"; exit 1; }
+[ -d bin/plain ] || exit 0
+if run bin/plain; then
+    echo "helgrind sees no error in the plain count that threads share: it sees none at all"
+    exit 1
+fi
