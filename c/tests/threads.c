@@ -5,6 +5,8 @@
 #include "check.h"
 
 #include <pthread.h>
+#include <sched.h>
+#include <stdatomic.h>
 #include <sys/resource.h>
 
 enum { THREADS = 8, COUNT = 100, FEW = 7 };
@@ -160,48 +162,39 @@ static long churn_in_threads(long rounds) {
     return wrong;
 }
 
-/* Lists that one thread gives to another, each with the sum of its numbers. */
-enum { PLACES = 16 };
-
-typedef struct queue {
-    pthread_mutex_t lock;
-    pthread_cond_t moved;
-    ecow_list lists[PLACES];
-    int64_t sums[PLACES];
-    size_t given, taken;
-    bool over;
+/* A place through which one thread gives lists to another, each with the sum of its numbers. */
+typedef struct slot {
+    ecow_list list;
+    int64_t sum;
+    atomic_int full, over;
     long wrong;
-} queue;
+} slot;
 
 static void *take_lists(void *given) {
-    queue *from = given;
-    for (;;) {
-        pthread_mutex_lock(&from->lock);
-        while (from->taken == from->given && !from->over) {
-            pthread_cond_wait(&from->moved, &from->lock);
+    slot *from = given;
+    for (long round = 0;; round++) {
+        while (!atomic_load(&from->full)) {
+            if (atomic_load(&from->over)) {
+                return NULL;
+            }
+            sched_yield();
         }
-        if (from->taken == from->given) {
-            pthread_mutex_unlock(&from->lock);
-            return NULL;
-        }
-        size_t at = from->taken++ % PLACES;
-        ecow_list mine = from->lists[at];
-        int64_t sum = from->sums[at];
-        pthread_cond_signal(&from->moved);
-        pthread_mutex_unlock(&from->lock);
-        bool right = list_has(&mine, HANDED, sum);
-        if (at % 2) {
-            right = right && !ecow_list_push(&mine, 1) && list_has(&mine, HANDED + 1, sum + 1);
+        ecow_list mine = from->list;
+        int64_t sum = from->sum;
+        atomic_store(&from->full, 0);
+        /* Now and then it changes what it got; mostly it drops it while the other one changes its own. */
+        if (round % 64 == 0) {
+            from->wrong += !list_has(&mine, HANDED, sum) || ecow_list_push(&mine, 1)
+                           || !list_has(&mine, HANDED + 1, sum + 1);
         }
         ecow_list_drop(&mine);
-        from->wrong += !right;
     }
 }
 
 static long hand_lists_over(long rounds) {
-    static queue all = {.lock = PTHREAD_MUTEX_INITIALIZER, .moved = PTHREAD_COND_INITIALIZER};
+    static slot place;
     pthread_t other;
-    CHECK(!pthread_create(&other, NULL, take_lists, &all));
+    CHECK(!pthread_create(&other, NULL, take_lists, &place));
     long before = taken_kib();
     ecow_list list = {{0}};
     int64_t sum = 0;
@@ -209,30 +202,28 @@ static long hand_lists_over(long rounds) {
         CHECK(!ecow_list_push(&list, 0));
     }
     for (long round = 0; round < rounds; round++) {
-        ecow_list copy = {{0}};
-        CHECK(!ecow_list_clone(&copy, &list));
-        pthread_mutex_lock(&all.lock);
-        while (all.given - all.taken == PLACES) {
-            pthread_cond_wait(&all.moved, &all.lock);
+        while (atomic_load(&place.full)) {
+            sched_yield();
         }
-        all.lists[all.given % PLACES] = copy;
-        all.sums[all.given++ % PLACES] = sum;
-        pthread_cond_signal(&all.moved);
-        pthread_mutex_unlock(&all.lock);
+        /* The other thread has moved out what stood there. */
+        place.list = ecow_list_new();
+        CHECK(!ecow_list_clone(&place.list, &list));
+        place.sum = sum;
+        atomic_store(&place.full, 1);
         int64_t old;
         size_t at = (size_t)round % HANDED;
         CHECK(!ecow_list_get(&list, at, &old) && !ecow_list_set(&list, at, round));
         sum += round - old;
-        CHECK(list_has(&list, HANDED, sum));
+        CHECK(round % 64 || list_has(&list, HANDED, sum));
     }
-    pthread_mutex_lock(&all.lock);
-    all.over = true;
-    pthread_cond_signal(&all.moved);
-    pthread_mutex_unlock(&all.lock);
+    while (atomic_load(&place.full)) {
+        sched_yield();
+    }
+    atomic_store(&place.over, 1);
     pthread_join(other, NULL);
     ecow_list_drop(&list);
     CHECK(rounds < 100000 || taken_kib() - before < MOST_KIB);
-    return all.wrong;
+    return place.wrong;
 }
 
 int main(int count, char **words) {
