@@ -1,4 +1,5 @@
 mod Counted
+mod Forms
 mod Groups
 mod Limits
 mod Moves

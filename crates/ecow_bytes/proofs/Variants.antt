@@ -1,4 +1,4 @@
--- An enum of two variants of one field each is opened behind a `&mut`, at either variant, and the field is lent. Assumes `Logic`.
+-- An enum of variants of one field each is opened behind a `&mut`, at one of them, and the field is lent. Assumes `Logic`.
 --     opened      the enum at that variant is a cell with the tag k, and what the field owns
 --     lends       the field is lent, and the enum follows it
 use mathlib.Core.Path.{◌≡◌, refl, sym, ap, ◌∙◌}
@@ -31,9 +31,9 @@ use borrow.Table.OneValue.{part_in_at, part_out_at}
 abbrev pub tagged : ℕ → (F : RattleType) → F.Denot → List Val → List Val → Fml
 tagged k F y vs us = fsep (feq (List Val) vs (live k (of_list us) ∷ [])) (fex (Valss (F ∷ [])) (in_a_row (F ∷ []) (owns (F ∷ []) (y, tt)) us))
 
--- the enum as the code has it, where the first variant's field has the type σ and the second's τ
-abbrev pub variants : Ty → Ty → Tyss
-variants σ τ = ttcons (tcons σ tnil) (ttcons (tcons τ tnil) ttnil)
+-- the enum as the code has it, of three variants, where these are the types of their fields
+abbrev pub variants : Ty → Ty → Ty → Tyss
+variants ρ σ τ = ttcons (tcons ρ tnil) (ttcons (tcons σ tnil) (ttcons (tcons τ tnil) ttnil))
 
 module _ (k : ℕ) (R F : RattleType) (make : F.Denot → R.Denot) (ν : Sym) (τss : Tyss) (τ : Ty)
     (at_k : variant_at τss k ≡ some' (tcons τ tnil)) (typed : (vs : Vals) → T (has_ty (ty_enum ν τss) (live k vs)) → T (has_tys_of (tcons τ tnil) vs))

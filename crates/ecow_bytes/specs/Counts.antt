@@ -1,15 +1,15 @@
--- How many of the bytes of a buffer count.
-use Rattle.std.specs.Prelude.{ℕ, ◌-◌, ◌^◌, List, drop, min, nat_lt, if◌then◌else◌}
+-- How many of the cells of an array are used, where the last ones say it.
+use Rattle.std.specs.Prelude.{ℕ, ◌-◌, List, take, drop, min, nat_lt, slice_index, if◌then◌else◌}
 use Rattle.std.specs.Int.{w64, from_le_bytes}
 
--- the number in the last eight of so many cells, the lowest byte first
-unfoldable pub in_last_cells : ℕ → List ℕ → ℕ
-in_last_cells limit cells = from_le_bytes w64 (drop (limit - 8) cells)
+-- the number in the eight cells before the last of so many, the lowest byte first
+unfoldable pub before_last : ℕ → List ℕ → ℕ
+before_last limit cells = from_le_bytes w64 (take 8 (drop (limit - 9) cells))
 
--- Below 2 ^ 32 bytes the code is how many count, and else how many do not. Where it is the
--- greatest code, so many are free that the number that counts stands behind them.
-unfoldable pub counted : ℕ → ℕ → List ℕ → ℕ
-counted limit code cells =
-    if nat_lt limit (2 ^ 32) then code
-    else if nat_lt code (2 ^ 32 - 1) then limit - code
-    else min (limit - code) (in_last_cells limit cells)
+-- Of at most 256 cells the last says how many are used, and of more how many before it are free.
+-- Where 255 are, or more, the eight before it say how many are used.
+unfoldable pub counted : ℕ → List ℕ → ℕ
+counted limit cells =
+    if nat_lt limit 257 then slice_index cells (limit - 1)
+    else if nat_lt (slice_index cells (limit - 1)) 255 then limit - 1 - slice_index cells (limit - 1)
+    else min (limit - 256) (before_last limit cells)

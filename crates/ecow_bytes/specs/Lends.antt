@@ -7,11 +7,11 @@ use Rattle.ecow_values.specs.Plain.{plain_bytes}
 use Rattle.ecow_values.specs.declared.plain.PlainBytes.{PlainBytes}
 use Rattle.ecow_list.specs.Lends.{name_if_lent}
 use Rattle.ecow_bytes.specs.Form.{plain_of}
-use Rattle.ecow_bytes.specs.declared.bytes.Form.{Form}
-use Rattle.ecow_bytes.specs.declared.bytes.Form.TheVariants.{Inline, Spilled}
+use Rattle.ecow_bytes.specs.declared.form.Form.{Form}
+use Rattle.ecow_bytes.specs.declared.form.Form.TheVariants.{Short, Full, Spilled}
 use Rattle.ecow_bytes.specs.contracts.cells.Cells.{the_row as cells_row}
-use Rattle.ecow_bytes.specs.contracts.inline.InlineVec.{the_row as inline_row}
-use Rattle.ecow_bytes.specs.contracts.bytes.Form.{the_row as form_row}
+use Rattle.ecow_bytes.specs.contracts.few.Few.{the_row as few_row}
+use Rattle.ecow_bytes.specs.contracts.form.Form.{the_row as form_row}
 use Rattle.ecow_bytes.specs.contracts.bytes.SmallBytes.{the_row as bytes_row}
 
 -- xs with ws in place of the first len, cut or filled up to as many
@@ -35,20 +35,25 @@ module _ (N : RattleType) where
       (λ written. record { bytes = with_front len cells.now.bytes written })
 
   -- the bytes of the list are what was written, as many as they were
-  abbrev pub lends_inline : MutBor (List ℕ) → MutBor (List ℕ) → Fml
-  lends_inline v r = Lends (inline_row N) (Array byte 0) v r (refill (length v.now) v.now)
+  abbrev pub lends_few : MutBor (List ℕ) → MutBor (List ℕ) → Fml
+  lends_few v r = Lends (few_row N) (Array byte 0) v r (refill (length v.now) v.now)
 
 -- the name of what is lent: inline bytes have one, and spilled bytes where there are some
 abbrev pub name_given : {E : Type 0} → Bool → Result (MutBor (List ℕ)) E → maybe.Option GName
 name_given true r = name_if_ok (λ s. s.ghost_name) r
 name_given false r = name_if_lent r
 
--- a form with other bytes in place of its own
+-- a form with as many other bytes in place of its own
 abbrev pub with_bytes : {N : ℕ} → Form N → List ℕ → Form N
-with_bytes (Inline v) xs = Inline xs
+with_bytes (Short few) xs = Short (refill (length few) few xs)
+with_bytes (Full cells) xs = Full (record { bytes = xs })
 with_bytes (Spilled v) xs = Spilled xs
 
 module _ (N : RattleType) where
+  -- inline bytes are what was written
+  abbrev pub lends_inline : MutBor (form_row N).Denot → MutBor (List ℕ) → Fml
+  lends_inline v r = Lends (form_row N) (Array byte 0) v r (with_bytes v.now)
+
   -- the form has the bytes that were written last through the slice, as many as there were; at
   -- `Err` it stays
   abbrev pub lends_form : MutBor (form_row N).Denot → {E : Type 0} → Result (MutBor (List ℕ)) E

@@ -10,9 +10,8 @@ mod push;
 mod repeat;
 mod rewrite;
 
-use crate::inline::InlineVec;
+use crate::form::Form;
 use ecow_base::MAX_LEN;
-use ecow_list::EcoVec;
 use std::alloc::{AllocError, Global};
 use std::marker::Model;
 
@@ -26,13 +25,6 @@ use std::marker::Model;
 pub struct SmallBytes<const N: usize> {
     form: Form<N>,
     alloc: Global,
-}
-
-/// Where the bytes stand.
-#[derive(Drop)]
-enum Form<const N: usize> {
-    Inline(InlineVec<N>),
-    Spilled(EcoVec<u8>),
 }
 
 /// Bytes of which at most 15 stand in the value itself.
@@ -60,7 +52,7 @@ impl<const N: usize> SmallBytes<N> {
         ensures mode { result.inline ≡ true }
     {
         SmallBytes {
-            form: Form::Inline(InlineVec::new()),
+            form: Form::new(),
             alloc,
         }
     }
@@ -70,10 +62,7 @@ impl<const N: usize> SmallBytes<N> {
     pub fn as_slice(&self) -> &[u8]
         ensures { result.now ≡ self.now.bytes }
     {
-        match &self.form {
-            Form::Inline(inline) => inline.as_slice(),
-            Form::Spilled(vec) => vec.as_slice(),
-        }
+        self.form.as_slice()
     }
 
     /// The number of bytes.
@@ -83,10 +72,7 @@ impl<const N: usize> SmallBytes<N> {
         ensures bounded { result ≤ MAX_LEN }
         ensures fits { self.now.inline ≡ true → result ≤ N }
     {
-        match &self.form {
-            Form::Inline(inline) => inline.len(),
-            Form::Spilled(vec) => vec.len(),
-        }
+        self.form.len()
     }
 
     /// Whether there is no byte.
@@ -101,7 +87,7 @@ impl<const N: usize> SmallBytes<N> {
         ensures { result ≡ self.now.inline }
     {
         match &self.form {
-            Form::Inline(_) => true,
+            Form::Short(_) | Form::Full(_) => true,
             Form::Spilled(_) => false,
         }
     }
@@ -114,7 +100,8 @@ impl<const N: usize> SmallBytes<N> {
         ensures inline { self.now.inline ≡ true → result ≡ N }
     {
         match &self.form {
-            Form::Inline(inline) => inline.capacity(),
+            Form::Short(few) => few.cells.count(),
+            Form::Full(cells) => cells.count(),
             Form::Spilled(vec) => vec.capacity(),
         }
     }
@@ -126,7 +113,7 @@ impl<const N: usize> SmallBytes<N> {
         ensures mode { self.new.inline ≡ self.old.inline }
     {
         match &mut self.form {
-            Form::Inline(inline) => inline.clear(),
+            Form::Short(_) | Form::Full(_) => self.form.truncate(0),
             Form::Spilled(vec) => vec.clear(),
         }
     }
@@ -138,7 +125,8 @@ impl<const N: usize> Clone for SmallBytes<N> {
     #[inline]
     fn clone(&self) -> Result<Self, AllocError> {
         let form = match &self.form {
-            Form::Inline(inline) => Form::Inline(inline.copy()),
+            Form::Short(few) => Form::Short(few.copy()),
+            Form::Full(cells) => Form::Full(cells.copy()),
             Form::Spilled(vec) => Form::Spilled(vec.clone()?),
         };
         Ok(SmallBytes {

@@ -1,94 +1,110 @@
-//! The memory of an `InlineVec`.
-ghost use Rattle.std.specs.Prelude.{◌≡◌, ◌≤◌, length, take};
+//! The memory of inline bytes.
+ghost use Rattle.std.specs.Prelude.{◌≡◌, ◌<◌, ◌≤◌, length, take};
 ghost use Rattle.std.specs.Borrow.{sem};
 ghost use Rattle.ecow_bytes.specs.Lends.{lends_first};
 
-/// An array in a struct of its own, so that a contract can say what a loan of its first bytes
-/// leaves.
+use ecow_base::MAX_LEN;
+
+/// An array in a struct of its own, so that a contract can say what a loan of its bytes leaves. It
+/// has no model, so that a copy of it is one of memory.
 #[derive(Clone, Copy, Drop)]
 pub(crate) struct Cells<const N: usize> {
     pub(crate) bytes: [u8; N],
 }
 
-/// An array, and a code that says how many bytes at its front count (`counted` in `specs`). It has
-/// no model, so that a copy of it is one of memory.
-///
-/// The code is a `u32` and lies first. So an enum that holds 15 bytes takes three words, and the
-/// bytes begin at the second.
-#[derive(Clone, Copy, Drop)]
-pub(crate) struct Buffer<const N: usize> {
-    code: u32,
-    pub(crate) cells: Cells<N>,
-}
-
-/// The greatest code. Arrays of at most so many bytes have their length as the code. The compiler
-/// knows `N`, and leaves the other way out.
-const MANY: usize = u32::MAX as usize;
-
-impl<const N: usize> Buffer<N> {
-    ghost use Rattle.ecow_bytes.specs.Counts.{counted};
-
-    /// No byte counts.
-    #[inline]
-    pub(crate) fn new() -> Self
-        ensures count { counted N result.code result.cells.bytes ≡ 0 }
-        ensures size { length result.cells.bytes ≡ N }
-    {
-        let mut buffer = Buffer {
-            code: 0,
-            cells: Cells { bytes: [0; N] },
-        };
-        buffer.set_len(0);
-        buffer
-    }
-
-    /// How many bytes count.
-    #[inline]
-    #[tactic(auto, unfolding(crate::specs::Counts::counted, crate::specs::Counts::in_last_cells))]
-    pub(crate) fn len(&self) -> usize
-        ensures { result ≡ counted N self.now.code self.now.cells.bytes }
-    {
-        let code = self.code as usize;
-        if N <= MANY {
-            return code;
-        }
-        if code < MANY {
-            return N - code;
-        }
-        let mut last = [0; 8];
-        let cells = &self.cells.bytes[..];
-        last.copy_from_slice(&cells[N - 8..]);
-        usize::from_le_bytes(last).min(N - code)
-    }
-
-    /// Makes the first `len` bytes count.
-    #[inline]
-    #[tactic(auto, unfolding(crate::specs::Counts::counted, crate::specs::Counts::in_last_cells))]
-    pub(crate) fn set_len(&mut self, len: usize)
-        requires { len ≤ N }
-        ensures count { counted N self.new.code self.new.cells.bytes ≡ len }
-        ensures front { take len self.new.cells.bytes ≡ take len self.old.cells.bytes }
-        ensures size { length self.new.cells.bytes ≡ length self.old.cells.bytes }
-    {
-        if N <= MANY {
-            self.code = len as u32;
-            return;
-        }
-        if N - len < MANY {
-            self.code = (N - len) as u32;
-            return;
-        }
-        self.code = u32::MAX;
-        let cells = &mut self.cells.bytes[..];
-        cells[N - 8..].copy_from_slice(&len.to_le_bytes());
-    }
-}
+/// The greatest number that a cell holds. Arrays of at most one cell more have in the last how many
+/// are used. The compiler knows `N`, and leaves the other ways out.
+const MANY: usize = u8::MAX as usize;
 
 impl<const N: usize> Cells<N> {
+    ghost use Rattle.ecow_bytes.specs.Counts.{counted};
     ghost use Rattle.ecow_bytes.specs.Lends.{lends_all, lends_front};
 
+    /// Puts these bytes into the first cells.
+    #[inline]
+    pub(crate) fn put(&mut self, bytes: &[u8])
+        requires { length bytes.now ≤ N }
+        ensures front { take (length bytes.now) self.new.bytes ≡ bytes.now }
+        ensures size { length self.new.bytes ≡ N }
+    {
+        let all = &mut self.bytes[..];
+        all[0..bytes.len()].copy_from_slice(bytes);
+    }
+
+    /// How many cells there are.
+    #[inline]
+    pub(crate) fn count(&self) -> usize
+        ensures count { result ≡ N }
+        ensures size { length self.now.bytes ≡ N }
+        ensures bounded { N ≤ MAX_LEN }
+    {
+        self.bytes[..].len()
+    }
+
+    /// A copy, in pieces of one, two, four and more bytes. In an enum the bytes begin behind its
+    /// tag, and a pointer at the eighth. The compiler moves the seven before it as two numbers of
+    /// four bytes that overlap, so that the next move has to wait; in pieces it has no need to.
+    #[inline(always)]
+    pub(crate) fn copy(&self) -> Self
+        ensures { result ≡ self.now }
+    {
+        let mut copy = *self;
+        if N >= 7 {
+            let from = &self.bytes[..];
+            let to = &mut copy.bytes[..];
+            to[0] = from[0];
+            to[1..3].copy_from_slice(&from[1..3]);
+            to[3..7].copy_from_slice(&from[3..7]);
+            to[7..].copy_from_slice(&from[7..]);
+        }
+        copy
+    }
+
+    /// How many cells are used, where the last ones say it.
+    #[inline]
+    #[tactic(auto, unfolding(crate::specs::Counts::counted, crate::specs::Counts::before_last))]
+    pub(crate) fn len(&self) -> usize
+        requires { 0 < N }
+        ensures { result ≡ counted N self.now.bytes }
+    {
+        let last = self.bytes[N - 1] as usize;
+        if N <= MANY + 1 {
+            return last;
+        }
+        if last < MANY {
+            return N - 1 - last;
+        }
+        let mut before = [0; 8];
+        let cells = &self.bytes[..];
+        before.copy_from_slice(&cells[N - 9..N - 1]);
+        usize::from_le_bytes(before).min(N - 1 - MANY)
+    }
+
+    /// Has the last cells say that the first `len` are used.
+    #[inline]
+    #[tactic(auto, unfolding(crate::specs::Counts::counted, crate::specs::Counts::before_last))]
+    pub(crate) fn set_len(&mut self, len: usize)
+        requires { len < N }
+        ensures count { counted N self.new.bytes ≡ len }
+        ensures front { take len self.new.bytes ≡ take len self.old.bytes }
+        ensures size { length self.new.bytes ≡ N }
+    {
+        if N <= MANY + 1 {
+            self.bytes[N - 1] = len as u8;
+            return;
+        }
+        if N - 1 - len < MANY {
+            self.bytes[N - 1] = (N - 1 - len) as u8;
+            return;
+        }
+        self.bytes[N - 1] = u8::MAX;
+        let cells = &mut self.bytes[..];
+        cells[N - 9..N - 1].copy_from_slice(&len.to_le_bytes());
+    }
+
     /// The bytes, for writing.
-    fn all_mut(&mut self) -> &mut [u8]
+    #[inline]
+    pub(crate) fn all_mut(&mut self) -> &mut [u8]
         ensures* writes_back { sem 𝓛 (lends_all N.row self.entry result) }
         ensures value { result.now ≡ self.old.bytes }
         ensures len { length result.now ≡ N }

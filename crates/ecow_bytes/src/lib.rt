@@ -4,7 +4,8 @@
 pub mod bytes;
 mod cells;
 mod compare;
-mod inline;
+mod few;
+mod form;
 pub mod laws;
 mod threads;
 pub mod traits;

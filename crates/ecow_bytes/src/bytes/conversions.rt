@@ -1,7 +1,8 @@
 //! The calls that make something else of bytes.
 ghost use Rattle.std.specs.Prelude.{◌≡◌, true, IfOk, IfErr, OnErr};
 
-use crate::bytes::{Form, SmallBytes};
+use crate::bytes::SmallBytes;
+use crate::form::Form;
 use ecow_list::{EcoError, EcoVec, Rejected};
 
 impl<const N: usize> SmallBytes<N> {
@@ -25,12 +26,12 @@ impl<const N: usize> SmallBytes<N> {
         let SmallBytes { form, alloc } = self;
         match form {
             Form::Spilled(vec) => Ok(vec),
-            Form::Inline(inline) => match EcoVec::from_copied(alloc, inline.as_slice()) {
+            inline => match EcoVec::from_copied(alloc, inline.as_slice()) {
                 Ok(vec) => Ok(vec),
                 Err(error) => Err(Rejected {
                     error,
                     value: SmallBytes {
-                        form: Form::Inline(inline),
+                        form: inline,
                         alloc,
                     },
                 }),

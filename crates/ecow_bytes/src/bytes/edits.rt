@@ -4,8 +4,8 @@ ghost use Rattle.std.specs.Prelude.{◌≡◌, ◌+◌, ◌-◌, ◌<◌, ◌≤
 ghost use Rattle.std.specs.List.{insert_slice};
 ghost use Rattle.ecow_values.specs.Inline.{inline_after, inline_shrunk};
 
-use crate::bytes::{Form, SmallBytes};
-use crate::inline::InlineVec;
+use crate::bytes::SmallBytes;
+use crate::form::Form;
 use ecow_base::MAX_LEN;
 use ecow_list::EcoError;
 
@@ -26,7 +26,12 @@ impl<const N: usize> SmallBytes<N> {
         ensures empty { self.old.bytes ≡ [] → IsOk result × (self.new ≡ self.old) }
     {
         match &mut self.form {
-            Form::Inline(inline) => Ok(inline.pop()),
+            Form::Short(_) | Form::Full(_) => {
+                let last = self.form.as_slice().last().copied();
+                let len = self.form.len();
+                self.form.truncate(len.saturating_sub(1));
+                Ok(last)
+            }
             Form::Spilled(vec) => vec.pop(),
         }
     }
@@ -44,8 +49,8 @@ impl<const N: usize> SmallBytes<N> {
         ensures keeps_none { target ≡ 0 → IsOk result × (self.new.bytes ≡ []) }
     {
         match &mut self.form {
-            Form::Inline(inline) => {
-                inline.truncate(target);
+            Form::Short(_) | Form::Full(_) => {
+                self.form.truncate(target);
                 Ok(())
             }
             Form::Spilled(vec) => vec.truncate(target),
@@ -96,14 +101,14 @@ impl<const N: usize> SmallBytes<N> {
         ensures free { OnErr result (inline_after N self.old.inline (length self.old.bytes)
             (length bytes.now) ≡ false) }
     {
-        let inline = match &mut self.form {
-            Form::Inline(inline) => inline,
-            Form::Spilled(vec) => return vec.insert_slice(index, bytes),
-        };
-        if let Ok(()) = inline.insert_slice(index, bytes) {
-            return Ok(());
+        if let Form::Spilled(vec) = &mut self.form {
+            return vec.insert_slice(index, bytes);
         }
-        self.spill_with(index, bytes)
+        if bytes.len() > N - self.form.len() {
+            return self.spill_with(index, bytes);
+        }
+        self.form.insert_slice(index, bytes);
+        Ok(())
     }
 
     /// Takes the byte at `index`. Never refused for inline bytes. Spilled bytes that are shared are
@@ -118,7 +123,7 @@ impl<const N: usize> SmallBytes<N> {
         ensures free { OnErr result (self.old.inline ≡ false) }
     {
         match &mut self.form {
-            Form::Inline(inline) => Ok(inline.remove(index)),
+            Form::Short(_) | Form::Full(_) => Ok(self.form.remove(index)),
             Form::Spilled(vec) => vec.remove(index),
         }
     }
@@ -136,8 +141,8 @@ impl<const N: usize> SmallBytes<N> {
         ensures free { OnErr result (self.old.inline ≡ false) }
     {
         match &mut self.form {
-            Form::Inline(inline) => {
-                inline.set(index, byte);
+            Form::Short(_) | Form::Full(_) => {
+                self.form.inline_mut()[index] = byte;
                 Ok(())
             }
             Form::Spilled(vec) => match vec.set(index, byte) {
@@ -164,11 +169,10 @@ impl<const N: usize> SmallBytes<N> {
         ensures free { OnErr result
             (inline_after N self.old.inline (length self.old.bytes) additional ≡ false) }
     {
-        let inline = match &mut self.form {
-            Form::Inline(inline) => inline,
-            Form::Spilled(vec) => return vec.reserve(additional),
-        };
-        if additional <= N - inline.len() {
+        if let Form::Spilled(vec) = &mut self.form {
+            return vec.reserve(additional);
+        }
+        if additional <= N - self.form.len() {
             return Ok(());
         }
         let vec = self.spill(additional)?;
@@ -184,9 +188,8 @@ impl<const N: usize> SmallBytes<N> {
         ensures mode { self.new.inline ≡ inline_shrunk N self.old.inline (length self.old.bytes) }
     {
         if let Form::Spilled(vec) = &self.form {
-            let mut inline = InlineVec::new();
-            if let Ok(()) = inline.extend_from_slice(vec.as_slice()) {
-                self.form = Form::Inline(inline);
+            if let Some(inline) = Form::inline(vec.as_slice()) {
+                self.form = inline;
             }
         }
     }

@@ -5,8 +5,8 @@ ghost use Rattle.ecow_list.specs.Vectors.{GivesFirst, GivesItems};
 ghost use Rattle.ecow_values.specs.Plain.{plain_bytes};
 ghost use Rattle.ecow_values.specs.Inline.{inline_for};
 
-use crate::bytes::{Form, SmallBytes};
-use crate::inline::InlineVec;
+use crate::bytes::SmallBytes;
+use crate::form::Form;
 use ecow_base::MAX_LEN;
 use ecow_list::{EcoError, EcoVec, Rejected};
 use std::alloc::Global;
@@ -18,13 +18,9 @@ impl<const N: usize> SmallBytes<N> {
         ensures bytes { IfSome result (λ made. made.bytes ≡ bytes.now) }
         ensures mode { IfSome result (λ made. made.inline ≡ true) }
     {
-        let mut inline = InlineVec::new();
-        match inline.extend_from_slice(bytes) {
-            Ok(()) => Some(SmallBytes {
-                form: Form::Inline(inline),
-                alloc,
-            }),
-            Err(_) => None,
+        match Form::inline(bytes) {
+            Some(form) => Some(SmallBytes { form, alloc }),
+            None => None,
         }
     }
 
@@ -65,10 +61,9 @@ impl<const N: usize> SmallBytes<N> {
         ensures capacity { IsErrOf result EcoError.Capacity ↔ (MAX_LEN < length bytes.now) }
         ensures free { length bytes.now ≤ N → IsOk result }
     {
-        let mut inline = InlineVec::new();
-        let form = match inline.extend_from_slice(bytes) {
-            Ok(()) => Form::Inline(inline),
-            Err(_) => Form::Spilled(EcoVec::from_copied(alloc, bytes)?),
+        let form = match Form::inline(bytes) {
+            Some(inline) => inline,
+            None => Form::Spilled(EcoVec::from_copied(alloc, bytes)?),
         };
         Ok(SmallBytes { form, alloc })
     }
@@ -112,10 +107,9 @@ impl<const N: usize> SmallBytes<N> {
             ↔ (MAX_LEN < vec_len bytes) }
         ensures free { vec_len bytes ≤ N → IsOk result }
     {
-        let mut inline = InlineVec::new();
-        let form = match inline.extend_from_slice(bytes.as_slice()) {
-            Ok(()) => Form::Inline(inline),
-            Err(_) => match EcoVec::from_vec(alloc, bytes) {
+        let form = match Form::inline(bytes.as_slice()) {
+            Some(inline) => inline,
+            None => match EcoVec::from_vec(alloc, bytes) {
                 Ok(vec) => Form::Spilled(vec),
                 Err(rejected) => return Err(rejected),
             },

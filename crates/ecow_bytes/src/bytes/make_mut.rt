@@ -3,7 +3,8 @@ ghost use Rattle.std.specs.Prelude.{◌≡◌, [], false, IsOk, IfOk, IfErr, OnE
 ghost use Rattle.std.specs.Borrow.{sem};
 ghost use Rattle.ecow_bytes.specs.Form.{plain_of};
 
-use crate::bytes::{Form, SmallBytes};
+use crate::bytes::SmallBytes;
+use crate::form::Form;
 use ecow_list::EcoError;
 
 impl<const N: usize> SmallBytes<N> {
@@ -26,22 +27,5 @@ impl<const N: usize> SmallBytes<N> {
         ensures value { plain_of result.now ≡ self.old }
     {
         &mut self.form
-    }
-}
-
-impl<const N: usize> Form<N> {
-    ghost use Rattle.ecow_bytes.specs.Lends.{lends_form};
-
-    fn make_mut(&mut self) -> Result<&mut [u8], EcoError>
-        ensures* writes_back { sem 𝓛 (lends_form N.row self.entry result) }
-        ensures value { IfOk result (λ bytes. bytes.now ≡ (plain_of self.old).bytes) }
-        ensures memory { IfErr result (λ error. error ≡ EcoError.Memory) }
-        ensures free { OnErr result ((plain_of self.old).inline ≡ false) }
-        ensures empty { (plain_of self.old).bytes ≡ [] → IsOk result }
-    {
-        match self {
-            Form::Inline(inline) => Ok(inline.as_mut_slice()),
-            Form::Spilled(vec) => vec.make_mut(),
-        }
     }
 }

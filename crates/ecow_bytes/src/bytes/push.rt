@@ -6,7 +6,8 @@ ghost use Rattle.std.specs.List.{insert_slice};
 ghost use Rattle.ecow_list.specs.Vectors.{Appends, ExtendsBy, GivesFirst};
 ghost use Rattle.ecow_values.specs.Inline.{inline_after};
 
-use crate::bytes::{Form, SmallBytes};
+use crate::bytes::SmallBytes;
+use crate::form::Form;
 use ecow_base::{MAX_LEN, room_for};
 use ecow_list::{EcoError, EcoVec};
 
@@ -26,20 +27,19 @@ impl<const N: usize> SmallBytes<N> {
         ensures free { OnErr result (inline_after N self.old.inline (length self.old.bytes) 1
             ≡ false) }
     {
-        let inline = match &mut self.form {
-            Form::Inline(inline) => inline,
-            Form::Spilled(vec) => {
-                return match vec.push(byte) {
-                    Ok(()) => Ok(()),
-                    Err(rejected) => Err(rejected.error),
-                };
-            }
-        };
-        if let Ok(()) = inline.push(byte) {
-            return Ok(());
+        if let Form::Spilled(vec) = &mut self.form {
+            return match vec.push(byte) {
+                Ok(()) => Ok(()),
+                Err(rejected) => Err(rejected.error),
+            };
         }
-        let end = inline.len();
-        self.spill_with(end, &[byte])
+        let len = self.form.len();
+        if len == N {
+            return self.spill_with(len, &[byte]);
+        }
+        self.form.set_len(len + 1);
+        self.form.inline_mut()[len] = byte;
+        Ok(())
     }
 
     /// Appends `bytes`: all, or none where it is refused. They are inline where they fit, which is
@@ -65,15 +65,17 @@ impl<const N: usize> SmallBytes<N> {
         if let [byte] = bytes {
             return self.push(*byte);
         }
-        let inline = match &mut self.form {
-            Form::Inline(inline) => inline,
-            Form::Spilled(vec) => return vec.extend_from_copied(bytes),
-        };
-        if let Ok(()) = inline.extend_from_slice(bytes) {
-            return Ok(());
+        if let Form::Spilled(vec) = &mut self.form {
+            return vec.extend_from_copied(bytes);
         }
-        let end = inline.len();
-        self.spill_with(end, bytes)
+        let len = self.form.len();
+        if bytes.len() > N - len {
+            return self.spill_with(len, bytes);
+        }
+        self.form.set_len(len + bytes.len());
+        let all = self.form.inline_mut();
+        all[len..].copy_from_slice(bytes);
+        Ok(())
     }
 
     /// Appends the bytes of `iter`, one after another, each as `push` does: so inline bytes spill

@@ -3,7 +3,8 @@ ghost use Rattle.std.specs.Prelude.{◌≡◌, ◌+◌, ◌*◌, ◌<◌, ◌≤
 ghost use Rattle.std.specs.List.{repeat};
 ghost use Rattle.ecow_values.specs.Inline.{inline_after, inline_for};
 
-use crate::bytes::{Form, SmallBytes};
+use crate::bytes::SmallBytes;
+use crate::form::Form;
 use ecow_base::MAX_LEN;
 use ecow_list::EcoError;
 

@@ -3,7 +3,8 @@ ghost use Rattle.std.specs.Prelude.{◌≡◌, [], false, IsOk, IfErr, OnOk, OnE
 ghost use Rattle.std.specs.Fn.{FnOnceTakesAtMut};
 ghost use Rattle.ecow_bytes.specs.Rewrites.{Rewrites};
 
-use crate::bytes::{Form, SmallBytes};
+use crate::bytes::SmallBytes;
+use crate::form::Form;
 use ecow_list::EcoError;
 
 impl<const N: usize> SmallBytes<N> {
@@ -25,9 +26,9 @@ impl<const N: usize> SmallBytes<N> {
         ensures empty { self.old.bytes ≡ [] → IsOk result }
     {
         match &mut self.form {
-            Form::Inline(inline) => {
-                let len = f(inline.as_mut_slice());
-                inline.truncate(len);
+            Form::Short(_) | Form::Full(_) => {
+                let len = f(self.form.inline_mut());
+                self.form.truncate(len);
                 Ok(())
             }
             Form::Spilled(vec) => match vec.own_mut() {

@@ -49,25 +49,25 @@ use Rattle.ecow_values.specs.Plain.{plain_bytes}
 use Rattle.ecow_values.specs.declared.plain.PlainBytes.{PlainBytes}
 use Rattle.ecow_bytes.specs.Form.{plain_of}
 use Rattle.ecow_bytes.specs.Lends.{with_bytes, name_given}
-use Rattle.ecow_bytes.specs.declared.bytes.Form.{Form}
-use Rattle.ecow_bytes.specs.declared.bytes.Form.TheVariants.{Inline, Spilled}
+use Rattle.ecow_bytes.specs.declared.form.Form.{Form}
 use Rattle.ecow_list.specs.declared.error.EcoError.{EcoError}
 use Rattle.ecow_list.specs.declared.error.EcoError.TheVariants.{Memory as NoMemory}
 use Rattle.ecow_list.specs.contracts.error.EcoError.{the_row as error_row}
-use Rattle.ecow_bytes.specs.contracts.bytes.Form.{the_row as form_row}
+use Rattle.ecow_bytes.specs.contracts.form.Form.{the_row as form_row}
 use Rattle.ecow_bytes.specs.contracts.bytes.SmallBytes.{the_row as bytes_row}
 use Rattle.ecow_bytes.specs.contracts.bytes.SmallBytes.form_mut as W
 use Rattle.ecow_bytes.specs.contracts.bytes.SmallBytes.form_mut.Key.{name as #whole}
-use Rattle.ecow_bytes.specs.contracts.bytes.Form.make_mut as G
-use Rattle.ecow_bytes.specs.contracts.bytes.Form.make_mut.Key.{name as #form}
+use Rattle.ecow_bytes.specs.contracts.form.Form.make_mut as G
+use Rattle.ecow_bytes.specs.contracts.form.Form.make_mut.Key.{name as #form}
 use Rattle.ecow_bytes.specs.contracts.bytes.SmallBytes.make_mut as F
 use Rattle.ecow_bytes.specs.contracts.bytes.SmallBytes.make_mut.Key.{name as #self}
 use Rattle.ecow_bytes.proofs.bytes.SmallBytes.form_mut.Met as whole_thm
-use Rattle.ecow_bytes.proofs.bytes.Form.make_mut.Met as form_thm
+use Rattle.ecow_bytes.proofs.form.Form.make_mut.Met as form_thm
 use Rattle.ecow_bytes.proofs.bytes.SmallBytes.make_mut.Statement as stated
 use Rattle.ecow_bytes.proofs.bytes.SmallBytes.make_mut.Code as code
 use Rattle.ecow_list.proofs.Loans.{then_so}
 use Rattle.ecow_list.proofs.ResultTyped.{result_typed}
+use Rattle.ecow_bytes.proofs.Forms.{plain_with}
 
 module _ (n : ℕ) where
   abbrev args : Args
@@ -128,10 +128,6 @@ module _ (n : ℕ) where
       abbrev BytesStay : Answer → PlainBytes → Type 0
       BytesStay r m = OnErr r (m ≡ d) × (d.bytes ≡ [] → m ≡ d)
 
-      plain_with : (f : Form n) (w : List ℕ) → plain_of (with_bytes f w) ≡ plain_bytes w (plain_of f).inline
-      plain_with (Inline v) w = refl
-      plain_with (Spilled v) w = refl
-
       none_of : (f : Form n) → plain_of f ≡ d → d.bytes ≡ [] → (plain_of f).bytes ≡ []
       none_of f same e = ap (λ (y : PlainBytes). y.bytes) same ∙ e
 
@@ -154,7 +150,7 @@ module _ (n : ℕ) where
           qed 𝓛 (‵ ((result_row Items error_row).own_val r (v ∷ [])) ∷ ‵ (flft κ q) ∷ ‵ (flft κN qN) ∷ ‵ (follows B P γ x.ghost_name plain_of) ∷ ‵ (follows_so P (Array u8 0) x.ghost_name (name_given (plain_of x.now).inline r) (FormIs x.now r) (FormStays x.now r)) ∷ []) ∵
           move ! (3 ∷ 4 ∷ []) $ use2 𝓛 (‵ (follows_so B (Array u8 0) γ (name_given (plain_of x.now).inline r) (BytesAre r) (BytesStay r)))
           (then_so 𝓛 B P (Array u8 0) γ x.ghost_name (name_given (plain_of x.now).inline r) plain_of (FormIs x.now r) (FormStays x.now r) (BytesAre r) (BytesStay r)
-          (λ w m is ok long. ap plain_of (is ok (long ∙ sym len)) ∙ plain_with x.now w ∙ ap (λ (y : PlainBytes). plain_bytes w y.inline) same)
+          (λ w m is ok long. ap plain_of (is ok (long ∙ sym len)) ∙ plain_with x.now w (long ∙ sym len) ∙ ap (λ (y : PlainBytes). plain_bytes w y.inline) same)
           (λ m. stays r m x.now same)) $
           rewrite ! 0 (λ (y : PlainBytes). ‵ (follows_so B (Array u8 0) γ (name_given y.inline r) (BytesAre r) (BytesStay r))) same refl $
           suffices ! _ (ends_at 𝓛 ended stayed held bound v r (tt, tt) (tt, tt)) $
@@ -210,4 +206,4 @@ make_mut_spec 𝓤 𝓛 𝓜 𝓡 wired n fits =
     (code.unfolded 𝓤 𝓛.H 𝓜 𝓡 wired (number n, tt))
     (meets n 𝓛 𝓜.mem 𝓡.returns 𝓣
     (whole_thm.met 𝓤 𝓛 𝓜 𝓡 (code.calls-ecow_bytes::bytes::SmallBytes::form_mut 𝓡.env wired) n fits)
-    (form_thm.met 𝓤 𝓛 𝓜 𝓡 (code.calls-ecow_bytes::bytes::Form::make_mut 𝓡.env wired) n fits))
+    (form_thm.met 𝓤 𝓛 𝓜 𝓡 (code.calls-ecow_bytes::form::Form::make_mut 𝓡.env wired) n fits))

@@ -1,4 +1,4 @@
--- `make_mut` lends what stands in the form: the inline bytes, or what the vector lends. The borrow checker writes no clause
+-- `make_mut` lends what stands in the form: what the vector lends, or the inline bytes. The borrow checker writes no clause
 -- on a `&mut [u8]` in a `Result`, so this proof walks the code by hand.
 use mathlib.Core.Path.{◌≡◌, refl, sym, ap, ◌∙◌}
 use Prim.Native.Nat.{ℕ, ◌^◌, ◌<◌, ◌+◌}
@@ -61,7 +61,6 @@ use Rattle.std.specs.contracts.result.Result.{the_row as result_row}
 use Rattle.std.specs.Prelude.{false, IfOk, IfErr, IsOk, OnErr}
 use Rattle.std.specs.List.{refill}
 use Rattle.std_alloc.proofs.ResultValues.{ok_of}
-use Rattle.std_alloc.proofs.VecSteps.Gaps.{all_new}
 use Rattle.std_alloc.proofs.VecSteps.Shapes.{after, head, arm_body}
 use Rattle.ecow_base.specs.Clones.{ClonesAreEqual}
 use Rattle.ecow_list.specs.Lends.{name_if_lent}
@@ -69,24 +68,28 @@ use Rattle.ecow_list.specs.Vectors.{IsKept}
 use Rattle.ecow_list.proofs.Kept.{kept_equal}
 use Rattle.ecow_bytes.specs.Form.{plain_of}
 use Rattle.ecow_bytes.specs.Lends.{with_bytes, name_given}
-use Rattle.ecow_bytes.specs.declared.bytes.Form.{Form}
-use Rattle.ecow_bytes.specs.declared.bytes.Form.TheVariants.{Inline, Spilled}
+use Rattle.ecow_bytes.specs.declared.form.Form.{Form}
+use Rattle.ecow_bytes.specs.declared.form.Form.TheVariants.{Short, Full, Spilled}
 use Rattle.ecow_list.specs.declared.error.EcoError.{EcoError}
 use Rattle.ecow_list.specs.declared.error.EcoError.TheVariants.{Memory as NoMemory}
 use Rattle.ecow_list.specs.contracts.error.EcoError.{the_row as error_row}
-use Rattle.ecow_bytes.specs.contracts.inline.InlineVec.{the_row as inline_row}
+use Rattle.ecow_bytes.specs.contracts.cells.Cells.{the_row as cells_row}
+use Rattle.ecow_bytes.specs.contracts.few.Few.{the_row as few_row}
 use Rattle.ecow_list.specs.contracts.vec.EcoVec.{the_row as vec_row}
-use Rattle.ecow_bytes.specs.contracts.bytes.Form.{the_row as form_row, the_type as form_type}
-use Rattle.ecow_bytes.specs.contracts.inline.InlineVec.as_mut_slice as S
-use Rattle.ecow_bytes.specs.contracts.inline.InlineVec.as_mut_slice.Key.{name as #inline}
+use Rattle.ecow_bytes.specs.contracts.form.Form.{the_row as form_row, the_type as form_type}
+use Rattle.ecow_bytes.specs.contracts.cells.Cells.all_mut as W
+use Rattle.ecow_bytes.specs.contracts.cells.Cells.all_mut.Key.{name as #cells}
+use Rattle.ecow_bytes.specs.contracts.few.Few.as_mut_slice as S
+use Rattle.ecow_bytes.specs.contracts.few.Few.as_mut_slice.Key.{name as #few}
 use Rattle.ecow_list.specs.contracts.vec.EcoVec.make_mut as E
 use Rattle.ecow_list.specs.contracts.vec.EcoVec.make_mut.Key.{name as #vec}
-use Rattle.ecow_bytes.specs.contracts.bytes.Form.make_mut as F
-use Rattle.ecow_bytes.specs.contracts.bytes.Form.make_mut.Key.{name as #self}
-use Rattle.ecow_bytes.proofs.inline.InlineVec.as_mut_slice.Met as inline_thm
+use Rattle.ecow_bytes.specs.contracts.form.Form.make_mut as F
+use Rattle.ecow_bytes.specs.contracts.form.Form.make_mut.Key.{name as #self}
+use Rattle.ecow_bytes.proofs.cells.Cells.all_mut.Met as cells_thm
+use Rattle.ecow_bytes.proofs.few.Few.as_mut_slice.Met as few_thm
 use Rattle.ecow_list.proofs.vec.EcoVec.make_mut.Met as vec_thm
-use Rattle.ecow_bytes.proofs.bytes.Form.make_mut.Statement as stated
-use Rattle.ecow_bytes.proofs.bytes.Form.make_mut.Code as code
+use Rattle.ecow_bytes.proofs.form.Form.make_mut.Statement as stated
+use Rattle.ecow_bytes.proofs.form.Form.make_mut.Code as code
 use Rattle.ecow_bytes.proofs.Destruct++none.drop.Code as dropped
 use Rattle.ecow_list.proofs.Loans.{so_of, then_so}
 use Rattle.ecow_list.proofs.ResultTyped.{result_typed}
@@ -131,21 +134,27 @@ module _ (n : ℕ) where
   abbrev G : RattleType
   G = form_row N
 
+  abbrev C : RattleType
+  C = cells_row N
+
   abbrev I : RattleType
-  I = inline_row N
+  I = few_row N
 
   abbrev ν : Sym
   ν = (form_type N).name
 
-  abbrev both : Tyss
-  both = variants (layout I) (layout V)
+  abbrev all : Tyss
+  all = variants (layout I) (layout C) (layout V)
 
   abbrev stayed : Stays ended.signature.params ended.kept
   stayed = (stay_dropped (mut_ref_to (0 ∷ []) tt (plain (λ _. G))) no, tt)
 
   -- the inline bytes are a part of the form
-  inline_small : size (layout G) < 2 ^ 63 → size (layout I) < 2 ^ 63
-  inline_small small = omega arith
+  cells_small : size (layout G) < 2 ^ 63 → size (layout C) < 2 ^ 63
+  cells_small small = omega arith
+
+  few_small : size (layout G) < 2 ^ 63 → size (layout I) < 2 ^ 63
+  few_small small = omega arith
 
   module _ {M : Type 1} {𝓤 : Ura M} (𝓛 : Logic 𝓤) (at_mem : Memory → SProp 𝓤) (run : Routine → Fun 𝓤) where
     open 𝓛 use {H, A}
@@ -153,8 +162,11 @@ module _ (n : ℕ) where
     abbrev held : Clauses 𝓤 ended
     held = F.clauses (number n) 𝓛 at_mem run
 
-    abbrev InInline : Contract 𝓤
-    InInline = triple_of 𝓛 (S.signature (number n)) (S.spec (number n) 𝓛 at_mem run)
+    abbrev InCells : Contract 𝓤
+    InCells = triple_of 𝓛 (W.signature (number n)) (W.spec (number n) 𝓛 at_mem run)
+
+    abbrev InFew : Contract 𝓤
+    InFew = triple_of 𝓛 (S.signature (number n)) (S.spec (number n) 𝓛 at_mem run)
 
     abbrev InVec : Contract 𝓤
     InVec = triple_of 𝓛 (E.signature Y) (E.spec Y u8_clone.ghosts u8_clone.dict drops 𝓛 at_mem run)
@@ -215,7 +227,25 @@ module _ (n : ℕ) where
       spilled_facts (Ok s) xs value err empty = (value equal, (tt, (tt, empty)))
       spilled_facts (Err e) xs value err empty = (tt, (err, (refl, empty)))
 
-      module _ (𝓣 : Tables 𝓤 H) (inline : Triple 𝓤 (𝓣.C (#inline args)) InInline) (vec : Triple 𝓤 (𝓣.C vec_key) InVec) where
+      abbrev with_all : List ℕ → C.Denot
+      with_all ys = record { bytes = ys }
+
+      -- the form follows what is written through the slice of its inline bytes
+      inline_exits : (d : Form n) (F : RattleType) (make : F.Denot → Form n) (written : List ℕ → F.Denot) (δ : GName) (s : MutBor (List ℕ)) (v : Val)
+          → s.now ≡ (plain_of d).bytes → name_of d (Ok s) ≡ some s.ghost_name → ((ys : List ℕ) → make (written ys) ≡ with_bytes d ys)
+          → ent 𝓤 (sep 𝓤 (sem 𝓛 (Items.own_val s (v ∷ []))) (sep 𝓤 (A.lft κ q) (sep 𝓤 (A.lft κN qN) (sep 𝓤 (sem 𝓛 (follows G F γ δ make))
+          (sem 𝓛 (follows F (Array u8 0) δ s.ghost_name written)))))) (Ends d (live 0 (of_list (v ∷ []))))
+      inline_exits d F make written δ s v same name is =
+          let r : Answer = Ok s in
+          qed 𝓛 (‵ (Items.own_val s (v ∷ [])) ∷ ‵ (flft κ q) ∷ ‵ (flft κN qN) ∷ ‵ (follows G F γ δ make) ∷ ‵ (follows F (Array u8 0) δ s.ghost_name written) ∷ []) ∵
+          use1 𝓛 (‵ ((result_row Items error_row).own_val r (live 0 (of_list (v ∷ [])) ∷ []))) (ok_of 𝓛 Items error_row s v) $ move ! (3 ∷ 4 ∷ []) $
+          use2 𝓛 (‵ (follows G (Array u8 0) γ s.ghost_name (λ ys. make (written ys)))) (follows_then 𝓛 G F (Array u8 0) make written γ δ s.ghost_name) $
+          use1 𝓛 (‵ (follows_so G (Array u8 0) γ (some s.ghost_name) (FormIs d r) (FormStays d r)))
+          (so_of 𝓛 G (Array u8 0) γ s.ghost_name (λ ys. make (written ys)) d (FormIs d r) (FormStays d r) (λ ys ok long. is ys) (tt, λ e. refl)) $
+          rewrite ! 0 (λ (g : Option' GName). ‵ (follows_so G (Array u8 0) γ g (FormIs d r) (FormStays d r))) (sym name) refl $
+          move ! (1 ∷ 2 ∷ 3 ∷ 0 ∷ []) $ by ! (exits d r (live 0 (of_list (v ∷ []))) (same, (tt, (tt, λ e. refl))))
+
+      module _ (𝓣 : Tables 𝓤 H) (vec : Triple 𝓤 (𝓣.C vec_key) InVec) (cells : Triple 𝓤 (𝓣.C (#cells args)) InCells) (few : Triple 𝓤 (𝓣.C (#few args)) InFew) where
         abbrev Goes : Form n → Type 1
         Goes d = ent 𝓤 (sep 𝓤 (on_entry 𝓛 ended.signature (κ, (κN, tt)) (q, (qN, tt)) (self d, tt) (mut_vals (self d), tt)) ((held (κ, (κN, tt)) (self d, tt)).requires tt)) (WpFn 𝓤 H 𝓣.C 𝓣.Λ function (vptr b o ∷ []) (Ends d))
 
@@ -223,28 +253,28 @@ module _ (n : ℕ) where
         entry d = ((‵ (flft κ q) ⊛ ‵ (flft κN qN) ⊛ ‵ ftrue) ⊛ ‵ (owns (MutRef (named 0) κ G ∷ []) (self d, tt) (mut_vals (self d), tt))) ∷ raw (fact 𝓤 (κN ⊑ [])) ∷ raw (fact 𝓤 (size (layout G) < 2 ^ 63)) ∷ ‵ ftrue ∷ []
 
         walk : (d : Form n) → Goes d
-        walk (Inline xs) =
-            let d : Form n = Inline xs in
+        walk (Short xs) =
+            let d : Form n = Short xs in
             qed 𝓛 (entry d) ∵ move ! (1 ∷ []) $ heard ! _ (λ within. move ! (1 ∷ []) $ heard ! _ (λ small.
             split ! $ split3 ! $ move ! (3 ∷ []) $ fsplit ! $ fsplit3 ! $ keep ! (1 ∷ 2 ∷ 4 ∷ 5 ∷ []) $
             enter ! 𝓣.C 𝓣.Λ function (vptr b o ∷ []) _ $ alloc_all ! (λ l. pass_all ! refl ((tt, tt), tt) $
             let En : Env 𝓤 H = env function.locals l in
             let Then : Post 𝓤 H = any_q (after_seq 𝓤 H (Wp 𝓤 H 𝓣.C 𝓣.Λ En (after 1 function.body) (at_return 𝓤 H En (Ends d))) (at_return 𝓤 H En (Ends d))) in
             open_ref ! tt (mem G) $
-            use1 𝓛 (some' (λ (u : Val). ‵ (fat full_share (mir.Syntax.ty_enum ν both) b o (live 0 (vcons u vnil))) ⊛ ‵ (I.own_val xs (u ∷ []))))
-            (opened 0 G I Inline ν both (layout I) refl (λ us t. t) refl refl refl refl (λ x us. refl) 𝓛 b o xs) $ pick ! (λ u. split ! $
+            use1 𝓛 (some' (λ (u : Val). ‵ (fat full_share (mir.Syntax.ty_enum ν all) b o (live 0 (vcons u vnil))) ⊛ ‵ (I.own_val xs (u ∷ []))))
+            (opened 0 G I Short ν all (layout I) refl (λ us t. t) refl refl refl refl (λ x us. refl) 𝓛 b o xs) $ pick ! (λ u. split ! $
             first ! $ switches_on ! (load ! (through ! refl (vrt ! refl (fld ! refl (stop !)))) (look_tag ! 0 (whole !))) $ exec ! 𝓣.C 𝓣.Λ En (arm_body 0 (head function.body)) Then $
             sets ! (addr ! (through ! refl (vrt ! refl (fld ! refl (stop !))))) refl (tt, tt) $ sets ! (addr ! (through ! refl (stop !))) refl (tt, tt) $ group ! 5 $
             let at : ℕ = o + up (align (layout I)) 1 in
-            use1 𝓛 (later (some' (λ (δ : GName). ‵ ((MutRef (named 0) κ I).own_val (record { ref_ptr = (b, at); ghost_name = δ; now = xs }) (vptr b at ∷ [])) ⊛ ‵ (flft κ q) ⊛ ‵ (follows G I γ δ Inline))))
-            (lends 0 G I Inline ν both (layout I) refl (λ us t. t) refl refl refl refl (λ x us. refl) 𝓛 b o κ q γ xs u (G.coded.code d)) $ await ! tt $ pick ! (λ δ. split3 ! $
+            use1 𝓛 (later (some' (λ (δ : GName). ‵ ((MutRef (named 0) κ I).own_val (record { ref_ptr = (b, at); ghost_name = δ; now = xs }) (vptr b at ∷ [])) ⊛ ‵ (flft κ q) ⊛ ‵ (follows G I γ δ Short))))
+            (lends 0 G I Short ν all (layout I) refl (λ us t. t) refl refl refl refl (λ x us. refl) 𝓛 b o κ q γ xs u (G.coded.code d)) $ await ! tt $ pick ! (λ δ. split3 ! $
             -- [the inline bytes' reference; κ's token; the form follows it; the other token]
             let x : MutBor (List ℕ) = record { ref_ptr = (b, at); ghost_name = δ; now = xs } in
-            let z : InInline.Ghost = (((κ, (κN, tt)), (q, (qN, tt)), bd, (x, tt), (mut_vals x, tt)), tt) in
+            let z : InFew.Ghost = (((κ, (κN, tt)), (q, (qN, tt)), bd, (x, tt), (mut_vals x, tt)), tt) in
             nothing ! $ move ! (1 ∷ 0 ∷ []) $ fjoin ! $ nothing ! $ move ! (4 ∷ 0 ∷ []) $ join ! $ move ! (2 ∷ 0 ∷ []) $ join ! $ join ! $
-            nothing ! $ use0 𝓛 (raw (fact 𝓤 (size (layout I) < 2 ^ 63))) (fact_i 𝓤 (size (layout I) < 2 ^ 63) (emp 𝓤) (inline_small small)) $ use0 𝓛 (raw (fact 𝓤 (κN ⊑ []))) (fact_i 𝓤 (κN ⊑ []) (emp 𝓤) within) $
-            move ! (3 ∷ 0 ∷ 1 ∷ 2 ∷ []) $ group ! 4 $ use1 𝓛 (raw (InInline.pre z)) (id⊢ 𝓤 _) $
-            calls_at ! (fm_of 𝓤 H 𝓛.laws 𝓣) InInline inline z (and_then ! (get ! refl) (no_more !)) (λ w.
+            nothing ! $ use0 𝓛 (raw (fact 𝓤 (size (layout I) < 2 ^ 63))) (fact_i 𝓤 (size (layout I) < 2 ^ 63) (emp 𝓤) (few_small small)) $ use0 𝓛 (raw (fact 𝓤 (κN ⊑ []))) (fact_i 𝓤 (κN ⊑ []) (emp 𝓤) within) $
+            move ! (3 ∷ 0 ∷ 1 ∷ 2 ∷ []) $ group ! 4 $ use1 𝓛 (raw (InFew.pre z)) (id⊢ 𝓤 _) $
+            calls_at ! (fm_of 𝓤 H 𝓛.laws 𝓣) InFew few z (and_then ! (get ! refl) (no_more !)) (λ w.
             use1 𝓛 (later (some' (λ (s : MutBor (List ℕ)). ((‵ (flft κ q) ⊛ ‵ (flft κN qN) ⊛ ‵ ftrue) ⊛ ‵ (Items.own_val s (w ∷ []))) ⊛
             some' (λ (ws : Unit {0} × Unit {0}). ‵ (lasts (S.ended (number n)) z.0.0 z.0.3 ws) ⊛ ‵ (follows I (Array u8 0) δ s.ghost_name (refill (length xs) xs)) ⊛ raw (fact 𝓤 (s.now ≡ xs)))))) (id⊢ 𝓤 _) $
             await ! tt $ pick ! (λ s. split ! $ split ! $ split3 ! $ move ! (4 ∷ []) $ pick ! (λ ws. split3 ! $ drop ! $ move ! (1 ∷ []) $ heard ! _ (λ same.
@@ -255,12 +285,42 @@ module _ (n : ℕ) where
             sets_last ! (agg ! (and_then ! (lit ! tt) (and_then ! (get ! refl) (no_more !)))) refl (tt, (record { fits = lit< tt }, ((tt, (record { fits = fits.0.1.0 }, tt)), tt))) $
             exec ! 𝓣.C 𝓣.Λ En (after 1 function.body) (at_ret En (Ends d)) $
             sets ! (of_opd ! (get ! refl)) refl (tt, (record { fits = lit< tt }, ((tt, (record { fits = fits.0.1.0 }, tt)), tt))) $
-            returns ! (look_at ! 0 refl) $ free_all ! refl $ keep ! (0 ∷ 1 ∷ 2 ∷ 3 ∷ 5 ∷ []) $
-            use1 𝓛 (‵ ((result_row Items error_row).own_val (Ok s) (live 0 (of_list (sv ∷ [])) ∷ []))) (ok_of 𝓛 Items error_row s sv) $ move ! (4 ∷ 1 ∷ []) $
-            use2 𝓛 (‵ (follows G (Array u8 0) γ s.ghost_name (λ ys. Inline (refill (length xs) xs ys)))) (follows_then 𝓛 G I (Array u8 0) Inline (refill (length xs) xs) γ δ s.ghost_name) $
-            use1 𝓛 (‵ (follows_so G (Array u8 0) γ (some s.ghost_name) (FormIs d (Ok s)) (FormStays d (Ok s))))
-            (so_of 𝓛 G (Array u8 0) γ s.ghost_name (λ ys. Inline (refill (length xs) xs ys)) d (FormIs d (Ok s)) (FormStays d (Ok s)) (λ ys ok long. ap (λ (zs : List ℕ). Inline zs) (all_new (length xs) xs ys long)) (tt, λ e. refl)) $
-            move ! (1 ∷ 2 ∷ 3 ∷ 0 ∷ []) $ by ! (exits d (Ok s) (live 0 (of_list (sv ∷ []))) (same, (tt, (tt, λ e. refl))))))))))))))
+            returns ! (look_at ! 0 refl) $ free_all ! refl $ keep ! (0 ∷ 1 ∷ 2 ∷ 3 ∷ 5 ∷ []) $ move ! (0 ∷ 2 ∷ 3 ∷ 4 ∷ 1 ∷ []) $
+            by ! (inline_exits d I Short (refill (length xs) xs) δ s sv same refl (λ ys. refl))))))))))))
+        walk (Full ys) =
+            let d : Form n = Full ys in
+            qed 𝓛 (entry d) ∵ move ! (1 ∷ []) $ heard ! _ (λ within. move ! (1 ∷ []) $ heard ! _ (λ small.
+            split ! $ split3 ! $ move ! (3 ∷ []) $ fsplit ! $ fsplit3 ! $ keep ! (1 ∷ 2 ∷ 4 ∷ 5 ∷ []) $
+            enter ! 𝓣.C 𝓣.Λ function (vptr b o ∷ []) _ $ alloc_all ! (λ l. pass_all ! refl ((tt, tt), tt) $
+            let En : Env 𝓤 H = env function.locals l in
+            let Then : Post 𝓤 H = any_q (after_seq 𝓤 H (Wp 𝓤 H 𝓣.C 𝓣.Λ En (after 1 function.body) (at_return 𝓤 H En (Ends d))) (at_return 𝓤 H En (Ends d))) in
+            open_ref ! tt (mem G) $
+            use1 𝓛 (some' (λ (u : Val). ‵ (fat full_share (mir.Syntax.ty_enum ν all) b o (live 1 (vcons u vnil))) ⊛ ‵ (C.own_val ys (u ∷ []))))
+            (opened 1 G C Full ν all (layout C) refl (λ us t. t) refl refl refl refl (λ x us. refl) 𝓛 b o ys) $ pick ! (λ u. split ! $
+            first ! $ switches_on ! (load ! (through ! refl (vrt ! refl (fld ! refl (stop !)))) (look_tag ! 0 (whole !))) $ exec ! 𝓣.C 𝓣.Λ En (arm_body 1 (head function.body)) Then $
+            sets ! (addr ! (through ! refl (vrt ! refl (fld ! refl (stop !))))) refl (tt, tt) $ sets ! (addr ! (through ! refl (stop !))) refl (tt, tt) $ group ! 5 $
+            let at : ℕ = o + up (align (layout C)) 1 in
+            use1 𝓛 (later (some' (λ (δ : GName). ‵ ((MutRef (named 0) κ C).own_val (record { ref_ptr = (b, at); ghost_name = δ; now = ys }) (vptr b at ∷ [])) ⊛ ‵ (flft κ q) ⊛ ‵ (follows G C γ δ Full))))
+            (lends 1 G C Full ν all (layout C) refl (λ us t. t) refl refl refl refl (λ x us. refl) 𝓛 b o κ q γ ys u (G.coded.code d)) $ await ! tt $ pick ! (λ δ. split3 ! $
+            -- [the inline bytes' reference; κ's token; the form follows it; the other token]
+            let x : MutBor C.Denot = record { ref_ptr = (b, at); ghost_name = δ; now = ys } in
+            let z : InCells.Ghost = (((κ, (κN, tt)), (q, (qN, tt)), bd, (x, tt), (mut_vals x, tt)), tt) in
+            nothing ! $ move ! (1 ∷ 0 ∷ []) $ fjoin ! $ nothing ! $ move ! (4 ∷ 0 ∷ []) $ join ! $ move ! (2 ∷ 0 ∷ []) $ join ! $ join ! $
+            nothing ! $ use0 𝓛 (raw (fact 𝓤 (size (layout C) < 2 ^ 63))) (fact_i 𝓤 (size (layout C) < 2 ^ 63) (emp 𝓤) (cells_small small)) $ use0 𝓛 (raw (fact 𝓤 (κN ⊑ []))) (fact_i 𝓤 (κN ⊑ []) (emp 𝓤) within) $
+            move ! (3 ∷ 0 ∷ 1 ∷ 2 ∷ []) $ group ! 4 $ use1 𝓛 (raw (InCells.pre z)) (id⊢ 𝓤 _) $
+            calls_at ! (fm_of 𝓤 H 𝓛.laws 𝓣) InCells cells z (and_then ! (get ! refl) (no_more !)) (λ w.
+            use1 𝓛 (later (some' (λ (s : MutBor (List ℕ)). ((‵ (flft κ q) ⊛ ‵ (flft κN qN) ⊛ ‵ ftrue) ⊛ ‵ (Items.own_val s (w ∷ []))) ⊛
+            some' (λ (ws : Unit {0} × Unit {0}). ‵ (lasts (W.ended (number n)) z.0.0 z.0.3 ws) ⊛ ‵ (follows C (Array u8 0) δ s.ghost_name with_all) ⊛ (raw (fact 𝓤 (s.now ≡ ys.bytes)) ⊛ raw (fact 𝓤 (length s.now ≡ n))))))) (id⊢ 𝓤 _) $
+            await ! tt $ pick ! (λ s. split ! $ split ! $ split3 ! $ move ! (4 ∷ []) $ pick ! (λ ws. split3 ! $ drop ! $ move ! (1 ∷ []) $ split ! $ heard ! _ (λ same. heard ! _ (λ long.
+            move ! (4 ∷ []) $ peeks ! Items _ (shows 𝓛 Items) s (w ∷ []) (λ fits.
+            let sv : Val = slice_val s.ref_ptr (length s.now) in
+            rewrite ! 0 (λ (us : List Val). ‵ (Items.own_val s us)) fits.0.0 refl $
+            lands_as ! (ap only fits.0.0) refl (tt, (tt, (record { fits = fits.0.1.0 }, tt))) $
+            sets_last ! (agg ! (and_then ! (lit ! tt) (and_then ! (get ! refl) (no_more !)))) refl (tt, (record { fits = lit< tt }, ((tt, (record { fits = fits.0.1.0 }, tt)), tt))) $
+            exec ! 𝓣.C 𝓣.Λ En (after 1 function.body) (at_ret En (Ends d)) $
+            sets ! (of_opd ! (get ! refl)) refl (tt, (record { fits = lit< tt }, ((tt, (record { fits = fits.0.1.0 }, tt)), tt))) $
+            returns ! (look_at ! 0 refl) $ free_all ! refl $ keep ! (0 ∷ 1 ∷ 2 ∷ 3 ∷ 5 ∷ []) $ move ! (0 ∷ 2 ∷ 3 ∷ 4 ∷ 1 ∷ []) $
+            by ! (inline_exits d C Full with_all δ s sv same refl (λ ys. refl)))))))))))))
         walk (Spilled xs) =
             let d : Form n = Spilled xs in
             qed 𝓛 (entry d) ∵ move ! (1 ∷ []) $ heard ! _ (λ within. move ! (1 ∷ []) $ heard ! _ (λ small.
@@ -269,13 +329,13 @@ module _ (n : ℕ) where
             let En : Env 𝓤 H = env function.locals l in
             let Then : Post 𝓤 H = any_q (after_seq 𝓤 H (Wp 𝓤 H 𝓣.C 𝓣.Λ En (after 1 function.body) (at_return 𝓤 H En (Ends d))) (at_return 𝓤 H En (Ends d))) in
             open_ref ! tt (mem G) $
-            use1 𝓛 (some' (λ (u : Val). ‵ (fat full_share (mir.Syntax.ty_enum ν both) b o (live 1 (vcons u vnil))) ⊛ ‵ (V.own_val xs (u ∷ []))))
-            (opened 1 G V Spilled ν both (layout V) refl (λ us t. t) refl refl refl refl (λ x us. refl) 𝓛 b o xs) $ pick ! (λ u. split ! $
-            first ! $ switches_on ! (load ! (through ! refl (vrt ! refl (fld ! refl (stop !)))) (look_tag ! 0 (whole !))) $ exec ! 𝓣.C 𝓣.Λ En (arm_body 1 (head function.body)) Then $
+            use1 𝓛 (some' (λ (u : Val). ‵ (fat full_share (mir.Syntax.ty_enum ν all) b o (live 2 (vcons u vnil))) ⊛ ‵ (V.own_val xs (u ∷ []))))
+            (opened 2 G V Spilled ν all (layout V) refl (λ us t. t) refl refl refl refl (λ x us. refl) 𝓛 b o xs) $ pick ! (λ u. split ! $
+            first ! $ switches_on ! (load ! (through ! refl (vrt ! refl (fld ! refl (stop !)))) (look_tag ! 0 (whole !))) $ exec ! 𝓣.C 𝓣.Λ En (arm_body 2 (head function.body)) Then $
             sets ! (addr ! (through ! refl (vrt ! refl (fld ! refl (stop !))))) refl (tt, tt) $ sets ! (addr ! (through ! refl (stop !))) refl (tt, tt) $ group ! 5 $
             let at : ℕ = o + up (align (layout V)) 1 in
             use1 𝓛 (later (some' (λ (δ : GName). ‵ ((MutRef (named 0) κ V).own_val (record { ref_ptr = (b, at); ghost_name = δ; now = xs }) (vptr b at ∷ [])) ⊛ ‵ (flft κ q) ⊛ ‵ (follows G V γ δ Spilled))))
-            (lends 1 G V Spilled ν both (layout V) refl (λ us t. t) refl refl refl refl (λ x us. refl) 𝓛 b o κ q γ xs u (G.coded.code d)) $ await ! tt $ pick ! (λ δ. split3 ! $
+            (lends 2 G V Spilled ν all (layout V) refl (λ us t. t) refl refl refl refl (λ x us. refl) 𝓛 b o κ q γ xs u (G.coded.code d)) $ await ! tt $ pick ! (λ δ. split3 ! $
             -- [the vector's reference; κ's token; the form follows it; the other token]
             let x : MutBor (List ℕ) = record { ref_ptr = (b, at); ghost_name = δ; now = xs } in
             let z : InVec.Ghost = (((κ, ([], tt)), (q, (full_share, tt)), (⊑_static κ, tt), (x, tt), (mut_vals x, tt)), tt) in
@@ -295,11 +355,11 @@ module _ (n : ℕ) where
             (then_so 𝓛 G V (Array u8 0) γ δ (name_if_lent r) Spilled (VecIs xs r) (VecStays xs r) (FormIs d r) (FormStays d r) (λ ys m is ok long. ap (λ (zs : List ℕ). Spilled zs) (is ok long)) (λ m is. stays r xs m is)) $
             move ! (1 ∷ 2 ∷ 3 ∷ 0 ∷ []) $ by ! (exits d r w (spilled_facts r xs value err empty))))))))))))))))
 
-    meets : (𝓣 : Tables 𝓤 H) → Triple 𝓤 (𝓣.C (#inline args)) InInline → Triple 𝓤 (𝓣.C vec_key) InVec → Meets 𝓛 ended.signature (WpFn 𝓤 H 𝓣.C 𝓣.Λ function) (closing 𝓛 ended held)
-    meets 𝓣 inline vec =
+    meets : (𝓣 : Tables 𝓤 H) → Triple 𝓤 (𝓣.C vec_key) InVec → Triple 𝓤 (𝓣.C (#cells args)) InCells → Triple 𝓤 (𝓣.C (#few args)) InFew → Meets 𝓛 ended.signature (WpFn 𝓤 H 𝓣.C 𝓣.Λ function) (closing 𝓛 ended held)
+    meets 𝓣 vec cells few =
         walk_Meets 𝓛 ended stayed (Goes-spent_ref 𝓛 2 (0 ∷ []) tt (plain (λ _. G)), tt) held (WpFn 𝓤 H 𝓣.C 𝓣.Λ function) (WpFn-mono 𝓤 H 𝓛.laws 𝓣 function)
         (walked 𝓛 ended stayed held (WpFn 𝓤 H 𝓣.C 𝓣.Λ function) (λ κs. (mut_vals, tt)) (λ κs. (mut_Tells (named 0) κs.0 G, tt))
-        (λ κs qs bounds a _ are. walk κs.0 κs.1.0 qs.0 qs.1.0 bounds a.0.ref_ptr.0 a.0.ref_ptr.1 a.0.ghost_name 𝓣 inline vec a.0.now))
+        (λ κs qs bounds a _ are. walk κs.0 κs.1.0 qs.0 qs.1.0 bounds a.0.ref_ptr.0 a.0.ref_ptr.1 a.0.ghost_name 𝓣 vec cells few a.0.now))
 
 pub make_mut_spec : {M : Type 1} → stated.statement M
 unfolding tables_of dropped.code
@@ -308,7 +368,8 @@ make_mut_spec 𝓤 𝓛 𝓜 𝓡 wired n fits =
     entered 𝓤 𝓛.H (triple_of 𝓛 (ended n).signature (closing 𝓛 (ended n) (held n 𝓛 𝓜.mem 𝓡.returns))) 𝓣.C 𝓣.Λ (#self (args n)) (function n)
     (code.unfolded 𝓤 𝓛.H 𝓜 𝓡 wired (number n, tt))
     (meets n 𝓛 𝓜.mem 𝓡.returns 𝓣
-    (inline_thm.met 𝓤 𝓛 𝓜 𝓡 (code.calls-ecow_bytes::inline::InlineVec::as_mut_slice 𝓡.env wired) n fits)
     (vec_thm.met 𝓤 𝓛 𝓜 𝓡 (code.calls-ecow_list::vec::EcoVec::make_mut 𝓡.env wired) Y Y-laws u8_clone.ghosts u8_clone.dict drops
     (u8_clone_met.passed 𝓡.env (code.calls-core::clone::U8Clone::clone 𝓡.env wired) _ 𝓤 𝓛 𝓜 𝓡)
-    (glues "ecow_bytes::Destruct++none::drop" 𝓡.env (code.calls-ecow_bytes::Destruct++none::drop 𝓡.env wired) Y Y-laws _ 𝓤 𝓛 𝓜 𝓡)))
+    (glues "ecow_bytes::Destruct++none::drop" 𝓡.env (code.calls-ecow_bytes::Destruct++none::drop 𝓡.env wired) Y Y-laws _ 𝓤 𝓛 𝓜 𝓡))
+    (cells_thm.met 𝓤 𝓛 𝓜 𝓡 (code.calls-ecow_bytes::cells::Cells::all_mut 𝓡.env wired) n fits)
+    (few_thm.met 𝓤 𝓛 𝓜 𝓡 (code.calls-ecow_bytes::few::Few::as_mut_slice 𝓡.env wired) n fits))

@@ -1,0 +1,90 @@
+//! Fewer bytes than there are cells for.
+ghost use Rattle.std.specs.Prelude.{◌≡◌, ◌<◌, ◌≤◌, length, take};
+
+use crate::cells::Cells;
+use ecow_base::MAX_LEN;
+use std::marker::Model;
+
+/// Fewer than `N` bytes. The cells behind them say how many (`counted` in `specs`).
+#[derive(Drop)]
+pub(crate) struct Few<const N: usize> {
+    pub(crate) cells: Cells<N>,
+}
+
+impl<const N: usize> Model for Few<N> {
+    ghost use Rattle.std.specs.Prelude.{◌≡◌, ◌<◌, ℕ, List, length, take};
+    ghost use Rattle.ecow_bytes.specs.Counts.{counted};
+
+    ghost Value = { List ℕ };
+
+    ghost view = { λ v. take (counted N v.cells.bytes) v.cells.bytes };
+
+    ghost invariant = { λ v. (counted N v.cells.bytes < N) × (length v.cells.bytes ≡ N) };
+}
+
+impl<const N: usize> Few<N> {
+    ghost use Rattle.std.specs.Borrow.{sem};
+    ghost use Rattle.ecow_bytes.specs.Lends.{lends_few};
+
+    /// The first `len` of these bytes.
+    #[inline]
+    pub(crate) fn of(mut cells: Cells<N>, len: usize) -> Self
+        requires { len < N }
+        ensures bytes { result ≡ take len cells.entry.bytes }
+        ensures len { length result ≡ len }
+    {
+        cells.set_len(len);
+        Few {
+            cells: cells.copy(),
+        }
+    }
+
+    /// A copy of these bytes.
+    #[inline]
+    pub(crate) fn copy(&self) -> Self
+        ensures { result ≡ self.now }
+    {
+        Few {
+            cells: self.cells.copy(),
+        }
+    }
+
+    /// The number of bytes.
+    #[inline]
+    pub(crate) fn len(&self) -> usize
+        ensures len { result ≡ length self.now }
+        ensures fits { result < N }
+        ensures bounded { N ≤ MAX_LEN }
+    {
+        self.cells.len()
+    }
+
+    /// Keeps the first `len` bytes, or puts others behind them, so that there are so many.
+    #[inline]
+    pub(crate) fn set_len(&mut self, len: usize)
+        requires { len < N }
+        ensures len { length self.new ≡ len }
+        ensures kept { take (length self.old) self.new ≡ take len self.old }
+    {
+        self.cells.set_len(len);
+    }
+
+    /// The bytes, in order.
+    #[inline]
+    pub(crate) fn as_slice(&self) -> &[u8]
+        ensures { result.now ≡ self.now }
+    {
+        &self.cells.bytes[..self.cells.len()]
+    }
+
+    /// The bytes, for writing.
+    #[inline]
+    pub(crate) fn as_mut_slice(&mut self) -> &mut [u8]
+        ensures* writes_back { sem 𝓛 (lends_few N.row self.entry result) }
+        ensures value { result.now ≡ self.old }
+    {
+        let len = self.len();
+        let cells = &mut self.cells;
+        cells.front_mut(len)
+    }
+}

@@ -1,0 +1,177 @@
+//! Where bytes stand: in the value itself, or in a vector.
+ghost use Rattle.std.specs.Prelude.{◌≡◌, ◌+◌, ◌<◌, ◌≤◌, ◌↔◌, [], length, take, remove, slice_get, Some, true, false, IsOk, IfOk, IfErr, OnErr, IsSome, IfSome};
+ghost use Rattle.std.specs.Borrow.{sem};
+ghost use Rattle.std.specs.List.{insert_slice};
+ghost use Rattle.ecow_values.specs.Plain.{plain_bytes};
+
+use crate::cells::Cells;
+use crate::few::Few;
+use ecow_base::MAX_LEN;
+use ecow_list::{EcoError, EcoVec};
+
+/// Where bytes stand. The compiler lays a tag before them, so that 15 bytes take two words.
+#[derive(Drop)]
+pub(crate) enum Form<const N: usize> {
+    /// In the value itself, fewer than `N`. As the first it has the tag 0, so that zeroed memory is
+    /// no bytes, inline.
+    Short(Few<N>),
+    /// In the value itself, `N` of them.
+    Full(Cells<N>),
+    /// In a vector.
+    Spilled(EcoVec<u8>),
+}
+
+impl<const N: usize> Form<N> {
+    ghost use Rattle.ecow_bytes.specs.Form.{plain_of};
+    ghost use Rattle.ecow_bytes.specs.Lends.{lends_form, lends_inline};
+
+    /// No bytes, inline.
+    #[inline]
+    pub(crate) fn new() -> Self
+        ensures { plain_of result ≡ plain_bytes [] true }
+    {
+        Self::inline(&[]).unwrap()
+    }
+
+    /// A copy of `bytes`, inline: `None` where there are more than `N`.
+    #[inline]
+    pub(crate) fn inline(bytes: &[u8]) -> Option<Self>
+        ensures fits { IsSome result ↔ (length bytes.now ≤ N) }
+        ensures bytes { IfSome result (λ made. plain_of made ≡ plain_bytes bytes.now true) }
+    {
+        if bytes.len() > N {
+            return None;
+        }
+        let mut cells = Cells { bytes: [0; N] };
+        cells.put(bytes);
+        if bytes.len() == N {
+            return Some(Form::Full(cells.copy()));
+        }
+        Some(Form::Short(Few::of(cells, bytes.len())))
+    }
+
+    /// The number of bytes.
+    #[inline]
+    pub(crate) fn len(&self) -> usize
+        ensures len { result ≡ length (plain_of self.now).bytes }
+        ensures bounded { result ≤ MAX_LEN }
+        ensures fits { (plain_of self.now).inline ≡ true → result ≤ N }
+    {
+        match self {
+            Form::Short(few) => few.len(),
+            Form::Full(cells) => cells.count(),
+            Form::Spilled(vec) => vec.len(),
+        }
+    }
+
+    /// The bytes, in order.
+    #[inline]
+    pub(crate) fn as_slice(&self) -> &[u8]
+        ensures { result.now ≡ (plain_of self.now).bytes }
+    {
+        match self {
+            Form::Short(few) => few.as_slice(),
+            Form::Full(cells) => &cells.bytes[..],
+            Form::Spilled(vec) => vec.as_slice(),
+        }
+    }
+
+    /// Inline bytes, for writing.
+    #[inline]
+    pub(crate) fn inline_mut(&mut self) -> &mut [u8]
+        requires { (plain_of self.old).inline ≡ true }
+        ensures* writes_back { sem 𝓛 (lends_inline N.row self.entry result) }
+        ensures value { result.now ≡ (plain_of self.old).bytes }
+    {
+        match self {
+            Form::Short(few) => return few.as_mut_slice(),
+            Form::Full(cells) => return cells.all_mut(),
+            Form::Spilled(_) => unreachable!(),
+        }
+    }
+
+    /// Keeps the first `len` inline bytes, or puts others behind them, so that there are so many.
+    #[inline]
+    pub(crate) fn set_len(&mut self, len: usize)
+        requires inline { (plain_of self.old).inline ≡ true }
+        requires fits { len ≤ N }
+        ensures mode { (plain_of self.new).inline ≡ true }
+        ensures len { length (plain_of self.new).bytes ≡ len }
+        ensures kept { take (length (plain_of self.old).bytes) (plain_of self.new).bytes
+            ≡ take len (plain_of self.old).bytes }
+    {
+        match self {
+            Form::Short(few) => {
+                if len == few.cells.count() {
+                    *self = Form::Full(few.cells);
+                } else {
+                    few.set_len(len);
+                }
+            }
+            Form::Full(cells) => {
+                if len < cells.count() {
+                    *self = Form::Short(Few::of(*cells, len));
+                }
+            }
+            Form::Spilled(_) => unreachable!(),
+        }
+    }
+
+    /// Keeps the first `target` inline bytes, or all where there are fewer.
+    #[inline]
+    pub(crate) fn truncate(&mut self, target: usize)
+        requires { (plain_of self.old).inline ≡ true }
+        ensures { plain_of self.new ≡ plain_bytes (take target (plain_of self.old).bytes) true }
+    {
+        if target < self.len() {
+            self.set_len(target);
+        }
+    }
+
+    /// Puts `bytes` in before the inline byte at `index`.
+    pub(crate) fn insert_slice(&mut self, index: usize, bytes: &[u8])
+        requires inline { (plain_of self.old).inline ≡ true }
+        requires in_bounds { index ≤ length (plain_of self.old).bytes }
+        requires fits { length (plain_of self.old).bytes + length bytes.now ≤ N }
+        ensures { plain_of self.new
+            ≡ plain_bytes (insert_slice (plain_of self.old).bytes index bytes.now) true }
+    {
+        let len = self.len();
+        self.set_len(len + bytes.len());
+        let all = self.inline_mut();
+        all.copy_within(index..len, index + bytes.len());
+        all[index..index + bytes.len()].copy_from_slice(bytes);
+    }
+
+    /// Takes the inline byte at `index`.
+    pub(crate) fn remove(&mut self, index: usize) -> u8
+        requires inline { (plain_of self.old).inline ≡ true }
+        requires in_bounds { index < length (plain_of self.old).bytes }
+        ensures value { slice_get (plain_of self.old).bytes index ≡ Some result }
+        ensures bytes { plain_of self.new
+            ≡ plain_bytes (remove (plain_of self.old).bytes index) true }
+    {
+        let all = self.inline_mut();
+        let len = all.len();
+        let byte = all[index];
+        all.copy_within(index + 1..len, index);
+        self.truncate(len - 1);
+        byte
+    }
+
+    /// The bytes, for writing. Spilled bytes that are shared are copied first.
+    #[inline]
+    pub(crate) fn make_mut(&mut self) -> Result<&mut [u8], EcoError>
+        ensures* writes_back { sem 𝓛 (lends_form N.row self.entry result) }
+        ensures value { IfOk result (λ bytes. bytes.now ≡ (plain_of self.old).bytes) }
+        ensures memory { IfErr result (λ error. error ≡ EcoError.Memory) }
+        ensures free { OnErr result ((plain_of self.old).inline ≡ false) }
+        ensures empty { (plain_of self.old).bytes ≡ [] → IsOk result }
+    {
+        match self {
+            Form::Short(few) => Ok(few.as_mut_slice()),
+            Form::Full(cells) => Ok(cells.all_mut()),
+            Form::Spilled(vec) => vec.make_mut(),
+        }
+    }
+}
