@@ -62,11 +62,11 @@ typedef struct ecow_list {
 } ecow_list;
 
 typedef struct ecow_bytes {
-    uint64_t word[2];
+    uint64_t word[3];
 } ecow_bytes;
 
 typedef struct ecow_text {
-    uint64_t word[2];
+    uint64_t word[3];
 } ecow_text;
 
 /* ---- Lists of numbers ---- */

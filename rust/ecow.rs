@@ -26,13 +26,13 @@ struct RawList {
 #[repr(C)]
 #[derive(Default)]
 struct RawBytes {
-    _word: [u64; 2],
+    _word: [u64; 3],
 }
 
 #[repr(C)]
 #[derive(Default)]
 struct RawText {
-    _word: [u64; 2],
+    _word: [u64; 3],
 }
 
 // A `char` of a text is declared as `u8`: both are one byte.
