@@ -33,6 +33,7 @@ mod ranges;
 mod refusals;
 #[cfg(test)]
 mod sharing;
+mod sizes;
 #[cfg(test)]
 mod texts;
 #[cfg(test)]
