@@ -41,9 +41,9 @@ impl<const N: usize> Cells<N> {
         self.bytes[..].len()
     }
 
-    /// A copy, in pieces of one, two, four and more bytes. In an enum the bytes begin behind its
-    /// tag, and a pointer at the eighth. The compiler moves the seven before it as two numbers of
-    /// four bytes that overlap, so that the next move has to wait; in pieces it has no need to.
+    /// A copy, in pieces of one, two, four and more bytes. In a `Form` the cells begin behind a tag
+    /// of one byte, and a pointer lies at the eighth. The compiler would move the seven before it
+    /// as two numbers of four bytes that overlap, so that the next move has to wait for both.
     #[inline(always)]
     pub(crate) fn copy(&self) -> Self
         ensures { result ≡ self.now }

@@ -12,8 +12,8 @@ use ecow_list::{EcoError, EcoVec};
 /// Where bytes stand. The compiler lays a tag before them, so that 15 bytes take two words.
 #[derive(Drop)]
 pub(crate) enum Form<const N: usize> {
-    /// In the value itself, fewer than `N`. As the first it has the tag 0, so that zeroed memory is
-    /// no bytes, inline.
+    /// In the value itself, fewer than `N`. It comes first, so that its tag is 0, and zeroed memory
+    /// is no bytes where `N` is 1 to 256.
     Short(Few<N>),
     /// In the value itself, `N` of them.
     Full(Cells<N>),
@@ -83,6 +83,7 @@ impl<const N: usize> Form<N> {
         ensures* writes_back { sem 𝓛 (lends_inline N.row self.entry result) }
         ensures value { result.now ≡ (plain_of self.old).bytes }
     {
+        // Each arm returns, since a proof follows a loan from where it is made to a `return`.
         match self {
             Form::Short(few) => return few.as_mut_slice(),
             Form::Full(cells) => return cells.all_mut(),

@@ -102,6 +102,32 @@ fn three_bytes_fit_within_a_limit_of_three(rt: HostRuntime) -> Result<(), Fail> 
     Ok(())
 }
 
+/// Whether bytes that are pushed up to their limit, and popped, have the right length and clones
+/// all the way. There are none before.
+fn is_filled_and_emptied<const N: usize>(mut bytes: SmallBytes<N>) -> Result<bool, EcoError> {
+    let mut right = true;
+    for len in 0..N {
+        right &= bytes.is_inline() && bytes.len() == len && bytes.clone()? == bytes;
+        push(&mut bytes, (len % 256) as u8)?;
+    }
+    for len in 0..N {
+        right &= bytes.is_inline() && bytes.len() == N - len && bytes.clone()? == bytes;
+        right &= pop(&mut bytes)? == Some(((N - 1 - len) % 256) as u8);
+    }
+    Ok(right && bytes.is_inline() && bytes.is_empty())
+}
+
+#[test]
+fn a_length_stands_in_one_cell_or_nine(rt: HostRuntime) -> Result<(), Fail> {
+    assert!(rt; is_filled_and_emptied(SmallBytes::<1>::new(rt.alloc()))?);
+    assert!(rt; is_filled_and_emptied(SmallBytes::<7>::new(rt.alloc()))?);
+    assert!(rt; is_filled_and_emptied(SmallBytes::<16>::new(rt.alloc()))?);
+    assert!(rt; is_filled_and_emptied(SmallBytes::<256>::new(rt.alloc()))?);
+    assert!(rt; is_filled_and_emptied(SmallBytes::<257>::new(rt.alloc()))?);
+    assert!(rt; is_filled_and_emptied(SmallBytes::<600>::new(rt.alloc()))?);
+    Ok(())
+}
+
 #[test]
 fn bytes_are_added_one_by_one(rt: HostRuntime) -> Result<(), Fail> {
     let mut bytes = SmallBytes::<23>::from_iter(rt.alloc(), 0..23u8)?;

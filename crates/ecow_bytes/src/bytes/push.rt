@@ -27,19 +27,22 @@ impl<const N: usize> SmallBytes<N> {
         ensures free { OnErr result (inline_after N self.old.inline (length self.old.bytes) 1
             ≡ false) }
     {
-        if let Form::Spilled(vec) = &mut self.form {
-            return match vec.push(byte) {
-                Ok(()) => Ok(()),
-                Err(rejected) => Err(rejected.error),
-            };
-        }
-        let len = self.form.len();
-        if len == N {
-            return self.spill_with(len, &[byte]);
-        }
-        self.form.set_len(len + 1);
-        self.form.inline_mut()[len] = byte;
-        Ok(())
+        let end = match &mut self.form {
+            Form::Spilled(vec) => {
+                return match vec.push(byte) {
+                    Ok(()) => Ok(()),
+                    Err(rejected) => Err(rejected.error),
+                };
+            }
+            Form::Full(cells) => cells.count(),
+            Form::Short(few) => {
+                let len = few.len();
+                self.form.set_len(len + 1);
+                self.form.inline_mut()[len] = byte;
+                return Ok(());
+            }
+        };
+        self.spill_with(end, &[byte])
     }
 
     /// Appends `bytes`: all, or none where it is refused. They are inline where they fit, which is
@@ -134,7 +137,11 @@ impl<const N: usize> SmallBytes<N> {
             ↔ (MAX_LEN < length self.old.bytes + length bytes.now) }
     {
         let mut vec = self.spill(bytes.len())?;
-        vec.insert_slice(index, bytes)?;
+        if index == vec.len() {
+            vec.extend_from_copied(bytes)?;
+        } else {
+            vec.insert_slice(index, bytes)?;
+        }
         self.form = Form::Spilled(vec);
         Ok(())
     }

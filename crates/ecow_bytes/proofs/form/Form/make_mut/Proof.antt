@@ -211,7 +211,8 @@ module _ (n : ℕ) where
       exits d r v facts =
           qed 𝓛 (‵ ((result_row Items error_row).own_val r (v ∷ [])) ∷ ‵ (flft κ q) ∷ ‵ (flft κN qN) ∷ ‵ (follows_so G (Array u8 0) γ (name_of d r) (FormIs d r) (FormStays d r)) ∷ []) ∵
           move ! (3 ∷ []) $ suffices ! _ (ends_at 𝓛 ended stayed held (bound d) v r (tt, tt) (tt, tt)) $
-          nothing ! $ nothing ! $ fjoin ! $ move ! (0 ∷ 2 ∷ []) $ join ! $ nothing ! $ move ! (4 ∷ 0 ∷ []) $ join ! $ move ! (3 ∷ 0 ∷ []) $ join ! $ join ! $ frame ! $
+          nothing ! $ nothing ! $ fjoin ! $ move ! (0 ∷ 2 ∷ []) $ join ! $ nothing ! $ move ! (4 ∷ 0 ∷ []) $ join ! $
+          move ! (3 ∷ 0 ∷ []) $ join ! $ join ! $ frame ! $
           use0 𝓛 (raw (fact 𝓤 ((plain_of d).bytes ≡ [] → IsOk r))) (fact_i 𝓤 ((plain_of d).bytes ≡ [] → IsOk r) (emp 𝓤) facts.1.1.1) $
           use0 𝓛 (raw (fact 𝓤 (OnErr r ((plain_of d).inline ≡ false)))) (fact_i 𝓤 (OnErr r ((plain_of d).inline ≡ false)) (emp 𝓤) facts.1.1.0) $
           use0 𝓛 (raw (fact 𝓤 (IfErr r (λ e. e ≡ NoMemory)))) (fact_i 𝓤 (IfErr r (λ e. e ≡ NoMemory)) (emp 𝓤) facts.1.0) $
@@ -223,12 +224,19 @@ module _ (n : ℕ) where
       stays (Ok s) xs m is = (tt, λ e. ap (λ (ys : List ℕ). Spilled ys) (is.1 e ∙ sym e))
       stays (Err e) xs m is = (ap (λ (ys : List ℕ). Spilled ys) (kept_equal is_clone equal xs m is.0), λ e. ap (λ (ys : List ℕ). Spilled ys) (is.1 e ∙ sym e))
 
-      spilled_facts : (r : Answer) (xs : List ℕ) → (ClonesAreEqual is_clone → IfOk r (λ s. s.now ≡ xs)) → IfErr r (λ e. e ≡ NoMemory) → (xs ≡ [] → IsOk r) → Facts (Spilled xs) r
+      spilled_facts : (r : Answer) (xs : List ℕ) → (ClonesAreEqual is_clone → IfOk r (λ s. s.now ≡ xs))
+          → IfErr r (λ e. e ≡ NoMemory) → (xs ≡ [] → IsOk r) → Facts (Spilled xs) r
       spilled_facts (Ok s) xs value err empty = (value equal, (tt, (tt, empty)))
       spilled_facts (Err e) xs value err empty = (tt, (err, (refl, empty)))
 
       abbrev with_all : List ℕ → C.Denot
       with_all ys = record { bytes = ys }
+
+      -- a part of the form that is lent, and the form follows it
+      abbrev lent : (F : RattleType) → (F.Denot → Form n) → F.Denot → ℕ → Item 𝓤
+      lent F make y at =
+          later (some' (λ (δ : GName). ‵ ((MutRef (named 0) κ F).own_val (record { ref_ptr = (b, at); ghost_name = δ; now = y }) (vptr b at ∷ []))
+          ⊛ ‵ (flft κ q) ⊛ ‵ (follows G F γ δ make)))
 
       -- the form follows what is written through the slice of its inline bytes
       inline_exits : (d : Form n) (F : RattleType) (make : F.Denot → Form n) (written : List ℕ → F.Denot) (δ : GName) (s : MutBor (List ℕ)) (v : Val)
@@ -238,14 +246,16 @@ module _ (n : ℕ) where
       inline_exits d F make written δ s v same name is =
           let r : Answer = Ok s in
           qed 𝓛 (‵ (Items.own_val s (v ∷ [])) ∷ ‵ (flft κ q) ∷ ‵ (flft κN qN) ∷ ‵ (follows G F γ δ make) ∷ ‵ (follows F (Array u8 0) δ s.ghost_name written) ∷ []) ∵
-          use1 𝓛 (‵ ((result_row Items error_row).own_val r (live 0 (of_list (v ∷ [])) ∷ []))) (ok_of 𝓛 Items error_row s v) $ move ! (3 ∷ 4 ∷ []) $
+          use1 𝓛 (‵ ((result_row Items error_row).own_val r (live 0 (of_list (v ∷ [])) ∷ []))) (ok_of 𝓛 Items error_row s v) $
+          move ! (3 ∷ 4 ∷ []) $
           use2 𝓛 (‵ (follows G (Array u8 0) γ s.ghost_name (λ ys. make (written ys)))) (follows_then 𝓛 G F (Array u8 0) make written γ δ s.ghost_name) $
           use1 𝓛 (‵ (follows_so G (Array u8 0) γ (some s.ghost_name) (FormIs d r) (FormStays d r)))
           (so_of 𝓛 G (Array u8 0) γ s.ghost_name (λ ys. make (written ys)) d (FormIs d r) (FormStays d r) (λ ys ok long. is ys) (tt, λ e. refl)) $
           rewrite ! 0 (λ (g : Option' GName). ‵ (follows_so G (Array u8 0) γ g (FormIs d r) (FormStays d r))) (sym name) refl $
           move ! (1 ∷ 2 ∷ 3 ∷ 0 ∷ []) $ by ! (exits d r (live 0 (of_list (v ∷ []))) (same, (tt, (tt, λ e. refl))))
 
-      module _ (𝓣 : Tables 𝓤 H) (vec : Triple 𝓤 (𝓣.C vec_key) InVec) (cells : Triple 𝓤 (𝓣.C (#cells args)) InCells) (few : Triple 𝓤 (𝓣.C (#few args)) InFew) where
+      module _ (𝓣 : Tables 𝓤 H) (vec : Triple 𝓤 (𝓣.C vec_key) InVec)
+          (cells : Triple 𝓤 (𝓣.C (#cells args)) InCells) (few : Triple 𝓤 (𝓣.C (#few args)) InFew) where
         abbrev Goes : Form n → Type 1
         Goes d = ent 𝓤 (sep 𝓤 (on_entry 𝓛 ended.signature (κ, (κN, tt)) (q, (qN, tt)) (self d, tt) (mut_vals (self d), tt)) ((held (κ, (κN, tt)) (self d, tt)).requires tt)) (WpFn 𝓤 H 𝓣.C 𝓣.Λ function (vptr b o ∷ []) (Ends d))
 
@@ -262,30 +272,43 @@ module _ (n : ℕ) where
             let Then : Post 𝓤 H = any_q (after_seq 𝓤 H (Wp 𝓤 H 𝓣.C 𝓣.Λ En (after 1 function.body) (at_return 𝓤 H En (Ends d))) (at_return 𝓤 H En (Ends d))) in
             open_ref ! tt (mem G) $
             use1 𝓛 (some' (λ (u : Val). ‵ (fat full_share (mir.Syntax.ty_enum ν all) b o (live 0 (vcons u vnil))) ⊛ ‵ (I.own_val xs (u ∷ []))))
-            (opened 0 G I Short ν all (layout I) refl (λ us t. t) refl refl refl refl (λ x us. refl) 𝓛 b o xs) $ pick ! (λ u. split ! $
-            first ! $ switches_on ! (load ! (through ! refl (vrt ! refl (fld ! refl (stop !)))) (look_tag ! 0 (whole !))) $ exec ! 𝓣.C 𝓣.Λ En (arm_body 0 (head function.body)) Then $
-            sets ! (addr ! (through ! refl (vrt ! refl (fld ! refl (stop !))))) refl (tt, tt) $ sets ! (addr ! (through ! refl (stop !))) refl (tt, tt) $ group ! 5 $
+            (opened 0 G I Short ν all (layout I) refl (λ us t. t) refl refl refl refl (λ x us. refl) 𝓛 b o xs) $
+            pick ! (λ u. split ! $
+            first ! $
+            switches_on ! (load ! (through ! refl (vrt ! refl (fld ! refl (stop !)))) (look_tag ! 0 (whole !))) $
+            exec ! 𝓣.C 𝓣.Λ En (arm_body 0 (head function.body)) Then $
+            sets ! (addr ! (through ! refl (vrt ! refl (fld ! refl (stop !))))) refl (tt, tt) $
+            sets ! (addr ! (through ! refl (stop !))) refl (tt, tt) $ group ! 5 $
             let at : ℕ = o + up (align (layout I)) 1 in
-            use1 𝓛 (later (some' (λ (δ : GName). ‵ ((MutRef (named 0) κ I).own_val (record { ref_ptr = (b, at); ghost_name = δ; now = xs }) (vptr b at ∷ [])) ⊛ ‵ (flft κ q) ⊛ ‵ (follows G I γ δ Short))))
-            (lends 0 G I Short ν all (layout I) refl (λ us t. t) refl refl refl refl (λ x us. refl) 𝓛 b o κ q γ xs u (G.coded.code d)) $ await ! tt $ pick ! (λ δ. split3 ! $
+            use1 𝓛 (lent I Short xs at)
+            (lends 0 G I Short ν all (layout I) refl (λ us t. t) refl refl refl refl (λ x us. refl) 𝓛 b o κ q γ xs u (G.coded.code d)) $
+            await ! tt $ pick ! (λ δ. split3 ! $
             -- [the inline bytes' reference; κ's token; the form follows it; the other token]
             let x : MutBor (List ℕ) = record { ref_ptr = (b, at); ghost_name = δ; now = xs } in
             let z : InFew.Ghost = (((κ, (κN, tt)), (q, (qN, tt)), bd, (x, tt), (mut_vals x, tt)), tt) in
-            nothing ! $ move ! (1 ∷ 0 ∷ []) $ fjoin ! $ nothing ! $ move ! (4 ∷ 0 ∷ []) $ join ! $ move ! (2 ∷ 0 ∷ []) $ join ! $ join ! $
-            nothing ! $ use0 𝓛 (raw (fact 𝓤 (size (layout I) < 2 ^ 63))) (fact_i 𝓤 (size (layout I) < 2 ^ 63) (emp 𝓤) (few_small small)) $ use0 𝓛 (raw (fact 𝓤 (κN ⊑ []))) (fact_i 𝓤 (κN ⊑ []) (emp 𝓤) within) $
+            nothing ! $ move ! (1 ∷ 0 ∷ []) $ fjoin ! $ nothing ! $ move ! (4 ∷ 0 ∷ []) $ join ! $ move ! (2 ∷ 0 ∷ []) $
+            join ! $ join ! $
+            nothing ! $
+            use0 𝓛 (raw (fact 𝓤 (size (layout I) < 2 ^ 63))) (fact_i 𝓤 (size (layout I) < 2 ^ 63) (emp 𝓤) (few_small small)) $
+            use0 𝓛 (raw (fact 𝓤 (κN ⊑ []))) (fact_i 𝓤 (κN ⊑ []) (emp 𝓤) within) $
             move ! (3 ∷ 0 ∷ 1 ∷ 2 ∷ []) $ group ! 4 $ use1 𝓛 (raw (InFew.pre z)) (id⊢ 𝓤 _) $
             calls_at ! (fm_of 𝓤 H 𝓛.laws 𝓣) InFew few z (and_then ! (get ! refl) (no_more !)) (λ w.
             use1 𝓛 (later (some' (λ (s : MutBor (List ℕ)). ((‵ (flft κ q) ⊛ ‵ (flft κN qN) ⊛ ‵ ftrue) ⊛ ‵ (Items.own_val s (w ∷ []))) ⊛
-            some' (λ (ws : Unit {0} × Unit {0}). ‵ (lasts (S.ended (number n)) z.0.0 z.0.3 ws) ⊛ ‵ (follows I (Array u8 0) δ s.ghost_name (refill (length xs) xs)) ⊛ raw (fact 𝓤 (s.now ≡ xs)))))) (id⊢ 𝓤 _) $
-            await ! tt $ pick ! (λ s. split ! $ split ! $ split3 ! $ move ! (4 ∷ []) $ pick ! (λ ws. split3 ! $ drop ! $ move ! (1 ∷ []) $ heard ! _ (λ same.
+            some' (λ (ws : Unit {0} × Unit {0}).
+            ‵ (lasts (S.ended (number n)) z.0.0 z.0.3 ws)
+            ⊛ ‵ (follows I (Array u8 0) δ s.ghost_name (refill (length xs) xs)) ⊛ raw (fact 𝓤 (s.now ≡ xs)))))) (id⊢ 𝓤 _) $
+            await ! tt $ pick ! (λ s. split ! $ split ! $ split3 ! $ move ! (4 ∷ []) $ pick ! (λ ws. split3 ! $ drop ! $
+            move ! (1 ∷ []) $ heard ! _ (λ same.
             move ! (4 ∷ []) $ peeks ! Items _ (shows 𝓛 Items) s (w ∷ []) (λ fits.
             let sv : Val = slice_val s.ref_ptr (length s.now) in
             rewrite ! 0 (λ (us : List Val). ‵ (Items.own_val s us)) fits.0.0 refl $
             lands_as ! (ap only fits.0.0) refl (tt, (tt, (record { fits = fits.0.1.0 }, tt))) $
-            sets_last ! (agg ! (and_then ! (lit ! tt) (and_then ! (get ! refl) (no_more !)))) refl (tt, (record { fits = lit< tt }, ((tt, (record { fits = fits.0.1.0 }, tt)), tt))) $
+            sets_last ! (agg ! (and_then ! (lit ! tt) (and_then ! (get ! refl) (no_more !)))) refl
+            (tt, (record { fits = lit< tt }, ((tt, (record { fits = fits.0.1.0 }, tt)), tt))) $
             exec ! 𝓣.C 𝓣.Λ En (after 1 function.body) (at_ret En (Ends d)) $
             sets ! (of_opd ! (get ! refl)) refl (tt, (record { fits = lit< tt }, ((tt, (record { fits = fits.0.1.0 }, tt)), tt))) $
-            returns ! (look_at ! 0 refl) $ free_all ! refl $ keep ! (0 ∷ 1 ∷ 2 ∷ 3 ∷ 5 ∷ []) $ move ! (0 ∷ 2 ∷ 3 ∷ 4 ∷ 1 ∷ []) $
+            returns ! (look_at ! 0 refl) $ free_all ! refl $ keep ! (0 ∷ 1 ∷ 2 ∷ 3 ∷ 5 ∷ []) $
+            move ! (0 ∷ 2 ∷ 3 ∷ 4 ∷ 1 ∷ []) $
             by ! (inline_exits d I Short (refill (length xs) xs) δ s sv same refl (λ ys. refl))))))))))))
         walk (Full ys) =
             let d : Form n = Full ys in
@@ -296,30 +319,43 @@ module _ (n : ℕ) where
             let Then : Post 𝓤 H = any_q (after_seq 𝓤 H (Wp 𝓤 H 𝓣.C 𝓣.Λ En (after 1 function.body) (at_return 𝓤 H En (Ends d))) (at_return 𝓤 H En (Ends d))) in
             open_ref ! tt (mem G) $
             use1 𝓛 (some' (λ (u : Val). ‵ (fat full_share (mir.Syntax.ty_enum ν all) b o (live 1 (vcons u vnil))) ⊛ ‵ (C.own_val ys (u ∷ []))))
-            (opened 1 G C Full ν all (layout C) refl (λ us t. t) refl refl refl refl (λ x us. refl) 𝓛 b o ys) $ pick ! (λ u. split ! $
-            first ! $ switches_on ! (load ! (through ! refl (vrt ! refl (fld ! refl (stop !)))) (look_tag ! 0 (whole !))) $ exec ! 𝓣.C 𝓣.Λ En (arm_body 1 (head function.body)) Then $
-            sets ! (addr ! (through ! refl (vrt ! refl (fld ! refl (stop !))))) refl (tt, tt) $ sets ! (addr ! (through ! refl (stop !))) refl (tt, tt) $ group ! 5 $
+            (opened 1 G C Full ν all (layout C) refl (λ us t. t) refl refl refl refl (λ x us. refl) 𝓛 b o ys) $
+            pick ! (λ u. split ! $
+            first ! $
+            switches_on ! (load ! (through ! refl (vrt ! refl (fld ! refl (stop !)))) (look_tag ! 0 (whole !))) $
+            exec ! 𝓣.C 𝓣.Λ En (arm_body 1 (head function.body)) Then $
+            sets ! (addr ! (through ! refl (vrt ! refl (fld ! refl (stop !))))) refl (tt, tt) $
+            sets ! (addr ! (through ! refl (stop !))) refl (tt, tt) $ group ! 5 $
             let at : ℕ = o + up (align (layout C)) 1 in
-            use1 𝓛 (later (some' (λ (δ : GName). ‵ ((MutRef (named 0) κ C).own_val (record { ref_ptr = (b, at); ghost_name = δ; now = ys }) (vptr b at ∷ [])) ⊛ ‵ (flft κ q) ⊛ ‵ (follows G C γ δ Full))))
-            (lends 1 G C Full ν all (layout C) refl (λ us t. t) refl refl refl refl (λ x us. refl) 𝓛 b o κ q γ ys u (G.coded.code d)) $ await ! tt $ pick ! (λ δ. split3 ! $
+            use1 𝓛 (lent C Full ys at)
+            (lends 1 G C Full ν all (layout C) refl (λ us t. t) refl refl refl refl (λ x us. refl) 𝓛 b o κ q γ ys u (G.coded.code d)) $
+            await ! tt $ pick ! (λ δ. split3 ! $
             -- [the inline bytes' reference; κ's token; the form follows it; the other token]
             let x : MutBor C.Denot = record { ref_ptr = (b, at); ghost_name = δ; now = ys } in
             let z : InCells.Ghost = (((κ, (κN, tt)), (q, (qN, tt)), bd, (x, tt), (mut_vals x, tt)), tt) in
-            nothing ! $ move ! (1 ∷ 0 ∷ []) $ fjoin ! $ nothing ! $ move ! (4 ∷ 0 ∷ []) $ join ! $ move ! (2 ∷ 0 ∷ []) $ join ! $ join ! $
-            nothing ! $ use0 𝓛 (raw (fact 𝓤 (size (layout C) < 2 ^ 63))) (fact_i 𝓤 (size (layout C) < 2 ^ 63) (emp 𝓤) (cells_small small)) $ use0 𝓛 (raw (fact 𝓤 (κN ⊑ []))) (fact_i 𝓤 (κN ⊑ []) (emp 𝓤) within) $
+            nothing ! $ move ! (1 ∷ 0 ∷ []) $ fjoin ! $ nothing ! $ move ! (4 ∷ 0 ∷ []) $ join ! $ move ! (2 ∷ 0 ∷ []) $
+            join ! $ join ! $
+            nothing ! $
+            use0 𝓛 (raw (fact 𝓤 (size (layout C) < 2 ^ 63))) (fact_i 𝓤 (size (layout C) < 2 ^ 63) (emp 𝓤) (cells_small small)) $
+            use0 𝓛 (raw (fact 𝓤 (κN ⊑ []))) (fact_i 𝓤 (κN ⊑ []) (emp 𝓤) within) $
             move ! (3 ∷ 0 ∷ 1 ∷ 2 ∷ []) $ group ! 4 $ use1 𝓛 (raw (InCells.pre z)) (id⊢ 𝓤 _) $
             calls_at ! (fm_of 𝓤 H 𝓛.laws 𝓣) InCells cells z (and_then ! (get ! refl) (no_more !)) (λ w.
             use1 𝓛 (later (some' (λ (s : MutBor (List ℕ)). ((‵ (flft κ q) ⊛ ‵ (flft κN qN) ⊛ ‵ ftrue) ⊛ ‵ (Items.own_val s (w ∷ []))) ⊛
-            some' (λ (ws : Unit {0} × Unit {0}). ‵ (lasts (W.ended (number n)) z.0.0 z.0.3 ws) ⊛ ‵ (follows C (Array u8 0) δ s.ghost_name with_all) ⊛ (raw (fact 𝓤 (s.now ≡ ys.bytes)) ⊛ raw (fact 𝓤 (length s.now ≡ n))))))) (id⊢ 𝓤 _) $
-            await ! tt $ pick ! (λ s. split ! $ split ! $ split3 ! $ move ! (4 ∷ []) $ pick ! (λ ws. split3 ! $ drop ! $ move ! (1 ∷ []) $ split ! $ heard ! _ (λ same. heard ! _ (λ long.
+            some' (λ (ws : Unit {0} × Unit {0}).
+            ‵ (lasts (W.ended (number n)) z.0.0 z.0.3 ws)
+            ⊛ ‵ (follows C (Array u8 0) δ s.ghost_name with_all) ⊛ (raw (fact 𝓤 (s.now ≡ ys.bytes)) ⊛ raw (fact 𝓤 (length s.now ≡ n))))))) (id⊢ 𝓤 _) $
+            await ! tt $ pick ! (λ s. split ! $ split ! $ split3 ! $ move ! (4 ∷ []) $ pick ! (λ ws. split3 ! $ drop ! $
+            move ! (1 ∷ []) $ split ! $ heard ! _ (λ same. heard ! _ (λ long.
             move ! (4 ∷ []) $ peeks ! Items _ (shows 𝓛 Items) s (w ∷ []) (λ fits.
             let sv : Val = slice_val s.ref_ptr (length s.now) in
             rewrite ! 0 (λ (us : List Val). ‵ (Items.own_val s us)) fits.0.0 refl $
             lands_as ! (ap only fits.0.0) refl (tt, (tt, (record { fits = fits.0.1.0 }, tt))) $
-            sets_last ! (agg ! (and_then ! (lit ! tt) (and_then ! (get ! refl) (no_more !)))) refl (tt, (record { fits = lit< tt }, ((tt, (record { fits = fits.0.1.0 }, tt)), tt))) $
+            sets_last ! (agg ! (and_then ! (lit ! tt) (and_then ! (get ! refl) (no_more !)))) refl
+            (tt, (record { fits = lit< tt }, ((tt, (record { fits = fits.0.1.0 }, tt)), tt))) $
             exec ! 𝓣.C 𝓣.Λ En (after 1 function.body) (at_ret En (Ends d)) $
             sets ! (of_opd ! (get ! refl)) refl (tt, (record { fits = lit< tt }, ((tt, (record { fits = fits.0.1.0 }, tt)), tt))) $
-            returns ! (look_at ! 0 refl) $ free_all ! refl $ keep ! (0 ∷ 1 ∷ 2 ∷ 3 ∷ 5 ∷ []) $ move ! (0 ∷ 2 ∷ 3 ∷ 4 ∷ 1 ∷ []) $
+            returns ! (look_at ! 0 refl) $ free_all ! refl $ keep ! (0 ∷ 1 ∷ 2 ∷ 3 ∷ 5 ∷ []) $
+            move ! (0 ∷ 2 ∷ 3 ∷ 4 ∷ 1 ∷ []) $
             by ! (inline_exits d C Full with_all δ s sv same refl (λ ys. refl)))))))))))))
         walk (Spilled xs) =
             let d : Form n = Spilled xs in
@@ -330,32 +366,51 @@ module _ (n : ℕ) where
             let Then : Post 𝓤 H = any_q (after_seq 𝓤 H (Wp 𝓤 H 𝓣.C 𝓣.Λ En (after 1 function.body) (at_return 𝓤 H En (Ends d))) (at_return 𝓤 H En (Ends d))) in
             open_ref ! tt (mem G) $
             use1 𝓛 (some' (λ (u : Val). ‵ (fat full_share (mir.Syntax.ty_enum ν all) b o (live 2 (vcons u vnil))) ⊛ ‵ (V.own_val xs (u ∷ []))))
-            (opened 2 G V Spilled ν all (layout V) refl (λ us t. t) refl refl refl refl (λ x us. refl) 𝓛 b o xs) $ pick ! (λ u. split ! $
-            first ! $ switches_on ! (load ! (through ! refl (vrt ! refl (fld ! refl (stop !)))) (look_tag ! 0 (whole !))) $ exec ! 𝓣.C 𝓣.Λ En (arm_body 2 (head function.body)) Then $
-            sets ! (addr ! (through ! refl (vrt ! refl (fld ! refl (stop !))))) refl (tt, tt) $ sets ! (addr ! (through ! refl (stop !))) refl (tt, tt) $ group ! 5 $
+            (opened 2 G V Spilled ν all (layout V) refl (λ us t. t) refl refl refl refl (λ x us. refl) 𝓛 b o xs) $
+            pick ! (λ u. split ! $
+            first ! $
+            switches_on ! (load ! (through ! refl (vrt ! refl (fld ! refl (stop !)))) (look_tag ! 0 (whole !))) $
+            exec ! 𝓣.C 𝓣.Λ En (arm_body 2 (head function.body)) Then $
+            sets ! (addr ! (through ! refl (vrt ! refl (fld ! refl (stop !))))) refl (tt, tt) $
+            sets ! (addr ! (through ! refl (stop !))) refl (tt, tt) $ group ! 5 $
             let at : ℕ = o + up (align (layout V)) 1 in
-            use1 𝓛 (later (some' (λ (δ : GName). ‵ ((MutRef (named 0) κ V).own_val (record { ref_ptr = (b, at); ghost_name = δ; now = xs }) (vptr b at ∷ [])) ⊛ ‵ (flft κ q) ⊛ ‵ (follows G V γ δ Spilled))))
-            (lends 2 G V Spilled ν all (layout V) refl (λ us t. t) refl refl refl refl (λ x us. refl) 𝓛 b o κ q γ xs u (G.coded.code d)) $ await ! tt $ pick ! (λ δ. split3 ! $
+            use1 𝓛 (lent V Spilled xs at)
+            (lends 2 G V Spilled ν all (layout V) refl (λ us t. t) refl refl refl refl (λ x us. refl) 𝓛 b o κ q γ xs u (G.coded.code d)) $
+            await ! tt $ pick ! (λ δ. split3 ! $
             -- [the vector's reference; κ's token; the form follows it; the other token]
             let x : MutBor (List ℕ) = record { ref_ptr = (b, at); ghost_name = δ; now = xs } in
             let z : InVec.Ghost = (((κ, ([], tt)), (q, (full_share, tt)), (⊑_static κ, tt), (x, tt), (mut_vals x, tt)), tt) in
-            nothing ! $ move ! (1 ∷ 0 ∷ []) $ fjoin ! $ nothing ! $ use0 𝓛 (‵ (flft [] full_share)) (𝓛.lfts.lft-nil full_share) $ join ! $ move ! (2 ∷ 0 ∷ []) $ join ! $ join ! $
+            nothing ! $ move ! (1 ∷ 0 ∷ []) $ fjoin ! $ nothing ! $
+            use0 𝓛 (‵ (flft [] full_share)) (𝓛.lfts.lft-nil full_share) $ join ! $ move ! (2 ∷ 0 ∷ []) $ join ! $
+            join ! $
             nothing ! $ use0 𝓛 (raw (fact 𝓤 ([] ⊑ []))) (fact_i 𝓤 ([] ⊑ []) (emp 𝓤) (⊑_static [])) $
             move ! (2 ∷ 0 ∷ 1 ∷ []) $ group ! 3 $ use1 𝓛 (raw (InVec.pre z)) (id⊢ 𝓤 _) $
             calls_at_last ! (fm_of 𝓤 H 𝓛.laws 𝓣) InVec vec z (and_then ! (get ! refl) (no_more !)) (λ w.
             use1 𝓛 (later (some' (λ (r : Answer). ((‵ (flft κ q) ⊛ ‵ (flft [] full_share) ⊛ ‵ ftrue) ⊛ ‵ ((result_row Items error_row).own_val r (w ∷ []))) ⊛
-            some' (λ (ws : Unit {0} × Unit {0}). ‵ (lasts (E.ended Y u8_clone.ghosts u8_clone.dict drops) z.0.0 z.0.3 ws) ⊛ ‵ (follows_so V (Array u8 0) δ (name_if_lent r) (VecIs xs r) (VecStays xs r)) ⊛
-            (raw (fact 𝓤 (ClonesAreEqual is_clone → IfOk r (λ s. s.now ≡ xs))) ⊛ raw (fact 𝓤 (IfOk r (λ s. length s.now ≡ length xs))) ⊛ raw (fact 𝓤 (IfErr r (λ e. e ≡ NoMemory))) ⊛ raw (fact 𝓤 (xs ≡ [] → IsOk r)) ⊛ raw (fact 𝓤 (IfOk r (λ s. IsKept is_clone xs s.now)))))))) (id⊢ 𝓤 _) $
-            await ! tt $ pick ! (λ r. split ! $ split ! $ split3 ! $ move ! (4 ∷ []) $ pick ! (λ ws. split3 ! $ drop ! $ move ! (1 ∷ []) $ split3 ! $ heard ! _ (λ value. heard ! _ (λ len. split3 ! $ heard ! _ (λ err. heard ! _ (λ empty. heard ! _ (λ kept.
+            some' (λ (ws : Unit {0} × Unit {0}).
+            ‵ (lasts (E.ended Y u8_clone.ghosts u8_clone.dict drops) z.0.0 z.0.3 ws)
+            ⊛ ‵ (follows_so V (Array u8 0) δ (name_if_lent r) (VecIs xs r) (VecStays xs r)) ⊛
+            (raw (fact 𝓤 (ClonesAreEqual is_clone → IfOk r (λ s. s.now ≡ xs)))
+            ⊛ raw (fact 𝓤 (IfOk r (λ s. length s.now ≡ length xs)))
+            ⊛ raw (fact 𝓤 (IfErr r (λ e. e ≡ NoMemory))) ⊛ raw (fact 𝓤 (xs ≡ [] → IsOk r)) ⊛ raw (fact 𝓤 (IfOk r (λ s. IsKept is_clone xs s.now)))))))) (id⊢ 𝓤 _) $
+            await ! tt $ pick ! (λ r. split ! $ split ! $ split3 ! $ move ! (4 ∷ []) $ pick ! (λ ws. split3 ! $ drop ! $
+            move ! (1 ∷ []) $ split3 ! $ heard ! _ (λ value. heard ! _ (λ len. split3 ! $
+            heard ! _ (λ err. heard ! _ (λ empty. heard ! _ (λ kept.
             -- [the vector's clause; κ's token; the static one; nothing; the result; the form follows the vector; the other token]
-            move ! (4 ∷ []) $ peeks ! (result_row Items error_row) _ (shows 𝓛 (result_row Items error_row)) r (w ∷ []) (λ is.
-            lands_last ! refl (result_typed κ u8 r w is) $ exec ! 𝓣.C 𝓣.Λ En (after 1 function.body) (at_ret En (Ends d)) $ sets ! (of_opd ! (get ! refl)) refl (result_typed κ u8 r w is) $
+            move ! (4 ∷ []) $
+            peeks ! (result_row Items error_row) _ (shows 𝓛 (result_row Items error_row)) r (w ∷ []) (λ is.
+            lands_last ! refl (result_typed κ u8 r w is) $
+            exec ! 𝓣.C 𝓣.Λ En (after 1 function.body) (at_ret En (Ends d)) $
+            sets ! (of_opd ! (get ! refl)) refl (result_typed κ u8 r w is) $
             returns ! (look_at ! 0 refl) $ free_all ! refl $ keep ! (0 ∷ 1 ∷ 2 ∷ 5 ∷ 6 ∷ []) $ move ! (3 ∷ 1 ∷ []) $
             use2 𝓛 (‵ (follows_so G (Array u8 0) γ (name_if_lent r) (FormIs d r) (FormStays d r)))
-            (then_so 𝓛 G V (Array u8 0) γ δ (name_if_lent r) Spilled (VecIs xs r) (VecStays xs r) (FormIs d r) (FormStays d r) (λ ys m is ok long. ap (λ (zs : List ℕ). Spilled zs) (is ok long)) (λ m is. stays r xs m is)) $
+            (then_so 𝓛 G V (Array u8 0) γ δ (name_if_lent r) Spilled (VecIs xs r) (VecStays xs r) (FormIs d r) (FormStays d r)
+            (λ ys m is ok long. ap (λ (zs : List ℕ). Spilled zs) (is ok long)) (λ m is. stays r xs m is)) $
             move ! (1 ∷ 2 ∷ 3 ∷ 0 ∷ []) $ by ! (exits d r w (spilled_facts r xs value err empty))))))))))))))))
 
-    meets : (𝓣 : Tables 𝓤 H) → Triple 𝓤 (𝓣.C vec_key) InVec → Triple 𝓤 (𝓣.C (#cells args)) InCells → Triple 𝓤 (𝓣.C (#few args)) InFew → Meets 𝓛 ended.signature (WpFn 𝓤 H 𝓣.C 𝓣.Λ function) (closing 𝓛 ended held)
+    meets : (𝓣 : Tables 𝓤 H) → Triple 𝓤 (𝓣.C vec_key) InVec
+        → Triple 𝓤 (𝓣.C (#cells args)) InCells → Triple 𝓤 (𝓣.C (#few args)) InFew
+        → Meets 𝓛 ended.signature (WpFn 𝓤 H 𝓣.C 𝓣.Λ function) (closing 𝓛 ended held)
     meets 𝓣 vec cells few =
         walk_Meets 𝓛 ended stayed (Goes-spent_ref 𝓛 2 (0 ∷ []) tt (plain (λ _. G)), tt) held (WpFn 𝓤 H 𝓣.C 𝓣.Λ function) (WpFn-mono 𝓤 H 𝓛.laws 𝓣 function)
         (walked 𝓛 ended stayed held (WpFn 𝓤 H 𝓣.C 𝓣.Λ function) (λ κs. (mut_vals, tt)) (λ κs. (mut_Tells (named 0) κs.0 G, tt))
