@@ -1,6 +1,7 @@
 #!/bin/sh
 # Compares what documents say of the code with the code: proofs by hand and `unsafe` blocks by crate (docs/PROVED.md),
-# the crates of each KIND (docs/CALLING.md), and the code that docs/uses quotes.
+# the crates of each KIND (docs/CALLING.md), the code that docs/uses quotes, and that both counts of owners are called
+# alike (docs/ARCHITECTURE.md).
 set -eu
 cd "$(dirname "$0")/.."
 work=$(mktemp -d)
@@ -49,4 +50,12 @@ for page in docs/uses/*.md; do
         *"${code% }"*) ;;
         *) echo "$page quotes other code than its source has"; exit 1 ;;
     esac
+done
+
+# What is said of a count stands in each of its crates, since the kit takes no linked file.
+for file in src/shared.rt src/memory.rt specs/Lends.antt specs/OwnerLends.antt specs/formers/shared/Shared.antt; do
+    sed 's/ecow_shared/ecow_atomic/g' "crates/ecow_shared/$file" | cmp -s - "crates/ecow_atomic/$file" || {
+        echo "$file of ecow_shared and of ecow_atomic differ"
+        exit 1
+    }
 done

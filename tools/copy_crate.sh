@@ -12,7 +12,7 @@ for part in src specs proofs; do
     rm -rf "${to:?}/$part"
     [ ! -d "$from/$part" ] || cp -Rp "$from/$part" "$to/$part"
 done
-[ "$from" = "$crate" ] || grep -rl "$from" "$to/src" "$to/specs" | while read -r file; do
+[ "$from" = "$crate" ] || grep -rl "$from" "$to" | while read -r file; do
     sed "s/$from/$crate/g" "$file" > "$file.new"
     touch -r "$file" "$file.new"
     mv "$file.new" "$file"

@@ -21,7 +21,7 @@ done
 for folder in "$to"/crates/*; do
     grep -q "^${folder##*/}[: ]" crates.txt || rm -rf "$folder"
 done
-sed 's/[: ].*//' crates.txt | while read -r crate; do
-    [ ! -d "$to/crates/$crate" ] || grep "^$crate[: ]" crates.txt
+tools/rows.sh atomic | while read -r row; do
+    [ ! -d "$to/crates/${row%%[: ]*}" ] || echo "$row"
 done > "$to/rows"
 cmp -s "$to/rows" "$to/crates.txt" || cp "$to/rows" "$to/crates.txt"

@@ -51,7 +51,7 @@ for crate in $crates; do
     folder=$to/crates/$crate
     tools/copy_crate.sh "$crate" "$folder" "$count"
     cp -p VERSION LICENSE-APACHE LICENSE-MIT "$folder"
-    row=$(grep "^$crate:" crates.txt)
+    row=$(tools/rows.sh "$count" | grep "^$crate:")
     if grep -q "^$crate:" "$to/crates.txt"; then
         sed "s/^$crate:.*/$row/" "$to/crates.txt" > "$to/crates.txt.new"
         cmp -s "$to/crates.txt" "$to/crates.txt.new" || cat "$to/crates.txt.new" > "$to/crates.txt"

@@ -1,27 +1,25 @@
 //! `Shared`: an owner of which callers see the value alone.
-ghost use Rattle.std.specs.Prelude.{◌≡◌, IfSome, IfOk, IfErr, Option, None, Some};
+ghost use Rattle.std.specs.Prelude.{◌≡◌, IfSome, IfOk, IfErr, None, Some};
 ghost use Rattle.std.specs.Borrow.{sem};
 ghost use Rattle.std.specs.Option.{option_map};
 
+use crate::counts::Owner;
 use std::alloc::{AllocError, Allocator, Global};
 use std::marker::Model;
-use std::sync::Arc;
 use std_alloc::room::AllocFailed;
 
-/// An owner of a value that may have others, in any thread, or of none.
+/// An owner of a value that may have others, or of none.
 #[derive(Drop)]
 pub struct Shared<V, A: Allocator> {
-    owner: Option<Arc<V, A>>,
+    owner: Owner<V, A>,
 }
 
 impl<V, A: Allocator> Model for Shared<V, A> {
     ghost use Rattle.std.specs.Prelude.{Option};
-    ghost use Rattle.std.specs.Option.{option_map};
-    ghost use Rattle.std.specs.Arc.{arc_value};
 
     ghost Value = { Option V };
 
-    ghost view = { λ s. option_map (λ arc. arc_value arc) s.owner };
+    ghost view = { λ s. s.owner.value };
 }
 
 impl<V> Shared<V, Global> {
@@ -30,8 +28,8 @@ impl<V> Shared<V, Global> {
         ensures ok { IfOk result (λ shared. shared ≡ Some value) }
         ensures value_returned { IfErr result (λ refused. refused.value ≡ value) }
     {
-        match Arc::new(alloc, value) {
-            Ok(arc) => Ok(Shared { owner: Some(arc) }),
+        match Owner::new(alloc, value) {
+            Ok(owner) => Ok(Shared { owner }),
             Err(refused) => Err(refused),
         }
     }
@@ -44,17 +42,16 @@ impl<V, A: Allocator> Shared<V, A> {
     pub fn none() -> Shared<V, A>
         ensures { result ≡ None }
     {
-        Shared { owner: None }
+        Shared {
+            owner: Owner::none(),
+        }
     }
 
     /// The value, if there is one.
     pub fn get(&self) -> Option<&V>
         ensures { option_map (λ value. value.now) result ≡ self.now }
     {
-        match &self.owner {
-            Some(arc) => Some(&**arc),
-            None => None,
-        }
+        self.owner.get()
     }
 
     /// The value, for writing, where this is its sole owner.
@@ -62,10 +59,7 @@ impl<V, A: Allocator> Shared<V, A> {
         ensures* writes_back { sem 𝓛 (lends_value V.row A.row A.Allocator self.entry result) }
         ensures value { IfSome result (λ value. self.old ≡ Some value.now) }
     {
-        match &mut self.owner {
-            Some(arc) => Arc::get_mut(arc),
-            None => None,
-        }
+        self.owner.get_mut()
     }
 
     /// The value, where this is its sole owner. Else the owner comes back.
@@ -73,12 +67,9 @@ impl<V, A: Allocator> Shared<V, A> {
         ensures ok { IfOk result (λ value. self ≡ Some value) }
         ensures err { IfErr result (λ back. back ≡ self) }
     {
-        match self.owner {
-            Some(arc) => match Arc::try_unwrap(arc) {
-                Ok(value) => Ok(value),
-                Err(arc) => Err(Shared { owner: Some(arc) }),
-            },
-            None => Err(Shared { owner: None }),
+        match self.owner.try_unwrap() {
+            Ok(value) => Ok(value),
+            Err(owner) => Err(Shared { owner }),
         }
     }
 }
@@ -87,11 +78,8 @@ impl<V: Drop, A: Allocator> Clone for Shared<V, A> {
     ghost is_clone = { λ s t. t ≡ s };
 
     fn clone(&self) -> Result<Shared<V, A>, AllocError> {
-        match &self.owner {
-            Some(arc) => Ok(Shared {
-                owner: Some(arc.clone()?),
-            }),
-            None => Ok(Shared { owner: None }),
-        }
+        Ok(Shared {
+            owner: self.owner.clone()?,
+        })
     }
 }
