@@ -58,15 +58,15 @@ const char *ecow_status_text(ecow_status status);
 
 /* The values. Their words are the library's: neither read nor write them. */
 typedef struct ecow_list {
-    uint64_t word[2];
+    uint64_t word[1];
 } ecow_list;
 
 typedef struct ecow_bytes {
-    uint64_t word[3];
+    uint64_t word[2];
 } ecow_bytes;
 
 typedef struct ecow_text {
-    uint64_t word[3];
+    uint64_t word[2];
 } ecow_text;
 
 /* ---- Lists of numbers ---- */

@@ -413,7 +413,7 @@ class List(_Items, typing.MutableSequence[int]):
     """A list of numbers from -2^63 to 2^63 - 1. Iteration is over a copy."""
 
     __slots__ = ()
-    _calls = _Calls("list", 2, ctypes.c_int64)
+    _calls = _Calls("list", 1, ctypes.c_int64)
     _width = 8
 
     def __init__(self, numbers: typing.Iterable[int] = ()) -> None:
@@ -439,7 +439,7 @@ class Bytes(_Items, typing.MutableSequence[int]):
     """Bytes, each a number from 0 to 255. Iteration is over a copy."""
 
     __slots__ = ()
-    _calls = _Calls("bytes", 3, ctypes.c_uint8)
+    _calls = _Calls("bytes", 2, ctypes.c_uint8)
 
     def __init__(self, data: typing.Union[bytes, typing.Iterable[int]] = b"") -> None:
         super().__init__(data)
@@ -468,7 +468,7 @@ class Text(_Value):
     Iteration gives the characters of a copy. Slices are those of Python, but count bytes."""
 
     __slots__ = ()
-    _calls = _Calls("text", 3, ctypes.c_uint32)
+    _calls = _Calls("text", 2, ctypes.c_uint32)
 
     def __init__(self, text: typing.Union[str, Text] = "") -> None:
         super().__init__(text)

@@ -20,19 +20,19 @@ const NULL: Status = 6;
 #[repr(C)]
 #[derive(Default)]
 struct RawList {
-    _word: [u64; 2],
+    _word: [u64; 1],
 }
 
 #[repr(C)]
 #[derive(Default)]
 struct RawBytes {
-    _word: [u64; 3],
+    _word: [u64; 2],
 }
 
 #[repr(C)]
 #[derive(Default)]
 struct RawText {
-    _word: [u64; 3],
+    _word: [u64; 2],
 }
 
 // A `char` of a text is declared as `u8`: both are one byte.

@@ -10,8 +10,8 @@ use std::mem::size_of;
 
 mod list;
 
-// A value of either count fits the struct `ecow_list` of `include/ecow.h`, which has two words.
-const _: () = prove!(size_of::<EcoVec<i64>>() <= 16);
+// The struct `ecow_list` of `include/ecow.h` is as large.
+const _: () = prove!(size_of::<EcoVec<i64>>() == 8);
 
 /// A pointer to an `EcoVec<i64>` in C's memory, or null. C passes the address of its pointer.
 #[repr(C)]

@@ -11,8 +11,8 @@ use std::mem::size_of;
 
 mod text;
 
-// A value of either count fits the struct `ecow_text` of `include/ecow.h`, which has three words.
-const _: () = prove!(size_of::<EcoString>() <= 24);
+// The struct `ecow_text` of `include/ecow.h` is as large.
+const _: () = prove!(size_of::<EcoString>() == 16);
 
 /// A pointer to an `EcoString` in C's memory, or null. C passes the address of its pointer.
 #[repr(C)]
