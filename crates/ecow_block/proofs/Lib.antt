@@ -7,3 +7,5 @@ pub mod Splices
 pub mod Retained
 pub mod Bytes
 pub mod Cloned
+pub mod Wholes
+pub mod Same

@@ -9,3 +9,5 @@ pub mod Clones
 pub mod Iterators
 pub mod Updates
 pub mod formers
+pub mod Tops
+pub mod Whole

@@ -3,7 +3,9 @@
 #![tactic(auto)]
 
 pub mod block;
+pub mod hold;
 mod moves;
+pub mod one;
 pub mod rest;
 mod room;
 

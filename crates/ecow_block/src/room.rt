@@ -4,14 +4,23 @@ ghost use Rattle.std.specs.Prelude.{◌≡◌, ℕ, ◌≤◌, List, length, ⊤
 ghost use base.Fml.{ftrue};
 ghost use denote.RawPtr.{Ptr};
 ghost use Rattle.ecow_block.specs.Ownership.{deed_owns, room_owns, room_shares};
+ghost use Rattle.ecow_block.specs.Whole.{title_owns, title_shares};
 
 use std::alloc::{AllocError, Allocator};
 use std::marker::{Model, PhantomData};
 
+mod align;
 mod heap;
+mod layout;
+mod moved;
 mod places;
+mod whole;
 
+pub(crate) use align::offset_of;
 pub(crate) use heap::{give_back, grow, make, nowhere};
+pub(crate) use layout::layout_of;
+pub(crate) use moved::move_whole;
+pub(crate) use whole::{Head, give_back_whole, len_of, make_whole, places, put_len};
 
 /// How many items are put at a time.
 pub(crate) const CHUNK: usize = 128;
@@ -63,4 +72,38 @@ impl<T, A: Allocator> Model for Deed<T, A> {
     ghost also_owns = { λ d. deed_owns (A.dealloc_token d.alloc) T.row d.at d.capacity };
 
     ghost also_shares = { λ _ _ _. ftrue };
+}
+
+/// Where a head begins. It owns nothing.
+pub(crate) struct Top {
+    ptr: *mut Head,
+}
+
+impl Clone for Top {
+    ghost is_clone = { λ x y. y ≡ x };
+
+    ghost is_infallible = { λ _. ⊤ };
+
+    fn clone(&self) -> Result<Top, AllocError> {
+        Ok(*self)
+    }
+}
+
+impl Copy for Top {}
+
+/// The head of a block of `capacity` places, of which the first `len` are used, and the right to give
+/// the block back to `alloc`. It takes no space.
+pub(crate) struct Title<T, A: Allocator> {
+    mark: PhantomData<*const (T, A)>,
+    ghost at: { Ptr },
+    ghost len: { ℕ },
+    ghost capacity: { ℕ },
+    ghost alloc: { A },
+    ghost offset: { ℕ },
+}
+
+impl<T, A: Allocator> Model for Title<T, A> {
+    ghost also_owns = { λ t. title_owns (A.dealloc_token t.alloc) T.row t.at t.len t.capacity t.offset };
+
+    ghost also_shares = { λ t _ κ. title_shares T.row t.at t.len t.capacity t.offset κ };
 }

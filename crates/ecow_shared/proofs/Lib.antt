@@ -1,3 +1,4 @@
 pub mod Places
 pub mod Settling
 pub mod Steps
+pub mod Handles

@@ -1,2 +1,3 @@
 pub mod Ownership
 pub mod Lends
+pub mod LendsSole

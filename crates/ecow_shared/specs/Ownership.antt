@@ -80,6 +80,10 @@ module _ (Z R : RattleType) where
       abbrev pub sole_owns : Fml
       sole_owns = fsep (counter_at c 0 1) all_owned
 
+      -- what the one owner of a value owns, at a pointer that may be tested
+      abbrev pub sole_here : Fml
+      sole_here = fsep (may_be_tested c) sole_owns
+
       -- what one of several owners has: a part of the count, which keeps the value alive
       abbrev pub counted_owns : Fml
       counted_owns =

@@ -13,7 +13,7 @@ use std_alloc::room::{AllocFailed, Vacant};
 
 /// What lies in memory: how many owners there are, where the memory came from, and the value.
 pub struct Head<V, A> {
-    count: usize,
+    pub(crate) count: usize,
     alloc: A,
     value: V,
 }

@@ -3,6 +3,8 @@
 #![tactic(auto)]
 
 mod counts;
+mod handle;
 mod memory;
 
 pub use counts::Shared;
+pub use handle::{Handle, Sole};

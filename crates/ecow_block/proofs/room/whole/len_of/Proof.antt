@@ -1,0 +1,120 @@
+-- `len_of` reads an item into the first empty place, for every element type. Assumes `Logic`.
+use mathlib.Core.Path.{◌≡◌, refl, sym, subst, ◌∙◌}
+use Prim.Native.Nat.{◌+◌, ◌^◌}
+use mathlib.Core.List.{List, [], ◌∷◌, ◌++◌}
+use seplogic.Ra.Ura.{Ura}
+use base.Fraction.{full_share}
+use base.Logic.{SProp, ent, id⊢}
+use base.Fml.{ftrue, fat, flft}
+use mir.Syntax.{Fn, w64}
+use mir.MapTy.{inst_fn}
+use mir.Val.{Val, vptr, vint}
+use prog.Memory.{Memory}
+use prog.Routine.{Routine}
+use prog.Wp.{Env, WpFn, Tables}
+use types.Logic.{Logic}
+use contract.BorrowLft.{◌⊑◌}
+use contract.Monad.{Fun, fact}
+use contract.Running.{tables, tables_of}
+use sound.WpLaws.{WpFn-mono}
+use types.Kit.{‵, raw, ◌⊛◌, at_ret, ◌$◌, ◌∵◌, !, qed, move, keep, drop, use1, split, join, rewrite, fsplit, fjoin, feq_i, feq_l, flt_l, suffices, done}
+use types.Part.{whole, sub}
+use types.Run.{stop, fld, of_opd, first, blocks, exec, returns, enter}
+use types.ByLocal.{alloc_all, pass_all, free_all, look_at, get, get_in, through, sets, take_at, give_at, env}
+use denote.Builtin.{usize}
+use denote.Exit.{yes}
+use denote.Param.{layout}
+use denote.RattleType.{owns}
+use denote.RawPtr.{Ptr}
+use denote.Signature.{plain, types_at}
+use denote.Steps.{heard, nothing}
+use denote.Triple.Clauses.{Clauses, Ended, closing}
+use denote.Triple.Spec.{Meets, triple_of}
+use denote.Triple.Table.{entered}
+use denote.Triple.Walked.{Stays, stay_dropped, walk_of, ends_at, Goes-dropped, walk_Meets}
+use Rattle.core.proofs.mem.Param.{El}
+use Rattle.core.proofs.slots.Bodies.{after}
+use Rattle.std_alloc.proofs.RcSteps.{word, word-Good}
+use Rattle.ecow_block.specs.contracts.room.whole.len_of as F
+use Rattle.ecow_block.specs.contracts.room.whole.len_of.Key.{name as #self}
+use Rattle.ecow_block.proofs.room.whole.len_of.Statement.{statement}
+use Rattle.ecow_block.proofs.room.whole.len_of.Code as code
+use denote.Memory.{cell_at}
+use denote.Triple.Walked.{says}
+use types.Kit.{split3}
+use Rattle.core.proofs.alloc.Calls.{Al}
+use Rattle.core.proofs.slots.Leases.{args}
+use base.Logic.{never, fst∗}
+use denote.Builtin.{RefOf}
+use denote.Copied.{uint_Copied}
+use denote.Memory.{shared_of}
+use denote.Opens.{hide, unhide}
+use denote.RawPtr.{in_a_block, ◌+ₚ◌}
+use denote.Steps.{looks, shuts}
+use denote.Struct.Lending.{lent_at}
+use types.Kit.{fsplit, flt_i}
+use types.Run.{look, load}
+use types.ByLocal.{sets_last}
+use mir.Syntax.{ty_int}
+use types.Logic.{sem}
+use Rattle.ecow_block.proofs.Wholes.{Tp, Tt, top_had}
+
+module _ (E : El) (Z : Al) where
+  abbrev here : Fn
+  here = inst_fn (args E Z) code.function
+
+  abbrev ended : Ended
+  ended = F.ended E.row Z.row Z.g Z.d Z.drops
+
+  abbrev stayed : Stays ended.signature.params ended.kept
+  stayed = (stay_dropped (RefOf (0 ∷ []) tt (plain (λ _. Tt E Z)) (λ _. tt)) yes, (stay_dropped (plain (λ _. Tp)) yes, tt))
+
+  module _ {M : Type 1} {𝓤 : Ura M} (𝓛 : Logic 𝓤) (at_mem : Memory → SProp 𝓤) (run : Routine → Fun 𝓤) (𝓣 : Tables 𝓤 𝓛.H) where
+    open 𝓛 use {H}
+
+    abbrev held : Clauses 𝓤 ended
+    held = F.clauses E.row Z.row Z.g Z.d Z.drops 𝓛 at_mem run
+
+    walk : (z : (walk_of 𝓛 ended stayed held).Ghost) → ent 𝓤 ((walk_of 𝓛 ended stayed held).pre z) (WpFn 𝓤 H 𝓣.C 𝓣.Λ here ((walk_of 𝓛 ended stayed held).args z) ((walk_of 𝓛 ended stayed held).post z))
+    walk z =
+        let κ = z.0.0.0 in let κ₁ = z.0.0.1.0 in let κ₂ = z.0.0.1.1.0 in let q = z.0.1.0 in let q₁ = z.0.1.1.0 in let q₂ = z.0.1.1.1.0 in let a = z.0.3 in let vss = z.0.4 in
+        let rb = a.0.ref_ptr.0 in let ro = a.0.ref_ptr.1 in let d : (Tt E Z).Denot = a.0.now in let top = a.1.0 in let n = d.len in
+        let Post : Val → SProp 𝓤 = (walk_of 𝓛 ended stayed held).post z in
+        let Ok : Type 0 = top.ptr ≡ d.at in
+        qed 𝓛 (((‵ (flft κ q) ⊛ ‵ (flft κ₁ q₁) ⊛ ‵ (flft κ₂ q₂) ⊛ ‵ ftrue) ⊛ ‵ (owns (types_at ended.signature.params z.0.0) a vss)) ∷ (raw (fact 𝓤 (κ₁ ⊑ E.row.lives)) ⊛ raw (fact 𝓤 (κ₂ ⊑ Z.row.lives)) ⊛ raw (fact 𝓤 Ok)) ∷ []) ∵
+        move ! (1 ∷ []) $ split3 ! $ drop ! $ drop ! $ heard ! Ok (λ ok.
+        split ! $ split ! $ move ! (2 ∷ []) $ fsplit ! $ fsplit ! $ feq_l ! (λ e₀. move ! (1 ∷ []) $ fsplit ! $ top_had ! top vss.1.0 (λ e₁. keep ! (1 ∷ 2 ∷ 3 ∷ []) $
+        -- [what the `&` holds; its token; the other tokens]
+        unhide ! $ fsplit ! $ drop ! $ fsplit ! $ move ! (1 ∷ []) $ drop ! $ fsplit ! $ move ! (1 ∷ []) $ drop ! $
+        in_a_block ! d.at (λ (p : Ptr). lent_at usize (p +ₚ 8) n κ) (fst∗ 𝓤 (never 𝓤) (sem 𝓛 (shared_of usize n 0 0 κ))) (λ b o at_b. fsplit ! $ drop ! $ hide ! $
+        let us : List Val = vptr rb ro ∷ word top.ptr ∷ [] in
+        let Run : List Val → SProp 𝓤 = λ ws. WpFn 𝓤 H 𝓣.C 𝓣.Λ here ws Post in
+        suffices ! (Run us) (subst (λ (ws : List Val). ent 𝓤 (Run us) (Run ws)) (sym (λ k. e₀ k ++ (e₁ k ++ []))) (id⊢ 𝓤 (Run us))) $
+        enter ! 𝓣.C 𝓣.Λ here us Post $ alloc_all ! (λ l. pass_all ! refl ((tt, tt), (word-Good [] top.ptr, tt)) $
+        let En : Env 𝓤 H = env here.locals l in
+        looks ! tt usize (uint_Copied 𝓛 w64).opens n b (o + 8) (λ q' vs. move ! (1 ∷ []) $ fsplit ! $ feq_l ! (λ ev. flt_l ! (λ fn.
+        rewrite ! 0 (λ (ws : List Val). ‵ (cell_at q' (ty_int w64 ∷ []) ws b (o + 8))) ev refl $ use1 𝓛 (‵ (fat q' (ty_int w64) b (o + 8) (vint w64 n))) (id⊢ 𝓤 _) $
+        -- [the number; what shuts; what the `&` holds; the other tokens]
+        take_at ! 2 $ rewrite ! 0 (λ (p : Ptr). ‵ (fat full_share (layout Tp) (l 2) 0 (word p))) (ok ∙ at_b) refl $ give_at ! 2 $
+        sets ! (of_opd ! (get_in ! (fld ! refl (stop !)) (sub ! 0 refl (whole !)))) refl (tt, tt) $ first ! $ blocks ! $
+        sets_last ! (of_opd ! (load ! (through ! refl (fld ! refl (stop !))) (look ! 0 refl))) refl (tt, record { fits = fn }) $
+        exec ! 𝓣.C 𝓣.Λ En (after 2 here.body) (at_ret En Post) $ sets ! (of_opd ! (get ! refl)) refl (tt, record { fits = fn }) $
+        use1 𝓛 (‵ (cell_at q' (ty_int w64 ∷ []) (vint w64 n ∷ []) b (o + 8))) (id⊢ 𝓤 _) $
+        flt_i ! n (2 ^ 64) fn $ feq_i ! (List Val) (vint w64 n ∷ []) (vint w64 n ∷ []) refl $ fjoin ! $ move ! (1 ∷ 0 ∷ []) $ shuts ! tt usize q' n (vint w64 n ∷ []) b (o + 8) $
+        returns ! (look_at ! 0 refl) $ free_all ! refl $ keep ! (0 ∷ 2 ∷ []) $
+        suffices ! _ (ends_at 𝓛 ended stayed held z (vint w64 n) n (tt, (tt, tt)) (tt, (tt, tt))) $ says ! refl $
+        flt_i ! n (2 ^ 64) fn $ feq_i ! (List Val) (vint w64 n ∷ []) (vint w64 n ∷ []) refl $ fjoin ! $
+        move ! (1 ∷ 2 ∷ []) $ join ! $ nothing ! $ nothing ! $ fjoin ! $ nothing ! $ fjoin ! $ keep ! (1 ∷ 0 ∷ 2 ∷ []) $ done !))))))))
+
+    meets : Meets 𝓛 ended.signature (WpFn 𝓤 H 𝓣.C 𝓣.Λ here) (closing 𝓛 ended held)
+    meets =
+        walk_Meets 𝓛 ended stayed (Goes-dropped 𝓛 3 (RefOf (0 ∷ []) tt (plain (λ _. Tt E Z)) (λ _. tt)) yes (λ κs x f. refl), (Goes-dropped 𝓛 3 (plain (λ _. Tp)) yes (λ κs x f. refl), tt)) held
+        (WpFn 𝓤 H 𝓣.C 𝓣.Λ here) (WpFn-mono 𝓤 H 𝓛.laws 𝓣 here) walk
+
+pub len_of_spec : {M : Type 1} → statement M
+unfolding tables_of
+len_of_spec 𝓤 𝓛 𝓜 𝓡 wired X Y LX LY g d dd met md =
+    let E : El = record { row = X; laws = LX } in let Z : Al = record { row = Y; laws = LY; g = g; d = d; drops = dd } in
+    let 𝓣 : Tables 𝓤 𝓛.H = tables_of 𝓤 𝓛.H 𝓜 (tables 𝓤 𝓛.H 𝓜 𝓡 𝓡.env) in
+    entered 𝓤 𝓛.H (triple_of 𝓛 (ended E Z).signature (F.spec X Y g d dd 𝓛 𝓜.mem 𝓡.returns)) 𝓣.C 𝓣.Λ (#self (args E Z)) (here E Z) (code.unfolded 𝓤 𝓛.H 𝓜 𝓡 wired (X, (Y, tt)) d dd)
+    (meets E Z 𝓛 𝓜.mem 𝓡.returns 𝓣)
