@@ -7,5 +7,5 @@ pub mod Splices
 pub mod Retained
 pub mod Bytes
 pub mod Cloned
-pub mod Wholes
-pub mod Same
+pub mod Heads
+pub mod Lent

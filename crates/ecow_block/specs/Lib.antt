@@ -9,5 +9,6 @@ pub mod Clones
 pub mod Iterators
 pub mod Updates
 pub mod formers
-pub mod Tops
+pub mod Heads
 pub mod Whole
+pub mod TitleLends

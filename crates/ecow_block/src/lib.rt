@@ -3,9 +3,7 @@
 #![tactic(auto)]
 
 pub mod block;
-pub mod hold;
 mod moves;
-pub mod one;
 pub mod rest;
 mod room;
 

@@ -4,23 +4,20 @@ ghost use Rattle.std.specs.Prelude.{◌≡◌, ℕ, ◌≤◌, List, length, ⊤
 ghost use base.Fml.{ftrue};
 ghost use denote.RawPtr.{Ptr};
 ghost use Rattle.ecow_block.specs.Ownership.{deed_owns, room_owns, room_shares};
-ghost use Rattle.ecow_block.specs.Whole.{title_owns, title_shares};
+ghost use Rattle.ecow_block.specs.Heads.{title_owns, title_shares};
+ghost use Rattle.ecow_block.specs.declared.room.Fields.{Fields};
 
 use std::alloc::{AllocError, Allocator};
 use std::marker::{Model, PhantomData};
 
-mod align;
+mod heads;
 mod heap;
 mod layout;
-mod moved;
 mod places;
-mod whole;
 
-pub(crate) use align::offset_of;
+pub(crate) use heads::{fields, fields_mut, give_back_head, make_head};
 pub(crate) use heap::{give_back, grow, make, nowhere};
 pub(crate) use layout::layout_of;
-pub(crate) use moved::move_whole;
-pub(crate) use whole::{Head, give_back_whole, len_of, make_whole, places, put_len};
 
 /// How many items are put at a time.
 pub(crate) const CHUNK: usize = 128;
@@ -74,36 +71,63 @@ impl<T, A: Allocator> Model for Deed<T, A> {
     ghost also_shares = { λ _ _ _. ftrue };
 }
 
-/// Where a head begins. It owns nothing.
-pub(crate) struct Top {
-    ptr: *mut Head,
+/// What a head says of its block: where the places begin, how many items they hold, and how many
+/// places there are.
+pub(crate) struct Fields<T> {
+    pub(crate) base: Base<T>,
+    pub(crate) len: usize,
+    pub(crate) capacity: usize,
 }
 
-impl Clone for Top {
+impl<T> Clone for Fields<T> {
     ghost is_clone = { λ x y. y ≡ x };
 
     ghost is_infallible = { λ _. ⊤ };
 
-    fn clone(&self) -> Result<Top, AllocError> {
+    fn clone(&self) -> Result<Fields<T>, AllocError> {
         Ok(*self)
     }
 }
 
-impl Copy for Top {}
+impl<T> Copy for Fields<T> {}
 
-/// The head of a block of `capacity` places, of which the first `len` are used, and the right to give
-/// the block back to `alloc`. It takes no space.
+/// What a block has beside its places: how many owners there are, and the fields.
+pub(crate) struct Head<T> {
+    count: usize,
+    fields: Fields<T>,
+}
+
+/// Where a head is, or null, where there is no block. It owns nothing.
+pub(crate) struct Top<T> {
+    ptr: *mut Head<T>,
+}
+
+impl<T> Clone for Top<T> {
+    ghost is_clone = { λ x y. y ≡ x };
+
+    ghost is_infallible = { λ _. ⊤ };
+
+    fn clone(&self) -> Result<Top<T>, AllocError> {
+        Ok(*self)
+    }
+}
+
+impl<T> Copy for Top<T> {}
+
+/// The head of a sole owner's block, with its fields, and the right to give its memory back to
+/// `alloc`: the head's, and that of as many places right behind it. It takes no space, and is
+/// nothing at null.
 pub(crate) struct Title<T, A: Allocator> {
     mark: PhantomData<*const (T, A)>,
     ghost at: { Ptr },
-    ghost len: { ℕ },
-    ghost capacity: { ℕ },
+    ghost fields: { Fields T },
+    ghost places: { ℕ },
     ghost alloc: { A },
-    ghost offset: { ℕ },
 }
 
 impl<T, A: Allocator> Model for Title<T, A> {
-    ghost also_owns = { λ t. title_owns (A.dealloc_token t.alloc) T.row t.at t.len t.capacity t.offset };
+    ghost also_owns = {
+        λ t. title_owns (A.dealloc_token t.alloc) T.row t.at t.fields t.places };
 
-    ghost also_shares = { λ t _ κ. title_shares T.row t.at t.len t.capacity t.offset κ };
+    ghost also_shares = { λ t _ κ. title_shares T.row t.at t.fields κ };
 }
