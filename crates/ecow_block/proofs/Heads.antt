@@ -27,7 +27,7 @@ use denote.RattleType.{RattleType, Valss}
 use denote.Builtin.{usize}
 use denote.Memory.{lone, cell_at, part_at, part_of}
 use denote.Steps.{nothing}
-use denote.RawPtr.{Ptr, InBlock, block_ptr, block_of, count_of, ptr_val, at_block}
+use denote.RawPtr.{Ptr, InBlock, block_ptr, null_ptr, block_of, count_of, ptr_val, at_block}
 use denote.Struct.Struct.{within}
 use denote.Struct.Declared as Declared
 use Rattle.core.proofs.mem.Param.{El, R, elτ}
@@ -208,3 +208,9 @@ module _ (E : El) (c : ℕ) where
       let size_is : size (whole_ty E c) ≡ s = (λ i. up (same_align i) (same_end i)) ∙ sym es in
       let align_is : align (whole_ty E c) ≡ a = same_align ∙ sym ea in
       (ap capped size_is ∙ capped_is s fs, ap capped align_is ∙ capped_is a fa)
+
+-- a pointer is null, or it is not
+module _ {M : Type 1} {𝓤 : Ura M} {𝓛 : Logic 𝓤} {K : Type 0} {Γ : List (Item 𝓤)} {G : Goal 𝓤 𝓛.H} where
+  pub in_case : K → (p : Ptr) → (p ≡ null_ptr → Seq K 𝓛 Γ G) → ((b o : ℕ) → p ≡ block_ptr b o → Seq K 𝓛 Γ G) → Seq K 𝓛 Γ G
+  in_case t null_ptr n k = n refl
+  in_case t (block_ptr b o) n k = k b o refl

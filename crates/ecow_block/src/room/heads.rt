@@ -1,15 +1,16 @@
 //! One request: a head, and the places behind it.
-ghost use Rattle.std.specs.Prelude.{◌≡◌, ◌⊎◌, ◌*◌, ◌^◌, ◌<◌, [], IfOk};
+ghost use Rattle.std.specs.Prelude.{◌≡◌, ◌⊎◌, ◌*◌, ◌^◌, ◌<◌, [], IfOk, MatchBool};
 ghost use Rattle.std.specs.Borrow.{sem};
 ghost use Rattle.std.specs.Mem.{type_size};
-ghost use denote.RawPtr.{InBlock};
+ghost use denote.RawPtr.{InBlock, Testable, null_ptr};
 ghost use Rattle.ecow_block.specs.Heads.{whole_size, whole_align};
 ghost use Rattle.ecow_block.specs.TitleLends.{lends_fields};
 ghost use Rattle.ecow_block.specs.Whole.{IsTopOf, IsBehind};
 
 use super::{Base, Fields, Head, Room, Title, Top};
-use std::alloc::{AllocError, Allocator};
+use std::alloc::{AllocError, Allocator, Global};
 use std::marker::PhantomData;
+use std::ptr;
 
 /// Asks `alloc` for a head and `places` places, which take `size` bytes.
 pub(crate) fn make_head<T, A: Allocator>(
@@ -85,4 +86,27 @@ pub(crate) fn fields_mut<T, A: Allocator>(title: &mut Title<T, A>, top: Top<T>) 
 {
     let ptr = top.ptr;
     unsafe { &mut (*ptr).fields }
+}
+
+/// No head.
+pub(crate) fn no_head<T, A: Allocator>(_alloc: &A) -> (Top<T>, Title<T, A>)
+    ensures { (result.0.ptr ≡ null_ptr) × (result.1.at ≡ null_ptr) × (result.1.alloc ≡ _alloc.now) }
+{
+    let ptr = ptr::null::<Head<T>>().cast_mut();
+    (Top { ptr }, Title { mark: PhantomData })
+}
+
+/// Whether there is no head.
+pub(crate) fn is_none<T>(top: Top<T>) -> bool
+    requires { Testable top.ptr }
+    ensures { MatchBool result (top.ptr ≡ null_ptr) (InBlock top.ptr) }
+{
+    top.ptr.is_null()
+}
+
+/// The title. What `Global` gives may be compared with null.
+pub(crate) fn tested<T>(title: Title<T, Global>) -> Title<T, Global>
+    ensures { (result ≡ title) × Testable title.at }
+{
+    title
 }
