@@ -32,12 +32,16 @@ abbrev pub whole_type : RattleType → ℕ → Ty
 whole_type R c =
     ty_struct [] (tcons count_type (tcons (fields_type R) (tcons (array_of R c) tnil)))
 
+-- to what an element is aligned
+abbrev pub item_align : RattleType → ℕ
+item_align R = align (lone R.mir)
+
 -- how many bytes behind the head's first the places begin
 abbrev pub places_offset : RattleType → ℕ
-places_offset R = up (align (lone R.mir)) 32
+places_offset R = up (item_align R) 32
 
 abbrev pub whole_align : RattleType → ℕ
-whole_align R = max 8 (align (lone R.mir))
+whole_align R = max 8 (item_align R)
 
 abbrev pub whole_size : RattleType → ℕ → ℕ
 whole_size R c = up (whole_align R) (places_offset R + c * type_size R)

@@ -50,6 +50,13 @@ pub(crate) struct Room<T> {
     ghost within: { length items ≤ capacity },
 }
 
+impl<T> Room<T> {
+    /// Lets the places go.
+    pub(crate) fn let_go(self) {
+        let Room { mark: _ } = self;
+    }
+}
+
 impl<T> Model for Room<T> {
     ghost also_owns = { λ r. room_owns T.row r.at r.start r.capacity r.items };
 
@@ -63,6 +70,13 @@ pub(crate) struct Deed<T, A: Allocator> {
     ghost at: { Ptr },
     ghost capacity: { ℕ },
     ghost alloc: { A },
+}
+
+impl<T, A: Allocator> Deed<T, A> {
+    /// Lets the right go.
+    pub(crate) fn let_go(self) {
+        let Deed { mark: _ } = self;
+    }
 }
 
 impl<T, A: Allocator> Model for Deed<T, A> {
@@ -123,6 +137,13 @@ pub(crate) struct Title<T, A: Allocator> {
     ghost fields: { Fields T },
     ghost places: { ℕ },
     ghost alloc: { A },
+}
+
+impl<T, A: Allocator> Title<T, A> {
+    /// Lets the head go.
+    pub(crate) fn let_go(self) {
+        let Title { mark: _ } = self;
+    }
 }
 
 impl<T, A: Allocator> Model for Title<T, A> {
