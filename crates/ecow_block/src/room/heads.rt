@@ -88,9 +88,11 @@ pub(crate) fn fields_mut<T, A: Allocator>(title: &mut Title<T, A>, top: Top<T>) 
     unsafe { &mut (*ptr).fields }
 }
 
-/// No head.
-pub(crate) fn no_head<T, A: Allocator>(_alloc: &A) -> (Top<T>, Title<T, A>)
-    ensures { (result.0.ptr ≡ null_ptr) × (result.1.at ≡ null_ptr) × (result.1.alloc ≡ _alloc.now) }
+/// No head, of a block whose places begin at `_base`.
+pub(crate) fn no_head<T, A: Allocator>(_alloc: &A, _base: Base<T>) -> (Top<T>, Title<T, A>)
+    ensures { (result.0.ptr ≡ null_ptr) × (result.1.at ≡ null_ptr) × (result.1.alloc ≡ _alloc.now)
+        × (result.1.fields.base.ptr ≡ _base.ptr) × (result.1.fields.len ≡ 0)
+        × (result.1.fields.capacity ≡ 0) }
 {
     let ptr = ptr::null::<Head<T>>().cast_mut();
     (Top { ptr }, Title { mark: PhantomData })
