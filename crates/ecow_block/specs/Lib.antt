@@ -12,3 +12,4 @@ pub mod formers
 pub mod Heads
 pub mod Whole
 pub mod TitleLends
+pub mod Parts

@@ -4,6 +4,7 @@
 
 pub mod block;
 mod moves;
+mod parts;
 pub mod rest;
 mod room;
 

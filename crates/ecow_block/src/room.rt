@@ -15,7 +15,9 @@ mod heap;
 mod layout;
 mod places;
 
-pub(crate) use heads::{fields, fields_mut, give_back_head, is_none, make_head, no_head, tested};
+pub(crate) use heads::{
+    fields, fields_mut, give_back_head, is_none, make_head, no_head, tested,
+};
 pub(crate) use heap::{give_back, grow, make, nowhere};
 pub(crate) use layout::layout_of;
 
