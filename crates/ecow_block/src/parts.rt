@@ -4,7 +4,7 @@ ghost use Rattle.std.specs.Prelude.{◌≡◌, ◌*◌, ◌^◌, ◌<◌, ◌≤
 ghost use Rattle.std.specs.Vec.Ownership.{FitsInBlock};
 ghost use denote.RawPtr.{InBlock};
 ghost use Rattle.ecow_block.specs.Ownership.{has_bytes};
-ghost use Rattle.ecow_block.specs.Parts.{IsParts, with_len, with_places};
+ghost use Rattle.ecow_block.specs.Parts.{IsBacked, IsHead, IsParts, with_len, with_places};
 
 use crate::room::{
     Base, Deed, Fields, Room, Title, Top, fields, fields_mut, give_back, give_back_head, is_none,
@@ -117,7 +117,9 @@ pub(crate) fn give_back_parts<T>(
     deed: Deed<T, Global>,
     alloc: &Global,
 )
-    requires { IsParts top room title deed alloc.now × (room.items ≡ []) }
+    requires head { IsHead top title alloc.now room.at room.capacity }
+    requires backed { IsBacked room.at room.capacity title deed alloc.now }
+    requires empty { (room.start ≡ 0) × (room.items ≡ []) }
 {
     if is_none(top) {
         room.let_go();
