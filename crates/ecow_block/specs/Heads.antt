@@ -61,6 +61,11 @@ abbrev pub unless_null : Ptr → Fml → Fml
 unless_null (block_ptr b o) F = F
 unless_null null_ptr F = ftrue
 
+-- what a `&` holds by t, and nothing at null
+abbrev pub lent_unless_null : Ptr → (Lft → Fml) → Lft → Fml
+lent_unless_null (block_ptr b o) t = t
+lent_unless_null null_ptr t = nothing
+
 -- the fields x of the head at p, and what is needed beside the count to give a block back that has c
 -- places right behind its head
 abbrev pub head_rest : (Ty → Ptr → Fml) → (R : RattleType) → Ptr → (fields_row R).Denot → ℕ → Fml
@@ -74,5 +79,4 @@ title_owns token R p x c = unless_null p (fsep (head_rest token R p x c) (counte
 
 -- what a `&` to it sees: the fields
 abbrev pub title_shares : (R : RattleType) → Ptr → (fields_row R).Denot → Lft → Fml
-title_shares R (block_ptr b o) x = lent_at (fields_row R) (block_ptr b o +ₚ 8) x
-title_shares R null_ptr x = nothing
+title_shares R p x = lent_unless_null p (lent_at (fields_row R) (p +ₚ 8) x)
