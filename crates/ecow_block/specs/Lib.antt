@@ -13,3 +13,6 @@ pub mod Heads
 pub mod Whole
 pub mod TitleLends
 pub mod Parts
+pub mod Owners
+pub mod OwnerLends
+pub mod Facts

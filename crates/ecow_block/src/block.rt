@@ -18,6 +18,7 @@ use crate::parts::{
     TOGETHER, base_of, give_back_parts, make_parts, no_parts, put_len, put_places, takes_bytes,
 };
 use crate::room::{Deed, Room, Title, Top, fields, grow, is_none};
+use crate::shared::Shared;
 use ecow_base::MAX_LEN;
 use std::alloc::{AllocError, Global};
 use std::marker::Model;
@@ -26,11 +27,11 @@ use std_alloc::room::may_hold;
 
 /// A list of elements, and the number of elements that it has room for. It takes one word.
 pub struct Block<T> {
-    top: Top<T>,
-    room: Room<T>,
-    title: Title<T, Global>,
-    deed: Deed<T, Global>,
-    alloc: Global,
+    pub(crate) top: Top<T>,
+    pub(crate) room: Room<T>,
+    pub(crate) title: Title<T, Global>,
+    pub(crate) deed: Deed<T, Global>,
+    pub(crate) alloc: Global,
 }
 
 impl<T> Model for Block<T> {
@@ -251,6 +252,20 @@ impl<T> Block<T> {
             alloc,
         } = self;
         Rest::of_parts(top, room, title, deed, alloc)
+    }
+
+    /// The first owner of this block. Asks for no memory.
+    pub fn share(self) -> Shared<T>
+        ensures { result ≡ self }
+    {
+        let Block {
+            top,
+            room,
+            title,
+            deed,
+            alloc,
+        } = self;
+        Shared::hold(top, room, title, deed, alloc)
     }
 
     /// Makes room for exactly `capacity` elements. If it is refused, nothing changes; it never is

@@ -7,6 +7,8 @@ mod moves;
 mod parts;
 pub mod rest;
 mod room;
+pub mod shared;
 
 pub use block::Block;
 pub use rest::Rest;
+pub use shared::Shared;

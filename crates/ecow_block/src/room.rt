@@ -44,7 +44,7 @@ impl<T> Copy for Base<T> {}
 /// Some places of a block, side by side: the first of them hold the items, the others are empty.
 /// `at` is where the block begins, and `start` the number of the first place. It takes no space.
 pub(crate) struct Room<T> {
-    mark: PhantomData<*const T>,
+    pub(crate) mark: PhantomData<*const T>,
     ghost at: { Ptr },
     ghost start: { ℕ },
     ghost items: { List T },
@@ -68,7 +68,7 @@ impl<T> Model for Room<T> {
 /// The right to give a block of `capacity` places back to `alloc`, if it was asked of it. It takes
 /// no space.
 pub(crate) struct Deed<T, A: Allocator> {
-    mark: PhantomData<*const (T, A)>,
+    pub(crate) mark: PhantomData<*const (T, A)>,
     ghost at: { Ptr },
     ghost capacity: { ℕ },
     ghost alloc: { A },
@@ -109,13 +109,13 @@ impl<T> Copy for Fields<T> {}
 
 /// What a block has beside its places: how many owners there are, and the fields.
 pub(crate) struct Head<T> {
-    count: usize,
+    pub(crate) count: usize,
     fields: Fields<T>,
 }
 
 /// Where a head is, or null, where there is no block. It owns nothing.
 pub(crate) struct Top<T> {
-    ptr: *mut Head<T>,
+    pub(crate) ptr: *mut Head<T>,
 }
 
 impl<T> Clone for Top<T> {
@@ -134,7 +134,7 @@ impl<T> Copy for Top<T> {}
 /// `alloc`: the head's, and that of as many places right behind it. It takes no space, and is
 /// nothing at null.
 pub(crate) struct Title<T, A: Allocator> {
-    mark: PhantomData<*const (T, A)>,
+    pub(crate) mark: PhantomData<*const (T, A)>,
     ghost at: { Ptr },
     ghost fields: { Fields T },
     ghost places: { ℕ },

@@ -2,12 +2,10 @@
 use Rattle.std.specs.Prelude.{◌≡◌, ℕ, List, []}
 use mathlib.Core.Path.{refl, sym, ◌∙◌}
 use mathlib.Core.Former.{Former, this, const, pair, list, via, children}
-use native.Mathlib.Nat.{ℕ_set}
-use native.Mathlib.Bridge.{le_prop}
 use lib.ListN.{length-map}
-use base.Stored.{Gv, gcons, Coded-set}
+use base.Stored.{Gv, gcons}
 use denote.RattleType.{RattleType}
-use denote.RawPtr.{Ptr, InBlock, block_ptr, null_ptr, coded_ptr}
+use denote.RawPtr.{Ptr}
 use denote.HoleLaws.{Alike}
 use denote.HolePlaces.{Recodes, struct_places, laid}
 use denote.Hole.Carrier.{listed, list-listed}
@@ -20,6 +18,7 @@ use Rattle.std.specs.contracts.alloc.Global as heap
 use Rattle.std.specs.contracts.impls.GlobalAllocator.TheImpl.{ghosts}
 use Rattle.std_alloc.specs.Vec.Recursive.{codes_placed}
 use Rattle.ecow_block.specs.Contents.{Contents, contents}
+use Rattle.ecow_block.specs.Facts.{IsBlock-prop}
 use Rattle.ecow_block.specs.Fields.{IsBlock}
 use Rattle.ecow_block.specs.Parts.{IsHead, IsBacked}
 use Rattle.ecow_block.specs.declared.block.Block.TheInside.{Inside}
@@ -77,41 +76,6 @@ fields = via (pair (const Rest) (room.the_former this)) Inside
       alloc = v.0.3;
     })
     (λ X b. refl) (λ X v. refl)
-
-InBlock-prop : (p : Ptr) (x y : InBlock p) → x ≡ y
-InBlock-prop (block_ptr b o) x y = refl
-InBlock-prop null_ptr x y = absurd x
-
-pub IsBlock-prop : {X : Type 0} (b : Inside X) → IsProp (IsBlock b)
-IsBlock-prop b p q = λ i. record {
-  head = record {
-    at = Coded-set coded_ptr _ _ p.head.at q.head.at i;
-    alloc_same = Coded-set heap.the_row.coded _ _ p.head.alloc_same q.head.alloc_same i;
-    base = Coded-set coded_ptr _ _ p.head.base q.head.base i;
-    capacity = ℕ_set _ _ p.head.capacity q.head.capacity i;
-    small = le_prop p.head.small q.head.small i;
-    testable = le_prop p.head.testable q.head.testable i;
-    none = λ e. ℕ_set _ _ (p.head.none e) (q.head.none e) i;
-    headed = λ e. InBlock-prop b.top.ptr (p.head.headed e) (q.head.headed e) i;
-  };
-  start = ℕ_set _ _ p.start q.start i;
-  len = ℕ_set _ _ p.len q.len i;
-  backed = record {
-    few = λ e f. record {
-      at = Coded-set coded_ptr _ _ (p.backed.few e f).at (q.backed.few e f).at i;
-      places = ℕ_set _ _ (p.backed.few e f).places (q.backed.few e f).places i;
-    };
-    many = λ e. record {
-      places = ℕ_set _ _ (p.backed.many e).places (q.backed.many e).places i;
-      deed_at = Coded-set coded_ptr _ _ (p.backed.many e).deed_at (q.backed.many e).deed_at i;
-      deed_capacity =
-          ℕ_set _ _ (p.backed.many e).deed_capacity (q.backed.many e).deed_capacity i;
-      deed_alloc =
-          Coded-set heap.the_row.coded _ _ (p.backed.many e).deed_alloc (q.backed.many e).deed_alloc
-          i;
-    };
-  };
-}
 
 module _ {X Y : Type 0} (h : X → Y) (b : Inside X) where
   abbrev mapped : Inside Y

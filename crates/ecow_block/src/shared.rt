@@ -1,0 +1,192 @@
+//! Owners of a block. The count of owners is touched here alone.
+ghost use Rattle.std.specs.Prelude.{◌≡◌, [], IfSome, MatchOption};
+ghost use Rattle.std.specs.Borrow.{sem};
+ghost use Rattle.ecow_block.specs.Contents.{contents};
+ghost use Rattle.std.specs.Coded.{prop_coded};
+ghost use Rattle.ecow_block.specs.Facts.{IsOwner-prop};
+ghost use Rattle.ecow_block.specs.Owners.{IsOwner};
+ghost use Rattle.ecow_block.specs.declared.block.Block.TheInside.{Inside as BlockParts};
+
+use crate::block::Block;
+use crate::room::{Deed, Room, Title, Top};
+use std::alloc::{AllocError, Global};
+use std::marker::{Model, PhantomData};
+
+/// Stands where a block has a part that takes no space. It owns nothing.
+struct Nil<T> {
+    mark: PhantomData<*const T>,
+}
+
+/// An owner of a block that may have others. It takes one word, and lies in memory as a block does. A
+/// block without places has no other owner.
+pub struct Shared<T> {
+    top: Top<T>,
+    room: Nil<T>,
+    title: Nil<T>,
+    deed: Nil<T>,
+    alloc: Global,
+    ghost inside: { BlockParts T },
+    ghost is_owner: { IsOwner top alloc inside } by { prop_coded (IsOwner-prop top alloc inside) },
+}
+
+impl<T> Model for Shared<T> {
+    ghost use Rattle.ecow_block.specs.Contents.{Contents, contents, contents_code};
+    ghost use Rattle.ecow_block.specs.Owners.{owner_owns, owner_lends};
+
+    ghost Value = { Contents T };
+
+    ghost coded = { contents_code T.code };
+
+    ghost view = { λ s. contents s.inside.room.items s.inside.room.capacity };
+
+    ghost also_owns = { λ s. owner_owns T.row s.inside };
+
+    ghost also_shares = { λ s _ κ. owner_lends T.row s.inside κ };
+}
+
+impl<T> Shared<T> {
+    ghost use Rattle.ecow_block.specs.OwnerLends.{lends_block};
+    ghost use Rattle.ecow_block.specs.Parts.{IsParts};
+
+    /// The first owner of a block of these parts.
+    pub(crate) fn hold(
+        top: Top<T>,
+        room: Room<T>,
+        title: Title<T, Global>,
+        deed: Deed<T, Global>,
+        alloc: Global,
+    ) -> Shared<T>
+        requires { IsParts top room title deed alloc }
+        ensures { result ≡ contents room.items room.capacity }
+    {
+        let Room { mark: _ } = room;
+        let Title { mark: _ } = title;
+        let Deed { mark: _ } = deed;
+        Shared {
+            top,
+            room: Nil { mark: PhantomData },
+            title: Nil { mark: PhantomData },
+            deed: Nil { mark: PhantomData },
+            alloc,
+        }
+    }
+
+    /// The block, if it has places.
+    pub fn get(&self) -> Option<&Block<T>>
+        ensures { MatchOption result (self.now ≡ contents [] 0) (λ block. block.now ≡ self.now) }
+    {
+        if self.top.ptr.is_null() {
+            return None;
+        }
+        Some(unsafe { &*(&raw const *self as *const Block<T>) })
+    }
+
+    /// The block, for writing, if it has places and this is its sole owner. Another block may be put
+    /// in its place.
+    pub fn get_mut(this: &mut Shared<T>) -> Option<&mut Block<T>>
+        ensures* writes_back { sem 𝓛 (lends_block T.row this.entry result) }
+        ensures value { IfSome result (λ block. this.old ≡ block.now) }
+    {
+        let ptr = this.top.ptr;
+        if ptr.is_null() {
+            return None;
+        }
+        unsafe {
+            let count = (*ptr).count;
+            if count != 1 {
+                return None;
+            }
+            Some(&mut *(&raw mut *this as *mut Block<T>))
+        }
+    }
+
+    /// One more owner of the same block, or `None` where there are 2^64 - 1.
+    fn another(&self) -> Option<Shared<T>>
+        ensures { IfSome result (λ other. other ≡ self.now) }
+    {
+        let (top, alloc) = (self.top, self.alloc);
+        let ptr = top.ptr;
+        if !ptr.is_null() {
+            unsafe {
+                let count = (*ptr).count;
+                if count == usize::MAX {
+                    return None;
+                }
+                (*ptr).count = count + 1;
+            }
+        }
+        Some(Shared {
+            top,
+            room: Nil { mark: PhantomData },
+            title: Nil { mark: PhantomData },
+            deed: Nil { mark: PhantomData },
+            alloc,
+        })
+    }
+
+    /// Gives this owner up. The last one gets the block, if it has places.
+    fn leave(self) -> Option<Block<T>>
+        ensures { IfSome result (λ block. block ≡ self) }
+    {
+        let Shared {
+            top,
+            room: Nil { mark: _ },
+            title: Nil { mark: _ },
+            deed: Nil { mark: _ },
+            alloc,
+        } = self;
+        let ptr = top.ptr;
+        if ptr.is_null() {
+            return None;
+        }
+        unsafe {
+            let count = (*ptr).count;
+            if count != 1 {
+                (*ptr).count = count - 1;
+                return None;
+            }
+        }
+        Some(Block {
+            top,
+            room: Room { mark: PhantomData },
+            title: Title { mark: PhantomData },
+            deed: Deed { mark: PhantomData },
+            alloc,
+        })
+    }
+}
+
+impl<T> Shared<T> {
+    /// An owner of a block without places. Takes no memory.
+    pub fn none(alloc: Global) -> Shared<T>
+        ensures { result ≡ contents [] 0 }
+    {
+        Block::new(alloc).share()
+    }
+}
+
+impl<T: Drop> Drop for Shared<T> {
+    #[inline]
+    fn drop(self) {
+        if let Some(block) = self.leave() {
+            drop_last(block);
+        }
+    }
+}
+
+/// Out of line, so that the drop of any other owner is inlined.
+#[inline(never)]
+fn drop_last<T: Drop>(block: Block<T>) {
+    drop(block);
+}
+
+impl<T: Drop> Clone for Shared<T> {
+    ghost is_clone = { λ s t. t ≡ s };
+
+    fn clone(&self) -> Result<Shared<T>, AllocError> {
+        match self.another() {
+            Some(other) => Ok(other),
+            None => Err(AllocError),
+        }
+    }
+}
