@@ -9,3 +9,4 @@ pub mod Bytes
 pub mod Cloned
 pub mod Heads
 pub mod Lent
+pub mod Settling
