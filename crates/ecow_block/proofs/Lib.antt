@@ -10,3 +10,5 @@ pub mod Cloned
 pub mod Heads
 pub mod Lent
 pub mod Settling
+pub mod Owners
+pub mod Counting

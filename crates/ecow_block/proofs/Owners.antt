@@ -1,0 +1,179 @@
+-- An owner and a block, which lie in memory alike: they are taken apart and made, at any element type. Assumes `Logic`.
+--     heap_val, heap_had, heap_made      the allocator's handle, which is one value
+--     laid, laid-Good      the one machine value of an owner, and of a block, at p
+--     data_had, data_made      the fields of an owner
+--     owner_had, owner_made      an owner by value
+--     block_had, block_made      a block by value: [the deed's right; the title's; the room's]
+--     to_sole, of_sole      a block with a head is what a sole owner has
+use mathlib.Core.Path.{◌≡◌, refl, sym, subst, ◌∙◌}
+use mathlib.Core.Bool.{Bool}
+use Prim.Native.Nat.{ℕ, ◌+◌, ◌^◌}
+use mathlib.Core.List.{List, [], ◌∷◌, ◌++◌}
+use seplogic.Ra.Ura.{Ura}
+use lib.Dec.{lit<}
+use base.Fraction.{full_share}
+use base.Fml.{Fml, ftrue, fsep, fex, flt}
+use mir.Syntax.{Ty, Sym}
+use mir.Val.{Val, vstruct, vcons, vnil, vunit, of_list}
+use types.Logic.{Logic}
+use types.Kit.{Goal, Step, step, Seq, Item, ‵, ◌$◌, move, drop, use0, rewrite, fsplit, fjoin, fpick, fpack, feq_l, feq_i}
+use denote.Builtin.{unit}
+use denote.Laws.{Is, Tells, shows}
+use denote.Memory.{lone}
+use denote.RattleType.{RattleType, Valss}
+use denote.RawPtr.{Ptr, RawPtr, block_ptr}
+use denote.Steps.{nothing, peeks}
+use denote.Struct.Declared as Declared
+use denote.Struct.Laws as LL
+use denote.Struct.Owning.{shape, to}
+use denote.Struct.Struct.{Shape, Struct, within, as_fields}
+use Rattle.core.proofs.mem.Param.{El, R}
+use Rattle.core.specs.contracts.rt.Memory as memory
+use Rattle.std.proofs.alloc.Global.TheLaws as heap_laws
+use Rattle.std.specs.contracts.alloc.Global as heap
+use Rattle.std.specs.contracts.impls.GlobalAllocator.TheImpl.{ghosts}
+use Rattle.std_alloc.proofs.RcSteps.{Good, word, word-Good}
+use Rattle.std_alloc.specs.Rc.Ownership.{counter_at}
+use Rattle.ecow_block.specs.Contents.{Contents, contents}
+use Rattle.ecow_block.specs.Fields.{IsBlock}
+use Rattle.ecow_block.specs.Heads.{head_rest, title_owns, unless_null}
+use Rattle.ecow_block.specs.Ownership.{room_owns, deed_owns}
+use Rattle.ecow_block.specs.Owners.{head_at, counts, kept, sole_owns, shared_owns, owner_owns}
+use Rattle.ecow_block.specs.contracts.block.Block as B
+use Rattle.ecow_block.specs.contracts.block.Block.TheInside as BI
+use Rattle.ecow_block.specs.contracts.shared.Shared as S
+use Rattle.ecow_block.specs.contracts.shared.Shared.TheInside as SI
+use Rattle.ecow_block.proofs.Memory.{Mark, mark, mark_had, mark_made}
+use Rattle.ecow_block.proofs.Heads.{Tp, top_had, top_made}
+
+abbrev pub memory_val : Val
+memory_val = vstruct (vcons vunit vnil)
+
+abbrev pub heap_val : Val
+heap_val = vstruct (vcons memory_val vnil)
+
+heap_Tells : Tells heap.the_row (Is heap.the_row) (λ _. heap_val ∷ [])
+heap_Tells = LL.tells heap.the_type heap_laws.the_laws
+
+module _ {M : Type 1} {𝓤 : Ura M} {𝓛 : Logic 𝓤} {K : Type 0} {Γ : List (Item 𝓤)} {G : Goal 𝓤 𝓛.H} where
+  pub heap_had : K → (h : heap.the_row.Denot) (vs : List Val) → (vs ≡ heap_val ∷ [] → Seq K 𝓛 Γ G) → Seq K 𝓛 (‵ (heap.the_row.own_val h vs) ∷ Γ) G
+  heap_had t h vs k = peeks t heap.the_row (Is heap.the_row) (shows 𝓛 heap.the_row) h vs (λ is. drop t $ k (heap_Tells h vs is))
+
+  pub heap_made : K → (h : heap.the_row.Denot) → Step K 𝓛 (‵ (heap.the_row.own_val h (heap_val ∷ [])) ∷ Γ) G Γ G
+  heap_made t h = step (λ s.
+      let Plain = Declared.shape heap.the_type in let Inner = Declared.shape memory.the_type in
+      nothing t $ nothing t $ feq_i t (List Val) (vunit ∷ []) (vunit ∷ []) refl $ fjoin t $ feq_i t (List Val) (memory_val ∷ []) (memory_val ∷ []) refl $ fjoin t $
+      fpack t (Valss Inner.fields) (within Inner (tt, tt) (memory_val ∷ [])) (vunit ∷ [], tt) $ fjoin t $ feq_i t (List Val) (heap_val ∷ []) (heap_val ∷ []) refl $ fjoin t $
+      fpack t (Valss Plain.fields) (within Plain ((tt, tt), tt) (heap_val ∷ [])) (memory_val ∷ [], tt) $ s)
+
+-- the machine value of an owner, and of a block, at p
+abbrev pub laid : Ptr → Val
+laid p = vstruct (vcons (word p) (vcons mark (vcons mark (vcons mark (vcons heap_val vnil)))))
+
+module _ (E : El) where
+  abbrev pub Sh : RattleType
+  Sh = S.the_row (R E)
+
+  abbrev pub Si : RattleType
+  Si = SI.the_row (R E)
+
+  abbrev pub Bk : RattleType
+  Bk = B.the_row (R E)
+
+  abbrev pub Bi : RattleType
+  Bi = BI.the_row (R E)
+
+  -- the fields of an owner that are there when the program runs
+  abbrev pub Data : RattleType
+  Data = Struct (shape (SI.the_type (R E)))
+
+  abbrev pub data_of : Si.Denot → Data.Denot
+  data_of s = to (SI.the_type (R E)) s
+
+  abbrev pub data_ty : Ty
+  data_ty = lone Data.mir
+
+  pub laid-Good : (p : Ptr) → Good data_ty (laid p)
+  laid-Good p = as_fields (lone (Tp E).mir ∷ lone (Mark E).mir ∷ lone (Mark E).mir ∷ lone (Mark E).mir ∷ lone heap.the_row.mir ∷ []) (word p ∷ mark ∷ mark ∷ mark ∷ heap_val ∷ [])
+      (word-Good [] p, ((tt, (tt, tt)), ((tt, (tt, tt)), ((tt, (tt, tt)), ((tt, ((tt, tt), tt)), tt)))))
+
+module _ (E : El) {M : Type 1} {𝓤 : Ura M} {𝓛 : Logic 𝓤} {K : Type 0} {Γ : List (Item 𝓤)} {G : Goal 𝓤 𝓛.H} where
+  pub data_had : K → (s : (Si E).Denot) (vs : List Val) → (vs ≡ laid s.top.ptr ∷ [] → Seq K 𝓛 Γ G) → Seq K 𝓛 (‵ ((Data E).own_val (data_of E s) vs) ∷ Γ) G
+  data_had t s vs k = fpick t (λ vss. fsplit t $ feq_l t (λ whole.
+      fsplit t $ top_had E t s.top vss.0 (λ e₀. fsplit t $ mark_had E t vss.1.0 (λ e₁. fsplit t $ mark_had E t vss.1.1.0 (λ e₂. fsplit t $ mark_had E t vss.1.1.1.0 (λ e₃.
+      fsplit t $ heap_had t s.alloc vss.1.1.1.1.0 (λ e₄. drop t $ k (whole ∙ (λ j. vstruct (of_list (e₀ j ++ (e₁ j ++ (e₂ j ++ (e₃ j ++ (e₄ j ++ [])))))) ∷ [])))))))))
+
+  pub data_made : K → (s : (Si E).Denot) → Step K 𝓛 (‵ ((Data E).own_val (data_of E s) (laid s.top.ptr ∷ [])) ∷ Γ) G Γ G
+  data_made t s = step (λ k.
+      let Plain : Shape = shape (SI.the_type (R E)) in let v : Val = laid s.top.ptr in
+      nothing t $ heap_made t s.alloc $ fjoin t $ use0 𝓛 (‵ ((Mark E).own_val (tt, tt) (mark ∷ []))) (mark_made E 𝓛) $ fjoin t $
+      use0 𝓛 (‵ ((Mark E).own_val (tt, tt) (mark ∷ []))) (mark_made E 𝓛) $ fjoin t $ use0 𝓛 (‵ ((Mark E).own_val (tt, tt) (mark ∷ []))) (mark_made E 𝓛) $ fjoin t $
+      top_made E t s.top.ptr $ fjoin t $ feq_i t (List Val) (v ∷ []) (v ∷ []) refl $ fjoin t $
+      fpack t (Valss Plain.fields) (within Plain (data_of E s) (v ∷ [])) (word s.top.ptr ∷ [], (mark ∷ [], (mark ∷ [], (mark ∷ [], (heap_val ∷ [], tt))))) $ k)
+
+module _ (E : El) {M : Type 1} {𝓤 : Ura M} {𝓛 : Logic 𝓤} {K : Type 0} {Γ : List (Item 𝓤)} {G : Goal 𝓤 𝓛.H} where
+  -- [what is owned beside the fields]
+  pub owner_had : K → (d : (Sh E).Denot) (vs : List Val)
+      → ((s : (Si E).Denot) → contents s.inside.room.items s.inside.room.capacity ≡ d → vs ≡ laid s.top.ptr ∷ [] → Seq K 𝓛 (‵ (owner_owns (R E) s.inside) ∷ Γ) G)
+      → Seq K 𝓛 (‵ ((Sh E).own_val d vs) ∷ Γ) G
+  owner_had t d vs k = fpick t (λ x. fsplit t $ move t (1 ∷ []) $ drop t $ fsplit t $ data_had E t x.0 vs (λ e. k x.0 x.1.0 e))
+
+  pub owner_made : K → (s : (Si E).Denot)
+      → Step K 𝓛 (‵ ((Sh E).own_val (contents s.inside.room.items s.inside.room.capacity) (laid s.top.ptr ∷ [])) ∷ Γ) G (‵ (owner_owns (R E) s.inside) ∷ Γ) G
+  owner_made t s = step (λ k. let d : (Sh E).Denot = contents s.inside.room.items s.inside.room.capacity in
+      data_made E t s $ fjoin t $ nothing t $ move t (1 ∷ 0 ∷ []) $ fjoin t $
+      fpack t ((a : (Si E).Denot) × ((contents a.inside.room.items a.inside.room.capacity ≡ d) × Unit {0})) (λ x. fsep ((Si E).own_val x.0 (laid s.top.ptr ∷ [])) ftrue) (s, (refl, tt)) $ k)
+
+-- what a block owns beside its fields
+module _ (E : El) (i : (Bi E).Denot) where
+  abbrev pub titled : Fml
+  titled = title_owns (ghosts.dealloc_token i.title.alloc) (R E) i.title.at i.title.fields i.title.places
+
+  abbrev pub rest_at : Ptr → Fml
+  rest_at p = head_rest (ghosts.dealloc_token i.title.alloc) (R E) p i.title.fields i.title.places
+
+  abbrev pub title_at : Ptr → Fml
+  title_at p = title_owns (ghosts.dealloc_token i.title.alloc) (R E) p i.title.fields i.title.places
+
+  abbrev pub roomed : Fml
+  roomed = room_owns (R E) i.room.at i.room.start i.room.capacity i.room.items
+
+  abbrev pub deeded : Fml
+  deeded = deed_owns (ghosts.dealloc_token i.deed.alloc) (R E) i.deed.at i.deed.capacity
+
+module _ (E : El) {M : Type 1} {𝓤 : Ura M} {𝓛 : Logic 𝓤} {K : Type 0} {Γ : List (Item 𝓤)} {G : Goal 𝓤 𝓛.H} where
+  pub block_had : K → (d : (Bk E).Denot) (vs : List Val)
+      → ((i : (Bi E).Denot) → contents i.room.items i.room.capacity ≡ d → IsBlock i → vs ≡ laid i.top.ptr ∷ [] → Seq K 𝓛 (‵ (deeded E i) ∷ ‵ (titled E i) ∷ ‵ (roomed E i) ∷ Γ) G)
+      → Seq K 𝓛 (‵ ((Bk E).own_val d vs) ∷ Γ) G
+  block_had t d vs k = fpick t (λ x. fsplit t $ move t (1 ∷ []) $ drop t $ let i = x.0 in fpick t (λ vss. fsplit t $ feq_l t (λ whole.
+      fsplit t $ top_had E t i.top vss.0 (λ e₀. fsplit t $ fsplit t $ mark_had E t vss.1.0 (λ e₁. move t (1 ∷ []) $ fsplit t $ fsplit t $ mark_had E t vss.1.1.0 (λ e₂. move t (1 ∷ []) $
+      fsplit t $ fsplit t $ mark_had E t vss.1.1.1.0 (λ e₃. move t (1 ∷ []) $ fsplit t $ heap_had t i.alloc vss.1.1.1.1.0 (λ e₄. drop t $
+      k i x.1.0 x.1.1 (whole ∙ (λ j. vstruct (of_list (e₀ j ++ (e₁ j ++ (e₂ j ++ (e₃ j ++ (e₄ j ++ [])))))) ∷ []))))))))))
+
+  pub block_made : K → (i : (Bi E).Denot) → IsBlock i
+      → Step K 𝓛 (‵ ((Bk E).own_val (contents i.room.items i.room.capacity) (laid i.top.ptr ∷ [])) ∷ Γ) G (‵ (deeded E i) ∷ ‵ (titled E i) ∷ ‵ (roomed E i) ∷ Γ) G
+  block_made t i is = step (λ k.
+      let Plain : Shape = Declared.shape (BI.the_type (R E)) in let v : Val = laid i.top.ptr in let d : (Bk E).Denot = contents i.room.items i.room.capacity in
+      nothing t $ heap_made t i.alloc $ fjoin t $ move t (1 ∷ []) $ use0 𝓛 (‵ ((Mark E).own_val (tt, tt) (mark ∷ []))) (mark_made E 𝓛) $ fjoin t $ fjoin t $
+      move t (1 ∷ []) $ use0 𝓛 (‵ ((Mark E).own_val (tt, tt) (mark ∷ []))) (mark_made E 𝓛) $ fjoin t $ fjoin t $
+      move t (1 ∷ []) $ use0 𝓛 (‵ ((Mark E).own_val (tt, tt) (mark ∷ []))) (mark_made E 𝓛) $ fjoin t $ fjoin t $
+      top_made E t i.top.ptr $ fjoin t $ feq_i t (List Val) (v ∷ []) (v ∷ []) refl $ fjoin t $
+      fpack t (Valss Plain.fields) (within Plain ((i.top.ptr, tt), (i.room, (i.title, (i.deed, (((tt, tt), tt), tt))))) (v ∷ [])) (word i.top.ptr ∷ [], (mark ∷ [], (mark ∷ [], (mark ∷ [], (heap_val ∷ [], tt))))) $
+      nothing t $ move t (1 ∷ 0 ∷ []) $ fjoin t $
+      fpack t ((a : (Bi E).Denot) × ((contents a.room.items a.room.capacity ≡ d) × IsBlock a)) (λ x. fsep ((Bi E).own_val x.0 (v ∷ [])) ftrue) (i, (refl, is)) $ k)
+
+-- a block with a head is what a sole owner has
+module _ (E : El) (i : (Bi E).Denot) (is : IsBlock i) (b o : ℕ) (at_b : i.top.ptr ≡ block_ptr b o) {M : Type 1} {𝓤 : Ura M} {𝓛 : Logic 𝓤} {K : Type 0} {Γ : List (Item 𝓤)} {G : Goal 𝓤 𝓛.H} where
+  pub to_sole : K → Step K 𝓛 (‵ (sole_owns (R E) i) ∷ Γ) G (‵ (deeded E i) ∷ ‵ (titled E i) ∷ ‵ (roomed E i) ∷ Γ) G
+  to_sole t = step (λ s.
+      rewrite t 1 (λ (p : Ptr). ‵ (title_at E i p)) (is.head.at ∙ at_b) refl $ move t (1 ∷ []) $ fsplit t $
+      -- [the head; the count; the deed; the room]
+      rewrite t 0 (λ (p : Ptr). ‵ (rest_at E i p)) (sym at_b) refl $ rewrite t 1 (λ (p : Ptr). ‵ (counter_at p 0 1)) (sym at_b) refl $
+      move t (0 ∷ 3 ∷ []) $ fjoin t $ move t (0 ∷ 2 ∷ []) $ fjoin t $ move t (1 ∷ 0 ∷ []) $ fjoin t $ s)
+
+  pub of_sole : K → Step K 𝓛 (‵ (deeded E i) ∷ ‵ (titled E i) ∷ ‵ (roomed E i) ∷ Γ) G (‵ (sole_owns (R E) i) ∷ Γ) G
+  of_sole t = step (λ s.
+      fsplit t $ move t (1 ∷ []) $ fsplit t $ fsplit t $
+      -- [the head; the room; the deed; the count]
+      rewrite t 0 (λ (p : Ptr). ‵ (rest_at E i p)) at_b refl $ rewrite t 3 (λ (p : Ptr). ‵ (counter_at p 0 1)) at_b refl $
+      move t (0 ∷ 3 ∷ []) $ fjoin t $ rewrite t 0 (λ (p : Ptr). ‵ (title_at E i p)) (sym (is.head.at ∙ at_b)) refl $ move t (2 ∷ 0 ∷ 1 ∷ []) $ s)
