@@ -78,11 +78,8 @@ module _ (E : El) (s : (Si E).Denot) where
   Back 𝓛 κ q b o i r q' = ‵ (fobor κ (Share.left q) (flft (i ∷ []) r)) ⊛ Shut 𝓛 κ (Share.right q) (part_at (Data E) q' (data_of E s) b o)
 
 module _ (E : El) (i : (Bi E).Denot) {M : Type 1} {𝓤 : Ura M} {𝓛 : Logic 𝓤} {K : Type 0} {Γ : List (Item 𝓤)} {G : Goal 𝓤 𝓛.H} where
-  abbrev owned_at : Ptr → Fml
-  owned_at p = unless_null p (shared_owns (R E) i)
-
   -- an owner of no block, or of one with a head
-  pub cases : K → (p : Ptr) → (p ≡ null_ptr → Seq K 𝓛 Γ G) → ((b o : ℕ) → p ≡ block_ptr b o → Seq K 𝓛 (‵ (shared_owns (R E) i) ∷ Γ) G) → Seq K 𝓛 (‵ (owned_at p) ∷ Γ) G
+  pub cases : K → (p : Ptr) → (p ≡ null_ptr → Seq K 𝓛 Γ G) → ((b o : ℕ) → p ≡ block_ptr b o → Seq K 𝓛 (‵ (shared_owns (R E) i) ∷ Γ) G) → Seq K 𝓛 (‵ (unless_null p (shared_owns (R E) i)) ∷ Γ) G
   cases t null_ptr n k = drop t $ n refl
   cases t (block_ptr b o) n k = k b o refl
 
@@ -96,15 +93,15 @@ module _ (E : El) (i : (Bi E).Denot) {M : Type 1} {𝓤 : Ura M} {𝓛 : Logic �
 
 -- an owner's machine value, through a `&`
 module _ (E : El) (s : (Si E).Denot) {M : Type 1} {𝓤 : Ura M} {𝓛 : Logic 𝓤} {K : Type 0} {Γ : List (Item 𝓤)} {G : Goal 𝓤 𝓛.H} where
-  -- [the value; what shuts]
+  -- [the value; what shuts; what the `&` holds]
   pub reads : K → Soaks G → {κ : Lft} {q : Share} (b o : ℕ)
-      → ((q' : Share) → Seq K 𝓛 (‵ (fat q' (data_ty E) b o (laid s.top.ptr)) ∷ Shut 𝓛 κ q (part_at (Data E) q' (data_of E s) b o) ∷ Γ) G)
+      → ((q' : Share) → Seq K 𝓛 (‵ (fat q' (data_ty E) b o (laid s.top.ptr)) ∷ Shut 𝓛 κ q (part_at (Data E) q' (data_of E s) b o) ∷ ‵ (hidden_shr (Data E) κ (data_of E s) b o) ∷ Γ) G)
       → Seq K 𝓛 (‵ (hidden_shr (Data E) κ (data_of E s) b o) ∷ ‵ (flft κ q) ∷ Γ) G
   reads t z b o k =
       let none = (field_copy (nil.the_type (R E)) (field_copy (marker.the_type RawPtr) tt, tt)).copied M 𝓤 𝓛 in
       let copied : Copied 𝓛 (Data E) = Struct-Copied 𝓛 (shape (SI.the_type (R E))) (refl, (refl, (refl, (refl, (refl, tt)))))
           ((field_copy (top.the_type (R E)) (RawPtr-copy, tt)).copied M 𝓤 𝓛, (none, (none, (none, ((field_copy heap.the_type heap_laws.the_copy).copied M 𝓤 𝓛, tt))))) in
-      looks t z (Data E) copied.opens (data_of E s) b o (λ q' vs. move t (3 ∷ []) $ drop t $ move t (1 ∷ []) $ data_had E t s vs (λ e.
+      looks t z (Data E) copied.opens (data_of E s) b o (λ q' vs. move t (1 ∷ []) $ data_had E t s vs (λ e.
       rewrite t 0 (λ (us : List Val). ‵ (cell_at q' (Data E).mir us b o)) e refl $ use1 𝓛 (‵ (fat q' (data_ty E) b o (laid s.top.ptr))) (𝓛.laws.raw_at q' (data_ty E) b o (laid s.top.ptr)) $ k q'))
 
   pub read : K → Soaks G → {κ : Lft} {q : Share} (b o : ℕ) (q' : Share)
@@ -169,7 +166,7 @@ module _ (E : El) (s : (Si E).Denot) (κ : Lft) (q : Share) (b o : ℕ) {M : Typ
       → ((a : Id) (r q' : Share) → Seq K 𝓛 (‵ (flft (a.0 ∷ []) r) ∷ ‵ (box E s.inside a) ∷ ‵ (fat q' (data_ty E) b o (laid s.top.ptr)) ∷ Back E s 𝓛 κ q b o a.0 r q' ∷ ‵ (box E s.inside a) ∷ ‵ (seen (R E) s.inside (a.0 ∷ [])) ∷ Γ) G)
       → Seq K 𝓛 (‵ (hidden_shr (Data E) κ (data_of E s) b o) ∷ ‵ (fhide (shared_lends (R E) s.inside κ)) ∷ ‵ (flft κ q) ∷ Γ) G
   lent_out t z k =
-      move t (2 ∷ []) $ use1 𝓛 (‵ (flft κ (Share.left q)) ⊛ ‵ (flft κ (Share.right q))) (𝓛.lfts.lft_split κ q) $ split t $ move t (2 ∷ 1 ∷ []) $ reads E s t z b o (λ q'.
+      move t (2 ∷ []) $ use1 𝓛 (‵ (flft κ (Share.left q)) ⊛ ‵ (flft κ (Share.right q))) (𝓛.lfts.lft_split κ q) $ split t $ move t (2 ∷ 1 ∷ []) $ reads E s t z b o (λ q'. move t (2 ∷ []) $ drop t $
       move t (3 ∷ []) $ unhide t $ fpick t (λ a. fsplit3 t $ move t (0 ∷ 5 ∷ []) $ shr_bor-open t z (tokens_halve 𝓛 (a.0 ∷ [])) (λ r.
       move t (0 ∷ 5 ∷ []) $ join t $ move t (2 ∷ []) $ box_twice E s.inside t a $ move t (3 ∷ 0 ∷ 5 ∷ 2 ∷ 1 ∷ 4 ∷ []) $ k a r q')))
 

@@ -7,21 +7,25 @@
 --     to_sole, of_sole      a block with a head is what a sole owner has
 use mathlib.Core.Path.{◌≡◌, refl, sym, subst, ◌∙◌}
 use mathlib.Core.Bool.{Bool}
-use Prim.Native.Nat.{ℕ, ◌+◌, ◌^◌}
+use Prim.Native.Nat.{ℕ, ◌+◌, ◌≤◌}
+use native.Mathlib.Omega.{arith}
+use lib.ListN.{length}
 use mathlib.Core.List.{List, [], ◌∷◌, ◌++◌}
 use seplogic.Ra.Ura.{Ura}
 use lib.Dec.{lit<}
 use base.Fraction.{full_share}
-use base.Fml.{Fml, ftrue, fsep, fex, flt}
+use base.Fml.{Lft, Fml, ftrue, fsep}
 use mir.Syntax.{Ty, Sym}
 use mir.Val.{Val, vstruct, vcons, vnil, vunit, of_list}
 use types.Logic.{Logic}
 use types.Kit.{Goal, Step, step, Seq, Item, ‵, ◌$◌, move, drop, use0, rewrite, fsplit, fjoin, fpick, fpack, feq_l, feq_i}
 use denote.Builtin.{unit}
 use denote.Laws.{Is, Tells, shows}
-use denote.Memory.{lone}
+use denote.Memory.{lone, shared_of, hidden_shr}
 use denote.RattleType.{RattleType, Valss}
-use denote.RawPtr.{Ptr, RawPtr, block_ptr}
+use denote.RawPtr.{Ptr, block_ptr, null_ptr}
+use denote.Opens.{hide, unhide}
+use denote.Sharing.{beside, nothing as nothing_held}
 use denote.Steps.{nothing, peeks}
 use denote.Struct.Declared as Declared
 use denote.Struct.Laws as LL
@@ -36,11 +40,12 @@ use Rattle.std_alloc.proofs.RcSteps.{Good, word, word-Good}
 use Rattle.std_alloc.specs.Rc.Ownership.{counter_at}
 use Rattle.ecow_block.specs.Contents.{Contents, contents}
 use Rattle.ecow_block.specs.Fields.{IsBlock}
-use Rattle.ecow_block.specs.Heads.{head_rest, title_owns, unless_null}
+use Rattle.ecow_block.specs.Heads.{head_rest, title_owns, title_shares}
 use Rattle.ecow_block.specs.Ownership.{room_owns, deed_owns}
-use Rattle.ecow_block.specs.Owners.{head_at, counts, kept, sole_owns, shared_owns, owner_owns}
+use Rattle.ecow_block.specs.Owners.{seen, sole_owns, owner_owns}
 use Rattle.ecow_block.specs.contracts.block.Block as B
 use Rattle.ecow_block.specs.contracts.block.Block.TheInside as BI
+use Rattle.ecow_block.specs.contracts.room.Top as top_type
 use Rattle.ecow_block.specs.contracts.shared.Shared as S
 use Rattle.ecow_block.specs.contracts.shared.Shared.TheInside as SI
 use Rattle.ecow_block.proofs.Memory.{Mark, mark, mark_had, mark_made}
@@ -177,3 +182,24 @@ module _ (E : El) (i : (Bi E).Denot) (is : IsBlock i) (b o : ℕ) (at_b : i.top.
       -- [the head; the room; the deed; the count]
       rewrite t 0 (λ (p : Ptr). ‵ (rest_at E i p)) at_b refl $ rewrite t 3 (λ (p : Ptr). ‵ (counter_at p 0 1)) at_b refl $
       move t (0 ∷ 3 ∷ []) $ fjoin t $ rewrite t 0 (λ (p : Ptr). ‵ (title_at E i p)) (sym (is.head.at ∙ at_b)) refl $ move t (2 ∷ 0 ∷ 1 ∷ []) $ s)
+
+-- a block without a head is empty
+empty : {X : Type 0} (xs : List X) (c : ℕ) → length xs ≤ c → c ≡ 0 → xs ≡ []
+empty [] c le e = refl
+empty (x ∷ xs) c le e = absurd (omega arith)
+
+pub no_contents : (E : El) (i : (Bi E).Denot) → IsBlock i → i.top.ptr ≡ null_ptr → contents i.room.items i.room.capacity ≡ contents [] 0
+no_contents E i is e = let none = is.head.none e in λ j. contents (empty i.room.items i.room.capacity i.room.within none j) (none j)
+
+-- what a `&` to an owner holds, and what it sees, is what a `&` to the block holds
+module _ (E : El) (s : (Si E).Denot) (κ : Lft) (b o : ℕ) {M : Type 1} {𝓤 : Ura M} {𝓛 : Logic 𝓤} {K : Type 0} {Γ : List (Item 𝓤)} {G : Goal 𝓤 𝓛.H} where
+  pub block_seen : K → Step K 𝓛 (‵ (hidden_shr (Bk E) κ (contents s.inside.room.items s.inside.room.capacity) b o) ∷ Γ) G
+      (‵ (hidden_shr (Data E) κ (data_of E s) b o) ∷ ‵ (seen (R E) s.inside κ) ∷ Γ) G
+  block_seen t = step (λ k. let i = s.inside in let d : (Bk E).Denot = contents i.room.items i.room.capacity in
+      unhide t $ move t (1 ∷ []) $ fsplit t $ rewrite t 0 (λ (p : Ptr). ‵ (title_shares (R E) p i.title.fields κ)) (sym s.is_owner.is_block.head.at) refl $
+      -- [the fields of the head; the items; the owner's fields]
+      move t (2 ∷ []) $ fsplit t $ fsplit t $ rewrite t 0 (λ (p : Ptr). ‵ (shared_of (top_type.the_field (R E)).row (p, tt) b (o + 0) κ)) (sym s.is_owner.top_is) refl $
+      move t (1 ∷ []) $ fsplit t $ move t (0 ∷ 5 ∷ []) $ fjoin t $ move t (1 ∷ []) $ fsplit t $ move t (0 ∷ 5 ∷ []) $ fjoin t $
+      move t (1 ∷ []) $ fsplit t $ nothing t $ move t (1 ∷ 0 ∷ []) $ fjoin t $ fjoin t $ move t (1 ∷ 0 ∷ []) $ fjoin t $ move t (1 ∷ 0 ∷ []) $ fjoin t $ move t (1 ∷ 0 ∷ []) $ fjoin t $ fjoin t $
+      nothing t $ move t (1 ∷ 0 ∷ []) $ fjoin t $
+      fpack t ((a : (Bi E).Denot) × ((contents a.room.items a.room.capacity ≡ d) × IsBlock a)) (λ x. beside ((Bi E).shr_at x.0 b o) nothing_held κ) (i, (refl, s.is_owner.is_block)) $ hide t $ k)
