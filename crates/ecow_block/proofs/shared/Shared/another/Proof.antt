@@ -9,7 +9,7 @@ use lib.Dec.{lit<}
 use base.Mask.{every}
 use base.Logic.{SProp, ent, id⊢}
 use base.Fml.{Fml, ftrue, fsep, flft, fhide, fat, ftok}
-use mir.Syntax.{Fn}
+use mir.Syntax.{Fn, Body, skip, seq, assign, block, loop, cond, switch, exit, return, call, call_v, unreachable, lend_static}
 use mir.MapTy.{inst_fn}
 use mir.Val.{Val, vptr, vcons, vnil}
 use prog.Memory.{Memory}
@@ -58,6 +58,22 @@ use Rattle.ecow_block.proofs.shared.Shared.another.Code.{code as body}
 use Rattle.ecow_block.proofs.Heads.{Tp, cell}
 use Rattle.ecow_block.proofs.Owners.{Sh, Si, Bi, laid, laid-Good, heap_val, owner_made}
 use Rattle.ecow_block.proofs.Counting.{lent_cases, counted_made, lent_out, lent_back, reads, read, opens, shut, more}
+
+-- what a condition runs where it holds
+abbrev then_of : Body → Body
+then_of skip = skip
+then_of (seq x₀ x₁) = skip
+then_of (assign x₀ x₁) = skip
+then_of (block x₀) = skip
+then_of (loop x₀) = skip
+then_of (cond x₀ x₁ x₂) = x₁
+then_of (switch x₀ x₁) = skip
+then_of (exit x₀) = skip
+then_of return = skip
+then_of (call x₀ x₁ x₂) = skip
+then_of (call_v x₀ x₁ x₂ x₃) = skip
+then_of unreachable = skip
+then_of (lend_static x₀ x₁ x₂) = skip
 
 module _ (E : El) where
   abbrev here : Fn
@@ -126,7 +142,7 @@ module _ (E : El) where
         use0 𝓛 (‵ ((Opt.the_row (Sh E)).own_val None (live 0 vnil ∷ []))) (none_of 𝓛 (Sh E)) $ returns_within ! Post refl (look_at ! 0 refl) $ free_all ! refl $ keep ! (0 ∷ 1 ∷ 5 ∷ 2 ∷ []) $
         suffices ! _ (ends_at 𝓛 ended stayed held z (live 0 vnil) None (tt, tt) (tt, tt)) $ nothing ! $ nothing ! $ fjoin ! $ join ! $ move ! (1 ∷ 2 ∷ []) $ join ! $ join ! $ frame ! $ says ! tt $ done !)
         (λ room. let grows : n + 1 < 2 ^ 64 = omega (arith, is_not n (2 ^ 64 - 1) room) in
-        skips ! $ exec ! 𝓣.C 𝓣.Λ En (after 3 (inside (arm (after 7 here.body)))) (any_q (after_block 𝓤 H (after_seq 𝓤 H (Wp 𝓤 H 𝓣.C 𝓣.Λ En (after 8 here.body) (at_return 𝓤 H En Post)) (at_return 𝓤 H En Post)))) $
+        skips ! $ exec ! 𝓣.C 𝓣.Λ En (after 3 (inside (then_of (head (after 7 here.body))))) (any_q (after_block 𝓤 H (after_seq 𝓤 H (Wp 𝓤 H 𝓣.C 𝓣.Λ En (after 8 here.body) (at_return 𝓤 H En Post)) (at_return 𝓤 H En Post)))) $
         sets ! (bin ! (get ! refl) (lit ! tt) (record { fits = grows })) refl (tt, record { fits = grows }) $ assigns_last ! (of_opd ! (get ! refl)) (through ! refl (fld ! refl (stop !))) (store ! 0 refl (tt, record { fits = grows })) $
         exec ! 𝓣.C 𝓣.Λ En (after 8 here.body) (at_ret En Post) $
         sets ! (agg ! (no_more !)) refl (tt, tt) $ sets ! (agg ! (and_then ! (get ! refl) (no_more !))) refl (tt, (tt, tt)) $
