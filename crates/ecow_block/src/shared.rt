@@ -1,5 +1,5 @@
 //! Owners of a block. The count of owners is touched here alone.
-ghost use Rattle.std.specs.Prelude.{◌≡◌, [], IfSome, MatchOption};
+ghost use Rattle.std.specs.Prelude.{◌≡◌, [], IfSome, IfOk, IfErr, MatchOption};
 ghost use Rattle.std.specs.Borrow.{sem};
 ghost use Rattle.ecow_block.specs.Contents.{contents};
 ghost use Rattle.std.specs.Coded.{prop_coded};
@@ -11,6 +11,7 @@ use crate::block::Block;
 use crate::room::{Deed, Room, Title, Top};
 use std::alloc::{AllocError, Global};
 use std::marker::{Model, PhantomData};
+use std::mem::replace;
 
 /// Stands where a block has a part that takes no space. It owns nothing.
 struct Nil<T> {
@@ -162,6 +163,22 @@ impl<T> Shared<T> {
         ensures { result ≡ contents [] 0 }
     {
         Block::new(alloc).share()
+    }
+
+    /// The block, where this is its sole owner and it has places. Else the owner comes back.
+    pub fn try_unwrap(alloc: Global, this: Shared<T>) -> Result<Block<T>, Shared<T>>
+        ensures ok { IfOk result (λ block. block ≡ this) }
+        ensures err { IfErr result (λ back. back ≡ this) }
+    {
+        let mut this = this;
+        let Some(block) = Shared::get_mut(&mut this) else {
+            return Err(this);
+        };
+        let block = replace(block, Block::new(alloc));
+        if let Some(none) = this.leave() {
+            none.destroy_empty();
+        }
+        Ok(block)
     }
 }
 
