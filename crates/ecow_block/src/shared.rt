@@ -2,9 +2,6 @@
 ghost use Rattle.std.specs.Prelude.{◌≡◌, [], IfSome, IfOk, IfErr, MatchOption};
 ghost use Rattle.std.specs.Borrow.{sem};
 ghost use Rattle.ecow_block.specs.Contents.{contents};
-ghost use Rattle.std.specs.Coded.{prop_coded};
-ghost use Rattle.ecow_block.specs.Facts.{IsOwner-prop};
-ghost use Rattle.ecow_block.specs.Owners.{IsOwner};
 ghost use Rattle.ecow_block.specs.declared.block.Block.TheInside.{Inside as BlockParts};
 
 use crate::block::Block;
@@ -27,18 +24,19 @@ pub struct Shared<T> {
     deed: Nil<T>,
     alloc: Global,
     ghost inside: { BlockParts T },
-    ghost is_owner: { IsOwner top alloc inside } by { prop_coded (IsOwner-prop top alloc inside) },
 }
 
 impl<T> Model for Shared<T> {
     ghost use Rattle.ecow_block.specs.Contents.{Contents, contents, contents_code};
-    ghost use Rattle.ecow_block.specs.Owners.{owner_owns, owner_lends};
+    ghost use Rattle.ecow_block.specs.Owners.{IsOwner, owner_owns, owner_lends};
 
     ghost Value = { Contents T };
 
     ghost coded = { contents_code T.code };
 
     ghost view = { λ s. contents s.inside.room.items s.inside.room.capacity };
+
+    ghost invariant = { λ s. IsOwner s.top s.alloc s.inside };
 
     ghost also_owns = { λ s. owner_owns T.row s.inside };
 

@@ -18,7 +18,7 @@ use denote.Hole.Carrier.{listed}
 use denote.Param.Weighed.{Weighed, w_const}
 use Rattle.core.specs.declared.alloc.Allocator.{Ghosts}
 use Rattle.core.specs.declared.marker.PhantomData.{PhantomData}
-use Rattle.ecow_block.specs.Heads.{title_owns, title_shares}
+use Rattle.ecow_block.specs.Heads.{head_rest, title_owns, title_shares}
 use Rattle.ecow_block.specs.declared.room.Fields.{Fields}
 use Rattle.ecow_block.specs.declared.room.Title.{Title}
 use Rattle.ecow_block.specs.declared.room.Top.{Top}
@@ -72,7 +72,7 @@ pub the_items_listed : (A X : Type 0) (t : Title X A)
 the_items_listed A X t = refl
 
 -- the fields of a head, over other elements
-abbrev fields_over : {X Y : Type 0} → Fields X → Fields Y
+abbrev pub fields_over : {X Y : Type 0} → Fields X → Fields Y
 fields_over x = record { base = record { ptr = x.base.ptr }; len = x.len; capacity = x.capacity }
 
 -- the top of a block of other items: the pointer alone
@@ -87,9 +87,16 @@ module _ (R R' : RattleType) (h : R.Denot → R'.Denot) (a : Alike R R' h) where
       λ i. title_owns t (one_value R (a.mir_same i) (λ _. ftrue) (λ _ _. nothing) gnil) p
       (fields_over x) c
 
-  shared : (p : Ptr) (x : Fields R.Denot) → title_shares R' p (fields_over x) ≡ title_shares R p x
+  pub rest_placed : (t : Ty → Ptr → Fml) (p : Ptr) (x : Fields R.Denot) (c : ℕ)
+      → head_rest t R' p (fields_over x) c ≡ head_rest t R p x c
   unfolding part_of
-  shared p x =
+  rest_placed t p x c =
+      λ i. head_rest t (one_value R (a.mir_same i) (λ _. ftrue) (λ _ _. nothing) gnil) p
+      (fields_over x) c
+
+  pub fields_lent : (p : Ptr) (x : Fields R.Denot) → title_shares R' p (fields_over x) ≡ title_shares R p x
+  unfolding part_of
+  fields_lent p x =
       λ i. title_shares (one_value R (a.mir_same i) (λ _. ftrue) (λ _ _. nothing) gnil) p
       (fields_over x)
 
@@ -108,7 +115,7 @@ module _ (A : RattleType) (G : Ghosts A.Denot) (R R' : RattleType) (h : R.Denot 
     shr_same =
         λ d i b o. beside
         ((Struct (shape (C.the_type R A G))).shr_at (to (C.the_type R A G) d) b o)
-        (shared R R' h a d.at d.fields i);
+        (fields_lent R R' h a d.at d.fields i);
   }
 
   pub the_codes_placed : Recodes R R' h

@@ -98,7 +98,7 @@ module _ (E : El) where
         let Post : Val → SProp 𝓤 = (walk_of 𝓛 ended stayed held).post z in
         qed 𝓛 (((‵ (flft κ q) ⊛ ‵ (flft κ₁ q₁) ⊛ ‵ ftrue) ⊛ ‵ (owns (types_at ended.signature.params z.0.0) a vss)) ∷ (‵ (ftok every) ⊛ raw ((F.clauses E.row 𝓛 at_mem run z.0.0 a).requires z.1)) ∷ []) ∵
         split ! $ split ! $ move ! (3 ∷ []) $ split ! $ move ! (4 ∷ []) $ fsplit ! $ fsplit ! $ feq_l ! (λ e₀. keep ! (0 ∷ 4 ∷ 2 ∷ 5 ∷ []) $
-        unhide ! $ fpick ! (λ x. let s : (Si E).Denot = x.0 in let i : (Bi E).Denot = s.inside in let facts = s.is_owner.is_block in let same = x.1.0 in let c = s.top.ptr in
+        unhide ! $ fpick ! (λ x. let s : (Si E).Denot = x.0 in let i : (Bi E).Denot = s.inside in let owner = x.1.1 in let facts = owner.is_block in let same = x.1.0 in let c = s.top.ptr in
         fsplit ! $ move ! (1 ∷ []) $ drop ! $ fsplit ! $ hide ! $ move ! (1 ∷ []) $ hide ! $
         -- [what the owner lends; its fields; the token; the thread's token; the other token]
         let us : List Val = vptr b o ∷ [] in
@@ -107,7 +107,7 @@ module _ (E : El) where
         enter ! 𝓣.C 𝓣.Λ here us Post $ alloc_all ! (λ l. pass_all ! refl ((tt, tt), tt) $
         let En : Env 𝓤 H = env here.locals l in
         lent_cases E i ! κ i.top.ptr
-        (λ e. let none : c ≡ null_ptr = sym s.is_owner.top_is ∙ e in reads E s ! tt b o (λ q'. move ! (2 ∷ []) $ drop ! $
+        (λ e. let none : c ≡ null_ptr = sym owner.top_is ∙ e in reads E s ! tt b o (λ q'. move ! (2 ∷ []) $ drop ! $
         -- [the value; what shuts; the thread's token; the other token]
         sets ! (of_opd ! (load ! (through ! refl (fld ! refl (stop !))) (look_in ! 0 (sub ! 0 refl (whole !))))) refl (word-Good [] c) $
         sets ! (of_opd ! (load ! (through ! refl (fld ! refl (stop !))) (look_in ! 0 (sub ! 4 refl (whole !))))) refl (tt, ((tt, tt), tt)) $
@@ -122,12 +122,12 @@ module _ (E : El) where
         sets ! (agg ! (and_then ! (get ! refl) (and_then ! (get ! refl) (and_then ! (get ! refl) (and_then ! (get ! refl) (and_then ! (get ! refl) (no_more !))))))) refl (laid-Good E c) $
         sets ! (agg ! (and_then ! (lit ! tt) (and_then ! (get ! refl) (no_more !)))) refl (some_Good (lone (Sh E).mir) (laid c) (laid-Good E c)) $
         read E s ! tt b o q' $
-        nothing ! $ rewrite ! 0 (λ (p : Ptr). ‵ (unless_null p (shared_owns (R E) i))) (sym e) refl $ owner_made E ! s $
+        nothing ! $ rewrite ! 0 (λ (p : Ptr). ‵ (unless_null p (shared_owns (R E) i))) (sym e) refl $ owner_made E ! s owner $
         use1 𝓛 (‵ ((Opt.the_row (Sh E)).own_val (Some (contents i.room.items i.room.capacity)) (live 1 (vcons (laid c) vnil) ∷ []))) (Some-of 𝓛 (Sh E) (contents i.room.items i.room.capacity) (laid c)) $
         returns ! (look_at ! 0 refl) $ free_all ! refl $ keep ! (0 ∷ 1 ∷ 3 ∷ 2 ∷ []) $
         suffices ! _ (ends_at 𝓛 ended stayed held z (live 1 (vcons (laid c) vnil)) (Some (contents i.room.items i.room.capacity)) (tt, tt) (tt, tt)) $ nothing ! $ nothing ! $ fjoin ! $ join ! $ move ! (1 ∷ 2 ∷ []) $ join ! $ join ! $ frame ! $ says ! same $ done !)))
         (λ _ _ _. move ! (1 ∷ 0 ∷ []) $ lent_out E s κ q b o ! tt (λ a r q'. move ! (1 ∷ 0 ∷ 6 ∷ []) $ opens E i a ! tt r (λ n cb co e fits some_n.
-        let there : c ≡ block_ptr cb co = sym s.is_owner.top_is ∙ e in let low : count_of (block_ptr cb co) < 2 ^ 63 = subst (λ (p : Ptr). count_of p < 2 ^ 63) e facts.head.testable in
+        let there : c ≡ block_ptr cb co = sym owner.top_is ∙ e in let low : count_of (block_ptr cb co) < 2 ^ 63 = subst (λ (p : Ptr). count_of p < 2 ^ 63) e facts.head.testable in
         -- [the count; the value; the weak part; what shuts; the share; the owner's value; the way back; the invariant; what is seen; the other token]
         sets ! (of_opd ! (load ! (through ! refl (fld ! refl (stop !))) (look_in ! 5 (sub ! 0 refl (whole !))))) refl (word-Good [] c) $
         sets ! (of_opd ! (load ! (through ! refl (fld ! refl (stop !))) (look_in ! 5 (sub ! 4 refl (whole !))))) refl (tt, ((tt, tt), tt)) $
@@ -152,7 +152,7 @@ module _ (E : El) where
         sets ! (agg ! (and_then ! (lit ! tt) (and_then ! (get ! refl) (no_more !)))) refl (some_Good (lone (Sh E).mir) (laid c) (laid-Good E c)) $
         move ! (1 ∷ []) $ more E i a ! n grows $ move ! (2 ∷ 0 ∷ 3 ∷ 4 ∷ []) $ shut E i a ! tt (n + 1) cb co e grows $
         move ! (2 ∷ 3 ∷ 4 ∷ []) $ lent_back E s κ q b o ! tt a.0 r q' $ move ! (2 ∷ 3 ∷ 4 ∷ []) $ counted_made E i ! a $
-        rewrite ! 0 (λ (p : Ptr). ‵ (unless_null p (shared_owns (R E) i))) (sym e) refl $ owner_made E ! s $
+        rewrite ! 0 (λ (p : Ptr). ‵ (unless_null p (shared_owns (R E) i))) (sym e) refl $ owner_made E ! s owner $
         use1 𝓛 (‵ ((Opt.the_row (Sh E)).own_val (Some (contents i.room.items i.room.capacity)) (live 1 (vcons (laid c) vnil) ∷ []))) (Some-of 𝓛 (Sh E) (contents i.room.items i.room.capacity) (laid c)) $
         returns ! (look_at ! 0 refl) $ free_all ! refl $ keep ! (0 ∷ 1 ∷ 3 ∷ 2 ∷ []) $
         suffices ! _ (ends_at 𝓛 ended stayed held z (live 1 (vcons (laid c) vnil)) (Some (contents i.room.items i.room.capacity)) (tt, tt) (tt, tt)) $ nothing ! $ nothing ! $ fjoin ! $ join ! $ move ! (1 ∷ 2 ∷ []) $ join ! $ join ! $ frame ! $ says ! same $ done !))

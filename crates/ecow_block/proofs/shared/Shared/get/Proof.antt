@@ -75,7 +75,7 @@ module _ (E : El) where
         let Post : Val → SProp 𝓤 = (walk_of 𝓛 ended stayed held).post z in
         qed 𝓛 (((‵ (flft κ q) ⊛ ‵ (flft κ₁ q₁) ⊛ ‵ ftrue) ⊛ ‵ (owns (types_at ended.signature.params z.0.0) a vss)) ∷ raw ((held z.0.0 a).requires z.1) ∷ []) ∵
         move ! (1 ∷ []) $ drop ! $ split ! $ split ! $ move ! (2 ∷ []) $ fsplit ! $ fsplit ! $ feq_l ! (λ e₀. keep ! (0 ∷ 2 ∷ 3 ∷ []) $
-        unhide ! $ fpick ! (λ x. let s : (Si E).Denot = x.0 in let i : (Bi E).Denot = s.inside in let facts = s.is_owner.is_block in let same = x.1.0 in
+        unhide ! $ fpick ! (λ x. let s : (Si E).Denot = x.0 in let i : (Bi E).Denot = s.inside in let owner = x.1.1 in let facts = owner.is_block in let same = x.1.0 in
         fsplit ! $ move ! (1 ∷ []) $ drop ! $ fsplit ! $ hide ! $ move ! (1 ∷ []) $ hide ! $
         -- [what the owner lends; its fields; the token; the other token]
         let us : List Val = vptr b o ∷ [] in let at : Val = vptr b o in
@@ -85,14 +85,14 @@ module _ (E : El) where
         let En : Env 𝓤 H = env here.locals l in
         move ! (1 ∷ 2 ∷ []) $ reads E s ! tt b o (λ q'. move ! (3 ∷ []) $ lent_cases E i ! κ i.top.ptr
         -- [the value; what shuts; the fields; the other token]
-        (λ e. let null : s.top.ptr ≡ null_ptr = sym s.is_owner.top_is ∙ e in
+        (λ e. let null : s.top.ptr ≡ null_ptr = sym owner.top_is ∙ e in
         sets ! (is ! (of_opd ! (load ! (through ! refl (fld ! refl (fld ! refl (stop !)))) (look_in ! 0 (sub ! 0 refl (sub ! 0 refl (whole !)))))) (ap ptr_val null)) refl (tt, record { fits = lit< tt }) $
         sets ! (bin ! (get ! refl) (lit ! tt) tt) refl (tt, tt) $ first ! $ branches ! (get ! refl)
         (λ yes. sets ! (agg ! (and_then ! (lit ! tt) (no_more !))) refl (tt, (record { fits = lit< tt }, tt)) $ read E s ! tt b o q' $
         use0 𝓛 (‵ ((Opt.the_row (Lent κ)).own_val None (live 0 vnil ∷ []))) (none_of 𝓛 (Lent κ)) $ returns_within ! Post refl (look_at ! 0 refl) $ free_all ! refl $ keep ! (0 ∷ 1 ∷ 3 ∷ []) $
         suffices ! _ (ends_at 𝓛 ended stayed held z (live 0 vnil) None (tt, tt) (tt, tt)) $ says ! (sym same ∙ no_contents E i facts e) $ nothing ! $ nothing ! $ fjoin ! $ join ! $ move ! (1 ∷ 2 ∷ []) $ join ! $ join ! $ done !)
         (λ no. absurd no))
-        (λ cb co e. let there : s.top.ptr ≡ block_ptr cb co = sym s.is_owner.top_is ∙ e in let low = facts.head.testable in
+        (λ cb co e. let there : s.top.ptr ≡ block_ptr cb co = sym owner.top_is ∙ e in let low = facts.head.testable in
         unhide ! $ use1 𝓛 (‵ (seen (R E) i κ)) (rc_sees 64 (key (R E) i) (counts (R E) i) one_weak (kept (R E) i) ftrue ftrue (seen (R E) i) 𝓛 (seen_shr_laws (R E) (param_laws 0 E.row E.laws) i) κ) $
         -- [what is seen; the value; what shuts; the fields; the other token]
         move ! (1 ∷ []) $ rewrite ! 0 (λ (p : Ptr). ‵ (fat q' (data_ty E) b o (laid p))) there refl $
@@ -105,7 +105,7 @@ module _ (E : El) where
         sets ! (agg ! (and_then ! (lit ! tt) (and_then ! (get ! refl) (no_more !)))) refl (tt, (record { fits = lit< tt }, (tt, tt))) $
         rewrite ! 0 (λ (p : Ptr). ‵ (fat q' (data_ty E) b o (laid p))) (sym there) refl $ move ! (0 ∷ 2 ∷ []) $ read E s ! tt b o q' $
         -- [the token; what is seen; the fields; the other token]
-        move ! (2 ∷ 1 ∷ []) $ block_seen E s κ b o ! $ feq_i ! (List Val) (at ∷ []) (at ∷ []) refl $ fjoin ! $
+        move ! (2 ∷ 1 ∷ []) $ block_seen E s owner κ b o ! $ feq_i ! (List Val) (at ∷ []) (at ∷ []) refl $ fjoin ! $
         let lent : Bor (Bk E).Denot = record { ref_ptr = (b, o); now = a.0.now } in
         rewrite ! 0 (λ (d : (Bk E).Denot). ‵ ((Lent κ).own_val (record { ref_ptr = (b, o); now = d }) (at ∷ []))) same refl $
         use1 𝓛 (‵ ((Opt.the_row (Lent κ)).own_val (Some lent) (live 1 (vcons at vnil) ∷ []))) (Some-of 𝓛 (Lent κ) lent at) $

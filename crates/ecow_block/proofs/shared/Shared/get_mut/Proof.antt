@@ -51,7 +51,7 @@ use Rattle.std_alloc.proofs.VecSteps.Shapes.{after, head, inside}
 use Rattle.core.proofs.mem.Param.{El, R, args}
 use Rattle.ecow_block.specs.Contents.{Contents, contents}
 use Rattle.ecow_block.specs.Heads.{unless_null}
-use Rattle.ecow_block.specs.Owners.{sole_owns, counted_owns, shared_owns, owner_owns}
+use Rattle.ecow_block.specs.Owners.{IsOwner, sole_owns, counted_owns, shared_owns, owner_owns}
 use Rattle.ecow_block.specs.contracts.shared.Shared.get_mut as F
 use Rattle.ecow_block.specs.contracts.shared.Shared.get_mut.Key.{name as #self}
 use Rattle.ecow_block.proofs.shared.Shared.get_mut.Statement.{statement}
@@ -70,13 +70,13 @@ module _ (E : El) {M : Type 1} {𝓤 : Ura M} (𝓛 : Logic 𝓤) (b o : ℕ) wh
       qed 𝓛 (‵ ((mem (Bk E)).own_at w b o) ∷ ‵ ftrue ∷ []) ∵ fpick ! (λ vs. fsplit ! $ move ! (1 ∷ []) $
       block_had E ! w vs (λ i same facts ev.
       -- [the deed's right; the title's; the room's; the cell; nothing]
-      let s : (Si E).Denot = record { top = i.top; room = record { mark = record {} }; title = record { mark = record {} }; deed = record { mark = record {} }; alloc = i.alloc; inside = i; is_owner = record { top_is = refl; alloc_is = refl; is_block = facts } } in
+      let s : (Si E).Denot = record { top = i.top; room = record { mark = record {} }; title = record { mark = record {} }; deed = record { mark = record {} }; alloc = i.alloc; inside = i } in let owner : IsOwner i.top i.alloc i = record { top_is = refl; alloc_is = refl; is_block = facts } in
       rewrite ! 3 (λ (us : List Val). ‵ (cell_at full_share (Bk E).mir us b o)) ev refl $
       in_case ! i.top.ptr
-      (λ e. nothing ! $ rewrite ! 0 (λ (p : Ptr). ‵ (unless_null p (shared_owns (R E) i))) (sym e) refl $ owner_made E ! s $ rewrite ! 0 (λ (d : (Sh E).Denot). ‵ ((Sh E).own_val d (laid i.top.ptr ∷ []))) same refl $
+      (λ e. nothing ! $ rewrite ! 0 (λ (p : Ptr). ‵ (unless_null p (shared_owns (R E) i))) (sym e) refl $ owner_made E ! s owner $ rewrite ! 0 (λ (d : (Sh E).Denot). ‵ ((Sh E).own_val d (laid i.top.ptr ∷ []))) same refl $
       move ! (4 ∷ 0 ∷ []) $ fjoin ! $ fpack ! (List Val) (λ us. fsep (cell_at full_share (Sh E).mir us b o) ((Sh E).own_val w us)) (laid i.top.ptr ∷ []) $ keep ! (0 ∷ []) $ done !)
       (λ cb co e. to_sole E i facts cb co e ! $ fpack ! Bool (sole_or_counted (sole_owns (R E) i) (counted_owns (R E) i)) true $
-      rewrite ! 0 (λ (p : Ptr). ‵ (unless_null p (shared_owns (R E) i))) (sym e) refl $ owner_made E ! s $ rewrite ! 0 (λ (d : (Sh E).Denot). ‵ ((Sh E).own_val d (laid i.top.ptr ∷ []))) same refl $
+      rewrite ! 0 (λ (p : Ptr). ‵ (unless_null p (shared_owns (R E) i))) (sym e) refl $ owner_made E ! s owner $ rewrite ! 0 (λ (d : (Sh E).Denot). ‵ ((Sh E).own_val d (laid i.top.ptr ∷ []))) same refl $
       move ! (1 ∷ 0 ∷ []) $ fjoin ! $ fpack ! (List Val) (λ us. fsep (cell_at full_share (Sh E).mir us b o) ((Sh E).own_val w us)) (laid i.top.ptr ∷ []) $ keep ! (0 ∷ []) $ done !)))
 
 module _ (E : El) where
@@ -95,7 +95,7 @@ module _ (E : El) where
   abbrev stayed : Stays ended.signature.params ended.kept
   stayed = (stay_dropped (mut_ref_to (0 ∷ []) tt (plain (λ _. Self))) no, tt)
 
-  module _ {M : Type 1} {𝓤 : Ura M} (𝓛 : Logic 𝓤) (s : (Si E).Denot) (b o : ℕ) where
+  module _ {M : Type 1} {𝓤 : Ura M} (𝓛 : Logic 𝓤) (s : (Si E).Denot) (owner : IsOwner s.top s.alloc s.inside) (b o : ℕ) where
     open 𝓛 use {H}
 
     abbrev handle : Fml
@@ -107,7 +107,7 @@ module _ (E : El) where
           → Step K 𝓛 (‵ ((Opt.the_row (Lent κ)).own_val None (live 0 vnil ∷ [])) ∷ (‵ (flft κ q) ⊛ others) ∷ ‵ (ftok every) ∷ ‵ (fres γ (Self.coded.code me)) ∷ Γ) G
           (‵ (owner_owns (R E) s.inside) ∷ ‵ (ftok every) ∷ others ∷ ‵ handle ∷ ‵ (fobor κ q (Borrowed (mem Self) b o γ)) ∷ ‵ (fobs γ (Self.coded.code me)) ∷ ‵ (fauth γ (Self.coded.code me)) ∷ Γ) G
       put_back t z = step (λ next.
-          owner_made E t s $ rewrite t 0 (λ (d : Self.Denot). ‵ (Self.own_val d (laid s.top.ptr ∷ []))) same refl $
+          owner_made E t s owner $ rewrite t 0 (λ (d : Self.Denot). ‵ (Self.own_val d (laid s.top.ptr ∷ []))) same refl $
           move t (3 ∷ 0 ∷ 4 ∷ 5 ∷ 6 ∷ []) $ closes t z Self me (laid s.top.ptr ∷ []) b o $
           use1 𝓛 (‵ (fres γ (Self.coded.code me))) (𝓛.names.obs-res γ (Self.coded.code me)) $ move t (1 ∷ []) $ drop t $ move t (1 ∷ 3 ∷ []) $ join t $ move t (0 ∷ 2 ∷ []) $
           use0 𝓛 (‵ ((Opt.the_row (Lent κ)).own_val None (live 0 vnil ∷ []))) (none_of 𝓛 (Lent κ)) $ next)
@@ -133,22 +133,22 @@ module _ (E : El) where
         suffices ! (Run us) (subst (λ (ws : List Val). ent 𝓤 (Run us) (Run ws)) (sym (λ k. e₀ k ++ [])) (id⊢ 𝓤 (Run us))) $
         enter ! 𝓣.C 𝓣.Λ here us Post $ alloc_all ! (λ l. pass_all ! refl ((tt, tt), tt) $
         let En : Env 𝓤 H = env here.locals l in
-        opens ! tt Self {h = me} b o (λ vs. move ! (1 ∷ []) $ owner_had E ! me vs (λ s same ev.
-        let i : (Bi E).Denot = s.inside in let c = s.top.ptr in let facts = s.is_owner.is_block in
+        opens ! tt Self {h = me} b o (λ vs. move ! (1 ∷ []) $ owner_had E ! me vs (λ s same owner ev.
+        let i : (Bi E).Denot = s.inside in let c = s.top.ptr in let facts = owner.is_block in
         rewrite ! 1 (λ (ws : List Val). ‵ (cell_at full_share Self.mir ws b o)) ev refl $
         cases E i ! i.top.ptr
         -- [the owner's cell; the open borrow; obs; auth; the other tokens; the thread's token]
-        (λ e. let none : c ≡ null_ptr = sym s.is_owner.top_is ∙ e in
+        (λ e. let none : c ≡ null_ptr = sym owner.top_is ∙ e in
         sets ! (is ! (of_opd ! (load ! (through ! refl (fld ! refl (fld ! refl (stop !)))) (look_in ! 0 (sub ! 0 refl (sub ! 0 refl (whole !)))))) (ap ptr_val none)) refl (tt, record { fits = lit< tt }) $
         sets ! (bin ! (get ! refl) (lit ! tt) tt) refl (tt, tt) $ first ! $ branches ! (get ! refl)
         (λ null. sets ! (agg ! (and_then ! (lit ! tt) (no_more !))) refl (tt, (record { fits = lit< tt }, tt)) $ nothing ! $ rewrite ! 0 (λ (p : Ptr). ‵ (unless_null p (shared_owns (R E) i))) (sym e) refl $
-        move ! (0 ∷ 6 ∷ 5 ∷ []) $ put_back 𝓛 s b o me same κ q γ others ! tt $
+        move ! (0 ∷ 6 ∷ 5 ∷ []) $ put_back 𝓛 s owner b o me same κ q γ others ! tt $
         returns_within ! Post refl (look_at ! 0 refl) $ free_all ! refl $ keep ! (0 ∷ 1 ∷ 2 ∷ 3 ∷ []) $
         suffices ! _ (ends_at 𝓛 ended stayed held z (live 0 vnil) None (tt, tt) (tt, tt)) $ nothing ! $ nothing ! $ fjoin ! $ join ! $ move ! (1 ∷ 0 ∷ []) $ join ! $ frame ! $ frame ! $ says ! tt $ done !)
         (λ null. absurd null))
         (λ _ _ _. move ! (5 ∷ []) $ split ! $ move ! (2 ∷ 0 ∷ []) $ is_counted E i ! tt κ₁ q₁ within $ move ! (1 ∷ 2 ∷ []) $ join ! $ move ! (1 ∷ []) $ counted_had E i ! (λ a r one.
         move ! (1 ∷ 0 ∷ 9 ∷ []) $ steps.opens E i a ! tt r (λ n cb co e fits some_n.
-        let there : c ≡ block_ptr cb co = sym s.is_owner.top_is ∙ e in let low : count_of (block_ptr cb co) < 2 ^ 63 = subst (λ (p : Ptr). count_of p < 2 ^ 63) e facts.head.testable in
+        let there : c ≡ block_ptr cb co = sym owner.top_is ∙ e in let low : count_of (block_ptr cb co) < 2 ^ 63 = subst (λ (p : Ptr). count_of p < 2 ^ 63) e facts.head.testable in
         move ! (4 ∷ []) $ use1 𝓛 (‵ (part 64 a.0)) (part_in 64 𝓛 a.0 r one) $ move ! (1 ∷ 2 ∷ 3 ∷ 4 ∷ []) $
         -- [the count; the value; the weak part; what shuts; the part; the invariant; what is seen; the other tokens; the owner's cell; the open borrow; obs; auth]
         sets ! (is ! (of_opd ! (load ! (through ! refl (fld ! refl (fld ! refl (stop !)))) (look_in ! 8 (sub ! 0 refl (sub ! 0 refl (whole !)))))) (ap ptr_val there)) refl (tt, tt) $
@@ -157,7 +157,7 @@ module _ (E : El) where
         (λ null. skips ! $ exec ! 𝓣.C 𝓣.Λ En (after 3 here.body) (at_ret En Post) $ first ! $ blocks ! $
         sets ! (of_opd ! (load ! (through ! refl (fld ! refl (stop !))) (look ! 0 refl))) refl (tt, record { fits = fits }) $ sets ! (bin ! (get ! refl) (lit ! tt) tt) refl (tt, tt) $ first ! $ branches ! (get ! refl)
         (λ shared. sets ! (agg ! (and_then ! (lit ! tt) (no_more !))) refl (tt, (record { fits = lit< tt }, tt)) $ shut E i a ! tt n cb co e fits $ move ! (1 ∷ 2 ∷ 3 ∷ []) $ counted_made E i ! a $
-        rewrite ! 0 (λ (p : Ptr). ‵ (unless_null p (shared_owns (R E) i))) (sym e) refl $ put_back 𝓛 s b o me same κ q γ others ! tt $
+        rewrite ! 0 (λ (p : Ptr). ‵ (unless_null p (shared_owns (R E) i))) (sym e) refl $ put_back 𝓛 s owner b o me same κ q γ others ! tt $
         returns_within ! Post refl (look_at ! 0 refl) $ free_all ! refl $ keep ! (0 ∷ 1 ∷ 2 ∷ 3 ∷ []) $
         suffices ! _ (ends_at 𝓛 ended stayed held z (live 0 vnil) None (tt, tt) (tt, tt)) $ nothing ! $ nothing ! $ fjoin ! $ join ! $ move ! (1 ∷ 0 ∷ []) $ join ! $ frame ! $ frame ! $ says ! tt $ done !)
         (λ last. let at : Val = vptr b o in let one_n : n ≡ 1 = is_so n 1 last in
@@ -170,7 +170,7 @@ module _ (E : El) where
         -- [the thread's token; what is kept; the count; the invariant; what is seen; the other tokens; the owner's cell; the open borrow; obs; auth]
         move ! (2 ∷ 1 ∷ []) $ flt_i ! 1 (2 ^ 64) (lit< tt) $ fjoin ! $ rewrite ! 0 (λ (p : Ptr). ‵ (counter_at p 0 1)) (sym e) refl $ fjoin ! $
         let w : (Bk E).Denot = contents i.room.items i.room.capacity in
-        of_sole E i facts cb co e ! $ block_made E ! i facts $ rewrite ! 0 (λ (p : Ptr). ‵ ((Bk E).own_val w (laid p ∷ []))) s.is_owner.top_is refl $ move ! (5 ∷ 0 ∷ []) $ fjoin ! $
+        of_sole E i facts cb co e ! $ block_made E ! i facts $ rewrite ! 0 (λ (p : Ptr). ‵ ((Bk E).own_val w (laid p ∷ []))) owner.top_is refl $ move ! (5 ∷ 0 ∷ []) $ fjoin ! $
         fpack ! (List Val) (λ us. fsep (cell_at full_share (Bk E).mir us b o) ((Bk E).own_val w us)) (laid c ∷ []) $ nothing ! $
         -- [nothing; the block in the owner's place; the thread's token; the invariant; what is seen; the other tokens; the open borrow; obs; auth]
         move ! (6 ∷ 7 ∷ 8 ∷ 1 ∷ 0 ∷ []) $ group ! 5 $

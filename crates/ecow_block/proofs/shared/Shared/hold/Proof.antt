@@ -37,7 +37,7 @@ use Rattle.std_alloc.proofs.RcSteps.{word, word-Good}
 use Rattle.std_alloc.specs.Owners.{sole_or_counted}
 use Rattle.ecow_block.specs.Contents.{contents}
 use Rattle.ecow_block.specs.Heads.{unless_null}
-use Rattle.ecow_block.specs.Owners.{sole_owns, counted_owns, shared_owns, owner_owns}
+use Rattle.ecow_block.specs.Owners.{IsOwner, sole_owns, counted_owns, shared_owns, owner_owns}
 use Rattle.ecow_block.specs.Parts.{IsParts}
 use Rattle.ecow_block.specs.contracts.room.Title as title_type
 use Rattle.ecow_block.specs.contracts.room.Deed as deed_type
@@ -71,10 +71,10 @@ module _ (E : El) where
     abbrev held : Clauses 𝓤 ended
     held = F.clauses E.row 𝓛 at_mem run
 
-    exits : (z : (walk_of 𝓛 ended stayed held).Ghost) (s : (Si E).Denot) → contents s.inside.room.items s.inside.room.capacity ≡ contents z.0.3.1.0.items z.0.3.1.0.capacity
+    exits : (z : (walk_of 𝓛 ended stayed held).Ghost) (s : (Si E).Denot) → IsOwner s.top s.alloc s.inside → contents s.inside.room.items s.inside.room.capacity ≡ contents z.0.3.1.0.items z.0.3.1.0.capacity
         → ent 𝓤 (⋆ 𝓛 (‵ (owner_owns (R E) s.inside) ∷ (‵ (flft z.0.0.0 z.0.1.0) ⊛ ‵ ftrue) ∷ [])) ((walk_of 𝓛 ended stayed held).post z (laid s.top.ptr))
-    exits z s is =
-        qed 𝓛 (‵ (owner_owns (R E) s.inside) ∷ (‵ (flft z.0.0.0 z.0.1.0) ⊛ ‵ ftrue) ∷ []) ∵ owner_made E ! s $
+    exits z s owner is =
+        qed 𝓛 (‵ (owner_owns (R E) s.inside) ∷ (‵ (flft z.0.0.0 z.0.1.0) ⊛ ‵ ftrue) ∷ []) ∵ owner_made E ! s owner $
         suffices ! _ (ends_at 𝓛 ended stayed held z (laid s.top.ptr) (contents s.inside.room.items s.inside.room.capacity) (tt, (tt, (tt, (tt, (tt, tt))))) (tt, (tt, (tt, (tt, (tt, tt)))))) $ says ! is $
         nothing ! $ nothing ! $ fjoin ! $ nothing ! $ fjoin ! $ nothing ! $ fjoin ! $ nothing ! $ fjoin ! $ nothing ! $ fjoin ! $ join ! $ move ! (1 ∷ 0 ∷ []) $ join ! $ done !
 
@@ -90,7 +90,7 @@ module _ (E : El) where
         split ! $ move ! (1 ∷ []) $ fsplit ! $ top_had E ! top vss.0 (λ e₀. fsplit ! $ fsplit ! $ mark_had E ! vss.1.0 (λ e₁. move ! (1 ∷ []) $ fsplit ! $ fsplit ! $ mark_had E ! vss.1.1.0 (λ e₂. move ! (1 ∷ []) $
         fsplit ! $ fsplit ! $ mark_had E ! vss.1.1.1.0 (λ e₃. move ! (1 ∷ []) $ fsplit ! $ heap_had ! alloc vss.1.1.1.1.0 (λ e₄. drop ! $
         -- [the deed's right; the title's; the room's; the tokens]
-        let s : (Si E).Denot = record { top = top; room = record { mark = record {} }; title = record { mark = record {} }; deed = record { mark = record {} }; alloc = alloc; inside = i; is_owner = record { top_is = refl; alloc_is = refl; is_block = ok } } in
+        let s : (Si E).Denot = record { top = top; room = record { mark = record {} }; title = record { mark = record {} }; deed = record { mark = record {} }; alloc = alloc; inside = i } in let is : IsOwner top alloc i = record { top_is = refl; alloc_is = refl; is_block = ok } in
         let us : List Val = word top.ptr ∷ mark ∷ mark ∷ mark ∷ heap_val ∷ [] in
         let Run : List Val → SProp 𝓤 = λ ws. WpFn 𝓤 H 𝓣.C 𝓣.Λ here ws Post in
         suffices ! (Run us) (subst (λ (ws : List Val). ent 𝓤 (Run us) (Run ws)) (sym (λ k. e₀ k ++ (e₁ k ++ (e₂ k ++ (e₃ k ++ (e₄ k ++ [])))))) (id⊢ 𝓤 (Run us))) $
@@ -101,9 +101,9 @@ module _ (E : El) where
         sets ! (agg ! (and_then ! (get ! refl) (and_then ! (get ! refl) (and_then ! (get ! refl) (and_then ! (get ! refl) (and_then ! (get ! refl) (no_more !))))))) refl (laid-Good E top.ptr) $
         returns ! (look_at ! 0 refl) $ free_all ! refl $
         in_case ! top.ptr
-        (λ e. nothing ! $ rewrite ! 0 (λ (p : Ptr). ‵ (unless_null p (shared_owns (R E) i))) (sym e) refl $ keep ! (0 ∷ 4 ∷ []) $ by ! (exits z s refl))
+        (λ e. nothing ! $ rewrite ! 0 (λ (p : Ptr). ‵ (unless_null p (shared_owns (R E) i))) (sym e) refl $ keep ! (0 ∷ 4 ∷ []) $ by ! (exits z s is refl))
         (λ b o e. to_sole E i ok b o e ! $ fpack ! Bool (sole_or_counted (sole_owns (R E) i) (counted_owns (R E) i)) true $
-        rewrite ! 0 (λ (p : Ptr). ‵ (unless_null p (shared_owns (R E) i))) (sym e) refl $ by ! (exits z s refl)))))))))
+        rewrite ! 0 (λ (p : Ptr). ‵ (unless_null p (shared_owns (R E) i))) (sym e) refl $ by ! (exits z s is refl)))))))))
 
     meets : Meets 𝓛 ended.signature (WpFn 𝓤 H 𝓣.C 𝓣.Λ here) (closing 𝓛 ended held)
     meets =
