@@ -1,10 +1,4 @@
-//! An owner of a value that others may own too, or of none: one word, of which clones share the
-//! value.
+//! The owner of a block that others may own too, by a plain count: for one thread.
 #![tactic(auto)]
 
-mod counts;
-mod handle;
-mod memory;
-
-pub use counts::Shared;
-pub use handle::{Handle, Sole};
+pub use ecow_block::Shared;

@@ -43,13 +43,10 @@ impl<T: Drop> EcoVec<T> {
         if len == 0 {
             return Ok(EcoVec::new(alloc));
         }
-        if let Ok(block) = Block::with_capacity(alloc, fresh_capacity(len))
-            && let Ok(mut shared) = Shared::new(alloc, block)
-            && let Some(block) = Shared::get_mut(&mut shared)
-        {
+        if let Ok(mut block) = Block::with_capacity(alloc, fresh_capacity(len)) {
             block.fill_within_capacity(elements);
             return Ok(EcoVec {
-                block: shared,
+                block: block.share(),
                 alloc,
             });
         }
@@ -103,7 +100,7 @@ impl<T: Drop> EcoVec<T> {
             return Ok(EcoVec::new(alloc));
         }
         Ok(EcoVec {
-            block: Shared::new(alloc, items)?,
+            block: items.share(),
             alloc,
         })
     }
@@ -131,7 +128,7 @@ impl<T: Clone> EcoVec<T> {
         }
         let block = Block::from_clones(alloc, elements, fresh_capacity(len))?;
         Ok(EcoVec {
-            block: Shared::new(alloc, block)?,
+            block: block.share(),
             alloc,
         })
     }
@@ -173,7 +170,7 @@ impl<T: Clone> EcoVec<T> {
             block.push_within_capacity(value.clone()?);
         }
         Ok(EcoVec {
-            block: Shared::new(alloc, block)?,
+            block: block.share(),
             alloc,
         })
     }
@@ -253,7 +250,7 @@ impl<T: Clone> EcoVec<T> {
         ensures memory { IfErr result (λ rejected. rejected.error ≡ EcoError.Memory) }
     {
         let EcoVec { block, alloc } = self;
-        match Shared::try_unwrap(block) {
+        match Shared::try_unwrap(alloc, block) {
             Ok(block) => Ok(IntoIter::new(block.into_rest())),
             Err(block) => {
                 let vector = EcoVec { block, alloc };

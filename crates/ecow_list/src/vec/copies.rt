@@ -9,7 +9,6 @@ use crate::vec::EcoVec;
 use crate::vec::own::{Copies, Room};
 use ecow_base::{MAX_LEN, fresh_capacity, resolve};
 use ecow_block::Block;
-use ecow_shared::Shared;
 use std::alloc::Global;
 use std::ops::RangeBounds;
 
@@ -33,7 +32,7 @@ impl<T: Clone + Copy> EcoVec<T> {
         }
         let block = Block::from_copies(alloc, elements, fresh_capacity(len))?;
         Ok(EcoVec {
-            block: Shared::new(alloc, block)?,
+            block: block.share(),
             alloc,
         })
     }

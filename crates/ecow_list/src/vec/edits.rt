@@ -36,7 +36,8 @@ impl<T: Clone> EcoVec<T> {
             block.truncate(len);
             return Ok(());
         }
-        self.block = self.copy::<Clones>(&self.as_slice()[..len], fresh_capacity(len))?;
+        let kept = self.copy::<Clones>(&self.as_slice()[..len], fresh_capacity(len))?;
+        self.block = kept.share();
         Ok(())
     }
 

@@ -1,4 +1,0 @@
-pub mod Places
-pub mod Settling
-pub mod Steps
-pub mod Handles

@@ -1,3 +1,0 @@
-pub mod Ownership
-pub mod Lends
-pub mod LendsSole
