@@ -472,7 +472,9 @@ impl<T> Block<T> {
         Ok(elements)
     }
 
-    /// Gives the memory of an empty block back.
+    /// Gives the memory of an empty block back. Out of line, so that a drop within a drop takes little
+    /// stack.
+    #[inline(never)]
     pub(crate) fn destroy_empty(self)
         requires { self.items ≡ [] }
     {
