@@ -5,7 +5,7 @@
 --     reads, read      an owner's machine value, through a `&`
 --     lent_out, lent_back      an owner behind a `&`, as a share of its token and the invariant
 --     opens, shut, more, less, alone      the invariant is opened to the count, and shut; an owner more, and one less; a sole one gets all
-use mathlib.Core.Path.{◌≡◌, refl, sym, subst}
+use mathlib.Core.Path.{◌≡◌, refl, sym}
 use mathlib.Core.Bool.{Bool, true, false}
 use Prim.Native.Nat.{ℕ, ◌+◌, ◌-◌, ◌<◌, ◌^◌}
 use native.Mathlib.Omega.{arith}
@@ -16,8 +16,8 @@ use base.Fraction.{full_share}
 use base.FractionLaws.{Counts}
 use base.Share
 use base.Mask.{every}
-use base.Logic.{SProp, never, id⊢, apply∗}
-use base.Fml.{Fml, Lft, Incl, Share, ftrue, fsep, fex, fhide, fat, flft, fdead, fobor, ftok}
+use base.Logic.{never, id⊢, apply∗}
+use base.Fml.{Fml, Lft, Incl, Share, ftrue, fhide, fat, flft, fdead, fobor, ftok}
 use mir.Val.{Val}
 use mir.Raw.{raw as bare}
 use types.Logic.{Logic, sem}
@@ -28,7 +28,7 @@ use types.Na.{na_inv_dup}
 use types.RcWeak as rc
 use denote.Copied.{Copied, Struct-Copied}
 use denote.Memory.{cell_at, part_at, hidden_shr}
-use denote.Opens.{Shut, hide, unhide}
+use denote.Opens.{Shut, unhide}
 use denote.Param.Laws.{param_laws}
 use denote.RawPtr.{Ptr, RawPtr, block_ptr, null_ptr, in_a_block}
 use denote.RcWeak as handles
@@ -42,7 +42,7 @@ use Rattle.std.specs.contracts.alloc.Global as heap
 use Rattle.std_alloc.specs.Owners.{sole_or_counted}
 use Rattle.std_alloc.specs.Rc.Ownership.{counter_at}
 use Rattle.ecow_block.specs.Heads.{unless_null, lent_unless_null}
-use Rattle.ecow_block.specs.Owners.{one_weak, head_at, key, counts, kept, seen, sole_owns, counted_owns, shared_owns, shared_lends, owner_owns, owner_lends}
+use Rattle.ecow_block.specs.Owners.{one_weak, head_at, key, counts, kept, seen, sole_owns, counted_owns, shared_owns, shared_lends}
 use Rattle.ecow_block.specs.contracts.room.Top as top
 use Rattle.ecow_block.specs.contracts.shared.Nil as nil
 use Rattle.ecow_block.specs.contracts.shared.Shared.TheInside as SI
@@ -100,7 +100,7 @@ module _ (E : El) (s : (Si E).Denot) {M : Type 1} {𝓤 : Ura M} {𝓛 : Logic �
   reads t z b o k =
       let none = (field_copy (nil.the_type (R E)) (field_copy (marker.the_type RawPtr) tt, tt)).copied M 𝓤 𝓛 in
       let copied : Copied 𝓛 (Data E) = Struct-Copied 𝓛 (shape (SI.the_type (R E))) (refl, (refl, (refl, (refl, (refl, tt)))))
-          ((field_copy (top.the_type (R E)) (RawPtr-copy, tt)).copied M 𝓤 𝓛, (none, (none, (none, ((field_copy heap.the_type heap_laws.the_copy).copied M 𝓤 𝓛, tt))))) in
+      ((field_copy (top.the_type (R E)) (RawPtr-copy, tt)).copied M 𝓤 𝓛, (none, (none, (none, ((field_copy heap.the_type heap_laws.the_copy).copied M 𝓤 𝓛, tt))))) in
       looks t z (Data E) copied.opens (data_of E s) b o (λ q' vs. move t (1 ∷ []) $ data_had E t s vs (λ e.
       rewrite t 0 (λ (us : List Val). ‵ (cell_at q' (Data E).mir us b o)) e refl $ use1 𝓛 (‵ (fat q' (data_ty E) b o (laid s.top.ptr))) (𝓛.laws.raw_at q' (data_ty E) b o (laid s.top.ptr)) $ k q'))
 

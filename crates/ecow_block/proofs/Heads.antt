@@ -8,8 +8,8 @@ use Prim.Native.Nat.{ℕ, max, ◌+◌, ◌*◌, ◌<◌, ◌^◌}
 use mathlib.Core.List.{List, [], ◌∷◌, ◌++◌}
 use seplogic.Ra.Ura.{Ura}
 use base.Fraction.{full_share}
-use base.Logic.{SProp, ent, wand, apply∗, never, id⊢}
-use base.Fml.{Fml, ftrue, ffalse, fsep, feq, fat, froom}
+use base.Logic.{SProp, ent, wand, apply∗}
+use base.Fml.{Fml, ftrue, fsep, fat, froom}
 use mir.Syntax.{Ty, Tys, Width, w8, w16, w32, w64, w128, ty_int, ty_array, tcons, tnil}
 use mir.Val.{Val, vint, vstruct, vcons, vnil, of_list, bytes}
 use mir.Raw.{raw as bare}
@@ -24,7 +24,6 @@ use types.Logic.{Logic, sem}
 use types.Kit.{Goal, Step, step, Seq, Item, ‵, raw, ◌⊛◌, ◌$◌, ◌∵◌, !, qed, by, move, drop, use0, use1, use2, split, split3, group, rewrite, fsplit, fsplit3, fjoin, fjoin3, fpick, fpack, feq_l, feq_i, flt_i, assume}
 use Rattle.core.specs.Allocator.{HasLayout}
 use denote.RattleType.{RattleType, Valss}
-use denote.Builtin.{usize}
 use denote.Memory.{lone, cell_at, part_at, part_of}
 use denote.Steps.{nothing}
 use denote.RawPtr.{Ptr, InBlock, block_ptr, null_ptr, block_of, count_of, ptr_val, at_block}
@@ -33,14 +32,12 @@ use denote.Struct.Declared as Declared
 use Rattle.core.proofs.mem.Param.{El, R, elτ}
 use Rattle.core.proofs.alloc.Calls.{Al, token}
 use Rattle.core.proofs.slots.Leases.{P}
-use Rattle.std_alloc.specs.Rc.Ownership.{counter_at}
-use Rattle.std_alloc.proofs.RawLayout.{as_raw, as_written}
 use Rattle.std_alloc.proofs.RcSteps.{word}
 use Rattle.ecow_block.specs.Heads.{whole_type, whole_size, whole_align, fields_type, places_offset, parts_room, parts_rejoin, title_owns}
 use Rattle.ecow_block.specs.contracts.room.Title as Title-type
 use Rattle.ecow_block.specs.contracts.room.Top as Top-type
 use Rattle.ecow_block.specs.contracts.room.Fields as Fields-type
-use Rattle.ecow_block.proofs.Memory.{Bs, sz, Mark, Spare, mark, mark_had, mark_made}
+use Rattle.ecow_block.proofs.Memory.{sz, Mark, Spare, mark, mark_had, mark_made}
 use Rattle.ecow_block.proofs.Deeds.{base_made}
 
 abbrev pub cell : ℕ → ℕ → ℕ → Fml

@@ -5,21 +5,17 @@
 --     owner_had, owner_made      an owner by value
 --     block_had, block_made      a block by value: [the deed's right; the title's; the room's]
 --     to_sole, of_sole      a block with a head is what a sole owner has
-use mathlib.Core.Path.{◌≡◌, refl, sym, subst, ◌∙◌}
-use mathlib.Core.Bool.{Bool}
+use mathlib.Core.Path.{◌≡◌, refl, sym, ◌∙◌}
 use Prim.Native.Nat.{ℕ, ◌+◌, ◌≤◌}
 use native.Mathlib.Omega.{arith}
 use lib.ListN.{length}
 use mathlib.Core.List.{List, [], ◌∷◌, ◌++◌}
 use seplogic.Ra.Ura.{Ura}
-use lib.Dec.{lit<}
-use base.Fraction.{full_share}
 use base.Fml.{Lft, Fml, ftrue, fsep}
-use mir.Syntax.{Ty, Sym}
+use mir.Syntax.{Ty}
 use mir.Val.{Val, vstruct, vcons, vnil, vunit, of_list}
 use types.Logic.{Logic}
 use types.Kit.{Goal, Step, step, Seq, Item, ‵, ◌$◌, move, drop, use0, rewrite, fsplit, fjoin, fpick, fpack, feq_l, feq_i}
-use denote.Builtin.{unit}
 use denote.Laws.{Is, Tells, shows}
 use denote.Memory.{lone, shared_of, hidden_shr}
 use denote.RattleType.{RattleType, Valss}
@@ -38,7 +34,7 @@ use Rattle.std.specs.contracts.alloc.Global as heap
 use Rattle.std.specs.contracts.impls.GlobalAllocator.TheImpl.{ghosts}
 use Rattle.std_alloc.proofs.RcSteps.{Good, word, word-Good}
 use Rattle.std_alloc.specs.Rc.Ownership.{counter_at}
-use Rattle.ecow_block.specs.Contents.{Contents, contents}
+use Rattle.ecow_block.specs.Contents.{contents}
 use Rattle.ecow_block.specs.Fields.{IsBlock}
 use Rattle.ecow_block.specs.Heads.{head_rest, title_owns, title_shares}
 use Rattle.ecow_block.specs.Ownership.{room_owns, deed_owns}

@@ -2,9 +2,8 @@
 use mathlib.Core.List.{[], ◌∷◌}
 use Prim.Native.Nat.{ℕ}
 use lib.Dec.{lit<}
-use mir.Syntax.{Ty}
 use seplogic.Ra.Ura.{Ura}
-use base.Fml.{Lft, Fml, Incl, Incl-trans, ftrue, fsep, fex, flft, fbor}
+use base.Fml.{Lft, Fml, Incl, Incl-trans, ftrue, fsep, flft, fbor}
 use contract.BorrowLft.{meet_⊑_left, meet_⊑_right}
 use types.Logic.{Logic}
 use types.Kit.{‵, ◌⊛◌, later, some, ◌$◌, ◌∵◌, !, qed, move, use1, use2, split3, join, group, pick, await, updating, now, done, fsplit, fjoin3, fpick, fpack, flt_i}
@@ -12,7 +11,6 @@ use types.RcWeak as rc
 use denote.RcWeak as handles
 use denote.Param.Laws.{Laws}
 use denote.RattleType.{RattleType}
-use denote.RawPtr.{Ptr}
 use denote.Sharing.{ShrLaws}
 use denote.SharingLaws.{beside_shr_laws}
 use denote.Steps.{nothing}

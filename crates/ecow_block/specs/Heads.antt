@@ -15,7 +15,6 @@ use denote.Memory.{lone}
 use denote.Sharing.{nothing}
 use denote.Struct.Lending.{lent_at}
 use denote.RawPtr.{Ptr, block_ptr, null_ptr, lies_at, room_for, ◌+ₚ◌}
-use Rattle.ecow_block.specs.declared.room.Fields.{Fields}
 use Rattle.ecow_block.specs.contracts.room.Fields as fields
 
 abbrev pub count_type : Ty

@@ -1,22 +1,20 @@
 //! A list of elements with a capacity number, over raw memory. Nothing here touches a pointer.
-ghost use Rattle.std.specs.Prelude.{◌≡◌, ◌+◌, ◌*◌, ◌-◌, ◌<◌, ◌≤◌, ◌==◌, [], ◌∷◌, ◌++◌, length, take, drop, slice_get, Some, IfOk, OnOk, OnErr, IsOk, insert, remove, slice_range, slice_set, if◌then◌else◌, is_ok, vec_len, false, min};
+ghost use Rattle.std.specs.Prelude.{◌≡◌, ◌+◌, ◌-◌, ◌<◌, ◌≤◌, ◌==◌, [], ◌∷◌, ◌++◌, length, take, drop, slice_get, Some, IfOk, OnOk, OnErr, IsOk, insert, remove, slice_range, slice_set, if◌then◌else◌, is_ok, vec_len, false, min};
 ghost use Rattle.std.specs.Borrow.{sem};
 ghost use Rattle.std.specs.Fn.{CalledAtMut};
 ghost use Rattle.std.specs.Iterator.{IsFinite};
 ghost use Rattle.std.specs.List.{AllZip, insert_slice, remove_range, splice};
 ghost use Rattle.std.specs.List.Retain.{RetainsInTurn};
-ghost use Rattle.std.specs.Vec.Ownership.{FitsInBlock};
 ghost use Rattle.ecow_base.specs.Clones.{ClonesAreEqual};
 ghost use Rattle.ecow_block.specs.Clones.{AppendsClones};
 ghost use Rattle.ecow_block.specs.Contents.{contents};
 ghost use Rattle.ecow_block.specs.Iterators.{GivesOn};
-ghost use Rattle.ecow_block.specs.Ownership.{has_bytes};
 ghost use Rattle.ecow_block.specs.Updates.{TakesAt, UpdatesAt};
 
-use crate::rest::Rest;
 use crate::parts::{
     TOGETHER, base_of, give_back_parts, make_parts, no_parts, put_len, put_places, takes_bytes,
 };
+use crate::rest::Rest;
 use crate::room::{Deed, Room, Title, Top, fields, grow, is_none};
 use crate::shared::Shared;
 use ecow_base::MAX_LEN;
@@ -311,8 +309,8 @@ impl<T> Block<T> {
         self.renew(capacity)
     }
 
-    /// Moves the elements into a new block of `capacity` places, and gives the old one back. Where it
-    /// is refused, the block stays as it is.
+    /// Moves the elements into a new block of `capacity` places, and gives the old one back. Where
+    /// it is refused, the block stays as it is.
     #[cold]
     #[inline(never)]
     fn renew(&mut self, capacity: usize) -> Result<(), AllocError>
@@ -472,8 +470,8 @@ impl<T> Block<T> {
         Ok(elements)
     }
 
-    /// Gives the memory of an empty block back. Out of line, so that a drop within a drop takes little
-    /// stack.
+    /// Gives the memory of an empty block back. Out of line, so that a drop within a drop takes
+    /// little stack.
     #[inline(never)]
     pub(crate) fn destroy_empty(self)
         requires { self.items ≡ [] }

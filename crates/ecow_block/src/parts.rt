@@ -1,6 +1,6 @@
-//! The parts of a block: its head, its places, and the rights to give both back. Nothing here touches
-//! a pointer.
-ghost use Rattle.std.specs.Prelude.{◌≡◌, ◌*◌, ◌^◌, ◌<◌, ◌≤◌, [], length, IfOk};
+//! The parts of a block: its head, its places, and the rights to give both back. Nothing here
+//! touches a pointer.
+ghost use Rattle.std.specs.Prelude.{◌≡◌, ◌<◌, [], IfOk};
 ghost use Rattle.std.specs.Vec.Ownership.{FitsInBlock};
 ghost use denote.RawPtr.{InBlock};
 ghost use Rattle.ecow_block.specs.Ownership.{has_bytes};
@@ -13,8 +13,8 @@ use crate::room::{
 use std::alloc::{AllocError, Allocator, Global};
 use std::mem::{replace, size_of};
 
-/// How many places stand right behind their head at most, so that one request is made for both. More
-/// stand apart, so that they grow in place.
+/// How many places stand right behind their head at most, so that one request is made for both.
+/// More stand apart, so that they grow in place.
 pub(crate) const TOGETHER: usize = 1024;
 
 /// Whether `count` places take any bytes.

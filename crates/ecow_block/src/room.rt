@@ -1,5 +1,5 @@
-//! Raw room for elements: this module and its parts are the only code of the crate that touches
-//! pointers.
+//! Raw room for elements, and the heads of blocks: this module and its parts, and `shared`, are the
+//! only code of the crate that touches pointers.
 ghost use Rattle.std.specs.Prelude.{◌≡◌, ℕ, ◌≤◌, List, length, ⊤};
 ghost use base.Fml.{ftrue};
 ghost use denote.RawPtr.{Ptr};
@@ -15,9 +15,7 @@ mod heap;
 mod layout;
 mod places;
 
-pub(crate) use heads::{
-    fields, fields_mut, give_back_head, is_none, make_head, no_head, tested,
-};
+pub(crate) use heads::{fields, fields_mut, give_back_head, is_none, make_head, no_head, tested};
 pub(crate) use heap::{give_back, grow, make, nowhere};
 pub(crate) use layout::layout_of;
 
@@ -149,8 +147,7 @@ impl<T, A: Allocator> Title<T, A> {
 }
 
 impl<T, A: Allocator> Model for Title<T, A> {
-    ghost also_owns = {
-        λ t. title_owns (A.dealloc_token t.alloc) T.row t.at t.fields t.places };
+    ghost also_owns = { λ t. title_owns (A.dealloc_token t.alloc) T.row t.at t.fields t.places };
 
     ghost also_shares = { λ t _ κ. title_shares T.row t.at t.fields κ };
 }

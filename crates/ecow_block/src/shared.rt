@@ -15,8 +15,8 @@ struct Nil<T> {
     mark: PhantomData<*const T>,
 }
 
-/// An owner of a block that may have others. It takes one word, and lies in memory as a block does. A
-/// block without places has no other owner.
+/// An owner of a block that may have others. It takes one word, and lies in memory as a block does.
+/// A block without places has no other owner.
 pub struct Shared<T> {
     top: Top<T>,
     room: Nil<T>,
@@ -80,8 +80,8 @@ impl<T> Shared<T> {
         Some(unsafe { &*(&raw const *self as *const Block<T>) })
     }
 
-    /// The block, for writing, if it has places and this is its sole owner. Another block may be put
-    /// in its place.
+    /// The block, for writing, if it has places and this is its sole owner. Another block may be
+    /// put in its place.
     pub fn get_mut(this: &mut Shared<T>) -> Option<&mut Block<T>>
         ensures* writes_back { sem 𝓛 (lends_block T.row this.entry result) }
         ensures value { IfSome result (λ block. this.old ≡ block.now) }

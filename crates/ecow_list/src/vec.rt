@@ -37,6 +37,7 @@ pub struct EcoVec<T> {
 
 impl<T> Model for EcoVec<T> {
     ghost use Rattle.std.specs.Prelude.{List};
+
     ghost Value = { List T };
 
     ghost view = { λ v. v.block.items };

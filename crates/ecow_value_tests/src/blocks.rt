@@ -123,7 +123,11 @@ fn counted(alloc: Global, count: usize) -> Result<Block<usize>, AllocError> {
 /// Whether a block holds the numbers from 0 up to `count`.
 fn counts_to(block: &Block<usize>, count: usize) -> bool {
     let elements = block.as_slice();
-    elements.len() == count && elements.iter().zip(0..count).all(|(item, want)| *item == want)
+    elements.len() == count
+        && elements
+            .iter()
+            .zip(0..count)
+            .all(|(item, want)| *item == want)
 }
 
 /// How many places stand behind their head at most.
@@ -135,13 +139,22 @@ fn a_block_holds_its_elements_with_its_places_together_and_apart(
 ) -> Result<(), AllocError> {
     for count in [1, 2, 1000, TOGETHER - 1, TOGETHER, TOGETHER + 1, 5000] {
         let mut block = counted(rt.alloc(), count)?;
-        assert!(rt; counts_to(&block, count) && block.capacity() == count, "{count}");
+        assert!(rt;
+            counts_to(&block, count) && block.capacity() == count,
+            "{count}"
+        );
         let last = block.pop();
-        assert!(rt; last == Some(count - 1) && counts_to(&block, count - 1), "{count}");
+        assert!(rt;
+            last == Some(count - 1) && counts_to(&block, count - 1),
+            "{count}"
+        );
         block.push_within_capacity(count - 1);
         let mut rest = block.into_rest();
         let ends = (rest.next(), rest.next_back());
-        assert!(rt; ends == (Some(0), if count == 1 { None } else { Some(count - 1) }), "{count}");
+        assert!(rt;
+            ends == (Some(0), if count == 1 { None } else { Some(count - 1) }),
+            "{count}"
+        );
     }
     Ok(())
 }
@@ -159,7 +172,10 @@ fn elements_stay_where_their_places_move_apart(rt: HostRuntime) -> Result<(), Al
     ] {
         let mut block = counted(rt.alloc(), few)?;
         block.grow(many)?;
-        assert!(rt; counts_to(&block, few) && block.capacity() == many, "{few} and {many}");
+        assert!(rt;
+            counts_to(&block, few) && block.capacity() == many,
+            "{few} and {many}"
+        );
         block.fill_from(many, &mut (few..many));
         assert!(rt; counts_to(&block, many), "{few} and {many}");
         block.grow(many)?;
@@ -169,7 +185,9 @@ fn elements_stay_where_their_places_move_apart(rt: HostRuntime) -> Result<(), Al
 }
 
 #[test]
-fn elements_change_places_between_small_and_large_blocks(rt: HostRuntime) -> Result<(), AllocError> {
+fn elements_change_places_between_small_and_large_blocks(
+    rt: HostRuntime,
+) -> Result<(), AllocError> {
     for (first, second) in [(3, 2000), (2000, 3), (1500, 1500), (4, 4)] {
         let mut block = counted(rt.alloc(), first)?;
         let mut other = Block::with_capacity(rt.alloc(), second + 2)?;
@@ -206,7 +224,10 @@ fn owners_share_a_block_of_any_size(rt: HostRuntime) -> Result<(), AllocError> {
         drop(first);
         assert!(rt; Shared::get_mut(&mut second).is_some(), "{count}");
         let block = Shared::try_unwrap(rt.alloc(), second);
-        assert!(rt; block.is_ok_and(|block| counts_to(&block, count)), "{count}");
+        assert!(rt;
+            block.is_ok_and(|block| counts_to(&block, count)),
+            "{count}"
+        );
     }
     Ok(())
 }

@@ -1,6 +1,6 @@
 -- `Shared` as a type that may hold the type that holds it.
 use Rattle.std.specs.Prelude.{◌≡◌, ℕ, Bool, List}
-use mathlib.Core.Path.{refl, sym}
+use mathlib.Core.Path.{refl}
 use mathlib.Core.Former.{Former, this, const, pair, via, children}
 use base.Fml.{Lft, Key, Fml, ftrue, fsep, fex}
 use denote.RattleType.{RattleType}

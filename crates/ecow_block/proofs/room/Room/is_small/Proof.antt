@@ -1,6 +1,5 @@
 -- `is_small` says what a room knows of its size, for every element type. Assumes `Logic`.
 use mathlib.Core.Path.{refl, sym, subst}
-use Prim.Native.Nat.{◌+◌, ◌*◌, ◌^◌}
 use mathlib.Core.List.{List, [], ◌∷◌, ◌++◌}
 use seplogic.Ra.Ura.{Ura}
 use base.Logic.{SProp, ent, id⊢}

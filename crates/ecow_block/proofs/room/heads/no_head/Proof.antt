@@ -1,5 +1,5 @@
 -- `no_head` hands out null, and a title of nothing, for every element type and allocator. Assumes `Logic`.
-use mathlib.Core.Path.{◌≡◌, refl, sym, subst}
+use mathlib.Core.Path.{refl, sym, subst}
 use mathlib.Core.List.{List, [], ◌∷◌, ◌++◌}
 use seplogic.Ra.Ura.{Ura}
 use lib.Dec.{lit<}

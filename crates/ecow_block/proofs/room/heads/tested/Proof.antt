@@ -1,6 +1,5 @@
 -- `tested` says that the pointer of what `Global` gave may be compared with null, for every element type. Assumes `Logic`.
-use mathlib.Core.Path.{◌≡◌, refl, sym, subst}
-use Prim.Native.Nat.{ℕ, ◌^◌}
+use mathlib.Core.Path.{refl, sym, subst}
 use mathlib.Core.List.{List, [], ◌∷◌, ◌++◌}
 use seplogic.Ra.Ura.{Ura}
 use lib.Dec.{lit<}

@@ -1,41 +1,38 @@
 -- `another` makes one more owner, or finds the count full, for every element type. Assumes `Logic`.
 use mathlib.Core.Path.{◌≡◌, refl, sym, subst, ap, ◌∙◌}
-use mathlib.Core.Bool.{Bool, true}
-use Prim.Native.Nat.{ℕ, ◌+◌, ◌-◌, ◌≤◌, ◌<◌, ◌^◌}
+use Prim.Native.Nat.{◌+◌, ◌-◌, ◌<◌, ◌^◌}
 use native.Mathlib.Omega.{arith}
 use mathlib.Core.List.{List, [], ◌∷◌, ◌++◌}
 use seplogic.Ra.Ura.{Ura}
 use lib.Dec.{lit<}
 use base.Mask.{every}
 use base.Logic.{SProp, ent, id⊢}
-use base.Fml.{Fml, ftrue, fsep, flft, fhide, fat, ftok}
+use base.Fml.{ftrue, flft, ftok}
 use mir.Syntax.{Fn, Body, skip, seq, assign, block, loop, cond, switch, exit, return, call, call_v, unreachable, lend_static}
 use mir.MapTy.{inst_fn}
 use mir.Val.{Val, vptr, vcons, vnil}
 use prog.Memory.{Memory}
 use prog.Routine.{Routine}
 use prog.Wp.{Env, WpFn, Tables, Wp, after_block, after_seq, at_return}
-use types.Logic.{Logic, sem}
+use types.Logic.{Logic}
 use contract.Beside.{Carries}
-use contract.BorrowLft.{◌⊑◌}
-use contract.Monad.{Fun, fact}
+use contract.Monad.{Fun}
 use contract.Named.{bare_unfolds}
 use contract.Running.{bare_tables, tables_of}
 use sound.WpLaws.{WpFn-mono}
-use types.Kit.{‵, raw, ◌⊛◌, at_ret, any_q, ◌$◌, ◌∵◌, !, qed, move, keep, drop, use0, use1, split, split3, join, rewrite, fsplit, fjoin, fpick, fpack, feq_l, flt_i, suffices, frame, done}
+use types.Kit.{‵, raw, ◌⊛◌, at_ret, any_q, ◌$◌, ◌∵◌, !, qed, move, keep, drop, use0, use1, split, join, rewrite, fsplit, fjoin, fpick, feq_l, suffices, frame, done}
 use types.Match.{live}
 use types.Part.{look_in, sub, whole, agg}
-use types.RcWeak.{part, part_in}
-use types.Run.{look, store, stop, fld, load, lit, neg_lit, bin, un, of_opd, and_then, no_more, assigns, assigns_last, first, blocks, skips, branches, exec, returns, returns_within, enter}
-use types.ByLocal.{alloc_all, pass_all, free_all, look_at, get, get_in, through, sets, sets_last, is, env}
+use types.Run.{look, store, stop, fld, load, lit, neg_lit, bin, un, of_opd, and_then, no_more, assigns_last, first, blocks, skips, branches, exec, returns, returns_within, enter}
+use types.ByLocal.{alloc_all, pass_all, free_all, look_at, get, get_in, through, sets, is, env}
 use denote.Builtin.{RefOf}
-use denote.Exit.{no, yes}
+use denote.Exit.{yes}
 use denote.Memory.{lone}
 use denote.Opens.{hide, unhide}
-use denote.RattleType.{RattleType, owns}
+use denote.RattleType.{owns}
 use denote.RawPtr.{Ptr, block_ptr, null_ptr, ptr_val, count_of, tests_null}
 use denote.Signature.{plain, types_at}
-use denote.Steps.{heard, nothing}
+use denote.Steps.{nothing}
 use denote.Triple.Clauses.{Clauses, Ended, closing}
 use denote.Triple.Handed.{holding, hands}
 use denote.Triple.Spec.{Meets, triple_of}
@@ -44,19 +41,17 @@ use denote.Triple.Walked.{says, Stays, stay_dropped, walk_of, ends_at, Goes-drop
 use Rattle.core.proofs.mem.Param.{El, R, args}
 use Rattle.core.specs.contracts.option.Option as Opt
 use Rattle.core.specs.declared.option.Option.TheVariants.{None, Some}
-use Rattle.std_alloc.proofs.RcSteps.{is_so, is_not, some_Good, Some-of, none_of, word, word-Good, Ptr-Good}
+use Rattle.std_alloc.proofs.RcSteps.{is_not, some_Good, Some-of, none_of, word-Good}
 use Rattle.std_alloc.proofs.VecSteps.Shapes.{after, head, inside}
-use Rattle.std_alloc.specs.Rc.Ownership.{counter_at}
 use Rattle.ecow_block.specs.Contents.{contents}
 use Rattle.ecow_block.specs.Heads.{unless_null}
-use Rattle.ecow_block.specs.Owners.{shared_owns, owner_owns}
+use Rattle.ecow_block.specs.Owners.{shared_owns}
 use Rattle.ecow_block.specs.contracts.shared.Shared.another as F
 use Rattle.ecow_block.specs.contracts.shared.Shared.another.Key.{name as #self}
 use Rattle.ecow_block.proofs.shared.Shared.another.Statement.{statement}
 use Rattle.ecow_block.proofs.shared.Shared.another.Code as code
 use Rattle.ecow_block.proofs.shared.Shared.another.Code.{code as body}
-use Rattle.ecow_block.proofs.Heads.{Tp, cell}
-use Rattle.ecow_block.proofs.Owners.{Sh, Si, Bi, laid, laid-Good, heap_val, owner_made}
+use Rattle.ecow_block.proofs.Owners.{Sh, Si, Bi, laid, laid-Good, owner_made}
 use Rattle.ecow_block.proofs.Counting.{lent_cases, counted_made, lent_out, lent_back, reads, read, opens, shut, more}
 
 -- what a condition runs where it holds

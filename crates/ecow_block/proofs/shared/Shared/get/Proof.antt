@@ -1,6 +1,6 @@
 -- `get` lends the block, which every owner keeps alive, if it has places, for every element type. Assumes `Logic`.
 use mathlib.Core.Path.{◌≡◌, refl, sym, subst, ap, ◌∙◌}
-use Prim.Native.Nat.{◌+◌, ◌<◌, ◌^◌}
+use Prim.Native.Nat.{◌<◌, ◌^◌}
 use mathlib.Core.List.{List, [], ◌∷◌, ◌++◌}
 use seplogic.Ra.Ura.{Ura}
 use lib.Dec.{lit<}

@@ -1,6 +1,6 @@
 -- `get_mut` lends the owner's own word as the block, which may end as another one, for every element type. Assumes `Logic`.
 use mathlib.Core.Path.{◌≡◌, refl, sym, subst, ap, ◌∙◌}
-use mathlib.Core.Bool.{Bool, true, false}
+use mathlib.Core.Bool.{Bool, true}
 use Prim.Native.Nat.{ℕ, ◌+◌, ◌<◌, ◌^◌}
 use mathlib.Core.List.{List, [], ◌∷◌, ◌++◌}
 use seplogic.Ra.Ura.{Ura}
@@ -8,7 +8,7 @@ use lib.Dec.{lit<}
 use base.Fraction.{full_share}
 use base.Mask.{every}
 use base.Logic.{SProp, ent, sep, id⊢}
-use base.Fml.{Lft, GName, Share, Fml, ftrue, fsep, fex, flft, fobs, fauth, fobor, fres, ftok}
+use base.Fml.{Lft, GName, Share, Fml, ftrue, fsep, flft, fobs, fauth, fobor, fres, ftok}
 use mir.Syntax.{Fn, named}
 use mir.MapTy.{inst_fn}
 use mir.Val.{Val, vptr, vcons, vnil}
@@ -31,7 +31,7 @@ use types.SemTy.{Body as Borrowed}
 use types.ByLocal.{alloc_all, pass_all, free_all, look_at, get, through, sets, sets_last, is, env}
 use denote.Exit.{no}
 use denote.Follow.{follows, follows_by, lends_Part}
-use denote.Memory.{mem, cell_at, part_at, part_of}
+use denote.Memory.{mem, cell_at, part_of}
 use denote.RattleType.{RattleType, owns}
 use denote.RawPtr.{Ptr, block_ptr, null_ptr, ptr_val, count_of, tests_null}
 use denote.Ref.{MutRef, MutBor}
@@ -49,7 +49,7 @@ use Rattle.std_alloc.specs.Rc.Ownership.{counter_at}
 use Rattle.std_alloc.proofs.RcSteps.{is_so, Some-of, none_of}
 use Rattle.std_alloc.proofs.VecSteps.Shapes.{after, head, inside}
 use Rattle.core.proofs.mem.Param.{El, R, args}
-use Rattle.ecow_block.specs.Contents.{Contents, contents}
+use Rattle.ecow_block.specs.Contents.{contents}
 use Rattle.ecow_block.specs.Heads.{unless_null}
 use Rattle.ecow_block.specs.Owners.{IsOwner, sole_owns, counted_owns, shared_owns, owner_owns}
 use Rattle.ecow_block.specs.contracts.shared.Shared.get_mut as F

@@ -2,7 +2,6 @@
 use mathlib.Core.Bool.{Bool, true}
 use mathlib.Core.Path.{◌≡◌, refl, sym, subst}
 use mathlib.Core.List.{List, [], ◌∷◌, ◌++◌}
-use Prim.Native.Nat.{ℕ}
 use seplogic.Ra.Ura.{Ura}
 use base.Logic.{SProp, ent, id⊢}
 use base.Fml.{ftrue, flft}
@@ -17,13 +16,13 @@ use contract.BorrowLft.{◌⊑◌}
 use contract.Monad.{Fun, fact}
 use contract.Running.{tables, tables_of}
 use sound.WpLaws.{WpFn-mono}
-use types.Kit.{⋆, ‵, raw, ◌⊛◌, ◌$◌, ◌∵◌, !, qed, by, move, keep, drop, use0, split, join, rewrite, fsplit, fjoin, fpack, suffices, done}
+use types.Kit.{⋆, ‵, raw, ◌⊛◌, ◌$◌, ◌∵◌, !, qed, by, move, keep, drop, split, join, rewrite, fsplit, fjoin, fpack, suffices, done}
 use types.Part.{agg}
 use types.Run.{and_then, no_more, returns, enter}
 use types.ByLocal.{alloc_all, pass_all, free_all, look_at, get, sets}
 use denote.Exit.{yes, no}
 use denote.RattleType.{RattleType, owns}
-use denote.RawPtr.{Ptr, null_ptr, block_ptr}
+use denote.RawPtr.{Ptr}
 use denote.Signature.{plain, types_at}
 use denote.Steps.{heard, nothing}
 use denote.Triple.Clauses.{Clauses, Ended, closing}
@@ -47,7 +46,7 @@ use Rattle.ecow_block.proofs.shared.Shared.hold.Statement.{statement}
 use Rattle.ecow_block.proofs.shared.Shared.hold.Code as code
 use Rattle.ecow_block.proofs.Heads.{Tp, top_had, in_case}
 use Rattle.ecow_block.proofs.Memory.{Rm, mark, mark_had}
-use Rattle.ecow_block.proofs.Owners.{Bi, Si, Sh, laid, laid-Good, heap_val, heap_had, owner_made, to_sole}
+use Rattle.ecow_block.proofs.Owners.{Bi, Si, laid, laid-Good, heap_val, heap_had, owner_made, to_sole}
 
 module _ (E : El) where
   abbrev here : Fn
@@ -107,8 +106,16 @@ module _ (E : El) where
 
     meets : Meets 𝓛 ended.signature (WpFn 𝓤 H 𝓣.C 𝓣.Λ here) (closing 𝓛 ended held)
     meets =
-        walk_Meets 𝓛 ended stayed (Goes-dropped 𝓛 1 (plain (λ _. Tp E)) no (λ κs x f. refl), (Goes-dropped 𝓛 1 (plain (λ _. Rm E)) no (λ κs x f. refl), (Goes-dropped 𝓛 1 (plain (λ _. Title)) no (λ κs x f. refl),
-        (Goes-dropped 𝓛 1 (plain (λ _. Deed)) no (λ κs x f. refl), (Goes-dropped 𝓛 1 (plain (λ _. heap.the_row)) yes (λ κs x f. refl), tt))))) held
+        walk_Meets 𝓛 ended stayed (
+          Goes-dropped 𝓛 1 (plain (λ _. Tp E)) no (λ κs x f. refl),
+          (
+            Goes-dropped 𝓛 1 (plain (λ _. Rm E)) no (λ κs x f. refl),
+            (
+              Goes-dropped 𝓛 1 (plain (λ _. Title)) no (λ κs x f. refl),
+              (Goes-dropped 𝓛 1 (plain (λ _. Deed)) no (λ κs x f. refl), (Goes-dropped 𝓛 1 (plain (λ _. heap.the_row)) yes (λ κs x f. refl), tt)),
+            ),
+          ),
+        ) held
         (WpFn 𝓤 H 𝓣.C 𝓣.Λ here) (WpFn-mono 𝓤 H 𝓛.laws 𝓣 here) walk
 
 pub hold_spec : {M : Type 1} → statement M

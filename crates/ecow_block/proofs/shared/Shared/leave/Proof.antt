@@ -1,6 +1,5 @@
 -- `leave` gives up one of several owners, and hands the block out to the last, for every element type. Assumes `Logic`.
 use mathlib.Core.Path.{◌≡◌, refl, sym, subst, ap, ◌∙◌}
-use mathlib.Core.Bool.{Bool, true}
 use Prim.Native.Nat.{ℕ, ◌+◌, ◌-◌, ◌≤◌, ◌<◌, ◌^◌}
 use native.Mathlib.Omega.{arith}
 use mathlib.Core.List.{List, [], ◌∷◌, ◌++◌}
@@ -8,31 +7,29 @@ use seplogic.Ra.Ura.{Ura}
 use lib.Dec.{lit<}
 use base.Mask.{every}
 use base.Logic.{SProp, ent, id⊢}
-use base.Fml.{Fml, ftrue, fsep, flft, fhide, fat, ftok}
+use base.Fml.{ftrue, flft, ftok}
 use mir.Syntax.{Fn}
 use mir.MapTy.{inst_fn}
-use mir.Val.{Val, vptr, vcons, vnil}
+use mir.Val.{Val, vcons, vnil}
 use prog.Memory.{Memory}
 use prog.Routine.{Routine}
-use prog.Wp.{Env, WpFn, Tables, Wp, after_block, after_seq, at_return}
-use types.Logic.{Logic, sem}
+use prog.Wp.{Env, WpFn, Tables}
+use types.Logic.{Logic}
 use contract.Beside.{Carries}
 use contract.BorrowLft.{◌⊑◌}
 use contract.Monad.{Fun, fact}
 use contract.Named.{bare_unfolds}
 use contract.Running.{bare_tables, tables_of}
 use sound.WpLaws.{WpFn-mono}
-use types.Kit.{‵, raw, ◌⊛◌, at_ret, any_q, ◌$◌, ◌∵◌, !, qed, move, keep, drop, use0, use1, split, split3, join, rewrite, fsplit, fjoin, fpick, fpack, feq_l, flt_i, suffices, frame, done}
+use types.Kit.{‵, raw, ◌⊛◌, at_ret, ◌$◌, ◌∵◌, !, qed, move, keep, drop, use0, use1, split, split3, join, rewrite, fsplit, fjoin, flt_i, suffices, frame, done}
 use types.Match.{live}
-use types.Part.{look_in, sub, whole, agg}
+use types.Part.{sub, whole, agg}
 use types.RcWeak.{part, part_in}
-use types.Run.{look, store, stop, fld, load, lit, neg_lit, bin, un, of_opd, and_then, no_more, assigns, assigns_last, first, blocks, skips, branches, exec, returns, returns_within, enter}
-use types.ByLocal.{alloc_all, pass_all, free_all, look_at, get, get_in, through, sets, sets_last, is, env}
-use denote.Builtin.{RefOf}
-use denote.Exit.{no, yes}
+use types.Run.{look, store, stop, fld, load, lit, bin, of_opd, and_then, no_more, assigns, first, blocks, skips, branches, exec, returns, returns_within, enter}
+use types.ByLocal.{alloc_all, pass_all, free_all, look_at, get, get_in, through, sets, is, env}
+use denote.Exit.{no}
 use denote.Memory.{lone}
-use denote.Opens.{hide, unhide}
-use denote.RattleType.{RattleType, owns}
+use denote.RattleType.{owns}
 use denote.RawPtr.{Ptr, block_ptr, null_ptr, ptr_val, count_of, tests_null}
 use denote.Signature.{plain, types_at}
 use denote.Steps.{heard, nothing}
@@ -41,22 +38,20 @@ use denote.Triple.Handed.{holding, hands}
 use denote.Triple.Spec.{Meets, triple_of}
 use denote.Triple.Table.{entered}
 use denote.Triple.Walked.{says, Stays, stay_dropped, walk_of, ends_at, Goes-dropped, walk_Meets}
-use Rattle.core.proofs.mem.Param.{El, R, args}
+use Rattle.core.proofs.mem.Param.{El, args}
 use Rattle.core.specs.contracts.option.Option as Opt
 use Rattle.core.specs.declared.option.Option.TheVariants.{None, Some}
-use Rattle.std_alloc.proofs.RcSteps.{is_so, is_not, some_Good, Some-of, none_of, word, word-Good, Ptr-Good}
-use Rattle.std_alloc.proofs.VecSteps.Shapes.{after, head, inside}
+use Rattle.std_alloc.proofs.RcSteps.{is_so, is_not, some_Good, Some-of, none_of, word-Good}
+use Rattle.std_alloc.proofs.VecSteps.Shapes.{after}
 use Rattle.std_alloc.specs.Rc.Ownership.{counter_at}
 use Rattle.ecow_block.specs.Contents.{contents}
-use Rattle.ecow_block.specs.Heads.{unless_null}
-use Rattle.ecow_block.specs.Owners.{shared_owns, owner_owns}
 use Rattle.ecow_block.specs.contracts.shared.Shared.leave as F
 use Rattle.ecow_block.specs.contracts.shared.Shared.leave.Key.{name as #self}
 use Rattle.ecow_block.proofs.shared.Shared.leave.Statement.{statement}
 use Rattle.ecow_block.proofs.shared.Shared.leave.Code as code
 use Rattle.ecow_block.proofs.shared.Shared.leave.Code.{code as body}
-use Rattle.ecow_block.proofs.Heads.{Tp, cell}
-use Rattle.ecow_block.proofs.Owners.{Sh, Si, Bi, Bk, laid, laid-Good, heap_val, owner_had, block_made, of_sole}
+use Rattle.ecow_block.proofs.Heads.{cell}
+use Rattle.ecow_block.proofs.Owners.{Sh, Bi, Bk, laid, laid-Good, owner_had, block_made, of_sole}
 use Rattle.ecow_block.proofs.Counting.{cases, value, counted_had, is_counted, opens, shut, less, alone}
 
 module _ (E : El) where
