@@ -1,5 +1,5 @@
--- A block's memory: a head of 32 bytes (how many owners there are, and the fields), and places right
--- behind it, at elements of the row R.
+-- A block's memory: a head of 32 bytes (how many owners there are, and the fields), and places
+-- right behind it, at elements of the row R.
 use Rattle.std.specs.Prelude.{ℕ, ◌+◌, ◌*◌, []}
 use Rattle.std.specs.Mem.{type_size}
 use Rattle.core.specs.Allocator.{array_of}
@@ -65,8 +65,8 @@ abbrev pub lent_unless_null : Ptr → (Lft → Fml) → Lft → Fml
 lent_unless_null (block_ptr b o) t = t
 lent_unless_null null_ptr t = nothing
 
--- the fields x of the head at p, and what is needed beside the count to give a block back that has c
--- places right behind its head
+-- the fields x of the head at p, and what is needed beside the count to give a block back that has
+-- c places right behind its head
 abbrev pub head_rest : (Ty → Ptr → Fml) → (R : RattleType) → Ptr → (fields_row R).Denot → ℕ → Fml
 head_rest token R p x c =
     fsep (lies_at (fields_row R) full_share (p +ₚ 8) x)

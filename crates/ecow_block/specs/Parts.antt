@@ -9,8 +9,8 @@ use Rattle.ecow_block.specs.declared.room.Title.{Title}
 use Rattle.ecow_block.specs.declared.room.Top.{Top}
 
 module _ {X A : Type 0} where
-  -- the title is that of the head at top, of alloc, which says that c places begin at p; there is no
-  -- head where there are none
+  -- the title is that of the head at top, of alloc, which says that c places begin at p; there is
+  -- no head where there are none
   pub record IsHead (top : Top X) (title : Title X A) (alloc : A) (p : Ptr) (c : ℕ) : Type 0 where
     pub at : title.at ≡ top.ptr
     pub alloc_same : title.alloc ≡ alloc

@@ -122,8 +122,8 @@ impl<T: Drop> EcoVec<T> {
         Err(Rejected::for_memory(given))
     }
 
-    /// A block with copies of `elements` and room for `capacity`; without memory, and never refused,
-    /// for none of both.
+    /// A block with copies of `elements` and room for `capacity`; without memory, and never
+    /// refused, for none of both.
     #[inline(never)]
     pub(super) fn copy<C: Copying<T>>(
         &self,

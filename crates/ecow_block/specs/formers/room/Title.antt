@@ -1,5 +1,5 @@
--- A title as a type that may name the type that holds it; and that a top goes along. Neither holds an
--- item.
+-- A title as a type that may name the type that holds it; and that a top goes along. Neither holds
+-- an item.
 use Rattle.std.specs.Prelude.{◌≡◌, ℕ, List, []}
 use mathlib.Core.Path.{refl}
 use mathlib.Core.Former.{Former, this, const, none_left, via, children}
