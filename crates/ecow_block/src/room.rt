@@ -23,7 +23,7 @@ pub(crate) use layout::layout_of;
 pub(crate) const CHUNK: usize = 128;
 
 /// Where a block begins. It owns nothing.
-pub struct Base<T> {
+pub(crate) struct Base<T> {
     ptr: *mut T,
 }
 
@@ -101,10 +101,10 @@ unsafe impl<T, A: Allocator> Sync for Deed<T, A> {}
 
 /// What a head says of its block: where the places begin, how many items they hold, and how many
 /// places there are.
-pub struct Fields<T> {
-    pub base: Base<T>,
-    pub len: usize,
-    pub capacity: usize,
+pub(crate) struct Fields<T> {
+    pub(crate) base: Base<T>,
+    pub(crate) len: usize,
+    pub(crate) capacity: usize,
 }
 
 impl<T> Clone for Fields<T> {

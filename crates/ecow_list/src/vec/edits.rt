@@ -10,8 +10,8 @@ ghost use Rattle.ecow_list.specs.Vectors.{Changes, IsKept, IsKeptBefore, SomeKep
 use crate::error::{EcoError, Rejected};
 use crate::vec::EcoVec;
 use crate::vec::own::{Clones, Room};
-use ecow_shared::Shared;
 use ecow_base::{MAX_LEN, fresh_capacity};
+use ecow_shared::Shared;
 
 impl<T: Clone> EcoVec<T> {
     /// Keeps the first `len` elements, or all where there are fewer. A shared vector copies only
