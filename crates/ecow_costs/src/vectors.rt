@@ -160,7 +160,7 @@ fn growing_rows() -> [Row; 7] {
     ]
 }
 
-fn makers() -> [Row; 25] {
+fn makers() -> [Row; 27] {
     [
         row_of(Call::FromVec, "EcoVec::from_vec(none)", 0, 0),
         row_of(Call::FromVec, "EcoVec::from_vec(5)", 5, 0),
@@ -182,6 +182,18 @@ fn makers() -> [Row; 25] {
         row_of(
             Call::WithCapacity(1000),
             "EcoVec::with_capacity(1000)",
+            0,
+            0,
+        ),
+        row_of(
+            Call::WithCapacity(1024),
+            "EcoVec::with_capacity(1024)",
+            0,
+            0,
+        ),
+        row_of(
+            Call::WithCapacity(1025),
+            "EcoVec::with_capacity(1025)",
             0,
             0,
         ),
