@@ -615,8 +615,19 @@ impl<T: Drop> Block<T> {
 }
 
 impl<T: Drop> Drop for Block<T> {
-    fn drop(mut self) {
-        self.truncate(0);
-        self.destroy_empty();
+    // The head is read alone, since other threads may have read it before.
+    fn drop(self) {
+        let Block {
+            top,
+            mut room,
+            title,
+            deed,
+            alloc,
+        } = self;
+        if !is_none(top) {
+            let head = *fields(&title, top);
+            room.drop_last(head.base, 0, head.len);
+        }
+        give_back_parts(top, room, title, deed, &alloc);
     }
 }
