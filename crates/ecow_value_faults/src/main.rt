@@ -1,6 +1,8 @@
 //! Vectors, bytes and texts whose requests for memory are refused in turn by the gate.
 #![tactic(auto)]
 
+mod owners;
+
 use ecow_bytes::SmallBytes;
 use ecow_faults::elements::Named;
 use ecow_faults::parts::{Parts, run};
@@ -45,7 +47,7 @@ fn is_right_text(part: usize, alloc: Global, watch: &Watch) -> bool {
     }
 }
 
-const NAMES: [&str; 17] = [
+const NAMES: [&str; 18] = [
     "vectors of numbers",
     "vectors of names",
     "bytes, none inline",
@@ -63,6 +65,7 @@ const NAMES: [&str; 17] = [
     "printed texts",
     "makers of vectors",
     "items that are asked for",
+    "many owners",
 ];
 
 struct Values;
@@ -83,7 +86,8 @@ impl Parts for Values {
                 makers::makers_hold::<i64>(alloc, watch)
                     && makers::makers_hold::<Named>(alloc, watch)
             }
-            _ => asked::items_hold(alloc, watch),
+            16 => asked::items_hold(alloc, watch),
+            _ => owners::owners_hold(alloc, watch),
         }
     }
 }
