@@ -70,4 +70,22 @@ ecow_status ecow_proved_text_repeat(ecow_text **value, size_t count);
 bool ecow_proved_text_is_boundary(ecow_text **value, size_t index);
 bool ecow_proved_is_utf8(const char *bytes, size_t count);
 
+size_t ecow_proved_texts_len(ecow_texts **value);
+ecow_status ecow_proved_texts_truncate(ecow_texts **value, size_t len);
+ecow_status ecow_proved_texts_clear(ecow_texts **value);
+ecow_status ecow_proved_texts_reserve(ecow_texts **value, size_t additional);
+bool ecow_proved_texts_equal(ecow_texts **left, ecow_texts **right);
+int32_t ecow_proved_texts_compare(ecow_texts **left, ecow_texts **right);
+uint64_t ecow_proved_texts_hash(ecow_texts **value);
+ecow_status ecow_proved_texts_get(ecow_texts **value, size_t index, ecow_text **out);
+ecow_status ecow_proved_texts_at(ecow_texts **value, size_t index, const char **start, size_t *len);
+ecow_status ecow_proved_texts_set(ecow_texts **value, size_t index, ecow_text **item);
+ecow_status ecow_proved_texts_push(ecow_texts **value, ecow_text **item);
+ecow_status ecow_proved_texts_pop(ecow_texts **value, ecow_text **out);
+ecow_status ecow_proved_texts_insert(ecow_texts **value, size_t index, ecow_text **item);
+ecow_status ecow_proved_texts_remove(ecow_texts **value, size_t index, ecow_text **out);
+ecow_status ecow_proved_texts_extend(ecow_texts **value, ecow_texts **added);
+ecow_status ecow_proved_texts_splice(ecow_texts **value, size_t start, size_t end,
+                                     ecow_texts **added);
+
 #endif

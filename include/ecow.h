@@ -1,4 +1,5 @@
-/* Lists of numbers, bytes and texts whose clones share memory until one of them is changed.
+/* Lists of numbers, bytes, texts and lists of texts whose clones share memory until one of them is
+ * changed.
  *
  * Values. A value is a struct of this header, in memory of yours: on the stack, in another struct,
  * in an array. Zeroed memory is an empty value (`ecow_list list = {0};`). A value that isn't empty
@@ -68,6 +69,10 @@ typedef struct ecow_bytes {
 typedef struct ecow_text {
     uint64_t word[2];
 } ecow_text;
+
+typedef struct ecow_texts {
+    uint64_t word[1];
+} ecow_texts;
 
 /* ---- Lists of numbers ---- */
 
@@ -287,6 +292,77 @@ int ecow_text_compare(const ecow_text *left, const ecow_text *right);
 /* A hash (SipHash-1-3, with keys of 0). Equal texts have the same. */
 uint64_t ecow_text_hash(const ecow_text *text);
 
+/* ---- Lists of texts ---- */
+
+/* A text goes in and out as a clone, which shares its memory. A text that a result is written to
+ * holds a value before, which is given up. */
+
+/* An empty list. */
+ecow_texts ecow_texts_new(void);
+
+/* Gives the list's memory up, and that of its texts, and leaves it empty. */
+inline void ecow_texts_drop(ecow_texts *texts);
+
+/* Makes `to` a clone of `from`. What it held is given up. */
+inline ecow_status ecow_texts_clone(ecow_texts *to, const ecow_texts *from);
+
+/* How many texts there are. */
+size_t ecow_texts_len(const ecow_texts *texts);
+
+/* Makes `text` a clone of the text at `index`: ECOW_INDEX from the length on. */
+ecow_status ecow_texts_get(const ecow_texts *texts, size_t index, ecow_text *text);
+
+/* The bytes of the text at `index`, to read, and how many there are: null and 0 from the length on.
+ * They stay valid as those of a `_slice` do. No 0 stands behind them. */
+const char *ecow_texts_at(const ecow_texts *texts, size_t index, size_t *len);
+
+/* Puts a text in place of the one at `index`: ECOW_INDEX from the length on. */
+ecow_status ecow_texts_set(ecow_texts *texts, size_t index, const ecow_text *text);
+
+/* The same of a text that is given by its bytes. */
+ecow_status ecow_texts_set_text(ecow_texts *texts, size_t index, const char *bytes, size_t count);
+
+/* Appends a text. */
+ecow_status ecow_texts_push(ecow_texts *texts, const ecow_text *text);
+
+/* The same of a text that is given by its bytes. */
+ecow_status ecow_texts_push_text(ecow_texts *texts, const char *bytes, size_t count);
+
+/* Takes the last text: ECOW_INDEX where there is none. */
+ecow_status ecow_texts_pop(ecow_texts *texts, ecow_text *text);
+
+/* Puts a text in at `index`, before the one that stands there: ECOW_INDEX past the length. */
+ecow_status ecow_texts_insert(ecow_texts *texts, size_t index, const ecow_text *text);
+
+/* Takes the text at `index`: ECOW_INDEX from the length on. */
+ecow_status ecow_texts_remove(ecow_texts *texts, size_t index, ecow_text *text);
+
+/* Keeps the first `len` texts, or all where there are fewer. */
+ecow_status ecow_texts_truncate(ecow_texts *texts, size_t len);
+
+/* Keeps none. Memory that no clone shares is kept for what comes. */
+ecow_status ecow_texts_clear(ecow_texts *texts);
+
+/* Makes room for `additional` more. */
+ecow_status ecow_texts_reserve(ecow_texts *texts, size_t additional);
+
+/* Appends the texts of `added`, which may be the list itself: all or none. */
+ecow_status ecow_texts_extend(ecow_texts *texts, const ecow_texts *added);
+
+/* Puts the texts of `added`, which may be the list itself, in place of those from `start` up to
+ * `end`, which isn't included: ECOW_INDEX where `start` passes `end`, or `end` the length. */
+ecow_status ecow_texts_splice(ecow_texts *texts, size_t start, size_t end, const ecow_texts *added);
+
+/* Whether both have the same texts. A null pointer equals a null pointer alone. */
+bool ecow_texts_equal(const ecow_texts *left, const ecow_texts *right);
+
+/* The order of their texts, one by one: below 0 where `left` comes first, 0 where they are equal. A
+ * null pointer comes before every list. */
+int ecow_texts_compare(const ecow_texts *left, const ecow_texts *right);
+
+/* A hash (SipHash-1-3, with keys of 0). Equal lists have the same. */
+uint64_t ecow_texts_hash(const ecow_texts *texts);
+
 /* ---- The library's own ---- */
 
 /* Two calls that are short enough to be expanded where they stand. */
@@ -309,6 +385,7 @@ uint64_t ecow_text_hash(const ecow_text *text);
 ECOW_EXPANDED(list)
 ECOW_EXPANDED(bytes)
 ECOW_EXPANDED(text)
+ECOW_EXPANDED(texts)
 #undef ECOW_EXPANDED
 
 #ifdef __cplusplus

@@ -3,3 +3,4 @@ pub mod Indices
 pub mod Lends
 pub mod Places
 pub mod Rows
+pub mod Texts

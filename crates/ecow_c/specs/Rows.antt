@@ -13,3 +13,6 @@ bytes_row = bytes.the_row (number 15)
 
 abbrev pub text_row : RattleType
 text_row = text.the_row (number 15)
+
+abbrev pub texts_row : RattleType
+texts_row = list.the_row text_row

@@ -1,7 +1,8 @@
-//! The values of `ecow_list`, `ecow_bytes` and `ecow_text` for C.
+//! The values of `ecow_list`, `ecow_bytes`, `ecow_text` and `ecow_texts` for C.
 #![tactic(auto)]
 
 mod bytes;
 mod list;
 mod status;
 mod text;
+mod texts;

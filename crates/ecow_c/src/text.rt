@@ -20,7 +20,7 @@ use crate::status::{BOUNDARY, CAPACITY, INDEX, MEMORY, NULL, OK, UTF8, order, re
 use ecow_base::MAX_LEN;
 use ecow_list::EcoError;
 use ecow_text::EcoString;
-use place::TextPlace;
+pub(crate) use place::TextPlace;
 use std::alloc::Global;
 use std::hash::{DefaultHasher, Hash, Hasher};
 use std::ptr::from_ref;
