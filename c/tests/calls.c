@@ -182,6 +182,193 @@ static void texts(void) {
     ecow_text_drop(&clone);
 }
 
+#define LONG_TEXT "a text of more than 15 bytes"
+
+/* The texts that are given, and how many they are. */
+#define THESE(...)                      \
+    (const char *const[]){__VA_ARGS__}, \
+        sizeof((const char *const[]){__VA_ARGS__}) / sizeof(const char *)
+
+static void lists_of_texts(void) {
+    ecow_texts texts = ecow_texts_new(), clone = {{0}};
+    ecow_text text = {{0}}, out = {{0}};
+    size_t len = 99;
+    CHECK(texts_hold(&texts, NULL, 0) && ecow_text_assign(&out, "kept", 4) == ECOW_OK);
+    CHECK(ecow_texts_pop(&texts, &out) == ECOW_INDEX && text_is(&out, "kept"));
+    CHECK(ecow_text_assign(&text, LONG_TEXT, strlen(LONG_TEXT)) == ECOW_OK);
+    CHECK(ecow_texts_push(&texts, &text) == ECOW_OK && text_is(&text, LONG_TEXT));
+    CHECK(ecow_texts_at(&texts, 0, NULL) == ecow_text_slice(&text, NULL));
+    CHECK(ecow_texts_push_text(&texts, "h\xc3\xa9", 3) == ECOW_OK);
+    CHECK(ecow_texts_push_text(&texts, NULL, 0) == ECOW_OK);
+    CHECK(ecow_texts_push_text(&texts, "h\xc3\xa9", 2) == ECOW_UTF8);
+    CHECK(texts_hold(&texts, THESE(LONG_TEXT, "h\xc3\xa9", "")));
+    CHECK(ecow_texts_at(&texts, 2, &len) != NULL && len == 0);
+    CHECK(ecow_texts_at(&texts, 1, &len) != NULL && len == 3);
+    CHECK(ecow_texts_at(&texts, 3, &len) == NULL && len == 0);
+    CHECK(ecow_texts_get(&texts, 0, &out) == ECOW_OK && text_is(&out, LONG_TEXT));
+    CHECK(ecow_text_slice(&out, NULL) == ecow_text_slice(&text, NULL));
+    CHECK(ecow_texts_get(&texts, 3, &out) == ECOW_INDEX && text_is(&out, LONG_TEXT));
+    CHECK(ecow_texts_get(&texts, 1, NULL) == ECOW_OK
+          && ecow_texts_get(&texts, 3, NULL) == ECOW_INDEX);
+    CHECK(ecow_text_push(&out, '!') == ECOW_OK);
+    CHECK(texts_hold(&texts, THESE(LONG_TEXT, "h\xc3\xa9", "")) && text_is(&text, LONG_TEXT));
+    CHECK(ecow_texts_clone(&clone, &texts) == ECOW_OK);
+    CHECK(ecow_texts_at(&clone, 1, NULL) == ecow_texts_at(&texts, 1, NULL));
+    CHECK(ecow_texts_set(&texts, 1, &out) == ECOW_OK && text_is(&out, LONG_TEXT "!"));
+    CHECK(ecow_texts_at(&texts, 1, NULL) == ecow_text_slice(&out, NULL));
+    CHECK(ecow_texts_at(&texts, 0, NULL) == ecow_texts_at(&clone, 0, NULL));
+    CHECK(ecow_texts_set_text(&texts, 2, "c", 1) == ECOW_OK);
+    CHECK(ecow_texts_set(&texts, 3, &out) == ECOW_INDEX);
+    CHECK(ecow_texts_set_text(&texts, 3, "c", 1) == ECOW_INDEX);
+    CHECK(ecow_texts_set_text(&texts, 0, "\xff", 1) == ECOW_UTF8);
+    CHECK(texts_hold(&texts, THESE(LONG_TEXT, LONG_TEXT "!", "c")));
+    CHECK(texts_hold(&clone, THESE(LONG_TEXT, "h\xc3\xa9", "")));
+    CHECK(ecow_text_assign(&text, "x", 1) == ECOW_OK);
+    CHECK(ecow_texts_insert(&texts, 3, &text) == ECOW_OK
+          && ecow_texts_insert(&texts, 0, &text) == ECOW_OK);
+    CHECK(ecow_texts_insert(&texts, 6, &text) == ECOW_INDEX);
+    CHECK(texts_hold(&texts, THESE("x", LONG_TEXT, LONG_TEXT "!", "c", "x")));
+    CHECK(ecow_texts_remove(&texts, 2, &out) == ECOW_OK && text_is(&out, LONG_TEXT "!"));
+    CHECK(ecow_texts_remove(&texts, 0, NULL) == ECOW_OK);
+    CHECK(ecow_texts_remove(&texts, 3, &out) == ECOW_INDEX && text_is(&out, LONG_TEXT "!"));
+    CHECK(texts_hold(&texts, THESE(LONG_TEXT, "c", "x")));
+    CHECK(ecow_texts_pop(&texts, &out) == ECOW_OK && text_is(&out, "x"));
+    CHECK(ecow_texts_pop(&texts, NULL) == ECOW_OK && texts_hold(&texts, THESE(LONG_TEXT)));
+    CHECK(ecow_texts_extend(&texts, &clone) == ECOW_OK);
+    CHECK(texts_hold(&texts, THESE(LONG_TEXT, LONG_TEXT, "h\xc3\xa9", "")));
+    CHECK(texts_hold(&clone, THESE(LONG_TEXT, "h\xc3\xa9", "")));
+    CHECK(ecow_texts_truncate(&texts, 9) == ECOW_OK && ecow_texts_len(&texts) == 4);
+    CHECK(ecow_texts_truncate(&texts, 2) == ECOW_OK
+          && texts_hold(&texts, THESE(LONG_TEXT, LONG_TEXT)));
+    CHECK(ecow_texts_splice(&texts, 1, 1, &clone) == ECOW_OK);
+    CHECK(texts_hold(&texts, THESE(LONG_TEXT, LONG_TEXT, "h\xc3\xa9", "", LONG_TEXT)));
+    CHECK(ecow_texts_splice(&texts, 2, 1, &clone) == ECOW_INDEX);
+    CHECK(ecow_texts_splice(&texts, 0, 6, &clone) == ECOW_INDEX);
+    CHECK(ecow_texts_splice(&texts, 0, 5, &clone) == ECOW_OK);
+    CHECK(texts_hold(&texts, THESE(LONG_TEXT, "h\xc3\xa9", "")));
+    CHECK(ecow_texts_reserve(&texts, 100) == ECOW_OK && ecow_texts_len(&texts) == 3);
+    CHECK(ecow_texts_reserve(&texts, SIZE_MAX) == ECOW_CAPACITY);
+    CHECK(ecow_texts_reserve(&texts, PTRDIFF_MAX) == ECOW_CAPACITY);
+    CHECK(ecow_texts_reserve(&texts, PTRDIFF_MAX - 3) == ECOW_MEMORY);
+    CHECK(texts_hold(&texts, THESE(LONG_TEXT, "h\xc3\xa9", "")));
+    CHECK(ecow_texts_clear(&texts) == ECOW_OK && texts_hold(&texts, NULL, 0));
+    CHECK(ecow_texts_push_text(&texts, "y", 1) == ECOW_OK && texts_hold(&texts, THESE("y")));
+    ecow_texts_drop(&texts);
+    CHECK(texts_hold(&texts, NULL, 0));
+    CHECK(texts_hold(&clone, THESE(LONG_TEXT, "h\xc3\xa9", "")));
+    ecow_texts_drop(&texts);
+    ecow_texts_drop(&clone);
+    ecow_text_drop(&text);
+    ecow_text_drop(&out);
+}
+
+/* The list itself where another is given, and bytes that lie in it. */
+static void lists_of_texts_in_themselves(void) {
+    ecow_texts texts = {{0}}, clone = {{0}};
+    CHECK(ecow_texts_push_text(&texts, "ab", 2) == ECOW_OK);
+    CHECK(ecow_texts_push_text(&texts, LONG_TEXT, strlen(LONG_TEXT)) == ECOW_OK);
+    CHECK(ecow_texts_clone(&texts, &texts) == ECOW_OK);
+    CHECK(ecow_texts_extend(&texts, &texts) == ECOW_OK);
+    CHECK(texts_hold(&texts, THESE("ab", LONG_TEXT, "ab", LONG_TEXT)));
+    CHECK(ecow_texts_splice(&texts, 1, 3, &texts) == ECOW_OK);
+    CHECK(texts_hold(&texts, THESE("ab", "ab", LONG_TEXT, "ab", LONG_TEXT, LONG_TEXT)));
+    CHECK(ecow_texts_splice(&texts, 2, 1, &texts) == ECOW_INDEX && ecow_texts_len(&texts) == 6);
+    for (size_t index = 0; index < 6; index++) {
+        size_t len;
+        const char *bytes = ecow_texts_at(&texts, index, &len);
+        CHECK(ecow_texts_push_text(&texts, bytes, len) == ECOW_OK);
+        bytes = ecow_texts_at(&texts, index, &len);
+        CHECK(ecow_texts_set_text(&texts, index, bytes + 1, len - 1) == ECOW_OK);
+    }
+    CHECK(texts_hold(&texts, THESE("b", "b", &LONG_TEXT[1], "b", &LONG_TEXT[1], &LONG_TEXT[1], "ab",
+                                   "ab", LONG_TEXT, "ab", LONG_TEXT, LONG_TEXT)));
+    CHECK(ecow_texts_truncate(&texts, 0) == ECOW_OK && texts_hold(&texts, NULL, 0));
+    CHECK(ecow_texts_extend(&texts, &texts) == ECOW_OK && texts_hold(&texts, NULL, 0));
+    CHECK(ecow_texts_splice(&texts, 0, 0, &clone) == ECOW_OK && texts_hold(&texts, NULL, 0));
+    ecow_texts_drop(&texts);
+    ecow_texts_drop(&clone);
+}
+
+static void orders_of_lists_of_texts(void) {
+    ecow_texts left = {{0}}, right = {{0}};
+    CHECK(ecow_texts_equal(&left, &right) && ecow_texts_compare(&left, &right) == 0);
+    CHECK(ecow_texts_hash(&left) == ecow_texts_hash(&right));
+    CHECK(ecow_texts_push_text(&left, "one", 3) == ECOW_OK && !ecow_texts_equal(&left, &right));
+    CHECK(ecow_texts_compare(&left, &right) > 0 && ecow_texts_compare(&right, &left) < 0);
+    CHECK(ecow_texts_hash(&left) != ecow_texts_hash(&right));
+    CHECK(ecow_texts_push_text(&right, "only", 4) == ECOW_OK);
+    CHECK(ecow_texts_compare(&left, &right) < 0 && !ecow_texts_equal(&left, &right));
+    CHECK(ecow_texts_push_text(&left, "caf\xc3\xa9", 5) == ECOW_OK);
+    CHECK(ecow_texts_compare(&left, &right) < 0 && ecow_texts_compare(&right, &left) > 0);
+    CHECK(ecow_texts_set_text(&right, 0, "one", 3) == ECOW_OK);
+    CHECK(ecow_texts_push_text(&right, "caf\xc3\xa9", 5) == ECOW_OK);
+    CHECK(ecow_texts_equal(&left, &right) && ecow_texts_compare(&left, &right) == 0);
+    CHECK(ecow_texts_push_text(&left, "", 0) == ECOW_OK && !ecow_texts_equal(&left, &right));
+    /* What the hasher of Rust's standard library gives for a vector of the same strings. */
+    CHECK(ecow_texts_hash(&left) == UINT64_C(5263874958803710912));
+    CHECK(ecow_texts_equal(&left, &left) && ecow_texts_compare(&left, &left) == 0);
+    CHECK(ecow_texts_equal(NULL, NULL) && !ecow_texts_equal(&left, NULL)
+          && !ecow_texts_equal(NULL, &left));
+    CHECK(ecow_texts_compare(NULL, NULL) == 0 && ecow_texts_compare(NULL, &left) < 0);
+    CHECK(ecow_texts_compare(&left, NULL) > 0);
+    ecow_texts_drop(&left);
+    ecow_texts_drop(&right);
+}
+
+/* A null pointer at each place, and which refusal is told where several apply. */
+static void refusals_of_lists_of_texts(void) {
+    const size_t large = (size_t)1 << 60, most = SIZE_MAX;
+    ecow_texts texts = {{0}}, none = {{0}};
+    ecow_text text = {{0}};
+    size_t len = 99;
+    CHECK(ecow_texts_len(NULL) == 0 && ecow_texts_hash(NULL) == ecow_texts_hash(&none));
+    CHECK(ecow_texts_at(NULL, 0, &len) == NULL && len == 0);
+    CHECK(ecow_texts_clone(NULL, &none) == ECOW_NULL && ecow_texts_clone(&none, NULL) == ECOW_NULL);
+    CHECK(ecow_texts_clone(NULL, NULL) == ECOW_NULL);
+    ecow_texts_drop(NULL);
+    CHECK(ecow_texts_push_text(&texts, "ab", 2) == ECOW_OK);
+    CHECK(ecow_text_assign(&text, "cd", 2) == ECOW_OK);
+    CHECK(ecow_texts_get(NULL, 9, &text) == ECOW_NULL
+          && ecow_texts_get(NULL, 0, NULL) == ECOW_NULL);
+    CHECK(ecow_texts_pop(NULL, &text) == ECOW_NULL && ecow_texts_pop(NULL, NULL) == ECOW_NULL);
+    CHECK(ecow_texts_remove(NULL, 9, &text) == ECOW_NULL
+          && ecow_texts_remove(NULL, 0, NULL) == ECOW_NULL);
+    CHECK(ecow_texts_set(NULL, 9, &text) == ECOW_NULL
+          && ecow_texts_set(NULL, 0, NULL) == ECOW_NULL);
+    CHECK(ecow_texts_set(&texts, 9, NULL) == ECOW_NULL
+          && ecow_texts_set(&texts, 0, NULL) == ECOW_NULL);
+    CHECK(ecow_texts_push(NULL, &text) == ECOW_NULL && ecow_texts_push(&texts, NULL) == ECOW_NULL);
+    CHECK(ecow_texts_push(NULL, NULL) == ECOW_NULL);
+    CHECK(ecow_texts_insert(NULL, 9, &text) == ECOW_NULL
+          && ecow_texts_insert(&texts, 9, NULL) == ECOW_NULL);
+    CHECK(ecow_texts_truncate(NULL, 0) == ECOW_NULL && ecow_texts_clear(NULL) == ECOW_NULL);
+    CHECK(ecow_texts_reserve(NULL, most) == ECOW_NULL);
+    CHECK(ecow_texts_extend(NULL, &none) == ECOW_NULL
+          && ecow_texts_extend(&texts, NULL) == ECOW_NULL);
+    CHECK(ecow_texts_extend(NULL, NULL) == ECOW_NULL);
+    CHECK(ecow_texts_splice(NULL, 2, 1, &none) == ECOW_NULL
+          && ecow_texts_splice(&texts, 2, 1, NULL) == ECOW_NULL);
+    CHECK(ecow_texts_splice(NULL, 0, 0, NULL) == ECOW_NULL);
+    CHECK(ecow_texts_push_text(NULL, "\xff", 1) == ECOW_NULL
+          && ecow_texts_push_text(NULL, NULL, 0) == ECOW_NULL);
+    CHECK(ecow_texts_push_text(&texts, NULL, 1) == ECOW_NULL
+          && ecow_texts_push_text(&texts, NULL, most) == ECOW_NULL);
+    CHECK(ecow_texts_push_text(&texts, "a", large) == ECOW_MEMORY);
+    CHECK(ecow_texts_push_text(&texts, "a", PTRDIFF_MAX) == ECOW_MEMORY);
+    CHECK(ecow_texts_push_text(&texts, "a", most) == ECOW_CAPACITY);
+    CHECK(ecow_texts_set_text(NULL, 9, "\xff", 1) == ECOW_NULL
+          && ecow_texts_set_text(NULL, 0, NULL, 0) == ECOW_NULL);
+    CHECK(ecow_texts_set_text(&texts, 0, NULL, 1) == ECOW_NULL
+          && ecow_texts_set_text(&texts, 9, NULL, most) == ECOW_NULL);
+    CHECK(ecow_texts_set_text(&texts, 9, "\xff", 1) == ECOW_UTF8);
+    CHECK(ecow_texts_set_text(&texts, 0, "a", large) == ECOW_MEMORY);
+    CHECK(ecow_texts_set_text(&texts, 0, "a", most) == ECOW_CAPACITY);
+    CHECK(ecow_texts_set_text(&texts, 1, "a", most) == ECOW_INDEX);
+    CHECK(texts_hold(&texts, THESE("ab")) && text_is(&text, "cd") && texts_hold(&none, NULL, 0));
+    ecow_texts_drop(&texts);
+    ecow_text_drop(&text);
+}
+
 /* A null pointer at each place where a value, an array or a result stands. */
 static void null_pointers(void) {
     ecow_list list = {{0}};
@@ -317,6 +504,7 @@ static void wide_numbers(void) {
     ecow_list list = {{0}}, other = {{0}};
     ecow_bytes bytes = {{0}};
     ecow_text text = {{0}};
+    ecow_texts texts = {{0}};
     int64_t number = 0;
     CHECK(ecow_list_push(&list, INT64_MIN) == ECOW_OK);
     CHECK(ecow_list_insert(&list, 1, INT64_MAX) == ECOW_OK);
@@ -342,6 +530,16 @@ static void wide_numbers(void) {
     CHECK(ecow_text_insert(&text, far, "x", 1) == ECOW_INDEX);
     CHECK(ecow_text_pop(&text, NULL) == ECOW_OK && ecow_text_remove(&text, 0, NULL) == ECOW_OK);
     CHECK(ecow_text_truncate(&text, far) == ECOW_OK && text_is(&text, "b"));
+    CHECK(ecow_texts_push(&texts, &text) == ECOW_OK && ecow_texts_at(&texts, far, NULL) == NULL);
+    CHECK(ecow_texts_get(&texts, far, &text) == ECOW_INDEX
+          && ecow_texts_set(&texts, far, &text) == ECOW_INDEX);
+    CHECK(ecow_texts_insert(&texts, far, &text) == ECOW_INDEX
+          && ecow_texts_remove(&texts, far, &text) == ECOW_INDEX);
+    CHECK(ecow_texts_set_text(&texts, far, "c", 1) == ECOW_INDEX);
+    CHECK(ecow_texts_splice(&texts, 0, far, &texts) == ECOW_INDEX);
+    CHECK(ecow_texts_truncate(&texts, far) == ECOW_OK && texts_hold(&texts, THESE("b")));
+    CHECK(text_is(&text, "b"));
+    ecow_texts_drop(&texts);
     ecow_list_drop(&list);
     ecow_list_drop(&other);
     ecow_bytes_drop(&bytes);
@@ -374,17 +572,23 @@ static void sizes(void) {
         uint64_t behind;
         ecow_text text;
         uint64_t after;
-    } all = {1, {{0}}, 2, {{0}}, 3, {{0}}, 4};
+        ecow_texts texts;
+        uint64_t end;
+    } all = {1, {{0}}, 2, {{0}}, 3, {{0}}, 4, {{0}}, 5};
     for (int time = 0; time < 40; time++) {
         CHECK(ecow_list_push(&all.list, -1) == ECOW_OK);
         CHECK(ecow_bytes_push(&all.bytes, 255) == ECOW_OK);
         CHECK(ecow_text_push(&all.text, 0x10ffff) == ECOW_OK);
+        CHECK(ecow_texts_push(&all.texts, &all.text) == ECOW_OK);
         CHECK(all.before == 1 && all.between == 2 && all.behind == 3 && all.after == 4);
+        CHECK(all.end == 5);
     }
     ecow_list_drop(&all.list);
     ecow_bytes_drop(&all.bytes);
     ecow_text_drop(&all.text);
+    ecow_texts_drop(&all.texts);
     CHECK(all.before == 1 && all.between == 2 && all.behind == 3 && all.after == 4);
+    CHECK(all.end == 5);
 }
 
 int main(void) {
@@ -393,6 +597,10 @@ int main(void) {
     orders_of_lists();
     all_bytes();
     texts();
+    lists_of_texts();
+    lists_of_texts_in_themselves();
+    orders_of_lists_of_texts();
+    refusals_of_lists_of_texts();
     null_pointers();
     orders_of_refusals();
     statuses();

@@ -61,4 +61,15 @@ static inline bool text_is(const ecow_text *text, const char *bytes) {
     return text_holds(text, bytes, strlen(bytes));
 }
 
+/* Whether the texts are these, which end with a 0. */
+static inline bool texts_hold(const ecow_texts *texts, const char *const *items, size_t count) {
+    bool same = ecow_texts_len(texts) == count && !ecow_texts_at(texts, count, NULL);
+    for (size_t index = 0; same && index < count; index++) {
+        size_t len;
+        const char *held = ecow_texts_at(texts, index, &len);
+        same = held && len == strlen(items[index]) && memcmp(held, items[index], len) == 0;
+    }
+    return same;
+}
+
 #endif

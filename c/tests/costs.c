@@ -124,6 +124,114 @@ static void changes_of_texts(void) {
     ecow_text_drop(&text);
 }
 
+#undef VALUE
+#undef ITEM
+#undef OUT
+#undef CALL
+#undef NAME
+
+#define NAME "texts"
+#define SPILLED "a text of 25 bytes, as is"
+
+/* Appends the text until there are `len`. */
+static void push_texts_up_to(ecow_texts *texts, const ecow_text *text, size_t len) {
+    while (ecow_texts_len(texts) < len) {
+        CHECK(ecow_texts_push(texts, text) == ECOW_OK);
+    }
+}
+
+/* Whether there are `len` texts, which all share the memory of `text`. */
+static bool all_share(const ecow_texts *texts, const ecow_text *text, size_t len) {
+    const char *bytes = ecow_text_slice(text, NULL);
+    for (size_t index = 0; index < len; index++) {
+        if (ecow_texts_at(texts, index, NULL) != bytes) {
+            return false;
+        }
+    }
+    return ecow_texts_len(texts) == len;
+}
+
+/* A list of texts and its clone: what reads asks for nothing, a change copies the list and no
+ * text. */
+static void clones_of_lists_of_texts(void) {
+    ecow_texts texts = {{0}}, clone = {{0}}, second = {{0}};
+    ecow_text text = {{0}}, out = {{0}};
+    size_t len;
+    CHECK(ecow_text_assign(&text, SPILLED, strlen(SPILLED)) == ECOW_OK);
+    COUNTED("1000 pushes", push_texts_up_to(&texts, &text, 1000));
+    CHECK(all_share(&texts, &text, 1000));
+    COUNTED("clone", CHECK(ecow_texts_clone(&clone, &texts) == ECOW_OK));
+    COUNTED("clone of a clone", CHECK(ecow_texts_clone(&second, &clone) == ECOW_OK));
+    begin();
+    CHECK(all_share(&clone, &text, 1000) && all_share(&second, &text, 1000));
+    CHECK(ecow_texts_get(&clone, 999, &out) == ECOW_OK && text_is(&out, SPILLED));
+    CHECK(ecow_texts_get(&clone, 1000, &out) == ECOW_INDEX);
+    CHECK(ecow_texts_at(&clone, 0, &len) && len == strlen(SPILLED));
+    CHECK(ecow_texts_equal(&texts, &clone) && ecow_texts_compare(&texts, &clone) == 0);
+    CHECK(ecow_texts_hash(&texts) == ecow_texts_hash(&clone));
+    end(NAME ": reads");
+    COUNTED("drop of a clone", ecow_texts_drop(&second));
+    COUNTED("push to a shared one", push_texts_up_to(&texts, &text, 1001));
+    COUNTED("23 pushes", push_texts_up_to(&texts, &text, 1024));
+    COUNTED("push past the room", push_texts_up_to(&texts, &text, 1025));
+    CHECK(all_share(&texts, &text, 1025) && all_share(&clone, &text, 1000));
+    COUNTED("drop", ecow_texts_drop(&texts));
+    CHECK(all_share(&clone, &text, 1000) && ecow_texts_clone(&texts, &clone) == ECOW_OK);
+    COUNTED("set of a shared one", CHECK(ecow_texts_set(&texts, 0, &text) == ECOW_OK));
+    CHECK(all_share(&texts, &text, 1000) && ecow_texts_clone(&texts, &clone) == ECOW_OK);
+    COUNTED("set_text of a shared one",
+            CHECK(ecow_texts_set_text(&texts, 0, SPILLED, strlen(SPILLED)) == ECOW_OK));
+    CHECK(ecow_texts_clone(&texts, &clone) == ECOW_OK);
+    COUNTED("insert into a shared one", CHECK(ecow_texts_insert(&texts, 5, &text) == ECOW_OK));
+    CHECK(all_share(&texts, &text, 1001) && ecow_texts_clone(&texts, &clone) == ECOW_OK);
+    COUNTED("remove of a shared one", CHECK(ecow_texts_remove(&texts, 5, &out) == ECOW_OK));
+    CHECK(all_share(&texts, &text, 999) && ecow_texts_clone(&texts, &clone) == ECOW_OK);
+    COUNTED("pop of a shared one", CHECK(ecow_texts_pop(&texts, &out) == ECOW_OK));
+    CHECK(all_share(&texts, &text, 999) && ecow_texts_clone(&texts, &clone) == ECOW_OK);
+    CHECK(ecow_text_slice(&out, NULL) == ecow_text_slice(&text, NULL));
+    COUNTED("truncate of a shared one", CHECK(ecow_texts_truncate(&texts, 10) == ECOW_OK));
+    CHECK(all_share(&texts, &text, 10) && ecow_texts_clone(&texts, &clone) == ECOW_OK);
+    COUNTED("clear of a shared one", CHECK(ecow_texts_clear(&texts) == ECOW_OK));
+    CHECK(all_share(&texts, &text, 0) && all_share(&clone, &text, 1000));
+    ecow_texts_drop(&clone);
+    ecow_text_drop(&text);
+    ecow_text_drop(&out);
+}
+
+/* Changes of a list that no other shares. */
+static void changes_of_lists_of_texts(void) {
+    ecow_texts texts = {{0}}, other = {{0}};
+    ecow_text text = {{0}}, out = {{0}};
+    CHECK(ecow_text_assign(&text, SPILLED, strlen(SPILLED)) == ECOW_OK);
+    COUNTED("push_text of 15 bytes to none",
+            CHECK(ecow_texts_push_text(&texts, SPILLED, 15) == ECOW_OK));
+    COUNTED("push_text of 15 bytes", CHECK(ecow_texts_push_text(&texts, SPILLED, 15) == ECOW_OK));
+    COUNTED("push_text of 16 bytes", CHECK(ecow_texts_push_text(&texts, SPILLED, 16) == ECOW_OK));
+    COUNTED("set_text of 15 bytes", CHECK(ecow_texts_set_text(&texts, 0, SPILLED, 15) == ECOW_OK));
+    ecow_texts_drop(&texts);
+    COUNTED("reserve 1000 for none", CHECK(ecow_texts_reserve(&texts, 1000) == ECOW_OK));
+    COUNTED("1000 pushes", push_texts_up_to(&texts, &text, 1000));
+    COUNTED("set", CHECK(ecow_texts_set(&texts, 999, &text) == ECOW_OK));
+    COUNTED("remove", CHECK(ecow_texts_remove(&texts, 0, &out) == ECOW_OK));
+    COUNTED("insert", CHECK(ecow_texts_insert(&texts, 0, &out) == ECOW_OK));
+    COUNTED("pop", CHECK(ecow_texts_pop(&texts, &out) == ECOW_OK));
+    COUNTED("push of what was taken", CHECK(ecow_texts_push(&texts, &out) == ECOW_OK));
+    CHECK(ecow_texts_clone(&other, &texts) == ECOW_OK
+          && ecow_texts_truncate(&other, 10) == ECOW_OK);
+    COUNTED("splice 10 for 10", CHECK(ecow_texts_splice(&texts, 10, 20, &other) == ECOW_OK));
+    COUNTED("extend by 10", CHECK(ecow_texts_extend(&texts, &other) == ECOW_OK));
+    COUNTED("extend by itself", CHECK(ecow_texts_extend(&texts, &texts) == ECOW_OK));
+    CHECK(all_share(&texts, &text, 2020) && all_share(&other, &text, 10));
+    COUNTED("truncate", CHECK(ecow_texts_truncate(&texts, 1000) == ECOW_OK));
+    COUNTED("clear", CHECK(ecow_texts_clear(&texts) == ECOW_OK));
+    COUNTED("1000 pushes again", push_texts_up_to(&texts, &text, 1000));
+    CHECK(all_share(&texts, &text, 1000));
+    ecow_texts_drop(&texts);
+    ecow_texts_drop(&other);
+    ecow_text_drop(&text);
+    ecow_text_drop(&out);
+}
+
 int main(void) {
     take_no_buffer();
     ecow_list_costs();
@@ -132,5 +240,7 @@ int main(void) {
     changes_of_bytes();
     ecow_text_costs();
     changes_of_texts();
+    clones_of_lists_of_texts();
+    changes_of_lists_of_texts();
     return 0;
 }

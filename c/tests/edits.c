@@ -1,4 +1,4 @@
-/* Edits by a seed, of lists, bytes and texts, beside plain arrays: edits [COUNT]. Some values are
+/* Edits by a seed, of lists, bytes, texts and lists of texts, beside plain arrays: edits [COUNT]. Some values are
  * kept, cloned from others, and none may change with another. Every call may answer ECOW_MEMORY,
  * and then leaves its value as it was: so the program serves also while requests are refused. */
 #include "check.h"
@@ -356,29 +356,178 @@ static void edit_text(ecow_text texts[VALUES], array models[VALUES], uint64_t *s
     CHECK(text_holds(text, model->bytes, model->size));
 }
 
+/* How many texts a list has at most, and how many bytes a text. */
+enum { MOST_TEXTS = 24, MOST_LETTERS = 24 };
+
+/* What a list of texts has to hold. */
+typedef struct strings {
+    char text[MOST_TEXTS][MOST_LETTERS + 1];
+    size_t len;
+} strings;
+
+static void strings_splice(strings *all, size_t start, size_t end, const strings *added,
+                           size_t count) {
+    strings made = *all;
+    memcpy(made.text + start, added->text, count * sizeof *made.text);
+    memcpy(made.text + start + count, all->text + end, (all->len - end) * sizeof *made.text);
+    made.len = all->len - (end - start) + count;
+    *all = made;
+}
+
+static bool holds(const ecow_texts *texts, const strings *model) {
+    const char *items[MOST_TEXTS];
+    for (size_t index = 0; index < model->len; index++) {
+        items[index] = model->text[index];
+    }
+    return texts_hold(texts, items, model->len);
+}
+
+/* The order of two arrays of strings. */
+static int strings_compare(const strings *left, const strings *right) {
+    for (size_t index = 0; index < least(left->len, right->len); index++) {
+        int order = strcmp(left->text[index], right->text[index]);
+        if (order) {
+            return order;
+        }
+    }
+    return (left->len > right->len) - (left->len < right->len);
+}
+
+static void edit_texts(ecow_texts lists[VALUES], strings models[VALUES], uint64_t *seed) {
+    size_t which = below(seed, VALUES), other = below(seed, VALUES);
+    ecow_texts *list = &lists[which];
+    strings *model = &models[which], word = {{{0}}, 1};
+    size_t len = model->len, index = below(seed, len + 1);
+    size_t end = index + below(seed, len - index + 1), letters = below(seed, MOST_LETTERS + 1);
+    bool fits = len < MOST_TEXTS, by_bytes = below(seed, 2);
+    ecow_text text = {{0}};
+    for (size_t at = 0; at < letters; at++) {
+        word.text[0][at] = (char)('a' + below(seed, 2));
+    }
+    if (!is_done(ecow_text_assign(&text, word.text[0], letters))) {
+        return;
+    }
+    switch (below(seed, 14)) {
+    case 0:
+    case 1:
+        if (fits
+            && is_done(by_bytes ? ecow_texts_push_text(list, word.text[0], letters)
+                                : ecow_texts_push(list, &text))) {
+            strings_splice(model, len, len, &word, 1);
+        }
+        break;
+    case 2:
+        if (!len) {
+            CHECK(ecow_texts_pop(list, &text) == ECOW_INDEX && text_is(&text, word.text[0]));
+        } else if (is_done(ecow_texts_pop(list, &text))) {
+            CHECK(text_is(&text, model->text[--model->len]));
+        }
+        break;
+    case 3:
+        if (fits && is_done(ecow_texts_insert(list, index, &text))) {
+            strings_splice(model, index, index, &word, 1);
+        }
+        CHECK(ecow_texts_insert(list, model->len + 1, &text) == ECOW_INDEX);
+        break;
+    case 4:
+        if (index == len) {
+            CHECK(ecow_texts_remove(list, index, &text) == ECOW_INDEX
+                  && text_is(&text, word.text[0]));
+        } else if (is_done(ecow_texts_remove(list, index, &text))) {
+            CHECK(text_is(&text, model->text[index]));
+            strings_splice(model, index, index + 1, &word, 0);
+        }
+        break;
+    case 5:
+        if (index == len) {
+            CHECK(ecow_texts_set(list, index, &text) == ECOW_INDEX);
+        } else if (is_done(by_bytes ? ecow_texts_set_text(list, index, word.text[0], letters)
+                                    : ecow_texts_set(list, index, &text))) {
+            strings_splice(model, index, index + 1, &word, 1);
+        }
+        break;
+    case 6:
+        if (is_done(ecow_texts_truncate(list, index))) {
+            model->len = index;
+        }
+        break;
+    case 7:
+        if (below(seed, 8) == 0 && is_done(ecow_texts_clear(list))) {
+            model->len = 0;
+        }
+        break;
+    case 8:
+        is_done(ecow_texts_reserve(list, index));
+        break;
+    case 9:
+        if (len + models[other].len <= MOST_TEXTS
+            && is_done(ecow_texts_extend(list, &lists[other]))) {
+            strings_splice(model, len, len, &models[other], models[other].len);
+        }
+        break;
+    case 10:
+        if (len + models[other].len <= MOST_TEXTS
+            && is_done(ecow_texts_splice(list, index, end, &lists[other]))) {
+            strings_splice(model, index, end, &models[other], models[other].len);
+        }
+        break;
+    case 11:
+        if (index == len) {
+            CHECK(ecow_texts_get(list, index, &text) == ECOW_INDEX && text_is(&text, word.text[0]));
+        } else if (is_done(ecow_texts_get(list, index, &text))) {
+            CHECK(text_is(&text, model->text[index]));
+            /* A change of what was taken out as a clone is not seen in the list. */
+            is_done(ecow_text_push(&text, '!'));
+        }
+        break;
+    case 12:
+        if (is_done(ecow_texts_clone(list, &lists[other]))) {
+            *model = models[other];
+        }
+        break;
+    default:
+        if (below(seed, 8) == 0) {
+            ecow_texts_drop(list);
+            model->len = 0;
+        }
+        int order = strings_compare(model, &models[other]);
+        int found = ecow_texts_compare(list, &lists[other]);
+        CHECK((order < 0) == (found < 0) && (order > 0) == (found > 0));
+        CHECK(ecow_texts_equal(list, &lists[other]) == !order);
+        CHECK(order || ecow_texts_hash(list) == ecow_texts_hash(&lists[other]));
+    }
+    ecow_text_drop(&text);
+    CHECK(holds(list, model));
+}
+
 int main(int argc, char **argv) {
     long edits = argc > 1 ? atol(argv[1]) : 1000000;
     uint64_t seed = 20260915;
     static ecow_list lists[VALUES];
     static ecow_bytes bytes[VALUES];
     static ecow_text texts[VALUES];
+    static ecow_texts lists_of_texts[VALUES];
+    static strings of_lists_of_texts[VALUES];
     static array of_lists[VALUES], of_bytes[VALUES], of_texts[VALUES];
     take_no_buffer();
     for (long edit = 0; edit < edits; edit++) {
         edit_list(lists, of_lists, &seed);
         edit_bytes(bytes, of_bytes, &seed);
         edit_text(texts, of_texts, &seed);
+        edit_texts(lists_of_texts, of_lists_of_texts, &seed);
         for (size_t at = 0; at < VALUES; at++) {
             const int64_t *numbers = (const int64_t *)(const void *)of_lists[at].bytes;
             CHECK(list_holds(&lists[at], numbers, of_lists[at].size / sizeof *numbers));
             CHECK(bytes_hold(&bytes[at], of_bytes[at].bytes, of_bytes[at].size));
             CHECK(text_holds(&texts[at], of_texts[at].bytes, of_texts[at].size));
+            CHECK(holds(&lists_of_texts[at], &of_lists_of_texts[at]));
         }
     }
     for (size_t at = 0; at < VALUES; at++) {
         ecow_list_drop(&lists[at]);
         ecow_bytes_drop(&bytes[at]);
         ecow_text_drop(&texts[at]);
+        ecow_texts_drop(&lists_of_texts[at]);
     }
     printf("edits: %ld of each kind, %ld checks\n", edits, checks);
     return 0;
