@@ -35,18 +35,19 @@ abbrev pub AltersTexts : (List PlainText → List PlainText) → Option (List Pl
     → Option (List PlainText) → Type 0
 AltersTexts = Alters (λ texts. texts)
 
--- the value is what `change` makes of it and of a second value, at another pointer; where the call
--- was refused nothing has changed
-pub record AltersBy {X Y : Type 0} (change : Y → X → X) (old : Option X) (other : Option Y)
-    (status : ℕ) (new : Option X) : Type 0 where
-  pub ok : status ≡ OK → IfSome other (λ y. new ≡ option_map (change y) old)
+-- the contents are what `change` makes of them and of a second value, at another pointer; where the
+-- call was refused nothing has changed
+pub record AltersBy {X C Y : Type 0} (contents : X → C) (change : Y → C → C) (old : Option X)
+    (other : Option Y) (status : ℕ) (new : Option X) : Type 0 where
+  pub ok : status ≡ OK
+      → IfSome other (λ y. option_map contents new ≡ option_map (λ x. change y (contents x)) old)
   pub refused : status ≢ OK → new ≡ old
   pub null : status ≡ NULL ↔ is_none old || is_none other ≡ true
 
 -- the same of a list of texts
 abbrev pub AltersTextsBy : {Y : Type 0} → (Y → List PlainText → List PlainText)
     → Option (List PlainText) → Option Y → ℕ → Option (List PlainText) → Type 0
-AltersTextsBy = AltersBy
+AltersTextsBy = AltersBy (λ texts. texts)
 
 -- both values are there, and P holds of them
 abbrev pub AreBothAnd : {X Y : Type 0} → Option X → Option Y → (X → Y → Type 0) → Type 0

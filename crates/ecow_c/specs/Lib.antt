@@ -4,3 +4,4 @@ pub mod Lends
 pub mod Places
 pub mod Rows
 pub mod Texts
+pub mod Values

@@ -1,4 +1,5 @@
-//! The values of `ecow_list`, `ecow_bytes`, `ecow_text` and `ecow_texts` for C.
+//! The values of `ecow_list`, `ecow_bytes`, `ecow_text`, `ecow_texts` and
+//! `ecow_value` for C.
 #![tactic(auto)]
 
 mod bytes;
@@ -6,3 +7,4 @@ mod list;
 mod status;
 mod text;
 mod texts;
+mod value;

@@ -39,7 +39,7 @@ fn cut_at(text: &EcoString, index: usize) -> u32
 }
 
 /// The text that bytes spell, if they are UTF-8.
-fn spelled(bytes: &[u8]) -> Option<&str>
+pub(crate) fn spelled(bytes: &[u8]) -> Option<&str>
     ensures bytes { IfSome result (λ text. text.now ≡ bytes.now) }
     ensures utf8 { is_utf8 bytes.now ≡ is_some result }
 {
