@@ -3,6 +3,8 @@
  * arrays that overlap the value that is changed, and arrays that no memory holds. */
 #include "proved.h"
 
+#include <string.h>
+
 /* Where an array of no items begins. */
 static const int64_t nothing[1] = {0};
 
@@ -30,6 +32,8 @@ const char *ecow_status_text(ecow_status status) {
         return "invalid UTF-8";
     case ECOW_NULL:
         return "null pointer";
+    case ECOW_KIND:
+        return "value of another kind";
     }
     return "no status";
 }
@@ -266,4 +270,243 @@ ecow_status ecow_texts_splice(ecow_texts *texts, size_t start, size_t end,
     }
     ecow_texts_drop(&given.held);
     return status;
+}
+
+ecow_value ecow_value_new(void) {
+    ecow_value value = {{0}};
+    return value;
+}
+
+extern inline void ecow_value_drop(ecow_value *value);
+
+extern inline ecow_status ecow_value_clone(ecow_value *to, const ecow_value *from);
+
+ecow_kind ecow_value_kind(const ecow_value *value) {
+    ecow_value *place = (ecow_value *)value;
+    return (ecow_kind)ecow_proved_value_kind(&place);
+}
+
+ecow_status ecow_value_set_nothing(ecow_value *value) {
+    return ecow_proved_value_drop(&value);
+}
+
+ecow_status ecow_value_set_truth(ecow_value *value, bool truth) {
+    return ecow_proved_value_set_truth(&value, truth);
+}
+
+ecow_status ecow_value_set_number(ecow_value *value, int64_t number) {
+    return ecow_proved_value_set_number(&value, number);
+}
+
+ecow_status ecow_value_set_real(ecow_value *value, double real) {
+    uint64_t bits;
+    memcpy(&bits, &real, sizeof bits);
+    return ecow_proved_value_set_real(&value, bits);
+}
+
+ecow_status ecow_value_set_text(ecow_value *value, const ecow_text *text) {
+    ecow_text *from = (ecow_text *)text;
+    return ecow_proved_value_set_text(&value, &from);
+}
+
+ecow_status ecow_value_set_list(ecow_value *value) {
+    return ecow_proved_value_set_list(&value);
+}
+
+ecow_status ecow_value_set_fields(ecow_value *value) {
+    return ecow_proved_value_set_fields(&value);
+}
+
+ecow_status ecow_value_truth(const ecow_value *value, bool *truth) {
+    ecow_value *place = (ecow_value *)value;
+    bool found = false;
+    ecow_status status = ecow_proved_value_truth(&place, &found);
+    if (status == ECOW_OK && truth) {
+        *truth = found;
+    }
+    return status;
+}
+
+ecow_status ecow_value_number(const ecow_value *value, int64_t *number) {
+    ecow_value *place = (ecow_value *)value;
+    int64_t ignored = 0;
+    return ecow_proved_value_number(&place, number ? number : &ignored);
+}
+
+ecow_status ecow_value_real(const ecow_value *value, double *real) {
+    ecow_value *place = (ecow_value *)value;
+    uint64_t bits = 0;
+    ecow_status status = ecow_proved_value_real(&place, &bits);
+    if (status == ECOW_OK && real) {
+        memcpy(real, &bits, sizeof bits);
+    }
+    return status;
+}
+
+ecow_status ecow_value_text(const ecow_value *value, ecow_text *text) {
+    ecow_value *place = (ecow_value *)value;
+    ecow_text ignored = {{0}}, *out = text ? text : &ignored;
+    ecow_status status = ecow_proved_value_text(&place, &out);
+    ecow_text_drop(&ignored);
+    return status;
+}
+
+size_t ecow_value_len(const ecow_value *value) {
+    ecow_value *place = (ecow_value *)value;
+    return ecow_proved_value_len(&place);
+}
+
+/* Gives a call's result to the caller, whose value may be the one that the call took it from. A
+ * result that isn't wanted, and that of a refusal, are given up. */
+static ecow_status hand_over(ecow_status status, ecow_value *made, ecow_value *out) {
+    if (status == ECOW_OK && out) {
+        ecow_value_drop(out);
+        *out = *made;
+    } else {
+        ecow_value_drop(made);
+    }
+    return status;
+}
+
+ecow_status ecow_value_get(const ecow_value *value, size_t index, ecow_value *item) {
+    ecow_value *place = (ecow_value *)value, made = {{0}}, *out = &made;
+    return hand_over(ecow_proved_value_get(&place, index, &out), &made, item);
+}
+
+ecow_status ecow_value_pop(ecow_value *value, ecow_value *item) {
+    ecow_value made = {{0}}, *out = &made;
+    return hand_over(ecow_proved_value_pop(&value, &out), &made, item);
+}
+
+ecow_status ecow_value_remove(ecow_value *value, size_t index, ecow_value *item) {
+    ecow_value made = {{0}}, *out = &made;
+    return hand_over(ecow_proved_value_remove(&value, index, &out), &made, item);
+}
+
+/* A value that a call was given, as it stays while the other one changes: a clone holds that one
+ * itself. */
+typedef struct given_value {
+    ecow_value *value;
+    ecow_value held;
+} given_value;
+
+static ecow_status keep_value(given_value *given, const ecow_value *value, const ecow_value *item) {
+    bool is_itself = value && value == item;
+    given->held = ecow_value_new();
+    given->value = is_itself ? &given->held : (ecow_value *)item;
+    return is_itself ? ecow_value_clone(&given->held, value) : ECOW_OK;
+}
+
+ecow_status ecow_value_set(ecow_value *value, size_t index, const ecow_value *item) {
+    given_value given;
+    ecow_status status = keep_value(&given, value, item);
+    if (status == ECOW_OK) {
+        status = ecow_proved_value_set(&value, index, &given.value);
+    }
+    ecow_value_drop(&given.held);
+    return status;
+}
+
+ecow_status ecow_value_push(ecow_value *value, const ecow_value *item) {
+    given_value given;
+    ecow_status status = keep_value(&given, value, item);
+    if (status == ECOW_OK) {
+        status = ecow_proved_value_push(&value, &given.value);
+    }
+    ecow_value_drop(&given.held);
+    return status;
+}
+
+ecow_status ecow_value_insert(ecow_value *value, size_t index, const ecow_value *item) {
+    given_value given;
+    ecow_status status = keep_value(&given, value, item);
+    if (status == ECOW_OK) {
+        status = ecow_proved_value_insert(&value, index, &given.value);
+    }
+    ecow_value_drop(&given.held);
+    return status;
+}
+
+ecow_status ecow_value_truncate(ecow_value *value, size_t len) {
+    return ecow_proved_value_truncate(&value, len);
+}
+
+/* The name that a call was given, as it stays while the value changes: one that overlaps the
+ * value's struct is copied. */
+typedef struct given_name {
+    const char *bytes;
+    ecow_text held;
+} given_name;
+
+static ecow_status keep_name(given_name *given, const ecow_value *value, const char *name,
+                             size_t count) {
+    given->bytes = name ? name : (const char *)nothing;
+    given->held = ecow_text_new();
+    if (!value || (!name && count)) {
+        return ECOW_NULL;
+    }
+    if (count >= PAST_MEMORY) {
+        return ECOW_MEMORY;
+    }
+    if (overlap(name, count, value, sizeof *value)) {
+        ecow_status status = ecow_text_assign(&given->held, name, count);
+        given->bytes = ecow_text_slice(&given->held, NULL);
+        return status;
+    }
+    return ECOW_OK;
+}
+
+ecow_status ecow_value_get_field(const ecow_value *value, const char *name, size_t count,
+                                 ecow_value *item) {
+    ecow_value *place = (ecow_value *)value, made = {{0}}, *out = &made;
+    given_name given;
+    ecow_status status = keep_name(&given, value, name, count);
+    if (status == ECOW_OK) {
+        status = ecow_proved_value_get_field(&place, given.bytes, count, &out);
+    }
+    ecow_text_drop(&given.held);
+    return hand_over(status, &made, item);
+}
+
+ecow_status ecow_value_set_field(ecow_value *value, const char *name, size_t count,
+                                 const ecow_value *item) {
+    given_name given;
+    given_value kept;
+    ecow_status status = item ? keep_name(&given, value, name, count) : ECOW_NULL;
+    if (status == ECOW_NULL) {
+        return status;
+    }
+    ecow_status other = keep_value(&kept, value, item);
+    status = status == ECOW_OK ? other : status;
+    if (status == ECOW_OK) {
+        status = ecow_proved_value_set_field(&value, given.bytes, count, &kept.value);
+    }
+    ecow_text_drop(&given.held);
+    ecow_value_drop(&kept.held);
+    return status;
+}
+
+ecow_status ecow_value_remove_field(ecow_value *value, const char *name, size_t count,
+                                    ecow_value *item) {
+    ecow_value made = {{0}}, *out = &made;
+    given_name given;
+    ecow_status status = keep_name(&given, value, name, count);
+    if (status == ECOW_OK) {
+        status = ecow_proved_value_remove_field(&value, given.bytes, count, &out);
+    }
+    ecow_text_drop(&given.held);
+    return hand_over(status, &made, item);
+}
+
+ecow_status ecow_value_field_name(const ecow_value *value, size_t index, ecow_text *name) {
+    ecow_value *place = (ecow_value *)value;
+    ecow_text ignored = {{0}}, *out = name ? name : &ignored;
+    ecow_status status = ecow_proved_value_field_name(&place, index, &out);
+    ecow_text_drop(&ignored);
+    return status;
+}
+
+bool ecow_value_equal(const ecow_value *left, const ecow_value *right) {
+    ecow_value *first = (ecow_value *)left, *second = (ecow_value *)right;
+    return left == right || ecow_proved_value_equal(&first, &second);
 }

@@ -88,4 +88,32 @@ ecow_status ecow_proved_texts_extend(ecow_texts **value, ecow_texts **added);
 ecow_status ecow_proved_texts_splice(ecow_texts **value, size_t start, size_t end,
                                      ecow_texts **added);
 
+uint32_t ecow_proved_value_kind(ecow_value **value);
+ecow_status ecow_proved_value_set_truth(ecow_value **value, bool truth);
+ecow_status ecow_proved_value_set_number(ecow_value **value, int64_t number);
+ecow_status ecow_proved_value_set_real(ecow_value **value, uint64_t bits);
+ecow_status ecow_proved_value_set_text(ecow_value **value, ecow_text **text);
+ecow_status ecow_proved_value_set_list(ecow_value **value);
+ecow_status ecow_proved_value_set_fields(ecow_value **value);
+ecow_status ecow_proved_value_truth(ecow_value **value, bool *out);
+ecow_status ecow_proved_value_number(ecow_value **value, int64_t *out);
+ecow_status ecow_proved_value_real(ecow_value **value, uint64_t *out);
+ecow_status ecow_proved_value_text(ecow_value **value, ecow_text **out);
+size_t ecow_proved_value_len(ecow_value **value);
+ecow_status ecow_proved_value_get(ecow_value **value, size_t index, ecow_value **out);
+ecow_status ecow_proved_value_set(ecow_value **value, size_t index, ecow_value **item);
+ecow_status ecow_proved_value_push(ecow_value **value, ecow_value **item);
+ecow_status ecow_proved_value_pop(ecow_value **value, ecow_value **out);
+ecow_status ecow_proved_value_insert(ecow_value **value, size_t index, ecow_value **item);
+ecow_status ecow_proved_value_remove(ecow_value **value, size_t index, ecow_value **out);
+ecow_status ecow_proved_value_truncate(ecow_value **value, size_t len);
+ecow_status ecow_proved_value_get_field(ecow_value **value, const char *name, size_t count,
+                                        ecow_value **out);
+ecow_status ecow_proved_value_set_field(ecow_value **value, const char *name, size_t count,
+                                        ecow_value **item);
+ecow_status ecow_proved_value_remove_field(ecow_value **value, const char *name, size_t count,
+                                           ecow_value **out);
+ecow_status ecow_proved_value_field_name(ecow_value **value, size_t index, ecow_text **out);
+bool ecow_proved_value_equal(ecow_value **left, ecow_value **right);
+
 #endif

@@ -1,5 +1,5 @@
-/* Lists of numbers, bytes, texts and lists of texts whose clones share memory until one of them is
- * changed.
+/* Lists of numbers, bytes, texts, lists of texts and nested values, whose clones share memory until
+ * one of them is changed.
  *
  * Values. A value is a struct of this header, in memory of yours: on the stack, in another struct,
  * in an array. Zeroed memory is an empty value (`ecow_list list = {0};`). A value that isn't empty
@@ -11,8 +11,9 @@
  *
  * Answers. A call that changes a value answers an `ecow_status`. Unless that is `ECOW_OK`, the
  * value is as it was, and nothing is written to the other pointers. Where several refusals apply,
- * the first of these is answered: a null value, a null array, `ECOW_UTF8`, `ECOW_INDEX`,
- * `ECOW_BOUNDARY`, `ECOW_CAPACITY`. `ECOW_MEMORY` may stand in place of any but `ECOW_NULL`.
+ * the first of these is answered: a null value, a null array, `ECOW_UTF8`, `ECOW_KIND`,
+ * `ECOW_INDEX`, `ECOW_BOUNDARY`, `ECOW_CAPACITY`. `ECOW_MEMORY` may stand in place of any but
+ * `ECOW_NULL`.
  *
  * Pointers. A null pointer is answered, never followed: `ECOW_NULL` by each call that answers a
  * status, and else what an empty value would give. An array may be null where its count is 0, and
@@ -21,7 +22,8 @@
  *
  * Arrays. An array may lie in the value that a call changes, or overlap its struct. One of 2^60
  * items or more isn't read, since no memory holds it: `ECOW_CAPACITY` where the length would pass
- * 2^63 - 1, and else `ECOW_MEMORY`. `ecow_text_replace` answers it with `ECOW_MEMORY` alone.
+ * 2^63 - 1, and else `ECOW_MEMORY`. `ecow_text_replace` and calls by a field's name answer it with
+ * `ECOW_MEMORY` alone.
  *
  * Lifetimes. What a `_slice` returns stays valid until the next call that changes or drops that
  * value, or until the value is moved. It is never null.
@@ -51,7 +53,8 @@ typedef enum ecow_status {
     ECOW_INDEX = 3,    /* An index or a range passes the end, or there is nothing to take. */
     ECOW_BOUNDARY = 4, /* An index is inside a character. */
     ECOW_UTF8 = 5,     /* The bytes are no UTF-8, or the number is no character. */
-    ECOW_NULL = 6      /* A pointer that is needed is null. */
+    ECOW_NULL = 6,     /* A pointer that is needed is null. */
+    ECOW_KIND = 7      /* The nested value is of another kind. */
 } ecow_status;
 
 /* A few words for people: "out of memory". Never null. */
@@ -73,6 +76,10 @@ typedef struct ecow_text {
 typedef struct ecow_texts {
     uint64_t word[1];
 } ecow_texts;
+
+typedef struct ecow_value {
+    uint64_t word[3];
+} ecow_value;
 
 /* ---- Lists of numbers ---- */
 
@@ -363,6 +370,120 @@ int ecow_texts_compare(const ecow_texts *left, const ecow_texts *right);
 /* A hash (SipHash-1-3, with keys of 0). Equal lists have the same. */
 uint64_t ecow_texts_hash(const ecow_texts *texts);
 
+/* ---- Nested values ---- */
+
+/* A value is nothing, a truth value, a number, a text, a list of values, or fields by name in
+ * order. It goes in and out as a clone, which shares its memory: to change what lies deep in a
+ * value, take a part out, change it, and put it in again. What lies beside the way stays shared. A
+ * call for another kind of value answers ECOW_KIND.
+ *
+ * A result may be the value itself, which is then replaced. A value is dropped by recursion, so the
+ * stack bounds how deep one may be. */
+
+/* What a value is. */
+typedef enum ecow_kind {
+    ECOW_KIND_NOTHING = 0,
+    ECOW_KIND_TRUTH = 1,
+    ECOW_KIND_NUMBER = 2,
+    ECOW_KIND_REAL = 3,
+    ECOW_KIND_TEXT = 4,
+    ECOW_KIND_LIST = 5,
+    ECOW_KIND_FIELDS = 6
+} ecow_kind;
+
+/* Nothing. */
+ecow_value ecow_value_new(void);
+
+/* Gives the value's memory up, and leaves nothing. */
+inline void ecow_value_drop(ecow_value *value);
+
+/* Makes `to` a clone of `from`. What it held is given up. */
+inline ecow_status ecow_value_clone(ecow_value *to, const ecow_value *from);
+
+/* What the value is; a null pointer is nothing. */
+ecow_kind ecow_value_kind(const ecow_value *value);
+
+/* Makes it nothing. */
+ecow_status ecow_value_set_nothing(ecow_value *value);
+
+/* Makes it a truth value. */
+ecow_status ecow_value_set_truth(ecow_value *value, bool truth);
+
+/* Makes it a number. */
+ecow_status ecow_value_set_number(ecow_value *value, int64_t number);
+
+/* Makes it a floating-point number, whose bits it keeps. */
+ecow_status ecow_value_set_real(ecow_value *value, double real);
+
+/* Makes it a text. */
+ecow_status ecow_value_set_text(ecow_value *value, const ecow_text *text);
+
+/* Makes it a list of no items. */
+ecow_status ecow_value_set_list(ecow_value *value);
+
+/* Makes it a value with no fields. */
+ecow_status ecow_value_set_fields(ecow_value *value);
+
+/* Reads the truth value. */
+ecow_status ecow_value_truth(const ecow_value *value, bool *truth);
+
+/* Reads the number. */
+ecow_status ecow_value_number(const ecow_value *value, int64_t *number);
+
+/* Reads the floating-point number. */
+ecow_status ecow_value_real(const ecow_value *value, double *real);
+
+/* Makes `text` a clone of the text. */
+ecow_status ecow_value_text(const ecow_value *value, ecow_text *text);
+
+/* How many items a list has, or how many fields there are; 0 of another kind. */
+size_t ecow_value_len(const ecow_value *value);
+
+/* Makes `item` a clone of the item of a list, or of a field's value, at `index`: ECOW_INDEX from
+ * the length on. */
+ecow_status ecow_value_get(const ecow_value *value, size_t index, ecow_value *item);
+
+/* Puts an item in place of the one at `index` of a list: ECOW_INDEX from the length on. */
+ecow_status ecow_value_set(ecow_value *value, size_t index, const ecow_value *item);
+
+/* Appends an item to a list. */
+ecow_status ecow_value_push(ecow_value *value, const ecow_value *item);
+
+/* Takes the last item of a list: ECOW_INDEX where there is none. */
+ecow_status ecow_value_pop(ecow_value *value, ecow_value *item);
+
+/* Puts an item in at `index` of a list, before the one that stands there: ECOW_INDEX past the
+ * length. */
+ecow_status ecow_value_insert(ecow_value *value, size_t index, const ecow_value *item);
+
+/* Takes the item at `index` of a list: ECOW_INDEX from the length on. */
+ecow_status ecow_value_remove(ecow_value *value, size_t index, ecow_value *item);
+
+/* Keeps the first `len` items of a list, or all where there are fewer. */
+ecow_status ecow_value_truncate(ecow_value *value, size_t len);
+
+/* Makes `item` a clone of the value of the field of that name, given by its bytes: ECOW_INDEX where
+ * there is none. */
+ecow_status ecow_value_get_field(const ecow_value *value, const char *name, size_t count,
+                                 ecow_value *item);
+
+/* Puts a value in place of that of the field of that name, or appends a field where there is
+ * none. */
+ecow_status ecow_value_set_field(ecow_value *value, const char *name, size_t count,
+                                 const ecow_value *item);
+
+/* Takes the field of that name, and makes `item` its value: ECOW_INDEX where there is none. */
+ecow_status ecow_value_remove_field(ecow_value *value, const char *name, size_t count,
+                                    ecow_value *item);
+
+/* Makes `name` a clone of the name of the field at `index`: ECOW_INDEX from the length on. */
+ecow_status ecow_value_field_name(const ecow_value *value, size_t index, ecow_text *name);
+
+/* Whether both are of one kind and hold the same, items and fields in order. Floating-point numbers
+ * are compared by their bits: a NaN equals itself, and the two zeros differ. A null pointer equals
+ * a null pointer alone. */
+bool ecow_value_equal(const ecow_value *left, const ecow_value *right);
+
 /* ---- The library's own ---- */
 
 /* Two calls that are short enough to be expanded where they stand. */
@@ -386,6 +507,7 @@ ECOW_EXPANDED(list)
 ECOW_EXPANDED(bytes)
 ECOW_EXPANDED(text)
 ECOW_EXPANDED(texts)
+ECOW_EXPANDED(value)
 #undef ECOW_EXPANDED
 
 #ifdef __cplusplus

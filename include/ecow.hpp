@@ -10,7 +10,7 @@
  *     std::bad_alloc          ECOW_MEMORY
  *     std::length_error       ECOW_CAPACITY
  *     std::out_of_range       ECOW_INDEX
- *     std::invalid_argument   ECOW_BOUNDARY, ECOW_UTF8, ECOW_NULL
+ *     std::invalid_argument   ECOW_BOUNDARY, ECOW_UTF8, ECOW_NULL, ECOW_KIND
  * `what` says the words of `ecow_status_text`.
  *
  * Arguments. A span or a view may lie in the value that a call changes.
@@ -68,6 +68,7 @@ inline void check(ecow_status status) {
     case ECOW_BOUNDARY:
     case ECOW_UTF8:
     case ECOW_NULL:
+    case ECOW_KIND:
         break;
     }
     throw std::invalid_argument(ecow_status_text(status));

@@ -42,6 +42,7 @@ _INDEX = 3
 _BOUNDARY = 4
 _UTF8 = 5
 _NULL = 6
+_KIND = 7
 _ERRORS = {
     _MEMORY: MemoryError,
     _CAPACITY: OverflowError,
@@ -49,6 +50,7 @@ _ERRORS = {
     _BOUNDARY: ValueError,
     _UTF8: UnicodeError,
     _NULL: ValueError,
+    _KIND: ValueError,
 }
 
 

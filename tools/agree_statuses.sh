@@ -5,7 +5,7 @@ set -eu
 cd "$(dirname "$0")/.."
 work=$(mktemp -d)
 trap 'rm -r "$work"' EXIT
-printf '%s\n' 'OK 0' 'MEMORY 1' 'CAPACITY 2' 'INDEX 3' 'BOUNDARY 4' 'UTF8 5' 'NULL 6' > "$work/statuses"
+printf '%s\n' 'OK 0' 'MEMORY 1' 'CAPACITY 2' 'INDEX 3' 'BOUNDARY 4' 'UTF8 5' 'NULL 6' 'KIND 7' > "$work/statuses"
 
 # Compares those of a file, on standard input.
 compare() {

@@ -67,7 +67,7 @@ refuse_each edits 1000 LEFT=1
 if has nm nm --version; then
     {
         sed -n 's/^[a-z].*[ *]\(ecow_[a-z0-9_]*\)(.*/\1/p' include/ecow.h
-        for kind in list bytes text texts; do
+        for kind in list bytes text texts value; do
             printf '%s\n' "ecow_proved_${kind}_clone" "ecow_proved_${kind}_drop"
         done
     } | sort > "$out/declared"

@@ -232,6 +232,115 @@ static void changes_of_lists_of_texts(void) {
     ecow_text_drop(&out);
 }
 
+#undef NAME
+#define NAME "value"
+
+/* Appends an item until there are `len`. */
+static void push_items_up_to(ecow_value *list, const ecow_value *item, size_t len) {
+    while (ecow_value_len(list) < len) {
+        CHECK(ecow_value_push(list, item) == ECOW_OK);
+    }
+}
+
+/* Whether the value is a text in that memory. */
+static bool shares(const ecow_value *value, const char *bytes) {
+    ecow_text text = {{0}};
+    bool same = ecow_value_text(value, &text) == ECOW_OK && ecow_text_slice(&text, NULL) == bytes;
+    ecow_text_drop(&text);
+    return same;
+}
+
+/* A nested list and its clone: what reads asks for nothing, a change copies the list and no item. */
+static void clones_of_nested_lists(void) {
+    ecow_value list = {{0}}, clone = {{0}}, item = {{0}}, out = {{0}};
+    ecow_text text = {{0}};
+    CHECK(ecow_text_assign(&text, SPILLED, strlen(SPILLED)) == ECOW_OK);
+    const char *bytes = ecow_text_slice(&text, NULL);
+    COUNTED("set_text", CHECK(ecow_value_set_text(&item, &text) == ECOW_OK));
+    COUNTED("set_list", CHECK(ecow_value_set_list(&list) == ECOW_OK));
+    COUNTED("1000 pushes", push_items_up_to(&list, &item, 1000));
+    COUNTED("clone", CHECK(ecow_value_clone(&clone, &list) == ECOW_OK));
+    begin();
+    for (size_t index = 0; index < 1000; index++) {
+        CHECK(ecow_value_get(&clone, index, &out) == ECOW_OK && shares(&out, bytes));
+    }
+    CHECK(ecow_value_get(&clone, 1000, &out) == ECOW_INDEX && ecow_value_equal(&list, &clone));
+    end(NAME ": reads");
+    COUNTED("push to a shared one", push_items_up_to(&list, &item, 1001));
+    COUNTED("drop", ecow_value_drop(&list));
+    CHECK(ecow_value_clone(&list, &clone) == ECOW_OK);
+    COUNTED("set of a shared one", CHECK(ecow_value_set(&list, 5, &item) == ECOW_OK));
+    COUNTED("set", CHECK(ecow_value_set(&list, 6, &item) == ECOW_OK));
+    COUNTED("remove", CHECK(ecow_value_remove(&list, 5, &out) == ECOW_OK && shares(&out, bytes)));
+    CHECK(ecow_value_clone(&list, &clone) == ECOW_OK);
+    COUNTED("insert into a shared one", CHECK(ecow_value_insert(&list, 5, &item) == ECOW_OK));
+    CHECK(ecow_value_clone(&list, &clone) == ECOW_OK);
+    COUNTED("remove of a shared one", CHECK(ecow_value_remove(&list, 5, &out) == ECOW_OK));
+    CHECK(ecow_value_clone(&list, &clone) == ECOW_OK);
+    COUNTED("pop of a shared one", CHECK(ecow_value_pop(&list, &out) == ECOW_OK));
+    CHECK(shares(&out, bytes) && ecow_value_clone(&list, &clone) == ECOW_OK);
+    COUNTED("truncate of a shared one", CHECK(ecow_value_truncate(&list, 10) == ECOW_OK));
+    CHECK(ecow_value_len(&list) == 10 && ecow_value_clone(&list, &clone) == ECOW_OK);
+    COUNTED("truncate of a shared one to none", CHECK(ecow_value_truncate(&list, 0) == ECOW_OK));
+    CHECK(ecow_value_len(&clone) == 1000);
+    COUNTED("push of the list to itself", CHECK(ecow_value_push(&clone, &clone) == ECOW_OK));
+    ecow_value_drop(&list);
+    ecow_value_drop(&clone);
+    ecow_value_drop(&item);
+    ecow_value_drop(&out);
+    ecow_text_drop(&text);
+}
+
+/* Fields, and a change deep in a value: the way is copied where it is shared. */
+static void changes_of_fields(void) {
+    ecow_value root = {{0}}, before = {{0}}, list = {{0}}, item = {{0}};
+    ecow_text text = {{0}};
+    CHECK(ecow_text_assign(&text, SPILLED, strlen(SPILLED)) == ECOW_OK);
+    CHECK(ecow_value_set_text(&item, &text) == ECOW_OK && ecow_value_set_list(&list) == ECOW_OK);
+    push_items_up_to(&list, &item, 1000);
+    COUNTED("set_fields", CHECK(ecow_value_set_fields(&root) == ECOW_OK));
+    COUNTED("set_field of none", CHECK(ecow_value_set_field(&root, "list", 4, &list) == ECOW_OK));
+    COUNTED("set_field of a new name",
+            CHECK(ecow_value_set_field(&root, SPILLED, 15, &item) == ECOW_OK));
+    COUNTED("set_field of a new name of 16 bytes",
+            CHECK(ecow_value_set_field(&root, SPILLED, 16, &item) == ECOW_OK));
+    COUNTED("set_field in place",
+            CHECK(ecow_value_set_field(&root, SPILLED, 16, &item) == ECOW_OK));
+    COUNTED("clone", CHECK(ecow_value_clone(&before, &root) == ECOW_OK));
+    begin();
+    CHECK(ecow_value_get_field(&root, SPILLED, 16, &item) == ECOW_OK);
+    CHECK(ecow_value_field_name(&root, 2, &text) == ECOW_OK && ecow_value_equal(&root, &before));
+    end(NAME ": reads of fields");
+    ecow_value_drop(&list);
+    begin();
+    CHECK(ecow_value_get_field(&root, "list", 4, &list) == ECOW_OK);
+    CHECK(ecow_value_set(&list, 0, &item) == ECOW_OK);
+    CHECK(ecow_value_set_field(&root, "list", 4, &list) == ECOW_OK);
+    end(NAME ": deep change of a shared one");
+    ecow_value_drop(&list);
+    ecow_value_drop(&before);
+    begin();
+    CHECK(ecow_value_get_field(&root, "list", 4, &list) == ECOW_OK);
+    CHECK(ecow_value_set(&list, 0, &item) == ECOW_OK);
+    CHECK(ecow_value_set_field(&root, "list", 4, &list) == ECOW_OK);
+    end(NAME ": deep change");
+    ecow_value_drop(&list);
+    begin();
+    CHECK(ecow_value_remove_field(&root, "list", 4, &list) == ECOW_OK);
+    CHECK(ecow_value_set(&list, 0, &item) == ECOW_OK);
+    CHECK(ecow_value_set_field(&root, "list", 4, &list) == ECOW_OK);
+    end(NAME ": deep change by way of remove_field");
+    CHECK(ecow_value_clone(&before, &root) == ECOW_OK);
+    COUNTED("remove_field of a shared one",
+            CHECK(ecow_value_remove_field(&root, SPILLED, 16, &item) == ECOW_OK));
+    CHECK(ecow_value_len(&root) == 2 && ecow_value_len(&before) == 3);
+    ecow_value_drop(&root);
+    ecow_value_drop(&before);
+    ecow_value_drop(&list);
+    ecow_value_drop(&item);
+    ecow_text_drop(&text);
+}
+
 int main(void) {
     take_no_buffer();
     ecow_list_costs();
@@ -242,5 +351,7 @@ int main(void) {
     changes_of_texts();
     clones_of_lists_of_texts();
     changes_of_lists_of_texts();
+    clones_of_nested_lists();
+    changes_of_fields();
     return 0;
 }
