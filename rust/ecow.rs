@@ -16,6 +16,7 @@ const INDEX: Status = 3;
 const BOUNDARY: Status = 4;
 const UTF8: Status = 5;
 const NULL: Status = 6;
+const KIND: Status = 7;
 
 #[repr(C)]
 #[derive(Default)]
@@ -33,6 +34,18 @@ struct RawBytes {
 #[derive(Default)]
 struct RawText {
     _word: [u64; 2],
+}
+
+#[repr(C)]
+#[derive(Default)]
+struct RawTexts {
+    _word: [u64; 1],
+}
+
+#[repr(C)]
+#[derive(Default)]
+struct RawValue {
+    _word: [u64; 3],
 }
 
 // A `char` of a text is declared as `u8`: both are one byte.
@@ -131,6 +144,82 @@ extern "C" {
     fn ecow_text_equal(left: *const RawText, right: *const RawText) -> bool;
     fn ecow_text_compare(left: *const RawText, right: *const RawText) -> c_int;
     fn ecow_text_hash(text: *const RawText) -> u64;
+
+    fn ecow_texts_new() -> RawTexts;
+    fn ecow_texts_drop(texts: *mut RawTexts);
+    fn ecow_texts_clone(to: *mut RawTexts, from: *const RawTexts) -> Status;
+    fn ecow_texts_len(texts: *const RawTexts) -> usize;
+    fn ecow_texts_get(texts: *const RawTexts, index: usize, text: *mut RawText) -> Status;
+    fn ecow_texts_at(texts: *const RawTexts, index: usize, len: *mut usize) -> *const u8;
+    fn ecow_texts_set(texts: *mut RawTexts, index: usize, text: *const RawText) -> Status;
+    fn ecow_texts_set_text(
+        texts: *mut RawTexts,
+        index: usize,
+        bytes: *const u8,
+        count: usize,
+    ) -> Status;
+    fn ecow_texts_push(texts: *mut RawTexts, text: *const RawText) -> Status;
+    fn ecow_texts_push_text(texts: *mut RawTexts, bytes: *const u8, count: usize) -> Status;
+    fn ecow_texts_pop(texts: *mut RawTexts, text: *mut RawText) -> Status;
+    fn ecow_texts_insert(texts: *mut RawTexts, index: usize, text: *const RawText) -> Status;
+    fn ecow_texts_remove(texts: *mut RawTexts, index: usize, text: *mut RawText) -> Status;
+    fn ecow_texts_truncate(texts: *mut RawTexts, len: usize) -> Status;
+    fn ecow_texts_clear(texts: *mut RawTexts) -> Status;
+    fn ecow_texts_reserve(texts: *mut RawTexts, additional: usize) -> Status;
+    fn ecow_texts_extend(texts: *mut RawTexts, added: *const RawTexts) -> Status;
+    fn ecow_texts_splice(
+        texts: *mut RawTexts,
+        start: usize,
+        end: usize,
+        added: *const RawTexts,
+    ) -> Status;
+    fn ecow_texts_equal(left: *const RawTexts, right: *const RawTexts) -> bool;
+    fn ecow_texts_compare(left: *const RawTexts, right: *const RawTexts) -> c_int;
+    fn ecow_texts_hash(texts: *const RawTexts) -> u64;
+
+    fn ecow_value_new() -> RawValue;
+    fn ecow_value_drop(value: *mut RawValue);
+    fn ecow_value_clone(to: *mut RawValue, from: *const RawValue) -> Status;
+    fn ecow_value_kind(value: *const RawValue) -> c_int;
+    fn ecow_value_set_nothing(value: *mut RawValue) -> Status;
+    fn ecow_value_set_truth(value: *mut RawValue, truth: bool) -> Status;
+    fn ecow_value_set_number(value: *mut RawValue, number: i64) -> Status;
+    fn ecow_value_set_real(value: *mut RawValue, real: f64) -> Status;
+    fn ecow_value_set_text(value: *mut RawValue, text: *const RawText) -> Status;
+    fn ecow_value_set_list(value: *mut RawValue) -> Status;
+    fn ecow_value_set_fields(value: *mut RawValue) -> Status;
+    fn ecow_value_truth(value: *const RawValue, truth: *mut bool) -> Status;
+    fn ecow_value_number(value: *const RawValue, number: *mut i64) -> Status;
+    fn ecow_value_real(value: *const RawValue, real: *mut f64) -> Status;
+    fn ecow_value_text(value: *const RawValue, text: *mut RawText) -> Status;
+    fn ecow_value_len(value: *const RawValue) -> usize;
+    fn ecow_value_get(value: *const RawValue, index: usize, item: *mut RawValue) -> Status;
+    fn ecow_value_set(value: *mut RawValue, index: usize, item: *const RawValue) -> Status;
+    fn ecow_value_push(value: *mut RawValue, item: *const RawValue) -> Status;
+    fn ecow_value_pop(value: *mut RawValue, item: *mut RawValue) -> Status;
+    fn ecow_value_insert(value: *mut RawValue, index: usize, item: *const RawValue) -> Status;
+    fn ecow_value_remove(value: *mut RawValue, index: usize, item: *mut RawValue) -> Status;
+    fn ecow_value_truncate(value: *mut RawValue, len: usize) -> Status;
+    fn ecow_value_get_field(
+        value: *const RawValue,
+        name: *const u8,
+        count: usize,
+        item: *mut RawValue,
+    ) -> Status;
+    fn ecow_value_set_field(
+        value: *mut RawValue,
+        name: *const u8,
+        count: usize,
+        item: *const RawValue,
+    ) -> Status;
+    fn ecow_value_remove_field(
+        value: *mut RawValue,
+        name: *const u8,
+        count: usize,
+        item: *mut RawValue,
+    ) -> Status;
+    fn ecow_value_field_name(value: *const RawValue, index: usize, name: *mut RawText) -> Status;
+    fn ecow_value_equal(left: *const RawValue, right: *const RawValue) -> bool;
 }
 
 /// A list of numbers. Clones share memory until one of them is changed. It may go to another thread.
@@ -288,6 +377,82 @@ fn texts(checks: &mut u32) {
     }
 }
 
+fn lists_of_texts(checks: &mut u32) {
+    unsafe {
+        let (mut texts, mut other) = (ecow_texts_new(), ecow_texts_new());
+        let (mut text, mut len) = (ecow_text_new(), 7);
+        check!(
+            *checks,
+            ecow_texts_push_text(&mut texts, b"ab".as_ptr(), 2) == OK,
+            ecow_texts_push_text(&mut texts, b"\xff".as_ptr(), 1) == UTF8,
+            ecow_texts_get(&texts, 0, &mut text) == OK && held(&text) == "ab",
+            ecow_texts_push(&mut texts, &text) == OK && ecow_texts_len(&texts) == 2,
+            ecow_texts_clone(&mut other, &texts) == OK && ecow_texts_equal(&texts, &other),
+            ecow_texts_hash(&texts) == ecow_texts_hash(&other),
+            ecow_texts_set_text(&mut texts, 0, b"c".as_ptr(), 1) == OK,
+            ecow_texts_compare(&texts, &other) > 0 && ecow_texts_set(&mut texts, 2, &text) == INDEX,
+            *ecow_texts_at(&texts, 0, &mut len) == b'c' && len == 1,
+            ecow_texts_at(&texts, 2, null_mut()).is_null(),
+            ecow_texts_remove(&mut texts, 0, &mut text) == OK && held(&text) == "c",
+            ecow_texts_insert(&mut texts, 1, &text) == OK && ecow_texts_len(&texts) == 2,
+            ecow_texts_extend(&mut texts, &texts) == OK && ecow_texts_len(&texts) == 4,
+            ecow_texts_splice(&mut texts, 0, 3, &other) == OK && ecow_texts_len(&texts) == 3,
+            ecow_texts_set(&mut texts, 1, &text) == OK,
+            ecow_texts_pop(&mut texts, &mut text) == OK && held(&text) == "c",
+            ecow_texts_truncate(&mut texts, 1) == OK && ecow_texts_len(&texts) == 1,
+            ecow_texts_reserve(&mut texts, usize::MAX) == CAPACITY,
+            ecow_texts_clear(&mut texts) == OK && ecow_texts_pop(&mut texts, null_mut()) == INDEX,
+            ecow_texts_push(&mut texts, null()) == NULL,
+        );
+        ecow_texts_drop(&mut texts);
+        ecow_texts_drop(&mut other);
+        ecow_text_drop(&mut text);
+    }
+}
+
+fn values(checks: &mut u32) {
+    unsafe {
+        let (mut value, mut item, mut other) =
+            (ecow_value_new(), ecow_value_new(), ecow_value_new());
+        let (mut text, mut truth, mut number, mut real) = (ecow_text_new(), false, 0, 0.0);
+        let name = b"name".as_ptr();
+        check!(
+            *checks,
+            ecow_value_kind(&value) == 0 && ecow_value_set_truth(&mut value, true) == OK,
+            ecow_value_truth(&value, &mut truth) == OK && truth,
+            ecow_value_set_real(&mut value, -0.5) == OK,
+            ecow_value_real(&value, &mut real) == OK && real == -0.5,
+            ecow_value_set_number(&mut item, -7) == OK,
+            ecow_value_number(&item, &mut number) == OK && number == -7,
+            ecow_value_number(&value, &mut number) == KIND && number == -7,
+            ecow_value_set_list(&mut value) == OK && ecow_value_push(&mut value, &item) == OK,
+            ecow_value_insert(&mut value, 0, &value) == OK && ecow_value_len(&value) == 2,
+            ecow_value_clone(&mut other, &value) == OK && ecow_value_equal(&value, &other),
+            ecow_value_set(&mut value, 0, &item) == OK && !ecow_value_equal(&value, &other),
+            ecow_value_get(&other, 0, &mut other) == OK && ecow_value_len(&other) == 1,
+            ecow_value_remove(&mut value, 1, &mut other) == OK && ecow_value_kind(&other) == 2,
+            ecow_value_pop(&mut value, &mut other) == OK && ecow_value_len(&value) == 0,
+            ecow_value_truncate(&mut value, 0) == OK && ecow_value_truncate(&mut item, 0) == KIND,
+            ecow_text_assign(&mut text, name, 4) == OK,
+            ecow_value_set_text(&mut item, &text) == OK && ecow_text_clear(&mut text) == OK,
+            ecow_value_text(&item, &mut text) == OK && held(&text) == "name",
+            ecow_value_set_fields(&mut value) == OK,
+            ecow_value_set_field(&mut value, name, 4, &item) == OK && ecow_value_len(&value) == 1,
+            ecow_value_get_field(&value, name, 3, &mut other) == INDEX,
+            ecow_value_get_field(&value, name, 4, &mut other) == OK,
+            ecow_value_equal(&other, &item),
+            ecow_value_field_name(&value, 0, &mut text) == OK && held(&text) == "name",
+            ecow_value_remove_field(&mut value, name, 4, &mut other) == OK,
+            ecow_value_len(&value) == 0 && ecow_value_set_nothing(&mut value) == OK,
+            ecow_value_push(null_mut(), &item) == NULL,
+        );
+        ecow_value_drop(&mut value);
+        ecow_value_drop(&mut item);
+        ecow_value_drop(&mut other);
+        ecow_text_drop(&mut text);
+    }
+}
+
 /// The next of a sequence of numbers (xorshift).
 fn next(seed: &mut u64) -> usize {
     *seed ^= *seed << 13;
@@ -368,6 +533,8 @@ fn main() {
     lists(&mut checks);
     all_bytes(&mut checks);
     texts(&mut checks);
+    lists_of_texts(&mut checks);
+    values(&mut checks);
     edits(count, &mut checks).expect("there is memory");
     threads(count / 100, &mut checks).expect("there is memory");
     println!("rust: {checks} checks");
