@@ -3,8 +3,6 @@
  * arrays that overlap the value that is changed, and arrays that no memory holds. */
 #include "proved.h"
 
-#include <string.h>
-
 /* Where an array of no items begins. */
 static const int64_t nothing[1] = {0};
 
@@ -299,9 +297,7 @@ ecow_status ecow_value_set_number(ecow_value *value, int64_t number) {
 }
 
 ecow_status ecow_value_set_real(ecow_value *value, double real) {
-    uint64_t bits;
-    memcpy(&bits, &real, sizeof bits);
-    return ecow_proved_value_set_real(&value, bits);
+    return ecow_proved_value_set_real(&value, real);
 }
 
 ecow_status ecow_value_set_text(ecow_value *value, const ecow_text *text) {
@@ -335,12 +331,8 @@ ecow_status ecow_value_number(const ecow_value *value, int64_t *number) {
 
 ecow_status ecow_value_real(const ecow_value *value, double *real) {
     ecow_value *place = (ecow_value *)value;
-    uint64_t bits = 0;
-    ecow_status status = ecow_proved_value_real(&place, &bits);
-    if (status == ECOW_OK && real) {
-        memcpy(real, &bits, sizeof bits);
-    }
-    return status;
+    double ignored = 0;
+    return ecow_proved_value_real(&place, real ? real : &ignored);
 }
 
 ecow_status ecow_value_text(const ecow_value *value, ecow_text *text) {

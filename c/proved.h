@@ -91,13 +91,13 @@ ecow_status ecow_proved_texts_splice(ecow_texts **value, size_t start, size_t en
 uint32_t ecow_proved_value_kind(ecow_value **value);
 ecow_status ecow_proved_value_set_truth(ecow_value **value, bool truth);
 ecow_status ecow_proved_value_set_number(ecow_value **value, int64_t number);
-ecow_status ecow_proved_value_set_real(ecow_value **value, uint64_t bits);
+ecow_status ecow_proved_value_set_real(ecow_value **value, double real);
 ecow_status ecow_proved_value_set_text(ecow_value **value, ecow_text **text);
 ecow_status ecow_proved_value_set_list(ecow_value **value);
 ecow_status ecow_proved_value_set_fields(ecow_value **value);
 ecow_status ecow_proved_value_truth(ecow_value **value, bool *out);
 ecow_status ecow_proved_value_number(ecow_value **value, int64_t *out);
-ecow_status ecow_proved_value_real(ecow_value **value, uint64_t *out);
+ecow_status ecow_proved_value_real(ecow_value **value, double *out);
 ecow_status ecow_proved_value_text(ecow_value **value, ecow_text **out);
 size_t ecow_proved_value_len(ecow_value **value);
 ecow_status ecow_proved_value_get(ecow_value **value, size_t index, ecow_value **out);

@@ -412,7 +412,7 @@ ecow_status ecow_value_set_truth(ecow_value *value, bool truth);
 /* Makes it a number. */
 ecow_status ecow_value_set_number(ecow_value *value, int64_t number);
 
-/* Makes it a floating-point number, whose bits it keeps. */
+/* Makes it a floating-point number. */
 ecow_status ecow_value_set_real(ecow_value *value, double real);
 
 /* Makes it a text. */
@@ -479,9 +479,8 @@ ecow_status ecow_value_remove_field(ecow_value *value, const char *name, size_t 
 /* Makes `name` a clone of the name of the field at `index`: ECOW_INDEX from the length on. */
 ecow_status ecow_value_field_name(const ecow_value *value, size_t index, ecow_text *name);
 
-/* Whether both are of one kind and hold the same, items and fields in order. Floating-point numbers
- * are compared by their bits: a NaN equals itself, and the two zeros differ. A null pointer equals
- * a null pointer alone. */
+/* Whether both are of one kind and hold the same, items and fields in order. A NaN equals each
+ * NaN, so that a value equals its clones. A null pointer equals a null pointer alone. */
 bool ecow_value_equal(const ecow_value *left, const ecow_value *right);
 
 /* ---- The library's own ---- */

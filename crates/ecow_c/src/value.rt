@@ -109,13 +109,13 @@ pub extern "C" fn ecow_proved_value_set_number(place: &mut ValuePlace, number: i
     put(place, Value::Number(number))
 }
 
-/// Makes it a floating-point number, given by its bits.
+/// Makes it a floating-point number.
 #[unsafe(no_mangle)]
-pub extern "C" fn ecow_proved_value_set_real(place: &mut ValuePlace, bits: u64) -> u32
-    ensures value { Alters real_of (λ _. Some bits) place.old.value result place.new.value }
+pub extern "C" fn ecow_proved_value_set_real(place: &mut ValuePlace, real: f64) -> u32
+    ensures value { Alters real_of (λ _. Some real) place.old.value result place.new.value }
     ensures codes { is_one_of (OK ∷ NULL ∷ []) result ≡ true }
 {
-    put(place, Value::Real(bits))
+    put(place, Value::Real(real))
 }
 
 /// Makes it a clone of the text at `from`.
@@ -203,9 +203,9 @@ pub extern "C" fn ecow_proved_value_number(place: &mut ValuePlace, out: &mut i64
     }
 }
 
-/// Writes the bits of the floating-point number to `out`.
+/// Writes the floating-point number to `out`.
 #[unsafe(no_mangle)]
-pub extern "C" fn ecow_proved_value_real(place: &mut ValuePlace, out: &mut u64) -> u32
+pub extern "C" fn ecow_proved_value_real(place: &mut ValuePlace, out: &mut f64) -> u32
     ensures ok { result ≡ OK → IfSome place.old.value (λ value. real_of value ≡ Some out.new) }
     ensures refused { result ≢ OK → out.new ≡ out.old }
     ensures kind { result ≡ KIND ↔ IsSomeAnd place.old.value (λ value. real_of value ≡ None) }
@@ -217,8 +217,8 @@ pub extern "C" fn ecow_proved_value_real(place: &mut ValuePlace, out: &mut u64) 
         return NULL;
     };
     match value.real() {
-        Some(bits) => {
-            *out = bits;
+        Some(real) => {
+            *out = real;
             OK
         }
         None => KIND,

@@ -1,5 +1,6 @@
 -- Nested values: what each kind holds, and how one is changed.
-use Rattle.std.specs.Prelude.{◌≡◌, ◌↔◌, ℕ, ℤ, Bool, true, false, not, ◌&&◌, List, [], ◌∷◌, Option, None, Some, Result, OnOk, OnErr, IfErr, IsErrOf, length, slice_get, find, nat_eq, if◌then◌else◌}
+use Rattle.std.specs.Prelude.{◌≡◌, ◌↔◌, ℕ, ℤ, Bool, true, false, not, ◌&&◌, ◌||◌, List, [], ◌∷◌, Option, None, Some, Result, OnOk, OnErr, IfErr, IsErrOf, length, slice_get, find, if◌then◌else◌}
+use Rattle.std.specs.Float.Ieee.{Float, eq, is_nan}
 use Rattle.std.specs.List.{list_any}
 use Rattle.std.specs.Option.{option_map}
 use Rattle.std.specs.Ordering.{int_eq}
@@ -20,7 +21,7 @@ abbrev pub kind_in : {A B : Type 0} → Value-F A B → Kind
 kind_in Value-F.Nothing = kind.Nothing
 kind_in (Value-F.Truth truth) = kind.Truth
 kind_in (Value-F.Number number) = kind.Number
-kind_in (Value-F.Real bits) = kind.Real
+kind_in (Value-F.Real real) = kind.Real
 kind_in (Value-F.Text text) = kind.Text
 kind_in (Value-F.List items) = kind.List
 kind_in (Value-F.Fields fields) = kind.Fields
@@ -36,8 +37,8 @@ truth_of value = elim (out-Value value) [ Value-F.Truth truth ↦ Some truth | _
 abbrev pub number_of : Value → Option ℤ
 number_of value = elim (out-Value value) [ Value-F.Number number ↦ Some number | _ ↦ None ]
 
-abbrev pub real_of : Value → Option ℕ
-real_of value = elim (out-Value value) [ Value-F.Real bits ↦ Some bits | _ ↦ None ]
+abbrev pub real_of : Value → Option Float
+real_of value = elim (out-Value value) [ Value-F.Real real ↦ Some real | _ ↦ None ]
 
 abbrev pub text_of : Value → Option PlainText
 text_of value = elim (out-Value value) [ Value-F.Text text ↦ Some text | _ ↦ None ]
@@ -120,12 +121,16 @@ each_holds [] (x ∷ xs) = false
 each_holds (test ∷ tests) [] = false
 each_holds (test ∷ tests) (x ∷ xs) = test x && each_holds tests xs
 
+-- equal floating-point numbers, the two zeros among them, or two NaNs
+abbrev pub real_eq : Float → Float → Bool
+real_eq x y = eq x y || (is_nan x && is_nan y)
+
 -- one value is equal to another, by tests in the places of its parts
 abbrev pub eq_in : Value-F (Value → Bool) (Field → Bool) → Value-F Value Field → Bool
 eq_in Value-F.Nothing Value-F.Nothing = true
 eq_in (Value-F.Truth x) (Value-F.Truth y) = if x then y else not y
 eq_in (Value-F.Number x) (Value-F.Number y) = int_eq x y
-eq_in (Value-F.Real x) (Value-F.Real y) = nat_eq x y
+eq_in (Value-F.Real x) (Value-F.Real y) = real_eq x y
 eq_in (Value-F.Text x) (Value-F.Text y) = bytes_eq (encode_utf8_all x.chars) (encode_utf8_all y.chars)
 eq_in (Value-F.List tests) (Value-F.List items) = each_holds tests items
 eq_in (Value-F.Fields tests) (Value-F.Fields fields) = each_holds tests fields

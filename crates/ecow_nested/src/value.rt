@@ -20,8 +20,7 @@ pub enum Value {
     Nothing,
     Truth(bool),
     Number(i64),
-    /// The bits of a floating-point number, since no NaN has a model.
-    Real(u64),
+    Real(f64),
     Text(EcoString),
     List(EcoVec<Value>),
     /// Fields in order. A name that stands twice means the first of them.
@@ -56,7 +55,7 @@ impl Clone for Value {
             Value::Nothing => Ok(Value::Nothing),
             Value::Truth(truth) => Ok(Value::Truth(*truth)),
             Value::Number(number) => Ok(Value::Number(*number)),
-            Value::Real(bits) => Ok(Value::Real(*bits)),
+            Value::Real(real) => Ok(Value::Real(*real)),
             Value::Text(text) => Ok(Value::Text(text.clone()?)),
             Value::List(items) => Ok(Value::List(items.clone()?)),
             Value::Fields(fields) => Ok(Value::Fields(fields.clone()?)),
@@ -110,12 +109,12 @@ impl Value {
         }
     }
 
-    /// The bits of the floating-point number, if this is one.
-    pub fn real(&self) -> Option<u64>
+    /// The floating-point number, if this is one.
+    pub fn real(&self) -> Option<f64>
         ensures { result ≡ real_of self.now }
     {
         match self {
-            Value::Real(bits) => Some(*bits),
+            Value::Real(real) => Some(*real),
             _ => None,
         }
     }

@@ -5,8 +5,8 @@ ghost use Rattle.ecow_nested.specs.Values.{value_eq};
 use crate::value::Value;
 
 impl Value {
-    /// Whether two values are equal: of one kind, and their texts, numbers, bits, items and fields
-    /// in order. Where a text stands, inline or not, makes no difference.
+    /// Whether two values are equal: of one kind, and their texts, numbers, items and fields in
+    /// order. Each NaN equals each other, so a value equals its clones. Where a text stands, inline or not, makes no difference.
     pub fn equals(&self, other: &Value) -> bool
         ensures { result ≡ value_eq self.now other.now }
     {
@@ -14,7 +14,9 @@ impl Value {
             (Value::Nothing, Value::Nothing) => true,
             (Value::Truth(left), Value::Truth(right)) => left == right,
             (Value::Number(left), Value::Number(right)) => left == right,
-            (Value::Real(left), Value::Real(right)) => left == right,
+            (Value::Real(left), Value::Real(right)) => {
+                left == right || (left.is_nan() && right.is_nan())
+            }
             (Value::Text(left), Value::Text(right)) => left == right,
             (Value::List(left), Value::List(right)) => {
                 let others = right.as_slice();
