@@ -4,6 +4,7 @@ ghost use Rattle.ecow_nested.specs.Values.{kind_of, truth_of, number_of, real_of
 
 mod equality;
 mod fields;
+mod laws;
 mod lists;
 mod parts;
 
