@@ -250,7 +250,7 @@ static bool shares(const ecow_value *value, const char *bytes) {
     return same;
 }
 
-/* A nested list and its clone: what reads asks for nothing, a change copies the list and no item. */
+/* A nested list and its clone: what reads asks for nothing, a change copies the list alone. */
 static void clones_of_nested_lists(void) {
     ecow_value list = {{0}}, clone = {{0}}, item = {{0}}, out = {{0}};
     ecow_text text = {{0}};

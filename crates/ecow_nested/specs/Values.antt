@@ -51,7 +51,12 @@ fields_of value = elim (out-Value value) [ Value-F.Fields fields ↦ Some fields
 
 -- how many items or fields there are
 abbrev pub len_of : Value → Option ℕ
-len_of value = elim (out-Value value) [ Value-F.List items ↦ Some (length items) | Value-F.Fields fields ↦ Some (length fields) | _ ↦ None ]
+len_of value =
+    elim (out-Value value) [
+      | Value-F.List items ↦ Some (length items)
+      | Value-F.Fields fields ↦ Some (length fields)
+      | _ ↦ None
+    ]
 
 -- the value, and the name, of a field that is there
 abbrev pub value_in : Option Field → Option Value
@@ -62,7 +67,12 @@ name_in field = option_map (λ f. f.name) field
 
 -- the item of a list, or the value of a field, at the index
 abbrev pub part_of : Value → ℕ → Option Value
-part_of value index = elim (out-Value value) [ Value-F.List items ↦ slice_get items index | Value-F.Fields fields ↦ value_in (slice_get fields index) | _ ↦ None ]
+part_of value index =
+    elim (out-Value value) [
+      | Value-F.List items ↦ slice_get items index
+      | Value-F.Fields fields ↦ value_in (slice_get fields index)
+      | _ ↦ None
+    ]
 
 -- whether a refusal is the one that is meant
 abbrev pub is_refusal : Refusal → Refusal → Bool
@@ -131,7 +141,8 @@ eq_in Value-F.Nothing Value-F.Nothing = true
 eq_in (Value-F.Truth x) (Value-F.Truth y) = if x then y else not y
 eq_in (Value-F.Number x) (Value-F.Number y) = int_eq x y
 eq_in (Value-F.Real x) (Value-F.Real y) = real_eq x y
-eq_in (Value-F.Text x) (Value-F.Text y) = bytes_eq (encode_utf8_all x.chars) (encode_utf8_all y.chars)
+eq_in (Value-F.Text x) (Value-F.Text y) =
+    bytes_eq (encode_utf8_all x.chars) (encode_utf8_all y.chars)
 eq_in (Value-F.List tests) (Value-F.List items) = each_holds tests items
 eq_in (Value-F.Fields tests) (Value-F.Fields fields) = each_holds tests fields
 eq_in _ _ = false
@@ -141,7 +152,8 @@ value_step tests value = eq_in tests (out-Value value)
 
 abbrev pub field_step : Field-F (Value → Bool) (Field → Bool) → Field → Bool
 field_step test field =
-    bytes_eq (encode_utf8_all test.name.chars) (encode_utf8_all field.name.chars) && test.value field.value
+    bytes_eq (encode_utf8_all test.name.chars) (encode_utf8_all field.name.chars)
+    && test.value field.value
 
 -- values of one kind that hold the same, item by item and field by field, whatever the modes of
 -- their texts

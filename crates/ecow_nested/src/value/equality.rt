@@ -6,7 +6,8 @@ use crate::value::Value;
 
 impl Value {
     /// Whether two values are equal: of one kind, and their texts, numbers, items and fields in
-    /// order. Each NaN equals each other, so a value equals its clones. Where a text stands, inline or not, makes no difference.
+    /// order. Each NaN equals each other, so a value equals its clones. Where a text stands, inline
+    /// or not, makes no difference.
     pub fn equals(&self, other: &Value) -> bool
         ensures { result ≡ value_eq self.now other.now }
     {
