@@ -1,6 +1,6 @@
-pub mod Calls
+pub mod Settling
+pub mod Owners
 pub mod Counting
-pub mod Crosses
-pub mod Heads
-pub mod Places
+pub mod Calls
 pub mod Steps
+pub mod Owned

@@ -1,10 +1,8 @@
-//! An owner of a value that others may own too, in any thread, or of none: one word, of which
-//! clones share the value. The count of owners is atomic. Where threads share values, this crate
-//! stands in the place of the plain count, under its name.
+//! An owner of a block that others may own too, in any thread: one word, of which clones share the
+//! block. The count of owners is atomic. Where threads share values, this crate stands in the place
+//! of the plain count, under its name.
 #![tactic(auto)]
 
-mod counts;
-mod memory;
 mod shared;
 mod threads;
 

@@ -1,6 +1,5 @@
 //! What the crates above see of their types.
 use crate::shared::Shared;
-use std::alloc::Allocator;
 use std::marker::{Send, Sync};
 
 /// Takes a type whose values may be given to another thread.
@@ -9,8 +8,8 @@ pub fn may_be_sent<V: Send>() {}
 /// Takes a type whose values several threads may look at.
 pub fn may_be_shared<V: Sync>() {}
 
-/// An owner may be given away and looked at, where its value may be both.
-fn owners<V: Send + Sync, A: Allocator + Send + Sync>() {
-    may_be_sent::<Shared<V, A>>();
-    may_be_shared::<Shared<V, A>>();
+/// An owner may be given away and looked at, where its elements may be both.
+fn owners<T: Send + Sync>() {
+    may_be_sent::<Shared<T>>();
+    may_be_shared::<Shared<T>>();
 }

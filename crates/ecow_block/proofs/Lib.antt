@@ -5,6 +5,8 @@ pub mod Deeds
 pub mod Lists
 pub mod Splices
 pub mod Retained
-pub mod Bytes
 pub mod Cloned
+pub mod Heads
+pub mod Lent
+pub mod Kept
 pub mod Crosses

@@ -9,3 +9,9 @@ pub mod Clones
 pub mod Iterators
 pub mod Updates
 pub mod formers
+pub mod Heads
+pub mod Whole
+pub mod TitleLends
+pub mod Parts
+pub mod Facts
+pub mod Kept

@@ -1,34 +1,36 @@
 //! A list of elements with a capacity number, over raw memory. Nothing here touches a pointer.
-ghost use Rattle.std.specs.Prelude.{◌≡◌, ◌+◌, ◌*◌, ◌-◌, ◌<◌, ◌≤◌, ◌==◌, [], ◌∷◌, ◌++◌, length, take, drop, slice_get, Some, IfOk, OnOk, OnErr, IsOk, insert, remove, slice_range, slice_set, if◌then◌else◌, is_ok, vec_len, false, min};
+ghost use Rattle.std.specs.Prelude.{◌≡◌, ◌+◌, ◌-◌, ◌<◌, ◌≤◌, ◌==◌, [], ◌∷◌, ◌++◌, length, take, drop, slice_get, Some, IfOk, OnOk, OnErr, IsOk, insert, remove, slice_range, slice_set, if◌then◌else◌, is_ok, vec_len, false, min};
 ghost use Rattle.std.specs.Borrow.{sem};
 ghost use Rattle.std.specs.Fn.{CalledAtMut};
 ghost use Rattle.std.specs.Iterator.{IsFinite};
 ghost use Rattle.std.specs.List.{AllZip, insert_slice, remove_range, splice};
 ghost use Rattle.std.specs.List.Retain.{RetainsInTurn};
-ghost use Rattle.std.specs.Vec.Ownership.{FitsInBlock};
 ghost use Rattle.ecow_base.specs.Clones.{ClonesAreEqual};
 ghost use Rattle.ecow_block.specs.Clones.{AppendsClones};
 ghost use Rattle.ecow_block.specs.Contents.{contents};
 ghost use Rattle.ecow_block.specs.Iterators.{GivesOn};
-ghost use Rattle.ecow_block.specs.Ownership.{has_bytes};
+ghost use Rattle.ecow_block.specs.Parts.{IsParts};
 ghost use Rattle.ecow_block.specs.Updates.{TakesAt, UpdatesAt};
 
+use crate::parts::{
+    TOGETHER, base_of, give_back_parts, make_parts, no_parts, put_len, put_places, takes_bytes,
+};
 use crate::rest::Rest;
-use crate::room::{Base, Deed, Room, give_back, grow, make, nowhere};
+use crate::room::{Deed, Room, Title, Top, fields, grow, is_none};
 use ecow_base::MAX_LEN;
 use std::alloc::{AllocError, Global};
 use std::marker::Model;
-use std::mem::{replace, size_of};
+use std::mem::replace;
 use std_alloc::room::may_hold;
 
-/// A list of elements, and the number of elements that it has room for.
+/// A list of elements, and the number of elements that it has room for. It takes one word. Its
+/// parts are public for the crates that count a block's owners.
 pub struct Block<T> {
-    base: Base<T>,
-    len: usize,
-    capacity: usize,
-    room: Room<T>,
-    deed: Deed<T, Global>,
-    alloc: Global,
+    pub top: Top<T>,
+    pub room: Room<T>,
+    pub title: Title<T, Global>,
+    pub deed: Deed<T, Global>,
+    pub alloc: Global,
 }
 
 impl<T> Model for Block<T> {
@@ -39,17 +41,9 @@ impl<T> Model for Block<T> {
 
     ghost coded = { contents_code T.code };
 
-    ghost view = { λ b. contents b.room.items b.capacity };
+    ghost view = { λ b. contents b.room.items b.room.capacity };
 
     ghost invariant = { λ b. IsBlock b };
-}
-
-/// Whether `count` places take any bytes.
-fn takes_bytes<T>(count: usize) -> bool
-    requires { FitsInBlock T.row count }
-    ensures { result ≡ has_bytes T.row count }
-{
-    count * size_of::<T>() != 0
 }
 
 impl<T> Block<T> {
@@ -59,19 +53,17 @@ impl<T> Block<T> {
     pub fn new(alloc: Global) -> Self
         ensures { result ≡ contents [] 0 }
     {
-        let (base, room, deed) = nowhere(&alloc, 0);
+        let (_, top, room, title, deed) = no_parts(&alloc);
         Block {
-            base,
-            len: 0,
-            capacity: 0,
+            top,
             room,
+            title,
             deed,
             alloc,
         }
     }
 
-    /// An empty block with room for `capacity` elements. Asks for no memory where they take no
-    /// bytes.
+    /// An empty block with room for `capacity` elements. Asks for no memory for none.
     pub fn with_capacity(alloc: Global, capacity: usize) -> Result<Self, AllocError>
         ensures block { IfOk result (λ b. b ≡ contents [] capacity) }
         ensures free { capacity ≡ 0 → IsOk result }
@@ -82,16 +74,11 @@ impl<T> Block<T> {
         if !may_hold::<T>(capacity) {
             return Err(AllocError);
         }
-        let (base, room, deed) = if takes_bytes::<T>(capacity) {
-            make(&alloc, capacity)?
-        } else {
-            nowhere(&alloc, capacity)
-        };
+        let (top, room, title, deed) = make_parts(&alloc, capacity)?;
         Ok(Block {
-            base,
-            len: 0,
-            capacity,
+            top,
             room,
+            title,
             deed,
             alloc,
         })
@@ -102,7 +89,10 @@ impl<T> Block<T> {
         ensures len { result ≡ length self.now.items }
         ensures bounded { (result ≤ self.now.capacity) × (self.now.capacity ≤ MAX_LEN) }
     {
-        self.len
+        if is_none(self.top) {
+            return 0;
+        }
+        fields(&self.title, self.top).len
     }
 
     /// The number of elements that there is room for.
@@ -110,14 +100,21 @@ impl<T> Block<T> {
         ensures capacity { result ≡ self.now.capacity }
         ensures bounded { (length self.now.items ≤ result) × (result ≤ MAX_LEN) }
     {
-        self.capacity
+        if is_none(self.top) {
+            return 0;
+        }
+        fields(&self.title, self.top).capacity
     }
 
     /// The elements.
     pub fn as_slice(&self) -> &[T]
         ensures { result.now ≡ self.now.items }
     {
-        self.room.as_slice(self.base, 0, self.len)
+        if is_none(self.top) {
+            return &[];
+        }
+        let head = fields(&self.title, self.top);
+        self.room.as_slice(head.base, 0, head.len)
     }
 
     /// The elements, for writing.
@@ -125,7 +122,14 @@ impl<T> Block<T> {
         ensures* writes_back { sem 𝓛 (lends_elements T.row self.entry result) }
         ensures value { result.now ≡ self.old.items }
     {
-        let (base, len) = (self.base, self.len);
+        let base = base_of(
+            &mut self.top,
+            &mut self.room,
+            &mut self.title,
+            &mut self.deed,
+            &self.alloc,
+        );
+        let len = self.len();
         self.room.as_mut_slice(base, 0, len)
     }
 
@@ -144,8 +148,9 @@ impl<T> Block<T> {
         requires { length self.old.items < self.old.capacity }
         ensures { self.new ≡ contents (self.old.items ++ item ∷ []) self.old.capacity }
     {
-        self.room.put(self.base, self.len, item);
-        self.len += 1;
+        let head = *fields(&self.title, self.top);
+        self.room.put(head.base, head.len, item);
+        put_len(&mut self.title, self.top, head.len + 1);
     }
 
     /// Appends the next items of `iter` while there is room and there are fewer than `most`
@@ -161,9 +166,19 @@ impl<T> Block<T> {
         ensures capacity { self.new.capacity ≡ self.old.capacity }
         ensures callable { result ≡ false → I.can_next iter.new × IsFinite (I.remaining iter.new) }
     {
-        let room = most.min(self.capacity) - self.len;
-        let (added, ended) = self.room.append_items(self.base, self.len, room, iter);
-        self.len += added;
+        let base = base_of(
+            &mut self.top,
+            &mut self.room,
+            &mut self.title,
+            &mut self.deed,
+            &self.alloc,
+        );
+        let len = self.len();
+        let room = most.min(self.capacity()) - len;
+        let (added, ended) = self.room.append_items(base, len, room, iter);
+        if added > 0 {
+            put_len(&mut self.title, self.top, len + added);
+        }
         ended
     }
 
@@ -173,11 +188,13 @@ impl<T> Block<T> {
         ensures block { self.new
             ≡ contents (take (length self.old.items - 1) self.old.items) self.old.capacity }
     {
-        if self.len == 0 {
+        let len = self.len();
+        if len == 0 {
             return None;
         }
-        self.len -= 1;
-        Some(self.room.take_last(self.base, self.len))
+        let base = fields(&self.title, self.top).base;
+        put_len(&mut self.title, self.top, len - 1);
+        Some(self.room.take_last(base, len - 1))
     }
 
     /// Inserts an element, for which there is room.
@@ -186,11 +203,12 @@ impl<T> Block<T> {
         requires room { length self.old.items < self.old.capacity }
         ensures { self.new ≡ contents (insert self.old.items index item) self.old.capacity }
     {
-        let behind = self.len - index;
+        let head = *fields(&self.title, self.top);
+        let behind = head.len - index;
         let mut tail = self.room.split_off(index);
-        tail.insert_first(self.base, index, behind, item);
+        tail.insert_first(head.base, index, behind, item);
         self.room.append(tail);
-        self.len += 1;
+        put_len(&mut self.title, self.top, head.len + 1);
     }
 
     /// Takes the element at `index` out.
@@ -199,10 +217,11 @@ impl<T> Block<T> {
         ensures value { slice_get self.old.items index ≡ Some result }
         ensures block { self.new ≡ contents (remove self.old.items index) self.old.capacity }
     {
+        let head = *fields(&self.title, self.top);
         let mut tail = self.room.split_off(index);
-        let item = tail.shift_first(self.base, index, self.len - index);
+        let item = tail.shift_first(head.base, index, head.len - index);
         self.room.append(tail);
-        self.len -= 1;
+        put_len(&mut self.title, self.top, head.len - 1);
         item
     }
 
@@ -212,8 +231,11 @@ impl<T> Block<T> {
         T: Drop,
         ensures { self.new ≡ contents (take len self.old.items) self.old.capacity }
     {
-        while self.len() > len {
-            drop(self.pop());
+        let all = self.len();
+        if all > len {
+            let base = fields(&self.title, self.top).base;
+            self.room.drop_last(base, len, all - len);
+            put_len(&mut self.title, self.top, len);
         }
     }
 
@@ -222,14 +244,28 @@ impl<T> Block<T> {
         ensures { result ≡ self.items }
     {
         let Block {
-            base,
-            len,
-            capacity,
+            top,
             room,
+            title,
             deed,
             alloc,
         } = self;
-        Rest::of_room(base, len, capacity, room, deed, alloc)
+        Rest::of_parts(top, room, title, deed, alloc)
+    }
+
+    /// The parts of this block.
+    pub fn into_parts(self) -> (Top<T>, Room<T>, Title<T, Global>, Deed<T, Global>, Global)
+        ensures parts { IsParts result.0 result.1 result.2 result.3 result.4 }
+        ensures contents { contents result.1.items result.1.capacity ≡ self }
+    {
+        let Block {
+            top,
+            room,
+            title,
+            deed,
+            alloc,
+        } = self;
+        (top, room, title, deed, alloc)
     }
 
     /// Makes room for exactly `capacity` elements. If it is refused, nothing changes; it never is
@@ -241,14 +277,14 @@ impl<T> Block<T> {
         ensures block { self.new ≡ contents self.old.items (if is_ok result then capacity
             else self.old.capacity) }
     {
-        if capacity == self.capacity {
+        if capacity == self.capacity() {
             return Ok(());
         }
         self.enlarge(capacity)
     }
 
     /// Gives the block places for `capacity` elements, of which it may have fewer: its own
-    /// enlarged, where it has memory and needs some. Where it is refused, the block stays as it is.
+    /// enlarged, where they are many and take bytes. Where it is refused, the block stays as it is.
     #[inline]
     fn enlarge(&mut self, capacity: usize) -> Result<(), AllocError>
         requires { self.old.capacity ≤ capacity }
@@ -258,24 +294,25 @@ impl<T> Block<T> {
         if !may_hold::<T>(capacity) {
             return Err(AllocError);
         }
-        if self.capacity != 0 && takes_bytes::<T>(capacity) {
-            self.base = grow(
+        if self.capacity() > TOGETHER && takes_bytes::<T>(capacity) {
+            let head = *fields(&self.title, self.top);
+            let base = grow(
                 &self.alloc,
-                self.base,
-                self.len,
-                self.capacity,
+                head.base,
+                head.len,
+                head.capacity,
                 capacity,
                 &mut self.room,
                 &mut self.deed,
             )?;
-            self.capacity = capacity;
+            put_places(&mut self.title, self.top, base, capacity);
             return Ok(());
         }
         self.renew(capacity)
     }
 
-    /// Moves the elements into a new block of `capacity` places. A block without memory has none
-    /// that could be enlarged. Where it is refused, the block stays as it is.
+    /// Moves the elements into a new block of `capacity` places, and gives the old one back. Where
+    /// it is refused, the block stays as it is.
     #[cold]
     #[inline(never)]
     fn renew(&mut self, capacity: usize) -> Result<(), AllocError>
@@ -284,7 +321,8 @@ impl<T> Block<T> {
             else self.old.capacity) }
     {
         let mut larger = Block::with_capacity(self.alloc, capacity)?;
-        self.drain_into(0, self.len, &mut larger);
+        let len = self.len();
+        self.drain_into(0, len, &mut larger);
         replace(self, larger).destroy_empty();
         Ok(())
     }
@@ -305,15 +343,16 @@ impl<T> Block<T> {
         if count == 0 {
             return;
         }
+        let own = *fields(&self.title, self.top);
+        let head = *fields(&other.title, other.top);
         let mut middle = self.room.split_off(start);
         let tail = middle.split_off(count);
-        let (base, len) = (other.base, other.len);
-        middle.move_run(self.base, start, count, &mut other.room, base, len);
-        let behind = self.len - end;
+        middle.move_run(own.base, start, count, &mut other.room, head.base, head.len);
+        let behind = own.len - end;
         self.room
-            .append(middle.close_gap(self.base, start, count, behind, tail));
-        self.len -= count;
-        other.len += count;
+            .append(middle.close_gap(own.base, start, count, behind, tail));
+        put_len(&mut self.title, self.top, own.len - count);
+        put_len(&mut other.title, other.top, head.len + count);
     }
 
     /// Moves the elements of `other` from `from` on to before the element at `index`. There is room
@@ -328,19 +367,21 @@ impl<T> Block<T> {
             (drop from other.old.items)) self.old.capacity }
         ensures left { other.new ≡ contents (take from other.old.items) other.old.capacity }
     {
-        let count = other.len - from;
+        let count = other.len() - from;
         if count == 0 {
             return;
         }
+        let own = *fields(&self.title, self.top);
+        let base = fields(&other.title, other.top).base;
         let mut gap = self.room.split_off(index);
-        let behind = gap.open_gap(self.base, index, self.len - index, count);
+        let behind = gap.open_gap(own.base, index, own.len - index, count);
         let mut rest = other.room.split_off(from);
-        rest.move_run(other.base, from, count, &mut gap, self.base, index);
+        rest.move_run(base, from, count, &mut gap, own.base, index);
         other.room.widen(rest);
         gap.append(behind);
         self.room.append(gap);
-        self.len += count;
-        other.len = from;
+        put_len(&mut self.title, self.top, own.len + count);
+        put_len(&mut other.title, other.top, from);
     }
 
     /// Lets the `count` elements from `start` on and the first `count` of `other` change places.
@@ -357,10 +398,12 @@ impl<T> Block<T> {
         if count == 0 {
             return;
         }
+        let own = fields(&self.title, self.top).base;
+        let base = fields(&other.title, other.top).base;
         let mut middle = self.room.split_off(start);
         let tail = middle.split_off(count);
         let rest = other.room.split_off(count);
-        middle.swap(self.base, start, count, &mut other.room, other.base, 0);
+        middle.swap(own, start, count, &mut other.room, base, 0);
         other.room.append(rest);
         middle.append(tail);
         self.room.append(middle);
@@ -401,8 +444,18 @@ impl<T> Block<T> {
         ensures { self.new ≡ contents elements.items self.old.capacity }
     {
         let mut elements = elements;
-        self.len = elements.len();
-        self.room.fill(self.base, 0, &mut elements);
+        let base = base_of(
+            &mut self.top,
+            &mut self.room,
+            &mut self.title,
+            &mut self.deed,
+            &self.alloc,
+        );
+        let len = elements.len();
+        self.room.fill(base, 0, &mut elements);
+        if len > 0 {
+            put_len(&mut self.title, self.top, len);
+        }
         elements.destroy_empty();
     }
 
@@ -413,25 +466,26 @@ impl<T> Block<T> {
         ensures left { OnOk result (self.new.items ≡ []) }
         ensures unchanged { OnErr result (self.new ≡ self.old) }
     {
-        let mut elements = Vec::with_capacity(self.alloc, self.len)?;
+        let mut elements = Vec::with_capacity(self.alloc, self.len())?;
         let block = replace(self, Block::new(self.alloc));
         block.into_rest().collect_into(&mut elements);
         Ok(elements)
     }
 
-    /// Gives the memory of an empty block back.
-    pub(crate) fn destroy_empty(self)
+    /// Gives the memory of an empty block back. Out of line, so that a drop within a drop takes
+    /// little stack.
+    #[inline(never)]
+    pub fn destroy_empty(self)
         requires { self.items ≡ [] }
     {
         let Block {
-            base,
-            len: _,
-            capacity,
+            top,
             room,
+            title,
             deed,
             alloc,
         } = self;
-        give_back(&alloc, base, capacity, room, deed);
+        give_back_parts(top, room, title, deed, &alloc);
     }
 }
 
@@ -449,8 +503,18 @@ impl<T: Clone> Block<T> {
         ensures capacity { self.new.capacity ≡ self.old.capacity }
         ensures unchanged { OnErr result (self.new ≡ self.old) }
     {
-        self.room.append_clones(self.base, self.len, elements)?;
-        self.len += elements.len();
+        let base = base_of(
+            &mut self.top,
+            &mut self.room,
+            &mut self.title,
+            &mut self.deed,
+            &self.alloc,
+        );
+        let len = self.len();
+        self.room.append_clones(base, len, elements)?;
+        if !elements.is_empty() {
+            put_len(&mut self.title, self.top, len + elements.len());
+        }
         Ok(())
     }
 
@@ -476,9 +540,18 @@ impl<T: Copy> Block<T> {
         requires { length self.old.items + length elements.now ≤ self.old.capacity }
         ensures { self.new ≡ contents (self.old.items ++ elements.now) self.old.capacity }
     {
-        let len = self.len + elements.len();
-        self.room.put_copies(self.base, self.len, elements);
-        self.len = len;
+        let base = base_of(
+            &mut self.top,
+            &mut self.room,
+            &mut self.title,
+            &mut self.deed,
+            &self.alloc,
+        );
+        let len = self.len();
+        self.room.put_copies(base, len, elements);
+        if !elements.is_empty() {
+            put_len(&mut self.title, self.top, len + elements.len());
+        }
     }
 
     /// Appends copies of the elements from `start` up to `end`, for which there is room, in one
@@ -490,9 +563,12 @@ impl<T: Copy> Block<T> {
         ensures { self.new
             ≡ contents (self.old.items ++ slice_range self.old.items start end) self.old.capacity }
     {
-        let len = self.len;
-        self.room.put_copies_within(self.base, len, start, end);
-        self.len = len + (end - start);
+        if start == end {
+            return;
+        }
+        let head = *fields(&self.title, self.top);
+        self.room.put_copies_within(head.base, head.len, start, end);
+        put_len(&mut self.title, self.top, head.len + (end - start));
     }
 
     /// A block with room for `capacity` elements, and copies of `elements` in it.
@@ -523,7 +599,18 @@ impl<T: Drop> Block<T> {
         ensures len { length self.new.items ≤ length self.old.items }
         ensures capacity { self.new.capacity ≡ self.old.capacity }
     {
-        self.len = self.room.retain(self.base, 0, self.len, f);
+        let base = base_of(
+            &mut self.top,
+            &mut self.room,
+            &mut self.title,
+            &mut self.deed,
+            &self.alloc,
+        );
+        let len = self.len();
+        let kept = self.room.retain(base, 0, len, f);
+        if len > 0 {
+            put_len(&mut self.title, self.top, kept);
+        }
     }
 }
 

@@ -4,8 +4,9 @@
 
 pub mod block;
 mod moves;
+mod parts;
 pub mod rest;
-mod room;
+pub mod room;
 mod threads;
 
 pub use block::Block;

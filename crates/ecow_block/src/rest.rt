@@ -3,7 +3,8 @@ ghost use Rattle.std.specs.Prelude.{◌≡◌, ◌+◌, ◌^◌, ◌<◌, ◌≤
 ghost use Rattle.std.specs.Iterator.{UpTo, YieldsFirst, YieldsLast, at_most, item_count};
 ghost use Rattle.std.specs.Iterator.SizeHint.{IsWithinCount};
 
-use crate::room::{Base, Deed, Room, give_back};
+use crate::parts::{base_of, give_back_parts};
+use crate::room::{Base, Deed, Room, Title, Top, fields, is_none};
 use std::alloc::Global;
 use std::iter::FusedIterator;
 use std::marker::Model;
@@ -11,12 +12,13 @@ use std::marker::Model;
 /// The elements that are still to come, in the memory that they were in. What is left is dropped
 /// with it.
 pub struct Rest<T> {
+    top: Top<T>,
     base: Base<T>,
     start: usize,
     len: usize,
-    capacity: usize,
     taken: Room<T>,
     room: Room<T>,
+    title: Title<T, Global>,
     deed: Deed<T, Global>,
     alloc: Global,
 }
@@ -33,30 +35,35 @@ impl<T> Model for Rest<T> {
 }
 
 impl<T> Rest<T> {
-    ghost use Rattle.ecow_block.specs.Rooms.{IsWhole};
+    ghost use Rattle.ecow_block.specs.Parts.{IsParts};
 
     /// The elements of a whole block.
-    pub(crate) fn of_room(
-        base: Base<T>,
-        len: usize,
-        capacity: usize,
+    pub(crate) fn of_parts(
+        top: Top<T>,
         room: Room<T>,
+        title: Title<T, Global>,
         deed: Deed<T, Global>,
         alloc: Global,
     ) -> Self
-        requires { IsWhole base room deed alloc × (len ≡ length room.items)
-            × (capacity ≡ room.capacity) × (capacity < 2 ^ 63) }
+        requires { IsParts top room title deed alloc }
         ensures { result ≡ room.items }
     {
-        let mut taken = room;
+        let (mut top, mut taken, mut title, mut deed) = (top, room, title, deed);
+        let base = base_of(&mut top, &mut taken, &mut title, &mut deed, &alloc);
+        let len = if is_none(top) {
+            0
+        } else {
+            fields(&title, top).len
+        };
         let room = taken.split_off(0);
         Rest {
+            top,
             base,
             start: 0,
             len,
-            capacity,
             taken,
             room,
+            title,
             deed,
             alloc,
         }
@@ -120,17 +127,18 @@ impl<T> Rest<T> {
         requires { self ≡ [] }
     {
         let Rest {
-            base,
+            top,
+            base: _,
             start: _,
             len: _,
-            capacity,
             mut taken,
             room,
+            title,
             deed,
             alloc,
         } = self;
         taken.widen(room);
-        give_back(&alloc, base, capacity, taken, deed);
+        give_back_parts(top, taken, title, deed, &alloc);
     }
 }
 

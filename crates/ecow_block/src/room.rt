@@ -1,23 +1,29 @@
-//! Raw room for elements: this module and its parts are the only code of the crate that touches
-//! pointers.
+//! Raw room for elements, and the heads of blocks: this module and its parts are the only code of
+//! the crate that touches pointers.
 ghost use Rattle.std.specs.Prelude.{◌≡◌, ℕ, ◌≤◌, List, length, ⊤};
 ghost use base.Fml.{ftrue};
 ghost use denote.RawPtr.{Ptr};
 ghost use Rattle.ecow_block.specs.Ownership.{deed_owns, room_owns, room_shares};
+ghost use Rattle.ecow_block.specs.Heads.{title_owns, title_shares};
+ghost use Rattle.ecow_block.specs.declared.room.Fields.{Fields};
 
 use std::alloc::{AllocError, Allocator};
 use std::marker::{Model, PhantomData, Send, Sync};
 
+mod heads;
 mod heap;
+mod layout;
 mod places;
 
+pub(crate) use heads::{fields, fields_mut, give_back_head, is_none, make_head, no_head, tested};
 pub(crate) use heap::{give_back, grow, make, nowhere};
+pub(crate) use layout::layout_of;
 
 /// How many items are put at a time.
 pub(crate) const CHUNK: usize = 128;
 
 /// Where a block begins. It owns nothing.
-pub(crate) struct Base<T> {
+pub struct Base<T> {
     ptr: *mut T,
 }
 
@@ -33,20 +39,27 @@ impl<T> Clone for Base<T> {
 
 impl<T> Copy for Base<T> {}
 
-// It owns nothing.
+// A base owns nothing.
 unsafe impl<T> Send for Base<T> {}
 
 unsafe impl<T> Sync for Base<T> {}
 
 /// Some places of a block, side by side: the first of them hold the items, the others are empty.
 /// `at` is where the block begins, and `start` the number of the first place. It takes no space.
-pub(crate) struct Room<T> {
-    mark: PhantomData<*const T>,
+pub struct Room<T> {
+    pub mark: PhantomData<*const T>,
     ghost at: { Ptr },
     ghost start: { ℕ },
     ghost items: { List T },
     ghost capacity: { ℕ },
     ghost within: { length items ≤ capacity },
+}
+
+impl<T> Room<T> {
+    /// Lets the places go.
+    pub(crate) fn let_go(self) {
+        let Room { mark: _ } = self;
+    }
 }
 
 impl<T> Model for Room<T> {
@@ -61,11 +74,18 @@ unsafe impl<T: Sync> Sync for Room<T> {}
 
 /// The right to give a block of `capacity` places back to `alloc`, if it was asked of it. It takes
 /// no space.
-pub(crate) struct Deed<T, A: Allocator> {
-    mark: PhantomData<*const (T, A)>,
+pub struct Deed<T, A: Allocator> {
+    pub mark: PhantomData<*const (T, A)>,
     ghost at: { Ptr },
     ghost capacity: { ℕ },
     ghost alloc: { A },
+}
+
+impl<T, A: Allocator> Deed<T, A> {
+    /// Lets the right go.
+    pub(crate) fn let_go(self) {
+        let Deed { mark: _ } = self;
+    }
 }
 
 impl<T, A: Allocator> Model for Deed<T, A> {
@@ -76,5 +96,83 @@ impl<T, A: Allocator> Model for Deed<T, A> {
 
 unsafe impl<T, A: Allocator + Send> Send for Deed<T, A> {}
 
-// A `&` to it holds nothing.
+// A `&` to a deed holds nothing.
 unsafe impl<T, A: Allocator> Sync for Deed<T, A> {}
+
+/// What a head says of its block: where the places begin, how many items they hold, and how many
+/// places there are.
+pub struct Fields<T> {
+    pub base: Base<T>,
+    pub len: usize,
+    pub capacity: usize,
+}
+
+impl<T> Clone for Fields<T> {
+    ghost is_clone = { λ x y. y ≡ x };
+
+    ghost is_infallible = { λ _. ⊤ };
+
+    fn clone(&self) -> Result<Fields<T>, AllocError> {
+        Ok(*self)
+    }
+}
+
+impl<T> Copy for Fields<T> {}
+
+/// What a block has beside its places: how many owners there are, and the fields.
+pub struct Head<T> {
+    pub count: usize,
+    fields: Fields<T>,
+}
+
+/// Where a head is, or null, where there is no block. It owns nothing.
+pub struct Top<T> {
+    pub ptr: *mut Head<T>,
+}
+
+impl<T> Clone for Top<T> {
+    ghost is_clone = { λ x y. y ≡ x };
+
+    ghost is_infallible = { λ _. ⊤ };
+
+    fn clone(&self) -> Result<Top<T>, AllocError> {
+        Ok(*self)
+    }
+}
+
+impl<T> Copy for Top<T> {}
+
+// A top owns nothing.
+unsafe impl<T> Send for Top<T> {}
+
+unsafe impl<T> Sync for Top<T> {}
+
+/// The head of a sole owner's block, with its fields, and the right to give its memory back to
+/// `alloc`: the head's, and that of as many places right behind it. It takes no space, and is
+/// nothing at null.
+pub struct Title<T, A: Allocator> {
+    pub mark: PhantomData<*const (T, A)>,
+    ghost at: { Ptr },
+    ghost fields: { Fields T },
+    ghost places: { ℕ },
+    ghost alloc: { A },
+}
+
+impl<T, A: Allocator> Title<T, A> {
+    /// Lets the head go.
+    pub(crate) fn let_go(self) {
+        let Title { mark: _ } = self;
+    }
+}
+
+impl<T, A: Allocator> Model for Title<T, A> {
+    ghost also_owns = { λ t. title_owns (A.dealloc_token t.alloc) T.row t.at t.fields t.places };
+
+    ghost also_shares = { λ t _ κ. title_shares T.row t.at t.fields κ };
+}
+
+// A title owns no element.
+unsafe impl<T, A: Allocator + Send> Send for Title<T, A> {}
+
+// A `&` to a title sees the fields of its head alone.
+unsafe impl<T, A: Allocator> Sync for Title<T, A> {}

@@ -2,14 +2,8 @@
 use Rattle.std.specs.Prelude.{◌≡◌, ◌⊎◌, ◌+◌, List, [], Option, None, Some, ◌++◌, length, Result, OnOk, OnErr}
 use Rattle.std.specs.Iterator.{Drains, Yields, YieldsThen}
 use Rattle.std.specs.List.{AllZip}
-use Rattle.std.specs.Option.{option_map_or}
 use Rattle.std.specs.Result.{MatchResult}
 use Rattle.ecow_base.specs.Clones.{ClonesAreEqual}
-use Rattle.ecow_block.specs.Contents.{Contents}
-
--- the elements of a block, and none where there is no block
-abbrev pub items_of : {T : Type 0} → Option (Contents T) → List T
-items_of block = option_map_or (λ b. b.items) block []
 
 -- new has the elements of old and then xs
 abbrev pub Appends : {T : Type 0} → List T → List T → List T → Type 0

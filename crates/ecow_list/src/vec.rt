@@ -31,17 +31,16 @@ use std::slice;
 /// its elements into a block of its own first, element by element; no other vector sees the change.
 #[derive(Drop)]
 pub struct EcoVec<T> {
-    block: Shared<Block<T>, Global>,
+    block: Shared<T>,
     alloc: Global,
 }
 
 impl<T> Model for EcoVec<T> {
     ghost use Rattle.std.specs.Prelude.{List};
-    ghost use Rattle.ecow_list.specs.Vectors.{items_of};
 
     ghost Value = { List T };
 
-    ghost view = { λ v. items_of v.block };
+    ghost view = { λ v. v.block.items };
 }
 
 impl<T> EcoVec<T> {
@@ -52,7 +51,7 @@ impl<T> EcoVec<T> {
         ensures { result ≡ [] }
     {
         EcoVec {
-            block: Shared::none(),
+            block: Shared::none(alloc),
             alloc,
         }
     }
@@ -151,7 +150,7 @@ impl<T: Drop> EcoVec<T> {
         }
         let block = Block::with_capacity(alloc, capacity)?;
         Ok(EcoVec {
-            block: Shared::new(alloc, block)?,
+            block: Shared::new(block),
             alloc,
         })
     }
@@ -166,7 +165,7 @@ impl<T: Drop> EcoVec<T> {
         }
         match self.sole_block() {
             Some(block) => block.truncate(0),
-            None => self.block = Shared::none(),
+            None => self.block = Shared::none(self.alloc),
         }
     }
 }

@@ -1,3 +1,3 @@
-pub mod Places
 pub mod Settling
-pub mod Steps
+pub mod Owners
+pub mod Counting

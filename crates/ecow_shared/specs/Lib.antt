@@ -1,4 +1,3 @@
-pub mod Lends
-pub mod Ownership
+pub mod Owners
 pub mod OwnerLends
 pub mod formers

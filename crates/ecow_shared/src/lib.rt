@@ -1,9 +1,7 @@
-//! An owner of a value that others may own too, or of none: one word, of which clones share the
-//! value. The count of owners is for one thread.
+//! An owner of a block that others may own too: one word, of which clones share the block. The
+//! count of owners is for one thread.
 #![tactic(auto)]
 
-mod counts;
-mod memory;
 mod shared;
 mod threads;
 

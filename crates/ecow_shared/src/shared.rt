@@ -1,85 +1,218 @@
-//! `Shared`: an owner of which callers see the value alone.
-ghost use Rattle.std.specs.Prelude.{◌≡◌, IfSome, IfOk, IfErr, None, Some};
+//! `Shared`: an owner of a block that others may own too. The count of owners is for one thread.
+ghost use Rattle.std.specs.Prelude.{◌≡◌, [], IfSome, IfOk, IfErr, MatchOption};
 ghost use Rattle.std.specs.Borrow.{sem};
-ghost use Rattle.std.specs.Option.{option_map};
+ghost use Rattle.ecow_block.specs.Contents.{contents};
+ghost use Rattle.ecow_block.specs.declared.block.Block.TheInside.{Inside as BlockParts};
 
-use crate::counts::Owner;
-use std::alloc::{AllocError, Allocator, Global};
-use std::marker::Model;
-use std_alloc::room::AllocFailed;
+use ecow_block::Block;
+use ecow_block::room::{Deed, Room, Title, Top};
+use std::alloc::{AllocError, Global};
+use std::marker::{Model, PhantomData};
+use std::mem::replace;
 
-/// An owner of a value that may have others, or of none.
-#[derive(Drop)]
-pub struct Shared<V, A: Allocator> {
-    owner: Owner<V, A>,
+/// Stands where a block has a part that takes no space. It owns nothing.
+struct Nil<T> {
+    mark: PhantomData<*const T>,
 }
 
-impl<V, A: Allocator> Model for Shared<V, A> {
-    ghost use Rattle.std.specs.Prelude.{Option};
-
-    ghost Value = { Option V };
-
-    ghost view = { λ s. s.owner.value };
+/// An owner of a block that may have others. It takes one word, and lies in memory as a block does.
+/// A block without places has no other owner.
+pub struct Shared<T> {
+    top: Top<T>,
+    room: Nil<T>,
+    title: Nil<T>,
+    deed: Nil<T>,
+    alloc: Global,
+    ghost inside: { BlockParts T },
 }
 
-impl<V> Shared<V, Global> {
-    /// The first owner of `value`. Asks for memory; a refusal hands the value back.
-    pub fn new(alloc: Global, value: V) -> Result<Shared<V, Global>, AllocFailed<V>>
-        ensures ok { IfOk result (λ shared. shared ≡ Some value) }
-        ensures value_returned { IfErr result (λ refused. refused.value ≡ value) }
+impl<T> Model for Shared<T> {
+    ghost use Rattle.ecow_block.specs.Contents.{Contents, contents, contents_code};
+    ghost use Rattle.ecow_block.specs.Kept.{IsOwner};
+    ghost use Rattle.ecow_shared.specs.Owners.{owner_owns, owner_lends};
+
+    ghost Value = { Contents T };
+
+    ghost coded = { contents_code T.code };
+
+    ghost view = { λ s. contents s.inside.room.items s.inside.room.capacity };
+
+    ghost invariant = { λ s. IsOwner s.top s.alloc s.inside };
+
+    ghost also_owns = { λ s. owner_owns T.row s.inside };
+
+    ghost also_shares = { λ s _ κ. owner_lends T.row s.inside κ };
+}
+
+impl<T> Shared<T> {
+    ghost use Rattle.ecow_block.specs.Parts.{IsParts};
+
+    /// The first owner of a block. Asks for no memory.
+    pub fn new(block: Block<T>) -> Shared<T>
+        ensures { result ≡ block }
     {
-        match Owner::new(alloc, value) {
-            Ok(owner) => Ok(Shared { owner }),
-            Err(refused) => Err(refused),
-        }
+        let (top, room, title, deed, alloc) = block.into_parts();
+        Shared::hold(top, room, title, deed, alloc)
     }
-}
 
-impl<V, A: Allocator> Shared<V, A> {
-    ghost use Rattle.ecow_shared.specs.Lends.{lends_value};
-
-    /// An owner of nothing. Takes no memory.
-    pub fn none() -> Shared<V, A>
-        ensures { result ≡ None }
+    /// The first owner of a block of these parts.
+    fn hold(
+        top: Top<T>,
+        room: Room<T>,
+        title: Title<T, Global>,
+        deed: Deed<T, Global>,
+        alloc: Global,
+    ) -> Shared<T>
+        requires { IsParts top room title deed alloc }
+        ensures { result ≡ contents room.items room.capacity }
     {
+        let Room { mark: _ } = room;
+        let Title { mark: _ } = title;
+        let Deed { mark: _ } = deed;
         Shared {
-            owner: Owner::none(),
+            top,
+            room: Nil { mark: PhantomData },
+            title: Nil { mark: PhantomData },
+            deed: Nil { mark: PhantomData },
+            alloc,
         }
     }
 
-    /// The value, if there is one.
-    pub fn get(&self) -> Option<&V>
-        ensures { option_map (λ value. value.now) result ≡ self.now }
+    /// An owner of a block without places. Asks for no memory.
+    pub fn none(alloc: Global) -> Shared<T>
+        ensures { result ≡ contents [] 0 }
     {
-        self.owner.get()
+        Shared::new(Block::new(alloc))
     }
 
-    /// The value, for writing, where this is its sole owner.
-    pub fn get_mut(&mut self) -> Option<&mut V>
-        ensures* writes_back { sem 𝓛 (lends_value V.row A.row A.Allocator self.entry result) }
-        ensures value { IfSome result (λ value. self.old ≡ Some value.now) }
+    /// The block, if it has places.
+    pub fn get(&self) -> Option<&Block<T>>
+        ensures { MatchOption result (self.now ≡ contents [] 0) (λ block. block.now ≡ self.now) }
     {
-        self.owner.get_mut()
+        if self.top.ptr.is_null() {
+            return None;
+        }
+        Some(unsafe { &*(&raw const *self as *const Block<T>) })
     }
 
-    /// The value, where this is its sole owner. Else the owner comes back.
-    pub fn try_unwrap(self) -> Result<V, Shared<V, A>>
-        ensures ok { IfOk result (λ value. self ≡ Some value) }
+    /// The block, where this is its sole owner and it has places. Else the owner comes back.
+    pub fn try_unwrap(self) -> Result<Block<T>, Shared<T>>
+        ensures ok { IfOk result (λ block. block ≡ self) }
         ensures err { IfErr result (λ back. back ≡ self) }
     {
-        match self.owner.try_unwrap() {
-            Ok(value) => Ok(value),
-            Err(owner) => Err(Shared { owner }),
+        let alloc = self.alloc;
+        let mut this = self;
+        let Some(block) = this.get_mut() else {
+            return Err(this);
+        };
+        let block = replace(block, Block::new(alloc));
+        if let Some(none) = this.leave() {
+            none.destroy_empty();
+        }
+        Ok(block)
+    }
+}
+
+impl<T> Shared<T> {
+    ghost use Rattle.ecow_shared.specs.OwnerLends.{lends_block};
+
+    /// The block, for writing, if it has places and this is its sole owner. Another block may be
+    /// put in its place.
+    pub fn get_mut(&mut self) -> Option<&mut Block<T>>
+        ensures* writes_back { sem 𝓛 (lends_block T.row self.entry result) }
+        ensures value { IfSome result (λ block. self.old ≡ block.now) }
+    {
+        let ptr = self.top.ptr;
+        if ptr.is_null() {
+            return None;
+        }
+        unsafe {
+            let count = (*ptr).count;
+            if count != 1 {
+                return None;
+            }
+            Some(&mut *(&raw mut *self as *mut Block<T>))
+        }
+    }
+
+    /// One more owner of the same block, or `None` where there are 2^64 - 1.
+    fn another(&self) -> Option<Shared<T>>
+        ensures { IfSome result (λ other. other ≡ self.now) }
+    {
+        let (top, alloc) = (self.top, self.alloc);
+        let ptr = top.ptr;
+        if !ptr.is_null() {
+            unsafe {
+                let count = (*ptr).count;
+                if count == usize::MAX {
+                    return None;
+                }
+                (*ptr).count = count + 1;
+            }
+        }
+        Some(Shared {
+            top,
+            room: Nil { mark: PhantomData },
+            title: Nil { mark: PhantomData },
+            deed: Nil { mark: PhantomData },
+            alloc,
+        })
+    }
+
+    /// Gives this owner up. The last one gets the block, if it has places.
+    fn leave(self) -> Option<Block<T>>
+        ensures { IfSome result (λ block. block ≡ self) }
+    {
+        let Shared {
+            top,
+            room: Nil { mark: _ },
+            title: Nil { mark: _ },
+            deed: Nil { mark: _ },
+            alloc,
+        } = self;
+        let ptr = top.ptr;
+        if ptr.is_null() {
+            return None;
+        }
+        unsafe {
+            let count = (*ptr).count;
+            if count != 1 {
+                (*ptr).count = count - 1;
+                return None;
+            }
+        }
+        Some(Block {
+            top,
+            room: Room { mark: PhantomData },
+            title: Title { mark: PhantomData },
+            deed: Deed { mark: PhantomData },
+            alloc,
+        })
+    }
+}
+
+impl<T: Drop> Drop for Shared<T> {
+    #[inline]
+    fn drop(self) {
+        if let Some(block) = self.leave() {
+            drop_last(block);
         }
     }
 }
 
-impl<V: Drop, A: Allocator> Clone for Shared<V, A> {
+/// Out of line, so that the drop of any other owner is inlined.
+#[inline(never)]
+fn drop_last<T: Drop>(block: Block<T>) {
+    drop(block);
+}
+
+impl<T: Drop> Clone for Shared<T> {
     ghost is_clone = { λ s t. t ≡ s };
 
-    fn clone(&self) -> Result<Shared<V, A>, AllocError> {
-        Ok(Shared {
-            owner: self.owner.clone()?,
-        })
+    fn clone(&self) -> Result<Shared<T>, AllocError> {
+        match self.another() {
+            Some(other) => Ok(other),
+            None => Err(AllocError),
+        }
     }
 }

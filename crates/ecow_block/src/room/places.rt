@@ -15,6 +15,11 @@ use std::slice;
 impl<T> Room<T> {
     ghost use Rattle.ecow_block.specs.Lends.{lends_items};
 
+    /// Says how many bytes the places end at, at most.
+    pub(crate) fn is_small(&self)
+        ensures { (self.now.start + self.now.capacity) * type_size T.row < 2 ^ 63 }
+    {}
+
     /// Puts an item into the first empty place, numbered `at`.
     pub(crate) fn put(&mut self, base: Base<T>, at: usize, item: T)
         requires { (base.ptr ≡ self.old.at) × (at ≡ self.old.start + length self.old.items)

@@ -43,13 +43,10 @@ impl<T: Drop> EcoVec<T> {
         if len == 0 {
             return Ok(EcoVec::new(alloc));
         }
-        if let Ok(block) = Block::with_capacity(alloc, fresh_capacity(len))
-            && let Ok(mut shared) = Shared::new(alloc, block)
-            && let Some(block) = shared.get_mut()
-        {
+        if let Ok(mut block) = Block::with_capacity(alloc, fresh_capacity(len)) {
             block.fill_within_capacity(elements);
             return Ok(EcoVec {
-                block: shared,
+                block: Shared::new(block),
                 alloc,
             });
         }
@@ -103,7 +100,7 @@ impl<T: Drop> EcoVec<T> {
             return Ok(EcoVec::new(alloc));
         }
         Ok(EcoVec {
-            block: Shared::new(alloc, items)?,
+            block: Shared::new(items),
             alloc,
         })
     }
@@ -131,7 +128,7 @@ impl<T: Clone> EcoVec<T> {
         }
         let block = Block::from_clones(alloc, elements, fresh_capacity(len))?;
         Ok(EcoVec {
-            block: Shared::new(alloc, block)?,
+            block: Shared::new(block),
             alloc,
         })
     }
@@ -173,7 +170,7 @@ impl<T: Clone> EcoVec<T> {
             block.push_within_capacity(value.clone()?);
         }
         Ok(EcoVec {
-            block: Shared::new(alloc, block)?,
+            block: Shared::new(block),
             alloc,
         })
     }

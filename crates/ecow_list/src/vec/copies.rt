@@ -33,7 +33,7 @@ impl<T: Clone + Copy> EcoVec<T> {
         }
         let block = Block::from_copies(alloc, elements, fresh_capacity(len))?;
         Ok(EcoVec {
-            block: Shared::new(alloc, block)?,
+            block: Shared::new(block),
             alloc,
         })
     }

@@ -10,6 +10,7 @@ ghost use Rattle.ecow_list.specs.Vectors.{Changes, IsKept, IsKeptBefore, SomeKep
 use crate::error::{EcoError, Rejected};
 use crate::vec::EcoVec;
 use crate::vec::own::{Clones, Room};
+use ecow_shared::Shared;
 use ecow_base::{MAX_LEN, fresh_capacity};
 
 impl<T: Clone> EcoVec<T> {
@@ -36,7 +37,8 @@ impl<T: Clone> EcoVec<T> {
             block.truncate(len);
             return Ok(());
         }
-        self.block = self.copy::<Clones>(&self.as_slice()[..len], fresh_capacity(len))?;
+        let kept = self.copy::<Clones>(&self.as_slice()[..len], fresh_capacity(len))?;
+        self.block = Shared::new(kept);
         Ok(())
     }
 

@@ -59,7 +59,7 @@ impl<T: Clone> EcoVec<T> {
     {
         if self.is_empty() {
             if !self.is_unique() {
-                self.block = Shared::none();
+                self.block = Shared::none(self.alloc);
             }
             return Err(None);
         }

@@ -1,10 +1,9 @@
 //! Edits of a vector's own block. A sole block is enlarged where it is too small, and edited. The
 //! elements of a shared one are copied into a new block; that is edited, and takes the old one's
 //! place last. So a refusal leaves all elements as they were.
-ghost use Rattle.std.specs.Prelude.{◌≡◌, ◌+◌, ◌<◌, ◌≤◌, ◌↔◌, length, IfOk, OnOk, IsOk, IsErrOf, IsSomeAnd};
+ghost use Rattle.std.specs.Prelude.{◌≡◌, ◌+◌, ◌<◌, ◌≤◌, ◌↔◌, length, IfOk, OnOk, IsOk, IsErrOf};
 ghost use Rattle.std.specs.List.{AllZip};
 ghost use Rattle.ecow_list.specs.Edits.{Edited, Edits, KeepsRoom, RefusesClean};
-ghost use Rattle.ecow_list.specs.Vectors.{items_of};
 
 use crate::error::{EcoError, Rejected};
 use crate::vec::EcoVec;
@@ -116,47 +115,33 @@ impl<T: Drop> EcoVec<T> {
             Room::Shared => self.capacity(),
         };
         let capacity = room_for(len, additional, least);
-        // An empty vector that gets no room needs no block.
-        if capacity == 0 {
-            let mut none = Block::new(self.alloc);
-            let answer = edit(&mut none, given).map_err(Rejected::for_memory)?;
-            // For the proof alone: a block without room has no element.
-            let _room = none.capacity();
-            self.block = Shared::none();
-            return Ok(answer);
-        }
-        if let Ok(mut fresh) = self.copy::<C>(self.as_slice(), capacity)
-            && let Some(block) = fresh.get_mut()
-        {
-            let answer = edit(block, given).map_err(Rejected::for_memory)?;
-            self.block = fresh;
+        if let Ok(mut fresh) = self.copy::<C>(self.as_slice(), capacity) {
+            let answer = edit(&mut fresh, given).map_err(Rejected::for_memory)?;
+            self.block = Shared::new(fresh);
             return Ok(answer);
         }
         Err(Rejected::for_memory(given))
     }
 
-    /// A block that no vector shares, with copies of `elements` and room for `capacity`.
+    /// A block with copies of `elements` and room for `capacity`; without memory, and never
+    /// refused, for none of both.
     #[inline(never)]
     pub(super) fn copy<C: Copying<T>>(
         &self,
         elements: &[T],
         capacity: usize,
-    ) -> Result<Shared<Block<T>, Global>, AllocError>
+    ) -> Result<Block<T>, AllocError>
         requires room { length elements.now ≤ capacity }
         requires bounded { capacity ≤ MAX_LEN }
-        ensures copies { IfOk result
-            (λ shared. AllZip C.makes elements.now (items_of shared)) }
-        ensures len { IfOk result
-            (λ shared. length (items_of shared) ≡ length elements.now) }
-        ensures capacity { IfOk result (λ shared. IsSomeAnd shared
-            (λ block. block.capacity ≡ capacity)) }
+        ensures copies { IfOk result (λ block. AllZip C.makes elements.now block.items) }
+        ensures len { IfOk result (λ block. length block.items ≡ length elements.now) }
+        ensures capacity { IfOk result (λ block. block.capacity ≡ capacity) }
+        ensures free { capacity ≡ 0 → IsOk result }
     {
-        let block = if elements.is_empty() {
-            Block::with_capacity(self.alloc, capacity)?
-        } else {
-            C::block(self.alloc, elements, capacity)?
-        };
-        Ok(Shared::new(self.alloc, block)?)
+        if elements.is_empty() {
+            return Block::with_capacity(self.alloc, capacity);
+        }
+        C::block(self.alloc, elements, capacity)
     }
 }
 

@@ -2,12 +2,10 @@
 use Rattle.std.specs.Prelude.{◌≡◌, ℕ, List, []}
 use mathlib.Core.Path.{refl, sym, ◌∙◌}
 use mathlib.Core.Former.{Former, this, const, pair, list, via, children}
-use native.Mathlib.Nat.{ℕ_set}
-use native.Mathlib.Bridge.{le_prop}
 use lib.ListN.{length-map}
-use base.Stored.{Gv, gcons, Coded-set}
+use base.Stored.{Gv, gcons}
 use denote.RattleType.{RattleType}
-use denote.RawPtr.{Ptr, coded_ptr}
+use denote.RawPtr.{Ptr}
 use denote.HoleLaws.{Alike}
 use denote.HolePlaces.{Recodes, struct_places, laid}
 use denote.Hole.Carrier.{listed, list-listed}
@@ -20,13 +18,16 @@ use Rattle.std.specs.contracts.alloc.Global as heap
 use Rattle.std.specs.contracts.impls.GlobalAllocator.TheImpl.{ghosts}
 use Rattle.std_alloc.specs.Vec.Recursive.{codes_placed}
 use Rattle.ecow_block.specs.Contents.{Contents, contents}
+use Rattle.ecow_block.specs.Facts.{IsBlock-prop}
 use Rattle.ecow_block.specs.Fields.{IsBlock}
+use Rattle.ecow_block.specs.Parts.{IsHead, IsBacked}
 use Rattle.ecow_block.specs.declared.block.Block.TheInside.{Inside}
 use Rattle.ecow_block.specs.declared.block.Block.TheView.{view, invariant}
 use Rattle.ecow_block.specs.contracts.block.Block as C
 use Rattle.ecow_block.specs.contracts.block.Block.TheInside as I
 use Rattle.ecow_block.specs.formers.room.Room as room
 use Rattle.ecow_block.specs.formers.room.Deed as deed
+use Rattle.ecow_block.specs.formers.room.Title as title
 
 -- a block as a container of what it holds
 abbrev pub the_former : Former {0} → Former {0}
@@ -54,74 +55,100 @@ pub the_items_listed : (X : Type 0) (b : Contents X) → listed _ (children (the
 the_items_listed X b = list-listed X b.items
 
 abbrev Rest : Type 0
-Rest = Ptr × ℕ × ℕ × PhantomData Ptr × Ptr × ℕ × Global × Global
+Rest = Ptr × title.Parts Global × (PhantomData Ptr × Ptr × ℕ × Global) × Global
 
-abbrev fields : Former {0}
+abbrev pub fields : Former {0}
 fields = via (pair (const Rest) (room.the_former this)) Inside
     (λ X b. (
       (
-        b.base.ptr,
-        b.len,
-        b.capacity,
-        b.deed.mark,
-        b.deed.at,
-        b.deed.capacity,
-        b.deed.alloc,
+        b.top.ptr,
+        title.parts_of b.title,
+        (b.deed.mark, b.deed.at, b.deed.capacity, b.deed.alloc),
         b.alloc,
       ),
       b.room,
     ))
     (λ X v. record {
-      base = record { ptr = v.0.0 };
-      len = v.0.1;
-      capacity = v.0.2;
+      top = record { ptr = v.0.0 };
       room = v.1;
-      deed = record { mark = v.0.3; at = v.0.4; capacity = v.0.5; alloc = v.0.6 };
-      alloc = v.0.7;
+      title = title.of_parts v.0.1;
+      deed = record { mark = v.0.2.0; at = v.0.2.1; capacity = v.0.2.2; alloc = v.0.2.3 };
+      alloc = v.0.3;
     })
     (λ X b. refl) (λ X v. refl)
 
-IsBlock-prop : {X : Type 0} (b : Inside X) → IsProp (IsBlock b)
-IsBlock-prop b p q = λ i. record {
-  whole = record {
-    at = Coded-set coded_ptr _ _ p.whole.at q.whole.at i;
-    start = ℕ_set _ _ p.whole.start q.whole.start i;
-    deed_at = Coded-set coded_ptr _ _ p.whole.deed_at q.whole.deed_at i;
-    deed_capacity = ℕ_set _ _ p.whole.deed_capacity q.whole.deed_capacity i;
-    deed_alloc = Coded-set heap.the_row.coded _ _ p.whole.deed_alloc q.whole.deed_alloc i;
-  };
-  len = ℕ_set _ _ p.len q.len i;
-  capacity = ℕ_set _ _ p.capacity q.capacity i;
-  small = le_prop p.small q.small i;
-}
-
 module _ {X Y : Type 0} (h : X → Y) (b : Inside X) where
-  IsBlock-to : IsBlock b → IsBlock (fields.map X Y h b)
-  IsBlock-to p = record {
-    whole = record {
-      at = p.whole.at;
-      start = p.whole.start;
-      deed_at = p.whole.deed_at;
-      deed_capacity = p.whole.deed_capacity;
-      deed_alloc = p.whole.deed_alloc;
-    };
-    len = p.len ∙ sym (length-map b.room.items h);
+  abbrev mapped : Inside Y
+  mapped = fields.map X Y h b
+
+  head_to : IsHead b.top b.title b.alloc b.room.at b.room.capacity
+      → IsHead mapped.top mapped.title mapped.alloc mapped.room.at mapped.room.capacity
+  head_to p = record {
+    at = p.at;
+    alloc_same = p.alloc_same;
+    base = p.base;
     capacity = p.capacity;
     small = p.small;
+    testable = p.testable;
+    none = p.none;
+    headed = p.headed;
   }
 
-  IsBlock-from : IsBlock (fields.map X Y h b) → IsBlock b
-  IsBlock-from p = record {
-    whole = record {
-      at = p.whole.at;
-      start = p.whole.start;
-      deed_at = p.whole.deed_at;
-      deed_capacity = p.whole.deed_capacity;
-      deed_alloc = p.whole.deed_alloc;
-    };
-    len = p.len ∙ length-map b.room.items h;
+  head_from : IsHead mapped.top mapped.title mapped.alloc mapped.room.at mapped.room.capacity
+      → IsHead b.top b.title b.alloc b.room.at b.room.capacity
+  head_from p = record {
+    at = p.at;
+    alloc_same = p.alloc_same;
+    base = p.base;
     capacity = p.capacity;
     small = p.small;
+    testable = p.testable;
+    none = p.none;
+    headed = p.headed;
+  }
+
+  backed_to : IsBacked b.room.at b.room.capacity b.title b.deed b.alloc
+      → IsBacked mapped.room.at mapped.room.capacity mapped.title mapped.deed mapped.alloc
+  backed_to p = record {
+    few = λ e f. let near = p.few e f in record { at = near.at; places = near.places };
+    many =
+        λ e. let apart = p.many e in
+        record {
+          places = apart.places;
+          deed_at = apart.deed_at;
+          deed_capacity = apart.deed_capacity;
+          deed_alloc = apart.deed_alloc;
+        };
+  }
+
+  backed_from : IsBacked mapped.room.at mapped.room.capacity mapped.title mapped.deed mapped.alloc
+      → IsBacked b.room.at b.room.capacity b.title b.deed b.alloc
+  backed_from p = record {
+    few = λ e f. let near = p.few e f in record { at = near.at; places = near.places };
+    many =
+        λ e. let apart = p.many e in
+        record {
+          places = apart.places;
+          deed_at = apart.deed_at;
+          deed_capacity = apart.deed_capacity;
+          deed_alloc = apart.deed_alloc;
+        };
+  }
+
+  pub IsBlock-to : IsBlock b → IsBlock mapped
+  IsBlock-to p = record {
+    head = head_to p.head;
+    start = p.start;
+    len = p.len ∙ sym (length-map b.room.items h);
+    backed = backed_to p.backed;
+  }
+
+  pub IsBlock-from : IsBlock mapped → IsBlock b
+  IsBlock-from p = record {
+    head = head_from p.head;
+    start = p.start;
+    len = p.len ∙ length-map b.room.items h;
+    backed = backed_from p.backed;
   }
 
 first : {a b c : Gv} → a ≡ b → gcons a c ≡ gcons b c
@@ -136,27 +163,24 @@ module _ (R S : RattleType) (h : R.Denot → S.Denot) where
       (IsBlock-from h)
       (over (I.the_row R)) (over (I.the_row S))
       (struct_places (I.the_type R) (I.the_type S) (
-        room.base_over,
+        title.top_over,
         (
-          λ n. n,
+          room.map_room h,
           (
-            λ n. n,
-            (room.map_room h, ((deed.the_former this Global).map R.Denot S.Denot h, (λ n. n, tt))),
+            (title.the_former this Global).map R.Denot S.Denot h,
+            ((deed.the_former this Global).map R.Denot S.Denot h, (λ n. n, tt)),
           ),
         ),
       ) _
       (λ d. refl) refl (
-        laid _ _ _ (room.base_places R S h a),
+        laid _ _ _ (title.top_places R S h a),
         (
-          (refl, (λ n. refl, λ n. refl)),
+          laid _ _ _ (room.the_places R S h a),
           (
-            (refl, (λ n. refl, λ n. refl)),
+            laid _ _ _ (title.the_places heap.the_row ghosts R S h a),
             (
-              laid _ _ _ (room.the_places R S h a),
-              (
-                laid _ _ _ (deed.the_places heap.the_row ghosts R S h a),
-                ((refl, (λ n. refl, λ n. refl)), tt),
-              ),
+              laid _ _ _ (deed.the_places heap.the_row ghosts R S h a),
+              ((refl, (λ n. refl, λ n. refl)), tt),
             ),
           ),
         ),

@@ -1,146 +1,148 @@
 -- `Shared` as a type that may hold the type that holds it.
-use Rattle.std.specs.Prelude.{◌≡◌}
+use Rattle.std.specs.Prelude.{◌≡◌, ℕ, Bool, List}
 use mathlib.Core.Path.{refl}
-use mathlib.Core.Logic.{◌⊎◌, inl, inr}
-use mathlib.Core.Former.{Former, this, const, pair, or, via}
-use base.Stored.{gnil}
-use base.Fml.{ftrue}
+use mathlib.Core.Former.{Former, this, const, pair, via, children}
+use base.Fml.{Lft, Key, Fml, ftrue, fsep, fex}
 use denote.RattleType.{RattleType}
-use denote.Memory.{part_of}
 use denote.RawPtr.{Ptr}
-use denote.Sharing.{nothing}
+use denote.RcWeak.{rc_cell_owns, rc_lends}
+use denote.Sharing.{beside}
+use denote.Struct.Struct.{Struct}
+use denote.Struct.Owning.{shape, to}
 use denote.HoleLaws.{Alike}
-use denote.HolePlaces.{Recodes, struct_places, laid, one_value}
-use denote.Hole.Fix as inside
-use denote.Param.Weighed.{Weighed, w_const, w_or, w_via}
-use denote.Model.Placed.{held, view_places}
-use Rattle.std.specs.Coded.{coded_option}
-use Rattle.core.specs.declared.alloc.Allocator.{Ghosts}
-use Rattle.core.specs.declared.option.Option.{Option}
-use Rattle.core.specs.declared.option.Option.TheVariants.{None, Some}
-use Rattle.core.specs.Option.{option_map}
-use Rattle.ecow_shared.specs.declared.counts.Owner.{Owner}
-use Rattle.ecow_shared.specs.contracts.counts.Owner as owner
+use denote.HolePlaces.{Recodes}
+use denote.Hole.Carrier.{listed}
+use denote.Hole.Fix.{over}
+use denote.Param.Weighed.{Weighed}
+use denote.Model.Placed.{view_places}
+use Rattle.core.specs.declared.marker.PhantomData.{PhantomData}
+use Rattle.std.specs.declared.alloc.Global.{Global}
+use Rattle.std.specs.contracts.alloc.Global as heap
+use Rattle.std.specs.contracts.impls.GlobalAllocator.TheImpl.{ghosts}
+use Rattle.std_alloc.specs.Owners.{sole_or_counted}
+use Rattle.ecow_block.specs.Contents.{Contents}
+use Rattle.ecow_block.specs.Facts.{IsOwner-prop}
+use Rattle.ecow_block.specs.Heads.{unless_null, lent_unless_null}
+use Rattle.ecow_block.specs.Kept.{IsOwner, head_at, kept, seen}
+use Rattle.ecow_shared.specs.Owners.{one_weak, key, counts, owner_owns, owner_lends}
+use Rattle.ecow_block.specs.declared.block.Block.TheInside.{Inside as BlockParts}
 use Rattle.ecow_shared.specs.declared.shared.Shared.TheInside.{Inside}
 use Rattle.ecow_shared.specs.declared.shared.Shared.TheView.{view, invariant}
 use Rattle.ecow_shared.specs.contracts.shared.Shared as C
 use Rattle.ecow_shared.specs.contracts.shared.Shared.TheInside as I
+use Rattle.ecow_block.specs.formers.block.Block as block
+use Rattle.ecow_block.specs.formers.room.Room as room
+use Rattle.ecow_block.specs.formers.room.Deed as deed
+use Rattle.ecow_block.specs.formers.room.Title as title
 
-module _ {X : Type 0} where
-  abbrev pub split : Option X → Unit {0} ⊎ X
-  split None = inl tt
-  split (Some x) = inr x
+-- an owner as a container of what its block holds
+abbrev pub the_former : Former {0} → Former {0}
+the_former g = block.the_former g
 
-  abbrev pub join : Unit {0} ⊎ X → Option X
-  join (inl u) = None
-  join (inr x) = Some x
+-- its measure is the block's
+abbrev pub the_weighed : {g : Former {0}} → Weighed g → Weighed (the_former g)
+the_weighed w = block.the_weighed w
 
-  pub join-split : (o : Option X) → join (split o) ≡ o
-  join-split None = refl
-  join-split (Some x) = refl
+pub the_empty : Contents ⊥
+the_empty = block.the_empty
 
-  pub split-join : (o : Unit {0} ⊎ X) → split (join o) ≡ o
-  split-join (inl u) = refl
-  split-join (inr x) = refl
+-- what an owner's block holds
+abbrev pub the_items : (X : Type 0) → Contents X → List X
+the_items X b = b.items
 
--- an owner as a container of what it holds
-abbrev pub the_former : Former {0} → Type 0 → Former {0}
-the_former g Z = via (or (const (Unit {0})) g) (λ X. Option (g.Of X)) (λ X. split) (λ X. join)
-    (λ X. join-split) (λ X. split-join)
+pub the_items_listed : (X : Type 0) (b : Contents X) → listed _ (children (the_former this) X b)
+    ≡ the_items X b
+the_items_listed X b = block.the_items_listed X b
 
--- its measure is that of the value that it holds
-abbrev pub the_weighed : {g : Former {0}} → Weighed g → (Z : Type 0) → Weighed (the_former g Z)
-the_weighed {g} w Z = w_via (w_or (w_const (Unit {0})) w) (λ X. Option (g.Of X)) (λ X. split)
-    (λ X. join) (λ X. join-split) (λ X. split-join)
+-- what an owner has beside its block's parts: where the head is, and three times nothing
+abbrev Rest : Type 0
+Rest = Ptr × PhantomData Ptr × PhantomData Ptr × PhantomData Ptr × Global
 
-pub the_empty : (Z : Type 0) → Z → Option ⊥
-the_empty Z z = None
+abbrev fields : Former {0}
+fields = via (pair (const Rest) (block.fields)) Inside
+    (λ X s. ((s.top.ptr, s.room.mark, s.title.mark, s.deed.mark, s.alloc), s.inside))
+    (λ X v. record {
+      top = record { ptr = v.0.0 };
+      room = record { mark = v.0.1 };
+      title = record { mark = v.0.2 };
+      deed = record { mark = v.0.3 };
+      alloc = v.0.4;
+      inside = v.1;
+    })
+    (λ X s. refl) (λ X v. refl)
 
--- the pointer and what it points to, over other values
-abbrev owner_over : {X Y Z : Type 0} → (X → Y) → Owner X Z → Owner Y Z
-owner_over h s = record { ptr = s.ptr; value = option_map h s.value }
+module _ {X Y : Type 0} (h : X → Y) (s : Inside X) where
+  abbrev mapped : Inside Y
+  mapped = fields.map X Y h s
 
-abbrev owners : Type 0 → Former {0}
-owners Z = via (pair (const Ptr) (the_former this Z)) (λ X. Owner X Z) (λ X s. (s.ptr, s.value))
-    (λ X v. record { ptr = v.0; value = v.1 }) (λ X s. refl) (λ X v. refl)
+  is_to : IsOwner s.top s.alloc s.inside → IsOwner mapped.top mapped.alloc mapped.inside
+  is_to p = record {
+    top_is = p.top_is;
+    alloc_is = p.alloc_is;
+    is_block = block.IsBlock-to h s.inside p.is_block;
+  }
 
-abbrev fields : Type 0 → Former {0}
-fields Z = via (owners Z) (λ X. Inside X Z) (λ X v. v.owner) (λ X s. record { owner = s })
-    (λ X v. refl) (λ X s. refl)
+  is_from : IsOwner mapped.top mapped.alloc mapped.inside → IsOwner s.top s.alloc s.inside
+  is_from p = record {
+    top_is = p.top_is;
+    alloc_is = p.alloc_is;
+    is_block = block.IsBlock-from h s.inside p.is_block;
+  }
 
-module _ (Z : RattleType) (g : Ghosts Z.Denot) where
-  module _ (X : Type 0) where
-    abbrev inside_of : Ptr → Option X → Inside X Z.Denot
-    inside_of p o = record { owner = record { ptr = p; value = o } }
+-- what an owner owns and lends, of what is kept and seen
+module _ (p : Ptr) (k : Key) (n : ℕ → Fml) where
+  abbrev owned : Fml → (Lft → Fml) → Fml
+  owned K S =
+      unless_null p
+      (fex Bool (sole_or_counted (fsep (n 1) K) (rc_cell_owns 64 k n one_weak K ftrue ftrue S)))
 
-    keeps : (p : Ptr) (o : Option X)
-        → held (the_former this Z.Denot) X (view X Z.Denot g (inside_of p o))
-        ≡ held (fields Z.Denot) X (inside_of p o)
-    keeps p None = refl
-    keeps p (Some x) = refl
+  abbrev lent : Fml → (Lft → Fml) → Lft → Fml
+  lent K S = lent_unless_null p (rc_lends 64 k n one_weak K ftrue ftrue S)
 
-    module _ (Y : Type 0) (h : X → Y) where
-      natural : (p : Ptr) (o : Option X)
-          → view Y Z.Denot g ((fields Z.Denot).map X Y h (inside_of p o))
-          ≡ (the_former this Z.Denot).map X Y h (view X Z.Denot g (inside_of p o))
-      natural p None = refl
-      natural p (Some x) = refl
+module _ (R S : RattleType) (h : R.Denot → S.Denot) (a : Alike R S h) (i : BlockParts R.Denot) where
+  abbrev over_parts : BlockParts S.Denot
+  over_parts = block.fields.map R.Denot S.Denot h i
 
-      mapped : (p : Ptr) (o : Option X)
-          → (owners Z.Denot).map X Y h (record { ptr = p; value = o })
-          ≡ owner_over h (record { ptr = p; value = o })
-      mapped p None = refl
-      mapped p (Some x) = refl
+  abbrev p : Ptr
+  p = head_at R i
 
-  abbrev owner_of : RattleType → RattleType
-  owner_of R = owner.the_row R Z g
+  kept_same : kept S over_parts ≡ kept R i
+  kept_same = λ j. fsep
+      (fsep (title.rest_placed R S h a (ghosts.dealloc_token i.title.alloc) p i.title.fields
+      i.title.places j)
+      (room.room_placed R S h a i.room.at i.room.start i.room.capacity i.room.items j))
+      (deed.placed heap.the_row ghosts R S h a (ghosts.dealloc_token i.deed.alloc) i.deed.at
+      i.deed.capacity j)
 
-  module _ (R S : RattleType) (h : R.Denot → S.Denot) (a : Alike R S h) (p : Ptr) where
-    own_same : (o : Option R.Denot)
-        → (owner_of S).own_val (record { ptr = p; value = option_map h o })
-        ≡ (owner_of R).own_val (record { ptr = p; value = o })
-    unfolding part_of
-    own_same None = refl
-    own_same (Some x) =
-        λ i. (owner_of (one_value R (a.mir_same i) (a.own_same x i) (a.shr_same x i) gnil)).own_val
-        (record { ptr = p; value = Some tt })
+  seen_same : seen S over_parts ≡ seen R i
+  seen_same = λ j. beside (title.fields_lent R S h a p i.title.fields j)
+      (room.room_lent R S h a i.room.at i.room.start i.room.capacity i.room.items j)
 
-    shr_same : (o : Option R.Denot)
-        → (owner_of S).shr_at (record { ptr = p; value = option_map h o })
-        ≡ (owner_of R).shr_at (record { ptr = p; value = o })
-    unfolding part_of
-    shr_same None = refl
-    shr_same (Some x) =
-        λ i. (owner_of (one_value R (a.mir_same i) (a.own_same x i) (a.shr_same x i) gnil)).shr_at
-        (record { ptr = p; value = Some tt })
+  owned_same : owner_owns S over_parts ≡ owner_owns R i
+  owned_same = λ j. owned p (key R i) (counts R i) (kept_same j) (seen_same j)
 
-  module _ (R S : RattleType) (h : R.Denot → S.Denot) where
-    owner_places : Alike R S h → Alike (owner_of R) (owner_of S) (owner_over h)
-    unfolding part_of
-    owner_places a = record {
-      mir_same = λ i. (owner_of (one_value R (a.mir_same i) (λ _. ftrue) (λ _ _. nothing) gnil)).mir;
-      own_same = λ s. own_same R S h a s.ptr s.value;
-      shr_same = λ s. shr_same R S h a s.ptr s.value;
-    }
+  lent_same : owner_lends S over_parts ≡ owner_lends R i
+  lent_same = λ j. lent p (key R i) (counts R i) (kept_same j) (seen_same j)
 
-    pub the_places : Alike R S h
-        → Alike (C.the_row R Z g) (C.the_row S Z g)
-        ((the_former this Z.Denot).map R.Denot S.Denot h)
-    the_places a = view_places (fields Z.Denot) (the_former this Z.Denot) (λ X. view X Z.Denot g)
-        (λ X Y k v. natural X Y k v.owner.ptr v.owner.value)
-        (λ X v. keeps X v.owner.ptr v.owner.value) R.Denot S.Denot h
-        (C.the_row R Z g).coded (C.the_row S Z g).coded
-        (invariant R.Denot Z.Denot g) (invariant S.Denot Z.Denot g) (λ u p q. refl) (λ u p q. refl)
-        (λ u e. tt) (λ u e. tt)
-        (inside.over (I.the_row R Z g)) (inside.over (I.the_row S Z g))
-        (struct_places (I.the_type R Z g) (I.the_type S Z g) (owner_over h, tt) _
-        (λ d i. (mapped R.Denot S.Denot h d.owner.ptr d.owner.value i, tt)) refl
-        (laid _ _ _ (owner_places a), tt))
+module _ (R S : RattleType) (h : R.Denot → S.Denot) where
+  inside_places : Alike R S h
+      → Alike (I.the_row R) (I.the_row S) (fields.map R.Denot S.Denot h)
+  inside_places a = record {
+    mir_same = refl;
+    own_same = λ d j vs. fsep ((Struct (shape (I.the_type R))).own_val (to (I.the_type R) d) vs)
+        (owned_same R S h a d.inside j);
+    shr_same = λ d j b o. beside ((Struct (shape (I.the_type R))).shr_at (to (I.the_type R) d) b o)
+        (lent_same R S h a d.inside j);
+  }
 
-    pub the_codes_placed : Recodes R S h
-        → Recodes (C.the_row R Z g) (C.the_row S Z g)
-        ((the_former this Z.Denot).map R.Denot S.Denot h)
-    the_codes_placed e None = refl
-    the_codes_placed e (Some x) =
-        λ i. (coded_option (one_value R R.mir (λ _. ftrue) (λ _ _. nothing) (e x i)).coded).code
-        (Some tt)
+  pub the_places : Alike R S h
+      → Alike (C.the_row R) (C.the_row S) ((the_former this).map R.Denot S.Denot h)
+  the_places a = view_places fields (the_former this) view (λ X Y k u. refl)
+      (λ X u. refl) R.Denot S.Denot h (C.the_row R).coded (C.the_row S).coded
+      (invariant R.Denot) (invariant S.Denot) (λ s. IsOwner-prop s.top s.alloc s.inside)
+      (λ s. IsOwner-prop s.top s.alloc s.inside) (is_to h) (is_from h)
+      (over (I.the_row R)) (over (I.the_row S)) (inside_places a)
+
+  pub the_codes_placed : Recodes R S h
+      → Recodes (C.the_row R) (C.the_row S) ((the_former this).map R.Denot S.Denot h)
+  the_codes_placed e b = block.the_codes_placed R S h e b

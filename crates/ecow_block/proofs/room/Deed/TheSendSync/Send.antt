@@ -4,5 +4,6 @@ use Rattle.core.specs.declared.alloc.Allocator.{Ghosts}
 use Rattle.ecow_block.proofs.Crosses.{Deed-send}
 use Rattle.ecow_block.specs.contracts.room.Deed.{the_row}
 
-pub send : (R A : RattleType) (g : Ghosts A.Denot) → IsSend A → Frees g g.dealloc_token → IsSend (the_row R A g)
+pub send : (R A : RattleType) (g : Ghosts A.Denot) → IsSend A → Frees g g.dealloc_token
+    → IsSend (the_row R A g)
 send R A g s = Deed-send R A g

@@ -1,0 +1,9 @@
+use denote.RattleType.{RattleType}
+use denote.Param.Send.{IsSend, Frees}
+use Rattle.core.specs.declared.alloc.Allocator.{Ghosts}
+use Rattle.ecow_block.proofs.Crosses.{Title-send}
+use Rattle.ecow_block.specs.contracts.room.Title.{the_row}
+
+pub send : (R A : RattleType) (g : Ghosts A.Denot) → IsSend A → Frees g g.dealloc_token
+    → IsSend (the_row R A g)
+send R A g s = Title-send R A g
