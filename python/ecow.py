@@ -62,7 +62,7 @@ def _path() -> str:
         path = os.path.join(place, "libecow.so")
         if os.path.exists(path):
             return path
-    return ctypes.util.find_library("ecow") or "libecow.so.0.8"
+    return ctypes.util.find_library("ecow") or "libecow.so.0.9"
 
 
 # A `PyDLL` keeps the interpreter's lock during a call, so no value is in two calls at once.
