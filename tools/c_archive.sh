@@ -8,6 +8,7 @@ case $1 in
     plain) from=. ;;
     *) echo "COUNT is atomic or plain" >&2; exit 1 ;;
 esac
+mkdir -p bin
 tools/prove.sh ecow_c "$from"
 (cd "$from/crates/ecow_c" && rt lib > ../../bin/lib.log 2>&1) || { cat "$from/bin/lib.log"; exit 1; }
 cp "$from/crates/ecow_c/out/libecow_c.a" "bin/libecow_c-$1.a"
