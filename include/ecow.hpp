@@ -131,6 +131,7 @@ template <> struct list_calls<std::int64_t> {
     static constexpr auto set = ecow_list_set;
     static constexpr auto push = ecow_list_push;
     static constexpr auto pop = ecow_list_pop;
+    static constexpr auto insert = ecow_list_insert;
     static constexpr auto remove = ecow_list_remove;
     static constexpr auto truncate = ecow_list_truncate;
     static constexpr auto clear = ecow_list_clear;
@@ -153,6 +154,7 @@ template <> struct list_calls<std::uint8_t> {
     static constexpr auto set = ecow_bytes_set;
     static constexpr auto push = ecow_bytes_push;
     static constexpr auto pop = ecow_bytes_pop;
+    static constexpr auto insert = ecow_bytes_insert;
     static constexpr auto remove = ecow_bytes_remove;
     static constexpr auto truncate = ecow_bytes_truncate;
     static constexpr auto clear = ecow_bytes_clear;
@@ -289,56 +291,63 @@ private:
 
 template <typename Item>
 constexpr bool is_byte =
-    std::is_same_v<Item, char> || std::is_same_v<Item, signed char>
-    || std::is_same_v<Item, unsigned char> || std::is_same_v<Item, std::byte>;
+    std::disjunction_v<std::is_same<Item, char>, std::is_same<Item, signed char>,
+                       std::is_same<Item, unsigned char>, std::is_same<Item, std::byte>>;
 
-template <typename From>
-constexpr bool is_view =
-    std::is_convertible_v<const From &, std::string_view> && !std::is_null_pointer_v<From>;
+template <typename From> constexpr bool is_view() {
+    return std::is_convertible_v<const From &, std::string_view> && !std::is_null_pointer_v<From>;
+}
+
+/* Whether items of one type are those of the other where they lie, as all bytes are. */
+template <typename Item, typename Other> constexpr bool are_alike() {
+    return std::is_same_v<Item, Other> || (is_byte<Item> && is_byte<Other>);
+}
+
+/* Whether such an item may be a copy of the other. A character of more than a byte isn't cut. */
+template <typename Item, typename Other> constexpr bool copies() {
+    return are_alike<Item, Other>() || (std::is_integral_v<Other> && !std::is_same_v<Item, char>);
+}
 
 /* The type of what lies in the array of a container, or void where it has none. */
-template <typename From, typename = void> struct array_item {
-    using type = void;
-};
+template <typename From, typename = void> struct array_item { using type = void; };
 
 template <typename From>
 struct array_item<From, std::void_t<decltype(std::data(std::declval<const From &>())),
                                     decltype(std::size(std::declval<const From &>()))>> {
-    using type = std::remove_cv_t<
-        std::remove_pointer_t<decltype(std::data(std::declval<const From &>()))>>;
+    using pointer = decltype(std::data(std::declval<const From &>()));
+    using type = std::remove_cv_t<std::remove_pointer_t<pointer>>;
 };
 
-/* Whether items of one type are those of the other where they lie, as all bytes are. */
-template <typename Item, typename Other>
-constexpr bool are_alike = std::is_same_v<Item, Other> || (is_byte<Item> && is_byte<Other>);
+/* The type of what an iterator passes over, or void where it is none. */
+template <typename Iterator, typename = void> struct passed_item { using type = void; };
+
+template <typename Iterator>
+struct passed_item<Iterator, std::void_t<typename std::iterator_traits<Iterator>::value_type>> {
+    using type = typename std::iterator_traits<Iterator>::value_type;
+};
+
+/* The same of the iterators of a container. */
+template <typename From, typename = void> struct held_item { using type = void; };
+
+template <typename From>
+struct held_item<From, std::void_t<decltype(std::begin(std::declval<const From &>()))>>
+    : passed_item<decltype(std::begin(std::declval<const From &>()))> {};
 
 /* Whether an argument has such items in one array. */
-template <typename Item, typename From>
-constexpr bool lends = (is_byte<Item> && is_view<From>)
-                       || are_alike<Item, typename array_item<From>::type>;
+template <typename Item, typename From> constexpr bool lends() {
+    return (is_byte<Item> && is_view<From>()) || are_alike<Item, typename array_item<From>::type>();
+}
 
-/* Whether a number may be copied to such an item. A character of more than a byte isn't cut. */
-template <typename Item, typename Other>
-constexpr bool converts =
-    std::is_integral_v<Other> && (!std::is_same_v<Item, char> || is_byte<Other>);
+/* Whether such items are read from an argument. A list takes none from a text. */
+template <typename Item, typename From> constexpr bool reads() {
+    return lends<Item, From>()
+           || (copies<Item, typename held_item<From>::type>() && !is_view<From>());
+}
 
-/* Whether it is an iterator over what may be copied to such items. */
-template <typename Item, typename Iterator, typename = void> struct passes : std::false_type {};
-
-template <typename Item, typename Iterator>
-struct passes<Item, Iterator, std::void_t<typename std::iterator_traits<Iterator>::value_type>>
-    : std::bool_constant<
-          converts<Item, typename std::iterator_traits<Iterator>::value_type>
-          || are_alike<Item, typename std::iterator_traits<Iterator>::value_type>> {};
-
-/* Whether it is a container of what may be copied to such items. A text is read in place or not. */
-template <typename Item, typename From, typename = void> struct gathers : std::false_type {};
-
-template <typename Item, typename From>
-struct gathers<Item, From, std::void_t<decltype(std::begin(std::declval<const From &>()))>>
-    : std::bool_constant<
-          passes<Item, decltype(std::begin(std::declval<const From &>()))>::value && !is_view<From>> {
-};
+/* Whether such items are read between two iterators. */
+template <typename Item, typename Iterator> constexpr bool passes() {
+    return copies<Item, typename passed_item<Iterator>::type>();
+}
 
 #ifdef __cpp_lib_concepts
 template <typename Iterator> constexpr bool is_contiguous = std::contiguous_iterator<Iterator>;
@@ -355,7 +364,7 @@ template <typename Item> struct slice {
 };
 
 template <typename Item, typename From> slice<Item> lend(const From &from) noexcept {
-    if constexpr (is_byte<Item> && is_view<From>) {
+    if constexpr (is_byte<Item> && is_view<From>()) {
         std::string_view view = from;
         return {reinterpret_cast<const Item *>(view.data()), view.size()};
     } else {
@@ -367,10 +376,9 @@ template <typename Item, typename From> slice<Item> lend(const From &from) noexc
 /* The items of an argument as one array: lent where they lie in one, and else copied to one. */
 template <typename Item> class array {
 public:
-    template <typename From,
-              std::enable_if_t<lends<Item, From> || gathers<Item, From>::value, int> = 0>
+    template <typename From, std::enable_if_t<reads<Item, From>(), int> = 0>
     array(const From &from) {
-        if constexpr (lends<Item, From>) {
+        if constexpr (lends<Item, From>()) {
             lent = lend<Item>(from);
         } else {
             copy(std::begin(from), std::end(from));
@@ -379,10 +387,10 @@ public:
 
     array(std::initializer_list<Item> from) : array(from.begin(), from.end()) {}
 
-    template <typename Iterator, std::enable_if_t<passes<Item, Iterator>::value, int> = 0>
+    template <typename Iterator, std::enable_if_t<passes<Item, Iterator>(), int> = 0>
     array(Iterator first, Iterator last) {
-        using other = typename std::iterator_traits<Iterator>::value_type;
-        if constexpr (is_contiguous<Iterator> && are_alike<Item, other>) {
+        using other = typename passed_item<Iterator>::type;
+        if constexpr (is_contiguous<Iterator> && are_alike<Item, other>()) {
             if (first != last) {
                 lent = {reinterpret_cast<const Item *>(std::addressof(*first)),
                         static_cast<std::size_t>(last - first)};
@@ -391,9 +399,6 @@ public:
             copy(first, last);
         }
     }
-
-    /* The item, `count` times. */
-    array(std::size_t count, Item item) : copied(count, item), lent{copied.data(), count} {}
 
     array(const array &) = delete;
     array &operator=(const array &) = delete;
@@ -408,7 +413,8 @@ public:
 
 private:
     template <typename Iterator> void copy(Iterator first, Iterator last) {
-        copied.assign(first, last);
+        std::transform(first, last, std::back_inserter(copied),
+                       [](auto item) { return static_cast<Item>(item); });
         lent = {copied.data(), copied.size()};
     }
 
@@ -426,9 +432,9 @@ template <typename Type> constexpr bool is_container = std::is_base_of_v<contain
 /* Whether one is a container, and the other it too, or an array of the same items. */
 template <typename Left, typename Right> constexpr bool are_comparable() {
     if constexpr (is_container<Left>) {
-        return lends<typename Left::value_type, Right>;
+        return lends<typename Left::value_type, Right>();
     } else if constexpr (is_container<Right>) {
-        return lends<typename Right::value_type, Left>;
+        return lends<typename Right::value_type, Left>();
     } else {
         return false;
     }
@@ -505,10 +511,12 @@ public:
 
     value(std::initializer_list<value_type> items) : value(array(items)) {}
 
-    template <typename Iterator, std::enable_if_t<passes<value_type, Iterator>::value, int> = 0>
+    template <typename Iterator, std::enable_if_t<passes<value_type, Iterator>(), int> = 0>
     value(Iterator first, Iterator last) : value(array(first, last)) {}
 
-    value(size_type count, value_type item) : value(array(count, item)) {}
+    value(size_type count, value_type item) : value() {
+        append(count, item);
+    }
 
     /* Takes a value of C over, and leaves that empty. */
     explicit value(c_type &&taken) noexcept : raw(std::exchange(taken, {})) {}
@@ -538,7 +546,8 @@ public:
         return *this;
     }
 
-    template <typename From, std::enable_if_t<std::is_constructible_v<array, const From &>, int> = 0>
+    template <typename From,
+              std::enable_if_t<std::is_constructible_v<array, const From &>, int> = 0>
     Self &operator=(const From &items) {
         return assign(items);
     }
@@ -556,13 +565,15 @@ public:
         return self();
     }
 
-    template <typename Iterator, std::enable_if_t<passes<value_type, Iterator>::value, int> = 0>
+    template <typename Iterator, std::enable_if_t<passes<value_type, Iterator>(), int> = 0>
     Self &assign(Iterator first, Iterator last) {
         return assign(array(first, last));
     }
 
     Self &assign(size_type count, value_type item) {
-        return assign(array(count, item));
+        Self made(count, item);
+        swap(made);
+        return self();
     }
 
     void swap(value &other) noexcept {
@@ -694,44 +705,45 @@ public:
         return self();
     }
 
-    template <typename Iterator, std::enable_if_t<passes<value_type, Iterator>::value, int> = 0>
+    template <typename Iterator, std::enable_if_t<passes<value_type, Iterator>(), int> = 0>
     Self &append(Iterator first, Iterator last) {
         return append(array(first, last));
     }
 
+    /* Room for all comes first, so that no part is refused. */
     Self &append(size_type count, value_type item) {
-        return append(array(count, item));
+        check(Calls::reserve(&raw, count));
+        value_type part[64];
+        std::fill(std::begin(part), std::end(part), item);
+        while (count > 0) {
+            size_type added = std::min(count, std::size(part));
+            check(Calls::extend(&raw, part, added));
+            count -= added;
+        }
+        return self();
     }
 
     /* Puts items in before `position`, and returns where they begin. */
     iterator insert(const_iterator position, const array &items) {
         size_type index = index_of(position);
         splice(index, index, items);
-        return begin() + static_cast<difference_type>(index);
-    }
-
-    iterator insert(const_iterator position, value_type item) {
-        return insert(position, array(&item, &item + 1));
+        return place_of(index);
     }
 
     iterator insert(const_iterator position, size_type count, value_type item) {
-        return insert(position, array(count, item));
+        return insert(position, Self(count, item));
     }
 
-    template <typename Iterator, std::enable_if_t<passes<value_type, Iterator>::value, int> = 0>
+    template <typename Iterator, std::enable_if_t<passes<value_type, Iterator>(), int> = 0>
     iterator insert(const_iterator position, Iterator first, Iterator last) {
         return insert(position, array(first, last));
     }
 
-    /* Takes the item at `position`, and returns where the next one is. */
-    iterator erase(const_iterator position) {
-        return erase(position, position + 1);
-    }
-
+    /* Takes the items from `first` up to `last`, and returns where the next one is. */
     iterator erase(const_iterator first, const_iterator last) {
         size_type index = index_of(first);
         splice(index, index_of(last), {});
-        return begin() + static_cast<difference_type>(index);
+        return place_of(index);
     }
 
     /* Puts `items` in place of those from `start` up to `end`, which isn't included. Throws
@@ -748,6 +760,10 @@ public:
 protected:
     size_type index_of(const_iterator position) const noexcept {
         return static_cast<size_type>(position - begin());
+    }
+
+    iterator place_of(size_type index) const noexcept {
+        return begin() + static_cast<difference_type>(index);
     }
 
     c_type raw{};
@@ -823,9 +839,13 @@ class basic_list : public detail::value<basic_list<Item>, detail::list_calls<Ite
 
 public:
     using base::base;
+    using base::erase;
+    using base::insert;
     using base::operator=;
     using base::operator[];
+    using typename base::const_iterator;
     using typename base::const_reference;
+    using typename base::iterator;
     using typename base::size_type;
 
     basic_list() = default;
@@ -855,6 +875,18 @@ public:
     const_reference emplace_back(Item item = Item()) {
         push_back(item);
         return this->back();
+    }
+
+    iterator insert(const_iterator position, Item item) {
+        size_type index = this->index_of(position);
+        detail::check(own::insert(&this->raw, index, item));
+        return this->place_of(index);
+    }
+
+    iterator erase(const_iterator position) {
+        size_type index = this->index_of(position);
+        take(index);
+        return this->place_of(index);
     }
 
     /* Takes the last item and returns it. Throws std::out_of_range where there is none. */
@@ -981,12 +1013,21 @@ public:
     }
 
     text &insert(size_type index, size_type count, char character) {
-        return insert(index, array(count, character));
+        return insert(index, text(count, character));
+    }
+
+    /* An ASCII character. */
+    iterator insert(const_iterator position, char character) {
+        return insert(position, std::string_view(&character, 1));
     }
 
     /* Takes `count` bytes, or those that there are. */
     text &erase(size_type index = 0, size_type count = npos) {
         return replace(index, count, "");
+    }
+
+    iterator erase(const_iterator position) {
+        return erase(position, position + 1);
     }
 
     text &replace(size_type index, size_type count, const array &added) {

@@ -67,9 +67,9 @@ public:
         const std::size_t times = below(seed, 4);
         /* Items of the other value, and where they are put. */
         scratch.assign(other.model, from, taken);
-        scratch.is_whole = taken == 0
-                           || (is_boundary(other.model, from)
-                               && is_boundary(other.model, from + taken));
+        scratch.is_whole =
+            taken == 0
+            || (is_boundary(other.model, from) && is_boundary(other.model, from + taken));
         switch (below(seed, 19)) {
         case 0:
             put(one, start, start, scratch.repeat(1, one_item),
@@ -95,14 +95,12 @@ public:
             }
             break;
         case 5:
-            put(one, start, end, scratch.repeat(0, one_item), [&] {
-                is_at(value, start, value.erase(place(value, start), place(value, end)));
-            });
+            put(one, start, end, scratch.repeat(0, one_item),
+                [&] { is_at(value, start, value.erase(place(value, start), place(value, end))); });
             break;
         case 6:
-            put(one, start, end, scratch, [&] {
-                value.splice(start, end, typename Value::array(lent, lent + taken));
-            });
+            put(one, start, end, scratch,
+                [&] { value.splice(start, end, typename Value::array(lent, lent + taken)); });
             break;
         case 7:
             put(one, size, size, scratch, [&] { value.append(lent, lent + taken); });
@@ -205,8 +203,8 @@ private:
         if (one.model.size() - (end - start) + added.size() > most) {
             return;
         }
-        bool is_done = is_boundary(one.model, start) && is_boundary(one.model, end)
-                       && added.is_whole;
+        bool is_done =
+            is_boundary(one.model, start) && is_boundary(one.model, end) && added.is_whole;
         outcome was = outcome_of(call);
         CHECK(was == no_memory || was == (is_done ? done : invalid));
         if (was == done) {

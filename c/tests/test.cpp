@@ -49,9 +49,9 @@ template <typename Value> static void traits() {
     static_assert(std::is_nothrow_move_constructible_v<Value>);
     static_assert(std::is_nothrow_move_assignable_v<Value>);
     static_assert(std::is_nothrow_swappable_v<Value>);
-    static_assert(std::is_same_v<typename std::iterator_traits<
-                                     typename Value::iterator>::iterator_category,
-                                 std::random_access_iterator_tag>);
+    static_assert(
+        std::is_same_v<typename std::iterator_traits<typename Value::iterator>::iterator_category,
+                       std::random_access_iterator_tag>);
     static_assert(noexcept(std::declval<Value &>().clear()));
     static_assert(noexcept(std::declval<Value &>().release()));
     static_assert(noexcept(std::declval<const Value &>() == std::declval<const Value &>()));
@@ -242,8 +242,8 @@ template <typename Value> static void items() {
     CHECK(static_cast<std::vector<item>>(kept).size() == 3);
     copied.push_back(1);
     CHECK(value != copied && value < copied && copied > value && value <= copied);
-    CHECK(value == std::array<item, 5>{8, 8, 2, 7, 4}
-          && value < std::initializer_list<item>{9} && !(value >= std::array<item, 1>{9}));
+    CHECK(value == std::array<item, 5>{8, 8, 2, 7, 4} && value < std::initializer_list<item>{9}
+          && !(value >= std::array<item, 1>{9}));
     const item some[] = {8, 8, 2, 7, 3};
     CHECK(value != some && value > some && some < value && Value(some) == some);
 #ifdef __cpp_lib_span
@@ -336,7 +336,8 @@ static void texts_are_made() {
     assigned = view.substr(3);
     CHECK(assigned == "\u00e9");
     assigned = std::vector<char>{'x'};
-    CHECK(assigned == "x" && assigned.assign("abcd", 3) == "abc" && assigned.assign(2, 'y') == "yy");
+    CHECK(assigned == "x" && assigned.assign("abcd", 3) == "abc"
+          && assigned.assign(2, 'y') == "yy");
     assigned = {'a', 'b'};
     CHECK(assigned == "ab" && assigned.assign(view.begin(), view.begin() + 2) == "ca");
     assigned = cafe;
