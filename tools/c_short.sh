@@ -1,6 +1,6 @@
 #!/bin/sh
 # Tests the library for C, which is in bin/, in less than a minute: with a C compiler ($CC, or cc), and with each of
-# nm, pkg-config, C++20, python3 and valgrind that is there. The last line says which were.
+# nm, pkg-config, C++17, C++20, python3 and valgrind that is there. The last line says which were.
 set -eu
 cd "$(dirname "$0")/.."
 cc=${CC:-cc}
@@ -99,12 +99,22 @@ if "$out/first-shared" > /dev/null 2>&1; then
     exit 1
 fi
 
-if has C++20 $cxx -std=c++20 -fsyntax-only -include compare -x c++ /dev/null; then
-    $cxx -std=c++20 -O2 -Iinclude c/tests/test.cpp bin/libecow.a -o "$out/test"
-    "$out/test" 20000
-    refuse_each test 30
-    $cxx -std=c++20 -O2 -pthread -Iinclude c/tests/threads.cpp bin/libecow.a -o "$out/threads-cpp"
+# Tests the header for C++ by one standard.
+test_cpp() { # STANDARD
+    for test in test attempts edits threads; do
+        $cxx -std=c++$1 -O1 -pthread -Iinclude "c/tests/$test.cpp" bin/libecow.a -o "$out/$test-cpp"
+    done
+    silent "$out/test-cpp"
+    silent "$out/attempts-cpp"
+    silent "$out/edits-cpp" 20000
     silent "$out/threads-cpp" 20000
+}
+
+if has C++17 $cxx -std=c++17 -fsyntax-only -include string_view -x c++ /dev/null; then
+    test_cpp 17
+    refuse_each test-cpp 0
+    refuse_each edits-cpp 200
+    if has C++20 $cxx -std=c++20 -fsyntax-only -include compare -x c++ /dev/null; then test_cpp 20; fi
 fi
 if has python3 python3 -c 'import ctypes'; then
     ECOW_LIBRARY=bin/libecow.so python3 python/test_ecow.py 2000

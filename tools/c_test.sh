@@ -8,6 +8,8 @@ edits=${1:-1000000}
 out=$(mktemp -d)
 trap 'rm -rf "$out"' EXIT
 warnings="-Wall -Wextra -Wpedantic -Werror"
+# Those of C++ beside them.
+more_warnings="-Wconversion -Wshadow -Wold-style-cast -Wcast-qual"
 checked="valgrind -q --leak-check=full --error-exitcode=1"
 sanitized="-g -fsanitize=address,undefined -fno-sanitize-recover=all"
 # A request for more than the sanitizer gives is refused, as any other.
@@ -34,10 +36,13 @@ for compilers in "gcc g++" "clang clang++"; do
     run calls "$edits" c/tests/calls.c "$1" -std=c11
     run arrays "$edits" c/tests/arrays.c "$1" -std=c11
     run edits "$edits" c/tests/edits.c "$1" -std=c11
-    run test "$((edits / 5))" c/tests/test.cpp "$2" -std=c++20
     run threads "$edits" c/tests/threads.c "$1" -std=c11 -pthread
     "$out/threads" "$edits" handover
-    run threads-cpp "$edits" c/tests/threads.cpp "$2" -std=c++20 -pthread
+    for standard in 17 20; do
+        for test in test attempts edits threads; do
+            run "$test-cpp" "$edits" "c/tests/$test.cpp" "$2" -std=c++$standard $more_warnings -pthread
+        done
+    done
 done
 tools/helgrind.sh 2000
 
@@ -47,7 +52,7 @@ for example in first history; do
     "$out/$example" > "$out/$example.out"
     cmp "$out/$example.out" "c/examples/$example.out"
 done
-c++ -std=c++20 $warnings $sanitized -Iinclude c/examples/interned.cpp bin/libecow.a -o "$out/interned"
+c++ -std=c++17 $warnings $more_warnings $sanitized -Iinclude c/examples/interned.cpp bin/libecow.a -o "$out/interned"
 "$out/interned" < include/ecow.h > /dev/null
 
 ECOW_LIBRARY=bin/libecow.so python3 python/test_ecow.py "$((edits / 50))"
