@@ -128,6 +128,8 @@ static_assert(!has_capacity<ecow::list> && has_capacity<std::string>);
 static_assert(
     !writes_through_iterators<ecow::list> && writes_through_iterators<std::vector<std::int64_t>>);
 static_assert(!has_kind<double> && has_kind<std::int64_t>);
+static_assert(!std::is_assignable_v<decltype(std::declval<ecow::text &>()[0]), char>);
+static_assert(!std::is_invocable_v<decltype(&ecow::list::take), ecow::list, ecow::list::iterator>);
 
 int main() {
     try {

@@ -193,6 +193,15 @@ template <typename Value> static void ways() {
     value.resize(2, 7);
     value.resize(1);
     CHECK(value == Value{5} && value.assign(3, 2) == Value(3, 2));
+    /* More than one part of a filling. */
+    value.assign(129, 7);
+    value.append(64, 6).append(1, 5);
+    CHECK(value.size() == 194 && std::count(value.begin(), value.end(), 7) == 129);
+    CHECK(value[128] == 7 && value[129] == 6 && value[192] == 6 && value[193] == 5);
+    auto start = value.data();
+    value.reserve(value.size());
+    value.reserve(3);
+    CHECK(value.data() == start && value.size() == 194);
     value.assign({});
     CHECK(value.empty() && Value(std::size_t{0}, 1).empty() && Value{}.empty());
     value = {};
@@ -201,6 +210,24 @@ template <typename Value> static void ways() {
         typename Value::c_type *nowhere = nullptr;
         Value made(nowhere);
     }));
+}
+
+template <typename Value> static void iterators() {
+    const Value value{1, 2, 3, 4};
+    auto first = value.begin(), place = first;
+    CHECK(*place++ == 1 && *place == 2 && *++place == 3 && *place-- == 3 && *--place == 1);
+    place += 3;
+    CHECK(*place == 4 && place[-2] == 2 && *(place - 1) == 3 && *(first + 1) == *(1 + first));
+    place -= 2;
+    CHECK(*place == 2 && place - first == 1 && first - place == -1
+          && place.operator->() == &*place);
+    CHECK(first < place && !(place < first) && !(first < first) && first <= first);
+    CHECK(place > first && !(first > place) && !(first > first) && first >= first);
+    CHECK(place >= first && !(first >= place) && first <= place && !(place <= first));
+    CHECK(first == value.cbegin() && first != place && !(first == place) && !(first != first));
+    CHECK(value.end() - value.begin() == 4 && value.rbegin()[0] == 4 && value.crend()[-1] == 1);
+    typename Value::iterator none;
+    CHECK(none == typename Value::const_iterator() && none != first);
 }
 
 /* Values that are handed to C and come back. */
@@ -391,7 +418,8 @@ static void texts_grow() {
     CHECK(*text.erase(text.begin()) == 'b');
     CHECK(index_of(text, text.erase(text.begin() + 2, text.end())) == 2);
     CHECK(text == "bc" && text.replace(0, 1, "aaa") == "aaac" && text.replace(3, 99, "") == "aaa");
-    CHECK(text.replace(text.begin() + 1, text.end(), "\u00e9") == "a\u00e9");
+    CHECK(text.replace(text.begin() + 1, text.begin() + 2, "\u00e9") == "a\u00e9a");
+    CHECK(text.replace(text.begin() + 3, text.end(), "") == "a\u00e9");
     text.insert(1, text);
     CHECK(text == "aa\u00e9\u00e9" && text.erase().empty() && text.erase(0).empty());
     text = "one two";
@@ -518,6 +546,9 @@ int main() {
         ways<ecow::list>();
         ways<ecow::bytes>();
         ways<ecow::text>();
+        iterators<ecow::list>();
+        iterators<ecow::bytes>();
+        iterators<ecow::text>();
         items<ecow::list>();
         items<ecow::bytes>();
         elements<ecow::list>();
