@@ -8,14 +8,14 @@
  * Copies. A copy takes the same time however long the value is, and asks for no memory. A value
  * that was moved from is empty.
  *
- * Items are read where they lie, through iterators, pointers and `operator[]`. A call writes them,
- * since a write has to copy what others share.
+ * Items are read where they lie, through iterators, pointers and `operator[]`. Calls write them, as
+ * `set` does, since a write has to copy what others share.
  *
- * Arrays. An argument of type `array` takes items from any of these, which may lie in the value
- * that the call changes:
- *     one array      a std::vector, std::array, std::span or C array of the items is read in place
- *     a text         a literal, std::string, std::string_view and ecow::text too, unless for a list
- *     others         a container of other whole numbers, or not in one array, is copied first
+ * Arrays. An argument of type `array` is one of these, and may lie in the value that changes:
+ *     a std::vector, std::array, std::span or C array of the items, which is read where it lies
+ *     for bytes and texts an array of other bytes, a literal, std::string or std::string_view: too
+ *     for lists and bytes a container of other whole numbers, which is copied first
+ *     any other container of the items, which is copied first
  *
  * Errors. A call that is refused throws, and leaves each value as it was (the strong guarantee):
  *     std::bad_alloc          ECOW_MEMORY
@@ -326,7 +326,7 @@ struct passed_item<Iterator, std::void_t<typename std::iterator_traits<Iterator>
     using type = typename std::iterator_traits<Iterator>::value_type;
 };
 
-/* The same of the iterators of a container. */
+/* The type of what the iterators of a container pass over, or void where it has none. */
 template <typename From, typename = void> struct held_item { using type = void; };
 
 template <typename From>
@@ -429,7 +429,7 @@ class container {};
 
 template <typename Type> constexpr bool is_container = std::is_base_of_v<container, Type>;
 
-/* Whether one is a container, and the other it too, or an array of the same items. */
+/* Whether one is a container of this header, and the other has such items in one array. */
 template <typename Left, typename Right> constexpr bool are_comparable() {
     if constexpr (is_container<Left>) {
         return lends<typename Left::value_type, Right>();
@@ -439,6 +439,10 @@ template <typename Left, typename Right> constexpr bool are_comparable() {
         return false;
     }
 }
+
+/* What a comparison answers, where both can be compared. */
+template <typename Left, typename Right, typename Answer = bool>
+using comparison = std::enable_if_t<are_comparable<Left, Right>(), Answer>;
 
 /* Bytes are unsigned, those of texts too. */
 template <typename Item> int compare_slices(slice<Item> left, slice<Item> right) noexcept {
@@ -710,7 +714,7 @@ public:
         return append(array(first, last));
     }
 
-    /* Room for all comes first, so that no part is refused. */
+    /* Room for all comes first, so that no later part is refused. */
     Self &append(size_type count, value_type item) {
         check(Calls::reserve(&raw, count));
         value_type part[64];
@@ -774,61 +778,6 @@ private:
     }
 };
 
-/* An item of a list, as it was read, and a way to write it. What keeps it can't write by it. */
-template <typename List> class element {
-    using item = typename List::value_type;
-
-public:
-    element(List &whole, std::size_t place) noexcept
-        : list(whole), index(place), read(whole.data()[place]) {}
-
-    element(const element &) = default;
-
-    operator item() const noexcept {
-        return read;
-    }
-
-    item operator=(item written) && {
-        list.set(index, written);
-        return written;
-    }
-
-    item operator=(const element &other) && {
-        return std::move(*this) = other.read;
-    }
-
-    item operator+=(item added) && {
-        return std::move(*this) = static_cast<item>(read + added);
-    }
-
-    item operator-=(item taken) && {
-        return std::move(*this) = static_cast<item>(read - taken);
-    }
-
-    item operator++() && {
-        return std::move(*this) += 1;
-    }
-
-    item operator--() && {
-        return std::move(*this) -= 1;
-    }
-
-    item operator++(int) && {
-        std::move(*this) += 1;
-        return read;
-    }
-
-    item operator--(int) && {
-        std::move(*this) -= 1;
-        return read;
-    }
-
-private:
-    List &list;
-    std::size_t index;
-    item read;
-};
-
 } // namespace detail
 
 /* Numbers: `ecow::list` and `ecow::bytes`. */
@@ -842,7 +791,6 @@ public:
     using base::erase;
     using base::insert;
     using base::operator=;
-    using base::operator[];
     using typename base::const_iterator;
     using typename base::const_reference;
     using typename base::iterator;
@@ -857,12 +805,6 @@ public:
         return std::vector<Item>(this->begin(), this->end());
     }
 
-    /* The item, which an assignment to what is returned writes. `index` has to be below the size:
-     * only the writing checks it. */
-    detail::element<basic_list> operator[](size_type index) noexcept {
-        return detail::element<basic_list>(*this, index);
-    }
-
     /* Writes the item at `index`. Throws std::out_of_range from the size on. */
     void set(size_type index, Item item) {
         detail::check(own::set(&this->raw, index, item));
@@ -875,6 +817,10 @@ public:
     const_reference emplace_back(Item item = Item()) {
         push_back(item);
         return this->back();
+    }
+
+    iterator emplace(const_iterator position, Item item = Item()) {
+        return insert(position, item);
     }
 
     iterator insert(const_iterator position, Item item) {
@@ -944,6 +890,10 @@ public:
         return append(std::string_view(start, count));
     }
 
+    size_type length() const noexcept {
+        return size();
+    }
+
     static bool is_utf8(std::string_view tested) noexcept {
         return ecow_is_utf8(tested.data(), tested.size());
     }
@@ -953,6 +903,10 @@ public:
         size_type count = 0;
         const char *start = ecow_text_slice(&raw, &count);
         return std::string_view(start, count);
+    }
+
+    operator std::string() const {
+        return std::string(view());
     }
 
     bool is_boundary(size_type index) const noexcept {
@@ -1149,46 +1103,40 @@ std::basic_ostream<char, Traits> &operator<<(std::basic_ostream<char, Traits> &o
 }
 
 /* The order of the items, one by one; bytes are unsigned. */
-template <typename Left, typename Right,
-          std::enable_if_t<detail::are_comparable<Left, Right>(), int> = 0>
-bool operator==(const Left &left, const Right &right) noexcept {
+template <typename Left, typename Right>
+detail::comparison<Left, Right> operator==(const Left &left, const Right &right) noexcept {
     return detail::are_equal(left, right);
 }
 
 #ifdef __cpp_impl_three_way_comparison
-template <typename Left, typename Right,
-          std::enable_if_t<detail::are_comparable<Left, Right>(), int> = 0>
-std::strong_ordering operator<=>(const Left &left, const Right &right) noexcept {
+template <typename Left, typename Right>
+detail::comparison<Left, Right, std::strong_ordering> operator<=>(const Left &left,
+                                                                  const Right &right) noexcept {
     return detail::compare(left, right) <=> 0;
 }
 #else
-template <typename Left, typename Right,
-          std::enable_if_t<detail::are_comparable<Left, Right>(), int> = 0>
-bool operator!=(const Left &left, const Right &right) noexcept {
+template <typename Left, typename Right>
+detail::comparison<Left, Right> operator!=(const Left &left, const Right &right) noexcept {
     return !detail::are_equal(left, right);
 }
 
-template <typename Left, typename Right,
-          std::enable_if_t<detail::are_comparable<Left, Right>(), int> = 0>
-bool operator<(const Left &left, const Right &right) noexcept {
+template <typename Left, typename Right>
+detail::comparison<Left, Right> operator<(const Left &left, const Right &right) noexcept {
     return detail::compare(left, right) < 0;
 }
 
-template <typename Left, typename Right,
-          std::enable_if_t<detail::are_comparable<Left, Right>(), int> = 0>
-bool operator<=(const Left &left, const Right &right) noexcept {
+template <typename Left, typename Right>
+detail::comparison<Left, Right> operator<=(const Left &left, const Right &right) noexcept {
     return detail::compare(left, right) <= 0;
 }
 
-template <typename Left, typename Right,
-          std::enable_if_t<detail::are_comparable<Left, Right>(), int> = 0>
-bool operator>(const Left &left, const Right &right) noexcept {
+template <typename Left, typename Right>
+detail::comparison<Left, Right> operator>(const Left &left, const Right &right) noexcept {
     return detail::compare(left, right) > 0;
 }
 
-template <typename Left, typename Right,
-          std::enable_if_t<detail::are_comparable<Left, Right>(), int> = 0>
-bool operator>=(const Left &left, const Right &right) noexcept {
+template <typename Left, typename Right>
+detail::comparison<Left, Right> operator>=(const Left &left, const Right &right) noexcept {
     return detail::compare(left, right) >= 0;
 }
 #endif

@@ -22,18 +22,23 @@ template <typename Item, typename = void> constexpr bool has_kind = false;
 template <typename Item>
 constexpr bool has_kind<Item, std::void_t<decltype(sizeof(ecow::detail::list_calls<Item>))>> = true;
 
-/* What std::sort needs. */
+/* What `*place = item` and std::sort need. */
 template <typename Value>
 constexpr bool writes_through_iterators =
     std::is_assignable_v<decltype(*std::declval<Value &>().begin()), typename Value::value_type>;
+
+/* What `value[0] = item` needs. */
+template <typename Value>
+constexpr bool writes_by_index =
+    std::is_assignable_v<decltype(std::declval<Value &>()[0]), typename Value::value_type>;
 
 static void texts() {
     ecow::text greeting = "hello", name("Ada");
     greeting = "Hello";
     CHECK(greeting == "Hello" && greeting != name && name < greeting);
-    std::string copied(greeting);
+    std::string copied(greeting), implicit = greeting;
     std::string_view seen = greeting;
-    CHECK(copied == "Hello" && seen.size() == 5);
+    CHECK(copied == "Hello" && implicit == copied && seen.size() == 5);
     auto line = greeting + ", ";
     line += name;
     line += std::string(" and ");
@@ -73,8 +78,8 @@ static void lists() {
     CHECK(zeros == ten && zeros.size() == 10 && none.empty() && zeros[9] == 0);
     none.resize(10);
     CHECK(none == zeros);
-    list[0] = 4;
-    list[1] += 5;
+    list.set(0, 4);
+    list.set(1, list[1] + 5);
     CHECK(list == ecow::list{4, 6, 2} && same[0] == 3 && list.front() == 4 && list.back() == 2);
     list.insert(list.begin(), 7);
     list.erase(list.begin() + 1);
@@ -123,12 +128,13 @@ static void values_of_c() {
 }
 
 static_assert(!has_c_str<ecow::text> && has_c_str<std::string>);
-static_assert(!std::is_convertible_v<ecow::text, std::string>);
 static_assert(!has_capacity<ecow::list> && has_capacity<std::string>);
 static_assert(
     !writes_through_iterators<ecow::list> && writes_through_iterators<std::vector<std::int64_t>>);
 static_assert(!has_kind<double> && has_kind<std::int64_t>);
-static_assert(!std::is_assignable_v<decltype(std::declval<ecow::text &>()[0]), char>);
+static_assert(
+    !writes_by_index<
+        ecow::list> && !writes_by_index<ecow::text> && writes_by_index<std::vector<std::int64_t>>);
 static_assert(!std::is_invocable_v<decltype(&ecow::list::take), ecow::list, ecow::list::iterator>);
 
 int main() {

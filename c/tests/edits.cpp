@@ -64,7 +64,7 @@ public:
         const std::size_t taken = below(seed, other.model.size() - from + 1);
         const item *lent = other.value.data() + from;
         const item one_item = is_text ? item('a' + below(seed, 26)) : item(seed());
-        const std::size_t times = below(seed, 4);
+        const std::size_t times = below(seed, 4) * 33;
         /* Items of the other value, and where they are put. */
         scratch.assign(other.model, from, taken);
         scratch.is_whole =
@@ -223,7 +223,7 @@ private:
         item taken = 0;
         switch (below(seed, 4)) {
         case 0:
-            if (outcome_of([&] { value[index] = number; }) == done) {
+            if (outcome_of([&] { value.set(index, number); }) == done) {
                 model[index] = number;
             }
             break;
