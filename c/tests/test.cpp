@@ -254,7 +254,7 @@ template <typename Value> static void items() {
     value.push_back(7);
     CHECK(value.emplace_back(4) == 4 && value.emplace_back() == 0);
     CHECK(index_of(value, value.emplace(value.begin() + 1, 6)) == 1 && value[1] == 6);
-    CHECK(value.erase(value.begin() + 1) == value.begin() + 1);
+    CHECK(index_of(value, value.erase(value.begin() + 1)) == 1);
     value.set(1, 9);
     CHECK(value == Value{3, 9, 2, 7, 4, 0} && value.pop_back() == 0 && value.take(1) == 9);
     CHECK(value == Value{3, 2, 7, 4} && kept == Value{3, 1, 2});
