@@ -1,5 +1,5 @@
--- What the owners of a block keep alive and see, however they are counted, at elements of the row R.
--- The record i has the block's parts.
+-- What the owners of a block keep alive and see, however they are counted, at elements of the row
+-- R. The record i has the block's parts.
 use Rattle.std.specs.Prelude.{◌≡◌}
 use base.Fml.{Lft, Fml, fsep}
 use denote.RattleType.{RattleType}

@@ -94,7 +94,8 @@ module _ (R R' : RattleType) (h : R.Denot → R'.Denot) (a : Alike R R' h) where
       λ i. head_rest t (one_value R (a.mir_same i) (λ _. ftrue) (λ _ _. nothing) gnil) p
       (fields_over x) c
 
-  pub fields_lent : (p : Ptr) (x : Fields R.Denot) → title_shares R' p (fields_over x) ≡ title_shares R p x
+  pub fields_lent : (p : Ptr) (x : Fields R.Denot)
+      → title_shares R' p (fields_over x) ≡ title_shares R p x
   unfolding part_of
   fields_lent p x =
       λ i. title_shares (one_value R (a.mir_same i) (λ _. ftrue) (λ _ _. nothing) gnil) p
