@@ -1,7 +1,7 @@
 //! Where bytes stand: in the value itself, or in a vector.
-ghost use Rattle.std.specs.Prelude.{◌≡◌, ◌+◌, ◌<◌, ◌≤◌, ◌↔◌, [], length, take, remove, slice_get, Some, true, false, IsOk, IfOk, IfErr, OnErr, IsSome, IfSome};
+ghost use Rattle.std.specs.Prelude.{◌≡◌, ◌+◌, ◌-◌, ◌<◌, ◌≤◌, ◌↔◌, [], length, take, remove, slice_get, Some, true, false, IsOk, IfOk, IfErr, OnErr, IsSome, IfSome};
 ghost use Rattle.std.specs.Borrow.{sem};
-ghost use Rattle.std.specs.List.{insert_slice};
+ghost use Rattle.std.specs.List.{replace_range};
 ghost use Rattle.ecow_values.specs.Plain.{plain_bytes};
 
 use crate::cells::Cells;
@@ -129,19 +129,22 @@ impl<const N: usize> Form<N> {
         }
     }
 
-    /// Puts `bytes` in before the inline byte at `index`.
-    pub(crate) fn insert_slice(&mut self, index: usize, bytes: &[u8])
+    /// Puts `bytes` in place of the inline bytes from `start` up to `end`.
+    pub(crate) fn replace_range(&mut self, start: usize, end: usize, bytes: &[u8])
         requires inline { (plain_of self.old).inline ≡ true }
-        requires in_bounds { index ≤ length (plain_of self.old).bytes }
-        requires fits { length (plain_of self.old).bytes + length bytes.now ≤ N }
+        requires ordered { start ≤ end }
+        requires in_bounds { end ≤ length (plain_of self.old).bytes }
+        requires fits { length (plain_of self.old).bytes - (end - start) + length bytes.now ≤ N }
         ensures { plain_of self.new
-            ≡ plain_bytes (insert_slice (plain_of self.old).bytes index bytes.now) true }
+            ≡ plain_bytes (replace_range (plain_of self.old).bytes start end bytes.now) true }
     {
         let len = self.len();
-        self.set_len(len + bytes.len());
+        let new_len = len - (end - start) + bytes.len();
+        self.set_len(len.max(new_len));
         let all = self.inline_mut();
-        all.copy_within(index..len, index + bytes.len());
-        all[index..index + bytes.len()].copy_from_slice(bytes);
+        all.copy_within(end..len, start + bytes.len());
+        all[start..start + bytes.len()].copy_from_slice(bytes);
+        self.truncate(new_len);
     }
 
     /// Takes the inline byte at `index`.

@@ -20,6 +20,7 @@ pub(crate) enum Bytes {
     Insert,
     InsertLast,
     InsertSlice,
+    ReplaceRange,
     InsertSliceLast,
     ExtendFromSlice,
     Extend,
@@ -63,7 +64,7 @@ fn repeated(call: Bytes, name: &'static str, brings: usize, times: usize) -> Row
     small::repeated(Call::Bytes(call), name, brings, times)
 }
 
-fn changes() -> [Row; 29] {
+fn changes() -> [Row; 31] {
     [
         row_of(
             Bytes::Read,
@@ -76,6 +77,8 @@ fn changes() -> [Row; 29] {
         row_of(Bytes::InsertSlice, "b.insert_slice(0, 2)", 2, 0),
         row_of(Bytes::InsertSlice, "b.insert_slice(0, none)", 0, 0),
         row_of(Bytes::InsertSlice, "b.insert_slice(0, 1000)", 1000, 1000),
+        row_of(Bytes::ReplaceRange, "b.replace_range(..2, 4)", 4, 0),
+        row_of(Bytes::ReplaceRange, "b.replace_range(..2, none)", 0, 0),
         row_of(Bytes::ExtendFromSlice, "b.extend_from_slice(2)", 2, 0),
         row_of(Bytes::ExtendFromSlice, "b.extend_from_slice(none)", 0, 0),
         row_of(
@@ -293,6 +296,11 @@ fn push_reserved<const N: usize>(value: &mut SmallBytes<N>) -> Result<(), EcoErr
     value.push(b'x')
 }
 
+fn replace<const N: usize>(value: &mut SmallBytes<N>, bytes: &[u8]) -> Result<(), EcoError> {
+    let end = value.len().min(2);
+    value.replace_range(..end, bytes)
+}
+
 /// Makes a call that adds bytes.
 fn add<const N: usize>(
     call: Bytes,
@@ -303,6 +311,7 @@ fn add<const N: usize>(
         Bytes::Push => value.push(b'x'),
         Bytes::Insert => value.insert(0, b'x'),
         Bytes::InsertSlice => value.insert_slice(0, bytes),
+        Bytes::ReplaceRange => replace(value, bytes),
         Bytes::ExtendFromSlice => value.extend_from_slice(bytes),
         Bytes::InsertLast => value.insert(value.len(), b'x'),
         Bytes::InsertSliceLast => value.insert_slice(value.len(), bytes),

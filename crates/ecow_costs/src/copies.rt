@@ -14,6 +14,7 @@ enum Call {
     ExtendWithin(usize),
     Insert(usize),
     InsertLast(usize),
+    Replace(usize),
     Write(usize),
     Compare,
 }
@@ -21,7 +22,7 @@ enum Call {
 /// A call, how it is written, and how many elements there must be.
 type Row = (Call, &'static str, usize);
 
-fn rows_once() -> [Row; 13] {
+fn rows_once() -> [Row; 15] {
     [
         (Call::Extend(2), "extend_from_copied(2)", 0),
         (Call::Extend(0), "extend_from_copied(none)", 0),
@@ -29,6 +30,8 @@ fn rows_once() -> [Row; 13] {
         (Call::ExtendWithin(0), "extend_from_within(..0)", 0),
         (Call::Insert(2), "insert_slice(0, 2)", 0),
         (Call::Insert(0), "insert_slice(0, none)", 0),
+        (Call::Replace(4), "replace_range(..2, 4)", 0),
+        (Call::Replace(0), "replace_range(..2, none)", 0),
         (Call::Write(2), "write(2)", 0),
         (Call::Write(0), "write(none)", 0),
         (Call::Compare, "==, cmp, hash", 0),
@@ -69,6 +72,11 @@ fn extend_within_capacity(list: &mut EcoVec<u8>, len: usize) -> Result<(), EcoEr
     list.extend_from_within(..len)
 }
 
+fn replace(list: &mut EcoVec<u8>, piece: &[u8]) -> Result<(), EcoError> {
+    let end = list.len().min(2);
+    list.replace_range(..end, piece)
+}
+
 fn write(list: &mut EcoVec<u8>, piece: &[u8]) -> Result<(), EcoError> {
     match list.write(piece) {
         Ok(_) => Ok(()),
@@ -89,6 +97,7 @@ fn make(call: Call, list: &mut EcoVec<u8>, other: &EcoVec<u8>) -> Result<(), Eco
         Call::ExtendWithin(len) => extend_within_capacity(list, len),
         Call::Insert(len) => list.insert_slice(0, front(len)),
         Call::InsertLast(len) => list.insert_slice(list.len(), front(len)),
+        Call::Replace(len) => replace(list, front(len)),
         Call::Write(len) => write(list, front(len)),
         Call::Compare => {
             compare(list, other);

@@ -26,6 +26,7 @@ pub(crate) enum Text {
     Insert(char),
     InsertLast,
     InsertStr,
+    ReplaceRange,
     InsertStrLast,
     ExtendChars,
     ExtendStrs,
@@ -86,7 +87,7 @@ fn repeated(call: Text, name: &'static str, brings: usize, times: usize) -> Row 
     small::repeated(Call::Text(call), name, brings, times)
 }
 
-fn additions() -> [Row; 22] {
+fn additions() -> [Row; 24] {
     [
         row_of(Text::Push('x'), "t.push(c)", 0, 0),
         row_of(Text::Push('é'), "t.push(é)", 0, 0),
@@ -98,6 +99,8 @@ fn additions() -> [Row; 22] {
         row_of(Text::InsertStr, "t.insert_str(0, 2)", 2, 0),
         row_of(Text::InsertStr, "t.insert_str(0, none)", 0, 0),
         row_of(Text::InsertStr, "t.insert_str(0, 1000)", 1000, 1000),
+        row_of(Text::ReplaceRange, "t.replace_range(..2, 4)", 4, 0),
+        row_of(Text::ReplaceRange, "t.replace_range(..2, none)", 0, 0),
         row_of(Text::ExtendChars, "t.extend_chars(2)", 2, 0),
         row_of(Text::ExtendChars, "t.extend_chars(none)", 0, 0),
         row_of(Text::ExtendChars, "t.extend_chars(1000)", 1000, 1000),
@@ -319,6 +322,14 @@ fn insert_str<const N: usize>(text: &mut SmallText<N>, more: &str) -> Result<(),
     text.insert_str(0, more)
 }
 
+fn replace<const N: usize>(text: &mut SmallText<N>, more: &str) -> Result<(), EcoError> {
+    let end = text.len().min(2);
+    if !text.is_char_boundary(0) || !text.is_char_boundary(end) {
+        return Ok(());
+    }
+    text.replace_range(..end, more)
+}
+
 fn insert_last<const N: usize>(text: &mut SmallText<N>, more: &str) -> Result<(), EcoError> {
     let end = text.len();
     if !text.is_char_boundary(end) {
@@ -360,6 +371,7 @@ fn add<const N: usize>(call: Text, text: &mut SmallText<N>, more: &str) -> Resul
         Text::PushStr => text.push_str(more),
         Text::Insert(c) => insert(text, c),
         Text::InsertStr => insert_str(text, more),
+        Text::ReplaceRange => replace(text, more),
         Text::ExtendChars => text.extend_chars(more.chars()),
         Text::ExtendStrs => text.extend_strs(Some(more)),
         Text::ExtendManyStrs => text.extend_strs(repeat_n(more, PIECES)),

@@ -4,5 +4,7 @@ pub mod Items
 pub mod Kept
 pub mod Loans
 pub mod Pieces
+pub mod Ranges
+pub mod Replaced
 pub mod ResultTyped
 pub mod Views

@@ -1,7 +1,7 @@
 -- The characters of bytes that are UTF-8, and their byte indices.
 use Rattle.std.proofs.Common.{◌≡◌, ℕ, zero, suc, ◌&&◌, ◌+◌, ◌-◌, ◌<◌, ◌≤◌, Bool, true, false, List, [], ◌∷◌, ◌++◌, length, take, drop, None, Some, refl, sym, ap, ◌∙◌, subst, arith, inl, inr, append-nil, append_assoc, length-append, length-take-le, take-append-drop, IsUtf8}
 use Rattle.std.specs.Prelude.{slice_get, ◌==◌}
-use Rattle.std.specs.List.{insert, insert_slice}
+use Rattle.std.specs.List.{insert, insert_slice, replace_range}
 use Rattle.std.specs.Char.{len_utf8, encode_utf8, IsScalar}
 use Rattle.std.specs.Str.{chars, encode_utf8_all, all_scalars, is_utf8, IsCharBoundary}
 use Rattle.std.proofs.lemmas.Str.{chars-nil, chars-encodes, encodes-chars, scalars-chars, IsUtf8-append, encodes-append, IsUtf8-nil, IsUtf8-take, IsUtf8-drop, IsCharBoundary-at_seam, len_utf8_bounds, encodes_same, chars_past_char, IsUtf8-encode, IsUtf8-from_is_utf8}
@@ -151,32 +151,40 @@ last_of cs ds c e =
     item_at [] x ys = refl
     item_at (y ∷ xs) x ys = item_at xs x ys
 
--- a text with another put in at a boundary, as bytes and as characters
-insert_bytes : (bs ds : List ℕ) (index : ℕ) → AreUtf8 bs → AreUtf8 ds → (at : IsBoundary (chars bs) index) → insert_slice bs index ds ≡ encode_utf8_all (insert_slice (chars bs) at.front (chars ds))
-insert_bytes bs ds index text put at =
+-- a text with another in place of what stands between two boundaries, as bytes and as characters
+replaced_bytes : (bs ds : List ℕ) (start end : ℕ) → AreUtf8 bs → AreUtf8 ds → (at : IsBoundary (chars bs) start) (to : IsBoundary (chars bs) end)
+    → replace_range bs start end ds ≡ encode_utf8_all (replace_range (chars bs) at.front to.front (chars ds))
+replaced_bytes bs ds start end text put at to =
     let front = take at.front (chars bs) in
-    let back = drop at.front (chars bs) in
-    let before = front_bytes bs index text at in
-    let after : drop index bs ≡ encode_utf8_all back =
-    ap (drop index) (sym text.spelled ∙ split_encoded (chars bs) at.front) ∙ drop_at (encode_utf8_all front) _ index at.ends in
+    let back = drop to.front (chars bs) in
+    let before = front_bytes bs start text at in
+    let after : drop end bs ≡ encode_utf8_all back =
+    ap (drop end) (sym text.spelled ∙ split_encoded (chars bs) to.front) ∙ drop_at (encode_utf8_all (take to.front (chars bs))) _ end to.ends in
     rw (before, after) (sym (encodes-append (front ++ chars ds) back ∙ ap (λ l. l ++ encode_utf8_all back) (encodes-append front (chars ds) ∙ ap (λ l. encode_utf8_all front ++ l) put.spelled)))
 
-insert_valid : (bs ds : List ℕ) (k : ℕ) → AreUtf8 bs → AreUtf8 ds → AreChars (insert_slice (chars bs) k (chars ds))
-insert_valid bs ds k text put =
-    let parts = split_valid (chars bs) k text.valid in
-    AreChars-joined (take k (chars bs) ++ chars ds) (drop k (chars bs)) (AreChars-joined (take k (chars bs)) (chars ds) parts.0 put.valid) parts.1
+replaced_valid : (bs ds : List ℕ) (j k : ℕ) → AreUtf8 bs → AreUtf8 ds → AreChars (replace_range (chars bs) j k (chars ds))
+replaced_valid bs ds j k text put =
+    let before = (split_valid (chars bs) j text.valid).0 in
+    let after = (split_valid (chars bs) k text.valid).1 in
+    AreChars-joined (take j (chars bs) ++ chars ds) (drop k (chars bs)) (AreChars-joined (take j (chars bs)) (chars ds) before put.valid) after
 
-pub AreUtf8-insert : (bs ds : List ℕ) (index : ℕ) → AreUtf8 bs → IsUtf8 ds → is_boundary (chars bs) index ≡ true → AreUtf8 (insert_slice bs index ds)
-AreUtf8-insert bs ds index text put passes =
-    let at = passes_boundary (chars bs) index passes in
-    rw (insert_bytes bs ds index text (AreUtf8-from ds put) at) (AreUtf8-encoded _ (insert_valid bs ds at.front text (AreUtf8-from ds put)))
+pub AreUtf8-replace : (bs ds : List ℕ) (start end : ℕ) → AreUtf8 bs → IsUtf8 ds → is_boundary (chars bs) start ≡ true → is_boundary (chars bs) end ≡ true
+    → AreUtf8 (replace_range bs start end ds)
+AreUtf8-replace bs ds start end text put begins ends =
+    let at = passes_boundary (chars bs) start begins in
+    let to = passes_boundary (chars bs) end ends in
+    rw (replaced_bytes bs ds start end text (AreUtf8-from ds put) at to) (AreUtf8-encoded _ (replaced_valid bs ds at.front to.front text (AreUtf8-from ds put)))
 
-pub chars-insert : (bs ds : List ℕ) (index : ℕ) → AreUtf8 bs → IsUtf8 ds → is_boundary (chars bs) index ≡ true → chars (insert_slice bs index ds) ≡ insert_slice (chars bs) (chars_before (chars bs) index) (chars ds)
-chars-insert bs ds index text put passes =
-    let at = passes_boundary (chars bs) index passes in
+pub chars-replace : (bs ds : List ℕ) (start end : ℕ) → AreUtf8 bs → IsUtf8 ds → is_boundary (chars bs) start ≡ true → is_boundary (chars bs) end ≡ true
+    → chars (replace_range bs start end ds) ≡ replace_range (chars bs) (chars_before (chars bs) start) (chars_before (chars bs) end) (chars ds)
+chars-replace bs ds start end text put begins ends =
+    let at = passes_boundary (chars bs) start begins in
+    let to = passes_boundary (chars bs) end ends in
     let utf8 = AreUtf8-from ds put in
-    let place : chars_before (chars bs) index ≡ at.front = rw at.ends at (chars_before-front (chars bs) at.front at.fits) in
-    ap chars (insert_bytes bs ds index text utf8 at) ∙ chars-encodes _ (insert_valid bs ds at.front text utf8) ∙ ap (λ k. insert_slice (chars bs) k (chars ds)) (sym place)
+    let first : chars_before (chars bs) start ≡ at.front = rw at.ends at (chars_before-front (chars bs) at.front at.fits) in
+    let last : chars_before (chars bs) end ≡ to.front = rw to.ends at (chars_before-front (chars bs) to.front to.fits) in
+    ap chars (replaced_bytes bs ds start end text utf8 at to) ∙ chars-encodes _ (replaced_valid bs ds at.front to.front text utf8)
+    ∙ (λ i. replace_range (chars bs) (sym first i) (sym last i) (chars ds))
 
 -- one character put in
 pub insert_one : (cs : List ℕ) (k c : ℕ) → insert_slice cs k (c ∷ []) ≡ insert cs k c

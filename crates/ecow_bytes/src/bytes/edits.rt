@@ -1,13 +1,16 @@
 //! The calls that change bytes in place. Inline bytes are changed where they are, and of spilled
 //! ones the vector is.
-ghost use Rattle.std.specs.Prelude.{◌≡◌, ◌+◌, ◌-◌, ◌<◌, ◌≤◌, ◌↔◌, [], length, take, true, false, IsOk, IfOk, IfErr, OnOk, OnErr, IsErrOf, Some, insert, remove, slice_get, slice_set};
-ghost use Rattle.std.specs.List.{insert_slice};
+ghost use Rattle.std.specs.Prelude.{◌≡◌, ◌+◌, ◌-◌, ◌<◌, ◌≤◌, ◌↔◌, [], length, take, true, false, IsOk, IfOk, IfErr, OnOk, OnErr, IsErrOf, IsSome, Some, insert, remove, slice_get, slice_set};
+ghost use Rattle.std.specs.List.{insert_slice, replace_range};
+ghost use Rattle.ecow_base.specs.Range.{range_of};
+ghost use Rattle.ecow_list.specs.Ranges.{AtRange};
 ghost use Rattle.ecow_values.specs.Inline.{inline_after, inline_shrunk};
 
 use crate::bytes::SmallBytes;
 use crate::form::Form;
-use ecow_base::MAX_LEN;
+use ecow_base::{MAX_LEN, resolve};
 use ecow_list::EcoError;
+use std::ops::RangeBounds;
 
 impl<const N: usize> SmallBytes<N> {
     /// Takes the last byte: `None` where there is none, which changes nothing. Never refused for
@@ -101,13 +104,52 @@ impl<const N: usize> SmallBytes<N> {
         ensures free { OnErr result (inline_after N self.old.inline (length self.old.bytes)
             (length bytes.now) ≡ false) }
     {
+        self.replace_range(index..index, bytes)
+    }
+
+    /// Puts `bytes` in place of the bytes of `range`, which `range_in` tests: all, or none where it
+    /// is refused. They are inline where they fit, which is never refused, and else spilled. In a
+    /// spilled value that shares nothing, those before the range stay where they are. Spilled bytes
+    /// that are shared are copied first, also where nothing changes.
+    ///
+    /// A refusal changes nothing: `Capacity` where the new length passes 2^63 - 1, and else
+    /// `Memory`.
+    ///
+    /// This project's own, named as that of std's `String`.
+    #[inline]
+    #[tactic(auto, using(crate::proofs::Limits::past_limit))]
+    pub fn replace_range<R: RangeBounds<usize>>(
+        &mut self,
+        range: R,
+        bytes: &[u8],
+    ) -> Result<(), EcoError>
+        requires known { R.has_bounds range }
+        requires in_range { IsSome
+            (range_of (R.start_bound range, R.end_bound range) (length self.old.bytes)) }
+        ensures bytes { OnOk result
+            (AtRange (R.start_bound range, R.end_bound range) (length self.old.bytes)
+            (λ start end. self.new.bytes ≡ replace_range self.old.bytes start end bytes.now)) }
+        ensures mode { OnOk result
+            (AtRange (R.start_bound range, R.end_bound range) (length self.old.bytes)
+            (λ start end. self.new.inline ≡ inline_after N self.old.inline
+            (length self.old.bytes - (end - start)) (length bytes.now))) }
+        ensures unchanged { OnErr result (self.new ≡ self.old) }
+        ensures capacity { AtRange (R.start_bound range, R.end_bound range) (length self.old.bytes)
+            (λ start end. IsErrOf result EcoError.Capacity
+            ↔ (MAX_LEN < length self.old.bytes - (end - start) + length bytes.now)) }
+        ensures free { OnErr result
+            (AtRange (R.start_bound range, R.end_bound range) (length self.old.bytes)
+            (λ start end. inline_after N self.old.inline (length self.old.bytes - (end - start))
+            (length bytes.now) ≡ false)) }
+    {
+        let (start, end) = resolve(&range, self.len()).unwrap();
         if let Form::Spilled(vec) = &mut self.form {
-            return vec.insert_slice(index, bytes);
+            return vec.replace_range(start..end, bytes);
         }
-        if bytes.len() > N - self.form.len() {
-            return self.spill_with(index, bytes);
+        if bytes.len() > N - (self.form.len() - (end - start)) {
+            return self.spill_with(start, end, bytes);
         }
-        self.form.insert_slice(index, bytes);
+        self.form.replace_range(start, end, bytes);
         Ok(())
     }
 

@@ -1,8 +1,8 @@
 //! Appending bytes. The case in which they fit inline is short, so that it is inlined; the others
 //! are out of line.
-ghost use Rattle.std.specs.Prelude.{◌≡◌, ℕ, List, ◌+◌, ◌<◌, ◌≤◌, ◌↔◌, [], ◌∷◌, ◌++◌, length, true, false, IsOk, IfOk, OnOk, OnErr, IsErrOf};
+ghost use Rattle.std.specs.Prelude.{◌≡◌, ℕ, List, ◌+◌, ◌-◌, ◌<◌, ◌≤◌, ◌↔◌, [], ◌∷◌, ◌++◌, length, true, false, IsOk, IfOk, OnOk, OnErr, IsErrOf};
 ghost use Rattle.std.specs.Iterator.{IsFinite, ExtendsWithItems};
-ghost use Rattle.std.specs.List.{insert_slice};
+ghost use Rattle.std.specs.List.{replace_range};
 ghost use Rattle.ecow_list.specs.Vectors.{Appends, ExtendsBy, GivesFirst};
 ghost use Rattle.ecow_values.specs.Inline.{inline_after};
 
@@ -42,7 +42,7 @@ impl<const N: usize> SmallBytes<N> {
                 return Ok(());
             }
         };
-        self.spill_with(end, &[byte])
+        self.spill_with(end, end, &[byte])
     }
 
     /// Appends `bytes`: all, or none where it is refused. They are inline where they fit, which is
@@ -73,7 +73,7 @@ impl<const N: usize> SmallBytes<N> {
         }
         let len = self.form.len();
         if bytes.len() > N - len {
-            return self.spill_with(len, bytes);
+            return self.spill_with(len, len, bytes);
         }
         self.form.set_len(len + bytes.len());
         let all = self.form.inline_mut();
@@ -123,24 +123,34 @@ impl<const N: usize> SmallBytes<N> {
         Ok(())
     }
 
-    /// Spills inline bytes, and puts `bytes`, with which they don't fit inline, in at `index`.
+    /// Spills inline bytes, and puts `bytes`, with which they don't fit inline, in place of those
+    /// from `start` up to `end`.
     #[cold]
     #[inline(never)]
-    pub(super) fn spill_with(&mut self, index: usize, bytes: &[u8]) -> Result<(), EcoError>
-        requires in_bounds { index ≤ length self.old.bytes }
+    pub(super) fn spill_with(
+        &mut self,
+        start: usize,
+        end: usize,
+        bytes: &[u8],
+    ) -> Result<(), EcoError>
+        requires ordered { start ≤ end }
+        requires in_bounds { end ≤ length self.old.bytes }
         requires inline { self.old.inline ≡ true }
-        requires full { N < length self.old.bytes + length bytes.now }
-        ensures bytes { OnOk result (self.new.bytes ≡ insert_slice self.old.bytes index bytes.now) }
+        requires full { N < length self.old.bytes - (end - start) + length bytes.now }
+        ensures bytes { OnOk result
+            (self.new.bytes ≡ replace_range self.old.bytes start end bytes.now) }
         ensures mode { OnOk result (self.new.inline ≡ false) }
         ensures unchanged { OnErr result (self.new ≡ self.old) }
         ensures capacity { IsErrOf result EcoError.Capacity
-            ↔ (MAX_LEN < length self.old.bytes + length bytes.now) }
+            ↔ (MAX_LEN < length self.old.bytes - (end - start) + length bytes.now) }
     {
-        let mut vec = self.spill(bytes.len())?;
-        if index == vec.len() {
+        let len = self.form.len();
+        let new_len = len - (end - start) + bytes.len();
+        let mut vec = self.spill(new_len - len)?;
+        if start == len {
             vec.extend_from_copied(bytes)?;
         } else {
-            vec.insert_slice(index, bytes)?;
+            vec.replace_range(start..end, bytes)?;
         }
         self.form = Form::Spilled(vec);
         Ok(())

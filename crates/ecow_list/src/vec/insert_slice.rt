@@ -1,15 +1,18 @@
-//! Putting several elements in at once.
-ghost use Rattle.std.specs.Prelude.{◌≡◌, ◌+◌, ◌*◌, ◌-◌, ◌^◌, ◌<◌, ◌≤◌, ◌↔◌, length, OnOk, OnErr, IsErrOf, IsTrue};
-ghost use Rattle.std.specs.List.{copy_within, insert_slice};
+//! Putting several elements in at once, also in place of others.
+ghost use Rattle.std.specs.Prelude.{◌≡◌, ◌+◌, ◌*◌, ◌-◌, ◌^◌, ◌<◌, ◌≤◌, ◌↔◌, length, OnOk, OnErr, IsErrOf, IsSome, IsTrue};
+ghost use Rattle.std.specs.List.{copy_within, insert_slice, replace_range};
 ghost use Rattle.std.specs.Mem.{type_size};
+ghost use Rattle.ecow_base.specs.Range.{range_of};
 ghost use Rattle.ecow_block.specs.Contents.{contents};
+ghost use Rattle.ecow_list.specs.Ranges.{AtRange};
 
 use crate::error::EcoError;
 use crate::vec::EcoVec;
 use crate::vec::own::{Copies, Room};
-use ecow_base::MAX_LEN;
+use ecow_base::{MAX_LEN, resolve};
 use ecow_block::Block;
 use std::mem::size_of_val;
+use std::ops::RangeBounds;
 
 impl<T: Clone + Copy> EcoVec<T> {
     /// Puts copies of `elements` in at `index`, before the element that stands there, in moves of
@@ -18,7 +21,7 @@ impl<T: Clone + Copy> EcoVec<T> {
     /// new length passes 2^63 - 1, and else `Memory`.
     ///
     /// This project's own: the original has it for bytes alone.
-    #[inline(never)]
+    #[inline]
     pub fn insert_slice(&mut self, index: usize, elements: &[T]) -> Result<(), EcoError>
         requires { index ≤ length self.old }
         ensures ok { OnOk result (self.new ≡ insert_slice self.old index elements.now) }
@@ -27,25 +30,61 @@ impl<T: Clone + Copy> EcoVec<T> {
         ensures capacity { IsErrOf result EcoError.Capacity
             ↔ (MAX_LEN < length self.old + length elements.now) }
     {
-        let added = elements.len();
-        Ok(self.edit(Copies, Room::Shared, added, (), |block, ()| {
-            Ok(insert_copies(block, index, elements))
+        self.replace_range(index..index, elements)
+    }
+
+    /// Puts copies of `elements` in place of the elements of `range`, which `range_in` tests, in
+    /// moves of whole pieces: those before the range stay where they are. A shared vector copies
+    /// its own elements first, also where nothing changes, and one that is too full gets a larger
+    /// block. A refusal changes nothing: `Capacity` where the new length passes 2^63 - 1, and else
+    /// `Memory`.
+    ///
+    /// This project's own, named as that of std's `String`.
+    #[inline(never)]
+    pub fn replace_range<R: RangeBounds<usize>>(
+        &mut self,
+        range: R,
+        elements: &[T],
+    ) -> Result<(), EcoError>
+        requires known { R.has_bounds range }
+        requires in_range { IsSome
+            (range_of (R.start_bound range, R.end_bound range) (length self.old)) }
+        ensures ok { OnOk result
+            (AtRange (R.start_bound range, R.end_bound range) (length self.old)
+            (λ start end. self.new ≡ replace_range self.old start end elements.now)) }
+        ensures len { OnOk result
+            (AtRange (R.start_bound range, R.end_bound range) (length self.old)
+            (λ start end. length self.new + (end - start) ≡ length self.old + length elements.now)) }
+        ensures unchanged { OnErr result (self.new ≡ self.old) }
+        ensures capacity { AtRange (R.start_bound range, R.end_bound range) (length self.old)
+            (λ start end. IsErrOf result EcoError.Capacity
+            ↔ (MAX_LEN < length self.old - (end - start) + length elements.now)) }
+    {
+        let (start, end) = resolve(&range, self.len()).unwrap();
+        let more = elements.len().saturating_sub(end - start);
+        Ok(self.edit(Copies, Room::Shared, more, (), |block, ()| {
+            Ok(replace_copies(block, start, end, elements))
         })?)
     }
 }
 
-/// Puts copies of `elements`, for which there is room, in at `index`.
-fn insert_copies<T: Copy>(block: &mut Block<T>, index: usize, elements: &[T])
-    requires in_bounds { index ≤ length block.old.items }
-    requires room { length block.old.items + length elements.now ≤ block.old.capacity }
+/// Puts copies of `elements`, for which there is room, in place of those from `start` up to `end`.
+fn replace_copies<T: Copy>(block: &mut Block<T>, start: usize, end: usize, elements: &[T])
+    requires ordered { start ≤ end }
+    requires in_bounds { end ≤ length block.old.items }
+    requires room { length block.old.items + (length elements.now - (end - start))
+        ≤ block.old.capacity }
     ensures block { block.new
-        ≡ contents (insert_slice block.old.items index elements.now) block.old.capacity }
+        ≡ contents (replace_range block.old.items start end elements.now) block.old.capacity }
 {
     let (len, added) = (block.len(), elements.len());
-    block.extend_copies(elements);
+    let more = added.saturating_sub(end - start);
+    // Room behind the others, which the moves below fill.
+    block.extend_copies(&elements[..more]);
     let all = block.as_mut_slice();
-    copy_up(all, index, len, index + added);
-    all[index..index + added].copy_from_slice(elements);
+    copy_within(all, end, len, start + added);
+    all[start..start + added].copy_from_slice(elements);
+    block.truncate(len - (end - start) + added);
 }
 
 /// Whether there are elements, and each is a byte.
@@ -60,7 +99,7 @@ fn are_bytes<T>(elements: &[T]) -> bool
 
 /// Copies the elements from `start` up to `end` over those from `to` on. Two reads and two writes
 /// do that for 8 to 64 bytes. A loop would write them one by one, and the next call wait for them.
-fn copy_up<T: Copy>(all: &mut [T], start: usize, end: usize, to: usize)
+fn copy_within<T: Copy>(all: &mut [T], start: usize, end: usize, to: usize)
     requires in_order { start ≤ end }
     requires in_bounds { end ≤ length all.old }
     requires room { to + (end - start) ≤ length all.old }

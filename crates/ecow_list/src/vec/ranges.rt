@@ -53,7 +53,7 @@ impl<T: Clone> EcoVec<T> {
     {
         let (start, end) = resolve(&range, self.len()).unwrap();
         let removed = Block::with_capacity(self.alloc, end - start)?;
-        Ok(Drain::new(self.replace_range(start, end, removed)?))
+        Ok(Drain::new(self.exchange(start, end, removed)?))
     }
 
     /// Puts the items of `replace_with` in place of the elements of `range`, which `range_in`
@@ -120,12 +120,12 @@ impl<T: Clone> EcoVec<T> {
         let most = MAX_LEN - (self.len() - (end - start));
         let mut items = replace_with.into_iter();
         let replacement = collect(self.alloc, end - start, 16, most, &mut items)?;
-        Ok(Drain::new(self.replace_range(start, end, replacement)?))
+        Ok(Drain::new(self.exchange(start, end, replacement)?))
     }
 
     /// Puts `replacement` in place of the elements from `start` up to `end`, and gives these in its
     /// memory, in which there is room for them.
-    fn replace_range(
+    fn exchange(
         &mut self,
         start: usize,
         end: usize,

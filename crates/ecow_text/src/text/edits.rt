@@ -1,14 +1,17 @@
 //! The calls that change a text in place.
-ghost use Rattle.std.specs.Prelude.{◌≡◌, ◌+◌, ◌-◌, ◌<◌, ◌≤◌, ◌↔◌, ◌||◌, [], length, take, true, false, IsOk, IfOk, IfErr, OnOk, OnErr, IsErrOf, Some, insert, remove, map, nat_lt, slice_get};
-ghost use Rattle.std.specs.List.{insert_slice};
+ghost use Rattle.std.specs.Prelude.{◌≡◌, ◌+◌, ◌-◌, ◌<◌, ◌≤◌, ◌↔◌, ◌||◌, [], length, take, true, false, IsOk, IfOk, IfErr, OnOk, OnErr, IsErrOf, IsSome, Some, insert, remove, map, nat_lt, slice_get};
+ghost use Rattle.std.specs.List.{insert_slice, replace_range};
 ghost use Rattle.std.specs.Char.{len_utf8, to_ascii_lowercase, to_ascii_uppercase};
 ghost use Rattle.std.specs.Str.{chars};
+ghost use Rattle.ecow_base.specs.Range.{range_of};
+ghost use Rattle.ecow_list.specs.Ranges.{AtRange};
 ghost use Rattle.ecow_values.specs.Inline.{inline_after, inline_shrunk};
 ghost use Rattle.ecow_values.specs.Utf8.{utf8_len, chars_before, is_boundary};
 
 use crate::text::SmallText;
-use ecow_base::MAX_LEN;
+use ecow_base::{MAX_LEN, resolve};
 use ecow_list::EcoError;
+use std::ops::RangeBounds;
 
 impl<const N: usize> SmallText<N> {
     /// Takes the last character: `None` where there is none, which changes nothing. Never refused
@@ -97,6 +100,53 @@ impl<const N: usize> SmallText<N> {
             (length text.now) ≡ false) }
     {
         self.bytes.insert_slice(index, text.as_bytes())?;
+        Ok(())
+    }
+
+    /// Puts `text` in place of the bytes of `range`, which `range_in` tests and which begins and
+    /// ends at boundaries: all, or nothing where it is refused. It is inline where it fits, which
+    /// is never refused, and else spilled. In a spilled text that shares nothing, what stands
+    /// before the range stays where it is. A spilled text that is shared is copied first, also
+    /// where nothing changes.
+    ///
+    /// A refusal changes nothing: `Capacity` where the new length passes 2^63 - 1, and else
+    /// `Memory`.
+    ///
+    /// This project's own: the call of std's `String`, which the original lacks.
+    #[inline]
+    pub fn replace_range<R: RangeBounds<usize>>(
+        &mut self,
+        range: R,
+        text: &str,
+    ) -> Result<(), EcoError>
+        requires known { R.has_bounds range }
+        requires in_range { IsSome
+            (range_of (R.start_bound range, R.end_bound range) (utf8_len self.old.chars)) }
+        requires boundaries { AtRange (R.start_bound range, R.end_bound range)
+            (utf8_len self.old.chars)
+            (λ start end. (is_boundary self.old.chars start ≡ true)
+            × (is_boundary self.old.chars end ≡ true)) }
+        ensures chars { OnOk result
+            (AtRange (R.start_bound range, R.end_bound range) (utf8_len self.old.chars)
+            (λ start end. self.new.chars ≡ replace_range self.old.chars
+            (chars_before self.old.chars start) (chars_before self.old.chars end)
+            (chars text.now))) }
+        ensures mode { OnOk result
+            (AtRange (R.start_bound range, R.end_bound range) (utf8_len self.old.chars)
+            (λ start end. self.new.inline ≡ inline_after N self.old.inline
+            (utf8_len self.old.chars - (end - start)) (length text.now))) }
+        ensures unchanged { OnErr result (self.new ≡ self.old) }
+        ensures capacity { AtRange (R.start_bound range, R.end_bound range)
+            (utf8_len self.old.chars)
+            (λ start end. IsErrOf result EcoError.Capacity
+            ↔ (MAX_LEN < utf8_len self.old.chars - (end - start) + length text.now)) }
+        ensures free { OnErr result
+            (AtRange (R.start_bound range, R.end_bound range) (utf8_len self.old.chars)
+            (λ start end. inline_after N self.old.inline
+            (utf8_len self.old.chars - (end - start)) (length text.now) ≡ false)) }
+    {
+        let (start, end) = resolve(&range, self.len()).unwrap();
+        self.bytes.replace_range(start..end, text.as_bytes())?;
         Ok(())
     }
 
