@@ -16,6 +16,7 @@ awk -f tools/contracts.awk crates/ecow_base/src/range.rt \
     crates/ecow_list/src/iter.rt crates/ecow_list/src/traits.rt crates/ecow_list/src/write.rt \
     crates/ecow_bytes/src/bytes.rt crates/ecow_bytes/src/bytes/*.rt crates/ecow_bytes/src/traits.rt crates/ecow_bytes/src/write.rt \
     crates/ecow_text/src/text.rt crates/ecow_text/src/text/*.rt crates/ecow_text/src/display.rt crates/ecow_text/src/traits.rt \
+    crates/ecow_nested/src/value.rt crates/ecow_nested/src/value/*.rt crates/ecow_nested/src/refusal.rt \
     crates/ecow_store/src/store.rt crates/ecow_store/src/store/*.rt \
     crates/ecow_counted/src/counted.rt crates/ecow_counted/src/counted/*.rt crates/ecow_counted/src/fill.rt \
     crates/ecow_values/src/laws.rt crates/ecow_model/src/laws.rt crates/ecow_bytes/src/laws.rt crates/ecow_text/src/laws.rt \

@@ -1,13 +1,9 @@
 -- What a splice of a range within a list leaves.
-use Rattle.std.proofs.Common.{◌≡◌, ◌≤◌, ℕ, List, length, Some, IfSome, Option, ap, ◌∙◌, subst, rules}
+use Rattle.std.proofs.Common.{◌≡◌, ◌≤◌, ℕ, List, length, IfSome, Option, ap, ◌∙◌, subst}
 use Rattle.std.specs.List.{splice}
 use Rattle.std.specs.declared.ops.Bound.TheVariants.{Included, Excluded}
-use Rattle.ecow_base.specs.Range.{range_of}
 use Rattle.ecow_list.specs.Ranges.{AtRange}
-
--- a range whose bounds are in order and within the list is where they are
-within : (start end len : ℕ) → start ≤ end → end ≤ len → range_of (Included start, Excluded end) len ≡ Some (start, end)
-within start end len in_order in_bounds = search rules
+use Rattle.ecow_list.proofs.Ranges.{within}
 
 pub spliced : {X : Type 0} (xs new items given : List X) (start end : ℕ) → start ≤ end → end ≤ length xs → given ≡ items
     → AtRange (Included start, Excluded end) (length xs) (λ s e. new ≡ splice xs s e given) → new ≡ splice xs start end items

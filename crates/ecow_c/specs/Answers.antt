@@ -1,5 +1,5 @@
 -- What a call answers, and what it leaves of the value at a pointer; `None` is the null pointer.
-use Rattle.std.specs.Prelude.{◌≡◌, ◌≢◌, ◌↔◌, ℕ, ℤ, pos, negsuc, Bool, false, ◌||◌, ◌==◌, List, [], ◌∷◌, Option, Some, None}
+use Rattle.std.specs.Prelude.{◌≡◌, ◌≢◌, ◌↔◌, ℕ, ℤ, pos, negsuc, Bool, true, false, ◌||◌, ◌==◌, List, [], ◌∷◌, Option, Some, None, IfSome, IsSomeAnd, is_none}
 use Rattle.std.specs.Option.{option_map, option_map_or}
 use Rattle.std.specs.List.{fold}
 use Rattle.std.specs.Hash.DefaultHasher.{initial, write, finish}
@@ -31,6 +31,28 @@ AltersBytes = Alters (λ value. value.bytes)
 abbrev pub AltersText : (List ℕ → List ℕ) → Option PlainText → ℕ → Option PlainText → Type 0
 AltersText = Alters (λ value. value.chars)
 
+abbrev pub AltersTexts : (List PlainText → List PlainText) → Option (List PlainText) → ℕ
+    → Option (List PlainText) → Type 0
+AltersTexts = Alters (λ texts. texts)
+
+-- the contents are what `change` makes of them and of a second value, at another pointer; where the
+-- call was refused nothing has changed
+pub record AltersBy {X C Y : Type 0} (contents : X → C) (change : Y → C → C) (old : Option X)
+    (other : Option Y) (status : ℕ) (new : Option X) : Type 0 where
+  pub ok : status ≡ OK
+      → IfSome other (λ y. option_map contents new ≡ option_map (λ x. change y (contents x)) old)
+  pub refused : status ≢ OK → new ≡ old
+  pub null : status ≡ NULL ↔ is_none old || is_none other ≡ true
+
+-- the same of a list of texts
+abbrev pub AltersTextsBy : {Y : Type 0} → (Y → List PlainText → List PlainText)
+    → Option (List PlainText) → Option Y → ℕ → Option (List PlainText) → Type 0
+AltersTextsBy = AltersBy (λ texts. texts)
+
+-- both values are there, and P holds of them
+abbrev pub AreBothAnd : {X Y : Type 0} → Option X → Option Y → (X → Y → Type 0) → Type 0
+AreBothAnd old other P = IsSomeAnd old (λ x. IsSomeAnd other (λ y. P x y))
+
 -- the numbers of a list; at a null pointer there are none
 abbrev pub numbers_at : Option (List ℤ) → List ℤ
 numbers_at value = option_map_or (λ numbers. numbers) value []
@@ -38,6 +60,10 @@ numbers_at value = option_map_or (λ numbers. numbers) value []
 -- the bytes of a value; at a null pointer there are none
 abbrev pub bytes_at : Option PlainBytes → List ℕ
 bytes_at value = option_map_or (λ value. value.bytes) value []
+
+-- the texts of a list; at a null pointer there are none
+abbrev pub texts_at : Option (List PlainText) → List PlainText
+texts_at value = option_map_or (λ texts. texts) value []
 
 -- the characters of a text; at a null pointer there are none
 abbrev pub chars_at : Option PlainText → List ℕ

@@ -3,6 +3,7 @@ use Rattle.std.specs.Borrow.{RattleType, i64}
 use Rattle.ecow_list.specs.contracts.vec.EcoVec as list
 use Rattle.ecow_bytes.specs.contracts.bytes.SmallBytes as bytes
 use Rattle.ecow_text.specs.contracts.text.SmallText as text
+use Rattle.ecow_nested.specs.contracts.value.Value as value
 use denote.Param.{number}
 
 abbrev pub list_row : RattleType
@@ -13,3 +14,9 @@ bytes_row = bytes.the_row (number 15)
 
 abbrev pub text_row : RattleType
 text_row = text.the_row (number 15)
+
+abbrev pub texts_row : RattleType
+texts_row = list.the_row text_row
+
+abbrev pub value_row : RattleType
+value_row = value.the_row

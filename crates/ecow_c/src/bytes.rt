@@ -1,6 +1,6 @@
 //! Bytes: an `EcoBytes` at a pointer of C's.
 ghost use Rattle.std.specs.Prelude.{◌≡◌, ◌≢◌, ◌↔◌, ◌≤◌, ◌<◌, ◌+◌, ◌-◌, ◌||◌, [], ◌∷◌, ◌++◌, length, take, insert, remove, slice_get, slice_set, nat_eq, nat_lt, true, None, Some, IfOk, IfSome, IsErrOf, IsSomeAnd, is_none};
-ghost use Rattle.std.specs.List.{splice};
+ghost use Rattle.std.specs.List.{replace_range};
 ghost use Rattle.std.specs.Cmp.Lexicographic.{pointwise, slice_cmp};
 ghost use Rattle.std.specs.Ordering.{nat_cmp};
 ghost use Rattle.ecow_bytes.specs.Hashes.{hash_writes};
@@ -295,20 +295,20 @@ pub extern "C" fn ecow_proved_bytes_extend(place: &mut BytesPlace, added: &[u8])
 /// Puts copies of `added` in place of the bytes from `start` up to `end`.
 #[unsafe(no_mangle)]
 pub extern "C" fn ecow_proved_bytes_splice(
-    alloc: Global,
     place: &mut BytesPlace,
     start: usize,
     end: usize,
     added: &[u8],
 ) -> u32
-    ensures bytes { AltersBytes (λ xs. splice xs start end added.now)
+    ensures bytes { AltersBytes (λ xs. replace_range xs start end added.now)
         place.old.value result place.new.value }
     ensures index { result ≡ INDEX
         ↔ IsSomeAnd place.old.value
         (λ value. nat_lt end start || nat_lt (length value.bytes) end ≡ true) }
     ensures codes { is_one_of (OK ∷ MEMORY ∷ CAPACITY ∷ INDEX ∷ NULL ∷ []) result ≡ true }
-    ensures capacity { result ≡ CAPACITY → IsSomeAnd place.old.value
-        (λ value. MAX_LEN < length value.bytes - (end - start) + length added.now) }
+    ensures capacity { result ≡ CAPACITY ↔ IsSomeAnd place.old.value
+        (λ value. (start ≤ end) × (end ≤ length value.bytes)
+        × (MAX_LEN < length value.bytes - (end - start) + length added.now)) }
 {
     let Some(bytes) = place.bytes() else {
         return NULL;
@@ -316,26 +316,35 @@ pub extern "C" fn ecow_proved_bytes_splice(
     if start > end || end > bytes.len() {
         return INDEX;
     }
-    let (front, back) = (&bytes.as_slice()[..start], &bytes.as_slice()[end..]);
-    match joined(alloc, front, added, back) {
-        Ok(made) => {
-            *bytes = made;
-            OK
-        }
+    match bytes.replace_range(start..end, added) {
+        Ok(()) => OK,
         Err(error) => refusal(error),
     }
 }
 
-/// Three pieces, one behind another.
-fn joined(alloc: Global, front: &[u8], middle: &[u8], back: &[u8]) -> Result<EcoBytes, EcoError>
-    ensures bytes { IfOk result (λ made. made.bytes ≡ front.now ++ (middle.now ++ back.now)) }
-    ensures capacity { IsErrOf result EcoError.Capacity
-        → MAX_LEN < length front.now + length middle.now + length back.now }
+/// How many bytes there is room for, never fewer than there are; 0 at a null pointer.
+#[unsafe(no_mangle)]
+pub extern "C" fn ecow_proved_bytes_capacity(place: &mut BytesPlace) -> usize
+    ensures room { length (bytes_at place.old.value) ≤ result }
+    ensures unchanged { place.new.value ≡ place.old.value }
 {
-    let mut made = EcoBytes::from_slice(alloc, front)?;
-    made.extend_from_slice(middle)?;
-    made.extend_from_slice(back)?;
-    Ok(made)
+    match place.bytes() {
+        Some(bytes) => bytes.capacity(),
+        None => 0,
+    }
+}
+
+/// Brings spilled bytes back inline where there are at most 15.
+#[unsafe(no_mangle)]
+pub extern "C" fn ecow_proved_bytes_shrink_to_fit(place: &mut BytesPlace) -> u32
+    ensures bytes { AltersBytes (λ xs. xs) place.old.value result place.new.value }
+    ensures codes { is_one_of (OK ∷ NULL ∷ []) result ≡ true }
+{
+    let Some(bytes) = place.bytes() else {
+        return NULL;
+    };
+    bytes.shrink_to_fit();
+    OK
 }
 
 /// Whether two values hold the same bytes.

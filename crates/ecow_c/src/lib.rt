@@ -1,7 +1,10 @@
-//! The values of `ecow_list`, `ecow_bytes` and `ecow_text` for C.
+//! The values of `ecow_list`, `ecow_bytes`, `ecow_text`, `ecow_texts` and
+//! `ecow_value` for C.
 #![tactic(auto)]
 
 mod bytes;
 mod list;
 mod status;
 mod text;
+mod texts;
+mod value;

@@ -1,6 +1,6 @@
 //! Lists of numbers: an `EcoVec<i64>` at a pointer of C's.
 ghost use Rattle.std.specs.Prelude.{◌≡◌, ◌≢◌, ◌↔◌, ◌≤◌, ◌<◌, ◌+◌, ◌-◌, ◌||◌, [], ◌∷◌, ◌++◌, length, take, insert, remove, slice_get, slice_set, nat_lt, true, None, Some, IfSome, IsSomeAnd, is_none};
-ghost use Rattle.std.specs.List.{splice};
+ghost use Rattle.std.specs.List.{replace_range};
 ghost use Rattle.std.specs.Cmp.Lexicographic.{pointwise, slice_cmp};
 ghost use Rattle.std.specs.Ordering.{int_eq, int_cmp};
 ghost use Rattle.std.specs.Hash as fed;
@@ -282,17 +282,19 @@ pub extern "C" fn ecow_proved_list_extend(place: &mut ListPlace, numbers: &[i64]
 /// Puts copies of `numbers` in place of the numbers from `start` up to `end`.
 #[unsafe(no_mangle)]
 pub extern "C" fn ecow_proved_list_splice(
-    alloc: Global,
     place: &mut ListPlace,
     start: usize,
     end: usize,
     numbers: &[i64],
 ) -> u32
-    ensures list { AltersList (λ xs. splice xs start end numbers.now)
+    ensures list { AltersList (λ xs. replace_range xs start end numbers.now)
         place.old.value result place.new.value }
     ensures index { result ≡ INDEX
         ↔ IsSomeAnd place.old.value (λ xs. nat_lt end start || nat_lt (length xs) end ≡ true) }
     ensures codes { is_one_of (OK ∷ MEMORY ∷ CAPACITY ∷ INDEX ∷ NULL ∷ []) result ≡ true }
+    ensures capacity { result ≡ CAPACITY ↔ IsSomeAnd place.old.value
+        (λ xs. (start ≤ end) × (end ≤ length xs)
+        × (MAX_LEN < length xs - (end - start) + length numbers.now)) }
 {
     let Some(list) = place.list() else {
         return NULL;
@@ -300,12 +302,45 @@ pub extern "C" fn ecow_proved_list_splice(
     if start > end || end > list.len() {
         return INDEX;
     }
-    let Ok(added) = Vec::from_slice(alloc, numbers) else {
+    match list.replace_range(start..end, numbers) {
+        Ok(()) => OK,
+        Err(error) => refusal(error),
+    }
+}
+
+/// How many numbers there is room for, never fewer than there are; 0 at a null pointer.
+#[unsafe(no_mangle)]
+pub extern "C" fn ecow_proved_list_capacity(place: &mut ListPlace) -> usize
+    ensures room { length (numbers_at place.old.value) ≤ result }
+    ensures unchanged { place.new.value ≡ place.old.value }
+{
+    match place.list() {
+        Some(list) => list.capacity(),
+        None => 0,
+    }
+}
+
+/// Gives up room that isn't used, unless another list shares the block.
+#[unsafe(no_mangle)]
+pub extern "C" fn ecow_proved_list_shrink_to_fit(alloc: Global, place: &mut ListPlace) -> u32
+    ensures list { AltersList (λ xs. xs) place.old.value result place.new.value }
+    ensures codes { is_one_of (OK ∷ MEMORY ∷ NULL ∷ []) result ≡ true }
+{
+    let Some(list) = place.list() else {
+        return NULL;
+    };
+    if list.capacity() == list.len() || !list.is_unique() {
+        return OK;
+    }
+    let Ok(mut made) = EcoVec::with_capacity(alloc, list.len()) else {
         return MEMORY;
     };
-    match list.splice(start..end, added) {
-        Ok(_removed) => OK,
-        Err(error) => refusal(error),
+    match made.extend_from_copied(list.as_slice()) {
+        Ok(()) => {
+            *list = made;
+            OK
+        }
+        Err(_) => MEMORY,
     }
 }
 

@@ -3,6 +3,7 @@ ghost use Rattle.std.specs.Prelude.{◌≡◌, MatchResult};
 ghost use Rattle.ecow_c.specs.Answers.{sign_of};
 
 use ecow_list::EcoError;
+use ecow_nested::Refusal;
 use std::cmp::Ordering;
 
 /// The call did what it says.
@@ -20,6 +21,9 @@ pub const UTF8: u32 = 5;
 /// The pointer to a value is null.
 pub const NULL: u32 = 6;
 
+/// The value is of another kind.
+pub const KIND: u32 = 7;
+
 /// The status for a refusal of the library.
 pub(crate) fn refusal(error: EcoError) -> u32
     ensures memory { error ≡ EcoError.Memory → result ≡ MEMORY }
@@ -28,6 +32,21 @@ pub(crate) fn refusal(error: EcoError) -> u32
     match error {
         EcoError::Memory => MEMORY,
         EcoError::Capacity => CAPACITY,
+    }
+}
+
+/// The status for a refusal of a call on a nested value.
+pub(crate) fn refusal_of_value(refusal: Refusal) -> u32
+    ensures kind { refusal ≡ Refusal.Kind → result ≡ KIND }
+    ensures index { refusal ≡ Refusal.Index → result ≡ INDEX }
+    ensures capacity { refusal ≡ Refusal.Capacity → result ≡ CAPACITY }
+    ensures memory { refusal ≡ Refusal.Memory → result ≡ MEMORY }
+{
+    match refusal {
+        Refusal::Kind => KIND,
+        Refusal::Index => INDEX,
+        Refusal::Capacity => CAPACITY,
+        Refusal::Memory => MEMORY,
     }
 }
 

@@ -1,6 +1,6 @@
 //! Texts: an `EcoString` at a pointer of C's. Indices and lengths count bytes.
 ghost use Rattle.std.specs.Prelude.{◌≡◌, ◌≢◌, ◌↔◌, ◌≤◌, ◌<◌, ◌+◌, ◌-◌, ◌*◌, ◌&&◌, ◌||◌, [], ◌∷◌, ◌++◌, length, take, drop, insert, remove, slice_get, true, false, None, Some, IfOk, IfSome, IsErrOf, IsSomeAnd, is_none, is_some, nat_eq};
-ghost use Rattle.std.specs.List.{insert_slice, repeat, splice};
+ghost use Rattle.std.specs.List.{insert_slice, repeat, replace_range};
 ghost use Rattle.std.specs.Option.{option_map_or};
 ghost use Rattle.std.specs.Char.{IsScalar, len_utf8};
 ghost use Rattle.std.specs.Str.{chars, encode_utf8_all, is_utf8};
@@ -20,7 +20,7 @@ use crate::status::{BOUNDARY, CAPACITY, INDEX, MEMORY, NULL, OK, UTF8, order, re
 use ecow_base::MAX_LEN;
 use ecow_list::EcoError;
 use ecow_text::EcoString;
-use place::TextPlace;
+pub(crate) use place::TextPlace;
 use std::alloc::Global;
 use std::hash::{DefaultHasher, Hash, Hasher};
 use std::ptr::from_ref;
@@ -39,7 +39,7 @@ fn cut_at(text: &EcoString, index: usize) -> u32
 }
 
 /// The text that bytes spell, if they are UTF-8.
-fn spelled(bytes: &[u8]) -> Option<&str>
+pub(crate) fn spelled(bytes: &[u8]) -> Option<&str>
     ensures bytes { IfSome result (λ text. text.now ≡ bytes.now) }
     ensures utf8 { is_utf8 bytes.now ≡ is_some result }
 {
@@ -390,14 +390,16 @@ pub extern "C" fn ecow_proved_text_splice(
     end: usize,
     added: &[u8],
 ) -> u32
-    ensures text { AltersText (λ cs. splice cs (chars_before cs start) (chars_before cs end)
-        (chars added.now))
+    ensures text { AltersText (λ cs. replace_range cs (chars_before cs start)
+        (chars_before cs end) (chars added.now))
         place.old.value result place.new.value }
     ensures utf8 { result ≡ UTF8 ↔ IsSomeAnd place.old.value (λ _. is_utf8 added.now ≡ false) }
     ensures index { IfSome place.old.value
         (λ text. is_utf8 added.now ≡ true → Heeds (range_status text.chars start end) result) }
     ensures codes { is_one_of (OK ∷ MEMORY ∷ CAPACITY ∷ INDEX ∷ BOUNDARY ∷ UTF8 ∷ NULL ∷ []) result
         ≡ true }
+    ensures capacity { result ≡ CAPACITY → IsSomeAnd place.old.value
+        (λ text. MAX_LEN < utf8_len text.chars - (end - start) + length added.now) }
 {
     let Some(text) = place.text() else {
         return NULL;
@@ -416,28 +418,35 @@ pub extern "C" fn ecow_proved_text_splice(
     if cut != OK {
         return cut;
     }
-    match spliced(text, start, end, added) {
-        Ok(made) => {
-            *text = made;
-            OK
-        }
+    match text.replace_range(start..end, added) {
+        Ok(()) => OK,
         Err(error) => refusal(error),
     }
 }
 
-/// A text with another in place of a range.
-fn spliced(text: &EcoString, start: usize, end: usize, added: &str) -> Result<EcoString, EcoError>
-    requires start { is_boundary text.now.chars start ≡ true }
-    requires end { is_boundary text.now.chars end ≡ true }
-    ensures chars { IfOk result (λ made. made.chars
-        ≡ splice text.now.chars (chars_before text.now.chars start)
-        (chars_before text.now.chars end) (chars added.now)) }
+/// How many bytes there is room for, never fewer than there are; 0 at a null pointer.
+#[unsafe(no_mangle)]
+pub extern "C" fn ecow_proved_text_capacity(place: &mut TextPlace) -> usize
+    ensures room { utf8_len (chars_at place.old.value) ≤ result }
+    ensures unchanged { place.new.value ≡ place.old.value }
 {
-    let mut made = text.clone()?;
-    made.truncate(start)?;
-    made.push_str(added)?;
-    made.push_str(&text.as_str()[end..])?;
-    Ok(made)
+    match place.text() {
+        Some(text) => text.capacity(),
+        None => 0,
+    }
+}
+
+/// Brings a spilled text back inline where it has at most 15 bytes.
+#[unsafe(no_mangle)]
+pub extern "C" fn ecow_proved_text_shrink_to_fit(place: &mut TextPlace) -> u32
+    ensures text { AltersText (λ cs. cs) place.old.value result place.new.value }
+    ensures codes { is_one_of (OK ∷ NULL ∷ []) result ≡ true }
+{
+    let Some(text) = place.text() else {
+        return NULL;
+    };
+    text.shrink_to_fit();
+    OK
 }
 
 /// Whether two texts are equal.

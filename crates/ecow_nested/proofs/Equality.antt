@@ -1,0 +1,39 @@
+-- The equations of equality, and its steps along two lists.
+use Rattle.std.proofs.Common.{◌≡◌, ◌≢◌, ℕ, zero, suc, ◌<◌, Bool, true, false, ◌&&◌, List, [], ◌∷◌, length, get_or, map, drop, refl, sym, ap, ◌∙◌, arith}
+use Rattle.std.proofs.lemmas.List.{length-map}
+use Rattle.ecow_nested.specs.Values.{value_step, field_step, eq_in, each_holds, value_eq, field_eq}
+use Rattle.ecow_nested.specs.declared.value.Field.{Field}
+use Rattle.ecow_nested.specs.declared.value.Value.{Value, out-Value}
+use Rattle.ecow_nested.specs.declared.value.Value.TheOpen.{Value-F}
+use Rattle.ecow_nested.specs.declared.value.Value.TheFolds.{fold_out-Value}
+
+pub equal_items : (x y : Value) (xs ys : List Value) → out-Value x ≡ Value-F.List xs → out-Value y ≡ Value-F.List ys → value_eq x y ≡ each_holds (map value_eq xs) ys
+equal_items x y xs ys a b =
+    let h = fold_out-Value (Value → Bool) (Field → Bool) value_step field_step x in
+    ap (λ (test : Value → Bool). test y) (rw a at h) ∙ ap (eq_in (Value-F.List (map value_eq xs))) b
+
+pub equal_fields : (x y : Value) (xs ys : List Field) → out-Value x ≡ Value-F.Fields xs → out-Value y ≡ Value-F.Fields ys → value_eq x y ≡ each_holds (map field_eq xs) ys
+equal_fields x y xs ys a b =
+    let h = fold_out-Value (Value → Bool) (Field → Bool) value_step field_step x in
+    ap (λ (test : Value → Bool). test y) (rw a at h) ∙ ap (eq_in (Value-F.Fields (map field_eq xs))) b
+
+and_false : (b : Bool) → (b && false) ≡ false
+and_false true = refl
+and_false false = refl
+
+module _ {X : Type 0} where
+  pub each_apart : (tests : List (X → Bool)) (xs : List X) → length tests ≢ length xs → each_holds tests xs ≡ false
+  each_apart [] [] apart = absurd (apart refl)
+  each_apart [] (x ∷ xs) apart = refl
+  each_apart (test ∷ tests) [] apart = refl
+  each_apart (test ∷ tests) (x ∷ xs) apart = ap (λ b. test x && b) (each_apart tests xs (λ same. apart (ap suc same))) ∙ and_false (test x)
+
+  pub lists_apart : (eq : X → X → Bool) (xs ys : List X) → length xs ≢ length ys → each_holds (map eq xs) ys ≡ false
+  lists_apart eq xs ys apart = each_apart (map eq xs) ys (λ same. apart (sym (length-map xs eq) ∙ same))
+
+  pub each_step : (eq : X → X → Bool) (xs ys : List X) (i : ℕ) (d e : X) → i < length xs → i < length ys
+      → each_holds (map eq (drop i xs)) (drop i ys) ≡ eq (get_or xs i d) (get_or ys i e) && each_holds (map eq (drop (suc i) xs)) (drop (suc i) ys)
+  each_step eq [] ys i d e a b = absurd (omega (arith, a))
+  each_step eq (x ∷ xs) [] i d e a b = absurd (omega (arith, b))
+  each_step eq (x ∷ xs) (y ∷ ys) zero d e a b = refl
+  each_step eq (x ∷ xs) (y ∷ ys) (suc i) d e a b = each_step eq xs ys i d e (omega (arith, a)) (omega (arith, b))

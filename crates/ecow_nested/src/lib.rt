@@ -1,0 +1,10 @@
+//! Nested values: nothing, a truth value, a number, a text, a list of values, fields by name. A
+//! clone shares all its lists and texts, and a change copies the lists along its way alone.
+#![tactic(auto)]
+
+mod refusal;
+mod threads;
+mod value;
+
+pub use refusal::Refusal;
+pub use value::{Field, Kind, Value};

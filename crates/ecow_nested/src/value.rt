@@ -1,0 +1,155 @@
+//! `Value`.
+ghost use Rattle.std.specs.Prelude.{◌≡◌, MatchOption, None, Some};
+ghost use Rattle.ecow_nested.specs.Values.{kind_of, truth_of, number_of, real_of, text_of, items_of, fields_of};
+
+mod equality;
+mod fields;
+mod laws;
+mod lists;
+mod parts;
+
+use ecow_list::EcoVec;
+use ecow_text::EcoString;
+use std::alloc::AllocError;
+
+/// A nested value. A clone shares all its lists and texts.
+///
+/// A value is dropped by recursion, so the stack bounds how deep one may be.
+#[cycle(value)]
+#[derive(Drop)]
+pub enum Value {
+    Nothing,
+    Truth(bool),
+    Number(i64),
+    Real(f64),
+    Text(EcoString),
+    List(EcoVec<Value>),
+    /// Fields in order. A name that stands twice means the first of them.
+    Fields(EcoVec<Field>),
+}
+
+/// A value under a name.
+#[cycle(value)]
+#[derive(Drop)]
+pub struct Field {
+    pub name: EcoString,
+    pub value: Value,
+}
+
+/// Which kind of value one is.
+#[derive(Clone, Copy, Debug, PartialEq, Eq)]
+pub enum Kind {
+    Nothing,
+    Truth,
+    Number,
+    Real,
+    Text,
+    List,
+    Fields,
+}
+
+impl Clone for Value {
+    ghost is_clone = { λ value copy. copy ≡ value };
+
+    fn clone(&self) -> Result<Self, AllocError> {
+        match self {
+            Value::Nothing => Ok(Value::Nothing),
+            Value::Truth(truth) => Ok(Value::Truth(*truth)),
+            Value::Number(number) => Ok(Value::Number(*number)),
+            Value::Real(real) => Ok(Value::Real(*real)),
+            Value::Text(text) => Ok(Value::Text(text.clone()?)),
+            Value::List(items) => Ok(Value::List(items.clone()?)),
+            Value::Fields(fields) => Ok(Value::Fields(fields.clone()?)),
+        }
+    }
+}
+
+impl Clone for Field {
+    ghost is_clone = { λ field copy. copy ≡ field };
+
+    fn clone(&self) -> Result<Self, AllocError> {
+        let name = self.name.clone()?;
+        let value = self.value.clone()?;
+        Ok(Field { name, value })
+    }
+}
+
+impl Value {
+    /// Which kind of value this is.
+    pub fn kind(&self) -> Kind
+        ensures { result ≡ kind_of self.now }
+    {
+        match self {
+            Value::Nothing => Kind::Nothing,
+            Value::Truth(_) => Kind::Truth,
+            Value::Number(_) => Kind::Number,
+            Value::Real(_) => Kind::Real,
+            Value::Text(_) => Kind::Text,
+            Value::List(_) => Kind::List,
+            Value::Fields(_) => Kind::Fields,
+        }
+    }
+
+    /// The truth value, if this is one.
+    pub fn truth(&self) -> Option<bool>
+        ensures { result ≡ truth_of self.now }
+    {
+        match self {
+            Value::Truth(truth) => Some(*truth),
+            _ => None,
+        }
+    }
+
+    /// The number, if this is one.
+    pub fn number(&self) -> Option<i64>
+        ensures { result ≡ number_of self.now }
+    {
+        match self {
+            Value::Number(number) => Some(*number),
+            _ => None,
+        }
+    }
+
+    /// The floating-point number, if this is one.
+    pub fn real(&self) -> Option<f64>
+        ensures { result ≡ real_of self.now }
+    {
+        match self {
+            Value::Real(real) => Some(*real),
+            _ => None,
+        }
+    }
+
+    /// The text, if this is one.
+    pub fn text(&self) -> Option<&EcoString>
+        ensures { MatchOption result (text_of self.now ≡ None)
+            (λ text. text_of self.now ≡ Some text.now) }
+    {
+        match self {
+            Value::Text(text) => Some(text),
+            _ => None,
+        }
+    }
+
+    /// The items, if this is a list.
+    pub fn items(&self) -> Option<&EcoVec<Value>>
+        ensures { MatchOption result (items_of self.now ≡ None)
+            (λ items. items_of self.now ≡ Some items.now) }
+    {
+        match self {
+            Value::List(items) => Some(items),
+            _ => None,
+        }
+    }
+
+    /// The fields, if this has fields.
+    pub fn fields(&self) -> Option<&EcoVec<Field>>
+        ensures { MatchOption result (fields_of self.now ≡ None)
+            (λ fields. fields_of self.now ≡ Some fields.now) }
+    {
+        match self {
+            Value::Fields(fields) => Some(fields),
+            _ => None,
+        }
+    }
+}

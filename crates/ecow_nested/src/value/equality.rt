@@ -1,0 +1,57 @@
+//! Equality of values.
+ghost use Rattle.std.specs.Prelude.{◌≡◌};
+ghost use Rattle.ecow_nested.specs.Values.{value_eq};
+
+use crate::value::Value;
+
+impl Value {
+    /// Whether two values are equal: of one kind, and their texts, numbers, items and fields in
+    /// order. Each NaN equals each other, so a value equals its clones. Where a text stands, inline
+    /// or not, makes no difference.
+    pub fn equals(&self, other: &Value) -> bool
+        ensures { result ≡ value_eq self.now other.now }
+    {
+        match (self, other) {
+            (Value::Nothing, Value::Nothing) => true,
+            (Value::Truth(left), Value::Truth(right)) => left == right,
+            (Value::Number(left), Value::Number(right)) => left == right,
+            (Value::Real(left), Value::Real(right)) => {
+                left == right || (left.is_nan() && right.is_nan())
+            }
+            (Value::Text(left), Value::Text(right)) => left == right,
+            (Value::List(left), Value::List(right)) => {
+                let others = right.as_slice();
+                if left.len() != others.len() {
+                    return false;
+                }
+                let mut index = 0;
+                for item in left.as_slice() {
+                    if !item.equals(&others[index]) {
+                        return false;
+                    }
+                    index += 1;
+                }
+                true
+            }
+            (Value::Fields(left), Value::Fields(right)) => {
+                let others = right.as_slice();
+                if left.len() != others.len() {
+                    return false;
+                }
+                let mut index = 0;
+                for field in left.as_slice() {
+                    let other = &others[index];
+                    if field.name != other.name {
+                        return false;
+                    }
+                    if !field.value.equals(&other.value) {
+                        return false;
+                    }
+                    index += 1;
+                }
+                true
+            }
+            _ => false,
+        }
+    }
+}

@@ -1,0 +1,115 @@
+//! Fields by name. A refusal changes nothing.
+ghost use Rattle.std.specs.Prelude.{◌≡◌, ◌+◌, ◌<◌, ◌≤◌, ◌↔◌, ◌⊎◌, [], ◌∷◌, None, Some, length, position, slice_get, IfOk, IfSome, OnOk, OnErr, IsErrOf, IsSomeAnd, MatchOption};
+ghost use Rattle.ecow_nested.specs.Values.{fields_of, has_name, look_up, with_field, without_field, EditsFields, IsErrAmong};
+
+use crate::refusal::Refusal;
+use crate::value::{Field, Value};
+use ecow_base::MAX_LEN;
+use ecow_list::EcoVec;
+use ecow_text::EcoString;
+
+/// The place of the first field of that name.
+fn place(fields: &[Field], name: &str) -> Option<usize>
+    ensures { result ≡ position (has_name name.now) fields.now }
+{
+    fields.iter().position(|field| field.name.as_str() == name)
+}
+
+/// The value of the first field of that name.
+fn find<'a>(fields: &'a [Field], name: &str) -> Option<&'a Value>
+    ensures { MatchOption result (look_up name.now fields.now ≡ None)
+        (λ value. look_up name.now fields.now ≡ Some value.now) }
+{
+    match place(fields, name) {
+        Some(at) => Some(&fields[at].value),
+        None => None,
+    }
+}
+
+/// Puts `value` in place of the value of the first field of that name, or appends a field where
+/// there is none. A refusal changes nothing.
+fn put(fields: &mut EcoVec<Field>, name: &str, value: Value) -> Result<(), Refusal>
+    ensures ok { OnOk result (fields.new ≡ with_field name.now value fields.old) }
+    ensures unchanged { OnErr result (fields.new ≡ fields.old) }
+    ensures capacity { IsErrOf result Refusal.Capacity → (MAX_LEN ≤ length fields.old)
+        ⊎ (MAX_LEN < length name.now) }
+    ensures codes { IsErrAmong (Refusal.Capacity ∷ Refusal.Memory ∷ []) result }
+{
+    match place(fields.as_slice(), name) {
+        Some(at) => {
+            let name = fields.as_slice()[at].name.clone()?;
+            fields.set(at, Field { name, value })?;
+        }
+        None => {
+            let name = EcoString::from_str(fields.allocator(), name)?;
+            fields.push(Field { name, value })?;
+        }
+    }
+    Ok(())
+}
+
+/// Takes the first field of that name out, and gives its value. A refusal changes nothing.
+fn take(fields: &mut EcoVec<Field>, name: &str) -> Result<Value, Refusal>
+    ensures ok { OnOk result (fields.new ≡ without_field name.now fields.old) }
+    ensures value { IfOk result (λ value. look_up name.now fields.old ≡ Some value) }
+    ensures unchanged { OnErr result (fields.new ≡ fields.old) }
+    ensures index { IsErrOf result Refusal.Index ↔ (look_up name.now fields.old ≡ None) }
+    ensures codes { IsErrAmong (Refusal.Index ∷ Refusal.Memory ∷ []) result }
+{
+    let Some(at) = place(fields.as_slice(), name) else {
+        return Err(Refusal::Index);
+    };
+    match fields.remove(at) {
+        Ok(field) => Ok(field.value),
+        Err(_) => Err(Refusal::Memory),
+    }
+}
+
+impl Value {
+    /// The value of the first field of that name.
+    pub fn field(&self, name: &str) -> Result<&Value, Refusal>
+        ensures ok { IfOk result (λ value. IfSome (fields_of self.now)
+            (λ fields. look_up name.now fields ≡ Some value.now)) }
+        ensures kind { IsErrOf result Refusal.Kind ↔ (fields_of self.now ≡ None) }
+        ensures index { IsErrOf result Refusal.Index
+            ↔ IsSomeAnd (fields_of self.now) (λ fields. look_up name.now fields ≡ None) }
+        ensures codes { IsErrAmong (Refusal.Kind ∷ Refusal.Index ∷ []) result }
+    {
+        let Value::Fields(fields) = self else {
+            return Err(Refusal::Kind);
+        };
+        match find(fields.as_slice(), name) {
+            Some(value) => Ok(value),
+            None => Err(Refusal::Index),
+        }
+    }
+
+    /// Puts `value` in place of the value of the first field of that name, or appends a field where
+    /// there is none.
+    pub fn set_field(&mut self, name: &str, value: Value) -> Result<(), Refusal>
+        ensures change { EditsFields (with_field name.now value) self.old result self.new }
+        ensures capacity { IsErrOf result Refusal.Capacity → IsSomeAnd (fields_of self.old)
+            (λ fields. (MAX_LEN ≤ length fields) ⊎ (MAX_LEN < length name.now)) }
+        ensures codes { IsErrAmong (Refusal.Kind ∷ Refusal.Capacity ∷ Refusal.Memory ∷ []) result }
+    {
+        match self {
+            Value::Fields(fields) => put(fields, name, value),
+            _ => Err(Refusal::Kind),
+        }
+    }
+
+    /// Takes the first field of that name out, and gives its value.
+    pub fn remove_field(&mut self, name: &str) -> Result<Value, Refusal>
+        ensures change { EditsFields (without_field name.now) self.old result self.new }
+        ensures value { IfOk result (λ value. IfSome (fields_of self.old)
+            (λ fields. look_up name.now fields ≡ Some value)) }
+        ensures index { IsErrOf result Refusal.Index
+            ↔ IsSomeAnd (fields_of self.old) (λ fields. look_up name.now fields ≡ None) }
+        ensures codes { IsErrAmong (Refusal.Kind ∷ Refusal.Index ∷ Refusal.Memory ∷ []) result }
+    {
+        match self {
+            Value::Fields(fields) => take(fields, name),
+            _ => Err(Refusal::Kind),
+        }
+    }
+}

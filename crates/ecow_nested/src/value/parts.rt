@@ -1,0 +1,91 @@
+//! The parts of a value: the items of a list, and the values of fields, by index.
+ghost use Rattle.std.specs.Prelude.{◌≡◌, ◌≤◌, ◌<◌, ◌↔◌, [], ◌∷◌, None, Some, length, slice_get, IfOk, IfSome, IsErrOf, IsSomeAnd, MatchOption};
+ghost use Rattle.ecow_nested.specs.Values.{len_of, part_of, fields_of, value_in, name_in, IsErrAmong};
+
+use crate::refusal::Refusal;
+use crate::value::{Field, Value};
+use ecow_text::EcoString;
+
+impl Value {
+    /// How many items a list has, or how many fields there are; `None` where this is neither.
+    pub fn len(&self) -> Option<usize>
+        ensures { result ≡ len_of self.now }
+    {
+        match self {
+            Value::List(items) => Some(items.len()),
+            Value::Fields(fields) => Some(fields.len()),
+            _ => None,
+        }
+    }
+
+    /// The item of a list, or the value of a field, at `index`.
+    pub fn part(&self, index: usize) -> Result<&Value, Refusal>
+        ensures ok { IfOk result (λ part. part_of self.now index ≡ Some part.now) }
+        ensures kind { IsErrOf result Refusal.Kind ↔ (len_of self.now ≡ None) }
+        ensures index { IsErrOf result Refusal.Index
+            ↔ IsSomeAnd (len_of self.now) (λ len. len ≤ index) }
+        ensures codes { IsErrAmong (Refusal.Kind ∷ Refusal.Index ∷ []) result }
+    {
+        match self {
+            Value::List(items) => match item_at(items.as_slice(), index) {
+                Some(item) => Ok(item),
+                None => Err(Refusal::Index),
+            },
+            Value::Fields(fields) => match value_at(fields.as_slice(), index) {
+                Some(value) => Ok(value),
+                None => Err(Refusal::Index),
+            },
+            _ => Err(Refusal::Kind),
+        }
+    }
+
+    /// The name of the field at `index`.
+    pub fn name(&self, index: usize) -> Result<&EcoString, Refusal>
+        ensures ok { IfOk result (λ name. IfSome (fields_of self.now)
+            (λ fields. name_in (slice_get fields index) ≡ Some name.now)) }
+        ensures kind { IsErrOf result Refusal.Kind ↔ (fields_of self.now ≡ None) }
+        ensures index { IsErrOf result Refusal.Index
+            ↔ IsSomeAnd (fields_of self.now) (λ fields. length fields ≤ index) }
+        ensures codes { IsErrAmong (Refusal.Kind ∷ Refusal.Index ∷ []) result }
+    {
+        let Value::Fields(fields) = self else {
+            return Err(Refusal::Kind);
+        };
+        match name_at(fields.as_slice(), index) {
+            Some(name) => Ok(name),
+            None => Err(Refusal::Index),
+        }
+    }
+}
+
+/// The item at `index`.
+fn item_at(items: &[Value], index: usize) -> Option<&Value>
+    ensures { MatchOption result (length items.now ≤ index) (λ item. (index < length items.now)
+        × (slice_get items.now index ≡ Some item.now)) }
+{
+    items.get(index)
+}
+
+/// The value of the field at `index`.
+fn value_at(fields: &[Field], index: usize) -> Option<&Value>
+    ensures { MatchOption result (length fields.now ≤ index)
+        (λ value. (index < length fields.now)
+        × (value_in (slice_get fields.now index) ≡ Some value.now)) }
+{
+    match fields.get(index) {
+        Some(field) => Some(&field.value),
+        None => None,
+    }
+}
+
+/// The name of the field at `index`.
+fn name_at(fields: &[Field], index: usize) -> Option<&EcoString>
+    ensures { MatchOption result (length fields.now ≤ index)
+        (λ name. (index < length fields.now)
+        × (name_in (slice_get fields.now index) ≡ Some name.now)) }
+{
+    match fields.get(index) {
+        Some(field) => Some(&field.name),
+        None => None,
+    }
+}
