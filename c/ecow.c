@@ -3,6 +3,8 @@
  * arrays that overlap the value that is changed, and arrays that no memory holds. */
 #include "proved.h"
 
+#include <string.h>
+
 /* Where an array of no items begins. */
 static const int64_t nothing[1] = {0};
 
@@ -30,8 +32,16 @@ const char *ecow_status_text(ecow_status status) {
         return "invalid UTF-8";
     case ECOW_NULL:
         return "null pointer";
+    case ECOW_KIND:
+        return "value of another kind";
+    case ECOW_INNER_NUL:
+        return "a 0 inside the text";
     }
     return "no status";
+}
+
+const char *ecow_version(void) {
+    return ECOW_VERSION;
 }
 
 #define VALUE ecow_list
@@ -40,6 +50,7 @@ const char *ecow_status_text(ecow_status status) {
 #define PROVED(name) ecow_proved_list_##name
 #define CAN_CUT(value, index) true
 #include "values.h"
+#include "arrays.h"
 #include "items.h"
 #undef VALUE
 #undef ITEM
@@ -53,6 +64,7 @@ const char *ecow_status_text(ecow_status status) {
 #define PROVED(name) ecow_proved_bytes_##name
 #define CAN_CUT(value, index) true
 #include "values.h"
+#include "arrays.h"
 #include "items.h"
 #undef VALUE
 #undef ITEM
@@ -66,11 +78,20 @@ const char *ecow_status_text(ecow_status status) {
 #define PROVED(name) ecow_proved_text_##name
 #define CAN_CUT ecow_text_is_boundary
 #include "values.h"
+#include "arrays.h"
 #undef VALUE
 #undef ITEM
 #undef CALL
 #undef PROVED
 #undef CAN_CUT
+
+#define VALUE ecow_texts
+#define CALL(name) ecow_texts_##name
+#define PROVED(name) ecow_proved_texts_##name
+#include "values.h"
+#undef VALUE
+#undef CALL
+#undef PROVED
 
 bool ecow_is_utf8(const char *bytes, size_t count) {
     if (!bytes || count >= PAST_MEMORY) {
@@ -101,11 +122,14 @@ ecow_status ecow_text_pop(ecow_text *text, uint32_t *character) {
 
 ecow_status ecow_text_insert(ecow_text *text, size_t index, const char *added, size_t count) {
     ecow_text_array array;
-    ecow_status status = ecow_text_keep(&array, text, index, index, added, count);
+    if (count >= PAST_MEMORY) {
+        return ecow_text_refuse(text, index, index, added, count);
+    }
+    ecow_status status = ecow_text_keep(&array, text, added, count);
     if (status == ECOW_OK) {
         status = ecow_proved_text_insert(&text, index, array.items, count);
     }
-    ecow_text_drop(&array.held);
+    ecow_text_let_go(&array);
     return status;
 }
 
@@ -123,8 +147,8 @@ ecow_status ecow_text_replace(ecow_text *text, const char *pattern, size_t patte
     if (pattern_count >= PAST_MEMORY || replacement_count >= PAST_MEMORY) {
         return ECOW_MEMORY;
     }
-    ecow_status status = ecow_text_keep(&from, text, 0, 0, pattern, pattern_count);
-    ecow_status other = ecow_text_keep(&to, text, 0, 0, replacement, replacement_count);
+    ecow_status status = ecow_text_keep(&from, text, pattern, pattern_count);
+    ecow_status other = ecow_text_keep(&to, text, replacement, replacement_count);
     if (status == ECOW_OK) {
         status = other;
     }
@@ -132,8 +156,8 @@ ecow_status ecow_text_replace(ecow_text *text, const char *pattern, size_t patte
         status =
             ecow_proved_text_replace(&text, from.items, pattern_count, to.items, replacement_count);
     }
-    ecow_text_drop(&from.held);
-    ecow_text_drop(&to.held);
+    ecow_text_let_go(&from);
+    ecow_text_let_go(&to);
     return status;
 }
 
@@ -147,4 +171,384 @@ ecow_status ecow_text_to_uppercase(ecow_text *text) {
 
 ecow_status ecow_text_repeat(ecow_text *text, size_t count) {
     return ecow_proved_text_repeat(&text, count);
+}
+
+/* The 0 is appended and taken away again, so that it stands behind the bytes of a block that is not
+ * shared. Of 14 bytes in the struct the one behind them is the library's, so these leave it. */
+ecow_status ecow_text_c_str(ecow_text *text, const char **out) {
+    size_t len = ecow_text_len(text);
+    const char *start = ecow_text_slice(text, NULL);
+    if (memchr(start, 0, len)) {
+        return ECOW_INNER_NUL;
+    }
+    ecow_status status = ecow_text_reserve(text, 2);
+    if (status == ECOW_OK) {
+        status = ecow_text_push(text, 0);
+    }
+    if (status == ECOW_OK) {
+        status = ecow_text_truncate(text, len);
+    }
+    if (status == ECOW_OK && out) {
+        *out = ecow_text_slice(text, NULL);
+    }
+    return status;
+}
+
+bool ecow_texts_shares(const ecow_texts *left, const ecow_texts *right) {
+    return left && right && left->word[0] == right->word[0] && ecow_texts_len(left) > 0;
+}
+
+ecow_status ecow_texts_get(const ecow_texts *texts, size_t index, ecow_text *text) {
+    ecow_texts *place = (ecow_texts *)texts;
+    ecow_text ignored = {{0}}, *out = text ? text : &ignored;
+    ecow_status status = ecow_proved_texts_get(&place, index, &out);
+    ecow_text_drop(&ignored);
+    return status;
+}
+
+const char *ecow_texts_at(const ecow_texts *texts, size_t index, size_t *len) {
+    ecow_texts *place = (ecow_texts *)texts;
+    const char *start = (const char *)nothing;
+    size_t count = 0;
+    ecow_status status = ecow_proved_texts_at(&place, index, &start, &count);
+    if (len) {
+        *len = count;
+    }
+    return status == ECOW_OK ? start : NULL;
+}
+
+ecow_status ecow_texts_set(ecow_texts *texts, size_t index, const ecow_text *text) {
+    ecow_text *item = (ecow_text *)text;
+    return ecow_proved_texts_set(&texts, index, &item);
+}
+
+/* The bytes are copied before the list changes, and so may lie in it. */
+ecow_status ecow_texts_set_text(ecow_texts *texts, size_t index, const char *bytes, size_t count) {
+    ecow_text text = {{0}};
+    ecow_status status = texts ? ecow_text_assign(&text, bytes, count) : ECOW_NULL;
+    if (status == ECOW_CAPACITY && index >= ecow_texts_len(texts)) {
+        status = ECOW_INDEX;
+    }
+    if (status == ECOW_OK) {
+        status = ecow_texts_set(texts, index, &text);
+    }
+    ecow_text_drop(&text);
+    return status;
+}
+
+ecow_status ecow_texts_push(ecow_texts *texts, const ecow_text *text) {
+    ecow_text *item = (ecow_text *)text;
+    return ecow_proved_texts_push(&texts, &item);
+}
+
+/* The bytes are copied before the list changes, and so may lie in it. */
+ecow_status ecow_texts_push_text(ecow_texts *texts, const char *bytes, size_t count) {
+    ecow_text text = {{0}};
+    ecow_status status = texts ? ecow_text_assign(&text, bytes, count) : ECOW_NULL;
+    if (status == ECOW_OK) {
+        status = ecow_texts_push(texts, &text);
+    }
+    ecow_text_drop(&text);
+    return status;
+}
+
+ecow_status ecow_texts_pop(ecow_texts *texts, ecow_text *text) {
+    ecow_text ignored = {{0}}, *out = text ? text : &ignored;
+    ecow_status status = ecow_proved_texts_pop(&texts, &out);
+    ecow_text_drop(&ignored);
+    return status;
+}
+
+ecow_status ecow_texts_insert(ecow_texts *texts, size_t index, const ecow_text *text) {
+    ecow_text *item = (ecow_text *)text;
+    return ecow_proved_texts_insert(&texts, index, &item);
+}
+
+ecow_status ecow_texts_remove(ecow_texts *texts, size_t index, ecow_text *text) {
+    ecow_text ignored = {{0}}, *out = text ? text : &ignored;
+    ecow_status status = ecow_proved_texts_remove(&texts, index, &out);
+    ecow_text_drop(&ignored);
+    return status;
+}
+
+/* The texts that a call was given, as they stay while the list changes: a clone holds those of the
+ * list itself. */
+typedef struct given_texts {
+    ecow_texts *texts;
+    ecow_texts held;
+} given_texts;
+
+static ecow_status keep_texts(given_texts *given, const ecow_texts *list, const ecow_texts *added) {
+    bool is_itself = list && list == added;
+    given->held = ecow_texts_new();
+    given->texts = is_itself ? &given->held : (ecow_texts *)added;
+    return is_itself ? ecow_texts_clone(&given->held, list) : ECOW_OK;
+}
+
+ecow_status ecow_texts_extend(ecow_texts *texts, const ecow_texts *added) {
+    given_texts given;
+    ecow_status status = keep_texts(&given, texts, added);
+    if (status == ECOW_OK) {
+        status = ecow_proved_texts_extend(&texts, &given.texts);
+    }
+    ecow_texts_drop(&given.held);
+    return status;
+}
+
+ecow_status ecow_texts_splice(ecow_texts *texts, size_t start, size_t end,
+                              const ecow_texts *added) {
+    given_texts given;
+    ecow_status status = keep_texts(&given, texts, added);
+    if (status == ECOW_OK) {
+        status = ecow_proved_texts_splice(&texts, start, end, &given.texts);
+    }
+    ecow_texts_drop(&given.held);
+    return status;
+}
+
+ecow_value ecow_value_new(void) {
+    ecow_value value = {{0}};
+    return value;
+}
+
+extern inline void ecow_value_drop(ecow_value *value);
+
+extern inline ecow_status ecow_value_clone(ecow_value *to, const ecow_value *from);
+
+ecow_kind ecow_value_kind(const ecow_value *value) {
+    ecow_value *place = (ecow_value *)value;
+    return (ecow_kind)ecow_proved_value_kind(&place);
+}
+
+ecow_status ecow_value_set_nothing(ecow_value *value) {
+    return ecow_proved_value_drop(&value);
+}
+
+ecow_status ecow_value_set_truth(ecow_value *value, bool truth) {
+    return ecow_proved_value_set_truth(&value, truth);
+}
+
+ecow_status ecow_value_set_number(ecow_value *value, int64_t number) {
+    return ecow_proved_value_set_number(&value, number);
+}
+
+ecow_status ecow_value_set_real(ecow_value *value, double real) {
+    return ecow_proved_value_set_real(&value, real);
+}
+
+ecow_status ecow_value_set_text(ecow_value *value, const ecow_text *text) {
+    ecow_text *from = (ecow_text *)text;
+    return ecow_proved_value_set_text(&value, &from);
+}
+
+ecow_status ecow_value_set_list(ecow_value *value) {
+    return ecow_proved_value_set_list(&value);
+}
+
+ecow_status ecow_value_set_fields(ecow_value *value) {
+    return ecow_proved_value_set_fields(&value);
+}
+
+ecow_status ecow_value_truth(const ecow_value *value, bool *truth) {
+    ecow_value *place = (ecow_value *)value;
+    bool found = false;
+    ecow_status status = ecow_proved_value_truth(&place, &found);
+    if (status == ECOW_OK && truth) {
+        *truth = found;
+    }
+    return status;
+}
+
+ecow_status ecow_value_number(const ecow_value *value, int64_t *number) {
+    ecow_value *place = (ecow_value *)value;
+    int64_t ignored = 0;
+    return ecow_proved_value_number(&place, number ? number : &ignored);
+}
+
+ecow_status ecow_value_real(const ecow_value *value, double *real) {
+    ecow_value *place = (ecow_value *)value;
+    double ignored = 0;
+    return ecow_proved_value_real(&place, real ? real : &ignored);
+}
+
+ecow_status ecow_value_text(const ecow_value *value, ecow_text *text) {
+    ecow_value *place = (ecow_value *)value;
+    ecow_text ignored = {{0}}, *out = text ? text : &ignored;
+    ecow_status status = ecow_proved_value_text(&place, &out);
+    ecow_text_drop(&ignored);
+    return status;
+}
+
+size_t ecow_value_len(const ecow_value *value) {
+    ecow_value *place = (ecow_value *)value;
+    return ecow_proved_value_len(&place);
+}
+
+/* Gives a call's result to the caller, whose value may be the one that the call took it from. A
+ * result that isn't wanted, and that of a refusal, are given up. */
+static ecow_status hand_over(ecow_status status, ecow_value *made, ecow_value *out) {
+    if (status == ECOW_OK && out) {
+        ecow_value_drop(out);
+        *out = *made;
+    } else {
+        ecow_value_drop(made);
+    }
+    return status;
+}
+
+ecow_status ecow_value_get(const ecow_value *value, size_t index, ecow_value *item) {
+    ecow_value *place = (ecow_value *)value, made = {{0}}, *out = &made;
+    return hand_over(ecow_proved_value_get(&place, index, &out), &made, item);
+}
+
+ecow_status ecow_value_pop(ecow_value *value, ecow_value *item) {
+    ecow_value made = {{0}}, *out = &made;
+    return hand_over(ecow_proved_value_pop(&value, &out), &made, item);
+}
+
+ecow_status ecow_value_remove(ecow_value *value, size_t index, ecow_value *item) {
+    ecow_value made = {{0}}, *out = &made;
+    return hand_over(ecow_proved_value_remove(&value, index, &out), &made, item);
+}
+
+/* A value that a call was given, as it stays while the other one changes: a clone holds that one
+ * itself. */
+typedef struct given_value {
+    ecow_value *value;
+    ecow_value held;
+} given_value;
+
+static ecow_status keep_value(given_value *given, const ecow_value *value, const ecow_value *item) {
+    bool is_itself = value && value == item;
+    given->held = ecow_value_new();
+    given->value = is_itself ? &given->held : (ecow_value *)item;
+    return is_itself ? ecow_value_clone(&given->held, value) : ECOW_OK;
+}
+
+ecow_status ecow_value_set(ecow_value *value, size_t index, const ecow_value *item) {
+    given_value given;
+    ecow_status status = keep_value(&given, value, item);
+    if (status == ECOW_OK) {
+        status = ecow_proved_value_set(&value, index, &given.value);
+    }
+    ecow_value_drop(&given.held);
+    return status;
+}
+
+ecow_status ecow_value_push(ecow_value *value, const ecow_value *item) {
+    given_value given;
+    ecow_status status = keep_value(&given, value, item);
+    if (status == ECOW_OK) {
+        status = ecow_proved_value_push(&value, &given.value);
+    }
+    ecow_value_drop(&given.held);
+    return status;
+}
+
+ecow_status ecow_value_insert(ecow_value *value, size_t index, const ecow_value *item) {
+    given_value given;
+    ecow_status status = keep_value(&given, value, item);
+    if (status == ECOW_OK) {
+        status = ecow_proved_value_insert(&value, index, &given.value);
+    }
+    ecow_value_drop(&given.held);
+    return status;
+}
+
+ecow_status ecow_value_truncate(ecow_value *value, size_t len) {
+    return ecow_proved_value_truncate(&value, len);
+}
+
+/* The name that a call was given, as it stays while the value changes: one that overlaps the
+ * value's struct is copied. */
+typedef struct given_name {
+    const char *bytes;
+    ecow_text held;
+} given_name;
+
+static ecow_status keep_name(given_name *given, const ecow_value *value, const char *name,
+                             size_t count) {
+    given->bytes = name ? name : (const char *)nothing;
+    given->held = ecow_text_new();
+    if (!value || (!name && count)) {
+        return ECOW_NULL;
+    }
+    if (count >= PAST_MEMORY) {
+        return ECOW_MEMORY;
+    }
+    if (overlap(name, count, value, sizeof *value)) {
+        ecow_status status = ecow_text_assign(&given->held, name, count);
+        given->bytes = ecow_text_slice(&given->held, NULL);
+        return status;
+    }
+    return ECOW_OK;
+}
+
+ecow_status ecow_value_get_field(const ecow_value *value, const char *name, size_t count,
+                                 ecow_value *item) {
+    ecow_value *place = (ecow_value *)value, made = {{0}}, *out = &made;
+    given_name given;
+    ecow_status status = keep_name(&given, value, name, count);
+    if (status == ECOW_OK) {
+        status = ecow_proved_value_get_field(&place, given.bytes, count, &out);
+    }
+    ecow_text_drop(&given.held);
+    return hand_over(status, &made, item);
+}
+
+ecow_status ecow_value_set_field(ecow_value *value, const char *name, size_t count,
+                                 const ecow_value *item) {
+    given_name given;
+    given_value kept;
+    ecow_status status = item ? keep_name(&given, value, name, count) : ECOW_NULL;
+    if (status == ECOW_NULL) {
+        return status;
+    }
+    ecow_status other = keep_value(&kept, value, item);
+    status = status == ECOW_OK ? other : status;
+    if (status == ECOW_OK) {
+        status = ecow_proved_value_set_field(&value, given.bytes, count, &kept.value);
+    }
+    ecow_text_drop(&given.held);
+    ecow_value_drop(&kept.held);
+    return status;
+}
+
+ecow_status ecow_value_remove_field(ecow_value *value, const char *name, size_t count,
+                                    ecow_value *item) {
+    ecow_value made = {{0}}, *out = &made;
+    given_name given;
+    ecow_status status = keep_name(&given, value, name, count);
+    if (status == ECOW_OK) {
+        status = ecow_proved_value_remove_field(&value, given.bytes, count, &out);
+    }
+    ecow_text_drop(&given.held);
+    return hand_over(status, &made, item);
+}
+
+ecow_status ecow_value_field_name(const ecow_value *value, size_t index, ecow_text *name) {
+    ecow_value *place = (ecow_value *)value;
+    ecow_text ignored = {{0}}, *out = name ? name : &ignored;
+    ecow_status status = ecow_proved_value_field_name(&place, index, &out);
+    ecow_text_drop(&ignored);
+    return status;
+}
+
+/* Behind the word with its kind, a value has its text, or the word of its list or fields. */
+bool ecow_value_shares(const ecow_value *left, const ecow_value *right) {
+    ecow_kind kind = ecow_value_kind(left);
+    if (!left || !right || ecow_value_kind(right) != kind) {
+        return false;
+    }
+    if (kind == ECOW_KIND_TEXT) {
+        return ecow_text_shares((const ecow_text *)&left->word[1],
+                                (const ecow_text *)&right->word[1]);
+    }
+    return ecow_value_len(left) > 0 && left->word[1] == right->word[1];
+}
+
+bool ecow_value_equal(const ecow_value *left, const ecow_value *right) {
+    ecow_value *first = (ecow_value *)left, *second = (ecow_value *)right;
+    return left == right || ecow_value_shares(left, right)
+           || ecow_proved_value_equal(&first, &second);
 }

@@ -1,9 +1,7 @@
-/* The calls that the three kinds of value have in common. It is included once for each:
- *     VALUE                   the type of the value
- *     ITEM                    the type of an item of its arrays
- *     CALL(name)              a call of the header
- *     PROVED(name)            a call of the proved library
- *     CAN_CUT(value, index)   whether an index isn't inside a character */
+/* The calls that all kinds of value have in common. It is included once for each:
+ *     VALUE          the type of the value
+ *     CALL(name)     a call of the header
+ *     PROVED(name)   a call of the proved library */
 
 VALUE CALL(new)(void) {
     VALUE value = {{0}};
@@ -19,14 +17,6 @@ size_t CALL(len)(const VALUE *value) {
     return PROVED(len)(&place);
 }
 
-const ITEM *CALL(slice)(const VALUE *value, size_t *len) {
-    VALUE *place = (VALUE *)value;
-    const ITEM *start = (const ITEM *)nothing;
-    size_t ignored;
-    PROVED(slice)(&place, &start, len ? len : &ignored);
-    return start;
-}
-
 ecow_status CALL(truncate)(VALUE *value, size_t len) {
     return PROVED(truncate)(&value, len);
 }
@@ -39,14 +29,23 @@ ecow_status CALL(reserve)(VALUE *value, size_t additional) {
     return PROVED(reserve)(&value, additional);
 }
 
+size_t CALL(capacity)(const VALUE *value) {
+    VALUE *place = (VALUE *)value;
+    return PROVED(capacity)(&place);
+}
+
+ecow_status CALL(shrink_to_fit)(VALUE *value) {
+    return PROVED(shrink_to_fit)(&value);
+}
+
 bool CALL(equal)(const VALUE *left, const VALUE *right) {
     VALUE *first = (VALUE *)left, *second = (VALUE *)right;
-    return left == right || PROVED(equal)(&first, &second);
+    return left == right || CALL(shares)(left, right) || PROVED(equal)(&first, &second);
 }
 
 int CALL(compare)(const VALUE *left, const VALUE *right) {
     VALUE *first = (VALUE *)left, *second = (VALUE *)right;
-    if (left == right) {
+    if (left == right || CALL(shares)(left, right)) {
         return 0;
     }
     if (!left || !right) {
@@ -58,79 +57,4 @@ int CALL(compare)(const VALUE *left, const VALUE *right) {
 uint64_t CALL(hash)(const VALUE *value) {
     VALUE *place = (VALUE *)value;
     return PROVED(hash)(&place);
-}
-
-/* What a call answers of an array that no memory holds, put in place of a range. */
-static ecow_status CALL(refuse)(const VALUE *value, size_t start, size_t end, size_t count) {
-    size_t len = CALL(len)(value);
-    if (start > end || end > len) {
-        return ECOW_INDEX;
-    }
-    if (!CAN_CUT(value, start) || !CAN_CUT(value, end)) {
-        return ECOW_BOUNDARY;
-    }
-    return count > PTRDIFF_MAX - (len - (end - start)) ? ECOW_CAPACITY : ECOW_MEMORY;
-}
-
-/* An array that a call was given, as it stays while the value changes. */
-typedef struct CALL(array) {
-    const ITEM *items;
-    VALUE held;
-} CALL(array);
-
-/* Keeps an array that is put in place of a range. One that overlaps the value itself is copied, and
- * a clone holds one in the value's memory. */
-static ecow_status CALL(keep)(CALL(array) * array, const VALUE *value, size_t start, size_t end,
-                              const ITEM *items, size_t count) {
-    VALUE *held = &array->held;
-    size_t len;
-    const ITEM *all = CALL(slice)(value, &len);
-    array->items = items ? items : (const ITEM *)nothing;
-    array->held = CALL(new)();
-    if (!value || (!items && count)) {
-        return ECOW_NULL;
-    }
-    if (count >= PAST_MEMORY) {
-        return CALL(refuse)(value, start, end, count);
-    }
-    if (overlap(items, count * sizeof(ITEM), value, sizeof(VALUE))) {
-        ecow_status status = PROVED(assign)(&held, items, count);
-        array->items = CALL(slice)(held, NULL);
-        return status;
-    }
-    if (overlap(items, count * sizeof(ITEM), all, len * sizeof(ITEM))) {
-        return CALL(clone)(held, value);
-    }
-    return ECOW_OK;
-}
-
-ecow_status CALL(assign)(VALUE *value, const ITEM *items, size_t count) {
-    CALL(array) array;
-    ecow_status status = CALL(keep)(&array, value, 0, CALL(len)(value), items, count);
-    if (status == ECOW_OK) {
-        status = PROVED(assign)(&value, array.items, count);
-    }
-    CALL(drop)(&array.held);
-    return status;
-}
-
-ecow_status CALL(extend)(VALUE *value, const ITEM *items, size_t count) {
-    CALL(array) array;
-    size_t len = CALL(len)(value);
-    ecow_status status = CALL(keep)(&array, value, len, len, items, count);
-    if (status == ECOW_OK) {
-        status = PROVED(extend)(&value, array.items, count);
-    }
-    CALL(drop)(&array.held);
-    return status;
-}
-
-ecow_status CALL(splice)(VALUE *value, size_t start, size_t end, const ITEM *items, size_t count) {
-    CALL(array) array;
-    ecow_status status = CALL(keep)(&array, value, start, end, items, count);
-    if (status == ECOW_OK) {
-        status = PROVED(splice)(&value, start, end, array.items, count);
-    }
-    CALL(drop)(&array.held);
-    return status;
 }

@@ -1,4 +1,5 @@
-/* Lists of numbers, bytes and texts whose clones share memory until one of them is changed.
+/* Lists of numbers, bytes, texts, lists of texts and nested values, whose clones share memory until
+ * one of them is changed.
  *
  * Values. A value is a struct of this header, in memory of yours: on the stack, in another struct,
  * in an array. Zeroed memory is an empty value (`ecow_list list = {0};`). A value that isn't empty
@@ -10,8 +11,9 @@
  *
  * Answers. A call that changes a value answers an `ecow_status`. Unless that is `ECOW_OK`, the
  * value is as it was, and nothing is written to the other pointers. Where several refusals apply,
- * the first of these is answered: a null value, a null array, `ECOW_UTF8`, `ECOW_INDEX`,
- * `ECOW_BOUNDARY`, `ECOW_CAPACITY`. `ECOW_MEMORY` may stand in place of any but `ECOW_NULL`.
+ * the first of these is answered: a null value, a null array, `ECOW_UTF8`, `ECOW_KIND`,
+ * `ECOW_INDEX`, `ECOW_BOUNDARY`, `ECOW_CAPACITY`. `ECOW_MEMORY` may stand in place of any but
+ * `ECOW_NULL`.
  *
  * Pointers. A null pointer is answered, never followed: `ECOW_NULL` by each call that answers a
  * status, and else what an empty value would give. An array may be null where its count is 0, and
@@ -20,17 +22,24 @@
  *
  * Arrays. An array may lie in the value that a call changes, or overlap its struct. One of 2^60
  * items or more isn't read, since no memory holds it: `ECOW_CAPACITY` where the length would pass
- * 2^63 - 1, and else `ECOW_MEMORY`. `ecow_text_replace` answers it with `ECOW_MEMORY` alone.
+ * 2^63 - 1, and else `ECOW_MEMORY`. `ecow_text_replace` and calls by a field's name answer it with
+ * `ECOW_MEMORY` alone.
  *
  * Lifetimes. What a `_slice` returns stays valid until the next call that changes or drops that
- * value, or until the value is moved. It is never null.
+ * value, or until the value is moved. It is never null. Numbers are aligned as `int64_t` is, bytes
+ * aren't.
  *
  * Threads. A value is in one call at a time, whichever thread makes it, and calls that read count
  * too: between two calls from different threads stands a lock, a queue, or a thread's start or
  * join. Its clones are values of their own, which other threads may use meanwhile. Over a library
  * of `make lib COUNT=plain` a value and its clones stay on one thread.
  *
- * Memory is asked of `malloc`, `realloc` and `free`. */
+ * Hashes are those of Rust's `DefaultHasher` for the same contents (SipHash-1-3, with keys of 0):
+ * they don't change from run to run, and don't guard a table against chosen keys.
+ *
+ * Case past ASCII is that of Unicode 18.0.
+ *
+ * Memory is asked of `malloc`, `realloc` and `free`. The platform is Linux on x86-64. */
 #ifndef ECOW_H
 #define ECOW_H
 
@@ -42,6 +51,23 @@
 extern "C" {
 #endif
 
+/* Older C calls otherwise what may be expanded where it is called. */
+#ifdef __GNUC_GNU_INLINE__
+#define ECOW_INLINE extern __inline__
+#else
+#define ECOW_INLINE inline
+#endif
+
+/* This header's version. Versions with the same first two numbers have the same calls, and values
+ * of the same sizes. */
+#define ECOW_VERSION_MAJOR 0
+#define ECOW_VERSION_MINOR 10
+#define ECOW_VERSION_PATCH 0
+#define ECOW_VERSION "0.10.0"
+
+/* The version of the library that is linked, as ECOW_VERSION. Never null. */
+const char *ecow_version(void);
+
 /* What a call answers. */
 typedef enum ecow_status {
     ECOW_OK = 0,       /* It is done. */
@@ -50,7 +76,9 @@ typedef enum ecow_status {
     ECOW_INDEX = 3,    /* An index or a range passes the end, or there is nothing to take. */
     ECOW_BOUNDARY = 4, /* An index is inside a character. */
     ECOW_UTF8 = 5,     /* The bytes are no UTF-8, or the number is no character. */
-    ECOW_NULL = 6      /* A pointer that is needed is null. */
+    ECOW_NULL = 6,     /* A pointer that is needed is null. */
+    ECOW_KIND = 7,     /* The nested value is of another kind. */
+    ECOW_INNER_NUL = 8 /* The text has a 0 inside, so no string of C holds it. */
 } ecow_status;
 
 /* A few words for people: "out of memory". Never null. */
@@ -69,16 +97,24 @@ typedef struct ecow_text {
     uint64_t word[2];
 } ecow_text;
 
+typedef struct ecow_texts {
+    uint64_t word[1];
+} ecow_texts;
+
+typedef struct ecow_value {
+    uint64_t word[3];
+} ecow_value;
+
 /* ---- Lists of numbers ---- */
 
 /* An empty value. */
 ecow_list ecow_list_new(void);
 
 /* Gives the value's memory up, and leaves it empty. */
-inline void ecow_list_drop(ecow_list *list);
+ECOW_INLINE void ecow_list_drop(ecow_list *list);
 
 /* Makes `to` a clone of `from`. What it held is given up. */
-inline ecow_status ecow_list_clone(ecow_list *to, const ecow_list *from);
+ECOW_INLINE ecow_status ecow_list_clone(ecow_list *to, const ecow_list *from);
 
 /* Makes it a copy of `count` numbers. */
 ecow_status ecow_list_assign(ecow_list *list, const int64_t *numbers, size_t count);
@@ -116,6 +152,12 @@ ecow_status ecow_list_clear(ecow_list *list);
 /* Makes room for `additional` more. */
 ecow_status ecow_list_reserve(ecow_list *list, size_t additional);
 
+/* How many numbers there is room for, never fewer than there are. */
+size_t ecow_list_capacity(const ecow_list *list);
+
+/* Gives up room that isn't used, unless another value shares the memory. */
+ecow_status ecow_list_shrink_to_fit(ecow_list *list);
+
 /* Appends `count` numbers: all or none. */
 ecow_status ecow_list_extend(ecow_list *list, const int64_t *numbers, size_t count);
 
@@ -124,6 +166,10 @@ ecow_status ecow_list_extend(ecow_list *list, const int64_t *numbers, size_t cou
 ecow_status ecow_list_splice(ecow_list *list, size_t start, size_t end, const int64_t *numbers,
                              size_t count);
 
+/* Whether both stand in the same memory, and so are equal: not so where they hold nothing, or where
+ * they take no memory, or a pointer is null. */
+bool ecow_list_shares(const ecow_list *left, const ecow_list *right);
+
 /* Whether both have the same numbers. A null pointer equals a null pointer alone. */
 bool ecow_list_equal(const ecow_list *left, const ecow_list *right);
 
@@ -131,7 +177,7 @@ bool ecow_list_equal(const ecow_list *left, const ecow_list *right);
  * A null pointer comes before every value. */
 int ecow_list_compare(const ecow_list *left, const ecow_list *right);
 
-/* A hash (SipHash-1-3, with keys of 0). Equal values have the same. */
+/* A hash. Equal values have the same. */
 uint64_t ecow_list_hash(const ecow_list *list);
 
 /* ---- Bytes: at most 15 take no memory beside the value ---- */
@@ -140,10 +186,10 @@ uint64_t ecow_list_hash(const ecow_list *list);
 ecow_bytes ecow_bytes_new(void);
 
 /* Gives the value's memory up, and leaves it empty. */
-inline void ecow_bytes_drop(ecow_bytes *bytes);
+ECOW_INLINE void ecow_bytes_drop(ecow_bytes *bytes);
 
 /* Makes `to` a clone of `from`. What it held is given up. */
-inline ecow_status ecow_bytes_clone(ecow_bytes *to, const ecow_bytes *from);
+ECOW_INLINE ecow_status ecow_bytes_clone(ecow_bytes *to, const ecow_bytes *from);
 
 /* Makes it a copy of `count` bytes. */
 ecow_status ecow_bytes_assign(ecow_bytes *bytes, const uint8_t *added, size_t count);
@@ -181,6 +227,13 @@ ecow_status ecow_bytes_clear(ecow_bytes *bytes);
 /* Makes room for `additional` more. */
 ecow_status ecow_bytes_reserve(ecow_bytes *bytes, size_t additional);
 
+/* How many bytes there is room for, never fewer than there are: 15 where they are in the struct. */
+size_t ecow_bytes_capacity(const ecow_bytes *bytes);
+
+/* Brings at most 15 bytes back into the struct, and gives their memory up. More stay where they
+ * are, with their room. */
+ecow_status ecow_bytes_shrink_to_fit(ecow_bytes *bytes);
+
 /* Appends `count` bytes: all or none. */
 ecow_status ecow_bytes_extend(ecow_bytes *bytes, const uint8_t *added, size_t count);
 
@@ -189,6 +242,10 @@ ecow_status ecow_bytes_extend(ecow_bytes *bytes, const uint8_t *added, size_t co
 ecow_status ecow_bytes_splice(ecow_bytes *bytes, size_t start, size_t end, const uint8_t *added,
                               size_t count);
 
+/* Whether both stand in the same memory, and so are equal: not so where they hold nothing, or where
+ * they take no memory, or a pointer is null. */
+bool ecow_bytes_shares(const ecow_bytes *left, const ecow_bytes *right);
+
 /* Whether both have the same bytes. A null pointer equals a null pointer alone. */
 bool ecow_bytes_equal(const ecow_bytes *left, const ecow_bytes *right);
 
@@ -196,7 +253,7 @@ bool ecow_bytes_equal(const ecow_bytes *left, const ecow_bytes *right);
  * null pointer comes before every value. */
 int ecow_bytes_compare(const ecow_bytes *left, const ecow_bytes *right);
 
-/* A hash (SipHash-1-3, with keys of 0). Equal values have the same. */
+/* A hash. Equal values have the same. */
 uint64_t ecow_bytes_hash(const ecow_bytes *bytes);
 
 /* ---- Texts: UTF-8, always; at most 15 bytes take no memory beside the value ---- */
@@ -212,10 +269,10 @@ bool ecow_is_utf8(const char *bytes, size_t count);
 ecow_text ecow_text_new(void);
 
 /* Gives the text's memory up, and leaves it empty. */
-inline void ecow_text_drop(ecow_text *text);
+ECOW_INLINE void ecow_text_drop(ecow_text *text);
 
 /* Makes `to` a clone of `from`. What it held is given up. */
-inline ecow_status ecow_text_clone(ecow_text *to, const ecow_text *from);
+ECOW_INLINE ecow_status ecow_text_clone(ecow_text *to, const ecow_text *from);
 
 /* Makes it a copy of `added`. */
 ecow_status ecow_text_assign(ecow_text *text, const char *added, size_t count);
@@ -223,8 +280,12 @@ ecow_status ecow_text_assign(ecow_text *text, const char *added, size_t count);
 /* How many bytes there are. */
 size_t ecow_text_len(const ecow_text *text);
 
-/* The bytes, to read, and how many there are. No 0 stands behind them. */
+/* The bytes, to read, and how many there are. No 0 need stand behind them. */
 const char *ecow_text_slice(const ecow_text *text, size_t *len);
+
+/* Puts a 0 behind the bytes, and writes where they begin to `start`: ECOW_INNER_NUL where one
+ * stands among them. They stay valid as those of a `_slice` do. A shared text is copied. */
+ecow_status ecow_text_c_str(ecow_text *text, const char **start);
 
 /* Whether `index` is a boundary. */
 bool ecow_text_is_boundary(const ecow_text *text, size_t index);
@@ -255,6 +316,13 @@ ecow_status ecow_text_clear(ecow_text *text);
 /* Makes room for `additional` more bytes. */
 ecow_status ecow_text_reserve(ecow_text *text, size_t additional);
 
+/* How many bytes there is room for, never fewer than there are: 15 where they are in the struct. */
+size_t ecow_text_capacity(const ecow_text *text);
+
+/* Brings at most 15 bytes back into the struct, and gives their memory up. More stay where they
+ * are, with their room. */
+ecow_status ecow_text_shrink_to_fit(ecow_text *text);
+
 /* Appends `added`: all or nothing. */
 ecow_status ecow_text_extend(ecow_text *text, const char *added, size_t count);
 
@@ -277,6 +345,10 @@ ecow_status ecow_text_to_uppercase(ecow_text *text);
 /* Makes it `count` times as long: itself, that often. */
 ecow_status ecow_text_repeat(ecow_text *text, size_t count);
 
+/* Whether both stand in the same memory, and so are equal: not so where they hold nothing, or where
+ * they take no memory, or a pointer is null. */
+bool ecow_text_shares(const ecow_text *left, const ecow_text *right);
+
 /* Whether both are the same text. A null pointer equals a null pointer alone. */
 bool ecow_text_equal(const ecow_text *left, const ecow_text *right);
 
@@ -284,32 +356,232 @@ bool ecow_text_equal(const ecow_text *left, const ecow_text *right);
  * where they are equal. A null pointer comes before every text. */
 int ecow_text_compare(const ecow_text *left, const ecow_text *right);
 
-/* A hash (SipHash-1-3, with keys of 0). Equal texts have the same. */
+/* A hash. Equal texts have the same. */
 uint64_t ecow_text_hash(const ecow_text *text);
+
+/* ---- Lists of texts ---- */
+
+/* A text goes in and out as a clone, which shares its memory. A text that a result is written to
+ * holds a value before, which is given up. */
+
+/* An empty list. */
+ecow_texts ecow_texts_new(void);
+
+/* Gives the list's memory up, and that of its texts, and leaves it empty. */
+ECOW_INLINE void ecow_texts_drop(ecow_texts *texts);
+
+/* Makes `to` a clone of `from`. What it held is given up. */
+ECOW_INLINE ecow_status ecow_texts_clone(ecow_texts *to, const ecow_texts *from);
+
+/* How many texts there are. */
+size_t ecow_texts_len(const ecow_texts *texts);
+
+/* Makes `text` a clone of the text at `index`: ECOW_INDEX from the length on. */
+ecow_status ecow_texts_get(const ecow_texts *texts, size_t index, ecow_text *text);
+
+/* The bytes of the text at `index`, to read, and how many there are: null and 0 from the length on.
+ * They stay valid as those of a `_slice` do. No 0 stands behind them. */
+const char *ecow_texts_at(const ecow_texts *texts, size_t index, size_t *len);
+
+/* Puts a text in place of the one at `index`: ECOW_INDEX from the length on. */
+ecow_status ecow_texts_set(ecow_texts *texts, size_t index, const ecow_text *text);
+
+/* The same of a text that is given by its bytes. */
+ecow_status ecow_texts_set_text(ecow_texts *texts, size_t index, const char *bytes, size_t count);
+
+/* Appends a text. */
+ecow_status ecow_texts_push(ecow_texts *texts, const ecow_text *text);
+
+/* The same of a text that is given by its bytes. */
+ecow_status ecow_texts_push_text(ecow_texts *texts, const char *bytes, size_t count);
+
+/* Takes the last text: ECOW_INDEX where there is none. */
+ecow_status ecow_texts_pop(ecow_texts *texts, ecow_text *text);
+
+/* Puts a text in at `index`, before the one that stands there: ECOW_INDEX past the length. */
+ecow_status ecow_texts_insert(ecow_texts *texts, size_t index, const ecow_text *text);
+
+/* Takes the text at `index`: ECOW_INDEX from the length on. */
+ecow_status ecow_texts_remove(ecow_texts *texts, size_t index, ecow_text *text);
+
+/* Keeps the first `len` texts, or all where there are fewer. */
+ecow_status ecow_texts_truncate(ecow_texts *texts, size_t len);
+
+/* Keeps none. Memory that no clone shares is kept for what comes. */
+ecow_status ecow_texts_clear(ecow_texts *texts);
+
+/* Makes room for `additional` more. */
+ecow_status ecow_texts_reserve(ecow_texts *texts, size_t additional);
+
+/* How many texts there is room for, never fewer than there are. */
+size_t ecow_texts_capacity(const ecow_texts *texts);
+
+/* Gives up room that isn't used, unless another value shares the memory. */
+ecow_status ecow_texts_shrink_to_fit(ecow_texts *texts);
+
+/* Appends the texts of `added`, which may be the list itself: all or none. */
+ecow_status ecow_texts_extend(ecow_texts *texts, const ecow_texts *added);
+
+/* Puts the texts of `added`, which may be the list itself, in place of those from `start` up to
+ * `end`, which isn't included: ECOW_INDEX where `start` passes `end`, or `end` the length. */
+ecow_status ecow_texts_splice(ecow_texts *texts, size_t start, size_t end, const ecow_texts *added);
+
+/* Whether both stand in the same memory, and so are equal: not so where they hold nothing, or where
+ * they take no memory, or a pointer is null. */
+bool ecow_texts_shares(const ecow_texts *left, const ecow_texts *right);
+
+/* Whether both have the same texts. A null pointer equals a null pointer alone. */
+bool ecow_texts_equal(const ecow_texts *left, const ecow_texts *right);
+
+/* The order of their texts, one by one: below 0 where `left` comes first, 0 where they are equal. A
+ * null pointer comes before every list. */
+int ecow_texts_compare(const ecow_texts *left, const ecow_texts *right);
+
+/* A hash. Equal lists have the same. */
+uint64_t ecow_texts_hash(const ecow_texts *texts);
+
+/* ---- Nested values ---- */
+
+/* A value is nothing, a truth value, a number, a text, a list of values, or fields by name in
+ * order. It goes in and out as a clone, which shares its memory: to change what lies deep in a
+ * value, take a part out, change it, and put it in again. What lies beside the way stays shared. A
+ * call for another kind of value answers ECOW_KIND.
+ *
+ * A result may be the value itself, which is then replaced. A value is dropped by recursion, so the
+ * stack bounds how deep one may be. */
+
+/* What a value is. */
+typedef enum ecow_kind {
+    ECOW_KIND_NOTHING = 0,
+    ECOW_KIND_TRUTH = 1,
+    ECOW_KIND_NUMBER = 2,
+    ECOW_KIND_REAL = 3,
+    ECOW_KIND_TEXT = 4,
+    ECOW_KIND_LIST = 5,
+    ECOW_KIND_FIELDS = 6
+} ecow_kind;
+
+/* Nothing. */
+ecow_value ecow_value_new(void);
+
+/* Gives the value's memory up, and leaves nothing. */
+ECOW_INLINE void ecow_value_drop(ecow_value *value);
+
+/* Makes `to` a clone of `from`. What it held is given up. */
+ECOW_INLINE ecow_status ecow_value_clone(ecow_value *to, const ecow_value *from);
+
+/* What the value is; a null pointer is nothing. */
+ecow_kind ecow_value_kind(const ecow_value *value);
+
+/* Makes it nothing. */
+ecow_status ecow_value_set_nothing(ecow_value *value);
+
+/* Makes it a truth value. */
+ecow_status ecow_value_set_truth(ecow_value *value, bool truth);
+
+/* Makes it a number. */
+ecow_status ecow_value_set_number(ecow_value *value, int64_t number);
+
+/* Makes it a floating-point number. */
+ecow_status ecow_value_set_real(ecow_value *value, double real);
+
+/* Makes it a text. */
+ecow_status ecow_value_set_text(ecow_value *value, const ecow_text *text);
+
+/* Makes it a list of no items. */
+ecow_status ecow_value_set_list(ecow_value *value);
+
+/* Makes it a value with no fields. */
+ecow_status ecow_value_set_fields(ecow_value *value);
+
+/* Reads the truth value. */
+ecow_status ecow_value_truth(const ecow_value *value, bool *truth);
+
+/* Reads the number. */
+ecow_status ecow_value_number(const ecow_value *value, int64_t *number);
+
+/* Reads the floating-point number. */
+ecow_status ecow_value_real(const ecow_value *value, double *real);
+
+/* Makes `text` a clone of the text. */
+ecow_status ecow_value_text(const ecow_value *value, ecow_text *text);
+
+/* How many items a list has, or how many fields there are; 0 of another kind. */
+size_t ecow_value_len(const ecow_value *value);
+
+/* Makes `item` a clone of the item of a list, or of a field's value, at `index`: ECOW_INDEX from
+ * the length on. */
+ecow_status ecow_value_get(const ecow_value *value, size_t index, ecow_value *item);
+
+/* Puts an item in place of the one at `index` of a list: ECOW_INDEX from the length on. */
+ecow_status ecow_value_set(ecow_value *value, size_t index, const ecow_value *item);
+
+/* Appends an item to a list. */
+ecow_status ecow_value_push(ecow_value *value, const ecow_value *item);
+
+/* Takes the last item of a list: ECOW_INDEX where there is none. */
+ecow_status ecow_value_pop(ecow_value *value, ecow_value *item);
+
+/* Puts an item in at `index` of a list, before the one that stands there: ECOW_INDEX past the
+ * length. */
+ecow_status ecow_value_insert(ecow_value *value, size_t index, const ecow_value *item);
+
+/* Takes the item at `index` of a list: ECOW_INDEX from the length on. */
+ecow_status ecow_value_remove(ecow_value *value, size_t index, ecow_value *item);
+
+/* Keeps the first `len` items of a list, or all where there are fewer. */
+ecow_status ecow_value_truncate(ecow_value *value, size_t len);
+
+/* Makes `item` a clone of the value of the field of that name, given by its bytes: ECOW_INDEX where
+ * there is none. */
+ecow_status ecow_value_get_field(const ecow_value *value, const char *name, size_t count,
+                                 ecow_value *item);
+
+/* Puts a value in place of that of the field of that name, or appends a field where there is
+ * none. */
+ecow_status ecow_value_set_field(ecow_value *value, const char *name, size_t count,
+                                 const ecow_value *item);
+
+/* Takes the field of that name, and makes `item` its value: ECOW_INDEX where there is none. */
+ecow_status ecow_value_remove_field(ecow_value *value, const char *name, size_t count,
+                                    ecow_value *item);
+
+/* Makes `name` a clone of the name of the field at `index`: ECOW_INDEX from the length on. */
+ecow_status ecow_value_field_name(const ecow_value *value, size_t index, ecow_text *name);
+
+/* Whether both stand in the same memory, and so are equal: not so where they hold nothing, or where
+ * they take no memory, or a pointer is null. */
+bool ecow_value_shares(const ecow_value *left, const ecow_value *right);
+
+/* Whether both are of one kind and hold the same, items and fields in order. A NaN equals each
+ * NaN, so that a value equals its clones. A null pointer equals a null pointer alone. */
+bool ecow_value_equal(const ecow_value *left, const ecow_value *right);
 
 /* ---- The library's own ---- */
 
 /* Two calls that are short enough to be expanded where they stand. */
-#define ECOW_EXPANDED(kind)                                                            \
-    ecow_status ecow_proved_##kind##_clone(ecow_##kind **from, ecow_##kind **to);      \
-    ecow_status ecow_proved_##kind##_drop(ecow_##kind **value);                        \
-                                                                                       \
-    inline void ecow_##kind##_drop(ecow_##kind *kind) {                                \
-        (void)ecow_proved_##kind##_drop(&kind);                                        \
-    }                                                                                  \
-                                                                                       \
-    inline ecow_status ecow_##kind##_clone(ecow_##kind *to, const ecow_##kind *from) { \
-        ecow_##kind *source = (ecow_##kind *)from;                                     \
-        if (to == source) {                                                            \
-            return to ? ECOW_OK : ECOW_NULL;                                           \
-        }                                                                              \
-        return ecow_proved_##kind##_clone(&source, &to);                               \
+#define ECOW_EXPANDED(kind)                                                                 \
+    ecow_status ecow_proved_##kind##_clone(const ecow_##kind **from, ecow_##kind **to);     \
+    ecow_status ecow_proved_##kind##_drop(ecow_##kind **value);                             \
+                                                                                            \
+    ECOW_INLINE void ecow_##kind##_drop(ecow_##kind *kind) {                                \
+        (void)ecow_proved_##kind##_drop(&kind);                                             \
+    }                                                                                       \
+                                                                                            \
+    ECOW_INLINE ecow_status ecow_##kind##_clone(ecow_##kind *to, const ecow_##kind *from) { \
+        if (to == from) {                                                                   \
+            return to ? ECOW_OK : ECOW_NULL;                                                \
+        }                                                                                   \
+        return ecow_proved_##kind##_clone(&from, &to);                                      \
     }
 
 ECOW_EXPANDED(list)
 ECOW_EXPANDED(bytes)
 ECOW_EXPANDED(text)
+ECOW_EXPANDED(texts)
+ECOW_EXPANDED(value)
 #undef ECOW_EXPANDED
+#undef ECOW_INLINE
 
 #ifdef __cplusplus
 }

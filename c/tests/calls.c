@@ -182,6 +182,554 @@ static void texts(void) {
     ecow_text_drop(&clone);
 }
 
+#define LONG_TEXT "a text of more than 15 bytes"
+
+/* The texts that are given, and how many they are. */
+#define THESE(...)                      \
+    (const char *const[]){__VA_ARGS__}, \
+        sizeof((const char *const[]){__VA_ARGS__}) / sizeof(const char *)
+
+static void lists_of_texts(void) {
+    ecow_texts texts = ecow_texts_new(), clone = {{0}};
+    ecow_text text = {{0}}, out = {{0}};
+    size_t len = 99;
+    CHECK(texts_hold(&texts, NULL, 0) && ecow_text_assign(&out, "kept", 4) == ECOW_OK);
+    CHECK(ecow_texts_pop(&texts, &out) == ECOW_INDEX && text_is(&out, "kept"));
+    CHECK(ecow_text_assign(&text, LONG_TEXT, strlen(LONG_TEXT)) == ECOW_OK);
+    CHECK(ecow_texts_push(&texts, &text) == ECOW_OK && text_is(&text, LONG_TEXT));
+    CHECK(ecow_texts_at(&texts, 0, NULL) == ecow_text_slice(&text, NULL));
+    CHECK(ecow_texts_push_text(&texts, "h\xc3\xa9", 3) == ECOW_OK);
+    CHECK(ecow_texts_push_text(&texts, NULL, 0) == ECOW_OK);
+    CHECK(ecow_texts_push_text(&texts, "h\xc3\xa9", 2) == ECOW_UTF8);
+    CHECK(texts_hold(&texts, THESE(LONG_TEXT, "h\xc3\xa9", "")));
+    CHECK(ecow_texts_at(&texts, 2, &len) != NULL && len == 0);
+    CHECK(ecow_texts_at(&texts, 1, &len) != NULL && len == 3);
+    CHECK(ecow_texts_at(&texts, 3, &len) == NULL && len == 0);
+    CHECK(ecow_texts_get(&texts, 0, &out) == ECOW_OK && text_is(&out, LONG_TEXT));
+    CHECK(ecow_text_slice(&out, NULL) == ecow_text_slice(&text, NULL));
+    CHECK(ecow_texts_get(&texts, 3, &out) == ECOW_INDEX && text_is(&out, LONG_TEXT));
+    CHECK(ecow_texts_get(&texts, 1, NULL) == ECOW_OK
+          && ecow_texts_get(&texts, 3, NULL) == ECOW_INDEX);
+    CHECK(ecow_text_push(&out, '!') == ECOW_OK);
+    CHECK(texts_hold(&texts, THESE(LONG_TEXT, "h\xc3\xa9", "")) && text_is(&text, LONG_TEXT));
+    CHECK(ecow_texts_clone(&clone, &texts) == ECOW_OK);
+    CHECK(ecow_texts_at(&clone, 1, NULL) == ecow_texts_at(&texts, 1, NULL));
+    CHECK(ecow_texts_set(&texts, 1, &out) == ECOW_OK && text_is(&out, LONG_TEXT "!"));
+    CHECK(ecow_texts_at(&texts, 1, NULL) == ecow_text_slice(&out, NULL));
+    CHECK(ecow_texts_at(&texts, 0, NULL) == ecow_texts_at(&clone, 0, NULL));
+    CHECK(ecow_texts_set_text(&texts, 2, "c", 1) == ECOW_OK);
+    CHECK(ecow_texts_set(&texts, 3, &out) == ECOW_INDEX);
+    CHECK(ecow_texts_set_text(&texts, 3, "c", 1) == ECOW_INDEX);
+    CHECK(ecow_texts_set_text(&texts, 0, "\xff", 1) == ECOW_UTF8);
+    CHECK(texts_hold(&texts, THESE(LONG_TEXT, LONG_TEXT "!", "c")));
+    CHECK(texts_hold(&clone, THESE(LONG_TEXT, "h\xc3\xa9", "")));
+    CHECK(ecow_text_assign(&text, "x", 1) == ECOW_OK);
+    CHECK(ecow_texts_insert(&texts, 3, &text) == ECOW_OK
+          && ecow_texts_insert(&texts, 0, &text) == ECOW_OK);
+    CHECK(ecow_texts_insert(&texts, 6, &text) == ECOW_INDEX);
+    CHECK(texts_hold(&texts, THESE("x", LONG_TEXT, LONG_TEXT "!", "c", "x")));
+    CHECK(ecow_texts_remove(&texts, 2, &out) == ECOW_OK && text_is(&out, LONG_TEXT "!"));
+    CHECK(ecow_texts_remove(&texts, 0, NULL) == ECOW_OK);
+    CHECK(ecow_texts_remove(&texts, 3, &out) == ECOW_INDEX && text_is(&out, LONG_TEXT "!"));
+    CHECK(texts_hold(&texts, THESE(LONG_TEXT, "c", "x")));
+    CHECK(ecow_texts_pop(&texts, &out) == ECOW_OK && text_is(&out, "x"));
+    CHECK(ecow_texts_pop(&texts, NULL) == ECOW_OK && texts_hold(&texts, THESE(LONG_TEXT)));
+    CHECK(ecow_texts_extend(&texts, &clone) == ECOW_OK);
+    CHECK(texts_hold(&texts, THESE(LONG_TEXT, LONG_TEXT, "h\xc3\xa9", "")));
+    CHECK(texts_hold(&clone, THESE(LONG_TEXT, "h\xc3\xa9", "")));
+    CHECK(ecow_texts_truncate(&texts, 9) == ECOW_OK && ecow_texts_len(&texts) == 4);
+    CHECK(ecow_texts_truncate(&texts, 2) == ECOW_OK
+          && texts_hold(&texts, THESE(LONG_TEXT, LONG_TEXT)));
+    CHECK(ecow_texts_splice(&texts, 1, 1, &clone) == ECOW_OK);
+    CHECK(texts_hold(&texts, THESE(LONG_TEXT, LONG_TEXT, "h\xc3\xa9", "", LONG_TEXT)));
+    CHECK(ecow_texts_splice(&texts, 2, 1, &clone) == ECOW_INDEX);
+    CHECK(ecow_texts_splice(&texts, 0, 6, &clone) == ECOW_INDEX);
+    CHECK(ecow_texts_splice(&texts, 0, 5, &clone) == ECOW_OK);
+    CHECK(texts_hold(&texts, THESE(LONG_TEXT, "h\xc3\xa9", "")));
+    CHECK(ecow_texts_reserve(&texts, 100) == ECOW_OK && ecow_texts_len(&texts) == 3);
+    CHECK(ecow_texts_reserve(&texts, SIZE_MAX) == ECOW_CAPACITY);
+    CHECK(ecow_texts_reserve(&texts, PTRDIFF_MAX) == ECOW_CAPACITY);
+    CHECK(ecow_texts_reserve(&texts, PTRDIFF_MAX - 3) == ECOW_MEMORY);
+    CHECK(texts_hold(&texts, THESE(LONG_TEXT, "h\xc3\xa9", "")));
+    CHECK(ecow_texts_clear(&texts) == ECOW_OK && texts_hold(&texts, NULL, 0));
+    CHECK(ecow_texts_push_text(&texts, "y", 1) == ECOW_OK && texts_hold(&texts, THESE("y")));
+    ecow_texts_drop(&texts);
+    CHECK(texts_hold(&texts, NULL, 0));
+    CHECK(texts_hold(&clone, THESE(LONG_TEXT, "h\xc3\xa9", "")));
+    ecow_texts_drop(&texts);
+    ecow_texts_drop(&clone);
+    ecow_text_drop(&text);
+    ecow_text_drop(&out);
+}
+
+/* The list itself where another is given, and bytes that lie in it. */
+static void lists_of_texts_in_themselves(void) {
+    ecow_texts texts = {{0}}, clone = {{0}};
+    CHECK(ecow_texts_push_text(&texts, "ab", 2) == ECOW_OK);
+    CHECK(ecow_texts_push_text(&texts, LONG_TEXT, strlen(LONG_TEXT)) == ECOW_OK);
+    CHECK(ecow_texts_clone(&texts, &texts) == ECOW_OK);
+    CHECK(ecow_texts_extend(&texts, &texts) == ECOW_OK);
+    CHECK(texts_hold(&texts, THESE("ab", LONG_TEXT, "ab", LONG_TEXT)));
+    CHECK(ecow_texts_splice(&texts, 1, 3, &texts) == ECOW_OK);
+    CHECK(texts_hold(&texts, THESE("ab", "ab", LONG_TEXT, "ab", LONG_TEXT, LONG_TEXT)));
+    CHECK(ecow_texts_splice(&texts, 2, 1, &texts) == ECOW_INDEX && ecow_texts_len(&texts) == 6);
+    for (size_t index = 0; index < 6; index++) {
+        size_t len;
+        const char *bytes = ecow_texts_at(&texts, index, &len);
+        CHECK(ecow_texts_push_text(&texts, bytes, len) == ECOW_OK);
+        bytes = ecow_texts_at(&texts, index, &len);
+        CHECK(ecow_texts_set_text(&texts, index, bytes + 1, len - 1) == ECOW_OK);
+    }
+    CHECK(texts_hold(&texts, THESE("b", "b", &LONG_TEXT[1], "b", &LONG_TEXT[1], &LONG_TEXT[1], "ab",
+                                   "ab", LONG_TEXT, "ab", LONG_TEXT, LONG_TEXT)));
+    CHECK(ecow_texts_truncate(&texts, 0) == ECOW_OK && texts_hold(&texts, NULL, 0));
+    CHECK(ecow_texts_extend(&texts, &texts) == ECOW_OK && texts_hold(&texts, NULL, 0));
+    CHECK(ecow_texts_splice(&texts, 0, 0, &clone) == ECOW_OK && texts_hold(&texts, NULL, 0));
+    ecow_texts_drop(&texts);
+    ecow_texts_drop(&clone);
+}
+
+static void orders_of_lists_of_texts(void) {
+    ecow_texts left = {{0}}, right = {{0}};
+    CHECK(ecow_texts_equal(&left, &right) && ecow_texts_compare(&left, &right) == 0);
+    CHECK(ecow_texts_hash(&left) == ecow_texts_hash(&right));
+    CHECK(ecow_texts_push_text(&left, "one", 3) == ECOW_OK && !ecow_texts_equal(&left, &right));
+    CHECK(ecow_texts_compare(&left, &right) > 0 && ecow_texts_compare(&right, &left) < 0);
+    CHECK(ecow_texts_hash(&left) != ecow_texts_hash(&right));
+    CHECK(ecow_texts_push_text(&right, "only", 4) == ECOW_OK);
+    CHECK(ecow_texts_compare(&left, &right) < 0 && !ecow_texts_equal(&left, &right));
+    CHECK(ecow_texts_push_text(&left, "caf\xc3\xa9", 5) == ECOW_OK);
+    CHECK(ecow_texts_compare(&left, &right) < 0 && ecow_texts_compare(&right, &left) > 0);
+    CHECK(ecow_texts_set_text(&right, 0, "one", 3) == ECOW_OK);
+    CHECK(ecow_texts_push_text(&right, "caf\xc3\xa9", 5) == ECOW_OK);
+    CHECK(ecow_texts_equal(&left, &right) && ecow_texts_compare(&left, &right) == 0);
+    CHECK(ecow_texts_push_text(&left, "", 0) == ECOW_OK && !ecow_texts_equal(&left, &right));
+    /* What the hasher of Rust's standard library gives for a vector of the same strings. */
+    CHECK(ecow_texts_hash(&left) == UINT64_C(5263874958803710912));
+    CHECK(ecow_texts_equal(&left, &left) && ecow_texts_compare(&left, &left) == 0);
+    CHECK(ecow_texts_equal(NULL, NULL) && !ecow_texts_equal(&left, NULL)
+          && !ecow_texts_equal(NULL, &left));
+    CHECK(ecow_texts_compare(NULL, NULL) == 0 && ecow_texts_compare(NULL, &left) < 0);
+    CHECK(ecow_texts_compare(&left, NULL) > 0);
+    ecow_texts_drop(&left);
+    ecow_texts_drop(&right);
+}
+
+/* A null pointer at each place, and which refusal is told where several apply. */
+static void refusals_of_lists_of_texts(void) {
+    const size_t large = (size_t)1 << 60, most = SIZE_MAX;
+    ecow_texts texts = {{0}}, none = {{0}};
+    ecow_text text = {{0}};
+    size_t len = 99;
+    CHECK(ecow_texts_len(NULL) == 0 && ecow_texts_hash(NULL) == ecow_texts_hash(&none));
+    CHECK(ecow_texts_at(NULL, 0, &len) == NULL && len == 0);
+    CHECK(ecow_texts_clone(NULL, &none) == ECOW_NULL && ecow_texts_clone(&none, NULL) == ECOW_NULL);
+    CHECK(ecow_texts_clone(NULL, NULL) == ECOW_NULL);
+    ecow_texts_drop(NULL);
+    CHECK(ecow_texts_push_text(&texts, "ab", 2) == ECOW_OK);
+    CHECK(ecow_text_assign(&text, "cd", 2) == ECOW_OK);
+    CHECK(ecow_texts_get(NULL, 9, &text) == ECOW_NULL
+          && ecow_texts_get(NULL, 0, NULL) == ECOW_NULL);
+    CHECK(ecow_texts_pop(NULL, &text) == ECOW_NULL && ecow_texts_pop(NULL, NULL) == ECOW_NULL);
+    CHECK(ecow_texts_remove(NULL, 9, &text) == ECOW_NULL
+          && ecow_texts_remove(NULL, 0, NULL) == ECOW_NULL);
+    CHECK(ecow_texts_set(NULL, 9, &text) == ECOW_NULL
+          && ecow_texts_set(NULL, 0, NULL) == ECOW_NULL);
+    CHECK(ecow_texts_set(&texts, 9, NULL) == ECOW_NULL
+          && ecow_texts_set(&texts, 0, NULL) == ECOW_NULL);
+    CHECK(ecow_texts_push(NULL, &text) == ECOW_NULL && ecow_texts_push(&texts, NULL) == ECOW_NULL);
+    CHECK(ecow_texts_push(NULL, NULL) == ECOW_NULL);
+    CHECK(ecow_texts_insert(NULL, 9, &text) == ECOW_NULL
+          && ecow_texts_insert(&texts, 9, NULL) == ECOW_NULL);
+    CHECK(ecow_texts_truncate(NULL, 0) == ECOW_NULL && ecow_texts_clear(NULL) == ECOW_NULL);
+    CHECK(ecow_texts_reserve(NULL, most) == ECOW_NULL);
+    CHECK(ecow_texts_extend(NULL, &none) == ECOW_NULL
+          && ecow_texts_extend(&texts, NULL) == ECOW_NULL);
+    CHECK(ecow_texts_extend(NULL, NULL) == ECOW_NULL);
+    CHECK(ecow_texts_splice(NULL, 2, 1, &none) == ECOW_NULL
+          && ecow_texts_splice(&texts, 2, 1, NULL) == ECOW_NULL);
+    CHECK(ecow_texts_splice(NULL, 0, 0, NULL) == ECOW_NULL);
+    CHECK(ecow_texts_push_text(NULL, "\xff", 1) == ECOW_NULL
+          && ecow_texts_push_text(NULL, NULL, 0) == ECOW_NULL);
+    CHECK(ecow_texts_push_text(&texts, NULL, 1) == ECOW_NULL
+          && ecow_texts_push_text(&texts, NULL, most) == ECOW_NULL);
+    CHECK(ecow_texts_push_text(&texts, "a", large) == ECOW_MEMORY);
+    CHECK(ecow_texts_push_text(&texts, "a", PTRDIFF_MAX) == ECOW_MEMORY);
+    CHECK(ecow_texts_push_text(&texts, "a", most) == ECOW_CAPACITY);
+    CHECK(ecow_texts_set_text(NULL, 9, "\xff", 1) == ECOW_NULL
+          && ecow_texts_set_text(NULL, 0, NULL, 0) == ECOW_NULL);
+    CHECK(ecow_texts_set_text(&texts, 0, NULL, 1) == ECOW_NULL
+          && ecow_texts_set_text(&texts, 9, NULL, most) == ECOW_NULL);
+    CHECK(ecow_texts_set_text(&texts, 9, "\xff", 1) == ECOW_UTF8);
+    CHECK(ecow_texts_set_text(&texts, 0, "a", large) == ECOW_MEMORY);
+    CHECK(ecow_texts_set_text(&texts, 0, "a", most) == ECOW_CAPACITY);
+    CHECK(ecow_texts_set_text(&texts, 1, "a", most) == ECOW_INDEX);
+    CHECK(texts_hold(&texts, THESE("ab")) && text_is(&text, "cd") && texts_hold(&none, NULL, 0));
+    ecow_texts_drop(&texts);
+    ecow_text_drop(&text);
+}
+
+/* Whether the value is a number, or a text. */
+static bool is_number(const ecow_value *value, int64_t number) {
+    int64_t found = ~number;
+    return ecow_value_kind(value) == ECOW_KIND_NUMBER && ecow_value_number(value, &found) == ECOW_OK
+           && found == number;
+}
+
+static bool is_the_text(const ecow_value *value, const char *bytes) {
+    ecow_text found = {{0}};
+    bool same = ecow_value_kind(value) == ECOW_KIND_TEXT
+                && ecow_value_text(value, &found) == ECOW_OK && text_is(&found, bytes);
+    ecow_text_drop(&found);
+    return same;
+}
+
+/* Whether the value is a list of these numbers. */
+static bool has_numbers(const ecow_value *value, const int64_t *numbers, size_t count) {
+    ecow_value item = {{0}};
+    bool same = ecow_value_kind(value) == ECOW_KIND_LIST && ecow_value_len(value) == count;
+    for (size_t index = 0; same && index < count; index++) {
+        same = ecow_value_get(value, index, &item) == ECOW_OK && is_number(&item, numbers[index]);
+    }
+    ecow_value_drop(&item);
+    return same;
+}
+
+/* Whether the value has a field with this number at the index. */
+static bool has_field(const ecow_value *value, size_t index, const char *name, int64_t number) {
+    ecow_value item = {{0}};
+    ecow_text found = {{0}};
+    bool same = ecow_value_kind(value) == ECOW_KIND_FIELDS
+                && ecow_value_field_name(value, index, &found) == ECOW_OK && text_is(&found, name)
+                && ecow_value_get(value, index, &item) == ECOW_OK && is_number(&item, number);
+    ecow_value_drop(&item);
+    ecow_text_drop(&found);
+    return same;
+}
+
+static ecow_value number_value(int64_t number) {
+    ecow_value value = {{0}};
+    CHECK(ecow_value_set_number(&value, number) == ECOW_OK);
+    return value;
+}
+
+/* What a value is made, and read as; each reader refuses each other kind. */
+static void values(void) {
+    ecow_value value = ecow_value_new(), item = {{0}};
+    ecow_text text = {{0}}, kept = {{0}};
+    bool truth = true;
+    int64_t number = 99;
+    double real = 0.5, nan = 0, same;
+    uint64_t bits = UINT64_C(0x7ff8000000abcdef);
+    memcpy(&nan, &bits, sizeof nan);
+    CHECK(ecow_text_assign(&text, LONG_TEXT, strlen(LONG_TEXT)) == ECOW_OK);
+    CHECK(ecow_text_assign(&kept, "kept", 4) == ECOW_OK);
+    for (int kind = ECOW_KIND_NOTHING; kind <= ECOW_KIND_FIELDS; kind++) {
+        ecow_status (*const made[])(ecow_value *) = {ecow_value_set_nothing, ecow_value_set_list,
+                                                     ecow_value_set_fields};
+        CHECK(kind != ECOW_KIND_NOTHING || made[0](&value) == ECOW_OK);
+        CHECK(kind != ECOW_KIND_TRUTH || ecow_value_set_truth(&value, false) == ECOW_OK);
+        CHECK(kind != ECOW_KIND_NUMBER || ecow_value_set_number(&value, INT64_MIN) == ECOW_OK);
+        CHECK(kind != ECOW_KIND_REAL || ecow_value_set_real(&value, -0.0) == ECOW_OK);
+        CHECK(kind != ECOW_KIND_TEXT || ecow_value_set_text(&value, &text) == ECOW_OK);
+        CHECK(kind != ECOW_KIND_LIST || made[1](&value) == ECOW_OK);
+        CHECK(kind != ECOW_KIND_FIELDS || made[2](&value) == ECOW_OK);
+        CHECK((int)ecow_value_kind(&value) == kind && ecow_value_len(&value) == 0);
+        if (kind != ECOW_KIND_TRUTH) {
+            CHECK(ecow_value_truth(&value, &truth) == ECOW_KIND && truth);
+        }
+        if (kind != ECOW_KIND_NUMBER) {
+            CHECK(ecow_value_number(&value, &number) == ECOW_KIND && number == 99);
+        }
+        if (kind != ECOW_KIND_REAL) {
+            CHECK(ecow_value_real(&value, &real) == ECOW_KIND && real == 0.5);
+        }
+        if (kind != ECOW_KIND_TEXT) {
+            CHECK(ecow_value_text(&value, &kept) == ECOW_KIND && text_is(&kept, "kept"));
+            CHECK(ecow_value_text(&value, NULL) == ECOW_KIND);
+        }
+        if (kind != ECOW_KIND_LIST) {
+            CHECK(ecow_value_set(&value, 0, &item) == ECOW_KIND);
+            CHECK(ecow_value_push(&value, &item) == ECOW_KIND);
+            CHECK(ecow_value_pop(&value, &item) == ECOW_KIND);
+            CHECK(ecow_value_insert(&value, 1, &item) == ECOW_KIND);
+            CHECK(ecow_value_remove(&value, 0, &item) == ECOW_KIND);
+            CHECK(ecow_value_truncate(&value, 0) == ECOW_KIND);
+        }
+        if (kind != ECOW_KIND_FIELDS) {
+            CHECK(ecow_value_get_field(&value, "a", 1, &item) == ECOW_KIND);
+            CHECK(ecow_value_set_field(&value, "a", 1, &item) == ECOW_KIND);
+            CHECK(ecow_value_remove_field(&value, "a", 1, &item) == ECOW_KIND);
+            CHECK(ecow_value_field_name(&value, 0, &kept) == ECOW_KIND && text_is(&kept, "kept"));
+        }
+        CHECK(ecow_value_get(&value, 0, &item) == (kind < ECOW_KIND_LIST ? ECOW_KIND : ECOW_INDEX));
+        CHECK(ecow_value_kind(&item) == ECOW_KIND_NOTHING && (int)ecow_value_kind(&value) == kind);
+    }
+    CHECK(ecow_value_set_truth(&value, false) == ECOW_OK);
+    CHECK(ecow_value_truth(&value, &truth) == ECOW_OK && !truth);
+    CHECK(ecow_value_truth(&value, NULL) == ECOW_OK
+          && ecow_value_set_truth(&value, true) == ECOW_OK);
+    CHECK(ecow_value_truth(&value, &truth) == ECOW_OK && truth);
+    value = number_value(INT64_MIN);
+    CHECK(is_number(&value, INT64_MIN) && ecow_value_number(&value, NULL) == ECOW_OK);
+    CHECK(ecow_value_set_real(&value, -2.5) == ECOW_OK
+          && ecow_value_real(&value, &real) == ECOW_OK);
+    CHECK(real == -2.5 && ecow_value_real(&value, NULL) == ECOW_OK);
+    CHECK(ecow_value_set_real(&value, nan) == ECOW_OK && ecow_value_real(&value, &same) == ECOW_OK);
+    CHECK(same != same);
+    CHECK(ecow_value_set_text(&value, &text) == ECOW_OK && text_is(&text, LONG_TEXT));
+    CHECK(is_the_text(&value, LONG_TEXT) && ecow_value_text(&value, &kept) == ECOW_OK);
+    CHECK(ecow_text_slice(&kept, NULL) == ecow_text_slice(&text, NULL));
+    CHECK(ecow_text_push(&text, '!') == ECOW_OK && is_the_text(&value, LONG_TEXT));
+    ecow_value_drop(&value);
+    CHECK(ecow_value_kind(&value) == ECOW_KIND_NOTHING);
+    ecow_value_drop(&value);
+    ecow_text_drop(&text);
+    ecow_text_drop(&kept);
+}
+
+static void lists_in_values(void) {
+    ecow_value list = {{0}}, clone = {{0}}, item = number_value(7), out = number_value(-1);
+    const size_t far = (size_t)1 << 32;
+    CHECK(ecow_value_set_list(&list) == ECOW_OK && has_numbers(&list, NULL, 0));
+    CHECK(ecow_value_pop(&list, &out) == ECOW_INDEX && is_number(&out, -1));
+    CHECK(ecow_value_push(&list, &item) == ECOW_OK && is_number(&item, 7));
+    CHECK(ecow_value_set_number(&item, 8) == ECOW_OK && ecow_value_push(&list, &item) == ECOW_OK);
+    CHECK(ecow_value_clone(&clone, &list) == ECOW_OK && ecow_value_equal(&clone, &list));
+    CHECK(ecow_value_insert(&list, 2, &out) == ECOW_OK
+          && ecow_value_insert(&list, 0, &out) == ECOW_OK);
+    CHECK(ecow_value_insert(&list, 5, &out) == ECOW_INDEX
+          && ecow_value_insert(&list, far, &out) == ECOW_INDEX);
+    CHECK(has_numbers(&list, (int64_t[]){-1, 7, 8, -1}, 4));
+    CHECK(has_numbers(&clone, (int64_t[]){7, 8}, 2) && !ecow_value_equal(&clone, &list));
+    CHECK(ecow_value_set_number(&item, 9) == ECOW_OK && ecow_value_set(&list, 3, &item) == ECOW_OK);
+    CHECK(ecow_value_set(&list, 4, &item) == ECOW_INDEX
+          && ecow_value_set(&list, far, &item) == ECOW_INDEX);
+    CHECK(has_numbers(&list, (int64_t[]){-1, 7, 8, 9}, 4));
+    CHECK(ecow_value_get(&list, 2, &out) == ECOW_OK && is_number(&out, 8));
+    CHECK(ecow_value_get(&list, 4, &out) == ECOW_INDEX && is_number(&out, 8));
+    CHECK(ecow_value_get(&list, far, &out) == ECOW_INDEX
+          && ecow_value_get(&list, 0, NULL) == ECOW_OK);
+    CHECK(ecow_value_remove(&list, 0, &out) == ECOW_OK && is_number(&out, -1));
+    CHECK(ecow_value_remove(&list, 3, &out) == ECOW_INDEX && is_number(&out, -1));
+    CHECK(ecow_value_remove(&list, far, NULL) == ECOW_INDEX
+          && ecow_value_remove(&list, 0, NULL) == ECOW_OK);
+    CHECK(has_numbers(&list, (int64_t[]){8, 9}, 2));
+    CHECK(ecow_value_pop(&list, &out) == ECOW_OK && is_number(&out, 9));
+    CHECK(ecow_value_pop(&list, NULL) == ECOW_OK && has_numbers(&list, NULL, 0));
+    CHECK(ecow_value_truncate(&clone, far) == ECOW_OK && has_numbers(&clone, (int64_t[]){7, 8}, 2));
+    CHECK(ecow_value_truncate(&clone, 1) == ECOW_OK && has_numbers(&clone, (int64_t[]){7}, 1));
+    ecow_value_drop(&list);
+    ecow_value_drop(&clone);
+}
+
+static void fields_in_values(void) {
+    ecow_value fields = {{0}}, clone = {{0}}, item = number_value(1), out = number_value(-1);
+    ecow_text name = {{0}};
+    CHECK(ecow_value_set_fields(&fields) == ECOW_OK);
+    CHECK(ecow_value_get_field(&fields, "a", 1, &out) == ECOW_INDEX && is_number(&out, -1));
+    CHECK(ecow_value_remove_field(&fields, "a", 1, &out) == ECOW_INDEX && is_number(&out, -1));
+    CHECK(ecow_value_set_field(&fields, "b", 1, &item) == ECOW_OK && is_number(&item, 1));
+    CHECK(ecow_value_set_number(&item, 2) == ECOW_OK);
+    CHECK(ecow_value_set_field(&fields, LONG_TEXT, strlen(LONG_TEXT), &item) == ECOW_OK);
+    CHECK(ecow_value_set_number(&item, 3) == ECOW_OK);
+    CHECK(ecow_value_set_field(&fields, NULL, 0, &item) == ECOW_OK && ecow_value_len(&fields) == 3);
+    CHECK(ecow_value_clone(&clone, &fields) == ECOW_OK);
+    CHECK(ecow_value_set_number(&item, 4) == ECOW_OK);
+    CHECK(ecow_value_set_field(&fields, LONG_TEXT, strlen(LONG_TEXT), &item) == ECOW_OK);
+    CHECK(ecow_value_len(&fields) == 3 && has_field(&fields, 0, "b", 1));
+    CHECK(has_field(&fields, 1, LONG_TEXT, 4) && has_field(&fields, 2, "", 3));
+    CHECK(has_field(&clone, 1, LONG_TEXT, 2) && ecow_value_len(&clone) == 3);
+    CHECK(ecow_value_get_field(&fields, LONG_TEXT, strlen(LONG_TEXT), &out) == ECOW_OK);
+    CHECK(is_number(&out, 4) && ecow_value_get_field(&fields, "", 0, &out) == ECOW_OK);
+    CHECK(is_number(&out, 3) && ecow_value_get_field(&fields, "b", 1, NULL) == ECOW_OK);
+    CHECK(ecow_value_get_field(&fields, "B", 1, &out) == ECOW_INDEX && is_number(&out, 3));
+    CHECK(ecow_value_get_field(&fields, "bb", 2, &out) == ECOW_INDEX);
+    CHECK(ecow_value_get(&fields, 3, &out) == ECOW_INDEX && is_number(&out, 3));
+    CHECK(ecow_value_field_name(&fields, 3, &name) == ECOW_INDEX && text_is(&name, ""));
+    CHECK(ecow_value_field_name(&fields, 1, NULL) == ECOW_OK);
+    CHECK(ecow_value_get_field(&fields, "\xff", 1, &out) == ECOW_UTF8);
+    CHECK(ecow_value_set_field(&fields, "\xff", 1, &item) == ECOW_UTF8);
+    CHECK(ecow_value_remove_field(&fields, "\xff", 1, &out) == ECOW_UTF8 && is_number(&out, 3));
+    CHECK(ecow_value_remove_field(&fields, "b", 1, &out) == ECOW_OK && is_number(&out, 1));
+    CHECK(ecow_value_remove_field(&fields, "b", 1, &out) == ECOW_INDEX && is_number(&out, 1));
+    CHECK(ecow_value_remove_field(&fields, "", 0, NULL) == ECOW_OK);
+    CHECK(has_field(&fields, 0, LONG_TEXT, 4) && ecow_value_len(&fields) == 1);
+    CHECK(ecow_value_len(&clone) == 3 && has_field(&clone, 0, "b", 1));
+    ecow_value_drop(&fields);
+    ecow_value_drop(&clone);
+    ecow_text_drop(&name);
+}
+
+/* A change deep in a value: what lies beside the way is shared, and clones don't see it. */
+static void deep_changes(void) {
+    ecow_value root = {{0}}, before = {{0}}, list = {{0}}, beside = {{0}}, item = number_value(1);
+    ecow_value found = {{0}};
+    ecow_text text = {{0}}, held = {{0}};
+    CHECK(ecow_text_assign(&text, LONG_TEXT, strlen(LONG_TEXT)) == ECOW_OK);
+    CHECK(ecow_value_set_text(&beside, &text) == ECOW_OK && ecow_value_set_list(&list) == ECOW_OK);
+    CHECK(ecow_value_push(&list, &item) == ECOW_OK && ecow_value_push(&list, &beside) == ECOW_OK);
+    CHECK(ecow_value_set_fields(&root) == ECOW_OK);
+    CHECK(ecow_value_set_field(&root, "list", 4, &list) == ECOW_OK);
+    CHECK(ecow_value_set_field(&root, "beside", 6, &beside) == ECOW_OK);
+    ecow_value_drop(&list);
+    ecow_value_drop(&beside);
+    CHECK(ecow_value_clone(&before, &root) == ECOW_OK && ecow_value_equal(&before, &root));
+    CHECK(ecow_value_get_field(&root, "list", 4, &list) == ECOW_OK);
+    CHECK(ecow_value_set_number(&item, 2) == ECOW_OK && ecow_value_set(&list, 0, &item) == ECOW_OK);
+    CHECK(ecow_value_set_field(&root, "list", 4, &list) == ECOW_OK);
+    CHECK(!ecow_value_equal(&before, &root));
+    CHECK(ecow_value_get_field(&before, "list", 4, &found) == ECOW_OK);
+    CHECK(ecow_value_get(&found, 0, &found) == ECOW_OK && is_number(&found, 1));
+    CHECK(ecow_value_get_field(&root, "list", 4, &found) == ECOW_OK);
+    CHECK(ecow_value_get(&found, 1, &item) == ECOW_OK && ecow_value_text(&item, &held) == ECOW_OK);
+    CHECK(ecow_text_slice(&held, NULL) == ecow_text_slice(&text, NULL));
+    CHECK(ecow_value_get(&found, 0, &found) == ECOW_OK && is_number(&found, 2));
+    CHECK(ecow_value_get_field(&root, "beside", 6, &found) == ECOW_OK);
+    CHECK(ecow_value_text(&found, &held) == ECOW_OK);
+    CHECK(ecow_text_slice(&held, NULL) == ecow_text_slice(&text, NULL));
+    /* The value itself where another one or a result is given. */
+    CHECK(ecow_value_clone(&item, &list) == ECOW_OK && ecow_value_push(&list, &list) == ECOW_OK);
+    CHECK(ecow_value_len(&list) == 3 && ecow_value_get(&list, 2, &found) == ECOW_OK);
+    CHECK(ecow_value_equal(&found, &item) && ecow_value_insert(&list, 0, &list) == ECOW_OK);
+    CHECK(ecow_value_len(&list) == 4 && ecow_value_set(&list, 1, &list) == ECOW_OK);
+    CHECK(ecow_value_get(&list, 1, &found) == ECOW_OK && ecow_value_len(&found) == 4);
+    CHECK(ecow_value_remove(&list, 0, &list) == ECOW_OK && ecow_value_len(&list) == 3);
+    CHECK(ecow_value_pop(&list, &list) == ECOW_OK && ecow_value_equal(&list, &item));
+    CHECK(ecow_value_clone(&list, &list) == ECOW_OK && ecow_value_equal(&list, &item));
+    CHECK(ecow_value_set_field(&root, "root", 4, &root) == ECOW_OK && ecow_value_len(&root) == 3);
+    CHECK(ecow_value_get_field(&root, "root", 4, &found) == ECOW_OK && ecow_value_len(&found) == 2);
+    CHECK(ecow_value_remove_field(&root, "root", 4, &root) == ECOW_OK);
+    CHECK(ecow_value_equal(&root, &found) && ecow_value_get(&root, 0, &root) == ECOW_OK);
+    CHECK(ecow_value_equal(&root, &list) && ecow_value_set_fields(&root) == ECOW_OK);
+    /* A name that lies in the value's struct. */
+    char name[sizeof root];
+    memcpy(name, &root, sizeof root);
+    CHECK(ecow_value_set_field(&root, (const char *)&root, sizeof root, &item) == ECOW_OK);
+    CHECK(ecow_value_get_field(&root, name, sizeof name, &found) == ECOW_OK);
+    CHECK(ecow_value_equal(&found, &item));
+    ecow_value_drop(&root);
+    ecow_value_drop(&before);
+    ecow_value_drop(&list);
+    ecow_value_drop(&found);
+    ecow_value_drop(&item);
+    ecow_text_drop(&text);
+    ecow_text_drop(&held);
+}
+
+static void equality_of_values(void) {
+    ecow_value left = {{0}}, right = {{0}}, item = {{0}}, first = {{0}}, second = {{0}};
+    ecow_text text = {{0}};
+    double nan = 0;
+    uint64_t bits = UINT64_C(0x7ff8000000000000);
+    memcpy(&nan, &bits, sizeof nan);
+    CHECK(ecow_value_equal(&left, &right) && ecow_value_equal(&left, &left));
+    CHECK(ecow_value_equal(NULL, NULL) && !ecow_value_equal(&left, NULL));
+    CHECK(!ecow_value_equal(NULL, &left));
+    CHECK(ecow_value_set_truth(&left, false) == ECOW_OK && !ecow_value_equal(&left, &right));
+    CHECK(ecow_value_set_truth(&right, true) == ECOW_OK && !ecow_value_equal(&left, &right));
+    CHECK(ecow_value_set_truth(&right, false) == ECOW_OK && ecow_value_equal(&left, &right));
+    CHECK(ecow_value_set_number(&left, 0) == ECOW_OK && !ecow_value_equal(&left, &right));
+    CHECK(ecow_value_set_number(&right, 0) == ECOW_OK && ecow_value_equal(&left, &right));
+    CHECK(ecow_value_set_number(&right, -1) == ECOW_OK && !ecow_value_equal(&left, &right));
+    CHECK(ecow_value_set_real(&right, 0.0) == ECOW_OK && !ecow_value_equal(&left, &right));
+    CHECK(ecow_value_set_real(&left, 0.0) == ECOW_OK && ecow_value_equal(&left, &right));
+    CHECK(ecow_value_set_real(&left, -0.0) == ECOW_OK && ecow_value_equal(&left, &right));
+    CHECK(ecow_value_set_real(&left, 1.5) == ECOW_OK && !ecow_value_equal(&left, &right));
+    CHECK(ecow_value_set_real(&left, nan) == ECOW_OK && !ecow_value_equal(&left, &right));
+    CHECK(!ecow_value_equal(&right, &left) && ecow_value_clone(&right, &left) == ECOW_OK);
+    CHECK(ecow_value_equal(&left, &right) && ecow_value_set_real(&right, -nan) == ECOW_OK);
+    CHECK(ecow_value_equal(&left, &right));
+    /* A text that is spilled is equal to one that is inline. */
+    CHECK(ecow_text_assign(&text, "short", 5) == ECOW_OK);
+    CHECK(ecow_value_set_text(&left, &text) == ECOW_OK && !ecow_value_equal(&left, &right));
+    CHECK(ecow_text_reserve(&text, 100) == ECOW_OK);
+    CHECK(ecow_value_set_text(&right, &text) == ECOW_OK && ecow_value_equal(&left, &right));
+    CHECK(ecow_text_push(&text, '!') == ECOW_OK && ecow_value_set_text(&right, &text) == ECOW_OK);
+    CHECK(!ecow_value_equal(&left, &right));
+    CHECK(ecow_value_clone(&first, &left) == ECOW_OK
+          && ecow_value_clone(&second, &right) == ECOW_OK);
+    CHECK(ecow_value_set_list(&left) == ECOW_OK && ecow_value_set_fields(&right) == ECOW_OK);
+    CHECK(!ecow_value_equal(&left, &right) && ecow_value_set_list(&right) == ECOW_OK);
+    CHECK(ecow_value_equal(&left, &right) && ecow_value_push(&left, &item) == ECOW_OK);
+    CHECK(!ecow_value_equal(&left, &right) && !ecow_value_equal(&right, &left));
+    CHECK(ecow_value_push(&right, &item) == ECOW_OK && ecow_value_equal(&left, &right));
+    CHECK(ecow_value_push(&left, &first) == ECOW_OK && ecow_value_push(&right, &second) == ECOW_OK);
+    CHECK(!ecow_value_equal(&left, &right) && ecow_value_set(&right, 1, &first) == ECOW_OK);
+    CHECK(ecow_value_equal(&left, &right));
+    CHECK(ecow_value_set_fields(&left) == ECOW_OK && ecow_value_set_fields(&right) == ECOW_OK);
+    CHECK(ecow_value_equal(&left, &right));
+    CHECK(ecow_value_set_field(&left, "a", 1, &first) == ECOW_OK);
+    CHECK(ecow_value_set_field(&left, "b", 1, &second) == ECOW_OK);
+    CHECK(ecow_value_set_field(&right, "b", 1, &second) == ECOW_OK);
+    CHECK(!ecow_value_equal(&left, &right));
+    CHECK(ecow_value_set_field(&right, "a", 1, &first) == ECOW_OK);
+    /* The order counts, and the names. */
+    CHECK(!ecow_value_equal(&left, &right));
+    CHECK(ecow_value_remove_field(&left, "a", 1, NULL) == ECOW_OK);
+    CHECK(ecow_value_set_field(&left, "c", 1, &first) == ECOW_OK
+          && !ecow_value_equal(&left, &right));
+    CHECK(ecow_value_remove_field(&left, "c", 1, NULL) == ECOW_OK);
+    CHECK(ecow_value_set_field(&left, "a", 1, &first) == ECOW_OK
+          && ecow_value_equal(&left, &right));
+    CHECK(ecow_value_set_field(&left, "a", 1, &second) == ECOW_OK);
+    CHECK(!ecow_value_equal(&left, &right));
+    ecow_value_drop(&left);
+    ecow_value_drop(&right);
+    ecow_value_drop(&first);
+    ecow_value_drop(&second);
+    ecow_text_drop(&text);
+}
+
+/* A null pointer at each place, and which refusal is told where several apply. */
+static void refusals_of_values(void) {
+    const size_t large = (size_t)1 << 60, most = SIZE_MAX;
+    ecow_value list = {{0}}, fields = {{0}}, item = number_value(5);
+    ecow_text text = {{0}};
+    CHECK(ecow_value_set_list(&list) == ECOW_OK && ecow_value_set_fields(&fields) == ECOW_OK);
+    CHECK(ecow_value_kind(NULL) == ECOW_KIND_NOTHING && ecow_value_len(NULL) == 0);
+    ecow_value_drop(NULL);
+    CHECK(ecow_value_clone(NULL, &item) == ECOW_NULL && ecow_value_clone(&item, NULL) == ECOW_NULL);
+    CHECK(ecow_value_clone(NULL, NULL) == ECOW_NULL);
+    CHECK(ecow_value_set_nothing(NULL) == ECOW_NULL
+          && ecow_value_set_truth(NULL, true) == ECOW_NULL);
+    CHECK(ecow_value_set_number(NULL, 1) == ECOW_NULL && ecow_value_set_real(NULL, 1) == ECOW_NULL);
+    CHECK(ecow_value_set_text(NULL, &text) == ECOW_NULL
+          && ecow_value_set_text(&item, NULL) == ECOW_NULL);
+    CHECK(ecow_value_set_list(NULL) == ECOW_NULL && ecow_value_set_fields(NULL) == ECOW_NULL);
+    CHECK(ecow_value_truth(NULL, NULL) == ECOW_NULL && ecow_value_number(NULL, NULL) == ECOW_NULL);
+    CHECK(ecow_value_real(NULL, NULL) == ECOW_NULL && ecow_value_text(NULL, &text) == ECOW_NULL);
+    CHECK(ecow_value_get(NULL, 0, &item) == ECOW_NULL
+          && ecow_value_get(NULL, 0, NULL) == ECOW_NULL);
+    CHECK(ecow_value_set(NULL, 0, &item) == ECOW_NULL
+          && ecow_value_set(&list, 9, NULL) == ECOW_NULL);
+    CHECK(ecow_value_set(&fields, 9, NULL) == ECOW_NULL
+          && ecow_value_set(NULL, 9, NULL) == ECOW_NULL);
+    CHECK(ecow_value_push(NULL, &item) == ECOW_NULL && ecow_value_push(&list, NULL) == ECOW_NULL);
+    CHECK(ecow_value_push(&item, NULL) == ECOW_NULL && ecow_value_push(NULL, NULL) == ECOW_NULL);
+    CHECK(ecow_value_pop(NULL, &item) == ECOW_NULL && ecow_value_pop(NULL, NULL) == ECOW_NULL);
+    CHECK(ecow_value_insert(NULL, 9, &item) == ECOW_NULL
+          && ecow_value_insert(&list, 9, NULL) == ECOW_NULL);
+    CHECK(ecow_value_remove(NULL, 0, &item) == ECOW_NULL
+          && ecow_value_truncate(NULL, 0) == ECOW_NULL);
+    CHECK(ecow_value_get_field(NULL, "\xff", 1, &item) == ECOW_NULL
+          && ecow_value_get_field(&fields, NULL, 1, &item) == ECOW_NULL);
+    CHECK(ecow_value_set_field(NULL, "\xff", 1, &item) == ECOW_NULL
+          && ecow_value_set_field(&fields, NULL, 1, &item) == ECOW_NULL);
+    CHECK(ecow_value_set_field(&fields, "\xff", 1, NULL) == ECOW_NULL);
+    CHECK(ecow_value_remove_field(NULL, "\xff", 1, &item) == ECOW_NULL
+          && ecow_value_remove_field(&fields, NULL, 1, &item) == ECOW_NULL);
+    CHECK(ecow_value_field_name(NULL, 0, &text) == ECOW_NULL);
+    CHECK(ecow_value_get_field(&fields, "a", large, &item) == ECOW_MEMORY);
+    CHECK(ecow_value_set_field(&fields, "a", most, &item) == ECOW_MEMORY);
+    CHECK(ecow_value_remove_field(&fields, "a", most, &item) == ECOW_MEMORY);
+    CHECK(ecow_value_get_field(&list, "\xff", 1, &item) == ECOW_UTF8);
+    CHECK(ecow_value_set_field(&list, "\xff", 1, &item) == ECOW_UTF8);
+    CHECK(ecow_value_remove_field(&list, "\xff", 1, &item) == ECOW_UTF8);
+    CHECK(ecow_value_len(&list) == 0 && ecow_value_len(&fields) == 0 && is_number(&item, 5));
+    CHECK(text_is(&text, ""));
+}
+
 /* A null pointer at each place where a value, an array or a result stands. */
 static void null_pointers(void) {
     ecow_list list = {{0}};
@@ -308,7 +856,17 @@ static void statuses(void) {
     CHECK(ECOW_BOUNDARY == 4 && strcmp(ecow_status_text(4), "index inside a character") == 0);
     CHECK(ECOW_UTF8 == 5 && strcmp(ecow_status_text(5), "invalid UTF-8") == 0);
     CHECK(ECOW_NULL == 6 && strcmp(ecow_status_text(6), "null pointer") == 0);
-    CHECK(strcmp(ecow_status_text(7), "no status") == 0);
+    CHECK(ECOW_KIND == 7 && strcmp(ecow_status_text(7), "value of another kind") == 0);
+    CHECK(ECOW_INNER_NUL == 8 && strcmp(ecow_status_text(8), "a 0 inside the text") == 0);
+    CHECK(strcmp(ecow_status_text(9), "no status") == 0);
+}
+
+/* The version that the library names is that of the header. */
+static void versions(void) {
+    char version[64];
+    snprintf(version, sizeof version, "%d.%d.%d", ECOW_VERSION_MAJOR, ECOW_VERSION_MINOR,
+             ECOW_VERSION_PATCH);
+    CHECK(strcmp(version, ECOW_VERSION) == 0 && strcmp(version, ecow_version()) == 0);
 }
 
 /* Results that aren't wanted, and indices and numbers that 32 bits can't hold. */
@@ -317,6 +875,7 @@ static void wide_numbers(void) {
     ecow_list list = {{0}}, other = {{0}};
     ecow_bytes bytes = {{0}};
     ecow_text text = {{0}};
+    ecow_texts texts = {{0}};
     int64_t number = 0;
     CHECK(ecow_list_push(&list, INT64_MIN) == ECOW_OK);
     CHECK(ecow_list_insert(&list, 1, INT64_MAX) == ECOW_OK);
@@ -342,6 +901,16 @@ static void wide_numbers(void) {
     CHECK(ecow_text_insert(&text, far, "x", 1) == ECOW_INDEX);
     CHECK(ecow_text_pop(&text, NULL) == ECOW_OK && ecow_text_remove(&text, 0, NULL) == ECOW_OK);
     CHECK(ecow_text_truncate(&text, far) == ECOW_OK && text_is(&text, "b"));
+    CHECK(ecow_texts_push(&texts, &text) == ECOW_OK && ecow_texts_at(&texts, far, NULL) == NULL);
+    CHECK(ecow_texts_get(&texts, far, &text) == ECOW_INDEX
+          && ecow_texts_set(&texts, far, &text) == ECOW_INDEX);
+    CHECK(ecow_texts_insert(&texts, far, &text) == ECOW_INDEX
+          && ecow_texts_remove(&texts, far, &text) == ECOW_INDEX);
+    CHECK(ecow_texts_set_text(&texts, far, "c", 1) == ECOW_INDEX);
+    CHECK(ecow_texts_splice(&texts, 0, far, &texts) == ECOW_INDEX);
+    CHECK(ecow_texts_truncate(&texts, far) == ECOW_OK && texts_hold(&texts, THESE("b")));
+    CHECK(text_is(&text, "b"));
+    ecow_texts_drop(&texts);
     ecow_list_drop(&list);
     ecow_list_drop(&other);
     ecow_bytes_drop(&bytes);
@@ -364,6 +933,109 @@ static void moves_and_shares(void) {
     ecow_text_drop(&moved);
 }
 
+/* Two values share after a clone, until one of them changes, and not where they are equal alone. */
+#define CHECK_SHARES(kind, first, second, change)                                         \
+    do {                                                                                  \
+        CHECK(!ecow_##kind##_shares(first, second) && ecow_##kind##_equal(first, second)); \
+        CHECK(ecow_##kind##_clone(second, first) == ECOW_OK);                             \
+        CHECK(ecow_##kind##_shares(first, second) && ecow_##kind##_shares(second, first)); \
+        CHECK(ecow_##kind##_equal(first, second) && ecow_##kind##_shares(first, first));  \
+        CHECK((change) == ECOW_OK && !ecow_##kind##_shares(first, second));               \
+        CHECK(!ecow_##kind##_equal(first, second));                                       \
+        CHECK(!ecow_##kind##_shares(first, NULL) && !ecow_##kind##_shares(NULL, first));  \
+        CHECK(!ecow_##kind##_shares(NULL, NULL));                                         \
+        ecow_##kind##_drop(first);                                                        \
+        CHECK(!ecow_##kind##_shares(first, first) && !ecow_##kind##_shares(first, second)); \
+        CHECK(ecow_##kind##_clone(second, first) == ECOW_OK);                             \
+        CHECK(!ecow_##kind##_shares(first, second) && ecow_##kind##_equal(first, second)); \
+        ecow_##kind##_drop(second);                                                       \
+    } while (0)
+
+static void shared_memory(void) {
+    const uint8_t letters[] = "sixteen letters.";
+    ecow_list lists[2] = {{{0}}, {{0}}};
+    ecow_bytes bytes[2] = {{{0}}, {{0}}};
+    ecow_text texts[2] = {{{0}}, {{0}}};
+    ecow_texts lines[2] = {{{0}}, {{0}}};
+    ecow_value values[2] = {{{0}}, {{0}}}, lone = {{0}};
+    for (int index = 0; index < 2; index++) {
+        CHECK(ecow_list_push(&lists[index], 7) == ECOW_OK);
+        CHECK(ecow_bytes_assign(&bytes[index], letters, 16) == ECOW_OK);
+        CHECK(ecow_text_assign(&texts[index], (const char *)letters, 16) == ECOW_OK);
+        CHECK(ecow_texts_push(&lines[index], &texts[0]) == ECOW_OK);
+        CHECK(ecow_value_set_list(&values[index]) == ECOW_OK);
+        CHECK(ecow_value_push(&values[index], &lone) == ECOW_OK);
+    }
+    CHECK_SHARES(list, &lists[0], &lists[1], ecow_list_push(&lists[0], 8));
+    CHECK_SHARES(bytes, &bytes[0], &bytes[1], ecow_bytes_push(&bytes[0], 8));
+    CHECK_SHARES(texts, &lines[0], &lines[1], ecow_texts_push(&lines[0], &texts[0]));
+    CHECK_SHARES(value, &values[0], &values[1], ecow_value_push(&values[0], &values[1]));
+    for (int index = 0; index < 2; index++) {
+        CHECK(ecow_value_set_text(&values[index], &texts[index]) == ECOW_OK);
+    }
+    CHECK_SHARES(value, &values[0], &values[1], ecow_value_set_truth(&values[0], true));
+    for (int index = 0; index < 2; index++) {
+        CHECK(ecow_value_set_fields(&values[index]) == ECOW_OK);
+        CHECK(ecow_value_set_field(&values[index], "a", 1, &lone) == ECOW_OK);
+    }
+    CHECK_SHARES(value, &values[0], &values[1], ecow_value_set_field(&values[0], "b", 1, &lone));
+    CHECK_SHARES(text, &texts[0], &texts[1], ecow_text_push(&texts[0], '!'));
+}
+
+/* What takes no memory shares none: short texts and bytes, and values of one number. */
+static void nothing_is_shared(void) {
+    ecow_bytes bytes = {{0}}, other_bytes = {{0}};
+    ecow_text text = {{0}}, other = {{0}};
+    ecow_value value = {{0}}, other_value = {{0}};
+    CHECK(ecow_bytes_push(&bytes, 1) == ECOW_OK
+          && ecow_bytes_clone(&other_bytes, &bytes) == ECOW_OK);
+    CHECK(!ecow_bytes_shares(&bytes, &other_bytes) && !ecow_bytes_shares(&bytes, &bytes));
+    CHECK(ecow_text_assign(&text, "fifteen letters", 15) == ECOW_OK);
+    CHECK(ecow_text_clone(&other, &text) == ECOW_OK);
+    CHECK(!ecow_text_shares(&text, &other) && !ecow_text_shares(&text, &text));
+    CHECK(ecow_text_equal(&text, &other) && ecow_text_compare(&text, &other) == 0);
+    CHECK(ecow_value_set_text(&value, &text) == ECOW_OK);
+    CHECK(ecow_value_clone(&other_value, &value) == ECOW_OK);
+    CHECK(!ecow_value_shares(&value, &other_value) && ecow_value_equal(&value, &other_value));
+    CHECK(ecow_value_set_number(&value, 5) == ECOW_OK);
+    CHECK(ecow_value_clone(&other_value, &value) == ECOW_OK);
+    CHECK(!ecow_value_shares(&value, &other_value) && ecow_value_equal(&value, &other_value));
+    CHECK(ecow_value_set_list(&value) == ECOW_OK && ecow_value_set_list(&other_value) == ECOW_OK);
+    CHECK(!ecow_value_shares(&value, &other_value) && ecow_value_equal(&value, &other_value));
+    CHECK(ecow_value_set_fields(&other_value) == ECOW_OK);
+    CHECK(!ecow_value_shares(&value, &other_value) && !ecow_value_equal(&value, &other_value));
+}
+
+/* Strings of C: each length about 15, what stands inside, and what a change leaves of it. */
+static void strings_of_c(void) {
+    const char letters[] = "abcdefghijklmnopqrstuvwxyz";
+    ecow_text text = {{0}}, clone = {{0}};
+    const char *string = NULL;
+    for (size_t len = 0; len <= 26; len++) {
+        CHECK(ecow_text_assign(&text, letters, len) == ECOW_OK);
+        CHECK(ecow_text_c_str(&text, &string) == ECOW_OK && strlen(string) == len);
+        CHECK(memcmp(string, letters, len) == 0 && text_holds(&text, letters, len));
+        CHECK(ecow_text_clone(&clone, &text) == ECOW_OK && ecow_text_push(&clone, '!') == ECOW_OK);
+        CHECK(strlen(string) == len && ecow_text_len(&clone) == len + 1);
+        CHECK(ecow_text_clone(&clone, &text) == ECOW_OK && ecow_text_push(&text, '!') == ECOW_OK);
+        CHECK(text_holds(&clone, letters, len) && ecow_text_c_str(&text, &string) == ECOW_OK);
+        CHECK(strlen(string) == len + 1 && string[len] == '!');
+        CHECK(ecow_text_c_str(&clone, &string) == ECOW_OK && strlen(string) == len);
+        CHECK(ecow_text_shrink_to_fit(&text) == ECOW_OK && ecow_text_len(&text) == len + 1);
+    }
+    CHECK(ecow_text_assign(&text, "a\0b", 3) == ECOW_OK);
+    CHECK(ecow_text_c_str(&text, &string) == ECOW_INNER_NUL && strlen(string) == 26);
+    CHECK(text_holds(&text, "a\0b", 3) && ecow_text_c_str(&text, NULL) == ECOW_INNER_NUL);
+    CHECK(ecow_text_c_str(NULL, &string) == ECOW_NULL && ecow_text_truncate(&text, 1) == ECOW_OK);
+    CHECK(ecow_text_c_str(&text, NULL) == ECOW_OK && text_is(&text, "a"));
+    ecow_text_drop(&text);
+    ecow_text_drop(&clone);
+    CHECK(ecow_list_shrink_to_fit(NULL) == ECOW_NULL);
+    CHECK(ecow_bytes_shrink_to_fit(NULL) == ECOW_NULL);
+    CHECK(ecow_text_shrink_to_fit(NULL) == ECOW_NULL);
+    CHECK(ecow_texts_shrink_to_fit(NULL) == ECOW_NULL);
+}
+
 /* The library's values fit into the structs of the header: nothing around them is written. */
 static void sizes(void) {
     struct {
@@ -374,17 +1046,27 @@ static void sizes(void) {
         uint64_t behind;
         ecow_text text;
         uint64_t after;
-    } all = {1, {{0}}, 2, {{0}}, 3, {{0}}, 4};
+        ecow_texts texts;
+        uint64_t end;
+        ecow_value value;
+        uint64_t last;
+    } all = {1, {{0}}, 2, {{0}}, 3, {{0}}, 4, {{0}}, 5, {{0}}, 6};
     for (int time = 0; time < 40; time++) {
         CHECK(ecow_list_push(&all.list, -1) == ECOW_OK);
         CHECK(ecow_bytes_push(&all.bytes, 255) == ECOW_OK);
         CHECK(ecow_text_push(&all.text, 0x10ffff) == ECOW_OK);
+        CHECK(ecow_texts_push(&all.texts, &all.text) == ECOW_OK);
+        CHECK(ecow_value_set_text(&all.value, &all.text) == ECOW_OK);
         CHECK(all.before == 1 && all.between == 2 && all.behind == 3 && all.after == 4);
+        CHECK(all.end == 5 && all.last == 6);
     }
     ecow_list_drop(&all.list);
     ecow_bytes_drop(&all.bytes);
     ecow_text_drop(&all.text);
+    ecow_texts_drop(&all.texts);
+    ecow_value_drop(&all.value);
     CHECK(all.before == 1 && all.between == 2 && all.behind == 3 && all.after == 4);
+    CHECK(all.end == 5 && all.last == 6);
 }
 
 int main(void) {
@@ -393,11 +1075,25 @@ int main(void) {
     orders_of_lists();
     all_bytes();
     texts();
+    lists_of_texts();
+    lists_of_texts_in_themselves();
+    orders_of_lists_of_texts();
+    refusals_of_lists_of_texts();
+    values();
+    lists_in_values();
+    fields_in_values();
+    deep_changes();
+    equality_of_values();
+    refusals_of_values();
     null_pointers();
     orders_of_refusals();
     statuses();
     wide_numbers();
     moves_and_shares();
+    versions();
+    shared_memory();
+    nothing_is_shared();
+    strings_of_c();
     sizes();
     printf("calls: %ld checks\n", checks);
     return 0;

@@ -24,6 +24,30 @@ static inline void take_no_buffer(void) {
     setvbuf(stdout, NULL, _IONBF, 0);
 }
 
+#ifdef ECOW_FUZZ
+/* What a fuzzer gives instead of a sequence: a byte where few numbers will do, and 0 at its end. */
+static const uint8_t *input;
+static size_t input_left;
+
+static uint64_t next_of_input(size_t size) {
+    uint64_t number = 0;
+    size = size < input_left ? size : input_left;
+    memcpy(&number, input, size);
+    input += size;
+    input_left -= size;
+    return number;
+}
+
+static uint64_t next_number(uint64_t *seed) {
+    (void)seed;
+    return next_of_input(8);
+}
+
+static inline size_t below(uint64_t *seed, size_t end) {
+    (void)seed;
+    return next_of_input(end <= 256 ? 1 : 8) % end;
+}
+#else
 /* The next number of a sequence (xorshift). */
 static uint64_t next_number(uint64_t *seed) {
     *seed ^= *seed << 13;
@@ -35,6 +59,7 @@ static uint64_t next_number(uint64_t *seed) {
 static inline size_t below(uint64_t *seed, size_t end) {
     return next_number(seed) % end;
 }
+#endif
 
 static inline bool list_holds(const ecow_list *list, const int64_t *numbers, size_t count) {
     size_t len;
@@ -59,6 +84,17 @@ static inline bool text_holds(const ecow_text *text, const char *bytes, size_t c
 
 static inline bool text_is(const ecow_text *text, const char *bytes) {
     return text_holds(text, bytes, strlen(bytes));
+}
+
+/* Whether the texts are these, which end with a 0. */
+static inline bool texts_hold(const ecow_texts *texts, const char *const *items, size_t count) {
+    bool same = ecow_texts_len(texts) == count && !ecow_texts_at(texts, count, NULL);
+    for (size_t index = 0; same && index < count; index++) {
+        size_t len;
+        const char *held = ecow_texts_at(texts, index, &len);
+        same = held && len == strlen(items[index]) && memcmp(held, items[index], len) == 0;
+    }
+    return same;
 }
 
 #endif

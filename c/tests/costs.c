@@ -44,6 +44,13 @@ static void changes_of_lists(void) {
     COUNTED("insert again", CHECK(ecow_list_insert(&list, 0, 5) == ECOW_OK));
     CHECK(ecow_list_clone(&clone, &list) == ECOW_OK);
     COUNTED("set of a shared one", CHECK(ecow_list_set(&list, 0, 0) == ECOW_OK));
+    COUNTED("push to a full one", CHECK(ecow_list_push(&list, 0) == ECOW_OK));
+    COUNTED("shrink_to_fit", CHECK(ecow_list_shrink_to_fit(&list) == ECOW_OK));
+    COUNTED("shrink_to_fit again", CHECK(ecow_list_shrink_to_fit(&list) == ECOW_OK));
+    COUNTED("push to a full one", CHECK(ecow_list_push(&list, 0) == ECOW_OK));
+    CHECK(ecow_list_clone(&clone, &list) == ECOW_OK);
+    COUNTED("shrink_to_fit of a shared one", CHECK(ecow_list_shrink_to_fit(&list) == ECOW_OK));
+    CHECK(ecow_list_shares(&list, &clone) && ecow_list_len(&list) == MANY + 4);
     ecow_list_drop(&list);
     ecow_list_drop(&clone);
 }
@@ -69,6 +76,11 @@ static void changes_of_bytes(void) {
     COUNTED("insert again", CHECK(ecow_bytes_insert(&bytes, 0, 5) == ECOW_OK));
     CHECK(ecow_bytes_clone(&clone, &bytes) == ECOW_OK);
     COUNTED("set of a shared one", CHECK(ecow_bytes_set(&bytes, 0, 0) == ECOW_OK));
+    COUNTED("shrink_to_fit", CHECK(ecow_bytes_shrink_to_fit(&bytes) == ECOW_OK));
+    CHECK(ecow_bytes_len(&bytes) == MANY + 2 && ecow_bytes_truncate(&bytes, 15) == ECOW_OK);
+    COUNTED("shrink_to_fit of 15", CHECK(ecow_bytes_shrink_to_fit(&bytes) == ECOW_OK));
+    CHECK(ecow_bytes_len(&bytes) == 15);
+    COUNTED("one more", CHECK(ecow_bytes_push(&bytes, 1) == ECOW_OK));
     ecow_bytes_drop(&bytes);
     ecow_bytes_drop(&clone);
 }
@@ -90,7 +102,7 @@ static void changes_of_texts(void) {
     static char changed[2 * MANY];
     const char *items = ecow_text_items;
     size_t len = 0;
-    ecow_text text = {{0}};
+    ecow_text text = {{0}}, clone = {{0}};
     CHECK(ecow_text_assign(&text, items, MANY) == ECOW_OK);
     COUNTED("insert", CHECK(ecow_text_insert(&text, 0, items, MANY) == ECOW_OK));
     CHECK(ecow_text_is_filled(&text, 2 * MANY) && ecow_text_truncate(&text, MANY) == ECOW_OK);
@@ -121,6 +133,239 @@ static void changes_of_texts(void) {
     CHECK(ecow_text_assign(&text, items, 1) == ECOW_OK && ecow_text_repeat(&text, MANY) == ECOW_OK);
     memset(changed, items[0], MANY);
     CHECK(text_holds(&text, changed, MANY));
+    CHECK(ecow_text_assign(&text, items, MANY) == ECOW_OK);
+    const char *string = NULL;
+    COUNTED("c_str of a full one", CHECK(ecow_text_c_str(&text, &string) == ECOW_OK));
+    CHECK(strlen(string) == MANY && ecow_text_is_filled(&text, MANY));
+    COUNTED("c_str again", CHECK(ecow_text_c_str(&text, &string) == ECOW_OK));
+    CHECK(strlen(string) == MANY && ecow_text_clone(&clone, &text) == ECOW_OK);
+    COUNTED("c_str of a shared one", CHECK(ecow_text_c_str(&text, &string) == ECOW_OK));
+    CHECK(strlen(string) == MANY && !ecow_text_shares(&text, &clone));
+    for (size_t len = 0; len <= 16; len++) {
+        CHECK(ecow_text_assign(&text, items, len) == ECOW_OK);
+        begin();
+        CHECK(ecow_text_c_str(&text, &string) == ECOW_OK && strlen(string) == len);
+        CHECK(memcmp(string, items, len) == 0 && ecow_text_is_filled(&text, len));
+        end(len < 14 ? NAME ": c_str of up to 13 bytes" : NAME ": c_str of 14 to 16 bytes");
+    }
+    ecow_text_drop(&text);
+    ecow_text_drop(&clone);
+}
+
+#undef VALUE
+#undef ITEM
+#undef OUT
+#undef CALL
+#undef NAME
+
+#define NAME "texts"
+#define SPILLED "a text of 25 bytes, as is"
+
+/* Appends the text until there are `len`. */
+static void push_texts_up_to(ecow_texts *texts, const ecow_text *text, size_t len) {
+    while (ecow_texts_len(texts) < len) {
+        CHECK(ecow_texts_push(texts, text) == ECOW_OK);
+    }
+}
+
+/* Whether there are `len` texts, which all share the memory of `text`. */
+static bool all_share(const ecow_texts *texts, const ecow_text *text, size_t len) {
+    const char *bytes = ecow_text_slice(text, NULL);
+    for (size_t index = 0; index < len; index++) {
+        if (ecow_texts_at(texts, index, NULL) != bytes) {
+            return false;
+        }
+    }
+    return ecow_texts_len(texts) == len;
+}
+
+/* A list of texts and its clone: what reads asks for nothing, a change copies the list and no
+ * text. */
+static void clones_of_lists_of_texts(void) {
+    ecow_texts texts = {{0}}, clone = {{0}}, second = {{0}};
+    ecow_text text = {{0}}, out = {{0}};
+    size_t len;
+    CHECK(ecow_text_assign(&text, SPILLED, strlen(SPILLED)) == ECOW_OK);
+    COUNTED("1000 pushes", push_texts_up_to(&texts, &text, 1000));
+    CHECK(all_share(&texts, &text, 1000));
+    COUNTED("clone", CHECK(ecow_texts_clone(&clone, &texts) == ECOW_OK));
+    COUNTED("clone of a clone", CHECK(ecow_texts_clone(&second, &clone) == ECOW_OK));
+    begin();
+    CHECK(all_share(&clone, &text, 1000) && all_share(&second, &text, 1000));
+    CHECK(ecow_texts_get(&clone, 999, &out) == ECOW_OK && text_is(&out, SPILLED));
+    CHECK(ecow_texts_get(&clone, 1000, &out) == ECOW_INDEX);
+    CHECK(ecow_texts_at(&clone, 0, &len) && len == strlen(SPILLED));
+    CHECK(ecow_texts_equal(&texts, &clone) && ecow_texts_compare(&texts, &clone) == 0);
+    CHECK(ecow_texts_hash(&texts) == ecow_texts_hash(&clone));
+    end(NAME ": reads");
+    COUNTED("drop of a clone", ecow_texts_drop(&second));
+    COUNTED("push to a shared one", push_texts_up_to(&texts, &text, 1001));
+    COUNTED("23 pushes", push_texts_up_to(&texts, &text, 1024));
+    COUNTED("push past the room", push_texts_up_to(&texts, &text, 1025));
+    CHECK(all_share(&texts, &text, 1025) && all_share(&clone, &text, 1000));
+    COUNTED("drop", ecow_texts_drop(&texts));
+    CHECK(all_share(&clone, &text, 1000) && ecow_texts_clone(&texts, &clone) == ECOW_OK);
+    COUNTED("set of a shared one", CHECK(ecow_texts_set(&texts, 0, &text) == ECOW_OK));
+    CHECK(all_share(&texts, &text, 1000) && ecow_texts_clone(&texts, &clone) == ECOW_OK);
+    COUNTED("set_text of a shared one",
+            CHECK(ecow_texts_set_text(&texts, 0, SPILLED, strlen(SPILLED)) == ECOW_OK));
+    CHECK(ecow_texts_clone(&texts, &clone) == ECOW_OK);
+    COUNTED("insert into a shared one", CHECK(ecow_texts_insert(&texts, 5, &text) == ECOW_OK));
+    CHECK(all_share(&texts, &text, 1001) && ecow_texts_clone(&texts, &clone) == ECOW_OK);
+    COUNTED("remove of a shared one", CHECK(ecow_texts_remove(&texts, 5, &out) == ECOW_OK));
+    CHECK(all_share(&texts, &text, 999) && ecow_texts_clone(&texts, &clone) == ECOW_OK);
+    COUNTED("pop of a shared one", CHECK(ecow_texts_pop(&texts, &out) == ECOW_OK));
+    CHECK(all_share(&texts, &text, 999) && ecow_texts_clone(&texts, &clone) == ECOW_OK);
+    CHECK(ecow_text_slice(&out, NULL) == ecow_text_slice(&text, NULL));
+    COUNTED("truncate of a shared one", CHECK(ecow_texts_truncate(&texts, 10) == ECOW_OK));
+    CHECK(all_share(&texts, &text, 10) && ecow_texts_clone(&texts, &clone) == ECOW_OK);
+    COUNTED("clear of a shared one", CHECK(ecow_texts_clear(&texts) == ECOW_OK));
+    CHECK(all_share(&texts, &text, 0) && all_share(&clone, &text, 1000));
+    ecow_texts_drop(&clone);
+    ecow_text_drop(&text);
+    ecow_text_drop(&out);
+}
+
+/* Changes of a list that no other shares. */
+static void changes_of_lists_of_texts(void) {
+    ecow_texts texts = {{0}}, other = {{0}};
+    ecow_text text = {{0}}, out = {{0}};
+    CHECK(ecow_text_assign(&text, SPILLED, strlen(SPILLED)) == ECOW_OK);
+    COUNTED("push_text of 15 bytes to none",
+            CHECK(ecow_texts_push_text(&texts, SPILLED, 15) == ECOW_OK));
+    COUNTED("push_text of 15 bytes", CHECK(ecow_texts_push_text(&texts, SPILLED, 15) == ECOW_OK));
+    COUNTED("push_text of 16 bytes", CHECK(ecow_texts_push_text(&texts, SPILLED, 16) == ECOW_OK));
+    COUNTED("set_text of 15 bytes", CHECK(ecow_texts_set_text(&texts, 0, SPILLED, 15) == ECOW_OK));
+    ecow_texts_drop(&texts);
+    COUNTED("reserve 1000 for none", CHECK(ecow_texts_reserve(&texts, 1000) == ECOW_OK));
+    COUNTED("1000 pushes", push_texts_up_to(&texts, &text, 1000));
+    COUNTED("set", CHECK(ecow_texts_set(&texts, 999, &text) == ECOW_OK));
+    COUNTED("remove", CHECK(ecow_texts_remove(&texts, 0, &out) == ECOW_OK));
+    COUNTED("insert", CHECK(ecow_texts_insert(&texts, 0, &out) == ECOW_OK));
+    COUNTED("pop", CHECK(ecow_texts_pop(&texts, &out) == ECOW_OK));
+    COUNTED("push of what was taken", CHECK(ecow_texts_push(&texts, &out) == ECOW_OK));
+    CHECK(ecow_texts_clone(&other, &texts) == ECOW_OK
+          && ecow_texts_truncate(&other, 10) == ECOW_OK);
+    COUNTED("splice 10 for 10", CHECK(ecow_texts_splice(&texts, 10, 20, &other) == ECOW_OK));
+    COUNTED("extend by 10", CHECK(ecow_texts_extend(&texts, &other) == ECOW_OK));
+    COUNTED("extend by itself", CHECK(ecow_texts_extend(&texts, &texts) == ECOW_OK));
+    CHECK(all_share(&texts, &text, 2020) && all_share(&other, &text, 10));
+    COUNTED("truncate", CHECK(ecow_texts_truncate(&texts, 1000) == ECOW_OK));
+    COUNTED("clear", CHECK(ecow_texts_clear(&texts) == ECOW_OK));
+    COUNTED("1000 pushes again", push_texts_up_to(&texts, &text, 1000));
+    CHECK(all_share(&texts, &text, 1000));
+    ecow_texts_drop(&texts);
+    ecow_texts_drop(&other);
+    ecow_text_drop(&text);
+    ecow_text_drop(&out);
+}
+
+#undef NAME
+#define NAME "value"
+
+/* Appends an item until there are `len`. */
+static void push_items_up_to(ecow_value *list, const ecow_value *item, size_t len) {
+    while (ecow_value_len(list) < len) {
+        CHECK(ecow_value_push(list, item) == ECOW_OK);
+    }
+}
+
+/* Whether the value is a text in that memory. */
+static bool shares(const ecow_value *value, const char *bytes) {
+    ecow_text text = {{0}};
+    bool same = ecow_value_text(value, &text) == ECOW_OK && ecow_text_slice(&text, NULL) == bytes;
+    ecow_text_drop(&text);
+    return same;
+}
+
+/* A nested list and its clone: what reads asks for nothing, a change copies the list alone. */
+static void clones_of_nested_lists(void) {
+    ecow_value list = {{0}}, clone = {{0}}, item = {{0}}, out = {{0}};
+    ecow_text text = {{0}};
+    CHECK(ecow_text_assign(&text, SPILLED, strlen(SPILLED)) == ECOW_OK);
+    const char *bytes = ecow_text_slice(&text, NULL);
+    COUNTED("set_text", CHECK(ecow_value_set_text(&item, &text) == ECOW_OK));
+    COUNTED("set_list", CHECK(ecow_value_set_list(&list) == ECOW_OK));
+    COUNTED("1000 pushes", push_items_up_to(&list, &item, 1000));
+    COUNTED("clone", CHECK(ecow_value_clone(&clone, &list) == ECOW_OK));
+    begin();
+    for (size_t index = 0; index < 1000; index++) {
+        CHECK(ecow_value_get(&clone, index, &out) == ECOW_OK && shares(&out, bytes));
+    }
+    CHECK(ecow_value_get(&clone, 1000, &out) == ECOW_INDEX && ecow_value_equal(&list, &clone));
+    end(NAME ": reads");
+    COUNTED("push to a shared one", push_items_up_to(&list, &item, 1001));
+    COUNTED("drop", ecow_value_drop(&list));
+    CHECK(ecow_value_clone(&list, &clone) == ECOW_OK);
+    COUNTED("set of a shared one", CHECK(ecow_value_set(&list, 5, &item) == ECOW_OK));
+    COUNTED("set", CHECK(ecow_value_set(&list, 6, &item) == ECOW_OK));
+    COUNTED("remove", CHECK(ecow_value_remove(&list, 5, &out) == ECOW_OK && shares(&out, bytes)));
+    CHECK(ecow_value_clone(&list, &clone) == ECOW_OK);
+    COUNTED("insert into a shared one", CHECK(ecow_value_insert(&list, 5, &item) == ECOW_OK));
+    CHECK(ecow_value_clone(&list, &clone) == ECOW_OK);
+    COUNTED("remove of a shared one", CHECK(ecow_value_remove(&list, 5, &out) == ECOW_OK));
+    CHECK(ecow_value_clone(&list, &clone) == ECOW_OK);
+    COUNTED("pop of a shared one", CHECK(ecow_value_pop(&list, &out) == ECOW_OK));
+    CHECK(shares(&out, bytes) && ecow_value_clone(&list, &clone) == ECOW_OK);
+    COUNTED("truncate of a shared one", CHECK(ecow_value_truncate(&list, 10) == ECOW_OK));
+    CHECK(ecow_value_len(&list) == 10 && ecow_value_clone(&list, &clone) == ECOW_OK);
+    COUNTED("truncate of a shared one to none", CHECK(ecow_value_truncate(&list, 0) == ECOW_OK));
+    CHECK(ecow_value_len(&clone) == 1000);
+    COUNTED("push of the list to itself", CHECK(ecow_value_push(&clone, &clone) == ECOW_OK));
+    ecow_value_drop(&list);
+    ecow_value_drop(&clone);
+    ecow_value_drop(&item);
+    ecow_value_drop(&out);
+    ecow_text_drop(&text);
+}
+
+/* Fields, and a change deep in a value: the way is copied where it is shared. */
+static void changes_of_fields(void) {
+    ecow_value root = {{0}}, before = {{0}}, list = {{0}}, item = {{0}};
+    ecow_text text = {{0}};
+    CHECK(ecow_text_assign(&text, SPILLED, strlen(SPILLED)) == ECOW_OK);
+    CHECK(ecow_value_set_text(&item, &text) == ECOW_OK && ecow_value_set_list(&list) == ECOW_OK);
+    push_items_up_to(&list, &item, 1000);
+    COUNTED("set_fields", CHECK(ecow_value_set_fields(&root) == ECOW_OK));
+    COUNTED("set_field of none", CHECK(ecow_value_set_field(&root, "list", 4, &list) == ECOW_OK));
+    COUNTED("set_field of a new name",
+            CHECK(ecow_value_set_field(&root, SPILLED, 15, &item) == ECOW_OK));
+    COUNTED("set_field of a new name of 16 bytes",
+            CHECK(ecow_value_set_field(&root, SPILLED, 16, &item) == ECOW_OK));
+    COUNTED("set_field in place",
+            CHECK(ecow_value_set_field(&root, SPILLED, 16, &item) == ECOW_OK));
+    COUNTED("clone", CHECK(ecow_value_clone(&before, &root) == ECOW_OK));
+    begin();
+    CHECK(ecow_value_get_field(&root, SPILLED, 16, &item) == ECOW_OK);
+    CHECK(ecow_value_field_name(&root, 2, &text) == ECOW_OK && ecow_value_equal(&root, &before));
+    end(NAME ": reads of fields");
+    ecow_value_drop(&list);
+    begin();
+    CHECK(ecow_value_get_field(&root, "list", 4, &list) == ECOW_OK);
+    CHECK(ecow_value_set(&list, 0, &item) == ECOW_OK);
+    CHECK(ecow_value_set_field(&root, "list", 4, &list) == ECOW_OK);
+    end(NAME ": deep change of a shared one");
+    ecow_value_drop(&list);
+    ecow_value_drop(&before);
+    begin();
+    CHECK(ecow_value_get_field(&root, "list", 4, &list) == ECOW_OK);
+    CHECK(ecow_value_set(&list, 0, &item) == ECOW_OK);
+    CHECK(ecow_value_set_field(&root, "list", 4, &list) == ECOW_OK);
+    end(NAME ": deep change");
+    ecow_value_drop(&list);
+    begin();
+    CHECK(ecow_value_remove_field(&root, "list", 4, &list) == ECOW_OK);
+    CHECK(ecow_value_set(&list, 0, &item) == ECOW_OK);
+    CHECK(ecow_value_set_field(&root, "list", 4, &list) == ECOW_OK);
+    end(NAME ": deep change by way of remove_field");
+    CHECK(ecow_value_clone(&before, &root) == ECOW_OK);
+    COUNTED("remove_field of a shared one",
+            CHECK(ecow_value_remove_field(&root, SPILLED, 16, &item) == ECOW_OK));
+    CHECK(ecow_value_len(&root) == 2 && ecow_value_len(&before) == 3);
+    ecow_value_drop(&root);
+    ecow_value_drop(&before);
+    ecow_value_drop(&list);
+    ecow_value_drop(&item);
     ecow_text_drop(&text);
 }
 
@@ -132,5 +377,9 @@ int main(void) {
     changes_of_bytes();
     ecow_text_costs();
     changes_of_texts();
+    clones_of_lists_of_texts();
+    changes_of_lists_of_texts();
+    clones_of_nested_lists();
+    changes_of_fields();
     return 0;
 }

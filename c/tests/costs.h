@@ -115,7 +115,14 @@ static void CALL(growth)(void) {
     CHECK(CALL(is_filled)(&value, 250000) && CALL(truncate)(&value, 2 * MANY) == ECOW_OK);
     const ITEM *own = CALL(slice)(&value, NULL);
     COUNTED("extend by itself", CHECK(CALL(extend)(&value, own, 2 * MANY) == ECOW_OK));
-    CHECK(CALL(is_filled)(&value, 4 * MANY));
+    CHECK(CALL(is_filled)(&value, 4 * MANY) && CALL(truncate)(&value, MANY) == ECOW_OK);
+    own = CALL(slice)(&value, NULL);
+    COUNTED("extend by its first 10", CHECK(CALL(extend)(&value, own, 10) == ECOW_OK));
+    CHECK(CALL(len)(&value) == MANY + 10 && CALL(slice)(&value, NULL) == own);
+    CHECK(memcmp(own + MANY, own, 10 * sizeof *own) == 0);
+    COUNTED("splice by its own", CHECK(CALL(splice)(&value, 20, MANY, own, 10) == ECOW_OK));
+    CHECK(CALL(len)(&value) == 40 && CALL(slice)(&value, NULL) == own);
+    CHECK(memcmp(own + 20, own, 10 * sizeof *own) == 0);
     CHECK(CALL(assign)(&value, CALL(items), MANY) == ECOW_OK);
     COUNTED("splice", CHECK(CALL(splice)(&value, 10, 20, CALL(items) + 30, 10) == ECOW_OK));
     CHECK(CALL(len)(&value) == MANY && CALL(get)(&value, 19, &item) == ECOW_OK);

@@ -9,7 +9,7 @@
 #include <stdatomic.h>
 #include <sys/resource.h>
 
-enum { THREADS = 8, COUNT = 100, FEW = 7 };
+enum { THREADS = 8, COUNT = 100, FEW = 7, LEAVES = 20 };
 
 /* How many numbers a list has that is handed over, and how much memory the process may take more
  * meanwhile: one block in a hundred that isn't given back passes it in 100,000 rounds. */
@@ -20,14 +20,17 @@ static long taken_kib(void) {
     return getrusage(RUSAGE_SELF, &usage) ? 0 : usage.ru_maxrss;
 }
 
-/* The sum of the numbers below COUNT. */
+/* The sum of the numbers below COUNT, and of those below LEAVES. */
 #define SUM ((int64_t)COUNT * (COUNT - 1) / 2)
+#define LEAVES_SUM ((int64_t)LEAVES * (LEAVES - 1) / 2)
 
-/* A list of the numbers below COUNT, bytes of the same, a long text of the letter a, a short one. */
+/* A list of the numbers below COUNT, bytes of the same, a long text of the letter a, a short one,
+ * and two fields: "leaves" is a list of one list of the numbers below LEAVES, "text" the long text. */
 typedef struct values {
     ecow_list list;
     ecow_bytes bytes;
     ecow_text text, few;
+    ecow_value fields;
 } values;
 
 typedef struct worker {
@@ -37,18 +40,44 @@ typedef struct worker {
     uint64_t seed;
 } worker;
 
+static ecow_status put(ecow_value *fields, const char *name, const ecow_value *item) {
+    return ecow_value_set_field(fields, name, strlen(name), item);
+}
+
+/* Makes `item` a clone of the value of a field. */
+static bool take(const ecow_value *fields, const char *name, ecow_value *item) {
+    return !ecow_value_get_field(fields, name, strlen(name), item);
+}
+
+static ecow_value make_fields(const ecow_text *text) {
+    ecow_value fields = {{0}}, outer = {{0}}, leaves = {{0}}, item = {{0}};
+    CHECK(!ecow_value_set_fields(&fields) && !ecow_value_set_list(&outer));
+    CHECK(!ecow_value_set_list(&leaves));
+    for (int number = 0; number < LEAVES; number++) {
+        CHECK(!ecow_value_set_number(&item, number) && !ecow_value_push(&leaves, &item));
+    }
+    CHECK(!ecow_value_push(&outer, &leaves) && !put(&fields, "leaves", &outer));
+    CHECK(!ecow_value_set_text(&item, text) && !put(&fields, "text", &item));
+    ecow_value_drop(&outer);
+    ecow_value_drop(&leaves);
+    ecow_value_drop(&item);
+    return fields;
+}
+
 static values make_values(void) {
-    values all = {{{0}}, {{0}}, {{0}}, {{0}}};
+    values all = {{{0}}, {{0}}, {{0}}, {{0}}, {{0}}};
     for (int number = 0; number < COUNT; number++) {
         CHECK(!ecow_list_push(&all.list, number) && !ecow_bytes_push(&all.bytes, (uint8_t)number));
         CHECK(!ecow_text_push(&all.text, 'a') && (number >= FEW || !ecow_text_push(&all.few, 'a')));
     }
+    all.fields = make_fields(&all.text);
     return all;
 }
 
 static bool clone_values(values *to, const values *from) {
     return !ecow_list_clone(&to->list, &from->list) && !ecow_bytes_clone(&to->bytes, &from->bytes)
-           && !ecow_text_clone(&to->text, &from->text) && !ecow_text_clone(&to->few, &from->few);
+           && !ecow_text_clone(&to->text, &from->text) && !ecow_text_clone(&to->few, &from->few)
+           && !ecow_value_clone(&to->fields, &from->fields);
 }
 
 static void drop_values(values *all) {
@@ -56,6 +85,7 @@ static void drop_values(values *all) {
     ecow_bytes_drop(&all->bytes);
     ecow_text_drop(&all->text);
     ecow_text_drop(&all->few);
+    ecow_value_drop(&all->fields);
 }
 
 static bool list_has(const ecow_list *list, size_t count, int64_t sum) {
@@ -88,9 +118,30 @@ static bool text_has(const ecow_text *text, size_t count, char last) {
     return len == count && (!len || letters[len - 1] == last);
 }
 
+/* Whether there are that many leaves of that sum, and the text ends so. */
+static bool fields_have(const ecow_value *fields, size_t count, int64_t sum, size_t len,
+                        char last) {
+    ecow_value leaves = {{0}}, item = {{0}};
+    ecow_text text = {{0}};
+    int64_t number = 0;
+    bool right = take(fields, "leaves", &leaves) && ecow_value_len(&leaves) == 1
+                 && !ecow_value_get(&leaves, 0, &leaves) && ecow_value_len(&leaves) == count;
+    for (size_t at = 0; right && at < count; at++) {
+        right = !ecow_value_get(&leaves, at, &item) && !ecow_value_number(&item, &number);
+        sum -= number;
+    }
+    right = right && sum == 0 && ecow_value_len(fields) == 2 && take(fields, "text", &item)
+            && !ecow_value_text(&item, &text) && text_has(&text, len, last);
+    ecow_value_drop(&leaves);
+    ecow_value_drop(&item);
+    ecow_text_drop(&text);
+    return right;
+}
+
 static bool are_untouched(const values *all) {
     return list_has(&all->list, COUNT, SUM) && bytes_have(&all->bytes, COUNT, SUM)
-           && text_has(&all->text, COUNT, 'a') && text_has(&all->few, FEW, 'a');
+           && text_has(&all->text, COUNT, 'a') && text_has(&all->few, FEW, 'a')
+           && fields_have(&all->fields, LEAVES, LEAVES_SUM, COUNT, 'a');
 }
 
 /* Changes a list that is as it was made. */
@@ -129,13 +180,51 @@ static bool texts_change(values *all, uint64_t *seed) {
            && text_has(&all->few, FEW + 1, letter);
 }
 
+/* Changes fields that are as they were made: a leaf, or how many there are, and the text. */
+static bool fields_change(ecow_value *fields, uint64_t *seed) {
+    ecow_value outer = {{0}}, leaves = {{0}}, item = {{0}};
+    ecow_text text = {{0}};
+    int64_t number = (int64_t)below(seed, 1000), at = (int64_t)below(seed, LEAVES),
+            sum = LEAVES_SUM;
+    size_t count = LEAVES;
+    bool right = take(fields, "leaves", &outer) && !ecow_value_get(&outer, 0, &leaves)
+                 && !ecow_value_set_number(&item, number);
+    switch (below(seed, 4)) {
+    case 0:
+        right = right && !ecow_value_set(&leaves, (size_t)at, &item);
+        sum += number - at;
+        break;
+    case 1:
+        right = right && !ecow_value_push(&leaves, &item);
+        sum += number, count++;
+        break;
+    case 2:
+        right = right && !ecow_value_remove(&leaves, (size_t)at, &item);
+        sum -= at, count--;
+        break;
+    default:
+        right = right && !ecow_value_truncate(&leaves, (size_t)at);
+        sum = at * (at - 1) / 2, count = (size_t)at;
+    }
+    right = right && !ecow_value_set(&outer, 0, &leaves) && !put(fields, "leaves", &outer)
+            && take(fields, "text", &item) && !ecow_value_text(&item, &text)
+            && !ecow_text_push(&text, 'z') && !ecow_value_set_text(&item, &text)
+            && !put(fields, "text", &item) && fields_have(fields, count, sum, COUNT + 1, 'z');
+    ecow_value_drop(&outer);
+    ecow_value_drop(&leaves);
+    ecow_value_drop(&item);
+    ecow_text_drop(&text);
+    return right;
+}
+
 static void *churn(void *given) {
     worker *mine = given;
     for (long round = 0; round < mine->rounds; round++) {
-        values copy = {{{0}}, {{0}}, {{0}}, {{0}}};
+        values copy = {{{0}}, {{0}}, {{0}}, {{0}}, {{0}}};
         bool right = clone_values(&copy, &mine->all) && ecow_list_equal(&copy.list, &mine->all.list)
                      && list_changes(&copy.list, &mine->seed) && texts_change(&copy, &mine->seed)
-                     && are_untouched(&mine->all);
+                     && ecow_value_equal(&copy.fields, &mine->all.fields)
+                     && fields_change(&copy.fields, &mine->seed) && are_untouched(&mine->all);
         drop_values(&copy);
         mine->wrong += !right;
     }

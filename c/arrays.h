@@ -1,0 +1,111 @@
+/* The calls that kinds whose items stand in one array have in common. It is included behind
+ * `values.h`, with two names more:
+ *     ITEM                    the type of an item
+ *     CAN_CUT(value, index)   whether an index isn't inside a character */
+
+const ITEM *CALL(slice)(const VALUE *value, size_t *len) {
+    VALUE *place = (VALUE *)value;
+    const ITEM *start = (const ITEM *)nothing;
+    size_t ignored;
+    PROVED(slice)(&place, &start, len ? len : &ignored);
+    return start;
+}
+
+/* A block holds its items in one place alone, and those of a struct stand in none. */
+bool CALL(shares)(const VALUE *left, const VALUE *right) {
+    size_t len, other_len;
+    const ITEM *items = CALL(slice)(left, &len);
+    return items == CALL(slice)(right, &other_len) && len > 0 && len == other_len
+           && !overlap(items, 1, left, sizeof(VALUE));
+}
+
+/* What a call answers of an array that no memory holds, put in place of a range. */
+static ecow_status CALL(refuse)(const VALUE *value, size_t start, size_t end, const ITEM *items,
+                                size_t count) {
+    size_t len = CALL(len)(value);
+    if (!value || !items) {
+        return ECOW_NULL;
+    }
+    if (start > end || end > len) {
+        return ECOW_INDEX;
+    }
+    if (!CAN_CUT(value, start) || !CAN_CUT(value, end)) {
+        return ECOW_BOUNDARY;
+    }
+    return count > PTRDIFF_MAX - (len - (end - start)) ? ECOW_CAPACITY : ECOW_MEMORY;
+}
+
+/* An array that a call was given, as it stays while the value changes. */
+typedef struct CALL(array) {
+    const ITEM *items;
+    bool is_copied;
+    VALUE copy;
+} CALL(array);
+
+/* Keeps an array: one that lies in the value is copied. */
+static ecow_status CALL(keep)(CALL(array) * array, const VALUE *value, const ITEM *items,
+                              size_t count) {
+    size_t len;
+    const ITEM *all = CALL(slice)(value, &len);
+    array->items = items ? items : (const ITEM *)nothing;
+    array->is_copied = overlap(items, count * sizeof(ITEM), value, sizeof(VALUE))
+                       || overlap(items, count * sizeof(ITEM), all, len * sizeof(ITEM));
+    if (!value || (!items && count)) {
+        array->is_copied = false;
+        return ECOW_NULL;
+    }
+    if (array->is_copied) {
+        VALUE *copy = &array->copy;
+        array->copy = CALL(new)();
+        ecow_status status = PROVED(assign)(&copy, items, count);
+        array->items = CALL(slice)(copy, NULL);
+        return status;
+    }
+    return ECOW_OK;
+}
+
+static void CALL(let_go)(CALL(array) * array) {
+    if (array->is_copied) {
+        CALL(drop)(&array->copy);
+    }
+}
+
+ecow_status CALL(assign)(VALUE *value, const ITEM *items, size_t count) {
+    CALL(array) array;
+    if (count >= PAST_MEMORY) {
+        return CALL(refuse)(value, 0, CALL(len)(value), items, count);
+    }
+    ecow_status status = CALL(keep)(&array, value, items, count);
+    if (status == ECOW_OK) {
+        status = PROVED(assign)(&value, array.items, count);
+    }
+    CALL(let_go)(&array);
+    return status;
+}
+
+ecow_status CALL(extend)(VALUE *value, const ITEM *items, size_t count) {
+    CALL(array) array;
+    if (count >= PAST_MEMORY) {
+        size_t len = CALL(len)(value);
+        return CALL(refuse)(value, len, len, items, count);
+    }
+    ecow_status status = CALL(keep)(&array, value, items, count);
+    if (status == ECOW_OK) {
+        status = PROVED(extend)(&value, array.items, count);
+    }
+    CALL(let_go)(&array);
+    return status;
+}
+
+ecow_status CALL(splice)(VALUE *value, size_t start, size_t end, const ITEM *items, size_t count) {
+    CALL(array) array;
+    if (count >= PAST_MEMORY) {
+        return CALL(refuse)(value, start, end, items, count);
+    }
+    ecow_status status = CALL(keep)(&array, value, items, count);
+    if (status == ECOW_OK) {
+        status = PROVED(splice)(&value, start, end, array.items, count);
+    }
+    CALL(let_go)(&array);
+    return status;
+}
