@@ -13,7 +13,7 @@
 static std::unordered_map<ecow::text, std::size_t> counts;
 
 static ecow::text intern(const std::string &word) {
-    auto entry = counts.try_emplace(ecow::text(word)).first;
+    auto entry = counts.try_emplace(word).first;
     entry->second++;
     return entry->first;
 }

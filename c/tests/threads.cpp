@@ -1,5 +1,5 @@
-/* Values of ecow.hpp in eight threads, each with copies of the same ones: threads [ROUNDS]. No thread
- * sees what another wrote, and moved values go from one to the next. */
+/* Values of ecow.hpp in eight threads, each with copies of the same ones: threads [ROUNDS]. No
+ * thread sees what another wrote, and moved values go from one to the next. */
 #include "ecow.hpp"
 
 #include <cstdio>
