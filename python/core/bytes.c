@@ -1,0 +1,392 @@
+/* The type `Bytes`, over `ecow_bytes`. */
+#include "core.h"
+
+#define OBJECT bytes_object
+#define VALUE ecow_bytes
+#define CALL(name) ecow_bytes_##name
+#define OWN(name) bytes_##name
+#define TYPE bytes
+#define NAME "Bytes"
+#define NOTE(to, from)
+#define FORGET(object)
+#include "kind.h"
+
+#define ITEM uint8_t
+#define PASS(item) item
+#define GIVEN given_bytes
+
+/* Bytes that a call was given: in a clone, in a buffer, or in a `bytes` that was made of them. */
+typedef struct given_bytes {
+    const uint8_t *items;
+    Py_ssize_t count;
+    ecow_bytes held;
+    Py_buffer view;
+    bool viewed;
+} given_bytes;
+
+static int bytes_read_item(core_state *Py_UNUSED(state), PyObject *given, uint8_t *byte) {
+    PyObject *index = PyNumber_Index(given);
+    if (!index) {
+        return -1;
+    }
+    int overflow;
+    long number = PyLong_AsLongAndOverflow(index, &overflow);
+    Py_DECREF(index);
+    if (overflow || number < 0 || number > UINT8_MAX) {
+        PyErr_SetString(PyExc_ValueError, "byte must be in range(0, 256)");
+        return -1;
+    }
+    *byte = (uint8_t)number;
+    return 0;
+}
+
+static void bytes_drop_item(uint8_t *Py_UNUSED(byte)) {}
+
+static PyObject *bytes_item_object(core_state *Py_UNUSED(state), uint8_t *byte) {
+    return PyLong_FromLong(*byte);
+}
+
+static int bytes_give(core_state *state, PyObject *source, given_bytes *given) {
+    size_t count;
+    if (bytes_is(state, source)) {
+        if (check(ecow_bytes_clone(&given->held, &bytes_cast(source)->value), NAME) < 0) {
+            return -1;
+        }
+        given->items = ecow_bytes_slice(&given->held, &count);
+        given->count = (Py_ssize_t)count;
+        return 0;
+    }
+    PyObject *plain = PyObject_CheckBuffer(source) ? Py_NewRef(source) : PyBytes_FromObject(source);
+    /* The view holds what was made. */
+    if (plain && PyObject_GetBuffer(plain, &given->view, PyBUF_SIMPLE) == 0) {
+        given->viewed = true;
+        given->items = given->view.buf;
+        given->count = given->view.len;
+    }
+    Py_XDECREF(plain);
+    return given->viewed ? 0 : -1;
+}
+
+static void bytes_give_back(given_bytes *given) {
+    ecow_bytes_drop(&given->held);
+    if (given->viewed) {
+        PyBuffer_Release(&given->view);
+    }
+}
+
+static ecow_status bytes_add_given(ecow_bytes *bytes, const given_bytes *given) {
+    return ecow_bytes_extend(bytes, given->items, (size_t)given->count);
+}
+
+static ecow_status bytes_put_given(ecow_bytes *bytes, size_t start, size_t end,
+                                   const given_bytes *given) {
+    return ecow_bytes_splice(bytes, start, end, given->items, (size_t)given->count);
+}
+
+static ecow_status bytes_set_given(ecow_bytes *bytes, size_t index, const given_bytes *given,
+                                   size_t from) {
+    return ecow_bytes_set(bytes, index, given->items[from]);
+}
+
+static ecow_status bytes_add_part(ecow_bytes *to, const ecow_bytes *from, Py_ssize_t start,
+                                  Py_ssize_t step, Py_ssize_t count) {
+    const uint8_t *items = ecow_bytes_slice(from, NULL);
+    if (step == 1) {
+        return ecow_bytes_extend(to, items + start, (size_t)count);
+    }
+    ecow_status status = ecow_bytes_reserve(to, (size_t)count);
+    for (Py_ssize_t at = 0; at < count && status == ECOW_OK; at++) {
+        status = ecow_bytes_push(to, items[start + at * step]);
+    }
+    return status;
+}
+
+#include "sequence.h"
+
+/* Reads what a search looks for: a byte by its number, or the bytes of a buffer. */
+static int read_part(core_state *state, PyObject *object, uint8_t *byte, given_bytes *given) {
+    if (!PyIndex_Check(object)) {
+        if (PyObject_CheckBuffer(object)) {
+            return bytes_give(state, object, given);
+        }
+        PyErr_Format(PyExc_TypeError, "a bytes-like object is required, not %R", Py_TYPE(object));
+        return -1;
+    }
+    if (bytes_read_item(state, object, byte) < 0) {
+        return -1;
+    }
+    given->items = byte;
+    given->count = 1;
+    return 0;
+}
+
+/* A search in bytes: the first place of a part, the last one, or how often it occurs. */
+typedef Py_ssize_t search(const char *bytes, Py_ssize_t size, const char *part, Py_ssize_t count);
+
+/* An empty part occurs between any two bytes, and at both ends. */
+static Py_ssize_t count_any(const char *bytes, Py_ssize_t size, const char *part,
+                            Py_ssize_t count) {
+    return count ? count_parts(bytes, size, part, count) : size + 1;
+}
+
+/* Searches a range: -1 where the part doesn't stand there, -2 where an error is raised. */
+static Py_ssize_t bytes_seek(PyObject *self, const char *name, PyObject *const *arguments,
+                             Py_ssize_t count, search *what) {
+    bytes_object *object = bytes_cast(self);
+    given_bytes given = {0};
+    uint8_t byte;
+    Py_ssize_t start, stop, found = -2;
+    /* Both may run code that changes the value, so its bytes are read behind them. */
+    if (read_bounds(name, arguments, count, bytes_length(self), &start, &stop)
+        && read_part(object->state, arguments[0], &byte, &given) == 0) {
+        size_t size;
+        const char *bytes = (const char *)ecow_bytes_slice(&object->value, &size);
+        stop = stop < (Py_ssize_t)size ? stop : (Py_ssize_t)size;
+        found = start > stop
+                    ? -1
+                    : what(bytes + start, stop - start, (const char *)given.items, given.count);
+        found += found >= 0 && what != count_any ? start : 0;
+    }
+    bytes_give_back(&given);
+    return found;
+}
+
+static int bytes_contains(PyObject *self, PyObject *part) {
+    Py_ssize_t found = bytes_seek(self, "in", &part, 1, find_first);
+    return found == -2 ? -1 : found >= 0;
+}
+
+static PyObject *bytes_find(PyObject *self, PyObject *const *arguments, Py_ssize_t count) {
+    Py_ssize_t found = bytes_seek(self, "find", arguments, count, find_first);
+    return found == -2 ? NULL : PyLong_FromSsize_t(found);
+}
+
+static PyObject *bytes_rfind(PyObject *self, PyObject *const *arguments, Py_ssize_t count) {
+    Py_ssize_t found = bytes_seek(self, "rfind", arguments, count, find_last);
+    return found == -2 ? NULL : PyLong_FromSsize_t(found);
+}
+
+static PyObject *place_or_error(Py_ssize_t found) {
+    if (found == -1) {
+        PyErr_SetString(PyExc_ValueError, "subsection not found");
+    }
+    return found < 0 ? NULL : PyLong_FromSsize_t(found);
+}
+
+static PyObject *bytes_index(PyObject *self, PyObject *const *arguments, Py_ssize_t count) {
+    return place_or_error(bytes_seek(self, "index", arguments, count, find_first));
+}
+
+static PyObject *bytes_rindex(PyObject *self, PyObject *const *arguments, Py_ssize_t count) {
+    return place_or_error(bytes_seek(self, "rindex", arguments, count, find_last));
+}
+
+static PyObject *bytes_count(PyObject *self, PyObject *const *arguments, Py_ssize_t count) {
+    Py_ssize_t times = bytes_seek(self, "count", arguments, count, count_any);
+    return times == -2 ? NULL : PyLong_FromSsize_t(times < 0 ? 0 : times);
+}
+
+/* Whether bytes begin or end with a part. */
+static Py_ssize_t at_start(const char *bytes, Py_ssize_t size, const char *part, Py_ssize_t count) {
+    return count <= size && memcmp(bytes, part, (size_t)count) == 0 ? 0 : -1;
+}
+
+static Py_ssize_t at_end(const char *bytes, Py_ssize_t size, const char *part, Py_ssize_t count) {
+    return count <= size ? at_start(bytes + (size - count), count, part, count) : -1;
+}
+
+/* The first argument is a part, or a tuple of parts of which one is enough. */
+static PyObject *meets(PyObject *self, const char *name, PyObject *const *arguments,
+                       Py_ssize_t count, search *what) {
+    if (!takes(name, count, 1, 3)) {
+        return NULL;
+    }
+    bool several = PyTuple_Check(arguments[0]);
+    Py_ssize_t parts = several ? PyTuple_Size(arguments[0]) : 1;
+    for (Py_ssize_t at = 0; at < parts; at++) {
+        PyObject *part = several ? PyTuple_GetItem(arguments[0], at) : arguments[0];
+        if (!PyObject_CheckBuffer(part)) {
+            PyErr_Format(PyExc_TypeError, "%s first arg must be bytes-like or a tuple of these",
+                         name);
+            return NULL;
+        }
+        PyObject *given[3] = {part, count > 1 ? arguments[1] : NULL,
+                              count > 2 ? arguments[2] : NULL};
+        Py_ssize_t found = bytes_seek(self, name, given, count, what);
+        if (found != -1) {
+            return found == -2 ? NULL : PyBool_FromLong(true);
+        }
+    }
+    return PyBool_FromLong(false);
+}
+
+static PyObject *bytes_startswith(PyObject *self, PyObject *const *arguments, Py_ssize_t count) {
+    return meets(self, "startswith", arguments, count, at_start);
+}
+
+static PyObject *bytes_endswith(PyObject *self, PyObject *const *arguments, Py_ssize_t count) {
+    return meets(self, "endswith", arguments, count, at_end);
+}
+
+static PyObject *bytes_remove(PyObject *self, PyObject *given) {
+    bytes_object *object = bytes_cast(self);
+    uint8_t byte;
+    if (bytes_read_item(object->state, given, &byte) < 0) {
+        return NULL;
+    }
+    size_t size;
+    const char *bytes = (const char *)ecow_bytes_slice(&object->value, &size);
+    Py_ssize_t found = find_first(bytes, (Py_ssize_t)size, (const char *)&byte, 1);
+    if (found < 0) {
+        PyErr_SetString(PyExc_ValueError, "value not found in Bytes");
+        return NULL;
+    }
+    return none_or_error(ecow_bytes_remove(&object->value, (size_t)found, NULL), NAME);
+}
+
+/* Whether an object is compared and joined with bytes. A `List` lends a buffer, but is of another
+ * kind. */
+static bool is_bytes_like(core_state *state, PyObject *other) {
+    return PyObject_CheckBuffer(other) && !PyObject_TypeCheck(other, state->list);
+}
+
+static bool can_join(PyObject *self, PyObject *other) {
+    if (is_bytes_like(bytes_cast(self)->state, other)) {
+        return true;
+    }
+    PyErr_Format(PyExc_TypeError, "can't concat %R to Bytes", Py_TYPE(other));
+    return false;
+}
+
+static PyObject *bytes_concat(PyObject *self, PyObject *other) {
+    return can_join(self, other) ? bytes_joined(bytes_cast(self)->state, self, other) : NULL;
+}
+
+static PyObject *bytes_concat_in_place(PyObject *self, PyObject *other) {
+    return can_join(self, other) ? bytes_extend_in_place(self, other) : NULL;
+}
+
+static PyObject *bytes_compared(PyObject *self, PyObject *other, int operation) {
+    bytes_object *object = bytes_cast(self);
+    if (bytes_is(object->state, other)) {
+        const ecow_bytes *right = &bytes_cast(other)->value;
+        if (operation == Py_EQ || operation == Py_NE) {
+            return PyBool_FromLong(ecow_bytes_equal(&object->value, right) == (operation == Py_EQ));
+        }
+        return ordered(ecow_bytes_compare(&object->value, right), operation);
+    }
+    Py_buffer view;
+    if (!is_bytes_like(object->state, other)) {
+        Py_RETURN_NOTIMPLEMENTED;
+    }
+    if (PyObject_GetBuffer(other, &view, PyBUF_SIMPLE) < 0) {
+        PyErr_Clear();
+        Py_RETURN_NOTIMPLEMENTED;
+    }
+    size_t size, least;
+    const uint8_t *bytes = ecow_bytes_slice(&object->value, &size);
+    least = size < (size_t)view.len ? size : (size_t)view.len;
+    int order = least ? memcmp(bytes, view.buf, least) : 0;
+    order = order ? order : size < (size_t)view.len ? -1 : size > (size_t)view.len;
+    PyBuffer_Release(&view);
+    return ordered(order, operation);
+}
+
+static PyObject *plain_bytes(PyObject *self) {
+    size_t size;
+    const uint8_t *bytes = ecow_bytes_slice(&bytes_cast(self)->value, &size);
+    return PyBytes_FromStringAndSize((const char *)bytes, (Py_ssize_t)size);
+}
+
+static PyObject *bytes_repr(PyObject *self) {
+    return named_repr(self, plain_bytes(self));
+}
+
+/* Methods of `bytes`: of no argument, with arguments, and with a result that comes out as it is. */
+#define ALONE(name)                                                            \
+    static PyObject *bytes_##name(PyObject *self, PyObject *Py_UNUSED(none)) { \
+        PyObject *method = bytes_cast(self)->state->of_bytes.name;             \
+        return wrapped(self, call_alone(plain_bytes(self), method));           \
+    }
+#define PLAIN(name, finish)                                                               \
+    static PyObject *bytes_##name(PyObject *self, PyObject *arguments, PyObject *named) { \
+        PyObject *method = bytes_cast(self)->state->of_bytes.name;                        \
+        return finish(call_plain(self, plain_bytes(self), method, arguments, named));     \
+    }
+#define HANDED_ON(name) PLAIN(name, WRAPPED)
+#define AS_IT_IS(name) PLAIN(name, )
+#define WRAPPED(result) wrapped(self, result)
+/* clang-format off */
+ALONE_OF_BOTH(ALONE)
+METHODS_OF_BOTH(HANDED_ON)
+METHODS_OF_BYTES(HANDED_ON)
+PLAIN_OF_BYTES(AS_IT_IS)
+/* clang-format on */
+#undef ALONE
+#undef PLAIN
+#undef HANDED_ON
+#undef AS_IT_IS
+#undef WRAPPED
+
+static int bytes_buffer(PyObject *self, Py_buffer *view, int flags) {
+    bytes_object *object = bytes_cast(self);
+    return lend_bytes(object->state, &object->value, view, flags);
+}
+
+/* clang-format off */
+#define SEARCH(name, text)                                                                     \
+    {#name, (PyCFunction)(void (*)(void))bytes_##name, METH_FASTCALL,                          \
+     PyDoc_STR(#name "($self, part, start=0, stop=sys.maxsize, /)\n--\n\n" text)},
+#define ALONE(name)                                                                            \
+    {#name, bytes_##name, METH_NOARGS,                                                            \
+     PyDoc_STR(#name "($self, /)\n--\n\nAs `bytes." #name "`; it may give a new `Bytes`.")},
+#define HANDED_ON(name)                                                                        \
+    {#name, (PyCFunction)(void (*)(void))bytes_##name, METH_VARARGS | METH_KEYWORDS,           \
+     PyDoc_STR("As `bytes." #name "`; `bytes` that it gives are new `Bytes`.")},
+#define AS_IT_IS(name)                                                                         \
+    {#name, (PyCFunction)(void (*)(void))bytes_##name, METH_VARARGS | METH_KEYWORDS,           \
+     PyDoc_STR("As `bytes." #name "`.")},
+static PyMethodDef bytes_methods[] = {
+    SEQUENCE_METHODS,
+    SEARCH(find, "Where a byte or bytes first stand, or -1.")
+    SEARCH(rfind, "Where a byte or bytes last stand, or -1.")
+    SEARCH(index, "Where a byte or bytes first stand: ValueError where they don't.")
+    SEARCH(rindex, "Where a byte or bytes last stand: ValueError where they don't.")
+    SEARCH(count, "How often a byte or bytes occur without overlap.")
+    SEARCH(startswith, "Whether the range begins with bytes, or with one of a tuple of them.")
+    SEARCH(endswith, "Whether the range ends with bytes, or with one of a tuple of them.")
+    ALONE_OF_BOTH(ALONE)
+    METHODS_OF_BOTH(HANDED_ON)
+    METHODS_OF_BYTES(HANDED_ON)
+    PLAIN_OF_BYTES(AS_IT_IS)
+    {"remove", bytes_remove, METH_O,
+     PyDoc_STR("remove($self, byte, /)\n--\n\n"
+               "Takes the first such byte out: ValueError where there is none.")},
+    {NULL, NULL, 0, NULL},
+};
+/* clang-format on */
+#undef ALONE
+#undef HANDED_ON
+#undef AS_IT_IS
+#undef SEARCH
+
+static PyType_Slot bytes_slots[] = {
+    {Py_tp_doc, "Bytes(data=b'', /)\n--\n\n"
+                "Bytes, whose copies share memory. Up to 15 stand in the object itself."},
+    SEQUENCE_SLOTS,
+    {Py_tp_methods, bytes_methods},
+    {Py_tp_repr, bytes_repr},
+    {Py_tp_richcompare, bytes_compared},
+    {Py_sq_contains, bytes_contains},
+    {Py_sq_concat, bytes_concat},
+    {Py_sq_inplace_concat, bytes_concat_in_place},
+    {Py_bf_getbuffer, bytes_buffer},
+    {0, NULL},
+};
+
+PyType_Spec bytes_spec = {
+    .name = "ecow.Bytes",
+    .basicsize = sizeof(bytes_object),
+    .flags = Py_TPFLAGS_DEFAULT | Py_TPFLAGS_BASETYPE | Py_TPFLAGS_IMMUTABLETYPE,
+    .slots = bytes_slots,
+};

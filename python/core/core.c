@@ -1,0 +1,295 @@
+/* The module: its types, its state, and what several kinds of value need. */
+#include "core.h"
+
+static struct PyModuleDef definition;
+
+/* Bytes of that size or less, and texts, may lie in the value itself. */
+enum { INLINE = 15 };
+
+core_state *state_of_type(PyTypeObject *type) {
+    for (; type; type = (PyTypeObject *)PyType_GetSlot(type, Py_tp_base)) {
+        if (!(PyType_GetFlags(type) & Py_TPFLAGS_HEAPTYPE)) {
+            continue;
+        }
+        PyObject *module = PyType_GetModule(type);
+        if (!module) {
+            PyErr_Clear();
+        } else if (PyModule_GetDef(module) == &definition) {
+            return PyModule_GetState(module);
+        }
+    }
+    return NULL;
+}
+
+core_state *state_of_either(PyObject *left, PyObject *right) {
+    core_state *state = state_of_type(Py_TYPE(left));
+    return state ? state : state_of_type(Py_TYPE(right));
+}
+
+int refuse(ecow_status status, const char *what) {
+    switch (status) {
+    case ECOW_MEMORY:
+        PyErr_NoMemory();
+        return -1;
+    case ECOW_CAPACITY:
+        PyErr_Format(PyExc_OverflowError, "%s would be longer than 2^63 - 1", what);
+        return -1;
+    case ECOW_INDEX:
+        PyErr_Format(PyExc_IndexError, "%s index out of range", what);
+        return -1;
+    case ECOW_KIND:
+        PyErr_Format(PyExc_TypeError, "%s is of another kind", what);
+        return -1;
+    default:
+        PyErr_Format(PyExc_SystemError, "%s: %s", what, ecow_status_text(status));
+        return -1;
+    }
+}
+
+PyObject *none_or_error(ecow_status status, const char *what) {
+    if (check(status, what) < 0) {
+        return NULL;
+    }
+    Py_RETURN_NONE;
+}
+
+PyObject *call_helper(PyObject *name, PyObject *first, PyObject *second) {
+    PyObject *module = PyImport_ImportModule("ecow._objects");
+    if (!module) {
+        return NULL;
+    }
+    PyObject *result = PyObject_CallMethodObjArgs(module, name, first, second, NULL);
+    Py_DECREF(module);
+    return result;
+}
+
+bool takes(const char *name, Py_ssize_t count, Py_ssize_t least, Py_ssize_t most) {
+    if (count >= least && count <= most) {
+        return true;
+    }
+    PyErr_Format(PyExc_TypeError, "%s() takes %zd to %zd arguments (%zd given)", name, least, most,
+                 count);
+    return false;
+}
+
+bool read_bound(PyObject *given, Py_ssize_t len, Py_ssize_t *bound) {
+    if (given == Py_None) {
+        return true;
+    }
+    if (!PyIndex_Check(given)) {
+        PyErr_SetString(PyExc_TypeError, "slice indices must be integers or None");
+        return false;
+    }
+    Py_ssize_t index = PyNumber_AsSsize_t(given, NULL);
+    if (index == -1 && PyErr_Occurred()) {
+        return false;
+    }
+    index = index < 0 ? index + len : index;
+    *bound = index < 0 ? 0 : index;
+    return true;
+}
+
+bool read_bounds(const char *name, PyObject *const *arguments, Py_ssize_t count, Py_ssize_t len,
+                 Py_ssize_t *start, Py_ssize_t *stop) {
+    *start = 0;
+    *stop = len;
+    if (!takes(name, count, 1, 3) || (count > 1 && !read_bound(arguments[1], len, start))
+        || (count > 2 && !read_bound(arguments[2], len, stop))) {
+        return false;
+    }
+    *stop = *stop > len ? len : *stop;
+    return true;
+}
+
+PyObject *ordered(int order, int operation) {
+    bool holds = operation == Py_EQ   ? order == 0
+                 : operation == Py_NE ? order != 0
+                 : operation == Py_LT ? order < 0
+                 : operation == Py_LE ? order <= 0
+                 : operation == Py_GT ? order > 0
+                                      : order >= 0;
+    return PyBool_FromLong(holds);
+}
+
+PyObject *compare_with_list(PyObject *sequence, PyObject *list, int operation) {
+    Py_ssize_t len = PySequence_Size(sequence), other = PyList_Size(list);
+    if (len < 0 || other < 0) {
+        return NULL;
+    }
+    if (len != other && (operation == Py_EQ || operation == Py_NE)) {
+        return PyBool_FromLong(operation == Py_NE);
+    }
+    /* A comparison may run code that changes either, so both lengths are read again. */
+    for (Py_ssize_t index = 0; index < PySequence_Size(sequence) && index < PyList_Size(list);
+         index++) {
+        PyObject *right = PyList_GetItem(list, index);
+        Py_XINCREF(right);
+        PyObject *left = PySequence_GetItem(sequence, index);
+        int same = left && right ? PyObject_RichCompareBool(left, right, Py_EQ) : -1;
+        PyObject *result = NULL;
+        if (same == 0) {
+            result = operation == Py_EQ   ? PyBool_FromLong(false)
+                     : operation == Py_NE ? PyBool_FromLong(true)
+                                          : PyObject_RichCompare(left, right, operation);
+        }
+        Py_XDECREF(left);
+        Py_XDECREF(right);
+        if (same <= 0) {
+            return result;
+        }
+    }
+    len = PySequence_Size(sequence);
+    other = PyList_Size(list);
+    return ordered(len < other ? -1 : len > other, operation);
+}
+
+Py_ssize_t seek_object(PyObject *sequence, PyObject *object, Py_ssize_t start, Py_ssize_t stop) {
+    for (Py_ssize_t index = start; index < stop && index < PySequence_Size(sequence); index++) {
+        PyObject *item = PySequence_GetItem(sequence, index);
+        int same = item ? PyObject_RichCompareBool(item, object, Py_EQ) : -1;
+        Py_XDECREF(item);
+        if (same) {
+            return same > 0 ? index : -2;
+        }
+    }
+    return -1;
+}
+
+PyObject *named_repr(PyObject *self, PyObject *contents) {
+    PyObject *name = contents ? PyType_GetName(Py_TYPE(self)) : NULL;
+    PyObject *result = name ? PyUnicode_FromFormat("%U(%R)", name, contents) : NULL;
+    Py_XDECREF(name);
+    Py_XDECREF(contents);
+    return result;
+}
+
+static PyObject *is_utf8(PyObject *Py_UNUSED(module), PyObject *given) {
+    Py_buffer view;
+    if (PyObject_GetBuffer(given, &view, PyBUF_SIMPLE) < 0) {
+        return NULL;
+    }
+    bool is = ecow_is_utf8(view.buf, (size_t)view.len);
+    PyBuffer_Release(&view);
+    return PyBool_FromLong(is);
+}
+
+/* Where the memory is that a value shares with its clones: 0 where it has none. */
+static PyObject *address(PyObject *module, PyObject *given) {
+    core_state *state = PyModule_GetState(module);
+    size_t len = 0;
+    const void *place = NULL;
+    if (PyObject_TypeCheck(given, state->list)) {
+        place = ecow_list_slice(&((list_object *)given)->value, &len);
+    } else if (PyObject_TypeCheck(given, state->bytes)) {
+        place = ecow_bytes_slice(&((bytes_object *)given)->value, &len);
+        len = len <= INLINE ? 0 : len;
+    } else if (PyObject_TypeCheck(given, state->text)) {
+        place = ecow_text_slice(&((text_object *)given)->value, &len);
+        len = len <= INLINE ? 0 : len;
+    }
+    return PyLong_FromVoidPtr(len ? (void *)place : NULL);
+}
+
+static PyMethodDef functions[] = {
+    {"_address", address, METH_O, NULL},
+    {"_parts", value_parts, METH_O, NULL},
+    {"is_utf8", is_utf8, METH_O,
+     PyDoc_STR("is_utf8($module, data, /)\n--\n\nWhether the bytes are UTF-8.")},
+    {NULL, NULL, 0, NULL},
+};
+
+static int add_type(PyObject *module, PyType_Spec *spec, PyTypeObject **type) {
+    *type = (PyTypeObject *)PyType_FromModuleAndSpec(module, spec, NULL);
+    return *type && PyModule_AddType(module, *type) == 0 ? 0 : -1;
+}
+
+/* What is done for each name, and for each method of `bytes` and of `str`. */
+#define FOR_ALL(NAME, OF_BYTES, OF_STR) NAMES(NAME) ALL_OF_BYTES(OF_BYTES) ALL_OF_STR(OF_STR)
+
+static int look_names_up(core_state *state) {
+    PyObject *bytes = (PyObject *)&PyBytes_Type, *str = (PyObject *)&PyUnicode_Type;
+#define SPELL(name)                                                 \
+    if (!(state->names.name = PyUnicode_InternFromString(#name))) { \
+        return -1;                                                  \
+    }
+#define OF_BYTES(name)                                                    \
+    if (!(state->of_bytes.name = PyObject_GetAttrString(bytes, #name))) { \
+        return -1;                                                        \
+    }
+#define OF_STR(name)                                                  \
+    if (!(state->of_str.name = PyObject_GetAttrString(str, #name))) { \
+        return -1;                                                    \
+    }
+    FOR_ALL(SPELL, OF_BYTES, OF_STR)
+#undef SPELL
+#undef OF_BYTES
+#undef OF_STR
+    return 0;
+}
+
+static int execute(PyObject *module) {
+    core_state *state = PyModule_GetState(module);
+    if (look_names_up(state) < 0 || add_type(module, &list_spec, &state->list) < 0
+        || add_type(module, &bytes_spec, &state->bytes) < 0
+        || add_type(module, &text_spec, &state->text) < 0
+        || add_type(module, &texts_spec, &state->texts) < 0
+        || add_type(module, &value_spec, &state->value) < 0
+        || add_type(module, &snapshot_spec, &state->snapshot) < 0) {
+        return -1;
+    }
+    return PyModule_AddStringConstant(module, "__version__", PACKAGE_VERSION);
+}
+
+static int visit(PyObject *module, visitproc visit, void *arg) {
+    core_state *state = PyModule_GetState(module);
+    if (state) {
+        Py_VISIT(state->list);
+        Py_VISIT(state->bytes);
+        Py_VISIT(state->text);
+        Py_VISIT(state->texts);
+        Py_VISIT(state->value);
+        Py_VISIT(state->snapshot);
+    }
+    return 0;
+}
+
+static void release(void *module) {
+    core_state *state = PyModule_GetState(module);
+    if (state) {
+        Py_CLEAR(state->list);
+        Py_CLEAR(state->bytes);
+        Py_CLEAR(state->text);
+        Py_CLEAR(state->texts);
+        Py_CLEAR(state->value);
+        Py_CLEAR(state->snapshot);
+#define CLEAR_NAME(name) Py_CLEAR(state->names.name);
+#define CLEAR_OF_BYTES(name) Py_CLEAR(state->of_bytes.name);
+#define CLEAR_OF_STR(name) Py_CLEAR(state->of_str.name);
+        FOR_ALL(CLEAR_NAME, CLEAR_OF_BYTES, CLEAR_OF_STR)
+#undef CLEAR_NAME
+#undef CLEAR_OF_BYTES
+#undef CLEAR_OF_STR
+    }
+}
+
+static PyModuleDef_Slot slots[] = {
+    {Py_mod_exec, execute},
+    {0, NULL},
+};
+
+/* The types hold the module, and the module the types. The collector breaks that cycle at the
+ * types, so nothing is cleared here while an object may still read the state. */
+static struct PyModuleDef definition = {
+    PyModuleDef_HEAD_INIT,
+    .m_name = "ecow._core",
+    .m_doc = "The kinds of value of the package `ecow`.",
+    .m_size = sizeof(core_state),
+    .m_methods = functions,
+    .m_slots = slots,
+    .m_traverse = visit,
+    .m_free = release,
+};
+
+PyMODINIT_FUNC PyInit__core(void) {
+    return PyModuleDef_Init(&definition);
+}

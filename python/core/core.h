@@ -1,0 +1,212 @@
+/* What the files of the extension module `ecow._core` have in common.
+ *
+ * Each kind of value of `ecow.h` has an object that holds one. A method reads the value, makes what
+ * it needs, and calls the library. No code of Python's runs between the reading of an index or of a
+ * slice and the call that uses it, so the value can't change meanwhile. */
+#ifndef ECOW_CORE_H
+#define ECOW_CORE_H
+
+#define PY_SSIZE_T_CLEAN
+#define Py_LIMITED_API 0x030B0000
+#include <Python.h>
+#include <structmember.h>
+
+#include "ecow.h"
+
+#include <stdbool.h>
+#include <stddef.h>
+#include <stdint.h>
+#include <string.h>
+
+/* clang-format off */
+/* The methods of `bytes` and `str` that `Bytes` and `Text` hand on to them: those of no argument,
+ * the others, and those whose `bytes` or `str` come out as they are. */
+#define ALONE_OF_BOTH(X)                                                                       \
+    X(capitalize) X(isalnum) X(isalpha) X(isascii) X(isdigit) X(islower) X(isspace)            \
+    X(istitle) X(isupper) X(lower) X(swapcase) X(title) X(upper)
+#define ALONE_OF_STR(X)                                                                        \
+    X(casefold) X(isdecimal) X(isidentifier) X(isnumeric) X(isprintable)
+#define METHODS_OF_BOTH(X)                                                                     \
+    X(center) X(expandtabs) X(ljust) X(lstrip) X(partition) X(removeprefix) X(removesuffix)    \
+    X(replace) X(rjust) X(rpartition) X(rsplit) X(rstrip) X(split) X(splitlines) X(strip)      \
+    X(translate) X(zfill)
+#define METHODS_OF_BYTES(X) X(join)
+#define METHODS_OF_STR(X) X(format) X(format_map)
+#define PLAIN_OF_BYTES(X) X(decode) X(hex)
+#define PLAIN_OF_STR(X) X(encode)
+
+#define ALL_OF_BYTES(X) ALONE_OF_BOTH(X) METHODS_OF_BOTH(X) METHODS_OF_BYTES(X) PLAIN_OF_BYTES(X)
+#define ALL_OF_STR(X)                                                                          \
+    ALONE_OF_BOTH(X) ALONE_OF_STR(X) METHODS_OF_BOTH(X) METHODS_OF_STR(X) PLAIN_OF_STR(X)
+
+/* The names that are looked up in other objects. */
+#define NAMES(X) X(copied) X(deep_copied) X(reduced) X(sort)
+/* clang-format on */
+
+/* What a module object owns. */
+typedef struct core_state {
+    PyTypeObject *list, *bytes, *text, *texts, *value, *snapshot;
+    /* Names, and methods of `bytes` and `str` that aren't bound to an object. */
+#define FIELD(name) PyObject *name;
+    struct {
+        NAMES(FIELD)
+    } names;
+    struct {
+        ALL_OF_BYTES(FIELD)
+    } of_bytes;
+    struct {
+        ALL_OF_STR(FIELD)
+    } of_str;
+#undef FIELD
+} core_state;
+
+/* The start of every object. The module outlives it, since its type holds the module. */
+#define VALUE_HEAD     \
+    PyObject ob_base;  \
+    core_state *state; \
+    PyObject *weak_references;
+
+typedef struct list_object {
+    VALUE_HEAD
+    ecow_list value;
+} list_object;
+
+typedef struct bytes_object {
+    VALUE_HEAD
+    ecow_bytes value;
+} bytes_object;
+
+typedef struct text_object {
+    VALUE_HEAD
+    ecow_text value;
+    /* How many characters there are, or -1 where they weren't counted yet. */
+    Py_ssize_t count;
+    /* A character's index, and that of its first byte. Both are 0, or were asked for last. */
+    Py_ssize_t character, byte;
+} text_object;
+
+typedef struct texts_object {
+    VALUE_HEAD
+    ecow_texts value;
+} texts_object;
+
+typedef struct value_object {
+    VALUE_HEAD
+    ecow_value value;
+    /* At least how deep its lists and fields are nested: 0 without any. */
+    Py_ssize_t depth;
+} value_object;
+
+/* ---- core.c ---- */
+
+/* The module's state, where a type is one of the module's or is derived from one; else null. */
+core_state *state_of_type(PyTypeObject *type);
+
+/* The state, where one of two objects is of the module's types. */
+core_state *state_of_either(PyObject *left, PyObject *right);
+
+/* Raises the error of a status other than ECOW_OK, and answers -1. */
+int refuse(ecow_status status, const char *what);
+
+/* The same, but answers 0 where the status is ECOW_OK. */
+static inline int check(ecow_status status, const char *what) {
+    return status == ECOW_OK ? 0 : refuse(status, what);
+}
+
+/* Answers none, or raises the error of a status. */
+PyObject *none_or_error(ecow_status status, const char *what);
+
+/* Calls a function of the module `ecow._objects` with one or two arguments. */
+PyObject *call_helper(PyObject *name, PyObject *first, PyObject *second);
+
+/* Reads an optional bound of a range of `len` items, as slices do. */
+bool read_bound(PyObject *given, Py_ssize_t len, Py_ssize_t *bound);
+
+/* Reads the optional bounds `start` and `stop` behind the first argument of a search. */
+bool read_bounds(const char *name, PyObject *const *arguments, Py_ssize_t count, Py_ssize_t len,
+                 Py_ssize_t *start, Py_ssize_t *stop);
+
+/* Raises a TypeError unless a call has between `least` and `most` arguments. */
+bool takes(const char *name, Py_ssize_t count, Py_ssize_t least, Py_ssize_t most);
+
+/* Compares a sequence with a list, item by item, as two lists are compared. */
+PyObject *compare_with_list(PyObject *sequence, PyObject *list, int operation);
+
+/* Python's answer for an order: below 0, 0, or above. */
+PyObject *ordered(int order, int operation);
+
+/* Where an item of a sequence equals another object: -1 where none does, -2 where an error is
+ * raised. A range may pass the end. */
+Py_ssize_t seek_object(PyObject *sequence, PyObject *object, Py_ssize_t start, Py_ssize_t stop);
+
+/* Text for people: the type's name, and what `repr` gives of an object, which is given up. */
+PyObject *named_repr(PyObject *self, PyObject *contents);
+
+/* ---- search.c ---- */
+
+/* Where `part` begins first or last in `size` bytes: -1 where it doesn't stand there. */
+Py_ssize_t find_first(const char *bytes, Py_ssize_t size, const char *part, Py_ssize_t count);
+Py_ssize_t find_last(const char *bytes, Py_ssize_t size, const char *part, Py_ssize_t count);
+
+/* How often a part of at least one byte occurs without overlap. */
+Py_ssize_t count_parts(const char *bytes, Py_ssize_t size, const char *part, Py_ssize_t count);
+
+/* ---- snapshot.c ---- */
+
+/* Lend the contents of the moment to a reader of buffers. */
+int lend_list(core_state *state, const ecow_list *list, Py_buffer *view, int flags);
+int lend_bytes(core_state *state, const ecow_bytes *bytes, Py_buffer *view, int flags);
+extern PyType_Spec snapshot_spec;
+
+/* ---- foreign.c ---- */
+
+/* Call a method of `bytes` or `str` on `plain`, which has the contents of `self` and is given up.
+ * Texts among the arguments go in as `str`. */
+PyObject *call_plain(PyObject *self, PyObject *plain, PyObject *method, PyObject *arguments,
+                     PyObject *named);
+
+/* What a method of no argument gives. */
+PyObject *call_alone(PyObject *plain, PyObject *method);
+
+/* What a method gave, which is given up, as an object of the module's: a `bytes` or `str`, and the
+ * members of a list or a tuple. What is unchanged is a clone of `self`. */
+PyObject *wrapped(PyObject *self, PyObject *result);
+
+/* The same object, unless it is a text: then a `str` of it. */
+PyObject *without_text(core_state *state, PyObject *object);
+
+/* A new list of what an iterable gives, in which texts are `str`. */
+PyObject *plain_list(core_state *state, PyObject *iterable);
+
+/* ---- One file for each kind ---- */
+
+extern PyType_Spec list_spec, bytes_spec, text_spec, texts_spec, value_spec;
+
+/* A new object of the module's own type that takes a value over. The value is left empty, and is
+ * given up where there is no object. */
+PyObject *list_own(core_state *state, ecow_list *value);
+PyObject *bytes_own(core_state *state, ecow_bytes *value);
+PyObject *text_own(core_state *state, ecow_text *value);
+PyObject *texts_own(core_state *state, ecow_texts *value);
+PyObject *value_own(core_state *state, ecow_value *value);
+
+/* A list of the parts of a list or fields: texts are `Text`, which share the memory. */
+PyObject *value_parts(PyObject *module, PyObject *value);
+
+/* Makes an empty `text` the text of a `str`, a `Text` or a `Value` of that kind. */
+int read_text(core_state *state, PyObject *given, ecow_text *text);
+
+/* The UTF-8 of a `str` or a `Text`, valid until it is changed, and how many characters it has. */
+typedef struct utf8 {
+    const char *bytes;
+    Py_ssize_t size;
+    Py_ssize_t count;
+} utf8;
+
+bool is_text(core_state *state, PyObject *given);
+int read_utf8(core_state *state, PyObject *given, utf8 *text);
+
+/* A `str` of UTF-8. */
+PyObject *str_of(const ecow_text *text);
+
+#endif

@@ -1,0 +1,123 @@
+/* What the objects of all kinds of value have in common. It is included once for each:
+ *     OBJECT                the struct of an object
+ *     VALUE                 the struct of its value
+ *     CALL(name)            a call of the library on it
+ *     OWN(name)             a function of the kind's file
+ *     TYPE                  the field of the state with the kind's type
+ *     NAME                  the name of that type
+ *     NOTE(to, from)        copies what an object notes beside its value
+ *     FORGET(object)        forgets it */
+
+static inline OBJECT *OWN(cast)(PyObject *self) {
+    return (OBJECT *)self;
+}
+
+static inline bool OWN(is)(core_state *state, PyObject *given) {
+    return PyObject_TypeCheck(given, state->TYPE);
+}
+
+/* A new empty object of a type. */
+static OBJECT *OWN(make)(core_state *state, PyTypeObject *type) {
+    OBJECT *made = (OBJECT *)PyType_GenericAlloc(type, 0);
+    if (made) {
+        made->state = state;
+    }
+    return made;
+}
+
+PyObject *OWN(own)(core_state *state, VALUE *value) {
+    OBJECT *made = OWN(make)(state, state->TYPE);
+    if (made) {
+        made->value = *value;
+        *value = CALL(new)();
+        FORGET(made);
+    } else {
+        CALL(drop)(value);
+    }
+    return (PyObject *)made;
+}
+
+/* A new object of a type, with a clone of another's value. */
+static PyObject *OWN(cloned)(PyObject *self, PyTypeObject *type) {
+    OBJECT *from = OWN(cast)(self), *made = OWN(make)(from->state, type);
+    if (made && check(CALL(clone)(&made->value, &from->value), NAME) < 0) {
+        Py_CLEAR(made);
+    }
+    if (made) {
+        NOTE(made, from);
+    }
+    return (PyObject *)made;
+}
+
+/* Puts a value in place of an object's, and gives up what was there. */
+static void OWN(take_over)(OBJECT *object, VALUE *value) {
+    VALUE old = object->value;
+    object->value = *value;
+    *value = CALL(new)();
+    FORGET(object);
+    CALL(drop)(&old);
+}
+
+static PyObject *OWN(new)(PyTypeObject *type, PyObject *Py_UNUSED(arguments),
+                          PyObject *Py_UNUSED(named)) {
+    core_state *state = state_of_type(type);
+    if (!state) {
+        PyErr_SetString(PyExc_TypeError, "type is not one of ecow's");
+        return NULL;
+    }
+    return (PyObject *)OWN(make)(state, type);
+}
+
+static void OWN(dealloc)(PyObject *self) {
+    PyTypeObject *type = Py_TYPE(self);
+    freefunc release = (freefunc)PyType_GetSlot(type, Py_tp_free);
+    if (OWN(cast)(self)->weak_references) {
+        PyObject_ClearWeakRefs(self);
+    }
+    CALL(drop)(&OWN(cast)(self)->value);
+    release(self);
+    Py_DECREF(type);
+}
+
+static PyObject *OWN(copy)(PyObject *self, PyObject *Py_UNUSED(none)) {
+    core_state *state = OWN(cast)(self)->state;
+    PyObject *made = OWN(cloned)(self, Py_TYPE(self));
+    if (made && Py_TYPE(self) != state->TYPE) {
+        PyObject *both = call_helper(state->names.copied, self, made);
+        Py_DECREF(made);
+        return both;
+    }
+    return made;
+}
+
+static PyObject *OWN(deepcopy)(PyObject *self, PyObject *memo) {
+    core_state *state = OWN(cast)(self)->state;
+    PyObject *made = OWN(cloned)(self, Py_TYPE(self));
+    if (made && Py_TYPE(self) != state->TYPE) {
+        PyObject *pair = PyTuple_Pack(2, self, made);
+        PyObject *both = pair ? call_helper(state->names.deep_copied, pair, memo) : NULL;
+        Py_XDECREF(pair);
+        Py_DECREF(made);
+        return both;
+    }
+    return made;
+}
+
+static PyObject *OWN(reduce)(PyObject *self, PyObject *Py_UNUSED(none)) {
+    return call_helper(OWN(cast)(self)->state->names.reduced, self, NULL);
+}
+
+/* clang-format off */
+#define COPY_METHODS                                                                           \
+    {"copy", OWN(copy), METH_NOARGS,                                                           \
+     PyDoc_STR("copy($self, /)\n--\n\n"                                                        \
+               "A copy. It shares the memory until one of both is changed.")},                 \
+    {"__copy__", OWN(copy), METH_NOARGS, NULL},                                                \
+    {"__deepcopy__", OWN(deepcopy), METH_O, NULL},                                             \
+    {"__reduce__", OWN(reduce), METH_NOARGS, NULL}
+/* clang-format on */
+
+static PyMemberDef OWN(members)[] = {
+    {"__weaklistoffset__", T_PYSSIZET, offsetof(OBJECT, weak_references), READONLY, NULL},
+    {NULL, 0, 0, 0, NULL},
+};

@@ -1,0 +1,12 @@
+"""Lists, bytes, texts and nested values whose copies share memory until one of them is changed.
+
+A copy takes the same time however long the value is. No copy shows what is changed in another."""
+
+from collections.abc import MutableSequence as _MutableSequence
+
+from ecow._core import Bytes, List, Text, Texts, Value, __version__, is_utf8
+
+__all__ = ["Bytes", "List", "Text", "Texts", "Value", "__version__", "is_utf8"]
+
+for _kind in (Bytes, List, Text, Texts):
+    _MutableSequence.register(_kind)

@@ -1,0 +1,80 @@
+"""What the tests have in common.
+
+ECOW_EDITS in the environment says how many random edits each differential test makes, and
+ECOW_SEED which."""
+
+import copy
+import os
+import random
+
+from ecow import Bytes, List, Text, Texts, Value
+
+EDITS = int(os.environ.get("ECOW_EDITS", "3000"))
+SEED = int(os.environ.get("ECOW_SEED", "20260915"))
+
+# Lengths at which a value changes its form: 15 bytes stand inline, and 1,024 items in one request.
+LENGTHS = (0, 1, 2, 14, 15, 16, 17, 40, 1023, 1024, 1025, 1500)
+
+
+def draws(name):
+    """Random draws that a test's name and the seed decide."""
+    return random.Random(f"{name} {SEED}")
+
+
+def plain(thing):
+    """The same contents in types of Python's own."""
+    if isinstance(thing, List):
+        return list(thing)
+    if isinstance(thing, (Bytes, bytearray)):
+        return bytes(thing)
+    if isinstance(thing, Text):
+        return str(thing)
+    if isinstance(thing, Texts):
+        return [str(text) for text in thing]
+    if isinstance(thing, Value):
+        return thing.to_python()
+    if isinstance(thing, (list, tuple)):
+        return type(thing)(plain(each) for each in thing)
+    return thing
+
+
+def done(_):
+    """None, for a change that gives the value itself."""
+
+
+def outcome(call):
+    """What a call returns, in Python's own types, or the type of what it raises."""
+    try:
+        return plain(call())
+    except Exception as error:
+        return type(error)
+
+
+class Pool:
+    """Values beside their models. Some are copies of others, and each is edited by itself."""
+
+    MOST = 6
+
+    def __init__(self, test, draw, made):
+        self.test, self.draw, self.made = test, draw, made
+        self.pairs = [made()]
+
+    def pick(self):
+        """A pair to edit: now and then a copy of another one, or a new one."""
+        pair, chance = self.draw.choice(self.pairs), self.draw.random()
+        if chance < 0.2:
+            value, model = pair
+            pair = [value.copy(), copy.deepcopy(model)]
+        elif chance < 0.22:
+            pair = self.made()
+        else:
+            return pair
+        if len(self.pairs) == self.MOST:
+            del self.pairs[self.draw.randrange(self.MOST)]
+        self.pairs.append(pair)
+        return pair
+
+    def check(self, whole=plain):
+        """No value holds what only a copy of it was given. `whole` is what a model stands for."""
+        for value, model in self.pairs:
+            self.test.assertEqual(plain(value), whole(model))

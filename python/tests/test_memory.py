@@ -1,0 +1,335 @@
+"""Buffers, memory that is given back, memory that is refused, and threads."""
+
+import array
+import copy
+import ctypes
+import gc
+import os
+import pickle
+import resource
+import struct
+import subprocess
+import sys
+import tempfile
+import threading
+import unittest
+
+from ecow import Bytes, List, Text, Texts, Value
+from harness import EDITS, outcome
+
+MIB = 2**20
+
+
+def resident():
+    """How many bytes of this process stand in memory."""
+    with open("/proc/self/statm") as file:
+        return int(file.read().split()[1]) * resource.getpagesize()
+
+
+class Buffers(unittest.TestCase):
+    def test_views(self):
+        """A view has the contents of the moment at which it was made."""
+        for value, change in (
+            (List(range(5)), lambda value: value.append(9)),
+            (List(range(3000)), lambda value: value.clear()),
+            (List(), lambda value: value.append(9)),
+            (Bytes(b"inline"), lambda value: value.__setitem__(0, 0)),
+            (Bytes(b"fifteen letters"), lambda value: value.append(1)),
+            (Bytes(bytes(range(200)) * 20), lambda value: value.reverse()),
+            (Bytes(), lambda value: value.append(9)),
+        ):
+            before = list(value)
+            view = memoryview(value)
+            self.assertEqual(view.tolist(), before)
+            self.assertTrue(view.readonly)
+            self.assertTrue(view.c_contiguous)
+            self.assertEqual(view.format, "q" if isinstance(value, List) else "B")
+            self.assertEqual(view.itemsize, 8 if isinstance(value, List) else 1)
+            self.assertEqual(view.shape, (len(before),))
+            self.assertEqual(view.nbytes, len(before) * view.itemsize)
+            parts = view[1:], view[::-1], view.cast("B")
+            for _ in range(51):
+                change(value)
+            self.assertFalse(list(value) == before)
+            self.assertEqual(view.tolist(), before)
+            del value
+            kept = [Bytes(bytes(3000)) for _ in range(50)]
+            self.assertEqual(view.tolist(), before)
+            self.assertEqual(parts[0].tolist(), before[1:])
+            self.assertEqual(parts[1].tolist(), before[::-1])
+            view.release()
+            self.assertEqual(parts[0].tolist(), before[1:])
+            self.assertIs(outcome(lambda: type(parts[0].obj)()), TypeError)
+            del kept
+
+    def test_readers(self):
+        value, numbers = Bytes(b"abcdefghijklmnop"), List([1, -2])
+        with tempfile.TemporaryFile() as file:
+            self.assertEqual(file.write(value), 16)
+            self.assertEqual(file.write(numbers), 16)
+        self.assertEqual(struct.unpack_from("4s", value, 2), (b"cdef",))
+        self.assertEqual(bytes(value), b"abcdefghijklmnop")
+        self.assertEqual(bytearray(value), b"abcdefghijklmnop")
+        self.assertEqual(bytes(numbers), struct.pack("=2q", 1, -2))
+        self.assertEqual(array.array("q", numbers), array.array("q", [1, -2]))
+        self.assertEqual(int.from_bytes(Bytes(b"\x01\x02"), "big"), 258)
+        self.assertEqual(List(memoryview(numbers)), numbers)
+        self.assertEqual(b"".join([value, b"q"]), b"abcdefghijklmnopq")
+        self.assertIs(outcome(lambda: struct.pack_into("q", numbers, 0, 1)), TypeError)
+        self.assertIs(outcome(lambda: memoryview(Text("a"))), TypeError)
+        with open("/dev/zero", "rb") as file:
+            self.assertIs(outcome(lambda: file.readinto(numbers)), TypeError)
+
+    def test_inside_a_call(self):
+        """A view of a value may be an argument of its own call."""
+        value = Bytes(b"abcdefghijklmnop")
+        value.extend(memoryview(value))
+        value[2:4] = memoryview(value)[:3]
+        self.assertEqual(value, b"ababcefghijklmnop" + b"abcdefghijklmnop")
+        numbers = List(range(5))
+        numbers[1:1] = memoryview(numbers)
+        self.assertEqual(numbers, [0, 0, 1, 2, 3, 4, 1, 2, 3, 4])
+
+
+class Mallinfo(ctypes.Structure):
+    """What the C library tells of its memory, as `mallinfo2` gives it."""
+
+    _fields_ = [(name, ctypes.c_size_t) for name in (
+        "arena", "ordblks", "smblks", "hblks", "hblkhd", "usmblks", "fsmblks", "uordblks",
+        "fordblks", "keepcost")]
+
+
+try:
+    mallinfo = ctypes.CDLL(None).mallinfo2
+    mallinfo.restype = Mallinfo
+except AttributeError:
+    mallinfo = None
+
+
+def held():
+    """How many blocks the interpreter holds, and how many bytes the C library gave out."""
+    told = mallinfo()
+    return sys.getallocatedblocks(), told.uordblks + told.hblkhd
+
+
+class Note(Text):
+    pass
+
+
+class Tagged(List):
+    __slots__ = ("tag", "__dict__")
+
+
+class Given(unittest.TestCase):
+    """Memory that is given back."""
+
+    @unittest.skipUnless(mallinfo, "this C library doesn't tell what it gave out")
+    def test_leaks(self):
+        """No call keeps what it made, whether it succeeds or raises an error."""
+        numbers, data, text = List(range(100)), Bytes(bytes(100)), Text("\u00e9" * 100)
+        texts, value = Texts(["x" * 100] * 10), Value({"a": [{"b": "x" * 100}]})
+        note, tagged = Note("x" * 99), Tagged([1] * 99)
+        note.own, tagged.tag, tagged.own = ["y"], ["z"], note
+        calls = (
+            lambda: note.copy(), lambda: copy.copy(tagged), lambda: copy.deepcopy(tagged),
+            lambda: pickle.loads(pickle.dumps(note)), lambda: pickle.loads(pickle.dumps(tagged)),
+            lambda: Note(5), lambda: note[3:], lambda: note + "x", lambda: Tagged(range(99)) * 2,
+            lambda: numbers.copy().append(1), lambda: numbers[3:90], lambda: numbers[::-2],
+            lambda: numbers + [1], lambda: numbers * 3, lambda: List(range(100)),
+            lambda: List(each for each in range(70)), lambda: numbers.copy().sort(),
+            lambda: numbers == list(range(100)), lambda: numbers.copy().extend([1, "x"]),
+            lambda: numbers.copy().__setitem__(slice(0, 9, 2), [1]), lambda: repr(numbers),
+            lambda: numbers.copy().__delitem__(slice(0, 90, 3)), lambda: memoryview(numbers)[3:],
+            lambda: numbers.index("x"), lambda: List([2**70]), lambda: list(numbers),
+            lambda: data.copy().append(1), lambda: data[3:90], lambda: data.upper(),
+            lambda: data.split(b"\0"), lambda: data.find(b"xyz"), lambda: data.find("x"),
+            lambda: data + b"x" * 100, lambda: data == b"y" * 100, lambda: Bytes(["x"]),
+            lambda: data.copy().extend(iter(range(200))), lambda: data.join([b"a", b"b"]),
+            lambda: memoryview(data), lambda: data.copy().__imul__(5),
+            lambda: text.copy().append("x"), lambda: text[3:], lambda: text[::-1],
+            lambda: text + "x" * 100, lambda: "x" * 100 + text, lambda: text * 4,
+            lambda: text.upper(), lambda: text.split("x"), lambda: text.partition("\u00e9"),
+            lambda: text.replace("\u00e9", "x"), lambda: text.join(["a" * 50, text]),
+            lambda: text.copy().extend(["a", text, 1]), lambda: text.copy().extend(["a", text]),
+            lambda: text.copy().__setitem__(slice(0, 9, 2), "abcde"), lambda: f"{text:>200}",
+            lambda: text.copy().__setitem__(0, "\ud800"), lambda: text == "x", lambda: text % (),
+            lambda: text.copy().reverse(), lambda: text.center(300, Text("x")),
+            lambda: text.copy().pop(), lambda: text.encode("utf-16"), lambda: text < "\ud800",
+            lambda: texts.copy().append("x" * 50), lambda: texts[0], lambda: texts[1:5],
+            lambda: texts[::-1], lambda: texts + ["y" * 50], lambda: texts.copy().sort(),
+            lambda: texts.copy().extend(["x" * 50, 1]), lambda: Texts("x" * 50) * 2,
+            lambda: texts.copy().pop(), lambda: texts == ["x"] * 10, lambda: "z" in texts,
+            lambda: repr(texts), lambda: texts.copy().__setitem__(slice(0, 4, 2), ["a", "b"]),
+            lambda: value.copy(), lambda: value.to_python(), lambda: value["a"],
+            lambda: value.get("z"),
+            lambda: value.copy().set(["a", 0, "b"], [1, 2]), lambda: value.copy().set(["a", 5], 1),
+            lambda: Value([1, {"x": {1}}]), lambda: value.copy().pop("a"), lambda: value.items(),
+            lambda: value == {"a": 1}, lambda: value.copy().__setitem__("b", "y" * 50),
+            lambda: value["a"][:], lambda: value.part(["a", 0, "b"]), lambda: "a" in value,
+            lambda: list(value["a"]), lambda: value["a"].extend([1, {2}]), lambda: value["a"].pop(),
+            lambda: value.get(["a", 0, "b", "c"]), lambda: repr(value),
+            # Each with a value that nobody else holds, as an argument of its own kind.
+            lambda: List(range(99)).extend(List(range(99))), lambda: List(range(99)) + List([1]),
+            lambda: List(range(99)) + [1, "x"], lambda: [1] + List(range(99)),
+            lambda: List(range(99)).__setitem__(slice(1, 2), List(range(99))),
+            lambda: List(List(range(99))), lambda: List(range(99)).__init__(List(range(9))),
+            lambda: List(range(99)).__imul__(2), lambda: List(range(99)).reverse(),
+            lambda: List(range(99)).__delitem__(slice(1, 50, 2)), lambda: List(range(99)).clear(),
+            lambda: Bytes(bytes(99)).extend(Bytes(bytes(99))), lambda: Bytes(Bytes(bytes(99))),
+            lambda: Bytes(bytes(99)) + Bytes(bytes(99)), lambda: Bytes(bytes(99)) * 2,
+            lambda: Bytes(bytes(99)).__contains__(Bytes(bytes(99))), lambda: Bytes(bytes(99)).pop(),
+            lambda: memoryview(Bytes(bytes(99)))[1:], lambda: memoryview(List(range(99)))[1:],
+            lambda: memoryview(Bytes(b"x"))[1:], lambda: Bytes(bytes(99)).reverse(),
+            lambda: Text("x" * 99).extend(Text("y" * 99)), lambda: Text("x" * 99) + Text("y" * 99),
+            lambda: Text("x" * 99).insert(5, Text("y" * 99)), lambda: Text(Text("x" * 99)),
+            lambda: Text(Value("x" * 99)), lambda: Text(Value(1)), lambda: Text("x" * 99) * 3,
+            lambda: Text("x" * 99).strip(), lambda: Text("x" * 99).split("x"),
+            lambda: Text("x" * 99).clear(), lambda: Text("x" * 99).truncate(20),
+            lambda: Texts(["x" * 99]).extend(Texts(["y" * 99])), lambda: Texts(Texts(["x" * 99])),
+            lambda: Texts(["x" * 99]) + ["y" * 99, 1], lambda: Texts(["x" * 99] * 9).pop(2),
+            lambda: Texts(["x" * 99]).append(Text("y" * 99)), lambda: Texts(["x" * 99]).index("y"),
+            lambda: Texts(["x" * 99]).insert(0, "y" * 99), lambda: Texts(["x" * 99]).reverse(),
+            lambda: Texts(["x" * 99]).__setitem__(0, "y" * 99), lambda: Texts(["x" * 99]) * 3,
+            lambda: Texts(["x" * 99] * 9).__delitem__(slice(0, 9, 2)),
+            lambda: Value(["x" * 99]).append(Value(["y" * 99])), lambda: Value(["x" * 99]) == [1],
+            lambda: Value(["x" * 99]).extend([Value(["y" * 99]), {1}]), lambda: Value(["x"])[0],
+            lambda: Value(["x" * 99]).insert(0, {"a": {1}}), lambda: Value(["x" * 99]).pop(),
+            lambda: Value({"a": ["x" * 99]}).set(["a", 0], "y" * 99),
+            lambda: Value({"a": ["x" * 99]}).set(["a", 0, 0], "y" * 99),
+            lambda: Value({"a": ["x" * 99]}).set(["a", 5], "y" * 99),
+            lambda: Value({"a": ["x" * 99]}).part(["a", "b"]), lambda: Value({"a" * 99: 1}).keys(),
+            lambda: Value({"a": ["x" * 99]}).items(), lambda: Value({"a": ["x" * 99]}).clear(),
+            lambda: Value({"a": ["x" * 99]}).pop("a"), lambda: Value({"a": ["x" * 99]})["a"][:],
+            lambda: pickle.loads(pickle.dumps([List(range(99)), Texts(["x" * 99])])),
+            lambda: pickle.loads(pickle.dumps([Value({"a": ["x" * 99]}), Text("x" * 99)])),
+        )
+        rounds = max(400, EDITS // 10)
+        for number, call in enumerate(calls):
+            for _ in range(50):
+                outcome(call)
+            gc.collect()
+            blocks, size = held()
+            for _ in range(rounds):
+                outcome(call)
+            gc.collect()
+            more_blocks, more_size = held()
+            # What leaks takes a block, or 16 bytes or more, each round.
+            self.assertLess(more_blocks - blocks, rounds // 2, f"call {number}")
+            self.assertLess(more_size - size, 8 * rounds, f"call {number}")
+
+    def test_shared(self):
+        """Copies and views of a large value take no memory of its size."""
+        for value in (List(range(MIB // 8)), Bytes(bytes(MIB)), Text("a" * MIB), Value("a" * MIB),
+                      Texts(["a" * 999] * 1000)):
+            before = resident()
+            kept = [value.copy() for _ in range(200)]
+            if isinstance(value, (List, Bytes)):
+                kept += [memoryview(value) for _ in range(200)]
+            self.assertLess(resident() - before, 10 * MIB)
+            self.assertEqual(kept[-1], value)
+
+
+REFUSED = """
+import resource
+from ecow import Bytes, List, Text, Texts, Value
+
+numbers, data, text = List(range(9)), Bytes(b"sixteen letters!"), Text("sixteen letters!")
+texts, value = Texts(["a"]), Value([1])
+shared = numbers.copy(), data.copy(), text.copy()
+resource.setrlimit(resource.RLIMIT_AS, (2**28, resource.RLIM_INFINITY))
+refused = 0
+for call in (
+    lambda: numbers.reserve(2**27), lambda: data.reserve(2**30), lambda: text.reserve(2**30),
+    lambda: texts.reserve(2**26), lambda: numbers * 2**26, lambda: data * 2**27,
+    lambda: text * 2**27, lambda: texts * 2**26, lambda: numbers.__imul__(2**26),
+    lambda: data.__imul__(2**27), lambda: text.__imul__(2**27), lambda: texts.__imul__(2**26),
+):
+    try:
+        call()
+    except MemoryError:
+        refused += 1
+resource.setrlimit(resource.RLIMIT_AS, (resource.RLIM_INFINITY, resource.RLIM_INFINITY))
+assert refused == 12, refused
+assert numbers == list(range(9)) == list(shared[0])
+assert data == b"sixteen letters!" == shared[1] and text == "sixteen letters!" == shared[2]
+assert texts == ["a"] and value == [1]
+for each in (numbers, data, texts, value):
+    each.append(97 if each is not texts else "b")
+print("refused")
+"""
+
+
+class Refused(unittest.TestCase):
+    def test_refused(self):
+        """Where memory is refused, a MemoryError is raised and the value is as it was."""
+        ran = subprocess.run([sys.executable, "-c", REFUSED], capture_output=True, text=True,
+                             env={**os.environ, "PYTHONPATH": os.pathsep.join(sys.path)})
+        self.assertEqual((ran.stdout, ran.stderr), ("refused\n", ""))
+
+
+class Threads(unittest.TestCase):
+    def test_copies(self):
+        """Threads change copies of the same values, and none sees what another wrote."""
+        numbers, text = List(range(100)), Text("a text that spills")
+        value, wrong = Value({"a": [1, 2]}), []
+
+        def churn(number, numbers, text, value):
+            for at in range(max(100, EDITS // 20)):
+                other, longer, deep = numbers.copy(), text.copy(), value.copy()
+                other[0] = at
+                other.append(number)
+                longer.append("!")
+                deep.set(["a", 0], number)
+                if (other != [at, *range(1, 100), number] or numbers != list(range(100))
+                        or longer != "a text that spills!" or text != "a text that spills"
+                        or deep != {"a": [number, 2]} or value != {"a": [1, 2]}):
+                    wrong.append(number)
+
+        running = [
+            threading.Thread(target=churn, args=(number, numbers.copy(), text.copy(), value.copy()))
+            for number in range(8)
+        ]
+        for each in running:
+            each.start()
+        del numbers, text, value
+        for each in running:
+            each.join()
+        self.assertEqual(wrong, [])
+
+    def test_one_value(self):
+        """Under the interpreter's lock threads may even use one value."""
+        numbers = List()
+
+        def fill():
+            for at in range(2000):
+                numbers.append(at)
+
+        running = [threading.Thread(target=fill) for _ in range(8)]
+        for each in running:
+            each.start()
+        for each in running:
+            each.join()
+        self.assertEqual(sorted(numbers), sorted(list(range(2000)) * 8))
+
+
+class Modules(unittest.TestCase):
+    def test_two_modules(self):
+        """A second copy of the module has types of its own, and values of both may meet."""
+        import importlib.util
+
+        from ecow import _core
+
+        spec = importlib.util.spec_from_file_location("ecow._core", _core.__file__)
+        other = importlib.util.module_from_spec(spec)
+        spec.loader.exec_module(other)
+        self.assertIsNot(other.List, List)
+        theirs, ours = other.List([1, 2]), List([1, 2])
+        self.assertNotEqual(theirs, ours)
+        self.assertEqual(List(theirs), ours)
+        self.assertIs(outcome(lambda: ours + theirs), TypeError)
+        self.assertEqual(other.Bytes(b"a"), Bytes(b"a"))
+        self.assertIs(outcome(lambda: Text(other.Text("a"))), TypeError)
+
+
+if __name__ == "__main__":
+    unittest.main()
