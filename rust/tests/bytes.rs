@@ -1,0 +1,220 @@
+//! Bytes, beside values that are worked out by hand or by slices.
+
+mod common;
+
+use common::LENGTHS;
+use ecow_proved::{EcoBytes, Error};
+use std::borrow::{Borrow, Cow};
+use std::collections::hash_map::DefaultHasher;
+use std::collections::HashMap;
+use std::hash::{Hash, Hasher};
+use std::io::Write;
+use std::mem::size_of;
+use std::panic::catch_unwind;
+
+fn hash<T: Hash + ?Sized>(value: &T) -> u64 {
+    let mut hasher = DefaultHasher::new();
+    value.hash(&mut hasher);
+    hasher.finish()
+}
+
+#[test]
+fn size_is_16() {
+    assert_eq!(size_of::<EcoBytes>(), 16);
+}
+
+#[test]
+fn up_to_15_are_inline_and_more_are_shared() {
+    for len in LENGTHS {
+        let all: Vec<u8> = (0..len).map(|index| index as u8).collect();
+        let bytes = EcoBytes::from(all.as_slice());
+        assert_eq!(
+            (bytes.len(), bytes.is_empty(), bytes.is_inline()),
+            (len, len == 0, len <= 15)
+        );
+        assert_eq!(bytes, all);
+        assert_eq!(EcoBytes::try_inline(&all).is_some(), len <= 15);
+        assert_eq!(catch_unwind(|| EcoBytes::inline(&all)).is_ok(), len <= 15);
+        let mut clone = bytes.clone();
+        assert!(len == 0 || (bytes.as_ptr() == clone.as_ptr()) == (len > 15));
+        clone.push(0);
+        assert_eq!(bytes, all);
+        let place = clone.as_ptr();
+        assert_eq!(clone.pop(), Some(0));
+        assert!(len == 0 || clone.as_ptr() == place);
+        assert_eq!(clone, bytes);
+    }
+    assert!(EcoBytes::with_capacity(15).is_inline() && !EcoBytes::with_capacity(16).is_inline());
+}
+
+#[test]
+fn edits() {
+    let mut bytes = EcoBytes::from([1, 2, 3]);
+    bytes.insert(1, 9);
+    bytes.set(0, 7);
+    assert_eq!(bytes, [7, 9, 2, 3]);
+    assert_eq!((bytes.remove(1), bytes.pop()), (9, Some(3)));
+    bytes.extend_from_slice(&[4; 20]);
+    bytes.insert_slice(2, b"xyz");
+    assert_eq!(bytes, [&[7, 2][..], b"xyz", &[4; 20]].concat());
+    let kept = bytes.clone();
+    bytes.replace_range(1..24, b"q");
+    assert_eq!(bytes, [7, b'q', 4]);
+    bytes.truncate(5);
+    bytes.truncate(1);
+    assert_eq!(bytes, [7]);
+    bytes.clear();
+    assert_eq!((bytes.is_empty(), bytes.pop()), (true, None));
+    bytes.write_all(b"written").unwrap();
+    bytes.flush().unwrap();
+    bytes.extend(*b" more");
+    bytes.extend(b" yet");
+    assert_eq!(bytes, b"written more yet");
+    assert_eq!(kept.len(), 25);
+    for (count, inline) in [(0, true), (7, true), (8, false), (600, false)] {
+        let repeated = EcoBytes::from(b"ab").repeat(count);
+        assert_eq!(repeated, b"ab".repeat(count));
+        assert_eq!(repeated.is_inline(), inline);
+    }
+    assert_eq!(EcoBytes::new().repeat(usize::MAX), []);
+}
+
+#[test]
+fn refused() {
+    for len in [0, 3, 15, 16, 1025] {
+        let all = vec![5; len];
+        let shared = EcoBytes::from(all.as_slice());
+        let mut bytes = shared.clone();
+        assert_eq!(bytes.try_set(len, 1), Err(Error::Index));
+        assert_eq!(bytes.try_remove(len), Err(Error::Index));
+        assert_eq!(bytes.try_insert(len + 1, 1), Err(Error::Index));
+        assert_eq!(bytes.try_insert_slice(len + 1, b"x"), Err(Error::Index));
+        assert_eq!(bytes.try_insert_slice(len + 1, b""), Err(Error::Index));
+        assert_eq!(bytes.try_replace_range(len.., b"").err(), None);
+        assert_eq!(bytes.try_replace_range(len + 1.., b""), Err(Error::Index));
+        assert_eq!(bytes.try_replace_range(..=len, b""), Err(Error::Index));
+        assert_eq!(bytes.try_reserve(usize::MAX), Err(Error::Capacity));
+        assert_eq!(bytes.try_reserve(1 << 62), Err(Error::Memory));
+        assert_eq!((&bytes, &shared), (&EcoBytes::from(all.as_slice()), &bytes));
+        let panics = |edit: fn(&mut EcoBytes, usize)| {
+            let mut bytes = shared.clone();
+            catch_unwind(move || edit(&mut bytes, len)).is_err()
+        };
+        assert!(panics(|bytes, len| bytes.set(len, 1)));
+        assert!(panics(|bytes, len| _ = bytes.remove(len)));
+        assert!(panics(|bytes, len| bytes.insert(len + 1, 1)));
+        assert!(panics(|bytes, len| bytes.insert_slice(len + 1, b"")));
+        assert!(panics(|bytes, len| bytes.replace_range(len + 1.., b"")));
+        assert!(panics(|bytes, _| bytes.reserve(usize::MAX)));
+        assert!(!panics(|bytes, len| bytes.insert(len, 1)));
+    }
+    assert_eq!(
+        EcoBytes::from(b"ab").try_repeat(usize::MAX),
+        Err(Error::Capacity)
+    );
+}
+
+#[test]
+fn made_of_others_read_and_compared() {
+    let all: Vec<u8> = (0..20).collect();
+    assert_eq!(EcoBytes::from(all.clone()), EcoBytes::from(&all));
+    assert_eq!(EcoBytes::from(Cow::Borrowed(&all[..])), all);
+    assert_eq!(all.iter().copied().collect::<EcoBytes>(), all);
+    assert_eq!(EcoBytes::default(), []);
+    assert_eq!(Vec::from(EcoBytes::from(&all)), all);
+    assert_eq!(Vec::from(&EcoBytes::from(&all)), all);
+    let bytes = EcoBytes::from(&all);
+    assert_eq!(EcoBytes::from(&bytes).as_ptr(), bytes.as_ptr());
+    assert_eq!((bytes[3], &bytes[18..]), (3, &[18, 19][..]));
+    assert_eq!(
+        (&bytes)
+            .into_iter()
+            .map(|byte| u32::from(*byte))
+            .sum::<u32>(),
+        190
+    );
+    assert_eq!(AsRef::<[u8]>::as_ref(&bytes), all);
+    assert_eq!(Borrow::<[u8]>::borrow(&bytes), all);
+    assert_eq!(format!("{:?}", EcoBytes::from(b"\x01\xff")), "[1, 255]");
+    let arrays: [&[u8]; 6] = [&[], &[0], &[0, 0], &[1], &[255; 15], &[255; 16]];
+    for left in arrays {
+        for right in arrays {
+            let (one, mut other) = (EcoBytes::from(left), EcoBytes::from(right));
+            other.reserve(16);
+            assert_eq!(one == other, left == right);
+            assert_eq!(one == right, left == right);
+            assert_eq!(one == *right, left == right);
+            assert_eq!(one == right.to_vec(), left == right);
+            assert_eq!(*left == other, left == right);
+            assert_eq!(left.to_vec() == other, left == right);
+            assert_eq!(one.cmp(&other), left.cmp(right));
+            assert_eq!(hash(&one), hash(left));
+            assert_eq!(hash(&other), hash(right));
+        }
+    }
+    let two = EcoBytes::from([1, 2]);
+    assert_eq!([1, 2], two);
+    assert_eq!(two, [1, 2]);
+    assert_eq!(two, &[1, 2]);
+    assert_eq!(HashMap::from([(bytes, 1)]).get(&all[..]), Some(&1));
+}
+
+#[test]
+fn room_is_told_and_given_up() {
+    for len in LENGTHS {
+        let mut first = EcoBytes::from(vec![7; len]);
+        let inline = len <= 15;
+        assert!(first.capacity() >= len && (first.capacity() == 15) == inline);
+        assert_eq!(first.is_inline(), inline);
+        first.reserve(5000);
+        assert!(first.capacity() >= len + 5000 && !first.is_inline());
+        let (room, place) = (first.capacity(), first.as_ptr());
+        first.push(1);
+        assert_eq!((first.pop(), first.capacity()), (Some(1), room));
+        assert_eq!(first.as_ptr(), place, "the room that is told is there");
+        let second = first.clone();
+        assert_eq!((second.capacity(), second.is_inline()), (room, false));
+        first.shrink_to_fit();
+        assert_eq!(first.try_shrink_to_fit(), Ok(()));
+        assert_eq!(first.is_inline(), inline);
+        assert_eq!(first.capacity(), if inline { 15 } else { room });
+        assert_eq!((&first, second.capacity()), (&second, room));
+        assert_eq!(first.shares_with(&second), !inline);
+    }
+}
+
+/// A block of room for 15 bytes is told from what stands in the value.
+#[test]
+fn a_small_block_is_not_inline() {
+    let len = 16;
+    let mut small = EcoBytes::from(vec![7; len]);
+    let shared = small.clone();
+    small.truncate(15);
+    for _ in 0..2 {
+        assert_eq!((small.capacity(), small.is_inline()), (15, false));
+        assert!(!small.clone().is_inline());
+        small.clear();
+    }
+    small.shrink_to_fit();
+    assert_eq!((small.capacity(), small.is_inline()), (15, true));
+    assert_eq!(shared.len(), 16);
+}
+
+#[test]
+fn clones_share_until_one_is_changed() {
+    for len in LENGTHS {
+        let first = EcoBytes::from(vec![7; len]);
+        let mut second = first.clone();
+        let spilled = len > 15;
+        assert!(first.shares_with(&second) == spilled && second.shares_with(&first) == spilled);
+        assert_eq!(first.shares_with(&first), spilled);
+        assert!(
+            !first.shares_with(&EcoBytes::from(vec![7; len])),
+            "equal, in another block"
+        );
+        second.push(1);
+        assert!(!first.shares_with(&second));
+        assert_eq!(second.pop(), Some(1));
+        assert!(first == second && !first.shares_with(&second));
+    }
+}

@@ -1,0 +1,405 @@
+//! Strings, beside values that are worked out by hand or by `str`.
+
+mod common;
+
+use common::LENGTHS;
+use ecow_proved::string::ToEcoString;
+use ecow_proved::{eco_format, EcoBytes, EcoString, Error};
+use std::borrow::{Borrow, Cow};
+use std::collections::hash_map::DefaultHasher;
+use std::collections::{BTreeMap, HashMap};
+use std::ffi::OsStr;
+use std::fmt::Write;
+use std::hash::{Hash, Hasher};
+use std::mem::size_of;
+use std::panic::catch_unwind;
+use std::path::Path;
+
+fn hash<T: Hash + ?Sized>(value: &T) -> u64 {
+    let mut hasher = DefaultHasher::new();
+    value.hash(&mut hasher);
+    hasher.finish()
+}
+
+/// A spilled string of fewer than 16 bytes.
+fn spilled(text: &str) -> EcoString {
+    let mut string = EcoString::from(text);
+    string.reserve(16);
+    assert!(!string.is_inline());
+    string
+}
+
+#[test]
+fn size_is_16() {
+    assert_eq!(size_of::<EcoString>(), 16);
+}
+
+#[test]
+fn up_to_15_bytes_are_inline() {
+    for len in LENGTHS {
+        let text = "x".repeat(len);
+        let string = EcoString::from(text.as_str());
+        assert_eq!((string.len(), string.is_empty()), (len, len == 0));
+        assert_eq!(string, text);
+        assert_eq!(string.is_inline(), len <= 15, "{len}");
+        assert_eq!(EcoString::try_inline(&text).is_some(), len <= 15);
+        assert_eq!(catch_unwind(|| EcoString::inline(&text)).is_ok(), len <= 15);
+    }
+    assert_eq!(EcoString::INLINE_LIMIT, 15);
+    assert!(EcoString::with_capacity(15).is_inline());
+    assert!(!EcoString::with_capacity(16).is_inline());
+    assert_eq!(EcoString::with_capacity(2000), "");
+    const EMPTY: EcoString = EcoString::new();
+    assert!(EMPTY.is_empty() && EMPTY.is_inline());
+}
+
+#[test]
+fn clones_share_and_edits_do_not_show() {
+    for len in [16, 1023, 1024, 1025, 3000] {
+        let first = EcoString::from("y".repeat(len));
+        let mut second = first.clone();
+        let third = EcoString::from(&second);
+        assert_eq!(first.as_ptr(), second.as_ptr());
+        assert_eq!(first.as_ptr(), third.as_ptr());
+        second.push('!');
+        assert_eq!(first, "y".repeat(len));
+        assert_eq!(second, "y".repeat(len) + "!");
+        assert_ne!(first.as_ptr(), second.as_ptr());
+        let place = second.as_ptr();
+        second.pop();
+        assert_eq!(
+            second.as_ptr(),
+            place,
+            "a sole string is edited in its place"
+        );
+        assert_eq!(first, second);
+        drop(first);
+        assert_eq!(third, "y".repeat(len));
+    }
+}
+
+#[test]
+fn an_inline_string_may_be_moved() {
+    let strings: Vec<EcoString> = (0..100)
+        .map(|len| EcoString::from("z".repeat(len % 20)))
+        .collect();
+    let boxed = Box::new(strings[15].clone());
+    assert_eq!(*boxed, "zzzzzzzzzzzzzzz");
+    for (len, string) in strings.into_iter().enumerate() {
+        assert_eq!(string, "z".repeat(len % 20));
+    }
+}
+
+#[test]
+fn edits() {
+    for make in [EcoString::from, spilled] {
+        let mut string = make("h\u{e9}llo");
+        string.push('\u{1f331}');
+        assert_eq!(string, "h\u{e9}llo\u{1f331}");
+        assert_eq!(string.pop(), Some('\u{1f331}'));
+        assert_eq!(string.remove(1), '\u{e9}');
+        string.insert(1, 'e');
+        string.insert_str(5, ", world");
+        assert_eq!(string, "hello, world");
+        string.replace_range(7.., "you");
+        string.replace_range(..=0, "H");
+        string.replace_range(5..5, "");
+        assert_eq!(string, "Hello, you");
+        string.truncate(5);
+        string.truncate(9);
+        assert_eq!(string, "Hello");
+        string.push_str(" and a longer text than fits");
+        assert_eq!(string, "Hello and a longer text than fits");
+        string.clear();
+        assert_eq!((string.pop(), string.as_str()), (None, ""));
+    }
+}
+
+#[test]
+fn indices_are_tested() {
+    for text in ["a\u{20ac}b", "a\u{20ac}b and more than fifteen"] {
+        for at in 0..text.len() + 2 {
+            let expected = if at > text.len() {
+                Some(Error::Index)
+            } else if !text.is_char_boundary(at) {
+                Some(Error::Boundary)
+            } else {
+                None
+            };
+            let mut string = EcoString::from(text);
+            let shared = string.clone();
+            assert_eq!(string.try_insert_str(at, "x").err(), expected);
+            assert_eq!(string == text, expected.is_some());
+            assert_eq!(shared, text);
+
+            let mut string = shared.clone();
+            assert_eq!(string.try_insert(at, 'x').err(), expected);
+            let mut string = shared.clone();
+            let boundary = expected.filter(|error| *error == Error::Boundary);
+            assert_eq!(string.try_truncate(at).err(), boundary);
+            let mut string = shared.clone();
+            assert_eq!(string.try_replace_range(at..at, "x").err(), expected);
+            let mut string = shared.clone();
+            let removed = string.try_remove(at);
+            match text.get(at..).and_then(|rest| rest.chars().next()) {
+                Some(character) => assert_eq!(removed, Ok(character)),
+                None => assert_eq!(removed, Err(expected.unwrap_or(Error::Index))),
+            }
+
+            let panics = |edit: fn(&mut EcoString, usize)| {
+                let mut string = shared.clone();
+                catch_unwind(move || edit(&mut string, at)).is_err()
+            };
+            assert_eq!(
+                panics(|string, at| string.insert(at, 'x')),
+                expected.is_some()
+            );
+            assert_eq!(
+                panics(|string, at| string.insert_str(at, "")),
+                expected.is_some()
+            );
+            assert_eq!(panics(|string, at| string.truncate(at)), boundary.is_some());
+            assert_eq!(
+                panics(|string, at| string.replace_range(at.., "")),
+                expected.is_some()
+            );
+            assert_eq!(panics(|string, at| _ = string.remove(at)), removed.is_err());
+            assert_eq!(shared, text);
+        }
+    }
+    let mut string = EcoString::from("abc");
+    assert_eq!(
+        string.try_replace_range(3..=usize::MAX, ""),
+        Err(Error::Index)
+    );
+    assert_eq!(string.try_replace_range(..=3, ""), Err(Error::Index));
+    assert_eq!(string.try_replace_range(4.., ""), Err(Error::Index));
+    let backwards = std::ops::Range { start: 2, end: 1 };
+    assert_eq!(string.try_replace_range(backwards, ""), Err(Error::Index));
+    assert_eq!(string, "abc");
+}
+
+#[test]
+fn too_much_is_refused() {
+    let mut string = EcoString::from("abc");
+    assert_eq!(string.try_reserve(usize::MAX), Err(Error::Capacity));
+    assert_eq!(string.try_reserve(1 << 62), Err(Error::Memory));
+    assert_eq!(
+        EcoString::try_with_capacity(usize::MAX),
+        Err(Error::Capacity)
+    );
+    assert_eq!(string.try_repeat(usize::MAX), Err(Error::Capacity));
+    assert_eq!(string.try_repeat(1 << 60), Err(Error::Memory));
+    assert_eq!(EcoString::new().try_repeat(usize::MAX).as_deref(), Ok(""));
+    let panic = catch_unwind(|| EcoString::with_capacity(usize::MAX)).unwrap_err();
+    assert_eq!(
+        panic.downcast_ref::<String>().map(String::as_str),
+        Some("capacity overflow")
+    );
+    assert!(catch_unwind(|| EcoString::from("ab").repeat(usize::MAX)).is_err());
+    assert_eq!(string, "abc");
+}
+
+#[test]
+fn made_of_others() {
+    let long = "longer than fifteen bytes";
+    assert_eq!(EcoString::from('\u{1f331}'), "\u{1f331}");
+    assert_eq!(EcoString::from(String::from(long)), long);
+    assert_eq!(EcoString::from(&String::from(long)), long);
+    assert_eq!(EcoString::from(Cow::Borrowed(long)), long);
+    assert_eq!(long.parse::<EcoString>().as_deref(), Ok(long));
+    assert_eq!(EcoString::default(), "");
+    assert_eq!(
+        ["a", "", long].into_iter().collect::<EcoString>(),
+        "a".to_string() + long
+    );
+    assert_eq!(long.chars().collect::<EcoString>(), long);
+    let pieces = ["Hello, ".into(), EcoString::new(), "world".into()];
+    assert_eq!(pieces.into_iter().collect::<EcoString>(), "Hello, world");
+    assert_eq!(EcoBytes::from(EcoString::from(long)), *long.as_bytes());
+    assert_eq!(
+        EcoString::try_from(EcoBytes::from(long.as_bytes())).as_deref(),
+        Ok(long)
+    );
+    let no_text = EcoString::try_from(EcoBytes::from(b"ab\xff")).unwrap_err();
+    assert_eq!(no_text.valid_up_to(), 2);
+    assert_eq!(String::from(EcoString::from(long)), long);
+    assert_eq!(String::from(&EcoString::from(long)), long);
+    let mut string = EcoString::from("a");
+    string.extend(['b', '\u{e9}']);
+    string.extend(["", "cd"]);
+    assert_eq!(string, "ab\u{e9}cd");
+    string += "!";
+    string += EcoString::from("?");
+    assert_eq!(string + "." + EcoString::from(","), "ab\u{e9}cd!?.,");
+}
+
+#[test]
+fn replaced() {
+    let string = EcoString::from("a-b-c");
+    assert_eq!(string.replace("-", " and "), "a and b and c");
+    assert_eq!(string.replace("", "."), ".a.-.b.-.c.");
+    assert_eq!(string.replace("x", "y"), "a-b-c");
+    assert_eq!(string.replace(&string, &string[..1]), "a");
+    assert_eq!(EcoString::from("aaa").replace("aa", "b"), "ba");
+    assert_eq!(string.replacen("-", "+", 1), "a+b-c");
+    assert_eq!(string.replacen("-", "+", 0), "a-b-c");
+    assert_eq!(string.replacen("", "+", 2), "+a+-b-c");
+    assert_eq!(string, "a-b-c");
+    let long = EcoString::from("abc".repeat(500));
+    assert_eq!(long.replace("b", "\u{20ac}"), "a\u{20ac}c".repeat(500));
+    assert_eq!(long.replace(&long[1..3], &long[..2]), "aab".repeat(500));
+    assert_eq!(long.replacen("abc", "", 499), "abc");
+    assert!(long.replacen("abc", "", 499).is_inline() && long.replace("abc", "").is_inline());
+}
+
+#[test]
+fn cases_and_repetition() {
+    let string = EcoString::from("Stra\u{df}e \u{3a3}A\u{3a3}");
+    assert_eq!(string.to_uppercase(), "STRASSE \u{3a3}A\u{3a3}");
+    assert_eq!(string.to_lowercase(), "stra\u{df}e \u{3c3}a\u{3c2}");
+    assert_eq!(string.to_ascii_uppercase(), "STRA\u{df}E \u{3a3}A\u{3a3}");
+    assert_eq!(string.to_ascii_lowercase(), "stra\u{df}e \u{3a3}a\u{3a3}");
+    assert_eq!(string, "Stra\u{df}e \u{3a3}A\u{3a3}");
+    assert!(EcoString::from("ABC").to_ascii_lowercase().is_inline());
+    assert!(!spilled("ABC").to_ascii_lowercase().is_inline());
+    assert!(spilled("ABC").to_lowercase().is_inline());
+    for (text, count) in [
+        ("ab", 0),
+        ("ab", 1),
+        ("ab", 7),
+        ("ab", 8),
+        ("", 9),
+        ("abc", 700),
+    ] {
+        assert_eq!(EcoString::from(text).repeat(count), text.repeat(count));
+        assert_eq!(
+            EcoString::from(text).repeat(count).is_inline(),
+            text.len() * count <= 15
+        );
+    }
+}
+
+#[test]
+fn read_as_a_str() {
+    let string = EcoString::from("a\u{e9}b");
+    assert_eq!(&string[1..3], "\u{e9}");
+    assert_eq!(string.find('b'), Some(3));
+    assert_eq!(AsRef::<str>::as_ref(&string), "a\u{e9}b");
+    assert_eq!(AsRef::<[u8]>::as_ref(&string), "a\u{e9}b".as_bytes());
+    assert_eq!(AsRef::<OsStr>::as_ref(&string), OsStr::new("a\u{e9}b"));
+    assert_eq!(AsRef::<Path>::as_ref(&string), Path::new("a\u{e9}b"));
+    assert_eq!(Borrow::<str>::borrow(&string), "a\u{e9}b");
+    assert_eq!(
+        format!("{string}|{string:>5}|{string:?}"),
+        "a\u{e9}b|  a\u{e9}b|\"a\u{e9}b\""
+    );
+    assert_eq!(eco_format!("{}-{:03}", "x", 7), "x-007");
+    assert_eq!(12.5.to_eco_string() + "x".to_eco_string(), "12.5x");
+    let mut written = EcoString::new();
+    write!(written, "{} and {:?}", 1, 'c').unwrap();
+    written.write_char('!').unwrap();
+    assert_eq!(written, "1 and 'c'!");
+}
+
+#[test]
+fn compared_and_hashed_as_strs() {
+    let texts = [
+        "",
+        "a",
+        "aa",
+        "ab",
+        "b",
+        "fifteen bytes..",
+        "fifteen bytes...",
+        "\u{ffff}",
+        "\u{10000}",
+    ];
+    for left in texts {
+        for right in texts {
+            let owned = [left, right].map(String::from);
+            for (one, other) in [
+                (EcoString::from(left), EcoString::from(right)),
+                (spilled(left), EcoString::from(right)),
+                (spilled(left), spilled(right)),
+            ] {
+                assert_eq!(one == other, left == right);
+                assert_eq!(one.cmp(&other), left.cmp(right));
+                assert_eq!(one.partial_cmp(&other), left.partial_cmp(right));
+                assert_eq!(one == right, left == right);
+                assert_eq!(one == *right, left == right);
+                assert_eq!(one == owned[1], left == right);
+                assert_eq!(left == other, left == right);
+                assert_eq!(*left == other, left == right);
+                assert_eq!(owned[0] == other, left == right);
+                assert_eq!(hash(&one), hash(left));
+            }
+        }
+    }
+    let map = HashMap::from([(EcoString::from("key"), 1)]);
+    assert_eq!(
+        (map.get("key"), map.get(&spilled("key")), map.get("other")),
+        (Some(&1), Some(&1), None)
+    );
+    assert_eq!(BTreeMap::from([(spilled("key"), 2)]).get("key"), Some(&2));
+}
+
+#[test]
+fn room_is_told_and_given_up() {
+    for len in LENGTHS {
+        let mut first = EcoString::from("x".repeat(len));
+        let inline = len <= 15;
+        assert!(first.capacity() >= len && (first.capacity() == 15) == inline);
+        assert_eq!(first.is_inline(), inline);
+        first.reserve(5000);
+        assert!(first.capacity() >= len + 5000 && !first.is_inline());
+        let (room, place) = (first.capacity(), first.as_ptr());
+        first.push('!');
+        assert_eq!((first.pop(), first.capacity()), (Some('!'), room));
+        assert_eq!(first.as_ptr(), place, "the room that is told is there");
+        let second = first.clone();
+        assert_eq!((second.capacity(), second.is_inline()), (room, false));
+        first.shrink_to_fit();
+        assert_eq!(first.try_shrink_to_fit(), Ok(()));
+        assert_eq!(first.is_inline(), inline);
+        assert_eq!(first.capacity(), if inline { 15 } else { room });
+        assert_eq!((&first, second.capacity()), (&second, room));
+        assert_eq!(first.shares_with(&second), !inline);
+    }
+}
+
+/// A block of room for 15 bytes is told from what stands in the value.
+#[test]
+fn a_small_block_is_not_inline() {
+    let len = 16;
+    let mut small = EcoString::from("x".repeat(len));
+    let shared = small.clone();
+    small.truncate(15);
+    for _ in 0..2 {
+        assert_eq!((small.capacity(), small.is_inline()), (15, false));
+        assert!(!small.clone().is_inline());
+        small.clear();
+    }
+    small.shrink_to_fit();
+    assert_eq!((small.capacity(), small.is_inline()), (15, true));
+    assert_eq!(shared.len(), 16);
+}
+
+#[test]
+fn clones_share_until_one_is_changed() {
+    for len in LENGTHS {
+        let first = EcoString::from("x".repeat(len));
+        let mut second = first.clone();
+        let spilled = len > 15;
+        assert!(first.shares_with(&second) == spilled && second.shares_with(&first) == spilled);
+        assert_eq!(first.shares_with(&first), spilled);
+        assert!(
+            !first.shares_with(&EcoString::from("x".repeat(len))),
+            "equal, in another block"
+        );
+        second.push('!');
+        assert!(!first.shares_with(&second));
+        assert_eq!(second.pop(), Some('!'));
+        assert!(first == second && !first.shares_with(&second));
+    }
+}

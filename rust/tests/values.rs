@@ -1,0 +1,274 @@
+//! Nested values, beside values that are worked out by hand.
+
+use ecow_proved::{EcoString, Error, Kind, Value};
+use std::mem::size_of;
+use std::panic::{catch_unwind, AssertUnwindSafe};
+
+#[test]
+fn size_is_24() {
+    assert_eq!(size_of::<Value>(), 24);
+}
+
+#[test]
+fn each_kind_reads_as_itself_alone() {
+    let all = [
+        (Value::new(), Kind::Nothing, "null"),
+        (true.into(), Kind::Truth, "true"),
+        (i64::MIN.into(), Kind::Number, "-9223372036854775808"),
+        ((-0.5).into(), Kind::Real, "-0.5"),
+        ("text".into(), Kind::Text, "\"text\""),
+        (Value::new_list(), Kind::List, "[]"),
+        (Value::new_fields(), Kind::Fields, "{}"),
+    ];
+    for (index, (value, kind, debug)) in all.iter().enumerate() {
+        assert_eq!(
+            (value.kind(), format!("{value:?}").as_str()),
+            (*kind, *debug)
+        );
+        let only = |is: Kind| if *kind == is { None } else { Some(Error::Kind) };
+        assert_eq!(value.truth().err(), only(Kind::Truth));
+        assert_eq!(value.number().err(), only(Kind::Number));
+        assert_eq!(value.real().err(), only(Kind::Real));
+        assert_eq!(value.text().err(), only(Kind::Text));
+        assert_eq!(
+            (value.len(), value.is_empty(), value.items().count()),
+            (0, true, 0)
+        );
+        assert_eq!(value.fields().count(), 0);
+        let mut edited = value.clone();
+        assert_eq!(
+            edited.pop().err(),
+            Some(only(Kind::List).unwrap_or(Error::Index))
+        );
+        assert_eq!(edited.truncate(0).err(), only(Kind::List));
+        assert_eq!(
+            edited.remove_field("a").err(),
+            Some(only(Kind::Fields).unwrap_or(Error::Index))
+        );
+        assert_eq!(
+            edited.field_name(0).err(),
+            Some(only(Kind::Fields).unwrap_or(Error::Index))
+        );
+        assert_eq!(edited, *value);
+        assert_eq!(edited.push(1).err(), only(Kind::List));
+        assert_eq!(edited.set_field("a", 1).err(), only(Kind::Fields));
+        for (other, (another, ..)) in all.iter().enumerate() {
+            assert_eq!(value == another, index == other);
+        }
+    }
+    assert_eq!(all[1].0.truth(), Ok(true));
+    assert_eq!(all[2].0.number(), Ok(i64::MIN));
+    assert_eq!(all[3].0.real(), Ok(-0.5));
+    assert_eq!(all[4].0.text().as_deref(), Ok("text"));
+    assert_eq!(Value::default(), Value::new());
+    assert_ne!(Value::from(1), Value::from(1.0));
+    assert_eq!(Value::from(f64::NAN), Value::from(-f64::NAN));
+    assert_eq!(
+        Value::from(String::from("a")),
+        Value::from(&EcoString::from("a"))
+    );
+}
+
+#[test]
+fn a_text_is_shared() {
+    let text = EcoString::from("a text of more than fifteen bytes");
+    let value = Value::from(&text);
+    assert_eq!(value.text().unwrap().as_ptr(), text.as_ptr());
+    assert_eq!(Value::from(&value).text().unwrap().as_ptr(), text.as_ptr());
+    let list = Value::from([value, text.clone().into()]);
+    assert_eq!(list.get(1).unwrap().text().unwrap().as_ptr(), text.as_ptr());
+}
+
+#[test]
+fn lists_are_edited() {
+    let mut list = Value::new_list();
+    list.push(1).unwrap();
+    list.push("b").unwrap();
+    list.insert(1, true).unwrap();
+    list.insert(3, list.clone()).unwrap();
+    assert_eq!(format!("{list:?}"), r#"[1, true, "b", [1, true, "b"]]"#);
+    let shared = list.clone();
+    list.set(0, Value::new()).unwrap();
+    assert_eq!(list.remove(1), Ok(true.into()));
+    assert_eq!(list.pop().unwrap().len(), 3);
+    assert_eq!(format!("{list:?}"), r#"[null, "b"]"#);
+    assert_eq!(list.get(2), Err(Error::Index));
+    assert_eq!(list.set(2, 1), Err(Error::Index));
+    assert_eq!(list.remove(2), Err(Error::Index));
+    assert_eq!(list.insert(3, 1), Err(Error::Index));
+    list.truncate(5).unwrap();
+    list.truncate(1).unwrap();
+    assert_eq!(list, Value::from(vec![Value::new()]));
+    assert_eq!(format!("{shared:?}"), r#"[1, true, "b", [1, true, "b"]]"#);
+    let numbers: Value = (0..3000).map(Value::from).collect();
+    assert!(numbers
+        .items()
+        .rev()
+        .map(|item| item.number().unwrap())
+        .eq((0..3000).rev()));
+    assert_eq!(numbers.items().len(), 3000);
+}
+
+#[test]
+fn fields_are_edited() {
+    let long = "a name of more than fifteen bytes";
+    let mut fields: Value = [("b", 1.into()), (long, 2.into()), ("b", 3.into())]
+        .into_iter()
+        .collect();
+    assert_eq!(format!("{fields:?}"), format!("{{\"b\": 3, {long:?}: 2}}"));
+    let shared = fields.clone();
+    fields.set_field("", "no name").unwrap();
+    fields.set_field(long, Value::new_list()).unwrap();
+    assert_eq!((fields.len(), fields.get(1)), (3, Ok(Value::new_list())));
+    assert_eq!(fields.field_name(1).as_deref(), Ok(long));
+    assert_eq!(fields.field_name(3).err(), Some(Error::Index));
+    assert_eq!(fields.get_field("c"), Err(Error::Index));
+    assert_eq!(
+        fields.get_field("").unwrap().text().as_deref(),
+        Ok("no name")
+    );
+    assert_eq!(fields.remove_field("b"), Ok(3.into()));
+    let names: Vec<_> = fields
+        .fields()
+        .map(|(name, value)| (name, value.kind()))
+        .collect();
+    assert_eq!(names, [(long.into(), Kind::List), ("".into(), Kind::Text)]);
+    assert_eq!((shared.len(), shared.get_field(long)), (2, Ok(2.into())));
+    let swapped: Value = [(long, 2.into()), ("b", 3.into())].into_iter().collect();
+    assert_ne!(shared, swapped);
+}
+
+/// `{"a": [1, {"b": 2}], "c": 3}`
+fn tree() -> Value {
+    let inner: Value = [("b", 2.into())].into_iter().collect();
+    [
+        ("a", [1.into(), inner].into_iter().collect()),
+        ("c", 3.into()),
+    ]
+    .into_iter()
+    .collect()
+}
+
+#[test]
+fn paths() {
+    let mut value = tree();
+    let shared = value.clone();
+    let path = ["a".into(), 1.into(), "b".into()];
+    assert_eq!(value.get_path(&[]), Ok(tree()));
+    assert_eq!(value.get_path(&path), Ok(2.into()));
+    assert_eq!(value.get_path(&[1.into()]), Ok(3.into()));
+    value.set_path(&path, "new").unwrap();
+    assert_eq!(format!("{value:?}"), r#"{"a": [1, {"b": "new"}], "c": 3}"#);
+    value
+        .set_path(&["a".into(), 1.into(), "d".into()], 4)
+        .unwrap();
+    value.set_path(&[1.into()], 5).unwrap();
+    assert_eq!(
+        format!("{value:?}"),
+        r#"{"a": [1, {"b": "new", "d": 4}], "c": 5}"#
+    );
+    let taken = value.update_path(&path[..2], |inner| inner.remove_field("b"));
+    assert_eq!(taken.unwrap().text().as_deref(), Ok("new"));
+    value
+        .update_path(&path[..1], |list| list.insert(0, 0))
+        .unwrap();
+    assert_eq!(format!("{value:?}"), r#"{"a": [0, 1, {"d": 4}], "c": 5}"#);
+    value.set_path(&[], 7).unwrap();
+    assert_eq!((value, shared), (7.into(), tree()));
+}
+
+#[test]
+fn a_path_that_leads_nowhere_changes_nothing() {
+    let ways: [(&[ecow_proved::value::Step], Error); 7] = [
+        (&["x".into(), 0.into()], Error::Index),
+        (&["a".into(), 2.into(), "b".into()], Error::Index),
+        (&["a".into(), "b".into(), "b".into()], Error::Kind),
+        (
+            &["a".into(), 1.into(), "x".into(), "b".into()],
+            Error::Index,
+        ),
+        (&["a".into(), 0.into(), 0.into()], Error::Kind),
+        (&["a".into(), 1.into(), 1.into()], Error::Index),
+        (&[2.into()], Error::Index),
+    ];
+    for (path, error) in ways {
+        let mut value = tree();
+        assert_eq!(value.get_path(path), Err(error));
+        assert_eq!(value.set_path(path, 1), Err(error));
+        assert_eq!(value.update_path(path, |_| Ok(())), Err(error));
+        assert_eq!(value, tree());
+    }
+    let mut value = tree();
+    let path = ["a".into(), 1.into()];
+    assert_eq!(
+        value.update_path(&path, |inner| inner.number()),
+        Err(Error::Kind)
+    );
+    let panic = catch_unwind(AssertUnwindSafe(|| {
+        value.update_path(&path, |_| -> Result<(), Error> { panic!() })
+    }));
+    assert!(panic.is_err());
+    assert_eq!(value, tree());
+}
+
+#[test]
+fn deep_values_are_dropped() {
+    let mut value = Value::new();
+    for _ in 0..2000 {
+        value = [value].into();
+    }
+    let clone = value.clone();
+    assert_eq!(value, clone);
+    drop(value);
+    let mut depth = 0;
+    let mut inner = clone;
+    while let Ok(next) = inner.get(0) {
+        inner = next;
+        depth += 1;
+    }
+    assert_eq!(depth, 2000);
+}
+
+#[test]
+fn clones_share_what_they_hold() {
+    let long = "a text of more than fifteen bytes";
+    let list = Value::from([1, 2]);
+    let cases = [
+        (Value::new(), false),
+        (true.into(), false),
+        (7.into(), false),
+        (0.5.into(), false),
+        ("inline".into(), false),
+        (long.into(), true),
+        (Value::new_list(), false),
+        (list.clone(), true),
+        (Value::new_fields(), false),
+        ([("a", list.clone())].into_iter().collect(), true),
+    ];
+    for (index, (value, shared)) in cases.iter().enumerate() {
+        assert_eq!(value.shares_with(&value.clone()), *shared, "{value:?}");
+        assert_eq!(value.shares_with(value), *shared, "{value:?}");
+        for (_, (other, _)) in cases
+            .iter()
+            .enumerate()
+            .filter(|(other, _)| *other != index)
+        {
+            assert!(!value.shares_with(other));
+        }
+    }
+    assert!(!Value::from(long).shares_with(&long.into()));
+    assert!(!Value::from([1, 2]).shares_with(&list));
+    let outer = Value::from([list.clone(), list.clone()]);
+    let mut edited = outer.clone();
+    edited
+        .update_path(&[0.into()], |list| list.push(3))
+        .unwrap();
+    assert!(!edited.shares_with(&outer) && !edited.get(0).unwrap().shares_with(&list));
+    assert!(
+        edited.get(1).unwrap().shares_with(&list),
+        "what lies beside the way stays shared"
+    );
+    let mut same = list.clone();
+    same.set(0, 1).unwrap();
+    assert!(same == list && !same.shares_with(&list));
+}
