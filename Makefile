@@ -1,11 +1,12 @@
-# Proves, builds, runs and tests. Everything but `make lib`, `make c-test`, `make fuzz`, `make hostile`, `make bench`,
-# `make edits` and `make times` needs the kit's `rt` on the path, make, git and the usual POSIX tools, and nothing else.
+# Proves, builds, runs and tests. Everything but `make lib`, `make dist`, `make python`, `make c-test`, `make c-fuzz`,
+# `make fuzz`, `make hostile`, `make bench`, `make edits` and `make times` needs the kit's `rt` on the path, make, git and
+# the usual POSIX tools, and nothing else.
 
 SOURCES := $(shell find crates -path '*/out' -prune -o \( -name '*.rt' -o -name '*.antt' \) -print) crates.txt
 
 PREFIX := /usr/local
 
-.PHONY: help try build run lib install c-test test agree costs vendor vendor-test contracts edits times faults fuzz hostile bench clean
+.PHONY: help try build run lib install dist python c-test c-fuzz test agree costs vendor vendor-test contracts edits times faults fuzz hostile bench clean
 
 help:
 	@echo "make try SCRIPT=FILE   runs the script with no proof, in half a minute"
@@ -17,7 +18,12 @@ help:
 	@echo "make lib               leaves the library for C at bin/libecow.a and bin/libecow.so, with its headers (needs a C"
 	@echo "                       compiler); COUNT=plain counts owners for one thread; make install PREFIX=$(PREFIX)"
 	@echo "                       puts them there"
-	@echo "make c-test            tests it from C, C++, Python and Rust (needs gcc, clang, valgrind, python3 and rustc)"
+	@echo "make dist              packs it for a machine without the kit, in bin/, with a page, and with the package and the"
+	@echo "                       crate beside the headers, for each language (needs GNU tar); COUNT as above"
+	@echo "make python            builds the package for Python, a wheel in bin/ (needs Python 3.11, its headers and pip)"
+	@echo "make c-test            tests it from C, C++, Python and Rust, and the archive (needs gcc, clang, valgrind, cargo,"
+	@echo "                       and what make python needs)"
+	@echo "make c-fuzz SECONDS=60 fuzzes it, each kind of value for so long (needs clang with libFuzzer)"
 	@echo "make vendor TO=FOLDER  copies the crates of the vector into another repository, with their rows, so that its"
 	@echo "                       gate proves them; KIND=text: of all three types, KIND=store: of both keepings too;"
 	@echo "                       COUNT=atomic: with values that threads may share"
@@ -76,6 +82,12 @@ install: lib
 	install -m 644 include/ecow.h include/ecow.hpp $(DESTDIR)$(PREFIX)/include
 	sed 's|^prefix=.*|prefix=$(PREFIX)|' bin/ecow.pc > $(DESTDIR)$(PREFIX)/lib/pkgconfig/ecow.pc
 
+dist: lib
+	@tools/dist.sh $(C_COUNT)
+
+python: lib
+	python3 -m pip wheel --disable-pip-version-check --no-index --no-deps -w bin ./python
+
 c-test: lib bin/libecow_c-plain.a
 	tools/lib.sh plain bin/plain
 	tools/c_short.sh
@@ -109,10 +121,7 @@ agree:
 	@tools/contracts.sh | cmp - docs/CONTRACTS.md
 	@tools/agree_statuses.sh
 	@tools/agree_docs.sh
-	@grep -q '"libecow.so.$(LIKE)"' python/ecow.py || { echo "python/ecow.py loads another libecow.so"; exit 1; }
-	@for file in c/examples/first.c c/examples/first.out c/examples/history.c c/examples/interned.cpp python/texts.py; do \
-		case "$$(cat docs/C.md)" in *"$$(cat $$file)"*) ;; *) echo "docs/C.md quotes another $$file"; exit 1;; esac; \
-	done
+	@tools/agree_c.sh
 
 KIND := vector
 vendor:
@@ -141,6 +150,9 @@ faults:
 	tools/refuse.sh $(KEEPING_FAULTS)
 
 SECONDS := 60
+c-fuzz: lib
+	@tools/c_fuzz.sh $(SECONDS)
+
 fuzz: bin/ecow-run
 	tools/fuzz.py $(SECONDS)
 

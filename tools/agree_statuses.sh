@@ -1,32 +1,35 @@
 #!/bin/sh
-# Compares the statuses, names and numbers, of the crate `ecow_c` and of each language with those that callers have
-# compiled in. The cases of C and C++ have no numbers: they stand in the order of the numbers.
+# Compares the statuses, names and numbers, of the crate `ecow_c`, of the header and of the crate for Rust with those
+# that callers have compiled in. The functions of C and C++ that take any status have a case for each.
 set -eu
 cd "$(dirname "$0")/.."
 work=$(mktemp -d)
 trap 'rm -r "$work"' EXIT
-printf '%s\n' 'OK 0' 'MEMORY 1' 'CAPACITY 2' 'INDEX 3' 'BOUNDARY 4' 'UTF8 5' 'NULL 6' > "$work/statuses"
+printf '%s\n' 'OK 0' 'MEMORY 1' 'CAPACITY 2' 'INDEX 3' 'BOUNDARY 4' 'UTF8 5' 'NULL 6' 'KIND 7' > "$work/proved"
+# The functions of `c/` answer this one.
+echo 'INNER_NUL 8' | cat "$work/proved" - > "$work/statuses"
+sed 's/ .*//' "$work/statuses" | sort > "$work/names"
 
 # Compares those of a file, on standard input.
-compare() {
-    diff "$work/statuses" - > "$work/apart" || {
+compare() { # FILE, the name of what it has to have
+    diff "$work/$2" - > "$work/apart" || {
         echo "$1 has other statuses (>):"
         cat "$work/apart"
         exit 1
     }
 }
 
-cases() {
-    sed -n 's/^ *case ECOW_\([A-Z0-9]*\):$/\1/p' "$1" | awk '{ print $1, NR - 1 }' | compare "$1"
+cases() { # FILE
+    sed -n 's/^ *case ECOW_\([A-Z0-9_]*\):$/\1/p' "$1" | sort | compare "$1" names
 }
 
-constants() { # FILE, what stands before a name, what stands behind it
-    sed -n "s/^$2\([A-Z0-9]*\)$3 = \([0-9][0-9]*\).*/\1 \2/p" "$1" | compare "$1"
+constants() { # FILE, the name of what it has to have, what stands before a name, what stands behind it
+    sed -n "s/^$3\([A-Z0-9_]*\)$4 = \([0-9][0-9]*\).*/\1 \2/p" "$1" | compare "$1" "$2"
 }
 
-constants crates/ecow_c/src/status.rt 'pub const ' ': u32'
-constants include/ecow.h ' *ECOW_' ''
-constants python/ecow.py _ ''
-constants rust/ecow.rs 'const ' ': Status'
+constants crates/ecow_c/src/status.rt proved 'pub const ' ': u32'
+sed '/^typedef enum ecow_status/,/^}/!d' include/ecow.h > "$work/ecow.h"
+constants "$work/ecow.h" statuses ' *ECOW_' ''
+constants rust/src/sys.rs statuses 'pub const ' ': Status'
 cases include/ecow.hpp
 cases c/ecow.c

@@ -1,13 +1,16 @@
 #!/bin/sh
 # Tests the library for C, which is in bin/, in less than a minute: with a C compiler ($CC, or cc), and with each of
-# nm, pkg-config, C++20, python3 and valgrind that is there. The last line says which were.
+# nm, pkg-config, C++17, C++20, Python and valgrind that is there. The last line says which were.
 set -eu
 cd "$(dirname "$0")/.."
 cc=${CC:-cc}
 cxx=${CXX:-c++}
 out=$(mktemp -d)
-trap 'rm -rf "$out"' EXIT
+trap 'wait; rm -rf "$out"' EXIT
 export LC_ALL=C
+# Those of Python run beside the others.
+ECOW_EDITS=100 tools/python.sh > "$out/python" 2>&1 &
+python=$!
 with= without=
 
 # Whether a program is there: has NAME COMMAND.., which is tried.
@@ -36,7 +39,7 @@ silent $watched "$out/calls"
 silent $watched "$out/arrays"
 silent $watched "$out/edits" 100000
 # A thread's end leaves blocks of the C library's.
-silent "$out/threads" 1000000
+silent "$out/threads" 500000
 silent "$out/threads" 200000 handover
 
 # What calls ask for.
@@ -61,13 +64,13 @@ refuse_each() { # PROGRAM EDITS SETTING.., of the library that refuses
     done
     echo "refused in turn: $total requests"
 }
-refuse_each edits 1000 LEFT=1
+refuse_each edits 400 LEFT=1
 
 # The shared library's names are those that the header declares.
 if has nm nm --version; then
     {
-        sed -n 's/^[a-z].*[ *]\(ecow_[a-z0-9_]*\)(.*/\1/p' include/ecow.h
-        for kind in list bytes text; do
+        sed -n 's/^[a-zE].*[ *]\(ecow_[a-z0-9_]*\)(.*/\1/p' include/ecow.h
+        for kind in list bytes text texts value; do
             printf '%s\n' "ecow_proved_${kind}_clone" "ecow_proved_${kind}_drop"
         done
     } | sort > "$out/declared"
@@ -99,16 +102,28 @@ if "$out/first-shared" > /dev/null 2>&1; then
     exit 1
 fi
 
-if has C++20 $cxx -std=c++20 -fsyntax-only -include compare -x c++ /dev/null; then
-    $cxx -std=c++20 -O2 -Iinclude c/tests/test.cpp bin/libecow.a -o "$out/test"
-    "$out/test" 20000
-    refuse_each test 30
-    $cxx -std=c++20 -O2 -pthread -Iinclude c/tests/threads.cpp bin/libecow.a -o "$out/threads-cpp"
+# Tests the header for C++ by one standard.
+test_cpp() { # STANDARD
+    for test in test attempts nested edits threads; do
+        $cxx -std=c++$1 -O1 -pthread -Iinclude "c/tests/$test.cpp" bin/libecow.a -o "$out/$test-cpp"
+    done
+    silent "$out/test-cpp"
+    silent "$out/attempts-cpp"
+    silent "$out/nested-cpp"
+    silent "$out/edits-cpp" 20000
     silent "$out/threads-cpp" 20000
+}
+
+if has C++17 $cxx -std=c++17 -fsyntax-only -include string_view -x c++ /dev/null; then
+    test_cpp 17
+    refuse_each test-cpp 0
+    refuse_each nested-cpp 0
+    refuse_each edits-cpp 200
+    if has C++20 $cxx -std=c++20 -fsyntax-only -include compare -x c++ /dev/null; then test_cpp 20; fi
 fi
-if has python3 python3 -c 'import ctypes'; then
-    ECOW_LIBRARY=bin/libecow.so python3 python/test_ecow.py 2000
-fi
+wait "$python" || { cat "$out/python"; exit 1; }
+cat "$out/python"
+if grep -q '^python:' "$out/python"; then with="$with, Python"; else without="$without, Python"; fi
 if has valgrind valgrind --version; then
     for run in calls arrays "edits 500" "threads 400" "threads 400 handover"; do
         valgrind -q --leak-check=full --error-exitcode=1 "$out"/$run > /dev/null

@@ -1,13 +1,16 @@
 #!/bin/sh
 # Tests the library for C, which `make lib` has left in bin/, from C, C++, Python and Rust, beside what
-# tools/c_short.sh does, and sees that helgrind tells its atomic count from the plain one in bin/plain/:
-# tools/c_test.sh [EDITS]. Needs gcc and clang with g++ and clang++, valgrind, python3 and rustc.
+# tools/c_short.sh does, and sees that helgrind tells its atomic count from the plain one in bin/plain/. It packs the
+# library twice, which has to give the same bytes, and tests the archive: tools/c_test.sh [EDITS]. Needs gcc and clang
+# with g++ and clang++, valgrind, Python 3.11 with its headers and pip, and cargo.
 set -eu
 cd "$(dirname "$0")/.."
 edits=${1:-1000000}
 out=$(mktemp -d)
 trap 'rm -rf "$out"' EXIT
 warnings="-Wall -Wextra -Wpedantic -Werror"
+# Those of C++ beside them.
+more_warnings="-Wconversion -Wshadow -Wold-style-cast -Wcast-qual"
 checked="valgrind -q --leak-check=full --error-exitcode=1"
 sanitized="-g -fsanitize=address,undefined -fno-sanitize-recover=all"
 # A request for more than the sanitizer gives is refused, as any other.
@@ -34,24 +37,40 @@ for compilers in "gcc g++" "clang clang++"; do
     run calls "$edits" c/tests/calls.c "$1" -std=c11
     run arrays "$edits" c/tests/arrays.c "$1" -std=c11
     run edits "$edits" c/tests/edits.c "$1" -std=c11
-    run test "$((edits / 5))" c/tests/test.cpp "$2" -std=c++20
     run threads "$edits" c/tests/threads.c "$1" -std=c11 -pthread
     "$out/threads" "$edits" handover
-    run threads-cpp "$edits" c/tests/threads.cpp "$2" -std=c++20 -pthread
+    for standard in 17 20; do
+        for test in test attempts nested edits threads; do
+            run "$test-cpp" "$edits" "c/tests/$test.cpp" "$2" -std=c++$standard $more_warnings -pthread
+        done
+    done
 done
 tools/helgrind.sh 2000
 
-# The examples of docs/C.md.
+# The examples of docs/C.md and docs/CPP.md.
 for example in first history; do
     cc -std=c11 $warnings $sanitized -Iinclude "c/examples/$example.c" bin/libecow.a -o "$out/$example"
     "$out/$example" > "$out/$example.out"
     cmp "$out/$example.out" "c/examples/$example.out"
 done
-c++ -std=c++20 $warnings $sanitized -Iinclude c/examples/interned.cpp bin/libecow.a -o "$out/interned"
+c++ -std=c++17 $warnings $more_warnings $sanitized -Iinclude c/examples/interned.cpp bin/libecow.a -o "$out/interned"
 "$out/interned" < include/ecow.h > /dev/null
+echo to be or not to be | "$out/interned" > "$out/interned.out"
+case "$(cat docs/CPP.md)" in
+    *"$(cat "$out/interned.out")"*) ;;
+    *) echo "docs/CPP.md says that c/examples/interned.cpp prints something else"; exit 1 ;;
+esac
+c++ -std=c++17 $warnings $more_warnings $sanitized -Iinclude c/examples/settings.cpp bin/libecow.a -o "$out/settings"
+"$out/settings" > "$out/settings.out"
+cmp "$out/settings.out" c/examples/settings.out
+for quoted in c/examples/settings.cpp c/examples/settings.out; do
+    case "$(cat docs/CPP.md)" in *"$(cat $quoted)"*) ;; *) echo "docs/CPP.md quotes another $quoted"; exit 1 ;; esac
+done
 
-ECOW_LIBRARY=bin/libecow.so python3 python/test_ecow.py "$((edits / 50))"
-ECOW_LIBRARY=bin/libecow.so python3 python/texts.py > /dev/null
-rustc -O --edition 2021 -D warnings rust/ecow.rs -L bin -l static=ecow -o "$out/rust"
-"$out/rust" "$((edits / 5))"
-$checked "$out/rust" "$((edits / 1000))" > /dev/null
+ECOW_EDITS=$((edits / 50)) tools/python.sh
+ECOW_EDITS=$((edits / 50)) tools/rust.sh
+ECOW_EDITS=$((edits / 50)) tools/rust.sh bin/plain
+archive=$(tools/dist.sh atomic)
+cp "$archive" "$out/packed"
+tools/dist.sh atomic | xargs cmp "$out/packed"
+tools/dist_test.sh "$archive"

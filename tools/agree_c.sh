@@ -1,0 +1,27 @@
+#!/bin/sh
+# Compares the programs that the pages for callers quote with the files, and the version in the header and in the crate
+# for Rust with VERSION. The package for Python reads VERSION itself.
+set -eu
+cd "$(dirname "$0")/.."
+
+quotes() { # PAGE FILE..
+    page=$1
+    shift
+    for file; do
+        [ -s "$file" ] || { echo "no $file"; exit 1; }
+        case "$(cat "$page")" in *"$(cat "$file")"*) ;; *) echo "$page quotes another $file"; exit 1 ;; esac
+    done
+}
+
+quotes docs/C.md c/examples/first.c c/examples/first.out c/examples/history.c
+quotes docs/CPP.md c/examples/interned.cpp c/examples/settings.cpp
+quotes docs/PYTHON.md python/examples/versions.py python/examples/versions.out
+quotes docs/RUST.md rust/examples/first.rs
+
+version=$(cat VERSION)
+numbers=$(sed -n 's/^#define ECOW_VERSION_[MP][A-Z]* //p' include/ecow.h | paste -s -d . -)
+quoted=$(sed -n 's/^#define ECOW_VERSION "\(.*\)"$/\1/p' include/ecow.h)
+crate=$(sed -n 's/^version = "\(.*\)"$/\1/p' rust/Cargo.toml)
+for said in "include/ecow.h: $numbers" "include/ecow.h: $quoted" "rust/Cargo.toml: $crate"; do
+    [ "${said#*: }" = "$version" ] || { echo "VERSION is $version, and that of $said"; exit 1; }
+done
