@@ -1,11 +1,10 @@
 -- Elements in place of a range: those behind it move to where the new ones end, and what is left over is cut off.
-use Rattle.std.proofs.Common.{List, ◌++◌, ◌≡◌, ◌+◌, ◌-◌, ◌≤◌, ℕ, length, take, drop, refl, ap, ◌∙◌}
+use Rattle.std.proofs.Common.{List, ◌≡◌, ◌+◌, ◌-◌, ◌≤◌, ℕ, length, take, ap, ◌∙◌}
 use native.Mathlib.Omega.{arith}
 use mathlib.Core.Logic.{⊎_elim}
 use Rattle.core.proofs.slice.Writes.{same_lists}
 use Rattle.core.proofs.slice.Indexed.{places}
 use Rattle.core.proofs.str.Laws.{order}
-use Rattle.std.proofs.lemmas.List.{take_at}
 use Rattle.std.specs.List.{copy_within, replace_range, refill}
 use Rattle.ecow_list.proofs.Views.{refilled}
 use borrow.Rule.Slice.PartMut.{put_mid}

@@ -104,7 +104,14 @@ impl<const N: usize> SmallBytes<N> {
         ensures free { OnErr result (inline_after N self.old.inline (length self.old.bytes)
             (length bytes.now) ≡ false) }
     {
-        self.replace_range(index..index, bytes)
+        if let Form::Spilled(vec) = &mut self.form {
+            return vec.insert_slice(index, bytes);
+        }
+        if bytes.len() > N - self.form.len() {
+            return self.spill_with(index, index, bytes);
+        }
+        self.form.replace_range(index, index, bytes);
+        Ok(())
     }
 
     /// Puts `bytes` in place of the bytes of `range`, which `range_in` tests: all, or none where it

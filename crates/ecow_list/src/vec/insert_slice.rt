@@ -21,7 +21,7 @@ impl<T: Clone + Copy> EcoVec<T> {
     /// new length passes 2^63 - 1, and else `Memory`.
     ///
     /// This project's own: the original has it for bytes alone.
-    #[inline]
+    #[inline(never)]
     pub fn insert_slice(&mut self, index: usize, elements: &[T]) -> Result<(), EcoError>
         requires { index ≤ length self.old }
         ensures ok { OnOk result (self.new ≡ insert_slice self.old index elements.now) }
@@ -30,7 +30,10 @@ impl<T: Clone + Copy> EcoVec<T> {
         ensures capacity { IsErrOf result EcoError.Capacity
             ↔ (MAX_LEN < length self.old + length elements.now) }
     {
-        self.replace_range(index..index, elements)
+        let added = elements.len();
+        Ok(self.edit(Copies, Room::Shared, added, (), |block, ()| {
+            Ok(insert_copies(block, index, elements))
+        })?)
     }
 
     /// Puts copies of `elements` in place of the elements of `range`, which `range_in` tests, in
@@ -54,7 +57,8 @@ impl<T: Clone + Copy> EcoVec<T> {
             (λ start end. self.new ≡ replace_range self.old start end elements.now)) }
         ensures len { OnOk result
             (AtRange (R.start_bound range, R.end_bound range) (length self.old)
-            (λ start end. length self.new + (end - start) ≡ length self.old + length elements.now)) }
+            (λ start end. length self.new
+            ≡ length self.old - (end - start) + length elements.now)) }
         ensures unchanged { OnErr result (self.new ≡ self.old) }
         ensures capacity { AtRange (R.start_bound range, R.end_bound range) (length self.old)
             (λ start end. IsErrOf result EcoError.Capacity
@@ -66,6 +70,20 @@ impl<T: Clone + Copy> EcoVec<T> {
             Ok(replace_copies(block, start, end, elements))
         })?)
     }
+}
+
+/// Puts copies of `elements`, for which there is room, in at `index`.
+fn insert_copies<T: Copy>(block: &mut Block<T>, index: usize, elements: &[T])
+    requires in_bounds { index ≤ length block.old.items }
+    requires room { length block.old.items + length elements.now ≤ block.old.capacity }
+    ensures block { block.new
+        ≡ contents (insert_slice block.old.items index elements.now) block.old.capacity }
+{
+    let (len, added) = (block.len(), elements.len());
+    block.extend_copies(elements);
+    let all = block.as_mut_slice();
+    copy_within(all, index, len, index + added);
+    all[index..index + added].copy_from_slice(elements);
 }
 
 /// Puts copies of `elements`, for which there is room, in place of those from `start` up to `end`.
