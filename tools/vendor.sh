@@ -2,55 +2,79 @@
 # Copies crates into another repository, as plain folders below its crates/, with their rows in its
 # crates.txt, so that its gate proves them: tools/vendor.sh FOLDER [KIND [COUNT]]. KIND says what is
 # needed: vector (EcoVec), text (vector, bytes and text), or store (these and both keepings). COUNT
-# says how owners are counted: plain, for one thread, or atomic. Tests and edits stay here. A second
-# call brings the folders and the rows up to date, and touches nothing else.
+# says how owners are counted: plain, for one thread, or atomic. Tests and edits stay here.
+#
+# Where crates of an earlier call are there, it updates them, their rows too, and touches nothing
+# else. It refuses to, and changes nothing, where that would mix two states.
 set -eu
+export LC_ALL=C
 to=${1:-}
 kind=${2:-vector}
 count=${3:-plain}
+use="make vendor TO=FOLDER [KIND=vector|text|store] [COUNT=plain|atomic]"
+
+refuse() { # WHY..
+    printf '%s\n' "$@" >&2
+    exit 1
+}
+
 case $kind in
     vector) tops=ecow_list ;;
     text) tops=ecow ;;
     store) tops="ecow ecow_store ecow_counted" ;;
-    *) echo "KIND is vector, text or store" >&2; exit 1 ;;
+    *) refuse "$use" "KIND is vector, text or store, and not $kind" ;;
 esac
 case $count in
     plain | atomic) ;;
-    *) echo "COUNT is plain or atomic" >&2; exit 1 ;;
+    *) refuse "$use" "COUNT is plain or atomic, and not $count" ;;
 esac
-if [ ! -d "$to" ]; then
-    echo "make vendor TO=FOLDER [KIND=vector|text|store] [COUNT=plain|atomic]: there is no such folder" >&2
-    exit 1
-fi
+[ -n "$to" ] || refuse "$use" "Without TO there is no repository to copy into."
+[ -d "$to" ] || refuse "$use" "There is no folder $to"
 to=$(cd "$to" && pwd)
 cd "$(dirname "$0")/.."
-if [ "$to" = "$(pwd)" ]; then
-    echo "make vendor TO=FOLDER: FOLDER is to be another repository" >&2
-    exit 1
+[ "$to" != "$(pwd)" ] || refuse "$use" "FOLDER is to be another repository."
+if [ ! -d "$to/crates" ] && grep -q '^[^#].*:' "$to/crates.txt" 2> /dev/null; then
+    refuse "$to keeps its crates beside crates.txt: move them below crates/ first"
 fi
 version=$(cat VERSION)
 crates=$(awk -F: -v tops="$tops" -f tools/below.awk crates.txt)
-if [ ! -d "$to/crates" ] && grep -q '^[^#].*:' "$to/crates.txt" 2>/dev/null; then
-    echo "$to keeps its crates beside crates.txt: move them below crates/ first" >&2
-    exit 1
-fi
-for crate in $crates; do
-    if [ -e "$to/crates/$crate" ] && [ ! -f "$to/crates/$crate/VERSION" ]; then
-        echo "$to/crates/$crate is there, and it didn't come from here" >&2
-        exit 1
+
+# The checksum of each file of a crate, but for what its checks left.
+sums() { # FOLDER
+    (cd "$1" && find . -path ./out -prune -o -type f ! -name SUMS -print | sort | xargs cksum)
+}
+
+# Of an earlier call: the crates that this one wouldn't bring up to date, and the files changed since.
+beyond= changed=
+for crate in $(cut -d : -f 1 crates.txt); do
+    folder=$to/crates/$crate
+    [ -e "$folder" ] || continue
+    wanted=$(echo "$crates" | grep -x "$crate" || true)
+    if [ ! -f "$folder/VERSION" ]; then
+        [ -z "$wanted" ] || refuse "$folder is there, and it didn't come from here: give it another name"
+        continue
     fi
+    [ -n "$wanted" ] || beyond="$beyond $crate"
+    [ ! -f "$folder/SUMS" ] || changed="$changed$(sums "$folder" | diff "$folder/SUMS" - \
+        | sed -n "s|^[<>] [0-9]* [0-9]* \./| crates/$crate/|p" | sort -u | tr -d '\n')"
 done
+[ -z "$beyond" ] || refuse "$to has crates that KIND=$kind doesn't bring up to date:$beyond" \
+    "Name their KIND, or remove their folders and their rows in crates.txt first."
 has=$(cat "$to/crates/ecow_shared/COUNT" 2> /dev/null || true)
 if [ -n "$has" ] && [ "$has" != "$count" ]; then
-    echo "$to counts owners by COUNT=$has: remove $to/crates/ecow_shared first" >&2
-    exit 1
+    refuse "$to counts owners by COUNT=$has: name that, or remove $to/crates/ecow_shared first"
 fi
+[ -z "$changed" ] || refuse "These files of $to were changed since they were copied:$changed" \
+    "Keep the change in a crate of your own, and remove the changed crate's folder first."
+before=$(cat "$to/crates/ecow_list/VERSION" 2> /dev/null || true)
 
 touch "$to/crates.txt"
 for crate in $crates; do
     folder=$to/crates/$crate
     tools/copy_crate.sh "$crate" "$folder" "$count"
     cp -p VERSION LICENSE-APACHE LICENSE-MIT "$folder"
+    [ "$crate" != ecow_shared ] || echo "$count" > "$folder/COUNT"
+    sums "$folder" > "$folder/SUMS"
     row=$(tools/rows.sh "$count" | grep "^$crate:")
     if grep -q "^$crate:" "$to/crates.txt"; then
         sed "s/^$crate:.*/$row/" "$to/crates.txt" > "$to/crates.txt.new"
@@ -62,9 +86,12 @@ for crate in $crates; do
         echo "$row" >> "$to/crates.txt"
     fi
 done
-echo "$count" > "$to/crates/ecow_shared/COUNT"
 
-echo "$to has version $version, with the $count count of owners, of:" $crates
+case $before in
+    "") echo "$to has now version $version, with the $count count of owners, of:" $crates ;;
+    "$version") echo "$to has version $version, as before, with the $count count of owners, of:" $crates ;;
+    *) echo "$to was brought from version $before to $version, with the $count count of owners, of:" $crates ;;
+esac
 echo "A crate of it whose row in crates.txt lists \"$(echo $tops)\" calls them, and \`rt ci\` there proves them from"
 echo "nothing: every function of theirs meets its contract. Tests and the edits that the prover must"
 echo "refuse are tried here alone, by \`make test\`."

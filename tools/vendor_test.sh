@@ -18,6 +18,21 @@ tools/vendor.sh "$new" "$kind" "$count"
 cp -Rp "$new" "$work/once"
 tools/vendor.sh "$new" "$kind" "$count" > /dev/null
 diff -r "$work/once" "$new"
+
+# What would mix two states is refused, and touches nothing.
+refused() { # ARGUMENTS..
+    if tools/vendor.sh "$@" > "$work/said" 2>&1; then
+        echo "tools/vendor.sh $* isn't refused"
+        exit 1
+    fi
+}
+[ "$kind" = vector ] || refused "$new" vector "$count"
+[ "$count" = atomic ] && refused "$new" "$kind" plain || refused "$new" "$kind" atomic
+echo '// by hand' >> "$new/crates/ecow_list/src/vec.rt"
+refused "$new" "$kind" "$count"
+grep -q ' crates/ecow_list/src/vec.rt$' "$work/said"
+cp -p "$work/once/crates/ecow_list/src/vec.rt" "$new/crates/ecow_list/src/vec.rt"
+diff -r "$work/once" "$new"
 for crate in $(cut -d : -f 1 "$new/crates.txt"); do
     for part in out tests edits must-fail; do
         [ ! -e "$new/crates/$crate/$part" ] || { echo "$part of $crate was copied"; exit 1; }
