@@ -99,10 +99,8 @@ VALUE_FAULTS := crates/ecow_value_faults/out/ecow_value_faults
 RUN := crates/ecow_run/out/ecow_run
 
 # `rt ci` leaves these programs built: what calls cost is counted, requests for memory are refused in turn, and the
-# program is run on command lines and on large scripts. It leaves the libraries below the one for C too, where there
-# are none that it would put back.
+# program is run on command lines and on large scripts.
 test: agree
-	rm -rf crates/*/out/rlib
 	rt ci
 	tools/costs.sh $(COSTS)
 	tools/refuse.sh $(VALUE_FAULTS)
