@@ -7,6 +7,7 @@ import gc
 import os
 import pickle
 import resource
+import shlex
 import struct
 import subprocess
 import sys
@@ -264,6 +265,21 @@ class Refused(unittest.TestCase):
         """Where memory is refused, a MemoryError is raised and the value is as it was."""
         ran = subprocess.run([sys.executable, "-c", REFUSED], capture_output=True, text=True,
                              env={**os.environ, "PYTHONPATH": os.pathsep.join(sys.path)})
+        self.assertEqual((ran.stdout, ran.stderr), ("refused\n", ""))
+
+    @unittest.skipUnless(mallinfo, "this C library isn't glibc")
+    def test_each_request(self):
+        """The same of each request of each call, as `refusals.py` says."""
+        here = os.path.dirname(os.path.abspath(__file__))
+        with tempfile.TemporaryDirectory() as folder:
+            library = os.path.join(folder, "refuse.so")
+            compiler = shlex.split(os.environ.get("CC") or "cc")
+            command = [*compiler, "-O2", "-shared", "-fPIC", "-fno-builtin", "refuse.c"]
+            subprocess.run([*command, "-o", library], cwd=here, check=True)
+            path = os.pathsep.join([here, *sys.path])
+            ran = subprocess.run([sys.executable, os.path.join(here, "refusals.py")],
+                                 capture_output=True, text=True,
+                                 env={**os.environ, "PYTHONPATH": path, "LD_PRELOAD": library})
         self.assertEqual((ran.stdout, ran.stderr), ("refused\n", ""))
 
 
