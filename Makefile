@@ -25,7 +25,7 @@ help:
 	@echo "                       and what make python needs)"
 	@echo "make c-fuzz SECONDS=60 fuzzes it, each kind of value for so long (needs clang with libFuzzer)"
 	@echo "make vendor TO=FOLDER  copies the crates of the vector into another repository, with their rows, so that its"
-	@echo "                       gate proves them; KIND=text: of all three types, KIND=store: of both keepings too;"
+	@echo "                       gate proves them; KIND=text: of all three types, KIND=store: of both stores too;"
 	@echo "                       COUNT=atomic: with values that threads may share"
 	@echo "make vendor-test       tries that on a new repository, whose gate it runs; KIND and COUNT as above"
 	@echo "make contracts         writes docs/CONTRACTS.md, the public calls quoted with their clauses"
@@ -94,7 +94,7 @@ c-test: lib bin/libecow_c-plain.a
 	tools/c_test.sh
 
 COSTS := crates/ecow_costs/out/ecow_costs
-KEEPING_FAULTS := crates/ecow_keeping_faults/out/ecow_keeping_faults
+STORE_FAULTS := crates/ecow_store_faults/out/ecow_store_faults
 VALUE_FAULTS := crates/ecow_value_faults/out/ecow_value_faults
 RUN := crates/ecow_run/out/ecow_run
 
@@ -104,7 +104,7 @@ test: agree
 	rt ci
 	tools/costs.sh $(COSTS)
 	tools/refuse.sh $(VALUE_FAULTS)
-	tools/refuse.sh $(KEEPING_FAULTS)
+	tools/refuse.sh $(STORE_FAULTS)
 	tools/ends.sh $(RUN)
 	tools/large.sh $(RUN)
 	tools/threads_gate.sh
@@ -143,9 +143,9 @@ costs:
 
 faults:
 	cd crates/ecow_value_faults && rt run -- strict
-	cd crates/ecow_keeping_faults && rt run -- strict
+	cd crates/ecow_store_faults && rt run -- strict
 	tools/refuse.sh $(VALUE_FAULTS)
-	tools/refuse.sh $(KEEPING_FAULTS)
+	tools/refuse.sh $(STORE_FAULTS)
 
 SECONDS := 60
 c-fuzz: lib

@@ -12,7 +12,7 @@ function heading() {
     }
 }
 FNR == 1 { impl = ""; inside = 0; of_trait = 0; defines = 0 }
-/^impl/ { impl = $0; sub(/ \{\}?$/, "", impl); of_trait = impl ~ / for / && impl !~ /(Model|Joined|Cased|Copying|Kind|Keeping).* for /; next }
+/^impl/ { impl = $0; sub(/ \{\}?$/, "", impl); of_trait = impl ~ / for / && impl !~ /(Model|Joined|Cased|Copying|Kind|NamedStore).* for /; next }
 /^}/ { impl = ""; of_trait = 0; next }
 of_trait && /^    ghost [a-z_]+ =/ { heading(); defines = 1 }
 defines { defines = !/;$/; sub(/;$/, ""); print; next }

@@ -1,5 +1,5 @@
 #!/bin/sh
-# Prints docs/CONTRACTS.md: the public calls of the types and the keepings, quoted with their clauses.
+# Prints docs/CONTRACTS.md: the public calls of the types and the stores, quoted with their clauses.
 set -eu
 cd "$(dirname "$0")/.."
 export LC_ALL=C
@@ -12,13 +12,13 @@ echo "behind a \`&\`, \`x.old\` and \`x.new\` what stands behind a \`&mut\` befo
 echo "value at the call."
 echo
 awk -f tools/contracts.awk crates/ecow_base/src/range.rt \
-    crates/ecow_list/src/vec.rt crates/ecow_list/src/vec/*.rt crates/ecow_list/src/error.rt crates/ecow_list/src/comparisons.rt \
-    crates/ecow_list/src/iter.rt crates/ecow_list/src/traits.rt crates/ecow_list/src/write.rt \
+    crates/ecow_vec/src/vec.rt crates/ecow_vec/src/vec/*.rt crates/ecow_vec/src/error.rt crates/ecow_vec/src/comparisons.rt \
+    crates/ecow_vec/src/iter.rt crates/ecow_vec/src/traits.rt crates/ecow_vec/src/write.rt \
     crates/ecow_bytes/src/bytes.rt crates/ecow_bytes/src/bytes/*.rt crates/ecow_bytes/src/traits.rt crates/ecow_bytes/src/write.rt \
-    crates/ecow_text/src/text.rt crates/ecow_text/src/text/*.rt crates/ecow_text/src/display.rt crates/ecow_text/src/traits.rt \
+    crates/ecow_string/src/string.rt crates/ecow_string/src/string/*.rt crates/ecow_string/src/display.rt crates/ecow_string/src/traits.rt \
     crates/ecow_nested/src/value.rt crates/ecow_nested/src/value/*.rt crates/ecow_nested/src/refusal.rt \
     crates/ecow_store/src/store.rt crates/ecow_store/src/store/*.rt \
     crates/ecow_counted/src/counted.rt crates/ecow_counted/src/counted/*.rt crates/ecow_counted/src/fill.rt \
-    crates/ecow_values/src/laws.rt crates/ecow_model/src/laws.rt crates/ecow_bytes/src/laws.rt crates/ecow_text/src/laws.rt \
+    crates/ecow_values/src/laws.rt crates/ecow_model/src/laws.rt crates/ecow_bytes/src/laws.rt crates/ecow_string/src/laws.rt \
     crates/ecow_laws/src/*.rt crates/ecow_script/src/store.rt crates/ecow_script/src/counted.rt \
     crates/ecow_script/src/laws.rt crates/ecow_script/src/example.rt crates/ecow_tool/src/program.rt

@@ -108,7 +108,7 @@ def memory(program, _peer):
                 runs, requests, faults = runs + 1, requests + made, faults + len(wrong)
                 for fault in wrong:
                     print(f"{' '.join(flags + [os.path.basename(path)])}: {fault}")
-    print(f"memory: {runs} scripts and keepings, {requests} requests refused in turn, {time.time() - began:.0f} s, {faults} faults")
+    print(f"memory: {runs} scripts and stores, {requests} requests refused in turn, {time.time() - began:.0f} s, {faults} faults")
     return faults
 
 

@@ -1,5 +1,5 @@
 #!/bin/sh
-# Runs PROGRAM on large scripts, in both keepings, and compares what it answers with what tools/large.awk works
+# Runs PROGRAM on large scripts, in both stores, and compares what it answers with what tools/large.awk works
 # out by the rules.
 # usage: tools/large.sh PROGRAM
 set -eu

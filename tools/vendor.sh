@@ -1,7 +1,7 @@
 #!/bin/sh
 # Copies crates into another repository, as plain folders below its crates/, with their rows in its
 # crates.txt, so that its gate proves them: tools/vendor.sh FOLDER [KIND [COUNT]]. KIND says what is
-# needed: vector (EcoVec), text (vector, bytes and text), or store (these and both keepings). COUNT
+# needed: vector (EcoVec), text (vector, bytes and text), or store (these and both stores). COUNT
 # says how owners are counted: plain, for one thread, or atomic. Tests and edits stay here.
 #
 # Where crates of an earlier call are there, it updates them, their rows too, and touches nothing
@@ -19,7 +19,7 @@ refuse() { # WHY..
 }
 
 case $kind in
-    vector) tops=ecow_list ;;
+    vector) tops=ecow_vec ;;
     text) tops=ecow ;;
     store) tops="ecow ecow_store ecow_counted" ;;
     *) refuse "$use" "KIND is vector, text or store, and not $kind" ;;
@@ -66,7 +66,7 @@ if [ -n "$has" ] && [ "$has" != "$count" ]; then
 fi
 [ -z "$changed" ] || refuse "These files of $to were changed since they were copied:$changed" \
     "Keep the change in a crate of your own, and remove the changed crate's folder first."
-before=$(cat "$to/crates/ecow_list/VERSION" 2> /dev/null || true)
+before=$(cat "$to/crates/ecow_vec/VERSION" 2> /dev/null || true)
 
 touch "$to/crates.txt"
 for crate in $crates; do

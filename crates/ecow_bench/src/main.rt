@@ -15,7 +15,7 @@ mod templates;
 mod texts;
 mod trees;
 
-use ecow_list::{EcoError, EcoVec};
+use ecow_vec::{EcoError, EcoVec};
 use elements::Element;
 use std::alloc::{AllocError, Global};
 use std::env::Env;

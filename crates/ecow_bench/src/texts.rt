@@ -2,7 +2,7 @@
 //! value is made of.
 
 use crate::pairs;
-use ecow_text::{EcoString, ToEcoString, eco_format};
+use ecow_string::{EcoString, ToEcoString, eco_format};
 use std::alloc::Global;
 
 #[inline(never)]

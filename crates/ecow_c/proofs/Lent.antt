@@ -46,7 +46,7 @@ use denote.Struct.Record.{Record, Also, Done}
 use denote.Struct.Field.{RawPtr-field}
 use denote.Follow.{follows_if}
 use Rattle.core.specs.Option.{option_map, ghost_name_of}
-use Rattle.ecow_c.specs.Places.{lies_there, place_owns}
+use Rattle.ecow_c.specs.Pointers.{lies_there, pointer_owns}
 
 -- the type behind the reference that the code makes of the pointer, as it is written there
 abbrev pub lent_by : List Local → Ty
@@ -96,11 +96,11 @@ module _ (E : Kind) where
     beta = λ v g. (λ i. (E.at-make v.0 g.0 i, tt));
   }
 
-  abbrev pub place : Owning
-  place = owning struct E.codes (λ d. place_owns E.R (E.at d) (E.value d))
+  abbrev pub pointer : Owning
+  pointer = owning struct E.codes (λ d. pointer_owns E.R (E.at d) (E.value d))
 
   abbrev pub B : RattleType
-  B = row place
+  B = row pointer
 
   abbrev R : RattleType
   R = E.R
@@ -142,7 +142,7 @@ module _ (E : Kind) where
   word p = vstruct (vcons (ptr_val p) vnil)
 
   abbrev Word : RattleType
-  Word = Struct (shape place)
+  Word = Struct (shape pointer)
 
   -- the place with another value
   abbrev with_value : E.D → R.Denot → E.D
@@ -159,7 +159,7 @@ module _ (E : Kind) where
     word_made : K → Step K 𝓛 (‵ (Word.own_val (c, tt) (word c ∷ [])) ∷ Γ) G Γ G
     word_made t = step (λ s.
         nothing t $ feq_i t (List Val) (ptr_val c ∷ []) (ptr_val c ∷ []) refl $ fjoin t $ feq_i t (List Val) (word c ∷ []) (word c ∷ []) refl $ fjoin t $
-        fpack t (Valss (RawPtr ∷ [])) (within (shape place) (c, tt) (word c ∷ [])) (ptr_val c ∷ [], tt) $ s)
+        fpack t (Valss (RawPtr ∷ [])) (within (shape pointer) (c, tt) (word c ∷ [])) (ptr_val c ∷ [], tt) $ s)
 
   -- what lies at the pointer: nothing at null, and else a value
   module _ {M : Type 1} {𝓤 : Ura M} {𝓛 : Logic 𝓤} {K : Type 0} {Γ : List (Item 𝓤)} {G : Goal 𝓤 𝓛.H} where
@@ -193,8 +193,8 @@ module _ (E : Kind) where
     back b o e low w =
         let there : E.at (with_value d w) ≡ E.at d = E.at-make (E.at d) (Some w) in
         qed 𝓛 (‵ (part_at R full_share w b o) ∷ ‵ Rest ∷ []) ∵ rewrite ! 0 (λ (p : Ptr). ‵ (lies_there R p (Some w))) (sym e) refl $
-        flt_i ! (count_of (E.at d)) (2 ^ 63) low $ fjoin ! $ rewrite ! 0 (λ (v : Option R.Denot). ‵ (place_owns R (E.at d) v)) (sym (E.value-make (E.at d) (Some w))) refl $
-        rewrite ! 0 (λ (p : Ptr). ‵ (place_owns R p (E.value (with_value d w)))) (sym there) refl $
+        flt_i ! (count_of (E.at d)) (2 ^ 63) low $ fjoin ! $ rewrite ! 0 (λ (v : Option R.Denot). ‵ (pointer_owns R (E.at d) v)) (sym (E.value-make (E.at d) (Some w))) refl $
+        rewrite ! 0 (λ (p : Ptr). ‵ (pointer_owns R p (E.value (with_value d w)))) (sym there) refl $
         word_made (E.at d) ! $ rewrite ! 0 (λ (p : Ptr). ‵ (Word.own_val (p, tt) (word (E.at d) ∷ []))) (sym there) refl $ fjoin ! $ move ! (1 ∷ 0 ∷ []) $ fjoin ! $
         fpack ! (List Val) (λ us. fsep (cell_at full_share B.mir us rb ro) (B.own_val (with_value d w) us)) (word (E.at d) ∷ []) $ done !
 

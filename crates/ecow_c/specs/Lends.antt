@@ -6,33 +6,33 @@ use Rattle.ecow_values.specs.declared.plain.PlainBytes.{PlainBytes}
 use Rattle.ecow_values.specs.declared.plain.PlainText.{PlainText}
 use Rattle.ecow_nested.specs.declared.value.Value.{Value}
 use Rattle.ecow_c.specs.Rows.{list_row, bytes_row, text_row, texts_row, value_row}
-use Rattle.ecow_c.specs.contracts.list.place.ListPlace.{the_row as list_place}
-use Rattle.ecow_c.specs.contracts.bytes.place.BytesPlace.{the_row as bytes_place}
-use Rattle.ecow_c.specs.contracts.text.place.TextPlace.{the_row as text_place}
-use Rattle.ecow_c.specs.contracts.texts.place.TextsPlace.{the_row as texts_place}
-use Rattle.ecow_c.specs.contracts.value.place.ValuePlace.{the_row as value_place}
+use Rattle.ecow_c.specs.contracts.list.pointer.ListPointer.{the_row as list_pointer}
+use Rattle.ecow_c.specs.contracts.bytes.pointer.BytesPointer.{the_row as bytes_pointer}
+use Rattle.ecow_c.specs.contracts.text.pointer.TextPointer.{the_row as text_pointer}
+use Rattle.ecow_c.specs.contracts.texts.pointer.TextsPointer.{the_row as texts_pointer}
+use Rattle.ecow_c.specs.contracts.value.pointer.ValuePointer.{the_row as value_pointer}
 
-abbrev pub lends_list : MutBor list_place.Denot → Option (MutBor (List ℤ)) → Fml
-lends_list place lent =
-    LendsIf list_place list_row place lent
-    (λ numbers. record { at = place.now.at; value = Some numbers }) place.now
+abbrev pub lends_list : MutBor list_pointer.Denot → Option (MutBor (List ℤ)) → Fml
+lends_list pointer lent =
+    LendsIf list_pointer list_row pointer lent
+    (λ numbers. record { at = pointer.now.at; value = Some numbers }) pointer.now
 
-abbrev pub lends_bytes : MutBor bytes_place.Denot → Option (MutBor PlainBytes) → Fml
-lends_bytes place lent =
-    LendsIf bytes_place bytes_row place lent
-    (λ bytes. record { at = place.now.at; value = Some bytes }) place.now
+abbrev pub lends_bytes : MutBor bytes_pointer.Denot → Option (MutBor PlainBytes) → Fml
+lends_bytes pointer lent =
+    LendsIf bytes_pointer bytes_row pointer lent
+    (λ bytes. record { at = pointer.now.at; value = Some bytes }) pointer.now
 
-abbrev pub lends_text : MutBor text_place.Denot → Option (MutBor PlainText) → Fml
-lends_text place lent =
-    LendsIf text_place text_row place lent
-    (λ text. record { at = place.now.at; value = Some text }) place.now
+abbrev pub lends_text : MutBor text_pointer.Denot → Option (MutBor PlainText) → Fml
+lends_text pointer lent =
+    LendsIf text_pointer text_row pointer lent
+    (λ text. record { at = pointer.now.at; value = Some text }) pointer.now
 
-abbrev pub lends_texts : MutBor texts_place.Denot → Option (MutBor (List PlainText)) → Fml
-lends_texts place lent =
-    LendsIf texts_place texts_row place lent
-    (λ texts. record { at = place.now.at; value = Some texts }) place.now
+abbrev pub lends_texts : MutBor texts_pointer.Denot → Option (MutBor (List PlainText)) → Fml
+lends_texts pointer lent =
+    LendsIf texts_pointer texts_row pointer lent
+    (λ texts. record { at = pointer.now.at; value = Some texts }) pointer.now
 
-abbrev pub lends_value : MutBor value_place.Denot → Option (MutBor Value) → Fml
-lends_value place lent =
-    LendsIf value_place value_row place lent
-    (λ value. record { at = place.now.at; value = Some value }) place.now
+abbrev pub lends_value : MutBor value_pointer.Denot → Option (MutBor Value) → Fml
+lends_value pointer lent =
+    LendsIf value_pointer value_row pointer lent
+    (λ value. record { at = pointer.now.at; value = Some value }) pointer.now

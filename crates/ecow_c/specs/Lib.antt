@@ -1,7 +1,7 @@
 pub mod Answers
 pub mod Indices
 pub mod Lends
-pub mod Places
+pub mod Pointers
 pub mod Rows
 pub mod Texts
 pub mod Values

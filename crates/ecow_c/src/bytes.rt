@@ -6,13 +6,13 @@ ghost use Rattle.std.specs.Ordering.{nat_cmp};
 ghost use Rattle.ecow_bytes.specs.Hashes.{hash_writes};
 ghost use Rattle.ecow_c.specs.Answers.{AltersBytes, is_one_of, are_both, bytes_at, order_of, hash_of};
 
-mod place;
+mod pointer;
 
 use crate::status::{CAPACITY, INDEX, MEMORY, NULL, OK, order, refusal};
 use ecow_base::MAX_LEN;
 use ecow_bytes::EcoBytes;
-use ecow_list::EcoError;
-use place::BytesPlace;
+use ecow_vec::EcoError;
+use pointer::BytesPointer;
 use std::alloc::Global;
 use std::hash::{DefaultHasher, Hash, Hasher};
 use std::ptr::from_ref;
@@ -21,14 +21,14 @@ use std::ptr::from_ref;
 #[unsafe(no_mangle)]
 pub extern "C" fn ecow_proved_bytes_assign(
     alloc: Global,
-    place: &mut BytesPlace,
+    pointer: &mut BytesPointer,
     added: &[u8],
 ) -> u32
-    ensures bytes { AltersBytes (λ _. added.now) place.old.value result place.new.value }
+    ensures bytes { AltersBytes (λ _. added.now) pointer.old.value result pointer.new.value }
     ensures codes { is_one_of (OK ∷ MEMORY ∷ CAPACITY ∷ NULL ∷ []) result ≡ true }
     ensures capacity { result ≡ CAPACITY → MAX_LEN < length added.now }
 {
-    let Some(bytes) = place.bytes() else {
+    let Some(bytes) = pointer.bytes() else {
         return NULL;
     };
     match EcoBytes::from_slice(alloc, added) {
@@ -42,7 +42,7 @@ pub extern "C" fn ecow_proved_bytes_assign(
 
 /// Puts a clone of the bytes at `from`, which shares their block, in place of the bytes at `to`.
 #[unsafe(no_mangle)]
-pub extern "C" fn ecow_proved_bytes_clone(from: &mut BytesPlace, to: &mut BytesPlace) -> u32
+pub extern "C" fn ecow_proved_bytes_clone(from: &mut BytesPointer, to: &mut BytesPointer) -> u32
     ensures ok { result ≡ OK → to.new.value ≡ from.old.value }
     ensures source { from.new.value ≡ from.old.value }
     ensures refused { result ≢ OK → to.new.value ≡ to.old.value }
@@ -67,11 +67,11 @@ pub extern "C" fn ecow_proved_bytes_clone(from: &mut BytesPlace, to: &mut BytesP
 
 /// Gives the bytes up: none stand in their place.
 #[unsafe(no_mangle)]
-pub extern "C" fn ecow_proved_bytes_drop(alloc: Global, place: &mut BytesPlace) -> u32
-    ensures bytes { AltersBytes (λ _. []) place.old.value result place.new.value }
+pub extern "C" fn ecow_proved_bytes_drop(alloc: Global, pointer: &mut BytesPointer) -> u32
+    ensures bytes { AltersBytes (λ _. []) pointer.old.value result pointer.new.value }
     ensures codes { is_one_of (OK ∷ NULL ∷ []) result ≡ true }
 {
-    let Some(bytes) = place.bytes() else {
+    let Some(bytes) = pointer.bytes() else {
         return NULL;
     };
     *bytes = EcoBytes::new(alloc);
@@ -80,11 +80,11 @@ pub extern "C" fn ecow_proved_bytes_drop(alloc: Global, place: &mut BytesPlace) 
 
 /// The number of bytes; 0 at a null pointer.
 #[unsafe(no_mangle)]
-pub extern "C" fn ecow_proved_bytes_len(place: &mut BytesPlace) -> usize
-    ensures len { result ≡ length (bytes_at place.old.value) }
-    ensures unchanged { place.new.value ≡ place.old.value }
+pub extern "C" fn ecow_proved_bytes_len(pointer: &mut BytesPointer) -> usize
+    ensures len { result ≡ length (bytes_at pointer.old.value) }
+    ensures unchanged { pointer.new.value ≡ pointer.old.value }
 {
-    match place.bytes() {
+    match pointer.bytes() {
         Some(bytes) => bytes.len(),
         None => 0,
     }
@@ -92,17 +92,17 @@ pub extern "C" fn ecow_proved_bytes_len(place: &mut BytesPlace) -> usize
 
 /// Writes the byte at `index` to `out`.
 #[unsafe(no_mangle)]
-pub extern "C" fn ecow_proved_bytes_get(place: &mut BytesPlace, index: usize, out: &mut u8) -> u32
-    ensures ok { result ≡ OK → IfSome place.old.value
+pub extern "C" fn ecow_proved_bytes_get(pointer: &mut BytesPointer, index: usize, out: &mut u8) -> u32
+    ensures ok { result ≡ OK → IfSome pointer.old.value
         (λ value. slice_get value.bytes index ≡ Some out.new) }
     ensures refused { result ≢ OK → out.new ≡ out.old }
     ensures index { result ≡ INDEX
-        ↔ IsSomeAnd place.old.value (λ value. length value.bytes ≤ index) }
-    ensures null { result ≡ NULL ↔ place.old.value ≡ None }
+        ↔ IsSomeAnd pointer.old.value (λ value. length value.bytes ≤ index) }
+    ensures null { result ≡ NULL ↔ pointer.old.value ≡ None }
     ensures codes { is_one_of (OK ∷ INDEX ∷ NULL ∷ []) result ≡ true }
-    ensures unchanged { place.new.value ≡ place.old.value }
+    ensures unchanged { pointer.new.value ≡ pointer.old.value }
 {
-    let Some(bytes) = place.bytes() else {
+    let Some(bytes) = pointer.bytes() else {
         return NULL;
     };
     match bytes.as_slice().get(index) {
@@ -116,13 +116,13 @@ pub extern "C" fn ecow_proved_bytes_get(place: &mut BytesPlace, index: usize, ou
 
 /// Appends a byte.
 #[unsafe(no_mangle)]
-pub extern "C" fn ecow_proved_bytes_push(place: &mut BytesPlace, byte: u8) -> u32
-    ensures bytes { AltersBytes (λ xs. xs ++ byte ∷ []) place.old.value result place.new.value }
+pub extern "C" fn ecow_proved_bytes_push(pointer: &mut BytesPointer, byte: u8) -> u32
+    ensures bytes { AltersBytes (λ xs. xs ++ byte ∷ []) pointer.old.value result pointer.new.value }
     ensures codes { is_one_of (OK ∷ MEMORY ∷ CAPACITY ∷ NULL ∷ []) result ≡ true }
     ensures capacity { result ≡ CAPACITY
-        ↔ IsSomeAnd place.old.value (λ value. MAX_LEN ≤ length value.bytes) }
+        ↔ IsSomeAnd pointer.old.value (λ value. MAX_LEN ≤ length value.bytes) }
 {
-    let Some(bytes) = place.bytes() else {
+    let Some(bytes) = pointer.bytes() else {
         return NULL;
     };
     match bytes.push(byte) {
@@ -133,17 +133,17 @@ pub extern "C" fn ecow_proved_bytes_push(place: &mut BytesPlace, byte: u8) -> u3
 
 /// Takes the last byte out and writes it to `out`; `INDEX` where there is none.
 #[unsafe(no_mangle)]
-pub extern "C" fn ecow_proved_bytes_pop(place: &mut BytesPlace, out: &mut u8) -> u32
+pub extern "C" fn ecow_proved_bytes_pop(pointer: &mut BytesPointer, out: &mut u8) -> u32
     ensures bytes { AltersBytes (λ xs. take (length xs - 1) xs)
-        place.old.value result place.new.value }
-    ensures value { result ≡ OK → IfSome place.old.value
+        pointer.old.value result pointer.new.value }
+    ensures value { result ≡ OK → IfSome pointer.old.value
         (λ value. slice_get value.bytes (length value.bytes - 1) ≡ Some out.new) }
     ensures out { result ≢ OK → out.new ≡ out.old }
     ensures index { result ≡ INDEX
-        ↔ IsSomeAnd place.old.value (λ value. value.bytes ≡ []) }
+        ↔ IsSomeAnd pointer.old.value (λ value. value.bytes ≡ []) }
     ensures codes { is_one_of (OK ∷ MEMORY ∷ INDEX ∷ NULL ∷ []) result ≡ true }
 {
-    let Some(bytes) = place.bytes() else {
+    let Some(bytes) = pointer.bytes() else {
         return NULL;
     };
     match bytes.pop() {
@@ -158,14 +158,14 @@ pub extern "C" fn ecow_proved_bytes_pop(place: &mut BytesPlace, out: &mut u8) ->
 
 /// Puts `byte` in place of the byte at `index`.
 #[unsafe(no_mangle)]
-pub extern "C" fn ecow_proved_bytes_set(place: &mut BytesPlace, index: usize, byte: u8) -> u32
+pub extern "C" fn ecow_proved_bytes_set(pointer: &mut BytesPointer, index: usize, byte: u8) -> u32
     ensures bytes { AltersBytes (λ xs. slice_set xs index byte)
-        place.old.value result place.new.value }
+        pointer.old.value result pointer.new.value }
     ensures index { result ≡ INDEX
-        ↔ IsSomeAnd place.old.value (λ value. length value.bytes ≤ index) }
+        ↔ IsSomeAnd pointer.old.value (λ value. length value.bytes ≤ index) }
     ensures codes { is_one_of (OK ∷ MEMORY ∷ INDEX ∷ NULL ∷ []) result ≡ true }
 {
-    let Some(bytes) = place.bytes() else {
+    let Some(bytes) = pointer.bytes() else {
         return NULL;
     };
     if index >= bytes.len() {
@@ -179,16 +179,16 @@ pub extern "C" fn ecow_proved_bytes_set(place: &mut BytesPlace, index: usize, by
 
 /// Puts `byte` in at `index`, before the byte that stands there.
 #[unsafe(no_mangle)]
-pub extern "C" fn ecow_proved_bytes_insert(place: &mut BytesPlace, index: usize, byte: u8) -> u32
+pub extern "C" fn ecow_proved_bytes_insert(pointer: &mut BytesPointer, index: usize, byte: u8) -> u32
     ensures bytes { AltersBytes (λ xs. insert xs index byte)
-        place.old.value result place.new.value }
+        pointer.old.value result pointer.new.value }
     ensures index { result ≡ INDEX
-        ↔ IsSomeAnd place.old.value (λ value. length value.bytes < index) }
+        ↔ IsSomeAnd pointer.old.value (λ value. length value.bytes < index) }
     ensures codes { is_one_of (OK ∷ MEMORY ∷ CAPACITY ∷ INDEX ∷ NULL ∷ []) result ≡ true }
     ensures capacity { result ≡ CAPACITY
-        → IsSomeAnd place.old.value (λ value. MAX_LEN ≤ length value.bytes) }
+        → IsSomeAnd pointer.old.value (λ value. MAX_LEN ≤ length value.bytes) }
 {
-    let Some(bytes) = place.bytes() else {
+    let Some(bytes) = pointer.bytes() else {
         return NULL;
     };
     if index > bytes.len() {
@@ -203,19 +203,19 @@ pub extern "C" fn ecow_proved_bytes_insert(place: &mut BytesPlace, index: usize,
 /// Takes the byte at `index` out and writes it to `out`.
 #[unsafe(no_mangle)]
 pub extern "C" fn ecow_proved_bytes_remove(
-    place: &mut BytesPlace,
+    pointer: &mut BytesPointer,
     index: usize,
     out: &mut u8,
 ) -> u32
-    ensures bytes { AltersBytes (λ xs. remove xs index) place.old.value result place.new.value }
-    ensures value { result ≡ OK → IfSome place.old.value
+    ensures bytes { AltersBytes (λ xs. remove xs index) pointer.old.value result pointer.new.value }
+    ensures value { result ≡ OK → IfSome pointer.old.value
         (λ value. slice_get value.bytes index ≡ Some out.new) }
     ensures out { result ≢ OK → out.new ≡ out.old }
     ensures index { result ≡ INDEX
-        ↔ IsSomeAnd place.old.value (λ value. length value.bytes ≤ index) }
+        ↔ IsSomeAnd pointer.old.value (λ value. length value.bytes ≤ index) }
     ensures codes { is_one_of (OK ∷ MEMORY ∷ INDEX ∷ NULL ∷ []) result ≡ true }
 {
-    let Some(bytes) = place.bytes() else {
+    let Some(bytes) = pointer.bytes() else {
         return NULL;
     };
     if index >= bytes.len() {
@@ -232,11 +232,11 @@ pub extern "C" fn ecow_proved_bytes_remove(
 
 /// Keeps the first `len` bytes, or all where there are fewer.
 #[unsafe(no_mangle)]
-pub extern "C" fn ecow_proved_bytes_truncate(place: &mut BytesPlace, len: usize) -> u32
-    ensures bytes { AltersBytes (λ xs. take len xs) place.old.value result place.new.value }
+pub extern "C" fn ecow_proved_bytes_truncate(pointer: &mut BytesPointer, len: usize) -> u32
+    ensures bytes { AltersBytes (λ xs. take len xs) pointer.old.value result pointer.new.value }
     ensures codes { is_one_of (OK ∷ MEMORY ∷ NULL ∷ []) result ≡ true }
 {
-    let Some(bytes) = place.bytes() else {
+    let Some(bytes) = pointer.bytes() else {
         return NULL;
     };
     match bytes.truncate(len) {
@@ -247,11 +247,11 @@ pub extern "C" fn ecow_proved_bytes_truncate(place: &mut BytesPlace, len: usize)
 
 /// Keeps no byte. A block that no other value shares stays, with its room.
 #[unsafe(no_mangle)]
-pub extern "C" fn ecow_proved_bytes_clear(place: &mut BytesPlace) -> u32
-    ensures bytes { AltersBytes (λ _. []) place.old.value result place.new.value }
+pub extern "C" fn ecow_proved_bytes_clear(pointer: &mut BytesPointer) -> u32
+    ensures bytes { AltersBytes (λ _. []) pointer.old.value result pointer.new.value }
     ensures codes { is_one_of (OK ∷ NULL ∷ []) result ≡ true }
 {
-    let Some(bytes) = place.bytes() else {
+    let Some(bytes) = pointer.bytes() else {
         return NULL;
     };
     bytes.clear();
@@ -260,13 +260,13 @@ pub extern "C" fn ecow_proved_bytes_clear(place: &mut BytesPlace) -> u32
 
 /// Asks for room for `additional` more bytes.
 #[unsafe(no_mangle)]
-pub extern "C" fn ecow_proved_bytes_reserve(place: &mut BytesPlace, additional: usize) -> u32
-    ensures bytes { AltersBytes (λ xs. xs) place.old.value result place.new.value }
+pub extern "C" fn ecow_proved_bytes_reserve(pointer: &mut BytesPointer, additional: usize) -> u32
+    ensures bytes { AltersBytes (λ xs. xs) pointer.old.value result pointer.new.value }
     ensures codes { is_one_of (OK ∷ MEMORY ∷ CAPACITY ∷ NULL ∷ []) result ≡ true }
     ensures capacity { result ≡ CAPACITY
-        ↔ IsSomeAnd place.old.value (λ value. MAX_LEN < length value.bytes + additional) }
+        ↔ IsSomeAnd pointer.old.value (λ value. MAX_LEN < length value.bytes + additional) }
 {
-    let Some(bytes) = place.bytes() else {
+    let Some(bytes) = pointer.bytes() else {
         return NULL;
     };
     match bytes.reserve(additional) {
@@ -277,13 +277,13 @@ pub extern "C" fn ecow_proved_bytes_reserve(place: &mut BytesPlace, additional: 
 
 /// Appends copies of `added`: all, or none where it is refused.
 #[unsafe(no_mangle)]
-pub extern "C" fn ecow_proved_bytes_extend(place: &mut BytesPlace, added: &[u8]) -> u32
-    ensures bytes { AltersBytes (λ xs. xs ++ added.now) place.old.value result place.new.value }
+pub extern "C" fn ecow_proved_bytes_extend(pointer: &mut BytesPointer, added: &[u8]) -> u32
+    ensures bytes { AltersBytes (λ xs. xs ++ added.now) pointer.old.value result pointer.new.value }
     ensures codes { is_one_of (OK ∷ MEMORY ∷ CAPACITY ∷ NULL ∷ []) result ≡ true }
     ensures capacity { result ≡ CAPACITY
-        ↔ IsSomeAnd place.old.value (λ value. MAX_LEN < length value.bytes + length added.now) }
+        ↔ IsSomeAnd pointer.old.value (λ value. MAX_LEN < length value.bytes + length added.now) }
 {
-    let Some(bytes) = place.bytes() else {
+    let Some(bytes) = pointer.bytes() else {
         return NULL;
     };
     match bytes.extend_from_slice(added) {
@@ -295,22 +295,22 @@ pub extern "C" fn ecow_proved_bytes_extend(place: &mut BytesPlace, added: &[u8])
 /// Puts copies of `added` in place of the bytes from `start` up to `end`.
 #[unsafe(no_mangle)]
 pub extern "C" fn ecow_proved_bytes_splice(
-    place: &mut BytesPlace,
+    pointer: &mut BytesPointer,
     start: usize,
     end: usize,
     added: &[u8],
 ) -> u32
     ensures bytes { AltersBytes (λ xs. replace_range xs start end added.now)
-        place.old.value result place.new.value }
+        pointer.old.value result pointer.new.value }
     ensures index { result ≡ INDEX
-        ↔ IsSomeAnd place.old.value
+        ↔ IsSomeAnd pointer.old.value
         (λ value. nat_lt end start || nat_lt (length value.bytes) end ≡ true) }
     ensures codes { is_one_of (OK ∷ MEMORY ∷ CAPACITY ∷ INDEX ∷ NULL ∷ []) result ≡ true }
-    ensures capacity { result ≡ CAPACITY ↔ IsSomeAnd place.old.value
+    ensures capacity { result ≡ CAPACITY ↔ IsSomeAnd pointer.old.value
         (λ value. (start ≤ end) × (end ≤ length value.bytes)
         × (MAX_LEN < length value.bytes - (end - start) + length added.now)) }
 {
-    let Some(bytes) = place.bytes() else {
+    let Some(bytes) = pointer.bytes() else {
         return NULL;
     };
     if start > end || end > bytes.len() {
@@ -324,11 +324,11 @@ pub extern "C" fn ecow_proved_bytes_splice(
 
 /// How many bytes there is room for, never fewer than there are; 0 at a null pointer.
 #[unsafe(no_mangle)]
-pub extern "C" fn ecow_proved_bytes_capacity(place: &mut BytesPlace) -> usize
-    ensures room { length (bytes_at place.old.value) ≤ result }
-    ensures unchanged { place.new.value ≡ place.old.value }
+pub extern "C" fn ecow_proved_bytes_capacity(pointer: &mut BytesPointer) -> usize
+    ensures room { length (bytes_at pointer.old.value) ≤ result }
+    ensures unchanged { pointer.new.value ≡ pointer.old.value }
 {
-    match place.bytes() {
+    match pointer.bytes() {
         Some(bytes) => bytes.capacity(),
         None => 0,
     }
@@ -336,11 +336,11 @@ pub extern "C" fn ecow_proved_bytes_capacity(place: &mut BytesPlace) -> usize
 
 /// Brings spilled bytes back inline where there are at most 15.
 #[unsafe(no_mangle)]
-pub extern "C" fn ecow_proved_bytes_shrink_to_fit(place: &mut BytesPlace) -> u32
-    ensures bytes { AltersBytes (λ xs. xs) place.old.value result place.new.value }
+pub extern "C" fn ecow_proved_bytes_shrink_to_fit(pointer: &mut BytesPointer) -> u32
+    ensures bytes { AltersBytes (λ xs. xs) pointer.old.value result pointer.new.value }
     ensures codes { is_one_of (OK ∷ NULL ∷ []) result ≡ true }
 {
-    let Some(bytes) = place.bytes() else {
+    let Some(bytes) = pointer.bytes() else {
         return NULL;
     };
     bytes.shrink_to_fit();
@@ -349,7 +349,7 @@ pub extern "C" fn ecow_proved_bytes_shrink_to_fit(place: &mut BytesPlace) -> u32
 
 /// Whether two values hold the same bytes.
 #[unsafe(no_mangle)]
-pub extern "C" fn ecow_proved_bytes_equal(left: &mut BytesPlace, right: &mut BytesPlace) -> bool
+pub extern "C" fn ecow_proved_bytes_equal(left: &mut BytesPointer, right: &mut BytesPointer) -> bool
     ensures equal { result
         ≡ are_both (λ x y. pointwise nat_eq x.bytes y.bytes) left.old.value right.old.value }
     ensures unchanged { (left.new.value ≡ left.old.value) × (right.new.value ≡ right.old.value) }
@@ -366,7 +366,10 @@ pub extern "C" fn ecow_proved_bytes_equal(left: &mut BytesPlace, right: &mut Byt
 /// How the bytes of two values compare: below 0 where the left ones come first, 0 where they are
 /// equal.
 #[unsafe(no_mangle)]
-pub extern "C" fn ecow_proved_bytes_compare(left: &mut BytesPlace, right: &mut BytesPlace) -> i32
+pub extern "C" fn ecow_proved_bytes_compare(
+    left: &mut BytesPointer,
+    right: &mut BytesPointer,
+) -> i32
     ensures order { result ≡ order_of (λ x y. slice_cmp nat_cmp x.bytes y.bytes)
         left.old.value right.old.value }
     ensures unchanged { (left.new.value ≡ left.old.value) × (right.new.value ≡ right.old.value) }
@@ -382,12 +385,12 @@ pub extern "C" fn ecow_proved_bytes_compare(left: &mut BytesPlace, right: &mut B
 
 /// The hash of the bytes, by std's hasher. Equal bytes have the same.
 #[unsafe(no_mangle)]
-pub extern "C" fn ecow_proved_bytes_hash(alloc: Global, place: &mut BytesPlace) -> u64
-    ensures hash { result ≡ hash_of (hash_writes (bytes_at place.old.value)) }
-    ensures unchanged { place.new.value ≡ place.old.value }
+pub extern "C" fn ecow_proved_bytes_hash(alloc: Global, pointer: &mut BytesPointer) -> u64
+    ensures hash { result ≡ hash_of (hash_writes (bytes_at pointer.old.value)) }
+    ensures unchanged { pointer.new.value ≡ pointer.old.value }
 {
     let mut hasher = DefaultHasher::new();
-    match place.bytes() {
+    match pointer.bytes() {
         Some(bytes) => bytes.hash(&mut hasher),
         None => EcoBytes::new(alloc).hash(&mut hasher),
     }
@@ -398,14 +401,14 @@ pub extern "C" fn ecow_proved_bytes_hash(alloc: Global, place: &mut BytesPlace) 
 /// `len`.
 #[unsafe(no_mangle)]
 pub extern "C" fn ecow_proved_bytes_slice(
-    place: &mut BytesPlace,
+    pointer: &mut BytesPointer,
     start: &mut *const u8,
     len: &mut usize,
 )
-    ensures len { len.new ≡ length (bytes_at place.old.value) }
-    ensures unchanged { place.new.value ≡ place.old.value }
+    ensures len { len.new ≡ length (bytes_at pointer.old.value) }
+    ensures unchanged { pointer.new.value ≡ pointer.old.value }
 {
-    let Some(bytes) = place.bytes() else {
+    let Some(bytes) = pointer.bytes() else {
         *len = 0;
         return;
     };

@@ -6,12 +6,12 @@ ghost use Rattle.std.specs.Ordering.{int_eq, int_cmp};
 ghost use Rattle.std.specs.Hash as fed;
 ghost use Rattle.ecow_c.specs.Answers.{AltersList, is_one_of, are_both, numbers_at, order_of, hash_of};
 
-mod place;
+mod pointer;
 
 use crate::status::{CAPACITY, INDEX, MEMORY, NULL, OK, order, refusal};
 use ecow_base::MAX_LEN;
-use ecow_list::EcoVec;
-use place::ListPlace;
+use ecow_vec::EcoVec;
+use pointer::ListPointer;
 use std::alloc::Global;
 use std::hash::{DefaultHasher, Hash, Hasher};
 use std::ptr::from_ref;
@@ -20,14 +20,14 @@ use std::ptr::from_ref;
 #[unsafe(no_mangle)]
 pub extern "C" fn ecow_proved_list_assign(
     alloc: Global,
-    place: &mut ListPlace,
+    pointer: &mut ListPointer,
     numbers: &[i64],
 ) -> u32
-    ensures list { AltersList (λ _. numbers.now) place.old.value result place.new.value }
+    ensures list { AltersList (λ _. numbers.now) pointer.old.value result pointer.new.value }
     ensures codes { is_one_of (OK ∷ MEMORY ∷ CAPACITY ∷ NULL ∷ []) result ≡ true }
     ensures capacity { result ≡ CAPACITY → MAX_LEN < length numbers.now }
 {
-    let Some(list) = place.list() else {
+    let Some(list) = pointer.list() else {
         return NULL;
     };
     match EcoVec::from_copied(alloc, numbers) {
@@ -41,7 +41,7 @@ pub extern "C" fn ecow_proved_list_assign(
 
 /// Puts a clone of the list at `from`, which shares its block, in place of the list at `to`.
 #[unsafe(no_mangle)]
-pub extern "C" fn ecow_proved_list_clone(from: &mut ListPlace, to: &mut ListPlace) -> u32
+pub extern "C" fn ecow_proved_list_clone(from: &mut ListPointer, to: &mut ListPointer) -> u32
     ensures ok { result ≡ OK → to.new.value ≡ from.old.value }
     ensures source { from.new.value ≡ from.old.value }
     ensures refused { result ≢ OK → to.new.value ≡ to.old.value }
@@ -66,11 +66,11 @@ pub extern "C" fn ecow_proved_list_clone(from: &mut ListPlace, to: &mut ListPlac
 
 /// Gives the list up: an empty one stands in its place.
 #[unsafe(no_mangle)]
-pub extern "C" fn ecow_proved_list_drop(alloc: Global, place: &mut ListPlace) -> u32
-    ensures list { AltersList (λ _. []) place.old.value result place.new.value }
+pub extern "C" fn ecow_proved_list_drop(alloc: Global, pointer: &mut ListPointer) -> u32
+    ensures list { AltersList (λ _. []) pointer.old.value result pointer.new.value }
     ensures codes { is_one_of (OK ∷ NULL ∷ []) result ≡ true }
 {
-    let Some(list) = place.list() else {
+    let Some(list) = pointer.list() else {
         return NULL;
     };
     *list = EcoVec::new(alloc);
@@ -79,11 +79,11 @@ pub extern "C" fn ecow_proved_list_drop(alloc: Global, place: &mut ListPlace) ->
 
 /// The number of numbers; 0 at a null pointer.
 #[unsafe(no_mangle)]
-pub extern "C" fn ecow_proved_list_len(place: &mut ListPlace) -> usize
-    ensures len { result ≡ length (numbers_at place.old.value) }
-    ensures unchanged { place.new.value ≡ place.old.value }
+pub extern "C" fn ecow_proved_list_len(pointer: &mut ListPointer) -> usize
+    ensures len { result ≡ length (numbers_at pointer.old.value) }
+    ensures unchanged { pointer.new.value ≡ pointer.old.value }
 {
-    match place.list() {
+    match pointer.list() {
         Some(list) => list.len(),
         None => 0,
     }
@@ -91,15 +91,15 @@ pub extern "C" fn ecow_proved_list_len(place: &mut ListPlace) -> usize
 
 /// Writes the number at `index` to `out`.
 #[unsafe(no_mangle)]
-pub extern "C" fn ecow_proved_list_get(place: &mut ListPlace, index: usize, out: &mut i64) -> u32
-    ensures ok { result ≡ OK → IfSome place.old.value (λ xs. slice_get xs index ≡ Some out.new) }
+pub extern "C" fn ecow_proved_list_get(pointer: &mut ListPointer, index: usize, out: &mut i64) -> u32
+    ensures ok { result ≡ OK → IfSome pointer.old.value (λ xs. slice_get xs index ≡ Some out.new) }
     ensures refused { result ≢ OK → out.new ≡ out.old }
-    ensures index { result ≡ INDEX ↔ IsSomeAnd place.old.value (λ xs. length xs ≤ index) }
-    ensures null { result ≡ NULL ↔ place.old.value ≡ None }
+    ensures index { result ≡ INDEX ↔ IsSomeAnd pointer.old.value (λ xs. length xs ≤ index) }
+    ensures null { result ≡ NULL ↔ pointer.old.value ≡ None }
     ensures codes { is_one_of (OK ∷ INDEX ∷ NULL ∷ []) result ≡ true }
-    ensures unchanged { place.new.value ≡ place.old.value }
+    ensures unchanged { pointer.new.value ≡ pointer.old.value }
 {
-    let Some(list) = place.list() else {
+    let Some(list) = pointer.list() else {
         return NULL;
     };
     match list.as_slice().get(index) {
@@ -113,13 +113,13 @@ pub extern "C" fn ecow_proved_list_get(place: &mut ListPlace, index: usize, out:
 
 /// Appends a number.
 #[unsafe(no_mangle)]
-pub extern "C" fn ecow_proved_list_push(place: &mut ListPlace, number: i64) -> u32
-    ensures list { AltersList (λ xs. xs ++ number ∷ []) place.old.value result place.new.value }
+pub extern "C" fn ecow_proved_list_push(pointer: &mut ListPointer, number: i64) -> u32
+    ensures list { AltersList (λ xs. xs ++ number ∷ []) pointer.old.value result pointer.new.value }
     ensures codes { is_one_of (OK ∷ MEMORY ∷ CAPACITY ∷ NULL ∷ []) result ≡ true }
     ensures capacity { result ≡ CAPACITY
-        ↔ IsSomeAnd place.old.value (λ xs. MAX_LEN ≤ length xs) }
+        ↔ IsSomeAnd pointer.old.value (λ xs. MAX_LEN ≤ length xs) }
 {
-    let Some(list) = place.list() else {
+    let Some(list) = pointer.list() else {
         return NULL;
     };
     match list.push(number) {
@@ -130,16 +130,16 @@ pub extern "C" fn ecow_proved_list_push(place: &mut ListPlace, number: i64) -> u
 
 /// Takes the last number out and writes it to `out`; `INDEX` where there is none.
 #[unsafe(no_mangle)]
-pub extern "C" fn ecow_proved_list_pop(place: &mut ListPlace, out: &mut i64) -> u32
+pub extern "C" fn ecow_proved_list_pop(pointer: &mut ListPointer, out: &mut i64) -> u32
     ensures list { AltersList (λ xs. take (length xs - 1) xs)
-        place.old.value result place.new.value }
+        pointer.old.value result pointer.new.value }
     ensures value { result ≡ OK
-        → IfSome place.old.value (λ xs. slice_get xs (length xs - 1) ≡ Some out.new) }
+        → IfSome pointer.old.value (λ xs. slice_get xs (length xs - 1) ≡ Some out.new) }
     ensures out { result ≢ OK → out.new ≡ out.old }
-    ensures index { result ≡ INDEX ↔ place.old.value ≡ Some [] }
+    ensures index { result ≡ INDEX ↔ pointer.old.value ≡ Some [] }
     ensures codes { is_one_of (OK ∷ MEMORY ∷ INDEX ∷ NULL ∷ []) result ≡ true }
 {
-    let Some(list) = place.list() else {
+    let Some(list) = pointer.list() else {
         return NULL;
     };
     match list.pop() {
@@ -154,13 +154,13 @@ pub extern "C" fn ecow_proved_list_pop(place: &mut ListPlace, out: &mut i64) -> 
 
 /// Puts `number` in place of the number at `index`.
 #[unsafe(no_mangle)]
-pub extern "C" fn ecow_proved_list_set(place: &mut ListPlace, index: usize, number: i64) -> u32
+pub extern "C" fn ecow_proved_list_set(pointer: &mut ListPointer, index: usize, number: i64) -> u32
     ensures list { AltersList (λ xs. slice_set xs index number)
-        place.old.value result place.new.value }
-    ensures index { result ≡ INDEX ↔ IsSomeAnd place.old.value (λ xs. length xs ≤ index) }
+        pointer.old.value result pointer.new.value }
+    ensures index { result ≡ INDEX ↔ IsSomeAnd pointer.old.value (λ xs. length xs ≤ index) }
     ensures codes { is_one_of (OK ∷ MEMORY ∷ INDEX ∷ NULL ∷ []) result ≡ true }
 {
-    let Some(list) = place.list() else {
+    let Some(list) = pointer.list() else {
         return NULL;
     };
     if index >= list.len() {
@@ -174,14 +174,14 @@ pub extern "C" fn ecow_proved_list_set(place: &mut ListPlace, index: usize, numb
 
 /// Puts `number` in at `index`, before the number that stands there.
 #[unsafe(no_mangle)]
-pub extern "C" fn ecow_proved_list_insert(place: &mut ListPlace, index: usize, number: i64) -> u32
+pub extern "C" fn ecow_proved_list_insert(pointer: &mut ListPointer, index: usize, number: i64) -> u32
     ensures list { AltersList (λ xs. insert xs index number)
-        place.old.value result place.new.value }
-    ensures index { result ≡ INDEX ↔ IsSomeAnd place.old.value (λ xs. length xs < index) }
+        pointer.old.value result pointer.new.value }
+    ensures index { result ≡ INDEX ↔ IsSomeAnd pointer.old.value (λ xs. length xs < index) }
     ensures codes { is_one_of (OK ∷ MEMORY ∷ CAPACITY ∷ INDEX ∷ NULL ∷ []) result ≡ true }
-    ensures capacity { result ≡ CAPACITY → IsSomeAnd place.old.value (λ xs. MAX_LEN ≤ length xs) }
+    ensures capacity { result ≡ CAPACITY → IsSomeAnd pointer.old.value (λ xs. MAX_LEN ≤ length xs) }
 {
-    let Some(list) = place.list() else {
+    let Some(list) = pointer.list() else {
         return NULL;
     };
     if index > list.len() {
@@ -195,14 +195,18 @@ pub extern "C" fn ecow_proved_list_insert(place: &mut ListPlace, index: usize, n
 
 /// Takes the number at `index` out and writes it to `out`.
 #[unsafe(no_mangle)]
-pub extern "C" fn ecow_proved_list_remove(place: &mut ListPlace, index: usize, out: &mut i64) -> u32
-    ensures list { AltersList (λ xs. remove xs index) place.old.value result place.new.value }
-    ensures value { result ≡ OK → IfSome place.old.value (λ xs. slice_get xs index ≡ Some out.new) }
+pub extern "C" fn ecow_proved_list_remove(
+    pointer: &mut ListPointer,
+    index: usize,
+    out: &mut i64,
+) -> u32
+    ensures list { AltersList (λ xs. remove xs index) pointer.old.value result pointer.new.value }
+    ensures value { result ≡ OK → IfSome pointer.old.value (λ xs. slice_get xs index ≡ Some out.new) }
     ensures out { result ≢ OK → out.new ≡ out.old }
-    ensures index { result ≡ INDEX ↔ IsSomeAnd place.old.value (λ xs. length xs ≤ index) }
+    ensures index { result ≡ INDEX ↔ IsSomeAnd pointer.old.value (λ xs. length xs ≤ index) }
     ensures codes { is_one_of (OK ∷ MEMORY ∷ INDEX ∷ NULL ∷ []) result ≡ true }
 {
-    let Some(list) = place.list() else {
+    let Some(list) = pointer.list() else {
         return NULL;
     };
     if index >= list.len() {
@@ -219,11 +223,11 @@ pub extern "C" fn ecow_proved_list_remove(place: &mut ListPlace, index: usize, o
 
 /// Keeps the first `len` numbers, or all where there are fewer.
 #[unsafe(no_mangle)]
-pub extern "C" fn ecow_proved_list_truncate(place: &mut ListPlace, len: usize) -> u32
-    ensures list { AltersList (λ xs. take len xs) place.old.value result place.new.value }
+pub extern "C" fn ecow_proved_list_truncate(pointer: &mut ListPointer, len: usize) -> u32
+    ensures list { AltersList (λ xs. take len xs) pointer.old.value result pointer.new.value }
     ensures codes { is_one_of (OK ∷ MEMORY ∷ NULL ∷ []) result ≡ true }
 {
-    let Some(list) = place.list() else {
+    let Some(list) = pointer.list() else {
         return NULL;
     };
     match list.truncate(len) {
@@ -234,11 +238,11 @@ pub extern "C" fn ecow_proved_list_truncate(place: &mut ListPlace, len: usize) -
 
 /// Keeps no number. A block that no other list shares stays, with its room.
 #[unsafe(no_mangle)]
-pub extern "C" fn ecow_proved_list_clear(place: &mut ListPlace) -> u32
-    ensures list { AltersList (λ _. []) place.old.value result place.new.value }
+pub extern "C" fn ecow_proved_list_clear(pointer: &mut ListPointer) -> u32
+    ensures list { AltersList (λ _. []) pointer.old.value result pointer.new.value }
     ensures codes { is_one_of (OK ∷ NULL ∷ []) result ≡ true }
 {
-    let Some(list) = place.list() else {
+    let Some(list) = pointer.list() else {
         return NULL;
     };
     list.clear();
@@ -247,13 +251,13 @@ pub extern "C" fn ecow_proved_list_clear(place: &mut ListPlace) -> u32
 
 /// Asks for room for `additional` more numbers.
 #[unsafe(no_mangle)]
-pub extern "C" fn ecow_proved_list_reserve(place: &mut ListPlace, additional: usize) -> u32
-    ensures list { AltersList (λ xs. xs) place.old.value result place.new.value }
+pub extern "C" fn ecow_proved_list_reserve(pointer: &mut ListPointer, additional: usize) -> u32
+    ensures list { AltersList (λ xs. xs) pointer.old.value result pointer.new.value }
     ensures codes { is_one_of (OK ∷ MEMORY ∷ CAPACITY ∷ NULL ∷ []) result ≡ true }
     ensures capacity { result ≡ CAPACITY
-        ↔ IsSomeAnd place.old.value (λ xs. MAX_LEN < length xs + additional) }
+        ↔ IsSomeAnd pointer.old.value (λ xs. MAX_LEN < length xs + additional) }
 {
-    let Some(list) = place.list() else {
+    let Some(list) = pointer.list() else {
         return NULL;
     };
     match list.reserve(additional) {
@@ -264,13 +268,13 @@ pub extern "C" fn ecow_proved_list_reserve(place: &mut ListPlace, additional: us
 
 /// Appends copies of `numbers`: all, or none where it is refused.
 #[unsafe(no_mangle)]
-pub extern "C" fn ecow_proved_list_extend(place: &mut ListPlace, numbers: &[i64]) -> u32
-    ensures list { AltersList (λ xs. xs ++ numbers.now) place.old.value result place.new.value }
+pub extern "C" fn ecow_proved_list_extend(pointer: &mut ListPointer, numbers: &[i64]) -> u32
+    ensures list { AltersList (λ xs. xs ++ numbers.now) pointer.old.value result pointer.new.value }
     ensures codes { is_one_of (OK ∷ MEMORY ∷ CAPACITY ∷ NULL ∷ []) result ≡ true }
     ensures capacity { result ≡ CAPACITY
-        ↔ IsSomeAnd place.old.value (λ xs. MAX_LEN < length xs + length numbers.now) }
+        ↔ IsSomeAnd pointer.old.value (λ xs. MAX_LEN < length xs + length numbers.now) }
 {
-    let Some(list) = place.list() else {
+    let Some(list) = pointer.list() else {
         return NULL;
     };
     match list.extend_from_copied(numbers) {
@@ -282,21 +286,21 @@ pub extern "C" fn ecow_proved_list_extend(place: &mut ListPlace, numbers: &[i64]
 /// Puts copies of `numbers` in place of the numbers from `start` up to `end`.
 #[unsafe(no_mangle)]
 pub extern "C" fn ecow_proved_list_splice(
-    place: &mut ListPlace,
+    pointer: &mut ListPointer,
     start: usize,
     end: usize,
     numbers: &[i64],
 ) -> u32
     ensures list { AltersList (λ xs. replace_range xs start end numbers.now)
-        place.old.value result place.new.value }
+        pointer.old.value result pointer.new.value }
     ensures index { result ≡ INDEX
-        ↔ IsSomeAnd place.old.value (λ xs. nat_lt end start || nat_lt (length xs) end ≡ true) }
+        ↔ IsSomeAnd pointer.old.value (λ xs. nat_lt end start || nat_lt (length xs) end ≡ true) }
     ensures codes { is_one_of (OK ∷ MEMORY ∷ CAPACITY ∷ INDEX ∷ NULL ∷ []) result ≡ true }
-    ensures capacity { result ≡ CAPACITY ↔ IsSomeAnd place.old.value
+    ensures capacity { result ≡ CAPACITY ↔ IsSomeAnd pointer.old.value
         (λ xs. (start ≤ end) × (end ≤ length xs)
         × (MAX_LEN < length xs - (end - start) + length numbers.now)) }
 {
-    let Some(list) = place.list() else {
+    let Some(list) = pointer.list() else {
         return NULL;
     };
     if start > end || end > list.len() {
@@ -310,11 +314,11 @@ pub extern "C" fn ecow_proved_list_splice(
 
 /// How many numbers there is room for, never fewer than there are; 0 at a null pointer.
 #[unsafe(no_mangle)]
-pub extern "C" fn ecow_proved_list_capacity(place: &mut ListPlace) -> usize
-    ensures room { length (numbers_at place.old.value) ≤ result }
-    ensures unchanged { place.new.value ≡ place.old.value }
+pub extern "C" fn ecow_proved_list_capacity(pointer: &mut ListPointer) -> usize
+    ensures room { length (numbers_at pointer.old.value) ≤ result }
+    ensures unchanged { pointer.new.value ≡ pointer.old.value }
 {
-    match place.list() {
+    match pointer.list() {
         Some(list) => list.capacity(),
         None => 0,
     }
@@ -322,11 +326,11 @@ pub extern "C" fn ecow_proved_list_capacity(place: &mut ListPlace) -> usize
 
 /// Gives up room that isn't used, unless another list shares the block.
 #[unsafe(no_mangle)]
-pub extern "C" fn ecow_proved_list_shrink_to_fit(alloc: Global, place: &mut ListPlace) -> u32
-    ensures list { AltersList (λ xs. xs) place.old.value result place.new.value }
+pub extern "C" fn ecow_proved_list_shrink_to_fit(alloc: Global, pointer: &mut ListPointer) -> u32
+    ensures list { AltersList (λ xs. xs) pointer.old.value result pointer.new.value }
     ensures codes { is_one_of (OK ∷ MEMORY ∷ NULL ∷ []) result ≡ true }
 {
-    let Some(list) = place.list() else {
+    let Some(list) = pointer.list() else {
         return NULL;
     };
     if list.capacity() == list.len() || !list.is_unique() {
@@ -346,7 +350,7 @@ pub extern "C" fn ecow_proved_list_shrink_to_fit(alloc: Global, place: &mut List
 
 /// Whether two lists hold the same numbers.
 #[unsafe(no_mangle)]
-pub extern "C" fn ecow_proved_list_equal(left: &mut ListPlace, right: &mut ListPlace) -> bool
+pub extern "C" fn ecow_proved_list_equal(left: &mut ListPointer, right: &mut ListPointer) -> bool
     ensures equal { result
         ≡ are_both (pointwise int_eq) left.old.value right.old.value }
     ensures unchanged { (left.new.value ≡ left.old.value) × (right.new.value ≡ right.old.value) }
@@ -362,7 +366,7 @@ pub extern "C" fn ecow_proved_list_equal(left: &mut ListPlace, right: &mut ListP
 
 /// How two lists compare: below 0 where the left one comes first, 0 where they are equal.
 #[unsafe(no_mangle)]
-pub extern "C" fn ecow_proved_list_compare(left: &mut ListPlace, right: &mut ListPlace) -> i32
+pub extern "C" fn ecow_proved_list_compare(left: &mut ListPointer, right: &mut ListPointer) -> i32
     ensures order { result ≡ order_of (slice_cmp int_cmp) left.old.value right.old.value }
     ensures unchanged { (left.new.value ≡ left.old.value) × (right.new.value ≡ right.old.value) }
 {
@@ -377,12 +381,12 @@ pub extern "C" fn ecow_proved_list_compare(left: &mut ListPlace, right: &mut Lis
 
 /// The hash of the numbers, by std's hasher. Equal lists have the same.
 #[unsafe(no_mangle)]
-pub extern "C" fn ecow_proved_list_hash(alloc: Global, place: &mut ListPlace) -> u64
-    ensures hash { result ≡ hash_of (fed.slice fed.i64 (numbers_at place.old.value)) }
-    ensures unchanged { place.new.value ≡ place.old.value }
+pub extern "C" fn ecow_proved_list_hash(alloc: Global, pointer: &mut ListPointer) -> u64
+    ensures hash { result ≡ hash_of (fed.slice fed.i64 (numbers_at pointer.old.value)) }
+    ensures unchanged { pointer.new.value ≡ pointer.old.value }
 {
     let mut hasher = DefaultHasher::new();
-    match place.list() {
+    match pointer.list() {
         Some(list) => list.hash(&mut hasher),
         None => EcoVec::<i64>::new(alloc).hash(&mut hasher),
     }
@@ -393,14 +397,14 @@ pub extern "C" fn ecow_proved_list_hash(alloc: Global, place: &mut ListPlace) ->
 /// `len`.
 #[unsafe(no_mangle)]
 pub extern "C" fn ecow_proved_list_slice(
-    place: &mut ListPlace,
+    pointer: &mut ListPointer,
     start: &mut *const i64,
     len: &mut usize,
 )
-    ensures len { len.new ≡ length (numbers_at place.old.value) }
-    ensures unchanged { place.new.value ≡ place.old.value }
+    ensures len { len.new ≡ length (numbers_at pointer.old.value) }
+    ensures unchanged { pointer.new.value ≡ pointer.old.value }
 {
-    let Some(list) = place.list() else {
+    let Some(list) = pointer.list() else {
         *len = 0;
         return;
     };

@@ -2,8 +2,8 @@
 ghost use Rattle.std.specs.Prelude.{◌≡◌, MatchResult};
 ghost use Rattle.ecow_c.specs.Answers.{sign_of};
 
-use ecow_list::EcoError;
 use ecow_nested::Refusal;
+use ecow_vec::EcoError;
 use std::cmp::Ordering;
 
 /// The call did what it says.

@@ -14,13 +14,13 @@ ghost use Rattle.ecow_values.specs.Utf8.{utf8_len, is_boundary, chars_before};
 ghost use Rattle.ecow_c.specs.Answers.{Alters, AltersText, is_one_of, are_both, chars_at, order_of, hash_of};
 ghost use Rattle.ecow_c.specs.Indices.{index_status, range_status, Heeds};
 
-mod place;
+mod pointer;
 
 use crate::status::{BOUNDARY, CAPACITY, INDEX, MEMORY, NULL, OK, UTF8, order, refusal};
 use ecow_base::MAX_LEN;
-use ecow_list::EcoError;
-use ecow_text::EcoString;
-pub(crate) use place::TextPlace;
+use ecow_string::EcoString;
+use ecow_vec::EcoError;
+pub(crate) use pointer::TextPointer;
 use std::alloc::Global;
 use std::hash::{DefaultHasher, Hash, Hasher};
 use std::ptr::from_ref;
@@ -59,13 +59,17 @@ pub extern "C" fn ecow_proved_is_utf8(bytes: &[u8]) -> bool
 
 /// Puts a copy of the text that `added` spells in place of the text.
 #[unsafe(no_mangle)]
-pub extern "C" fn ecow_proved_text_assign(alloc: Global, place: &mut TextPlace, added: &[u8]) -> u32
-    ensures text { AltersText (λ _. chars added.now) place.old.value result place.new.value }
+pub extern "C" fn ecow_proved_text_assign(
+    alloc: Global,
+    pointer: &mut TextPointer,
+    added: &[u8],
+) -> u32
+    ensures text { AltersText (λ _. chars added.now) pointer.old.value result pointer.new.value }
     ensures codes { is_one_of (OK ∷ MEMORY ∷ CAPACITY ∷ UTF8 ∷ NULL ∷ []) result ≡ true }
-    ensures utf8 { result ≡ UTF8 ↔ IsSomeAnd place.old.value (λ _. is_utf8 added.now ≡ false) }
+    ensures utf8 { result ≡ UTF8 ↔ IsSomeAnd pointer.old.value (λ _. is_utf8 added.now ≡ false) }
     ensures capacity { result ≡ CAPACITY → MAX_LEN < length added.now }
 {
-    let Some(text) = place.text() else {
+    let Some(text) = pointer.text() else {
         return NULL;
     };
     let Some(added) = spelled(added) else {
@@ -82,7 +86,7 @@ pub extern "C" fn ecow_proved_text_assign(alloc: Global, place: &mut TextPlace, 
 
 /// Puts a clone of the text at `from`, which shares its block, in place of the text at `to`.
 #[unsafe(no_mangle)]
-pub extern "C" fn ecow_proved_text_clone(from: &mut TextPlace, to: &mut TextPlace) -> u32
+pub extern "C" fn ecow_proved_text_clone(from: &mut TextPointer, to: &mut TextPointer) -> u32
     ensures ok { result ≡ OK → to.new.value ≡ from.old.value }
     ensures source { from.new.value ≡ from.old.value }
     ensures refused { result ≢ OK → to.new.value ≡ to.old.value }
@@ -107,11 +111,11 @@ pub extern "C" fn ecow_proved_text_clone(from: &mut TextPlace, to: &mut TextPlac
 
 /// Gives the text up: an empty one stands in its place.
 #[unsafe(no_mangle)]
-pub extern "C" fn ecow_proved_text_drop(alloc: Global, place: &mut TextPlace) -> u32
-    ensures text { AltersText (λ _. []) place.old.value result place.new.value }
+pub extern "C" fn ecow_proved_text_drop(alloc: Global, pointer: &mut TextPointer) -> u32
+    ensures text { AltersText (λ _. []) pointer.old.value result pointer.new.value }
     ensures codes { is_one_of (OK ∷ NULL ∷ []) result ≡ true }
 {
-    let Some(text) = place.text() else {
+    let Some(text) = pointer.text() else {
         return NULL;
     };
     *text = EcoString::new(alloc);
@@ -120,11 +124,11 @@ pub extern "C" fn ecow_proved_text_drop(alloc: Global, place: &mut TextPlace) ->
 
 /// The number of bytes; 0 at a null pointer.
 #[unsafe(no_mangle)]
-pub extern "C" fn ecow_proved_text_len(place: &mut TextPlace) -> usize
-    ensures len { result ≡ utf8_len (chars_at place.old.value) }
-    ensures unchanged { place.new.value ≡ place.old.value }
+pub extern "C" fn ecow_proved_text_len(pointer: &mut TextPointer) -> usize
+    ensures len { result ≡ utf8_len (chars_at pointer.old.value) }
+    ensures unchanged { pointer.new.value ≡ pointer.old.value }
 {
-    match place.text() {
+    match pointer.text() {
         Some(text) => text.len(),
         None => 0,
     }
@@ -133,14 +137,14 @@ pub extern "C" fn ecow_proved_text_len(place: &mut TextPlace) -> usize
 /// Writes where the bytes begin to `start`, unless there is none, and how many there are to `len`.
 #[unsafe(no_mangle)]
 pub extern "C" fn ecow_proved_text_slice(
-    place: &mut TextPlace,
+    pointer: &mut TextPointer,
     start: &mut *const u8,
     len: &mut usize,
 )
-    ensures len { len.new ≡ utf8_len (chars_at place.old.value) }
-    ensures unchanged { place.new.value ≡ place.old.value }
+    ensures len { len.new ≡ utf8_len (chars_at pointer.old.value) }
+    ensures unchanged { pointer.new.value ≡ pointer.old.value }
 {
-    let Some(text) = place.text() else {
+    let Some(text) = pointer.text() else {
         *len = 0;
         return;
     };
@@ -152,12 +156,12 @@ pub extern "C" fn ecow_proved_text_slice(
 
 /// Whether a character begins at `index` or the text ends there; not so at a null pointer.
 #[unsafe(no_mangle)]
-pub extern "C" fn ecow_proved_text_is_boundary(place: &mut TextPlace, index: usize) -> bool
+pub extern "C" fn ecow_proved_text_is_boundary(pointer: &mut TextPointer, index: usize) -> bool
     ensures boundary { result
-        ≡ option_map_or (λ text. is_boundary text.chars index) place.old.value false }
-    ensures unchanged { place.new.value ≡ place.old.value }
+        ≡ option_map_or (λ text. is_boundary text.chars index) pointer.old.value false }
+    ensures unchanged { pointer.new.value ≡ pointer.old.value }
 {
-    match place.text() {
+    match pointer.text() {
         Some(text) => text.is_char_boundary(index),
         None => false,
     }
@@ -165,19 +169,19 @@ pub extern "C" fn ecow_proved_text_is_boundary(place: &mut TextPlace, index: usi
 
 /// Writes the number of the character that begins at `index` to `out`; `INDEX` at the end.
 #[unsafe(no_mangle)]
-pub extern "C" fn ecow_proved_text_get(place: &mut TextPlace, index: usize, out: &mut u32) -> u32
-    ensures ok { result ≡ OK → IfSome place.old.value
+pub extern "C" fn ecow_proved_text_get(pointer: &mut TextPointer, index: usize, out: &mut u32) -> u32
+    ensures ok { result ≡ OK → IfSome pointer.old.value
         (λ text. slice_get text.chars (chars_before text.chars index) ≡ Some out.new) }
     ensures refused { result ≢ OK → out.new ≡ out.old }
     ensures index { result ≡ INDEX
-        ↔ IsSomeAnd place.old.value (λ text. utf8_len text.chars ≤ index) }
-    ensures boundary { result ≡ BOUNDARY ↔ IsSomeAnd place.old.value
+        ↔ IsSomeAnd pointer.old.value (λ text. utf8_len text.chars ≤ index) }
+    ensures boundary { result ≡ BOUNDARY ↔ IsSomeAnd pointer.old.value
         (λ text. (index < utf8_len text.chars) × (is_boundary text.chars index ≡ false)) }
-    ensures null { result ≡ NULL ↔ place.old.value ≡ None }
+    ensures null { result ≡ NULL ↔ pointer.old.value ≡ None }
     ensures codes { is_one_of (OK ∷ INDEX ∷ BOUNDARY ∷ NULL ∷ []) result ≡ true }
-    ensures unchanged { place.new.value ≡ place.old.value }
+    ensures unchanged { pointer.new.value ≡ pointer.old.value }
 {
-    let Some(text) = place.text() else {
+    let Some(text) = pointer.text() else {
         return NULL;
     };
     if index >= text.len() {
@@ -201,15 +205,15 @@ fn char_at(text: &EcoString, index: usize) -> char
 
 /// Appends a character, given by its number.
 #[unsafe(no_mangle)]
-pub extern "C" fn ecow_proved_text_push(place: &mut TextPlace, character: u32) -> u32
-    ensures text { AltersText (λ cs. cs ++ character ∷ []) place.old.value result place.new.value }
+pub extern "C" fn ecow_proved_text_push(pointer: &mut TextPointer, character: u32) -> u32
+    ensures text { AltersText (λ cs. cs ++ character ∷ []) pointer.old.value result pointer.new.value }
     ensures codes { is_one_of (OK ∷ MEMORY ∷ CAPACITY ∷ UTF8 ∷ NULL ∷ []) result ≡ true }
     ensures utf8 { IsScalar character → result ≢ UTF8 }
     ensures valid { result ≡ OK → IsScalar character }
-    ensures capacity { result ≡ CAPACITY → IsSomeAnd place.old.value
+    ensures capacity { result ≡ CAPACITY → IsSomeAnd pointer.old.value
         (λ text. MAX_LEN < utf8_len text.chars + len_utf8 character) }
 {
-    let Some(text) = place.text() else {
+    let Some(text) = pointer.text() else {
         return NULL;
     };
     let Some(c) = char::from_u32(character) else {
@@ -223,17 +227,17 @@ pub extern "C" fn ecow_proved_text_push(place: &mut TextPlace, character: u32) -
 
 /// Takes the last character out and writes its number to `out`; `INDEX` where there is none.
 #[unsafe(no_mangle)]
-pub extern "C" fn ecow_proved_text_pop(place: &mut TextPlace, out: &mut u32) -> u32
+pub extern "C" fn ecow_proved_text_pop(pointer: &mut TextPointer, out: &mut u32) -> u32
     ensures text { AltersText (λ cs. take (length cs - 1) cs)
-        place.old.value result place.new.value }
-    ensures value { result ≡ OK → IfSome place.old.value
+        pointer.old.value result pointer.new.value }
+    ensures value { result ≡ OK → IfSome pointer.old.value
         (λ text. slice_get text.chars (length text.chars - 1) ≡ Some out.new) }
     ensures out { result ≢ OK → out.new ≡ out.old }
     ensures index { result ≡ INDEX
-        ↔ IsSomeAnd place.old.value (λ text. text.chars ≡ []) }
+        ↔ IsSomeAnd pointer.old.value (λ text. text.chars ≡ []) }
     ensures codes { is_one_of (OK ∷ MEMORY ∷ INDEX ∷ NULL ∷ []) result ≡ true }
 {
-    let Some(text) = place.text() else {
+    let Some(text) = pointer.text() else {
         return NULL;
     };
     match text.pop() {
@@ -248,18 +252,22 @@ pub extern "C" fn ecow_proved_text_pop(place: &mut TextPlace, out: &mut u32) -> 
 
 /// Puts the text that `added` spells in at `index`: all, or nothing where it is refused.
 #[unsafe(no_mangle)]
-pub extern "C" fn ecow_proved_text_insert(place: &mut TextPlace, index: usize, added: &[u8]) -> u32
+pub extern "C" fn ecow_proved_text_insert(
+    pointer: &mut TextPointer,
+    index: usize,
+    added: &[u8],
+) -> u32
     ensures text { AltersText (λ cs. insert_slice cs (chars_before cs index) (chars added.now))
-        place.old.value result place.new.value }
-    ensures utf8 { result ≡ UTF8 ↔ IsSomeAnd place.old.value (λ _. is_utf8 added.now ≡ false) }
-    ensures index { IfSome place.old.value
+        pointer.old.value result pointer.new.value }
+    ensures utf8 { result ≡ UTF8 ↔ IsSomeAnd pointer.old.value (λ _. is_utf8 added.now ≡ false) }
+    ensures index { IfSome pointer.old.value
         (λ text. is_utf8 added.now ≡ true → Heeds (index_status text.chars index) result) }
     ensures codes { is_one_of (OK ∷ MEMORY ∷ CAPACITY ∷ INDEX ∷ BOUNDARY ∷ UTF8 ∷ NULL ∷ []) result
         ≡ true }
-    ensures capacity { result ≡ CAPACITY → IsSomeAnd place.old.value
+    ensures capacity { result ≡ CAPACITY → IsSomeAnd pointer.old.value
         (λ text. MAX_LEN < utf8_len text.chars + length added.now) }
 {
-    let Some(text) = place.text() else {
+    let Some(text) = pointer.text() else {
         return NULL;
     };
     let Some(added) = spelled(added) else {
@@ -278,19 +286,23 @@ pub extern "C" fn ecow_proved_text_insert(place: &mut TextPlace, index: usize, a
 /// Takes the character that begins at `index` out and writes its number to `out`; `INDEX` at the
 /// end.
 #[unsafe(no_mangle)]
-pub extern "C" fn ecow_proved_text_remove(place: &mut TextPlace, index: usize, out: &mut u32) -> u32
+pub extern "C" fn ecow_proved_text_remove(
+    pointer: &mut TextPointer,
+    index: usize,
+    out: &mut u32,
+) -> u32
     ensures text { AltersText (λ cs. remove cs (chars_before cs index))
-        place.old.value result place.new.value }
-    ensures value { result ≡ OK → IfSome place.old.value
+        pointer.old.value result pointer.new.value }
+    ensures value { result ≡ OK → IfSome pointer.old.value
         (λ text. slice_get text.chars (chars_before text.chars index) ≡ Some out.new) }
     ensures out { result ≢ OK → out.new ≡ out.old }
     ensures index { result ≡ INDEX
-        ↔ IsSomeAnd place.old.value (λ text. utf8_len text.chars ≤ index) }
-    ensures boundary { result ≡ BOUNDARY ↔ IsSomeAnd place.old.value
+        ↔ IsSomeAnd pointer.old.value (λ text. utf8_len text.chars ≤ index) }
+    ensures boundary { result ≡ BOUNDARY ↔ IsSomeAnd pointer.old.value
         (λ text. (index < utf8_len text.chars) × (is_boundary text.chars index ≡ false)) }
     ensures codes { is_one_of (OK ∷ MEMORY ∷ INDEX ∷ BOUNDARY ∷ NULL ∷ []) result ≡ true }
 {
-    let Some(text) = place.text() else {
+    let Some(text) = pointer.text() else {
         return NULL;
     };
     if index >= text.len() {
@@ -310,14 +322,14 @@ pub extern "C" fn ecow_proved_text_remove(place: &mut TextPlace, index: usize, o
 
 /// Keeps the first `len` bytes, or all where there are fewer.
 #[unsafe(no_mangle)]
-pub extern "C" fn ecow_proved_text_truncate(place: &mut TextPlace, len: usize) -> u32
+pub extern "C" fn ecow_proved_text_truncate(pointer: &mut TextPointer, len: usize) -> u32
     ensures text { AltersText (λ cs. take (chars_before cs len) cs)
-        place.old.value result place.new.value }
-    ensures boundary { result ≡ BOUNDARY ↔ IsSomeAnd place.old.value
+        pointer.old.value result pointer.new.value }
+    ensures boundary { result ≡ BOUNDARY ↔ IsSomeAnd pointer.old.value
         (λ text. (len ≤ utf8_len text.chars) × (is_boundary text.chars len ≡ false)) }
     ensures codes { is_one_of (OK ∷ MEMORY ∷ BOUNDARY ∷ NULL ∷ []) result ≡ true }
 {
-    let Some(text) = place.text() else {
+    let Some(text) = pointer.text() else {
         return NULL;
     };
     if len <= text.len() && !text.is_char_boundary(len) {
@@ -331,11 +343,11 @@ pub extern "C" fn ecow_proved_text_truncate(place: &mut TextPlace, len: usize) -
 
 /// Keeps no character. A block that no other text shares stays, with its room.
 #[unsafe(no_mangle)]
-pub extern "C" fn ecow_proved_text_clear(place: &mut TextPlace) -> u32
-    ensures text { AltersText (λ _. []) place.old.value result place.new.value }
+pub extern "C" fn ecow_proved_text_clear(pointer: &mut TextPointer) -> u32
+    ensures text { AltersText (λ _. []) pointer.old.value result pointer.new.value }
     ensures codes { is_one_of (OK ∷ NULL ∷ []) result ≡ true }
 {
-    let Some(text) = place.text() else {
+    let Some(text) = pointer.text() else {
         return NULL;
     };
     text.clear();
@@ -344,13 +356,13 @@ pub extern "C" fn ecow_proved_text_clear(place: &mut TextPlace) -> u32
 
 /// Asks for room for `additional` more bytes.
 #[unsafe(no_mangle)]
-pub extern "C" fn ecow_proved_text_reserve(place: &mut TextPlace, additional: usize) -> u32
-    ensures text { AltersText (λ cs. cs) place.old.value result place.new.value }
+pub extern "C" fn ecow_proved_text_reserve(pointer: &mut TextPointer, additional: usize) -> u32
+    ensures text { AltersText (λ cs. cs) pointer.old.value result pointer.new.value }
     ensures codes { is_one_of (OK ∷ MEMORY ∷ CAPACITY ∷ NULL ∷ []) result ≡ true }
-    ensures capacity { result ≡ CAPACITY ↔ IsSomeAnd place.old.value
+    ensures capacity { result ≡ CAPACITY ↔ IsSomeAnd pointer.old.value
         (λ text. MAX_LEN < utf8_len text.chars + additional) }
 {
-    let Some(text) = place.text() else {
+    let Some(text) = pointer.text() else {
         return NULL;
     };
     match text.reserve(additional) {
@@ -361,15 +373,15 @@ pub extern "C" fn ecow_proved_text_reserve(place: &mut TextPlace, additional: us
 
 /// Appends the text that `added` spells: all, or nothing where it is refused.
 #[unsafe(no_mangle)]
-pub extern "C" fn ecow_proved_text_extend(place: &mut TextPlace, added: &[u8]) -> u32
+pub extern "C" fn ecow_proved_text_extend(pointer: &mut TextPointer, added: &[u8]) -> u32
     ensures text { AltersText (λ cs. cs ++ chars added.now)
-        place.old.value result place.new.value }
-    ensures utf8 { result ≡ UTF8 ↔ IsSomeAnd place.old.value (λ _. is_utf8 added.now ≡ false) }
+        pointer.old.value result pointer.new.value }
+    ensures utf8 { result ≡ UTF8 ↔ IsSomeAnd pointer.old.value (λ _. is_utf8 added.now ≡ false) }
     ensures codes { is_one_of (OK ∷ MEMORY ∷ CAPACITY ∷ UTF8 ∷ NULL ∷ []) result ≡ true }
-    ensures capacity { result ≡ CAPACITY → IsSomeAnd place.old.value
+    ensures capacity { result ≡ CAPACITY → IsSomeAnd pointer.old.value
         (λ text. MAX_LEN < utf8_len text.chars + length added.now) }
 {
-    let Some(text) = place.text() else {
+    let Some(text) = pointer.text() else {
         return NULL;
     };
     let Some(added) = spelled(added) else {
@@ -385,23 +397,23 @@ pub extern "C" fn ecow_proved_text_extend(place: &mut TextPlace, added: &[u8]) -
 /// nothing where it is refused.
 #[unsafe(no_mangle)]
 pub extern "C" fn ecow_proved_text_splice(
-    place: &mut TextPlace,
+    pointer: &mut TextPointer,
     start: usize,
     end: usize,
     added: &[u8],
 ) -> u32
     ensures text { AltersText (λ cs. replace_range cs (chars_before cs start)
         (chars_before cs end) (chars added.now))
-        place.old.value result place.new.value }
-    ensures utf8 { result ≡ UTF8 ↔ IsSomeAnd place.old.value (λ _. is_utf8 added.now ≡ false) }
-    ensures index { IfSome place.old.value
+        pointer.old.value result pointer.new.value }
+    ensures utf8 { result ≡ UTF8 ↔ IsSomeAnd pointer.old.value (λ _. is_utf8 added.now ≡ false) }
+    ensures index { IfSome pointer.old.value
         (λ text. is_utf8 added.now ≡ true → Heeds (range_status text.chars start end) result) }
     ensures codes { is_one_of (OK ∷ MEMORY ∷ CAPACITY ∷ INDEX ∷ BOUNDARY ∷ UTF8 ∷ NULL ∷ []) result
         ≡ true }
-    ensures capacity { result ≡ CAPACITY → IsSomeAnd place.old.value
+    ensures capacity { result ≡ CAPACITY → IsSomeAnd pointer.old.value
         (λ text. MAX_LEN < utf8_len text.chars - (end - start) + length added.now) }
 {
-    let Some(text) = place.text() else {
+    let Some(text) = pointer.text() else {
         return NULL;
     };
     let Some(added) = spelled(added) else {
@@ -426,11 +438,11 @@ pub extern "C" fn ecow_proved_text_splice(
 
 /// How many bytes there is room for, never fewer than there are; 0 at a null pointer.
 #[unsafe(no_mangle)]
-pub extern "C" fn ecow_proved_text_capacity(place: &mut TextPlace) -> usize
-    ensures room { utf8_len (chars_at place.old.value) ≤ result }
-    ensures unchanged { place.new.value ≡ place.old.value }
+pub extern "C" fn ecow_proved_text_capacity(pointer: &mut TextPointer) -> usize
+    ensures room { utf8_len (chars_at pointer.old.value) ≤ result }
+    ensures unchanged { pointer.new.value ≡ pointer.old.value }
 {
-    match place.text() {
+    match pointer.text() {
         Some(text) => text.capacity(),
         None => 0,
     }
@@ -438,11 +450,11 @@ pub extern "C" fn ecow_proved_text_capacity(place: &mut TextPlace) -> usize
 
 /// Brings a spilled text back inline where it has at most 15 bytes.
 #[unsafe(no_mangle)]
-pub extern "C" fn ecow_proved_text_shrink_to_fit(place: &mut TextPlace) -> u32
-    ensures text { AltersText (λ cs. cs) place.old.value result place.new.value }
+pub extern "C" fn ecow_proved_text_shrink_to_fit(pointer: &mut TextPointer) -> u32
+    ensures text { AltersText (λ cs. cs) pointer.old.value result pointer.new.value }
     ensures codes { is_one_of (OK ∷ NULL ∷ []) result ≡ true }
 {
-    let Some(text) = place.text() else {
+    let Some(text) = pointer.text() else {
         return NULL;
     };
     text.shrink_to_fit();
@@ -451,7 +463,7 @@ pub extern "C" fn ecow_proved_text_shrink_to_fit(place: &mut TextPlace) -> u32
 
 /// Whether two texts are equal.
 #[unsafe(no_mangle)]
-pub extern "C" fn ecow_proved_text_equal(left: &mut TextPlace, right: &mut TextPlace) -> bool
+pub extern "C" fn ecow_proved_text_equal(left: &mut TextPointer, right: &mut TextPointer) -> bool
     ensures equal { result ≡ are_both
         (λ x y. pointwise nat_eq (encode_utf8_all x.chars) (encode_utf8_all y.chars))
         left.old.value right.old.value }
@@ -468,7 +480,7 @@ pub extern "C" fn ecow_proved_text_equal(left: &mut TextPlace, right: &mut TextP
 
 /// How two texts compare: below 0 where the left one comes first, 0 where they are equal.
 #[unsafe(no_mangle)]
-pub extern "C" fn ecow_proved_text_compare(left: &mut TextPlace, right: &mut TextPlace) -> i32
+pub extern "C" fn ecow_proved_text_compare(left: &mut TextPointer, right: &mut TextPointer) -> i32
     ensures order { result ≡ order_of
         (λ x y. slice_cmp nat_cmp (encode_utf8_all x.chars) (encode_utf8_all y.chars))
         left.old.value right.old.value }
@@ -485,12 +497,12 @@ pub extern "C" fn ecow_proved_text_compare(left: &mut TextPlace, right: &mut Tex
 
 /// The hash of the text, by std's hasher. Equal texts have the same.
 #[unsafe(no_mangle)]
-pub extern "C" fn ecow_proved_text_hash(alloc: Global, place: &mut TextPlace) -> u64
-    ensures hash { result ≡ hash_of (fed.str (encode_utf8_all (chars_at place.old.value))) }
-    ensures unchanged { place.new.value ≡ place.old.value }
+pub extern "C" fn ecow_proved_text_hash(alloc: Global, pointer: &mut TextPointer) -> u64
+    ensures hash { result ≡ hash_of (fed.str (encode_utf8_all (chars_at pointer.old.value))) }
+    ensures unchanged { pointer.new.value ≡ pointer.old.value }
 {
     let mut hasher = DefaultHasher::new();
-    match place.text() {
+    match pointer.text() {
         Some(text) => text.hash(&mut hasher),
         None => EcoString::new(alloc).hash(&mut hasher),
     }
@@ -499,14 +511,14 @@ pub extern "C" fn ecow_proved_text_hash(alloc: Global, place: &mut TextPlace) ->
 
 /// Puts the text in lower case, as std's `str` has it.
 #[unsafe(no_mangle)]
-pub extern "C" fn ecow_proved_text_to_lowercase(place: &mut TextPlace) -> u32
+pub extern "C" fn ecow_proved_text_to_lowercase(pointer: &mut TextPointer) -> u32
     ensures text { Alters (λ text. encode_utf8_all text.chars) str_to_lowercase
-        place.old.value result place.new.value }
+        pointer.old.value result pointer.new.value }
     ensures codes { is_one_of (OK ∷ MEMORY ∷ CAPACITY ∷ NULL ∷ []) result ≡ true }
-    ensures capacity { result ≡ CAPACITY → IsSomeAnd place.old.value
+    ensures capacity { result ≡ CAPACITY → IsSomeAnd pointer.old.value
         (λ text. MAX_LEN < length (str_to_lowercase (encode_utf8_all text.chars))) }
 {
-    let Some(text) = place.text() else {
+    let Some(text) = pointer.text() else {
         return NULL;
     };
     match text.to_lowercase() {
@@ -520,14 +532,14 @@ pub extern "C" fn ecow_proved_text_to_lowercase(place: &mut TextPlace) -> u32
 
 /// Puts the text in upper case, as std's `str` has it.
 #[unsafe(no_mangle)]
-pub extern "C" fn ecow_proved_text_to_uppercase(place: &mut TextPlace) -> u32
+pub extern "C" fn ecow_proved_text_to_uppercase(pointer: &mut TextPointer) -> u32
     ensures text { Alters (λ text. encode_utf8_all text.chars) str_to_uppercase
-        place.old.value result place.new.value }
+        pointer.old.value result pointer.new.value }
     ensures codes { is_one_of (OK ∷ MEMORY ∷ CAPACITY ∷ NULL ∷ []) result ≡ true }
-    ensures capacity { result ≡ CAPACITY → IsSomeAnd place.old.value
+    ensures capacity { result ≡ CAPACITY → IsSomeAnd pointer.old.value
         (λ text. MAX_LEN < length (str_to_uppercase (encode_utf8_all text.chars))) }
 {
-    let Some(text) = place.text() else {
+    let Some(text) = pointer.text() else {
         return NULL;
     };
     match text.to_uppercase() {
@@ -541,13 +553,13 @@ pub extern "C" fn ecow_proved_text_to_uppercase(place: &mut TextPlace) -> u32
 
 /// Puts the text `count` times over in its place.
 #[unsafe(no_mangle)]
-pub extern "C" fn ecow_proved_text_repeat(place: &mut TextPlace, count: usize) -> u32
-    ensures text { AltersText (repeat count) place.old.value result place.new.value }
+pub extern "C" fn ecow_proved_text_repeat(pointer: &mut TextPointer, count: usize) -> u32
+    ensures text { AltersText (repeat count) pointer.old.value result pointer.new.value }
     ensures codes { is_one_of (OK ∷ MEMORY ∷ CAPACITY ∷ NULL ∷ []) result ≡ true }
-    ensures capacity { result ≡ CAPACITY ↔ IsSomeAnd place.old.value
+    ensures capacity { result ≡ CAPACITY ↔ IsSomeAnd pointer.old.value
         (λ text. MAX_LEN < utf8_len text.chars * count) }
 {
-    let Some(text) = place.text() else {
+    let Some(text) = pointer.text() else {
         return NULL;
     };
     match text.repeat(count) {
@@ -563,20 +575,20 @@ pub extern "C" fn ecow_proved_text_repeat(place: &mut TextPlace, count: usize) -
 /// spells, from the left and without overlap.
 #[unsafe(no_mangle)]
 pub extern "C" fn ecow_proved_text_replace(
-    place: &mut TextPlace,
+    pointer: &mut TextPointer,
     pattern: &[u8],
     replacement: &[u8],
 ) -> u32
     ensures text { AltersText (replace_all (chars pattern.now) (chars replacement.now))
-        place.old.value result place.new.value }
-    ensures utf8 { result ≡ UTF8 ↔ IsSomeAnd place.old.value
+        pointer.old.value result pointer.new.value }
+    ensures utf8 { result ≡ UTF8 ↔ IsSomeAnd pointer.old.value
         (λ _. is_utf8 pattern.now && is_utf8 replacement.now ≡ false) }
     ensures codes { is_one_of (OK ∷ MEMORY ∷ CAPACITY ∷ UTF8 ∷ NULL ∷ []) result ≡ true }
-    ensures capacity { result ≡ CAPACITY → IsSomeAnd place.old.value
+    ensures capacity { result ≡ CAPACITY → IsSomeAnd pointer.old.value
         (λ text. MAX_LEN
         < utf8_len (replace_all (chars pattern.now) (chars replacement.now) text.chars)) }
 {
-    let Some(text) = place.text() else {
+    let Some(text) = pointer.text() else {
         return NULL;
     };
     let Some(pattern) = spelled(pattern) else {

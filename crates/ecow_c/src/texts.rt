@@ -8,21 +8,21 @@ ghost use Rattle.ecow_values.specs.Utf8.{utf8_len};
 ghost use Rattle.ecow_c.specs.Answers.{AltersTexts, AltersTextsBy, AreBothAnd, is_one_of, are_both, texts_at, order_of, hash_of};
 ghost use Rattle.ecow_c.specs.Texts.{text_eq, text_cmp, text_fed};
 
-mod place;
+mod pointer;
 
 use crate::status::{CAPACITY, INDEX, MEMORY, NULL, OK, order, refusal};
-use crate::text::TextPlace;
+use crate::text::TextPointer;
 use ecow_base::MAX_LEN;
-use ecow_list::EcoVec;
-use ecow_text::EcoString;
-use place::TextsPlace;
+use ecow_string::EcoString;
+use ecow_vec::EcoVec;
+use pointer::TextsPointer;
 use std::alloc::Global;
 use std::hash::{DefaultHasher, Hash, Hasher};
 use std::ptr::from_ref;
 
 /// Puts a clone of the list at `from`, which shares its block, in place of the list at `to`.
 #[unsafe(no_mangle)]
-pub extern "C" fn ecow_proved_texts_clone(from: &mut TextsPlace, to: &mut TextsPlace) -> u32
+pub extern "C" fn ecow_proved_texts_clone(from: &mut TextsPointer, to: &mut TextsPointer) -> u32
     ensures ok { result ≡ OK → to.new.value ≡ from.old.value }
     ensures source { from.new.value ≡ from.old.value }
     ensures refused { result ≢ OK → to.new.value ≡ to.old.value }
@@ -47,11 +47,11 @@ pub extern "C" fn ecow_proved_texts_clone(from: &mut TextsPlace, to: &mut TextsP
 
 /// Gives the list up: an empty one stands in its place.
 #[unsafe(no_mangle)]
-pub extern "C" fn ecow_proved_texts_drop(alloc: Global, place: &mut TextsPlace) -> u32
-    ensures texts { AltersTexts (λ _. []) place.old.value result place.new.value }
+pub extern "C" fn ecow_proved_texts_drop(alloc: Global, pointer: &mut TextsPointer) -> u32
+    ensures texts { AltersTexts (λ _. []) pointer.old.value result pointer.new.value }
     ensures codes { is_one_of (OK ∷ NULL ∷ []) result ≡ true }
 {
-    let Some(texts) = place.texts() else {
+    let Some(texts) = pointer.texts() else {
         return NULL;
     };
     *texts = EcoVec::new(alloc);
@@ -60,11 +60,11 @@ pub extern "C" fn ecow_proved_texts_drop(alloc: Global, place: &mut TextsPlace) 
 
 /// The number of texts; 0 at a null pointer.
 #[unsafe(no_mangle)]
-pub extern "C" fn ecow_proved_texts_len(place: &mut TextsPlace) -> usize
-    ensures len { result ≡ length (texts_at place.old.value) }
-    ensures unchanged { place.new.value ≡ place.old.value }
+pub extern "C" fn ecow_proved_texts_len(pointer: &mut TextsPointer) -> usize
+    ensures len { result ≡ length (texts_at pointer.old.value) }
+    ensures unchanged { pointer.new.value ≡ pointer.old.value }
 {
-    match place.texts() {
+    match pointer.texts() {
         Some(texts) => texts.len(),
         None => 0,
     }
@@ -73,21 +73,21 @@ pub extern "C" fn ecow_proved_texts_len(place: &mut TextsPlace) -> usize
 /// Puts a clone of the text at `index` in place of the text at `out`.
 #[unsafe(no_mangle)]
 pub extern "C" fn ecow_proved_texts_get(
-    place: &mut TextsPlace,
+    pointer: &mut TextsPointer,
     index: usize,
-    out: &mut TextPlace,
+    out: &mut TextPointer,
 ) -> u32
     ensures ok { result ≡ OK
-        → IfSome place.old.value (λ xs. slice_get xs index ≡ out.new.value) }
+        → IfSome pointer.old.value (λ xs. slice_get xs index ≡ out.new.value) }
     ensures refused { result ≢ OK → out.new.value ≡ out.old.value }
     ensures index { result ≡ INDEX
-        ↔ AreBothAnd place.old.value out.old.value (λ xs _. length xs ≤ index) }
+        ↔ AreBothAnd pointer.old.value out.old.value (λ xs _. length xs ≤ index) }
     ensures null { result ≡ NULL
-        ↔ is_none place.old.value || is_none out.old.value ≡ true }
+        ↔ is_none pointer.old.value || is_none out.old.value ≡ true }
     ensures codes { is_one_of (OK ∷ MEMORY ∷ INDEX ∷ NULL ∷ []) result ≡ true }
-    ensures unchanged { place.new.value ≡ place.old.value }
+    ensures unchanged { pointer.new.value ≡ pointer.old.value }
 {
-    let Some(texts) = place.texts() else {
+    let Some(texts) = pointer.texts() else {
         return NULL;
     };
     let Some(out) = out.text() else {
@@ -109,20 +109,20 @@ pub extern "C" fn ecow_proved_texts_get(
 /// there are to `len`.
 #[unsafe(no_mangle)]
 pub extern "C" fn ecow_proved_texts_at(
-    place: &mut TextsPlace,
+    pointer: &mut TextsPointer,
     index: usize,
     start: &mut *const u8,
     len: &mut usize,
 ) -> u32
-    ensures len { result ≡ OK → IfSome place.old.value
+    ensures len { result ≡ OK → IfSome pointer.old.value
         (λ xs. IsSomeAnd (slice_get xs index) (λ text. len.new ≡ utf8_len text.chars)) }
     ensures refused { result ≢ OK → len.new ≡ len.old }
-    ensures index { result ≡ INDEX ↔ IsSomeAnd place.old.value (λ xs. length xs ≤ index) }
-    ensures null { result ≡ NULL ↔ place.old.value ≡ None }
+    ensures index { result ≡ INDEX ↔ IsSomeAnd pointer.old.value (λ xs. length xs ≤ index) }
+    ensures null { result ≡ NULL ↔ pointer.old.value ≡ None }
     ensures codes { is_one_of (OK ∷ INDEX ∷ NULL ∷ []) result ≡ true }
-    ensures unchanged { place.new.value ≡ place.old.value }
+    ensures unchanged { pointer.new.value ≡ pointer.old.value }
 {
-    let Some(texts) = place.texts() else {
+    let Some(texts) = pointer.texts() else {
         return NULL;
     };
     let Some(text) = texts.as_slice().get(index) else {
@@ -137,15 +137,15 @@ pub extern "C" fn ecow_proved_texts_at(
 
 /// Appends a clone of the text at `item`.
 #[unsafe(no_mangle)]
-pub extern "C" fn ecow_proved_texts_push(place: &mut TextsPlace, item: &mut TextPlace) -> u32
+pub extern "C" fn ecow_proved_texts_push(pointer: &mut TextsPointer, item: &mut TextPointer) -> u32
     ensures texts { AltersTextsBy (λ text xs. xs ++ text ∷ [])
-        place.old.value item.old.value result place.new.value }
+        pointer.old.value item.old.value result pointer.new.value }
     ensures codes { is_one_of (OK ∷ MEMORY ∷ CAPACITY ∷ NULL ∷ []) result ≡ true }
     ensures capacity { result ≡ CAPACITY
-        ↔ AreBothAnd place.old.value item.old.value (λ xs _. MAX_LEN ≤ length xs) }
+        ↔ AreBothAnd pointer.old.value item.old.value (λ xs _. MAX_LEN ≤ length xs) }
     ensures item { item.new.value ≡ item.old.value }
 {
-    let Some(texts) = place.texts() else {
+    let Some(texts) = pointer.texts() else {
         return NULL;
     };
     let Some(text) = item.text() else {
@@ -165,17 +165,17 @@ pub extern "C" fn ecow_proved_texts_push(place: &mut TextsPlace, item: &mut Text
 
 /// Takes the last text out, in place of the text at `out`; `INDEX` where there is none.
 #[unsafe(no_mangle)]
-pub extern "C" fn ecow_proved_texts_pop(place: &mut TextsPlace, out: &mut TextPlace) -> u32
+pub extern "C" fn ecow_proved_texts_pop(pointer: &mut TextsPointer, out: &mut TextPointer) -> u32
     ensures texts { AltersTextsBy (λ _ xs. take (length xs - 1) xs)
-        place.old.value out.old.value result place.new.value }
-    ensures value { result ≡ OK → IfSome place.old.value
+        pointer.old.value out.old.value result pointer.new.value }
+    ensures value { result ≡ OK → IfSome pointer.old.value
         (λ xs. slice_get xs (length xs - 1) ≡ out.new.value) }
     ensures out { result ≢ OK → out.new.value ≡ out.old.value }
     ensures index { result ≡ INDEX
-        ↔ AreBothAnd place.old.value out.old.value (λ xs _. xs ≡ []) }
+        ↔ AreBothAnd pointer.old.value out.old.value (λ xs _. xs ≡ []) }
     ensures codes { is_one_of (OK ∷ MEMORY ∷ INDEX ∷ NULL ∷ []) result ≡ true }
 {
-    let Some(texts) = place.texts() else {
+    let Some(texts) = pointer.texts() else {
         return NULL;
     };
     let Some(out) = out.text() else {
@@ -194,18 +194,18 @@ pub extern "C" fn ecow_proved_texts_pop(place: &mut TextsPlace, out: &mut TextPl
 /// Puts a clone of the text at `item` in place of the text at `index`.
 #[unsafe(no_mangle)]
 pub extern "C" fn ecow_proved_texts_set(
-    place: &mut TextsPlace,
+    pointer: &mut TextsPointer,
     index: usize,
-    item: &mut TextPlace,
+    item: &mut TextPointer,
 ) -> u32
     ensures texts { AltersTextsBy (λ text xs. slice_set xs index text)
-        place.old.value item.old.value result place.new.value }
+        pointer.old.value item.old.value result pointer.new.value }
     ensures index { result ≡ INDEX
-        ↔ AreBothAnd place.old.value item.old.value (λ xs _. length xs ≤ index) }
+        ↔ AreBothAnd pointer.old.value item.old.value (λ xs _. length xs ≤ index) }
     ensures codes { is_one_of (OK ∷ MEMORY ∷ INDEX ∷ NULL ∷ []) result ≡ true }
     ensures item { item.new.value ≡ item.old.value }
 {
-    let Some(texts) = place.texts() else {
+    let Some(texts) = pointer.texts() else {
         return NULL;
     };
     let Some(text) = item.text() else {
@@ -226,20 +226,20 @@ pub extern "C" fn ecow_proved_texts_set(
 /// Puts a clone of the text at `item` in at `index`, before the text that stands there.
 #[unsafe(no_mangle)]
 pub extern "C" fn ecow_proved_texts_insert(
-    place: &mut TextsPlace,
+    pointer: &mut TextsPointer,
     index: usize,
-    item: &mut TextPlace,
+    item: &mut TextPointer,
 ) -> u32
     ensures texts { AltersTextsBy (λ text xs. insert xs index text)
-        place.old.value item.old.value result place.new.value }
+        pointer.old.value item.old.value result pointer.new.value }
     ensures index { result ≡ INDEX
-        ↔ AreBothAnd place.old.value item.old.value (λ xs _. length xs < index) }
+        ↔ AreBothAnd pointer.old.value item.old.value (λ xs _. length xs < index) }
     ensures codes { is_one_of (OK ∷ MEMORY ∷ CAPACITY ∷ INDEX ∷ NULL ∷ []) result ≡ true }
-    ensures capacity { result ≡ CAPACITY ↔ AreBothAnd place.old.value item.old.value
+    ensures capacity { result ≡ CAPACITY ↔ AreBothAnd pointer.old.value item.old.value
         (λ xs _. (index ≤ length xs) × (MAX_LEN ≤ length xs)) }
     ensures item { item.new.value ≡ item.old.value }
 {
-    let Some(texts) = place.texts() else {
+    let Some(texts) = pointer.texts() else {
         return NULL;
     };
     let Some(text) = item.text() else {
@@ -263,20 +263,20 @@ pub extern "C" fn ecow_proved_texts_insert(
 /// Takes the text at `index` out, in place of the text at `out`.
 #[unsafe(no_mangle)]
 pub extern "C" fn ecow_proved_texts_remove(
-    place: &mut TextsPlace,
+    pointer: &mut TextsPointer,
     index: usize,
-    out: &mut TextPlace,
+    out: &mut TextPointer,
 ) -> u32
     ensures texts { AltersTextsBy (λ _ xs. remove xs index)
-        place.old.value out.old.value result place.new.value }
+        pointer.old.value out.old.value result pointer.new.value }
     ensures value { result ≡ OK
-        → IfSome place.old.value (λ xs. slice_get xs index ≡ out.new.value) }
+        → IfSome pointer.old.value (λ xs. slice_get xs index ≡ out.new.value) }
     ensures out { result ≢ OK → out.new.value ≡ out.old.value }
     ensures index { result ≡ INDEX
-        ↔ AreBothAnd place.old.value out.old.value (λ xs _. length xs ≤ index) }
+        ↔ AreBothAnd pointer.old.value out.old.value (λ xs _. length xs ≤ index) }
     ensures codes { is_one_of (OK ∷ MEMORY ∷ INDEX ∷ NULL ∷ []) result ≡ true }
 {
-    let Some(texts) = place.texts() else {
+    let Some(texts) = pointer.texts() else {
         return NULL;
     };
     let Some(out) = out.text() else {
@@ -296,11 +296,11 @@ pub extern "C" fn ecow_proved_texts_remove(
 
 /// Keeps the first `len` texts, or all where there are fewer.
 #[unsafe(no_mangle)]
-pub extern "C" fn ecow_proved_texts_truncate(place: &mut TextsPlace, len: usize) -> u32
-    ensures texts { AltersTexts (λ xs. take len xs) place.old.value result place.new.value }
+pub extern "C" fn ecow_proved_texts_truncate(pointer: &mut TextsPointer, len: usize) -> u32
+    ensures texts { AltersTexts (λ xs. take len xs) pointer.old.value result pointer.new.value }
     ensures codes { is_one_of (OK ∷ MEMORY ∷ NULL ∷ []) result ≡ true }
 {
-    let Some(texts) = place.texts() else {
+    let Some(texts) = pointer.texts() else {
         return NULL;
     };
     match texts.truncate(len) {
@@ -311,11 +311,11 @@ pub extern "C" fn ecow_proved_texts_truncate(place: &mut TextsPlace, len: usize)
 
 /// Keeps no text. A block that no other list shares stays, with its room.
 #[unsafe(no_mangle)]
-pub extern "C" fn ecow_proved_texts_clear(place: &mut TextsPlace) -> u32
-    ensures texts { AltersTexts (λ _. []) place.old.value result place.new.value }
+pub extern "C" fn ecow_proved_texts_clear(pointer: &mut TextsPointer) -> u32
+    ensures texts { AltersTexts (λ _. []) pointer.old.value result pointer.new.value }
     ensures codes { is_one_of (OK ∷ NULL ∷ []) result ≡ true }
 {
-    let Some(texts) = place.texts() else {
+    let Some(texts) = pointer.texts() else {
         return NULL;
     };
     texts.clear();
@@ -324,13 +324,13 @@ pub extern "C" fn ecow_proved_texts_clear(place: &mut TextsPlace) -> u32
 
 /// Asks for room for `additional` more texts.
 #[unsafe(no_mangle)]
-pub extern "C" fn ecow_proved_texts_reserve(place: &mut TextsPlace, additional: usize) -> u32
-    ensures texts { AltersTexts (λ xs. xs) place.old.value result place.new.value }
+pub extern "C" fn ecow_proved_texts_reserve(pointer: &mut TextsPointer, additional: usize) -> u32
+    ensures texts { AltersTexts (λ xs. xs) pointer.old.value result pointer.new.value }
     ensures codes { is_one_of (OK ∷ MEMORY ∷ CAPACITY ∷ NULL ∷ []) result ≡ true }
     ensures capacity { result ≡ CAPACITY
-        ↔ IsSomeAnd place.old.value (λ xs. MAX_LEN < length xs + additional) }
+        ↔ IsSomeAnd pointer.old.value (λ xs. MAX_LEN < length xs + additional) }
 {
-    let Some(texts) = place.texts() else {
+    let Some(texts) = pointer.texts() else {
         return NULL;
     };
     match texts.reserve(additional) {
@@ -341,15 +341,18 @@ pub extern "C" fn ecow_proved_texts_reserve(place: &mut TextsPlace, additional: 
 
 /// Appends clones of the texts at `added`: all, or none where it is refused.
 #[unsafe(no_mangle)]
-pub extern "C" fn ecow_proved_texts_extend(place: &mut TextsPlace, added: &mut TextsPlace) -> u32
+pub extern "C" fn ecow_proved_texts_extend(
+    pointer: &mut TextsPointer,
+    added: &mut TextsPointer,
+) -> u32
     ensures texts { AltersTextsBy (λ ys xs. xs ++ ys)
-        place.old.value added.old.value result place.new.value }
+        pointer.old.value added.old.value result pointer.new.value }
     ensures codes { is_one_of (OK ∷ MEMORY ∷ CAPACITY ∷ NULL ∷ []) result ≡ true }
-    ensures capacity { result ≡ CAPACITY ↔ AreBothAnd place.old.value added.old.value
+    ensures capacity { result ≡ CAPACITY ↔ AreBothAnd pointer.old.value added.old.value
         (λ xs ys. MAX_LEN < length xs + length ys) }
     ensures added { added.new.value ≡ added.old.value }
 {
-    let Some(texts) = place.texts() else {
+    let Some(texts) = pointer.texts() else {
         return NULL;
     };
     let Some(added) = added.texts() else {
@@ -365,22 +368,22 @@ pub extern "C" fn ecow_proved_texts_extend(place: &mut TextsPlace, added: &mut T
 #[unsafe(no_mangle)]
 pub extern "C" fn ecow_proved_texts_splice(
     alloc: Global,
-    place: &mut TextsPlace,
+    pointer: &mut TextsPointer,
     start: usize,
     end: usize,
-    added: &mut TextsPlace,
+    added: &mut TextsPointer,
 ) -> u32
     ensures texts { AltersTextsBy (λ ys xs. splice xs start end ys)
-        place.old.value added.old.value result place.new.value }
-    ensures index { result ≡ INDEX ↔ AreBothAnd place.old.value added.old.value
+        pointer.old.value added.old.value result pointer.new.value }
+    ensures index { result ≡ INDEX ↔ AreBothAnd pointer.old.value added.old.value
         (λ xs _. nat_lt end start || nat_lt (length xs) end ≡ true) }
-    ensures capacity { result ≡ CAPACITY ↔ AreBothAnd place.old.value added.old.value
+    ensures capacity { result ≡ CAPACITY ↔ AreBothAnd pointer.old.value added.old.value
         (λ xs ys. (start ≤ end) × (end ≤ length xs)
         × (MAX_LEN < length xs - (end - start) + length ys)) }
     ensures codes { is_one_of (OK ∷ MEMORY ∷ CAPACITY ∷ INDEX ∷ NULL ∷ []) result ≡ true }
     ensures added { added.new.value ≡ added.old.value }
 {
-    let Some(texts) = place.texts() else {
+    let Some(texts) = pointer.texts() else {
         return NULL;
     };
     let Some(added) = added.texts() else {
@@ -403,11 +406,11 @@ pub extern "C" fn ecow_proved_texts_splice(
 
 /// How many texts there is room for, never fewer than there are; 0 at a null pointer.
 #[unsafe(no_mangle)]
-pub extern "C" fn ecow_proved_texts_capacity(place: &mut TextsPlace) -> usize
-    ensures room { length (texts_at place.old.value) ≤ result }
-    ensures unchanged { place.new.value ≡ place.old.value }
+pub extern "C" fn ecow_proved_texts_capacity(pointer: &mut TextsPointer) -> usize
+    ensures room { length (texts_at pointer.old.value) ≤ result }
+    ensures unchanged { pointer.new.value ≡ pointer.old.value }
 {
-    match place.texts() {
+    match pointer.texts() {
         Some(texts) => texts.capacity(),
         None => 0,
     }
@@ -415,11 +418,11 @@ pub extern "C" fn ecow_proved_texts_capacity(place: &mut TextsPlace) -> usize
 
 /// Gives up room that isn't used, unless another list shares the block.
 #[unsafe(no_mangle)]
-pub extern "C" fn ecow_proved_texts_shrink_to_fit(alloc: Global, place: &mut TextsPlace) -> u32
-    ensures texts { AltersTexts (λ xs. xs) place.old.value result place.new.value }
+pub extern "C" fn ecow_proved_texts_shrink_to_fit(alloc: Global, pointer: &mut TextsPointer) -> u32
+    ensures texts { AltersTexts (λ xs. xs) pointer.old.value result pointer.new.value }
     ensures codes { is_one_of (OK ∷ MEMORY ∷ NULL ∷ []) result ≡ true }
 {
-    let Some(texts) = place.texts() else {
+    let Some(texts) = pointer.texts() else {
         return NULL;
     };
     if texts.capacity() == texts.len() || !texts.is_unique() {
@@ -439,7 +442,7 @@ pub extern "C" fn ecow_proved_texts_shrink_to_fit(alloc: Global, place: &mut Tex
 
 /// Whether two lists hold the same texts.
 #[unsafe(no_mangle)]
-pub extern "C" fn ecow_proved_texts_equal(left: &mut TextsPlace, right: &mut TextsPlace) -> bool
+pub extern "C" fn ecow_proved_texts_equal(left: &mut TextsPointer, right: &mut TextsPointer) -> bool
     ensures equal { result
         ≡ are_both (pointwise text_eq) left.old.value right.old.value }
     ensures unchanged { (left.new.value ≡ left.old.value) × (right.new.value ≡ right.old.value) }
@@ -455,7 +458,10 @@ pub extern "C" fn ecow_proved_texts_equal(left: &mut TextsPlace, right: &mut Tex
 
 /// How two lists compare: below 0 where the left one comes first, 0 where they are equal.
 #[unsafe(no_mangle)]
-pub extern "C" fn ecow_proved_texts_compare(left: &mut TextsPlace, right: &mut TextsPlace) -> i32
+pub extern "C" fn ecow_proved_texts_compare(
+    left: &mut TextsPointer,
+    right: &mut TextsPointer,
+) -> i32
     ensures order { result
         ≡ order_of (slice_cmp text_cmp) left.old.value right.old.value }
     ensures unchanged { (left.new.value ≡ left.old.value) × (right.new.value ≡ right.old.value) }
@@ -471,12 +477,12 @@ pub extern "C" fn ecow_proved_texts_compare(left: &mut TextsPlace, right: &mut T
 
 /// The hash of the texts, by std's hasher. Equal lists have the same.
 #[unsafe(no_mangle)]
-pub extern "C" fn ecow_proved_texts_hash(alloc: Global, place: &mut TextsPlace) -> u64
-    ensures hash { result ≡ hash_of (fed.slice text_fed (texts_at place.old.value)) }
-    ensures unchanged { place.new.value ≡ place.old.value }
+pub extern "C" fn ecow_proved_texts_hash(alloc: Global, pointer: &mut TextsPointer) -> u64
+    ensures hash { result ≡ hash_of (fed.slice text_fed (texts_at pointer.old.value)) }
+    ensures unchanged { pointer.new.value ≡ pointer.old.value }
 {
     let mut hasher = DefaultHasher::new();
-    match place.texts() {
+    match pointer.texts() {
         Some(texts) => texts.hash(&mut hasher),
         None => EcoVec::<EcoString>::new(alloc).hash(&mut hasher),
     }

@@ -8,19 +8,19 @@ ghost use Rattle.ecow_nested.specs.declared.value.Kind.TheVariants as kind;
 ghost use Rattle.ecow_c.specs.Answers.{Alters, AltersBy, AreBothAnd, is_one_of, are_both};
 ghost use Rattle.ecow_c.specs.Values.{kind_number, kind_at, len_at};
 
-mod place;
+mod pointer;
 
 use crate::status::{CAPACITY, INDEX, KIND, MEMORY, NULL, OK, UTF8, refusal_of_value};
-use crate::text::{TextPlace, spelled};
+use crate::text::{TextPointer, spelled};
 use ecow_base::MAX_LEN;
-use ecow_list::EcoVec;
 use ecow_nested::{Kind, Value};
-use place::ValuePlace;
+use ecow_vec::EcoVec;
+use pointer::ValuePointer;
 use std::alloc::Global;
 
 /// Puts a clone of the value at `from`, which shares its memory, in place of the value at `to`.
 #[unsafe(no_mangle)]
-pub extern "C" fn ecow_proved_value_clone(from: &mut ValuePlace, to: &mut ValuePlace) -> u32
+pub extern "C" fn ecow_proved_value_clone(from: &mut ValuePointer, to: &mut ValuePointer) -> u32
     ensures ok { result ≡ OK → to.new.value ≡ from.old.value }
     ensures source { from.new.value ≡ from.old.value }
     ensures refused { result ≢ OK → to.new.value ≡ to.old.value }
@@ -45,19 +45,19 @@ pub extern "C" fn ecow_proved_value_clone(from: &mut ValuePlace, to: &mut ValueP
 
 /// Gives the value up: nothing stands in its place.
 #[unsafe(no_mangle)]
-pub extern "C" fn ecow_proved_value_drop(place: &mut ValuePlace) -> u32
-    ensures value { Alters kind_of (λ _. kind.Nothing) place.old.value result place.new.value }
+pub extern "C" fn ecow_proved_value_drop(pointer: &mut ValuePointer) -> u32
+    ensures value { Alters kind_of (λ _. kind.Nothing) pointer.old.value result pointer.new.value }
     ensures codes { is_one_of (OK ∷ NULL ∷ []) result ≡ true }
 {
-    put(place, Value::Nothing)
+    put(pointer, Value::Nothing)
 }
 
 /// Puts `made` in place of the value.
-fn put(place: &mut ValuePlace, made: Value) -> u32
-    ensures value { Alters (λ value. value) (λ _. made) place.old.value result place.new.value }
+fn put(pointer: &mut ValuePointer, made: Value) -> u32
+    ensures value { Alters (λ value. value) (λ _. made) pointer.old.value result pointer.new.value }
     ensures codes { is_one_of (OK ∷ NULL ∷ []) result ≡ true }
 {
-    let Some(value) = place.value() else {
+    let Some(value) = pointer.value() else {
         return NULL;
     };
     *value = made;
@@ -81,11 +81,11 @@ fn number(kind: Kind) -> u32
 
 /// The kind of value; a null pointer has that of nothing.
 #[unsafe(no_mangle)]
-pub extern "C" fn ecow_proved_value_kind(place: &mut ValuePlace) -> u32
-    ensures kind { result ≡ kind_at place.old.value }
-    ensures unchanged { place.new.value ≡ place.old.value }
+pub extern "C" fn ecow_proved_value_kind(pointer: &mut ValuePointer) -> u32
+    ensures kind { result ≡ kind_at pointer.old.value }
+    ensures unchanged { pointer.new.value ≡ pointer.old.value }
 {
-    match place.value() {
+    match pointer.value() {
         Some(value) => number(value.kind()),
         None => 0,
     }
@@ -93,40 +93,43 @@ pub extern "C" fn ecow_proved_value_kind(place: &mut ValuePlace) -> u32
 
 /// Makes it a truth value.
 #[unsafe(no_mangle)]
-pub extern "C" fn ecow_proved_value_set_truth(place: &mut ValuePlace, truth: bool) -> u32
-    ensures value { Alters truth_of (λ _. Some truth) place.old.value result place.new.value }
+pub extern "C" fn ecow_proved_value_set_truth(pointer: &mut ValuePointer, truth: bool) -> u32
+    ensures value { Alters truth_of (λ _. Some truth) pointer.old.value result pointer.new.value }
     ensures codes { is_one_of (OK ∷ NULL ∷ []) result ≡ true }
 {
-    put(place, Value::Truth(truth))
+    put(pointer, Value::Truth(truth))
 }
 
 /// Makes it a number.
 #[unsafe(no_mangle)]
-pub extern "C" fn ecow_proved_value_set_number(place: &mut ValuePlace, number: i64) -> u32
-    ensures value { Alters number_of (λ _. Some number) place.old.value result place.new.value }
+pub extern "C" fn ecow_proved_value_set_number(pointer: &mut ValuePointer, number: i64) -> u32
+    ensures value { Alters number_of (λ _. Some number) pointer.old.value result pointer.new.value }
     ensures codes { is_one_of (OK ∷ NULL ∷ []) result ≡ true }
 {
-    put(place, Value::Number(number))
+    put(pointer, Value::Number(number))
 }
 
 /// Makes it a floating-point number.
 #[unsafe(no_mangle)]
-pub extern "C" fn ecow_proved_value_set_real(place: &mut ValuePlace, real: f64) -> u32
-    ensures value { Alters real_of (λ _. Some real) place.old.value result place.new.value }
+pub extern "C" fn ecow_proved_value_set_real(pointer: &mut ValuePointer, real: f64) -> u32
+    ensures value { Alters real_of (λ _. Some real) pointer.old.value result pointer.new.value }
     ensures codes { is_one_of (OK ∷ NULL ∷ []) result ≡ true }
 {
-    put(place, Value::Real(real))
+    put(pointer, Value::Real(real))
 }
 
 /// Makes it a clone of the text at `from`.
 #[unsafe(no_mangle)]
-pub extern "C" fn ecow_proved_value_set_text(place: &mut ValuePlace, from: &mut TextPlace) -> u32
+pub extern "C" fn ecow_proved_value_set_text(
+    pointer: &mut ValuePointer,
+    from: &mut TextPointer,
+) -> u32
     ensures value { AltersBy text_of (λ text _. Some text)
-        place.old.value from.old.value result place.new.value }
+        pointer.old.value from.old.value result pointer.new.value }
     ensures codes { is_one_of (OK ∷ MEMORY ∷ NULL ∷ []) result ≡ true }
     ensures from { from.new.value ≡ from.old.value }
 {
-    let Some(value) = place.value() else {
+    let Some(value) = pointer.value() else {
         return NULL;
     };
     let Some(text) = from.text() else {
@@ -143,33 +146,33 @@ pub extern "C" fn ecow_proved_value_set_text(place: &mut ValuePlace, from: &mut 
 
 /// Makes it a list of no items.
 #[unsafe(no_mangle)]
-pub extern "C" fn ecow_proved_value_set_list(alloc: Global, place: &mut ValuePlace) -> u32
-    ensures value { Alters items_of (λ _. Some []) place.old.value result place.new.value }
+pub extern "C" fn ecow_proved_value_set_list(alloc: Global, pointer: &mut ValuePointer) -> u32
+    ensures value { Alters items_of (λ _. Some []) pointer.old.value result pointer.new.value }
     ensures codes { is_one_of (OK ∷ NULL ∷ []) result ≡ true }
 {
-    put(place, Value::List(EcoVec::new(alloc)))
+    put(pointer, Value::List(EcoVec::new(alloc)))
 }
 
 /// Makes it a value with no fields.
 #[unsafe(no_mangle)]
-pub extern "C" fn ecow_proved_value_set_fields(alloc: Global, place: &mut ValuePlace) -> u32
-    ensures value { Alters fields_of (λ _. Some []) place.old.value result place.new.value }
+pub extern "C" fn ecow_proved_value_set_fields(alloc: Global, pointer: &mut ValuePointer) -> u32
+    ensures value { Alters fields_of (λ _. Some []) pointer.old.value result pointer.new.value }
     ensures codes { is_one_of (OK ∷ NULL ∷ []) result ≡ true }
 {
-    put(place, Value::Fields(EcoVec::new(alloc)))
+    put(pointer, Value::Fields(EcoVec::new(alloc)))
 }
 
 /// Writes the truth value to `out`.
 #[unsafe(no_mangle)]
-pub extern "C" fn ecow_proved_value_truth(place: &mut ValuePlace, out: &mut bool) -> u32
-    ensures ok { result ≡ OK → IfSome place.old.value (λ value. truth_of value ≡ Some out.new) }
+pub extern "C" fn ecow_proved_value_truth(pointer: &mut ValuePointer, out: &mut bool) -> u32
+    ensures ok { result ≡ OK → IfSome pointer.old.value (λ value. truth_of value ≡ Some out.new) }
     ensures refused { result ≢ OK → out.new ≡ out.old }
-    ensures kind { result ≡ KIND ↔ IsSomeAnd place.old.value (λ value. truth_of value ≡ None) }
-    ensures null { result ≡ NULL ↔ place.old.value ≡ None }
+    ensures kind { result ≡ KIND ↔ IsSomeAnd pointer.old.value (λ value. truth_of value ≡ None) }
+    ensures null { result ≡ NULL ↔ pointer.old.value ≡ None }
     ensures codes { is_one_of (OK ∷ KIND ∷ NULL ∷ []) result ≡ true }
-    ensures unchanged { place.new.value ≡ place.old.value }
+    ensures unchanged { pointer.new.value ≡ pointer.old.value }
 {
-    let Some(value) = place.value() else {
+    let Some(value) = pointer.value() else {
         return NULL;
     };
     match value.truth() {
@@ -183,15 +186,15 @@ pub extern "C" fn ecow_proved_value_truth(place: &mut ValuePlace, out: &mut bool
 
 /// Writes the number to `out`.
 #[unsafe(no_mangle)]
-pub extern "C" fn ecow_proved_value_number(place: &mut ValuePlace, out: &mut i64) -> u32
-    ensures ok { result ≡ OK → IfSome place.old.value (λ value. number_of value ≡ Some out.new) }
+pub extern "C" fn ecow_proved_value_number(pointer: &mut ValuePointer, out: &mut i64) -> u32
+    ensures ok { result ≡ OK → IfSome pointer.old.value (λ value. number_of value ≡ Some out.new) }
     ensures refused { result ≢ OK → out.new ≡ out.old }
-    ensures kind { result ≡ KIND ↔ IsSomeAnd place.old.value (λ value. number_of value ≡ None) }
-    ensures null { result ≡ NULL ↔ place.old.value ≡ None }
+    ensures kind { result ≡ KIND ↔ IsSomeAnd pointer.old.value (λ value. number_of value ≡ None) }
+    ensures null { result ≡ NULL ↔ pointer.old.value ≡ None }
     ensures codes { is_one_of (OK ∷ KIND ∷ NULL ∷ []) result ≡ true }
-    ensures unchanged { place.new.value ≡ place.old.value }
+    ensures unchanged { pointer.new.value ≡ pointer.old.value }
 {
-    let Some(value) = place.value() else {
+    let Some(value) = pointer.value() else {
         return NULL;
     };
     match value.number() {
@@ -205,15 +208,15 @@ pub extern "C" fn ecow_proved_value_number(place: &mut ValuePlace, out: &mut i64
 
 /// Writes the floating-point number to `out`.
 #[unsafe(no_mangle)]
-pub extern "C" fn ecow_proved_value_real(place: &mut ValuePlace, out: &mut f64) -> u32
-    ensures ok { result ≡ OK → IfSome place.old.value (λ value. real_of value ≡ Some out.new) }
+pub extern "C" fn ecow_proved_value_real(pointer: &mut ValuePointer, out: &mut f64) -> u32
+    ensures ok { result ≡ OK → IfSome pointer.old.value (λ value. real_of value ≡ Some out.new) }
     ensures refused { result ≢ OK → out.new ≡ out.old }
-    ensures kind { result ≡ KIND ↔ IsSomeAnd place.old.value (λ value. real_of value ≡ None) }
-    ensures null { result ≡ NULL ↔ place.old.value ≡ None }
+    ensures kind { result ≡ KIND ↔ IsSomeAnd pointer.old.value (λ value. real_of value ≡ None) }
+    ensures null { result ≡ NULL ↔ pointer.old.value ≡ None }
     ensures codes { is_one_of (OK ∷ KIND ∷ NULL ∷ []) result ≡ true }
-    ensures unchanged { place.new.value ≡ place.old.value }
+    ensures unchanged { pointer.new.value ≡ pointer.old.value }
 {
-    let Some(value) = place.value() else {
+    let Some(value) = pointer.value() else {
         return NULL;
     };
     match value.real() {
@@ -227,16 +230,16 @@ pub extern "C" fn ecow_proved_value_real(place: &mut ValuePlace, out: &mut f64) 
 
 /// Puts a clone of the text in place of the text at `out`.
 #[unsafe(no_mangle)]
-pub extern "C" fn ecow_proved_value_text(place: &mut ValuePlace, out: &mut TextPlace) -> u32
-    ensures ok { result ≡ OK → IfSome place.old.value (λ value. text_of value ≡ out.new.value) }
+pub extern "C" fn ecow_proved_value_text(pointer: &mut ValuePointer, out: &mut TextPointer) -> u32
+    ensures ok { result ≡ OK → IfSome pointer.old.value (λ value. text_of value ≡ out.new.value) }
     ensures refused { result ≢ OK → out.new.value ≡ out.old.value }
     ensures kind { result ≡ KIND
-        ↔ AreBothAnd place.old.value out.old.value (λ value _. text_of value ≡ None) }
-    ensures null { result ≡ NULL ↔ is_none place.old.value || is_none out.old.value ≡ true }
+        ↔ AreBothAnd pointer.old.value out.old.value (λ value _. text_of value ≡ None) }
+    ensures null { result ≡ NULL ↔ is_none pointer.old.value || is_none out.old.value ≡ true }
     ensures codes { is_one_of (OK ∷ MEMORY ∷ KIND ∷ NULL ∷ []) result ≡ true }
-    ensures unchanged { place.new.value ≡ place.old.value }
+    ensures unchanged { pointer.new.value ≡ pointer.old.value }
 {
-    let Some(value) = place.value() else {
+    let Some(value) = pointer.value() else {
         return NULL;
     };
     let Some(out) = out.text() else {
@@ -256,11 +259,11 @@ pub extern "C" fn ecow_proved_value_text(place: &mut ValuePlace, out: &mut TextP
 
 /// The number of items or fields; 0 at a value of another kind and at a null pointer.
 #[unsafe(no_mangle)]
-pub extern "C" fn ecow_proved_value_len(place: &mut ValuePlace) -> usize
-    ensures len { result ≡ len_at place.old.value }
-    ensures unchanged { place.new.value ≡ place.old.value }
+pub extern "C" fn ecow_proved_value_len(pointer: &mut ValuePointer) -> usize
+    ensures len { result ≡ len_at pointer.old.value }
+    ensures unchanged { pointer.new.value ≡ pointer.old.value }
 {
-    match place.value() {
+    match pointer.value() {
         Some(value) => value.len().unwrap_or(0),
         None => 0,
     }
@@ -270,22 +273,22 @@ pub extern "C" fn ecow_proved_value_len(place: &mut ValuePlace) -> usize
 /// `out`.
 #[unsafe(no_mangle)]
 pub extern "C" fn ecow_proved_value_get(
-    place: &mut ValuePlace,
+    pointer: &mut ValuePointer,
     index: usize,
-    out: &mut ValuePlace,
+    out: &mut ValuePointer,
 ) -> u32
     ensures ok { result ≡ OK
-        → IfSome place.old.value (λ value. part_of value index ≡ out.new.value) }
+        → IfSome pointer.old.value (λ value. part_of value index ≡ out.new.value) }
     ensures refused { result ≢ OK → out.new.value ≡ out.old.value }
     ensures kind { result ≡ KIND
-        ↔ AreBothAnd place.old.value out.old.value (λ value _. len_of value ≡ None) }
-    ensures index { result ≡ INDEX ↔ AreBothAnd place.old.value out.old.value
+        ↔ AreBothAnd pointer.old.value out.old.value (λ value _. len_of value ≡ None) }
+    ensures index { result ≡ INDEX ↔ AreBothAnd pointer.old.value out.old.value
         (λ value _. IsSomeAnd (len_of value) (λ len. len ≤ index)) }
-    ensures null { result ≡ NULL ↔ is_none place.old.value || is_none out.old.value ≡ true }
+    ensures null { result ≡ NULL ↔ is_none pointer.old.value || is_none out.old.value ≡ true }
     ensures codes { is_one_of (OK ∷ MEMORY ∷ INDEX ∷ KIND ∷ NULL ∷ []) result ≡ true }
-    ensures unchanged { place.new.value ≡ place.old.value }
+    ensures unchanged { pointer.new.value ≡ pointer.old.value }
 {
-    let Some(value) = place.value() else {
+    let Some(value) = pointer.value() else {
         return NULL;
     };
     let Some(out) = out.value() else {
@@ -306,20 +309,20 @@ pub extern "C" fn ecow_proved_value_get(
 /// Puts a clone of the value at `item` in place of the item at `index`.
 #[unsafe(no_mangle)]
 pub extern "C" fn ecow_proved_value_set(
-    place: &mut ValuePlace,
+    pointer: &mut ValuePointer,
     index: usize,
-    item: &mut ValuePlace,
+    item: &mut ValuePointer,
 ) -> u32
     ensures value { AltersBy items_of (λ item. option_map (λ xs. slice_set xs index item))
-        place.old.value item.old.value result place.new.value }
+        pointer.old.value item.old.value result pointer.new.value }
     ensures kind { result ≡ KIND
-        ↔ AreBothAnd place.old.value item.old.value (λ value _. items_of value ≡ None) }
-    ensures index { result ≡ INDEX ↔ AreBothAnd place.old.value item.old.value
+        ↔ AreBothAnd pointer.old.value item.old.value (λ value _. items_of value ≡ None) }
+    ensures index { result ≡ INDEX ↔ AreBothAnd pointer.old.value item.old.value
         (λ value _. IsSomeAnd (items_of value) (λ xs. length xs ≤ index)) }
     ensures codes { is_one_of (OK ∷ MEMORY ∷ INDEX ∷ KIND ∷ NULL ∷ []) result ≡ true }
     ensures item { item.new.value ≡ item.old.value }
 {
-    let Some(value) = place.value() else {
+    let Some(value) = pointer.value() else {
         return NULL;
     };
     let Some(item) = item.value() else {
@@ -342,17 +345,17 @@ pub extern "C" fn ecow_proved_value_set(
 
 /// Appends a clone of the value at `item`.
 #[unsafe(no_mangle)]
-pub extern "C" fn ecow_proved_value_push(place: &mut ValuePlace, item: &mut ValuePlace) -> u32
+pub extern "C" fn ecow_proved_value_push(pointer: &mut ValuePointer, item: &mut ValuePointer) -> u32
     ensures value { AltersBy items_of (λ item. option_map (λ xs. xs ++ item ∷ []))
-        place.old.value item.old.value result place.new.value }
+        pointer.old.value item.old.value result pointer.new.value }
     ensures kind { result ≡ KIND
-        ↔ AreBothAnd place.old.value item.old.value (λ value _. items_of value ≡ None) }
-    ensures capacity { result ≡ CAPACITY ↔ AreBothAnd place.old.value item.old.value
+        ↔ AreBothAnd pointer.old.value item.old.value (λ value _. items_of value ≡ None) }
+    ensures capacity { result ≡ CAPACITY ↔ AreBothAnd pointer.old.value item.old.value
         (λ value _. IsSomeAnd (items_of value) (λ xs. MAX_LEN ≤ length xs)) }
     ensures codes { is_one_of (OK ∷ MEMORY ∷ CAPACITY ∷ KIND ∷ NULL ∷ []) result ≡ true }
     ensures item { item.new.value ≡ item.old.value }
 {
-    let Some(value) = place.value() else {
+    let Some(value) = pointer.value() else {
         return NULL;
     };
     let Some(item) = item.value() else {
@@ -375,19 +378,19 @@ pub extern "C" fn ecow_proved_value_push(place: &mut ValuePlace, item: &mut Valu
 
 /// Takes the last item out, in place of the value at `out`; `INDEX` where there is none.
 #[unsafe(no_mangle)]
-pub extern "C" fn ecow_proved_value_pop(place: &mut ValuePlace, out: &mut ValuePlace) -> u32
+pub extern "C" fn ecow_proved_value_pop(pointer: &mut ValuePointer, out: &mut ValuePointer) -> u32
     ensures value { AltersBy items_of (λ _. option_map (λ xs. take (length xs - 1) xs))
-        place.old.value out.old.value result place.new.value }
-    ensures taken { result ≡ OK → IfSome place.old.value (λ value. IfSome (items_of value)
+        pointer.old.value out.old.value result pointer.new.value }
+    ensures taken { result ≡ OK → IfSome pointer.old.value (λ value. IfSome (items_of value)
         (λ xs. slice_get xs (length xs - 1) ≡ out.new.value)) }
     ensures out { result ≢ OK → out.new.value ≡ out.old.value }
     ensures kind { result ≡ KIND
-        ↔ AreBothAnd place.old.value out.old.value (λ value _. items_of value ≡ None) }
+        ↔ AreBothAnd pointer.old.value out.old.value (λ value _. items_of value ≡ None) }
     ensures index { result ≡ INDEX
-        ↔ AreBothAnd place.old.value out.old.value (λ value _. items_of value ≡ Some []) }
+        ↔ AreBothAnd pointer.old.value out.old.value (λ value _. items_of value ≡ Some []) }
     ensures codes { is_one_of (OK ∷ MEMORY ∷ INDEX ∷ KIND ∷ NULL ∷ []) result ≡ true }
 {
-    let Some(value) = place.value() else {
+    let Some(value) = pointer.value() else {
         return NULL;
     };
     let Some(out) = out.value() else {
@@ -405,23 +408,23 @@ pub extern "C" fn ecow_proved_value_pop(place: &mut ValuePlace, out: &mut ValueP
 /// Puts a clone of the value at `item` in at `index`, before the item that stands there.
 #[unsafe(no_mangle)]
 pub extern "C" fn ecow_proved_value_insert(
-    place: &mut ValuePlace,
+    pointer: &mut ValuePointer,
     index: usize,
-    item: &mut ValuePlace,
+    item: &mut ValuePointer,
 ) -> u32
     ensures value { AltersBy items_of (λ item. option_map (λ xs. insert xs index item))
-        place.old.value item.old.value result place.new.value }
+        pointer.old.value item.old.value result pointer.new.value }
     ensures kind { result ≡ KIND
-        ↔ AreBothAnd place.old.value item.old.value (λ value _. items_of value ≡ None) }
-    ensures index { result ≡ INDEX ↔ AreBothAnd place.old.value item.old.value
+        ↔ AreBothAnd pointer.old.value item.old.value (λ value _. items_of value ≡ None) }
+    ensures index { result ≡ INDEX ↔ AreBothAnd pointer.old.value item.old.value
         (λ value _. IsSomeAnd (items_of value) (λ xs. length xs < index)) }
-    ensures capacity { result ≡ CAPACITY ↔ AreBothAnd place.old.value item.old.value
+    ensures capacity { result ≡ CAPACITY ↔ AreBothAnd pointer.old.value item.old.value
         (λ value _. IsSomeAnd (items_of value)
         (λ xs. (index ≤ length xs) × (MAX_LEN ≤ length xs))) }
     ensures codes { is_one_of (OK ∷ MEMORY ∷ CAPACITY ∷ INDEX ∷ KIND ∷ NULL ∷ []) result ≡ true }
     ensures item { item.new.value ≡ item.old.value }
 {
-    let Some(value) = place.value() else {
+    let Some(value) = pointer.value() else {
         return NULL;
     };
     let Some(item) = item.value() else {
@@ -448,22 +451,22 @@ pub extern "C" fn ecow_proved_value_insert(
 /// Takes the item at `index` out, in place of the value at `out`.
 #[unsafe(no_mangle)]
 pub extern "C" fn ecow_proved_value_remove(
-    place: &mut ValuePlace,
+    pointer: &mut ValuePointer,
     index: usize,
-    out: &mut ValuePlace,
+    out: &mut ValuePointer,
 ) -> u32
     ensures value { AltersBy items_of (λ _. option_map (λ xs. remove xs index))
-        place.old.value out.old.value result place.new.value }
-    ensures taken { result ≡ OK → IfSome place.old.value (λ value. IfSome (items_of value)
+        pointer.old.value out.old.value result pointer.new.value }
+    ensures taken { result ≡ OK → IfSome pointer.old.value (λ value. IfSome (items_of value)
         (λ xs. slice_get xs index ≡ out.new.value)) }
     ensures out { result ≢ OK → out.new.value ≡ out.old.value }
     ensures kind { result ≡ KIND
-        ↔ AreBothAnd place.old.value out.old.value (λ value _. items_of value ≡ None) }
-    ensures index { result ≡ INDEX ↔ AreBothAnd place.old.value out.old.value
+        ↔ AreBothAnd pointer.old.value out.old.value (λ value _. items_of value ≡ None) }
+    ensures index { result ≡ INDEX ↔ AreBothAnd pointer.old.value out.old.value
         (λ value _. IsSomeAnd (items_of value) (λ xs. length xs ≤ index)) }
     ensures codes { is_one_of (OK ∷ MEMORY ∷ INDEX ∷ KIND ∷ NULL ∷ []) result ≡ true }
 {
-    let Some(value) = place.value() else {
+    let Some(value) = pointer.value() else {
         return NULL;
     };
     let Some(out) = out.value() else {
@@ -480,13 +483,13 @@ pub extern "C" fn ecow_proved_value_remove(
 
 /// Keeps the first `len` items, or all where there are fewer.
 #[unsafe(no_mangle)]
-pub extern "C" fn ecow_proved_value_truncate(place: &mut ValuePlace, len: usize) -> u32
+pub extern "C" fn ecow_proved_value_truncate(pointer: &mut ValuePointer, len: usize) -> u32
     ensures value { Alters items_of (option_map (λ xs. take len xs))
-        place.old.value result place.new.value }
-    ensures kind { result ≡ KIND ↔ IsSomeAnd place.old.value (λ value. items_of value ≡ None) }
+        pointer.old.value result pointer.new.value }
+    ensures kind { result ≡ KIND ↔ IsSomeAnd pointer.old.value (λ value. items_of value ≡ None) }
     ensures codes { is_one_of (OK ∷ MEMORY ∷ KIND ∷ NULL ∷ []) result ≡ true }
 {
-    let Some(value) = place.value() else {
+    let Some(value) = pointer.value() else {
         return NULL;
     };
     match value.truncate(len) {
@@ -499,25 +502,25 @@ pub extern "C" fn ecow_proved_value_truncate(place: &mut ValuePlace, len: usize)
 /// where there is no such field.
 #[unsafe(no_mangle)]
 pub extern "C" fn ecow_proved_value_get_field(
-    place: &mut ValuePlace,
+    pointer: &mut ValuePointer,
     name: &[u8],
-    out: &mut ValuePlace,
+    out: &mut ValuePointer,
 ) -> u32
-    ensures ok { result ≡ OK → IfSome place.old.value (λ value. IfSome (fields_of value)
+    ensures ok { result ≡ OK → IfSome pointer.old.value (λ value. IfSome (fields_of value)
         (λ fields. look_up name.now fields ≡ out.new.value)) }
     ensures refused { result ≢ OK → out.new.value ≡ out.old.value }
     ensures utf8 { result ≡ UTF8
-        ↔ AreBothAnd place.old.value out.old.value (λ _ _. is_utf8 name.now ≡ false) }
-    ensures kind { result ≡ KIND ↔ AreBothAnd place.old.value out.old.value
+        ↔ AreBothAnd pointer.old.value out.old.value (λ _ _. is_utf8 name.now ≡ false) }
+    ensures kind { result ≡ KIND ↔ AreBothAnd pointer.old.value out.old.value
         (λ value _. (is_utf8 name.now ≡ true) × (fields_of value ≡ None)) }
-    ensures index { result ≡ INDEX ↔ AreBothAnd place.old.value out.old.value
+    ensures index { result ≡ INDEX ↔ AreBothAnd pointer.old.value out.old.value
         (λ value _. (is_utf8 name.now ≡ true)
         × IsSomeAnd (fields_of value) (λ fields. look_up name.now fields ≡ None)) }
-    ensures null { result ≡ NULL ↔ is_none place.old.value || is_none out.old.value ≡ true }
+    ensures null { result ≡ NULL ↔ is_none pointer.old.value || is_none out.old.value ≡ true }
     ensures codes { is_one_of (OK ∷ MEMORY ∷ INDEX ∷ UTF8 ∷ KIND ∷ NULL ∷ []) result ≡ true }
-    ensures unchanged { place.new.value ≡ place.old.value }
+    ensures unchanged { pointer.new.value ≡ pointer.old.value }
 {
-    let Some(value) = place.value() else {
+    let Some(value) = pointer.value() else {
         return NULL;
     };
     let Some(out) = out.value() else {
@@ -542,23 +545,23 @@ pub extern "C" fn ecow_proved_value_get_field(
 /// a field where there is none.
 #[unsafe(no_mangle)]
 pub extern "C" fn ecow_proved_value_set_field(
-    place: &mut ValuePlace,
+    pointer: &mut ValuePointer,
     name: &[u8],
-    item: &mut ValuePlace,
+    item: &mut ValuePointer,
 ) -> u32
     ensures value { AltersBy fields_of (λ item. option_map (with_field name.now item))
-        place.old.value item.old.value result place.new.value }
+        pointer.old.value item.old.value result pointer.new.value }
     ensures utf8 { result ≡ UTF8
-        ↔ AreBothAnd place.old.value item.old.value (λ _ _. is_utf8 name.now ≡ false) }
-    ensures kind { result ≡ KIND ↔ AreBothAnd place.old.value item.old.value
+        ↔ AreBothAnd pointer.old.value item.old.value (λ _ _. is_utf8 name.now ≡ false) }
+    ensures kind { result ≡ KIND ↔ AreBothAnd pointer.old.value item.old.value
         (λ value _. (is_utf8 name.now ≡ true) × (fields_of value ≡ None)) }
-    ensures capacity { result ≡ CAPACITY → IsSomeAnd place.old.value
+    ensures capacity { result ≡ CAPACITY → IsSomeAnd pointer.old.value
         (λ value. IsSomeAnd (fields_of value)
         (λ fields. (MAX_LEN ≤ length fields) ⊎ (MAX_LEN < length name.now))) }
     ensures codes { is_one_of (OK ∷ MEMORY ∷ CAPACITY ∷ UTF8 ∷ KIND ∷ NULL ∷ []) result ≡ true }
     ensures item { item.new.value ≡ item.old.value }
 {
-    let Some(value) = place.value() else {
+    let Some(value) = pointer.value() else {
         return NULL;
     };
     let Some(item) = item.value() else {
@@ -583,25 +586,25 @@ pub extern "C" fn ecow_proved_value_set_field(
 /// is no such field.
 #[unsafe(no_mangle)]
 pub extern "C" fn ecow_proved_value_remove_field(
-    place: &mut ValuePlace,
+    pointer: &mut ValuePointer,
     name: &[u8],
-    out: &mut ValuePlace,
+    out: &mut ValuePointer,
 ) -> u32
     ensures value { AltersBy fields_of (λ _. option_map (without_field name.now))
-        place.old.value out.old.value result place.new.value }
-    ensures taken { result ≡ OK → IfSome place.old.value (λ value. IfSome (fields_of value)
+        pointer.old.value out.old.value result pointer.new.value }
+    ensures taken { result ≡ OK → IfSome pointer.old.value (λ value. IfSome (fields_of value)
         (λ fields. look_up name.now fields ≡ out.new.value)) }
     ensures out { result ≢ OK → out.new.value ≡ out.old.value }
     ensures utf8 { result ≡ UTF8
-        ↔ AreBothAnd place.old.value out.old.value (λ _ _. is_utf8 name.now ≡ false) }
-    ensures kind { result ≡ KIND ↔ AreBothAnd place.old.value out.old.value
+        ↔ AreBothAnd pointer.old.value out.old.value (λ _ _. is_utf8 name.now ≡ false) }
+    ensures kind { result ≡ KIND ↔ AreBothAnd pointer.old.value out.old.value
         (λ value _. (is_utf8 name.now ≡ true) × (fields_of value ≡ None)) }
-    ensures index { result ≡ INDEX ↔ AreBothAnd place.old.value out.old.value
+    ensures index { result ≡ INDEX ↔ AreBothAnd pointer.old.value out.old.value
         (λ value _. (is_utf8 name.now ≡ true)
         × IsSomeAnd (fields_of value) (λ fields. look_up name.now fields ≡ None)) }
     ensures codes { is_one_of (OK ∷ MEMORY ∷ INDEX ∷ UTF8 ∷ KIND ∷ NULL ∷ []) result ≡ true }
 {
-    let Some(value) = place.value() else {
+    let Some(value) = pointer.value() else {
         return NULL;
     };
     let Some(out) = out.value() else {
@@ -622,22 +625,22 @@ pub extern "C" fn ecow_proved_value_remove_field(
 /// Puts a clone of the name of the field at `index` in place of the text at `out`.
 #[unsafe(no_mangle)]
 pub extern "C" fn ecow_proved_value_field_name(
-    place: &mut ValuePlace,
+    pointer: &mut ValuePointer,
     index: usize,
-    out: &mut TextPlace,
+    out: &mut TextPointer,
 ) -> u32
-    ensures ok { result ≡ OK → IfSome place.old.value (λ value. IfSome (fields_of value)
+    ensures ok { result ≡ OK → IfSome pointer.old.value (λ value. IfSome (fields_of value)
         (λ fields. name_in (slice_get fields index) ≡ out.new.value)) }
     ensures refused { result ≢ OK → out.new.value ≡ out.old.value }
     ensures kind { result ≡ KIND
-        ↔ AreBothAnd place.old.value out.old.value (λ value _. fields_of value ≡ None) }
-    ensures index { result ≡ INDEX ↔ AreBothAnd place.old.value out.old.value
+        ↔ AreBothAnd pointer.old.value out.old.value (λ value _. fields_of value ≡ None) }
+    ensures index { result ≡ INDEX ↔ AreBothAnd pointer.old.value out.old.value
         (λ value _. IsSomeAnd (fields_of value) (λ fields. length fields ≤ index)) }
-    ensures null { result ≡ NULL ↔ is_none place.old.value || is_none out.old.value ≡ true }
+    ensures null { result ≡ NULL ↔ is_none pointer.old.value || is_none out.old.value ≡ true }
     ensures codes { is_one_of (OK ∷ MEMORY ∷ INDEX ∷ KIND ∷ NULL ∷ []) result ≡ true }
-    ensures unchanged { place.new.value ≡ place.old.value }
+    ensures unchanged { pointer.new.value ≡ pointer.old.value }
 {
-    let Some(value) = place.value() else {
+    let Some(value) = pointer.value() else {
         return NULL;
     };
     let Some(out) = out.text() else {
@@ -657,7 +660,7 @@ pub extern "C" fn ecow_proved_value_field_name(
 
 /// Whether two values are equal.
 #[unsafe(no_mangle)]
-pub extern "C" fn ecow_proved_value_equal(left: &mut ValuePlace, right: &mut ValuePlace) -> bool
+pub extern "C" fn ecow_proved_value_equal(left: &mut ValuePointer, right: &mut ValuePointer) -> bool
     ensures equal { result ≡ are_both value_eq left.old.value right.old.value }
     ensures unchanged { (left.new.value ≡ left.old.value) × (right.new.value ≡ right.old.value) }
 {

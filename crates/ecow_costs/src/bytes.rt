@@ -5,7 +5,7 @@ use crate::small;
 use crate::small::{Call, Gift, Row, add_calls, add_few, add_growth, add_makers, given};
 use crate::states::error_of;
 use ecow_bytes::SmallBytes;
-use ecow_list::EcoError;
+use ecow_vec::EcoError;
 use std::alloc::Global;
 use std::hash::{DefaultHasher, Hash};
 use std::io::Write;
@@ -38,7 +38,7 @@ pub(crate) enum Bytes {
     Clone,
     Repeat(usize),
     ToVec,
-    Made(Maker),
+    NewValue(Maker),
 }
 
 /// A call that makes bytes of something else.
@@ -155,7 +155,7 @@ fn derivations() -> [Row; 5] {
 }
 
 fn making(maker: Maker, name: &'static str, brings: usize) -> Row {
-    row_of(Bytes::Made(maker), name, brings, 0)
+    row_of(Bytes::NewValue(maker), name, brings, 0)
 }
 
 fn makers() -> [Row; 24] {
@@ -397,7 +397,7 @@ pub(crate) fn call_on<const N: usize>(
         Bytes::Clone => return Ok(Some(clone(value)?)),
         Bytes::Repeat(count) => return Ok(Some(value.repeat(count)?)),
         Bytes::ToVec => drop(value.to_vec()?),
-        Bytes::Made(call) => return Ok(Some(make(call, gift, alloc, value)?)),
+        Bytes::NewValue(call) => return Ok(Some(make(call, gift, alloc, value)?)),
         _ => {
             for _ in 0..times {
                 add(call, value, gift.bytes.as_slice())?;

@@ -3,7 +3,7 @@
 use crate::marks::Meter;
 use crate::rows::{Cost, Form, Kind, Rows, Standing, USUAL};
 use crate::states::{State, form_of, kept_pair, vectors};
-use ecow_list::{EcoError, EcoVec, range_in};
+use ecow_vec::{EcoError, EcoVec, range_in};
 use std::hash::{DefaultHasher, Hash};
 use std::io::Write;
 

@@ -5,8 +5,8 @@ use crate::small;
 use crate::small::{Call, Gift, Row, add_calls, add_few, add_growth, add_makers, given};
 use crate::states::error_of;
 use ecow_bytes::SmallBytes;
-use ecow_list::EcoError;
-use ecow_text::SmallText;
+use ecow_string::SmallString;
+use ecow_vec::EcoError;
 use std::alloc::{AllocError, Global};
 use std::fmt::Write;
 use std::hash::{DefaultHasher, Hash};
@@ -43,7 +43,7 @@ pub(crate) enum Text {
     Add,
     IntoBytes,
     IntoEcoVec,
-    Made(Maker),
+    NewValue(Maker),
     Derived(Derived),
     ToString,
 }
@@ -207,7 +207,7 @@ fn derivations() -> [Row; 13] {
 }
 
 fn making(maker: Maker, name: &'static str, brings: usize) -> Row {
-    row_of(Text::Made(maker), name, brings, 0)
+    row_of(Text::NewValue(maker), name, brings, 0)
 }
 
 fn makers() -> [Row; 28] {
@@ -255,50 +255,62 @@ fn makers() -> [Row; 28] {
 fn makers_at(limit: usize) -> [Row; 20] {
     let more = limit.saturating_add(1);
     [
-        making(Maker::New, "SmallText::new()", 0),
-        making(Maker::Inline, "SmallText::inline(limit)", limit),
-        making(Maker::TryInline, "SmallText::try_inline(limit)", limit),
+        making(Maker::New, "SmallString::new()", 0),
+        making(Maker::Inline, "SmallString::inline(limit)", limit),
+        making(Maker::TryInline, "SmallString::try_inline(limit)", limit),
         making(
             Maker::WithCapacity,
-            "SmallText::with_capacity(limit)",
+            "SmallString::with_capacity(limit)",
             limit,
         ),
         making(
             Maker::WithCapacity,
-            "SmallText::with_capacity(limit + 1)",
+            "SmallString::with_capacity(limit + 1)",
             more,
         ),
-        making(Maker::FromChar, "SmallText::from_char(é)", 0),
-        making(Maker::FromStr, "SmallText::from_str(limit)", limit),
-        making(Maker::FromStr, "SmallText::from_str(limit + 1)", more),
-        making(Maker::FromString, "SmallText::from_string(limit)", limit),
-        making(Maker::FromString, "SmallText::from_string(limit + 1)", more),
-        making(Maker::FromChars, "SmallText::from_chars(limit)", limit),
-        making(Maker::FromChars, "SmallText::from_chars(limit + 1)", more),
-        making(Maker::FromStrs, "SmallText::from_strs(one of limit)", limit),
+        making(Maker::FromChar, "SmallString::from_char(é)", 0),
+        making(Maker::FromStr, "SmallString::from_str(limit)", limit),
+        making(Maker::FromStr, "SmallString::from_str(limit + 1)", more),
+        making(Maker::FromString, "SmallString::from_string(limit)", limit),
+        making(
+            Maker::FromString,
+            "SmallString::from_string(limit + 1)",
+            more,
+        ),
+        making(Maker::FromChars, "SmallString::from_chars(limit)", limit),
+        making(Maker::FromChars, "SmallString::from_chars(limit + 1)", more),
         making(
             Maker::FromStrs,
-            "SmallText::from_strs(one of limit + 1)",
+            "SmallString::from_strs(one of limit)",
+            limit,
+        ),
+        making(
+            Maker::FromStrs,
+            "SmallString::from_strs(one of limit + 1)",
             more,
         ),
         making(
             Maker::FromEcoStrings,
-            "SmallText::from_eco_strings(limit, 8)",
+            "SmallString::from_eco_strings(limit, 8)",
             limit,
         ),
         making(
             Maker::FromEcoStrings,
-            "SmallText::from_eco_strings(limit + 1, 8)",
+            "SmallString::from_eco_strings(limit + 1, 8)",
             more,
         ),
-        making(Maker::Collect, "SmallText: collect(limit chars)", limit),
-        making(Maker::Collect, "SmallText: collect(limit + 1 chars)", more),
-        making(Maker::Format, "SmallText::format(limit)", limit),
-        making(Maker::Format, "SmallText::format(limit + 1)", more),
+        making(Maker::Collect, "SmallString: collect(limit chars)", limit),
+        making(
+            Maker::Collect,
+            "SmallString: collect(limit + 1 chars)",
+            more,
+        ),
+        making(Maker::Format, "SmallString::format(limit)", limit),
+        making(Maker::Format, "SmallString::format(limit + 1)", more),
     ]
 }
 
-fn read<const N: usize>(text: &SmallText<N>) {
+fn read<const N: usize>(text: &SmallString<N>) {
     let _seen = text.as_str().len() == text.len() && text.is_empty() == (text.len() == 0);
     let _room = text.capacity();
     let _mode = text.is_inline() && text.is_char_boundary(0);
@@ -308,21 +320,21 @@ fn read<const N: usize>(text: &SmallText<N>) {
     text.hash(&mut hasher);
 }
 
-fn insert<const N: usize>(text: &mut SmallText<N>, c: char) -> Result<(), EcoError> {
+fn insert<const N: usize>(text: &mut SmallString<N>, c: char) -> Result<(), EcoError> {
     if !text.is_char_boundary(0) {
         return Ok(());
     }
     text.insert(0, c)
 }
 
-fn insert_str<const N: usize>(text: &mut SmallText<N>, more: &str) -> Result<(), EcoError> {
+fn insert_str<const N: usize>(text: &mut SmallString<N>, more: &str) -> Result<(), EcoError> {
     if !text.is_char_boundary(0) {
         return Ok(());
     }
     text.insert_str(0, more)
 }
 
-fn replace<const N: usize>(text: &mut SmallText<N>, more: &str) -> Result<(), EcoError> {
+fn replace<const N: usize>(text: &mut SmallString<N>, more: &str) -> Result<(), EcoError> {
     let end = text.len().min(2);
     if !text.is_char_boundary(0) || !text.is_char_boundary(end) {
         return Ok(());
@@ -330,7 +342,7 @@ fn replace<const N: usize>(text: &mut SmallText<N>, more: &str) -> Result<(), Ec
     text.replace_range(..end, more)
 }
 
-fn insert_last<const N: usize>(text: &mut SmallText<N>, more: &str) -> Result<(), EcoError> {
+fn insert_last<const N: usize>(text: &mut SmallString<N>, more: &str) -> Result<(), EcoError> {
     let end = text.len();
     if !text.is_char_boundary(end) {
         return Ok(());
@@ -338,26 +350,26 @@ fn insert_last<const N: usize>(text: &mut SmallText<N>, more: &str) -> Result<()
     text.insert_str(end, more)
 }
 
-fn push_reserved<const N: usize>(text: &mut SmallText<N>) -> Result<(), EcoError> {
+fn push_reserved<const N: usize>(text: &mut SmallString<N>) -> Result<(), EcoError> {
     text.reserve(1)?;
     text.push('x')
 }
 
-fn remove<const N: usize>(text: &mut SmallText<N>) -> Result<(), EcoError> {
+fn remove<const N: usize>(text: &mut SmallString<N>) -> Result<(), EcoError> {
     if text.len() == 0 || !text.is_char_boundary(0) {
         return Ok(());
     }
     text.remove(0).map(drop)
 }
 
-fn truncate<const N: usize>(text: &mut SmallText<N>, len: usize) -> Result<(), EcoError> {
+fn truncate<const N: usize>(text: &mut SmallString<N>, len: usize) -> Result<(), EcoError> {
     if !text.is_char_boundary(len) {
         return Ok(());
     }
     text.truncate(len)
 }
 
-fn write<const N: usize>(text: &mut SmallText<N>, more: &str) -> Result<(), EcoError> {
+fn write<const N: usize>(text: &mut SmallString<N>, more: &str) -> Result<(), EcoError> {
     match text.write_str(more) {
         Ok(()) => Ok(()),
         Err(_) => Err(EcoError::Memory),
@@ -365,7 +377,7 @@ fn write<const N: usize>(text: &mut SmallText<N>, more: &str) -> Result<(), EcoE
 }
 
 /// Makes a call that adds text.
-fn add<const N: usize>(call: Text, text: &mut SmallText<N>, more: &str) -> Result<(), EcoError> {
+fn add<const N: usize>(call: Text, text: &mut SmallString<N>, more: &str) -> Result<(), EcoError> {
     match call {
         Text::Push(c) => text.push(c),
         Text::PushStr => text.push_str(more),
@@ -384,7 +396,7 @@ fn add<const N: usize>(call: Text, text: &mut SmallText<N>, more: &str) -> Resul
 }
 
 /// Makes a call that adds no text.
-fn change<const N: usize>(call: Text, text: &mut SmallText<N>) -> Result<(), EcoError> {
+fn change<const N: usize>(call: Text, text: &mut SmallString<N>) -> Result<(), EcoError> {
     match call {
         Text::Pop => text.pop().map(drop),
         Text::Remove => remove(text),
@@ -400,7 +412,7 @@ fn change<const N: usize>(call: Text, text: &mut SmallText<N>) -> Result<(), Eco
 }
 
 /// Makes a call that is never refused.
-fn settle<const N: usize>(call: Text, text: &mut SmallText<N>) {
+fn settle<const N: usize>(call: Text, text: &mut SmallString<N>) {
     match call {
         Text::Clear => text.clear(),
         Text::Shrink => text.shrink_to_fit(),
@@ -411,10 +423,10 @@ fn settle<const N: usize>(call: Text, text: &mut SmallText<N>) {
 
 /// The text with more behind it, so often.
 fn sum<const N: usize>(
-    text: SmallText<N>,
+    text: SmallString<N>,
     more: &str,
     times: usize,
-) -> Result<SmallText<N>, EcoError> {
+) -> Result<SmallString<N>, EcoError> {
     let mut sum = text;
     for _ in 0..times {
         sum = sum.add(more).map_err(error_of)?;
@@ -425,7 +437,7 @@ fn sum<const N: usize>(
 /// The bytes of the text after a call that is made so often. `none` names their type.
 fn changed<const N: usize>(
     call: Text,
-    text: SmallText<N>,
+    text: SmallString<N>,
     more: &str,
     times: usize,
     none: &SmallBytes<N>,
@@ -443,7 +455,10 @@ fn changed<const N: usize>(
     Ok(SmallBytes::from(text))
 }
 
-fn text_made<const N: usize>(call: Derived, text: &SmallText<N>) -> Result<SmallText<N>, EcoError> {
+fn text_made<const N: usize>(
+    call: Derived,
+    text: &SmallString<N>,
+) -> Result<SmallString<N>, EcoError> {
     match call {
         Derived::Clone => spilled_or_inline(text.clone()),
         Derived::Repeat(count) => text.repeat(count),
@@ -457,8 +472,8 @@ fn text_made<const N: usize>(call: Derived, text: &SmallText<N>) -> Result<Small
 }
 
 fn spilled_or_inline<const N: usize>(
-    made: Result<SmallText<N>, AllocError>,
-) -> Result<SmallText<N>, EcoError> {
+    made: Result<SmallString<N>, AllocError>,
+) -> Result<SmallString<N>, EcoError> {
     match made {
         Ok(text) => Ok(text),
         Err(error) => Err(error.into()),
@@ -466,25 +481,25 @@ fn spilled_or_inline<const N: usize>(
 }
 
 fn printed<const N: usize>(
-    made: Result<SmallText<N>, fmt::Error>,
-) -> Result<SmallText<N>, EcoError> {
+    made: Result<SmallString<N>, fmt::Error>,
+) -> Result<SmallString<N>, EcoError> {
     match made {
         Ok(text) => Ok(text),
         Err(_) => Err(EcoError::Memory),
     }
 }
 
-fn inline<const N: usize>(alloc: Global, text: &str, _none: &SmallText<N>) -> SmallText<N> {
+fn inline<const N: usize>(alloc: Global, text: &str, _none: &SmallString<N>) -> SmallString<N> {
     if text.len() > N {
-        return SmallText::new(alloc);
+        return SmallString::new(alloc);
     }
-    SmallText::inline(alloc, text)
+    SmallString::inline(alloc, text)
 }
 
-fn try_inline<const N: usize>(alloc: Global, text: &str, _none: &SmallText<N>) -> SmallText<N> {
-    match SmallText::try_inline(alloc, text) {
+fn try_inline<const N: usize>(alloc: Global, text: &str, _none: &SmallString<N>) -> SmallString<N> {
+    match SmallString::try_inline(alloc, text) {
         Some(made) => made,
-        None => SmallText::new(alloc),
+        None => SmallString::new(alloc),
     }
 }
 
@@ -493,27 +508,27 @@ fn make<const N: usize>(
     call: Maker,
     gift: Gift<N>,
     alloc: Global,
-) -> Result<SmallText<N>, EcoError> {
-    let (text, none) = (gift.string.as_str(), SmallText::new(alloc));
+) -> Result<SmallString<N>, EcoError> {
+    let (text, none) = (gift.string.as_str(), SmallString::new(alloc));
     match call {
         Maker::New => Ok(none),
         Maker::Inline => Ok(inline(alloc, text, &none)),
         Maker::TryInline => Ok(try_inline(alloc, text, &none)),
-        Maker::WithCapacity => SmallText::with_capacity(alloc, text.len()),
-        Maker::FromStr => SmallText::from_str(alloc, text),
-        Maker::FromChar => SmallText::from_char(alloc, 'é'),
-        Maker::FromString => SmallText::from_string(alloc, gift.string).map_err(error_of),
-        Maker::FromChars => SmallText::from_chars(alloc, text.chars()),
-        Maker::FromStrs => SmallText::from_strs(alloc, Some(text)),
-        Maker::FromManyStrs => SmallText::from_strs(alloc, repeat_n(text, PIECES)),
-        Maker::FromEcoStrings => SmallText::from_eco_strings(alloc, gift.texts),
+        Maker::WithCapacity => SmallString::with_capacity(alloc, text.len()),
+        Maker::FromStr => SmallString::from_str(alloc, text),
+        Maker::FromChar => SmallString::from_char(alloc, 'é'),
+        Maker::FromString => SmallString::from_string(alloc, gift.string).map_err(error_of),
+        Maker::FromChars => SmallString::from_chars(alloc, text.chars()),
+        Maker::FromStrs => SmallString::from_strs(alloc, Some(text)),
+        Maker::FromManyStrs => SmallString::from_strs(alloc, repeat_n(text, PIECES)),
+        Maker::FromEcoStrings => SmallString::from_eco_strings(alloc, gift.texts),
         Maker::Collect => spilled_or_inline(text.chars().collect(alloc)),
-        Maker::Format => printed(SmallText::format(alloc, text)),
+        Maker::Format => printed(SmallString::format(alloc, text)),
     }
 }
 
-fn text_of<const N: usize>(bytes: SmallBytes<N>) -> Result<SmallText<N>, EcoError> {
-    match SmallText::try_from(bytes) {
+fn text_of<const N: usize>(bytes: SmallBytes<N>) -> Result<SmallString<N>, EcoError> {
+    match SmallString::try_from(bytes) {
         Ok(text) => Ok(text),
         Err(_) => Err(EcoError::Capacity),
     }
@@ -531,7 +546,7 @@ pub(crate) fn call_on<const N: usize>(
     let text = text_of(mem::replace(value, SmallBytes::new(alloc)))?;
     let mut made = None;
     match call {
-        Text::Made(call) => made = Some(SmallBytes::from(make(call, gift, alloc)?)),
+        Text::NewValue(call) => made = Some(SmallBytes::from(make(call, gift, alloc)?)),
         Text::Derived(call) => made = Some(SmallBytes::from(text_made(call, &text)?)),
         Text::ToString => drop(text.to_std_string()?),
         _ => {

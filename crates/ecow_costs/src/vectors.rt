@@ -2,8 +2,8 @@
 use crate::marks::Meter;
 use crate::rows::{Cost, Form, Kind, Rows, Standing, USUAL};
 use crate::states::{Pair, State, error_of, form_of, kept_pair, vectors};
-use ecow_list::{Drain, EcoError, EcoVec, IntoArray, IntoIter, Splice, range_in};
 use ecow_testing::elements::{Counting, Tally};
+use ecow_vec::{Drain, EcoError, EcoVec, IntoArray, IntoIter, Splice, range_in};
 use std::alloc::{AllocError, Global};
 use std::mem;
 
@@ -214,7 +214,7 @@ enum Out {
     One(Counting),
     Drained(Drain<Counting>),
     Spliced(Splice<Counting>),
-    Made(EcoVec<Counting>),
+    NewValue(EcoVec<Counting>),
     Given(Given),
 }
 
@@ -235,7 +235,7 @@ fn nothing(done: Result<(), EcoError>) -> Outcome {
 }
 
 fn made(made: Result<EcoVec<Counting>, EcoError>) -> Outcome {
-    made.map(|list| Out::Made(list))
+    made.map(|list| Out::NewValue(list))
 }
 
 fn of_one(one: Option<Counting>) -> Out {
@@ -504,7 +504,7 @@ fn call_any(
 /// What stands after a call.
 fn after(kind: Kind, kept: &mut Pair<Counting>, out: &mut Out) -> Standing {
     match out {
-        Out::Made(list) => kind.after(form_of(list), form_of(&mut kept.list), list.capacity()),
+        Out::NewValue(list) => kind.after(form_of(list), form_of(&mut kept.list), list.capacity()),
         Out::Given(_) => kind.after(Form::Absent, kept.form_of_twin(), 0),
         _ => kept.standing(),
     }

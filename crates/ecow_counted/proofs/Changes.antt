@@ -8,29 +8,29 @@ use Rattle.std.proofs.lemmas.Option.{none-some, same_Some}
 use Rattle.slab.specs.Slab.{Slab, get, slab_len}
 use Rattle.ecow_base.specs.Capacity.{MAX}
 use Rattle.ecow_model.specs.CountedRun.{nothing}
-use Rattle.ecow_model.specs.Names.{Held, IsSharing, without, forget, settle, blocks}
+use Rattle.ecow_model.specs.Names.{Holding, IsSharing, without, forget, settle, blocks}
 use Rattle.ecow_laws.proofs.Groups.{without_absent}
 use Rattle.ecow_laws.proofs.Kept.{blocks-settle}
 use Rattle.ecow_laws.proofs.Settled.{own_blocks, blocks_left}
 use Rattle.ecow_counted.specs.declared.blocks.Entry.{Entry}
-use Rattle.ecow_counted.specs.Places.{Places, names_at, held_together, held_in, names_of, IsOwned, IsTable}
+use Rattle.ecow_counted.specs.Places.{Places, names_at, holding_together, holding_in, names_of, IsOwned, IsTable}
 use Rattle.ecow_counted.proofs.Placing.{found_at, member-names_at, get_names_of, sharing-table, names_of-forget, names_of-bare, names_of-settle, own_group, group_of_others}
 
 -- what a name shows, by its place
 module _ {X : Type 0} (places : Places) (table : Slab (Entry X)) (x : ℕ) where
-  pub shown_at : (w : Option ℕ) → finite.get places x ≡ Some w → finite.get (names_of places table) x ≡ Some (held_in places table w)
-  shown_at w f = get_names_of places table x ∙ ap (option_map (held_in places table)) f
+  pub shown_at : (w : Option ℕ) → finite.get places x ≡ Some w → finite.get (names_of places table) x ≡ Some (holding_in places table w)
+  shown_at w f = get_names_of places table x ∙ ap (option_map (holding_in places table)) f
 
   pub shown_entry : (p : ℕ) (entry : Entry X) → finite.get places x ≡ Some (Some p) → get table p ≡ Some entry → finite.get (names_of places table) x ≡ Some (record { items = entry.block.items; group = names_at p places; capacity = entry.block.capacity })
-  shown_entry p entry f e = shown_at (Some p) f ∙ ap (λ s. Some (held_together (names_at p places) s)) e
+  shown_entry p entry f e = shown_at (Some p) f ∙ ap (λ s. Some (holding_together (names_at p places) s)) e
 
   pub shown_none : finite.get places x ≡ None → finite.get (names_of places table) x ≡ None
-  shown_none f = get_names_of places table x ∙ ap (option_map (held_in places table)) f
+  shown_none f = get_names_of places table x ∙ ap (option_map (holding_in places table)) f
 
   pub absent_place : finite.get (names_of places table) x ≡ None → finite.get places x ≡ None
-  absent_place none = elim (finite.get places x) as (λ o. option_map (held_in places table) o ≡ None → o ≡ None) [
+  absent_place none = elim (finite.get places x) as (λ o. option_map (holding_in places table) o ≡ None → o ≡ None) [
     | None ↦ λ _. refl
-    | Some w ↦ λ e. absurd (none-some (held_in places table w) (sym e))
+    | Some w ↦ λ e. absurd (none-some (holding_in places table w) (sym e))
   ] (sym (get_names_of places table x) ∙ none)
 
   pub some_place : IsSome (finite.get (names_of places table) x) → IsSome (finite.get places x)
@@ -57,7 +57,7 @@ module _ {X : Type 0} (places : Places) (table : Slab (Entry X)) (x : ℕ) where
         | Some p ↦ λ f.
             let there = entry_at p f in
             let same = same_Some _ _ (sym (shown_entry p there.0 f there.1) ∙ bare) in
-            let few : length (names_at p places) ≡ 0 = ap (λ (h : Held X). length h.group) same in
+            let few : length (names_at p places) ≡ 0 = ap (λ (h : Holding X). length h.group) same in
             absurd (omega (arith, some_owners p there.0 there.1, few))
       ]
     ] refl
@@ -82,9 +82,9 @@ module _ {X : Type 0} (places after : Places) (table left : Slab (Entry X)) (is 
 
   module _ (bare : (other : ℕ) → found_at other (finite.get places x) ≡ false) where
     no_block : own_blocks (finite.get (names_of places table) x) ≡ 0
-    no_block = ap own_blocks (get_names_of places table x) ∙ elim (finite.get places x) as (λ o. ((other : ℕ) → found_at other o ≡ false) → own_blocks (option_map (held_in places table) o) ≡ 0) [
+    no_block = ap own_blocks (get_names_of places table x) ∙ elim (finite.get places x) as (λ o. ((other : ℕ) → found_at other o ≡ false) → own_blocks (option_map (holding_in places table) o) ≡ 0) [
       | None ↦ λ _. refl
-      | Some w ↦ elim w as (λ w. ((other : ℕ) → found_at other (Some w) ≡ false) → own_blocks (option_map (held_in places table) (Some w)) ≡ 0) [
+      | Some w ↦ elim w as (λ w. ((other : ℕ) → found_at other (Some w) ≡ false) → own_blocks (option_map (holding_in places table) (Some w)) ≡ 0) [
         | None ↦ λ _. refl
         | Some p ↦ λ none. absurd (true≢false (sym (eq-eqb p p refl) ∙ none p))
       ]
@@ -133,19 +133,19 @@ module _ {X : Type 0} (places after : Places) (table left : Slab (Entry X)) (is 
       pub placed_names : names_of after left ≡ settle x entry.block.items entry.block.capacity (names_of places table)
       placed_names = names_of-settle places after table left x v found
           (λ q other ne f. elsewhere other (λ e. apart q other f (sym e)))
-          (λ q other ne f group. ap (held_together group) (others other (apart q other f)))
+          (λ q other ne f group. ap (holding_together group) (others other (apart q other f)))
           p entry goes here backed
 
       own_is : names_at p after ≡ x ∷ []
       own_is = own_group places after table left x v found
           (λ q other ne f. elsewhere other (λ e. apart q other f (sym e)))
-          (λ q other ne f group. ap (held_together group) (others other (apart q other f)))
+          (λ q other ne f group. ap (holding_together group) (others other (apart q other f)))
           p entry goes here
 
       group_is : (other : ℕ) → p ≢ other → names_at other after ≡ names_at other places
       group_is other ne = group_of_others places after table left x v found
           (λ q other ne f. elsewhere other (λ e. apart q other f (sym e)))
-          (λ q other ne f group. ap (held_together group) (others other (apart q other f)))
+          (λ q other ne f group. ap (holding_together group) (others other (apart q other f)))
           other (elsewhere other ne) ∙ unmoved other
 
       one_more : blocks (settle x entry.block.items entry.block.capacity (names_of places table)) ≡ blocks (names_of places table) + 1

@@ -7,11 +7,11 @@ use Rattle.std.proofs.lemmas.List.{nil_from_length}
 use Rattle.ecow_base.specs.Capacity.{MAX, fresh, grown, room}
 use Rattle.ecow_base.specs.Range.{items_in_range}
 use Rattle.ecow_model.specs.Refusing.{◌>>=◌, Effect, check, becomes, verdict}
-use Rattle.ecow_model.specs.Lists.{edit_list, grows}
-use Rattle.ecow_model.specs.Costs.{unshares, copies, capacity_after, moves, held_is_free}
-use Rattle.ecow_model.specs.Names.{Held, is_shared}
-use Rattle.ecow_model.specs.declared.lists.ListEdit.{ListEdit}
-use Rattle.ecow_model.specs.declared.lists.ListEdit.TheVariants.{Push, Pop, Insert, Remove, Truncate, Clear, Retain, Drain, Splice, Extend, Reserve, Write}
+use Rattle.ecow_model.specs.Vecs.{edit_vec, grows}
+use Rattle.ecow_model.specs.Costs.{unshares, copies, capacity_after, moves, holding_is_free}
+use Rattle.ecow_model.specs.Names.{Holding, is_shared}
+use Rattle.ecow_model.specs.declared.vecs.VecEdit.{VecEdit}
+use Rattle.ecow_model.specs.declared.vecs.VecEdit.TheVariants.{Push, Pop, Insert, Remove, Truncate, Clear, Retain, Drain, Splice, Extend, Reserve, Write}
 use Rattle.ecow_model.specs.declared.command.Outcome.{Outcome}
 use Rattle.ecow_model.specs.declared.command.Outcome.TheVariants.{Done, Popped}
 use Rattle.ecow_model.specs.declared.command.Refusal.{Refusal}
@@ -42,14 +42,14 @@ module _ {T : Type 0} where
   refused_by (Ok answer) refusal e = cc
   refused_by (Err other) refusal e = cc
 
-  pub accepts : (e : ListEdit T) (xs : List T) → verdict (edit_list e xs) ≡ Ok tt → (answer : Outcome T × List T) × (edit_list e xs ≡ Ok answer)
-  accepts e xs asked = accepted_by (edit_list e xs) asked
+  pub accepts : (e : VecEdit T) (xs : List T) → verdict (edit_vec e xs) ≡ Ok tt → (answer : Outcome T × List T) × (edit_vec e xs ≡ Ok answer)
+  accepts e xs asked = accepted_by (edit_vec e xs) asked
 
-  pub refuses : (e : ListEdit T) (xs : List T) (refusal : Refusal) → verdict (edit_list e xs) ≡ Err refusal → edit_list e xs ≡ Err refusal
-  refuses e xs refusal asked = refused_by (edit_list e xs) refusal asked
+  pub refuses : (e : VecEdit T) (xs : List T) (refusal : Refusal) → verdict (edit_vec e xs) ≡ Err refusal → edit_vec e xs ≡ Err refusal
+  refuses e xs refusal asked = refused_by (edit_vec e xs) refusal asked
 
   -- an accepted change asks for no more than the greatest length
-  asked_by : (e : ListEdit T) (xs : List T) (answer : Outcome T × List T) → length xs ≤ MAX → edit_list e xs ≡ Ok answer → asked_length e (length xs) ≤ MAX
+  asked_by : (e : VecEdit T) (xs : List T) (answer : Outcome T × List T) → length xs ≤ MAX → edit_vec e xs ≡ Ok answer → asked_length e (length xs) ≤ MAX
   asked_by (Push value) xs answer fits e = let is = (is_answer xs answer (Push value) e).1 in omega (arith, is.0, is.1)
   asked_by (Insert index value) xs answer fits e = let is = (is_answer xs answer (Insert index value) e).1 in omega (arith, is.0, is.1)
   asked_by (Splice bounds items) xs answer fits e = let is = (is_answer xs answer (Splice bounds items) e).1 in omega (arith, is.0, is.1)
@@ -63,30 +63,30 @@ module _ {T : Type 0} where
   asked_by (Drain bounds) xs answer fits e = fits
   asked_by (Write index value) xs answer fits e = fits
 
-  pub asks_within : (e : ListEdit T) (xs : List T) → length xs ≤ MAX → verdict (edit_list e xs) ≡ Ok tt → asked_length e (length xs) ≤ MAX
+  pub asks_within : (e : VecEdit T) (xs : List T) → length xs ≤ MAX → verdict (edit_vec e xs) ≡ Ok tt → asked_length e (length xs) ≤ MAX
   asks_within e xs fits asked = let ok = accepts e xs asked in asked_by e xs ok.0 fits ok.1
 
   -- what is copied is enough for the change
-  pub enough : (e : ListEdit T) (xs : List T) → edit_list e (take (copies e (length xs)) xs) ≡ edit_list e xs
+  pub enough : (e : VecEdit T) (xs : List T) → edit_vec e (take (copies e (length xs)) xs) ≡ edit_vec e xs
   enough (Truncate target) xs = ap (λ ys. becomes ys) (take_twice target xs)
   enough Clear xs = refl
-  enough (Push value) xs = ap (edit_list (Push value)) (take-length xs)
-  enough Pop xs = ap (edit_list Pop) (take-length xs)
-  enough (Insert index value) xs = ap (edit_list (Insert index value)) (take-length xs)
-  enough (Remove index) xs = ap (edit_list (Remove index)) (take-length xs)
-  enough (Retain marks) xs = ap (edit_list (Retain marks)) (take-length xs)
-  enough (Drain bounds) xs = ap (edit_list (Drain bounds)) (take-length xs)
-  enough (Splice bounds items) xs = ap (edit_list (Splice bounds items)) (take-length xs)
-  enough (Extend items) xs = ap (edit_list (Extend items)) (take-length xs)
-  enough (Reserve additional) xs = ap (edit_list (Reserve additional)) (take-length xs)
-  enough (Write index value) xs = ap (edit_list (Write index value)) (take-length xs)
+  enough (Push value) xs = ap (edit_vec (Push value)) (take-length xs)
+  enough Pop xs = ap (edit_vec Pop) (take-length xs)
+  enough (Insert index value) xs = ap (edit_vec (Insert index value)) (take-length xs)
+  enough (Remove index) xs = ap (edit_vec (Remove index)) (take-length xs)
+  enough (Retain marks) xs = ap (edit_vec (Retain marks)) (take-length xs)
+  enough (Drain bounds) xs = ap (edit_vec (Drain bounds)) (take-length xs)
+  enough (Splice bounds items) xs = ap (edit_vec (Splice bounds items)) (take-length xs)
+  enough (Extend items) xs = ap (edit_vec (Extend items)) (take-length xs)
+  enough (Reserve additional) xs = ap (edit_vec (Reserve additional)) (take-length xs)
+  enough (Write index value) xs = ap (edit_vec (Write index value)) (take-length xs)
 
   -- a change that may be made in a list of this length may be made in each that is as long, also in what is copied
   module _ (n : ℕ) where
-    abbrev MayBe : ListEdit T → Type 0
-    MayBe e = (xs : List T) → length xs ≡ n → verdict (edit_list e xs) ≡ Ok tt
+    abbrev MayBe : VecEdit T → Type 0
+    MayBe e = (xs : List T) → length xs ≡ n → verdict (edit_vec e xs) ≡ Ok tt
 
-    pub may_be_copied : (e : ListEdit T) (b : Bool) → MayBe e → (xs : List T) → length xs ≡ cond b (copies e n) n → verdict (edit_list e xs) ≡ Ok tt
+    pub may_be_copied : (e : VecEdit T) (b : Bool) → MayBe e → (xs : List T) → length xs ≡ cond b (copies e n) n → verdict (edit_vec e xs) ≡ Ok tt
     may_be_copied e false may xs is = may xs is
     may_be_copied (Truncate target) true may xs is = refl
     may_be_copied Clear true may xs is = refl
@@ -102,7 +102,7 @@ module _ {T : Type 0} where
     may_be_copied (Write index value) true may xs is = may xs is
 
     -- and takes the same beside it
-    pub taken_same : (e : ListEdit T) (b : Bool) → (taken_out e (cond b (copies e n) n) ≡ taken_out e n) × (spare_room e (cond b (copies e n) n) ≡ spare_room e n)
+    pub taken_same : (e : VecEdit T) (b : Bool) → (taken_out e (cond b (copies e n) n) ≡ taken_out e n) × (spare_room e (cond b (copies e n) n) ≡ spare_room e n)
     taken_same e false = (refl, refl)
     taken_same (Truncate target) true = (refl, refl)
     taken_same Clear true = (refl, refl)
@@ -119,10 +119,10 @@ module _ {T : Type 0} where
 
   -- a sole name's elements move where its block grows
   module _ (n capacity : ℕ) where
-    abbrev MovesAre : ListEdit T → Type 0
+    abbrev MovesAre : VecEdit T → Type 0
     MovesAre e = cond (nat_le (capacity_after e false n capacity) capacity) 0 (staying e n) ≡ moves e n capacity
 
-    pub moves_are : (e : ListEdit T) → asked_length e n ≤ MAX → MovesAre e
+    pub moves_are : (e : VecEdit T) → asked_length e n ≤ MAX → MovesAre e
     moves_are (Push value) asked = in_room capacity 1 n asked
     moves_are (Insert index value) asked = in_room capacity 1 n asked
     moves_are (Splice bounds items) asked = in_room capacity (length items) (n - items_in_range bounds n) asked
@@ -137,8 +137,8 @@ module _ {T : Type 0} where
     moves_are (Write index value) asked = in_place n capacity
 
   -- a change that takes no memory leaves the capacity as it is, or gives up a shared block
-  module _ (h : Held T) (fits : length h.items ≤ h.capacity) where
-    abbrev wanted : ListEdit T → ℕ
+  module _ (h : Holding T) (fits : length h.items ≤ h.capacity) where
+    abbrev wanted : VecEdit T → ℕ
     wanted e = capacity_after e (is_shared h) (length h.items) h.capacity
 
     abbrev kept : ℕ
@@ -153,7 +153,7 @@ module _ {T : Type 0} where
       | false ↦ λ e. ap (λ b. cond b h.capacity (grown (length h.items) k h.capacity)) e
     ] free
 
-    pub free_keeps : (e : ListEdit T) → (is_shared h ≡ true → unshares e (length h.items) ≡ true) → held_is_free e h ≡ true → wanted e ≡ kept
+    pub free_keeps : (e : VecEdit T) → (is_shared h ≡ true → unshares e (length h.items) ≡ true) → holding_is_free e h ≡ true → wanted e ≡ kept
     free_keeps (Push value) leaves free = room_keeps 1 free
     free_keeps (Insert index value) leaves free = room_keeps 1 free
     free_keeps (Reserve additional) leaves free = room_keeps additional free
@@ -179,7 +179,7 @@ module _ {T : Type 0} where
         ] leaves
 
     -- what takes room for elements that are new_items or answered isn't free
-    pub spare_not_free : (e : ListEdit T) → takes_spare e ≡ true → held_is_free e h ≡ false
+    pub spare_not_free : (e : VecEdit T) → takes_spare e ≡ true → holding_is_free e h ≡ false
     spare_not_free (Push value) t = absurd (true≢false (sym t))
     spare_not_free (Insert index value) t = absurd (true≢false (sym t))
     spare_not_free (Reserve additional) t = absurd (true≢false (sym t))
@@ -198,7 +198,7 @@ module _ {T : Type 0} where
   grown_to ys e = elim (nat_lt (length ys) (2 ^ 63)) as (λ b. verdict (check b TooMuch >>= (λ _. becomes {T = T} ys)) ≡ Ok tt → (check b TooMuch >>= (λ _. becomes {T = T} ys)) ≡ Ok (Done, ys)) [ true ↦ λ _. refl | false ↦ λ e. cc ] e
 
   module _ (xs : List T) where
-    pub stays_as : (e : ListEdit T) → unshares e (length xs) ≡ false → verdict (edit_list e xs) ≡ Ok tt → (ys : List T) × (edit_list e xs ≡ Ok (unchanged e, ys))
+    pub stays_as : (e : VecEdit T) → unshares e (length xs) ≡ false → verdict (edit_vec e xs) ≡ Ok tt → (ys : List T) × (edit_vec e xs ≡ Ok (unchanged e, ys))
     stays_as (Push value) none asked = absurd (true≢false none)
     stays_as (Insert index value) none asked = absurd (true≢false none)
     stays_as (Reserve additional) none asked = absurd (true≢false none)

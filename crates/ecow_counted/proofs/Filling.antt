@@ -8,15 +8,15 @@ use Rattle.ecow_base.specs.Capacity.{MAX}
 use Rattle.ecow_model.specs.Refusing.{◌>>=◌, OnRefused, allowed}
 use Rattle.ecow_model.specs.Values.{unused}
 use Rattle.ecow_model.specs.Uses.{Gives, IsVerdict}
-use Rattle.ecow_model.specs.Lists.{ListUsage, grows, vec_usage}
+use Rattle.ecow_model.specs.Vecs.{VecUsage, grows, vec_usage}
 use Rattle.ecow_model.specs.Costs.{capacity_after, moves, moved_by}
-use Rattle.ecow_model.specs.CountedRun.{nothing, held_at, change, counted_carry_out, counted_is_free, CountedStep, CountedVerdict, CountedRun, saturating, if_accepted, copied_in, moved_in, sum_in_run}
-use Rattle.ecow_model.specs.Names.{Names, Held, IsSharing, is_shared, settle, strain_at}
+use Rattle.ecow_model.specs.CountedRun.{nothing, holding_at, change, counted_carry_out, counted_is_free, CountedStep, CountedVerdict, CountedRun, saturating, if_accepted, copied_in, moved_in, sum_in_run}
+use Rattle.ecow_model.specs.Names.{Names, Holding, IsSharing, is_shared, settle, strain_at}
 use Rattle.ecow_model.specs.declared.usage.Usage.TheVariants.{Make, Edit}
-use Rattle.ecow_model.specs.declared.lists.ListMake.TheVariants.{New as Begin}
-use Rattle.ecow_model.specs.declared.lists.ListEdit.TheVariants.{Push as Append}
-use Rattle.ecow_model.specs.declared.lists.VecCommand.{VecCommand}
-use Rattle.ecow_model.specs.declared.lists.VecCommand.TheVariants.{New, Push}
+use Rattle.ecow_model.specs.declared.vecs.VecMake.TheVariants.{New as Begin}
+use Rattle.ecow_model.specs.declared.vecs.VecEdit.TheVariants.{Push as Append}
+use Rattle.ecow_model.specs.declared.vecs.VecCommand.{VecCommand}
+use Rattle.ecow_model.specs.declared.vecs.VecCommand.TheVariants.{New, Push}
 use Rattle.ecow_model.specs.declared.command.Outcome.{Outcome}
 use Rattle.ecow_model.specs.declared.command.Outcome.TheVariants.{Done, Refused}
 use Rattle.ecow_model.specs.declared.command.Refusal.{Refusal}
@@ -68,7 +68,7 @@ module _ {T : Type 0} where
   run_more (d ∷ cs) [] old mid new c outcome h step = absurd h
   run_more (d ∷ cs) (o ∷ outcomes) old mid new c outcome h step = (h.0, h.1, run_more cs outcomes h.0 mid new c outcome h.2 step)
 
-  sum_more : (cost : ListUsage T → Names T → ℕ) (cs : List (VecCommand T)) (outcomes : List (Outcome T)) (old mid : Names T) (c : VecCommand T) (outcome : Outcome T) → IsSharing old → CountedRun old cs outcomes mid
+  sum_more : (cost : VecUsage T → Names T → ℕ) (cs : List (VecCommand T)) (outcomes : List (Outcome T)) (old mid : Names T) (c : VecCommand T) (outcome : Outcome T) → IsSharing old → CountedRun old cs outcomes mid
       → sum_in_run cost old (cs ++ c ∷ []) (outcomes ++ outcome ∷ []) ≡ sum_in_run cost old cs outcomes + if_accepted outcome (cost (vec_usage c) mid)
   sum_more cost [] [] old mid c outcome groups h = let same : if_accepted outcome (cost (vec_usage c) mid) ≡ if_accepted outcome (cost (vec_usage c) old) = ap (λ names. if_accepted outcome (cost (vec_usage c) names)) h in omega (arith, same)
   sum_more cost [] (o ∷ outcomes) old mid c outcome groups h = absurd h
@@ -96,7 +96,7 @@ module _ {T : Type 0} where
 
   -- a name that no other shares a block with has n items, and what was moved since is paid
   pub record IsFilling (before : ℕ) (name n : ℕ) (now : CountedState T) : Type 0 where
-    pub held : Held T
+    pub held : Holding T
     pub at : finite.get now.names name ≡ Some held
     pub sole : is_shared held ≡ false
     pub count : length held.items ≡ n
@@ -158,7 +158,7 @@ module _ {T : Type 0} where
           let fits = groups.fits name so_far.held so_far.at in
           let cost : IsPaidSole (Append value) (length so_far.held.items) (length after) so_far.held.capacity = paid_sole (length so_far.held.items) (length after) so_far.held.capacity fits.0 fits.1 (Append value) (long, is.1) in
           let goes : change (Append value) name so_far.held after old.names ≡ settle name after capacity old.names = ap (λ b. cond (b && not true) old.names (settle name after (capacity_after (Append value) b (length so_far.held.items) so_far.held.capacity) old.names)) so_far.sole in
-          let holds : held_at old.names name ≡ so_far.held = ap (λ o. unwrap_or o nothing) so_far.at in
+          let holds : holding_at old.names name ≡ so_far.held = ap (λ o. unwrap_or o nothing) so_far.at in
           let growth : moved_in (vec_usage (Push name value)) old.names ≡ moves (Append value) (length so_far.held.items) so_far.held.capacity = ap (moved_by (Append value)) holds ∙ ap (λ b. cond b 0 (moves (Append value) (length so_far.held.items) so_far.held.capacity)) so_far.sole in
           let count : if_accepted outcome (moved_in (vec_usage (Push name value)) old.names) ≡ moves (Append value) (length so_far.held.items) so_far.held.capacity = ap (λ o. if_accepted o (moved_in (vec_usage (Push name value)) old.names)) is.0 ∙ growth in
           let had : strain_at n so_far.held.capacity ≡ strain_at (length so_far.held.items) so_far.held.capacity = ap (λ k. strain_at k so_far.held.capacity) (sym so_far.count) in

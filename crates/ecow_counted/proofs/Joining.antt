@@ -6,12 +6,12 @@ use Rattle.std.specs.Option.{option_map}
 use Rattle.std.proofs.lemmas.Bool.{ne_eqb, eq-eqb, true≢false, cases_eq}
 use Rattle.std.proofs.lemmas.Option.{same_Some}
 use Rattle.slab.specs.Slab.{Slab, get, slab_len}
-use Rattle.ecow_model.specs.Names.{Held, IsRising, is_member, with_name, enter, join, blocks}
+use Rattle.ecow_model.specs.Names.{Holding, IsRising, is_member, with_name, enter, join, blocks}
 use Rattle.ecow_laws.proofs.Totals.{same_nat}
 use Rattle.ecow_laws.proofs.Kept.{is_member-with_name, rising-with_name, length-with_name}
 use Rattle.ecow_laws.proofs.Joined.{get_join, blocks-join}
 use Rattle.ecow_counted.specs.declared.blocks.Entry.{Entry}
-use Rattle.ecow_counted.specs.Places.{Places, is_at, names_in, names_at, held_together, held_in, names_of, IsTable}
+use Rattle.ecow_counted.specs.Places.{Places, is_at, names_in, names_at, holding_together, holding_in, names_of, IsTable}
 use Rattle.ecow_counted.proofs.Placing.{found_at, member-names_at, rising-names_at, rising_same, get_names_of, sharing-table}
 
 -- no place has more names than there are
@@ -33,12 +33,12 @@ counted_with y false group = omega arith
 module _ {X : Type 0} (places after : Places) (table left : Slab (Entry X)) (is : IsTable places table) (x y : ℕ) (w : Option ℕ)
     (source : finite.get places x ≡ Some w) (free : finite.get places y ≡ None)
     (found : (q : ℕ) → finite.get after q ≡ cond (eqb q y) (Some w) (finite.get places q))
-    (same_blocks : (other : ℕ) (group : List ℕ) → held_together group (get left other) ≡ held_together group (get table other))
+    (same_blocks : (other : ℕ) (group : List ℕ) → holding_together group (get left other) ≡ holding_together group (get table other))
     (was : (other : ℕ) (e : Entry X) → get left other ≡ Some e → (old : Entry X) × (get table other ≡ Some old) × (e.block ≡ old.block) × (e.owners ≡ old.owners + cond (is_at other w) 1 0))
     (stays : (other : ℕ) → is_some (get left other) ≡ is_some (get table other))
     (len : slab_len left ≡ slab_len table) where
-  abbrev h : Held X
-  h = held_in places table w
+  abbrev h : Holding X
+  h = holding_in places table w
 
   share_other : (q : ℕ) → q ≢ y → finite.get after q ≡ finite.get places q
   share_other q ne = found q ∙ ap (λ b. cond b (Some w) (finite.get places q)) (ne_eqb q y ne)
@@ -65,29 +65,29 @@ module _ {X : Type 0} (places after : Places) (table left : Slab (Entry X)) (is 
       (cases_eq q y))
 
   -- what a place shows after it is what was shown, entered
-  shows : (v : Option ℕ) → held_in after left v ≡ enter x y (held_in places table v)
+  shows : (v : Option ℕ) → holding_in after left v ≡ enter x y (holding_in places table v)
   shows None = refl
   shows (Some p) =
-      ap (λ g. held_together g (get left p)) (joined_group p) ∙ same_blocks p _
-      ∙ elim (get table p) as (λ s. held_together (cond (is_at p w) (with_name y (names_at p places)) (names_at p places)) s ≡ enter x y (held_together (names_at p places) s)) [
+      ap (λ g. holding_together g (get left p)) (joined_group p) ∙ same_blocks p _
+      ∙ elim (get table p) as (λ s. holding_together (cond (is_at p w) (with_name y (names_at p places)) (names_at p places)) s ≡ enter x y (holding_together (names_at p places) s)) [
         | None ↦ refl
         | Some entry ↦
-            elim (is_at p w) as (λ b. is_at p w ≡ b → held_together (cond b (with_name y (names_at p places)) (names_at p places)) (Some entry) ≡ enter x y (held_together (names_at p places) (Some entry))) [
-              | true ↦ λ t. sym (ap (λ b. cond b (record { items = entry.block.items; group = with_name y (names_at p places); capacity = entry.block.capacity }) (held_together (names_at p places) (Some entry))) (member-names_at p x places ∙ ap (found_at p) source ∙ t))
-              | false ↦ λ t. sym (ap (λ b. cond b (record { items = entry.block.items; group = with_name y (names_at p places); capacity = entry.block.capacity }) (held_together (names_at p places) (Some entry))) (member-names_at p x places ∙ ap (found_at p) source ∙ t))
+            elim (is_at p w) as (λ b. is_at p w ≡ b → holding_together (cond b (with_name y (names_at p places)) (names_at p places)) (Some entry) ≡ enter x y (holding_together (names_at p places) (Some entry))) [
+              | true ↦ λ t. sym (ap (λ b. cond b (record { items = entry.block.items; group = with_name y (names_at p places); capacity = entry.block.capacity }) (holding_together (names_at p places) (Some entry))) (member-names_at p x places ∙ ap (found_at p) source ∙ t))
+              | false ↦ λ t. sym (ap (λ b. cond b (record { items = entry.block.items; group = with_name y (names_at p places); capacity = entry.block.capacity }) (holding_together (names_at p places) (Some entry))) (member-names_at p x places ∙ ap (found_at p) source ∙ t))
             ] refl
       ]
 
   pub source_is : finite.get (names_of places table) x ≡ Some h
-  source_is = get_names_of places table x ∙ ap (option_map (held_in places table)) source
+  source_is = get_names_of places table x ∙ ap (option_map (holding_in places table)) source
 
   pub target_free : finite.get (names_of places table) y ≡ None
-  target_free = get_names_of places table y ∙ ap (option_map (held_in places table)) free
+  target_free = get_names_of places table y ∙ ap (option_map (holding_in places table)) free
 
   pub shared_names : names_of after left ≡ join x y h (names_of places table)
   shared_names = same_nat _ _ (λ q. get_names_of after left q ∙ ⊎_elim
-      (λ (e : q ≡ y). ap (option_map (held_in after left)) (share_here q e) ∙ ap Some (shows w) ∙ sym (get_join (names_of places table) (sharing-table places table is) x y h source_is target_free q ∙ ap (λ b. cond b (Some (enter x y h)) (option_map (enter x y) (finite.get (names_of places table) q))) (eq-eqb q y e)))
-      (λ (ne : q ≢ y). ap (option_map (held_in after left)) (share_other q ne) ∙ elim (finite.get places q) as (λ o. option_map (held_in after left) o ≡ option_map (enter x y) (option_map (held_in places table) o)) [ None ↦ refl | Some v ↦ ap Some (shows v) ]
+      (λ (e : q ≡ y). ap (option_map (holding_in after left)) (share_here q e) ∙ ap Some (shows w) ∙ sym (get_join (names_of places table) (sharing-table places table is) x y h source_is target_free q ∙ ap (λ b. cond b (Some (enter x y h)) (option_map (enter x y) (finite.get (names_of places table) q))) (eq-eqb q y e)))
+      (λ (ne : q ≢ y). ap (option_map (holding_in after left)) (share_other q ne) ∙ elim (finite.get places q) as (λ o. option_map (holding_in after left) o ≡ option_map (enter x y) (option_map (holding_in places table) o)) [ None ↦ refl | Some v ↦ ap Some (shows v) ]
       ∙ ap (option_map (enter x y)) (sym (get_names_of places table q))
       ∙ sym (get_join (names_of places table) (sharing-table places table is) x y h source_is target_free q ∙ ap (λ b. cond b (Some (enter x y h)) (option_map (enter x y) (finite.get (names_of places table) q))) (ne_eqb q y ne)))
       (cases_eq q y))
@@ -117,7 +117,7 @@ module _ {X : Type 0} (places after : Places) (table : Slab (Entry X)) (is : IsT
     was_same : (other : ℕ) (e : Entry X) → get table other ≡ Some e → (old : Entry X) × (get table other ≡ Some old) × (e.block ≡ old.block) × (e.owners ≡ old.owners + cond (is_at other None) 1 0)
     was_same other e at = (e, at, refl, sym (add-zero e.owners))
 
-    pub bare_shared_names : names_of after table ≡ join x y (held_in places table None) (names_of places table)
+    pub bare_shared_names : names_of after table ≡ join x y (holding_in places table None) (names_of places table)
     bare_shared_names = shared_names places after table table is x y None source free found (λ other group. refl) was_same (λ other. refl) refl
 
     pub bare_shared_table : IsTable after table
@@ -135,10 +135,10 @@ module _ {X : Type 0} (places after : Places) (table : Slab (Entry X)) (is : IsT
     now_there : get left p ≡ Some (record { block = entry_there.0.block; owners = entry_there.0.owners + 1 })
     now_there = counted entry_there.0 entry_there.1
 
-    same_block : (other : ℕ) (group : List ℕ) → held_together group (get left other) ≡ held_together group (get table other)
+    same_block : (other : ℕ) (group : List ℕ) → holding_together group (get left other) ≡ holding_together group (get table other)
     same_block other group = ⊎_elim
-        (λ (e : other ≡ p). ap (λ o. held_together group (get left o)) e ∙ ap (held_together group) now_there ∙ sym (ap (λ o. held_together group (get table o)) e ∙ ap (held_together group) entry_there.1))
-        (λ (ne : other ≢ p). ap (held_together group) (others other ne)) (cases_eq other p)
+        (λ (e : other ≡ p). ap (λ o. holding_together group (get left o)) e ∙ ap (holding_together group) now_there ∙ sym (ap (λ o. holding_together group (get table o)) e ∙ ap (holding_together group) entry_there.1))
+        (λ (ne : other ≢ p). ap (holding_together group) (others other ne)) (cases_eq other p)
 
     was_one_less : (other : ℕ) (e : Entry X) → get left other ≡ Some e → (old : Entry X) × (get table other ≡ Some old) × (e.block ≡ old.block) × (e.owners ≡ old.owners + cond (is_at other (Some p)) 1 0)
     was_one_less other e at = ⊎_elim
@@ -153,7 +153,7 @@ module _ {X : Type 0} (places after : Places) (table : Slab (Entry X)) (is : IsT
         (λ (e : other ≡ p). ap (λ o. is_some (get left o)) e ∙ ap is_some now_there ∙ sym (ap (λ o. is_some (get table o)) e ∙ ap is_some entry_there.1))
         (λ (ne : other ≢ p). ap is_some (others other ne)) (cases_eq other p)
 
-    pub block_shared_names : names_of after left ≡ join x y (held_in places table (Some p)) (names_of places table)
+    pub block_shared_names : names_of after left ≡ join x y (holding_in places table (Some p)) (names_of places table)
     block_shared_names = shared_names places after table left is x y (Some p) source free found same_block was_one_less still_there len
 
     pub block_shared_table : IsTable after left

@@ -10,7 +10,7 @@ use Rattle.ecow_laws.proofs.Groups.{above_absent, without_absent}
 use Rattle.ecow_laws.proofs.Kept.{is_member-without}
 use Rattle.ecow_laws.proofs.Settled.{own_blocks}
 use Rattle.ecow_counted.specs.declared.blocks.Entry.{Entry}
-use Rattle.ecow_counted.specs.Places.{Places, names_at, held_together, names_of, IsOwned, IsTable}
+use Rattle.ecow_counted.specs.Places.{Places, names_at, holding_together, names_of, IsOwned, IsTable}
 use Rattle.ecow_counted.proofs.Placing.{found_at, member-names_at, rising-names_at, names_of-bare, group_of_others}
 use Rattle.ecow_counted.proofs.Changes.{shown_entry, left_blocks, settled_blocks}
 
@@ -51,10 +51,10 @@ module _ {X : Type 0} (places after : Places) (table left : Slab (Entry X)) (is 
       let some : 1 ≤ length (without x (names_at p places)) = one_at_least q (without x (names_at p places)) m in
       omega (arith, some, fewer, own.counted)
 
-  same_block : (q other : ℕ) → q ≢ x → finite.get places q ≡ Some (Some other) → (group : List ℕ) → held_together group (get left other) ≡ held_together group (get table other)
+  same_block : (q other : ℕ) → q ≢ x → finite.get places q ≡ Some (Some other) → (group : List ℕ) → holding_together group (get left other) ≡ holding_together group (get table other)
   same_block q other ne f group = ⊎_elim
-      (λ (e : other ≡ p). ap (λ o. held_together group (get left o)) e ∙ ap (held_together group) (counted (two q ne (f ∙ ap (λ o. Some (Some o)) e))).0 ∙ sym (ap (λ o. held_together group (get table o)) e ∙ ap (held_together group) had))
-      (λ (no_p : other ≢ p). ap (held_together group) (others other no_p)) (cases_eq other p)
+      (λ (e : other ≡ p). ap (λ o. holding_together group (get left o)) e ∙ ap (holding_together group) (counted (two q ne (f ∙ ap (λ o. Some (Some o)) e))).0 ∙ sym (ap (λ o. holding_together group (get table o)) e ∙ ap (holding_together group) had))
+      (λ (no_p : other ≢ p). ap (holding_together group) (others other no_p)) (cases_eq other p)
 
   pub left_names : names_of after left ≡ settle x [] 0 (names_of places table)
   left_names = names_of-bare places after table left x (Some None) found (λ q other ne f. refl) same_block refl

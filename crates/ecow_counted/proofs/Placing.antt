@@ -10,13 +10,13 @@ use Rattle.std.proofs.lemmas.Option.{none-some, same_Some}
 use Rattle.slab.specs.Slab.{Slab, get}
 use Rattle.ecow_base.specs.Capacity.{MAX}
 use Rattle.ecow_model.specs.CountedRun.{nothing}
-use Rattle.ecow_model.specs.Names.{Held, IsSharing, IsRising, is_member, without, leave, forget, settle, blocks}
+use Rattle.ecow_model.specs.Names.{Holding, IsSharing, IsRising, is_member, without, leave, forget, settle, blocks}
 use Rattle.ecow_model.proofs.Contents.{get-map_values}
 use Rattle.ecow_laws.proofs.Totals.{ties, first, second, below, missed, same_nat, get-insert_nat}
 use Rattle.ecow_laws.proofs.Groups.{above_absent}
 use Rattle.ecow_laws.proofs.Kept.{is_member-without, rising-without, get_forget_other, get_forget_none, get_forget_itself}
 use Rattle.ecow_counted.specs.declared.blocks.Entry.{Entry}
-use Rattle.ecow_counted.specs.Places.{Places, is_at, names_in, names_at, held_together, held_in, names_of, IsOwned, IsTable}
+use Rattle.ecow_counted.specs.Places.{Places, is_at, names_in, names_at, holding_together, holding_in, names_of, IsOwned, IsTable}
 
 -- whether the name found has this place
 abbrev pub found_at : ℕ → Option (Option ℕ) → Bool
@@ -84,19 +84,19 @@ rising_same (x ∷ g) (y ∷ k) a b same =
     (cases_eq q x)) i
 
 module _ {X : Type 0} where
-  pub get_names_of : (places : Places) (table : Slab (Entry X)) (q : ℕ) → finite.get (names_of places table) q ≡ option_map (held_in places table) (finite.get places q)
-  get_names_of places table q = get-map_values (held_in places table) places q
+  pub get_names_of : (places : Places) (table : Slab (Entry X)) (q : ℕ) → finite.get (names_of places table) q ≡ option_map (holding_in places table) (finite.get places q)
+  get_names_of places table q = get-map_values (holding_in places table) places q
 
   -- what a name holds: nothing, or what its place's entry has
-  holds : (places : Places) (table : Slab (Entry X)) → IsTable places table → (x : ℕ) (h : Held X) → finite.get (names_of places table) x ≡ Some h → (P : Held X → Type 0)
+  holds : (places : Places) (table : Slab (Entry X)) → IsTable places table → (x : ℕ) (h : Holding X) → finite.get (names_of places table) x ≡ Some h → (P : Holding X → Type 0)
       → P nothing
       → ((p : ℕ) (entry : Entry X) → finite.get places x ≡ Some (Some p) → get table p ≡ Some entry → IsOwned entry (names_at p places) → P (record { items = entry.block.items; group = names_at p places; capacity = entry.block.capacity }))
       → P h
-  holds places table is x h at P bare placed = elim (finite.get places x) as (λ o. finite.get places x ≡ o → option_map (held_in places table) o ≡ Some h → P h) [
+  holds places table is x h at P bare placed = elim (finite.get places x) as (λ o. finite.get places x ≡ o → option_map (holding_in places table) o ≡ Some h → P h) [
     | None ↦ λ f e. absurd (none-some h e)
-    | Some v ↦ elim v as (λ v. finite.get places x ≡ Some v → option_map (held_in places table) (Some v) ≡ Some h → P h) [
+    | Some v ↦ elim v as (λ v. finite.get places x ≡ Some v → option_map (holding_in places table) (Some v) ≡ Some h → P h) [
       | None ↦ λ f e. subst P (same_Some _ _ e) bare
-      | Some p ↦ λ f e. subst P (same_Some _ _ e) (elim (get table p) as (λ s. get table p ≡ s → IsSome s → P (held_together (names_at p places) s)) [
+      | Some p ↦ λ f e. subst P (same_Some _ _ e) (elim (get table p) as (λ s. get table p ≡ s → IsSome s → P (holding_together (names_at p places) s)) [
         | None ↦ λ _ some. absurd (true≢false (sym some))
         | Some entry ↦ λ have _. placed p entry f have (is.owned p entry have)
       ] refl (is.placed x p f))
@@ -110,7 +110,7 @@ module _ {X : Type 0} where
         common = λ x y h at m. holds places table is x h at (λ h. is_member y h.group ≡ true → finite.get (names_of places table) y ≡ Some h)
             (λ m. absurd (true≢false (sym m)))
             (λ p entry found have owned m.
-            get_names_of places table y ∙ ap (option_map (held_in places table)) (found_from p y places (sym (member-names_at p y places) ∙ m)) ∙ ap (λ e. Some (held_together (names_at p places) e)) have) m;
+            get_names_of places table y ∙ ap (option_map (holding_in places table)) (found_from p y places (sym (member-names_at p y places) ∙ m)) ∙ ap (λ e. Some (holding_together (names_at p places) e)) have) m;
         itself = λ x h at. holds places table is x h at (λ h. (h.group ≡ []) ⊎ (is_member x h.group ≡ true))
             (inl refl)
             (λ p entry found have owned. inr (member-names_at p x places ∙ ap (found_at p) found ∙ eq-eqb p p refl));
@@ -120,7 +120,7 @@ module _ {X : Type 0} where
             let none : length (names_at p places) ≡ 0 = ap length e in absurd (omega (arith, owned.counted, owned.some, none)));
       }
 
-  leave_together : (x : ℕ) (group : List ℕ) (slot : Option (Entry X)) → leave x (held_together group slot) ≡ held_together (without x group) slot
+  leave_together : (x : ℕ) (group : List ℕ) (slot : Option (Entry X)) → leave x (holding_together group slot) ≡ holding_together (without x group) slot
   leave_together x group None = refl
   leave_together x group (Some entry) = refl
 
@@ -128,7 +128,7 @@ module _ {X : Type 0} where
   module _ (places after : Places) (table left : Slab (Entry X)) (x : ℕ) (v : Option (Option ℕ))
       (found : (q : ℕ) → finite.get after q ≡ cond (eqb q x) v (finite.get places q))
       (alone : (q other : ℕ) → q ≢ x → finite.get places q ≡ Some (Some other) → found_at other v ≡ false)
-      (others : (q other : ℕ) → q ≢ x → finite.get places q ≡ Some (Some other) → (group : List ℕ) → held_together group (get left other) ≡ held_together group (get table other)) where
+      (others : (q other : ℕ) → q ≢ x → finite.get places q ≡ Some (Some other) → (group : List ℕ) → holding_together group (get left other) ≡ holding_together group (get table other)) where
     found_other : (q : ℕ) → q ≢ x → finite.get after q ≡ finite.get places q
     found_other q ne = found q ∙ ap (λ b. cond b v (finite.get places q)) (ne_eqb q x ne)
 
@@ -142,36 +142,36 @@ module _ {X : Type 0} where
         (cases_eq q x))
 
     at_other : (q : ℕ) → q ≢ x → finite.get (names_of after left) q ≡ finite.get (forget x (names_of places table)) q
-    at_other q ne = get_names_of after left q ∙ ap (option_map (held_in after left)) (found_other q ne) ∙
-        elim (finite.get places q) as (λ o. finite.get places q ≡ o → option_map (held_in after left) o ≡ finite.get (forget x (names_of places table)) q) [
-          | None ↦ λ is. sym (get_forget_none (names_of places table) x q (get_names_of places table q ∙ ap (option_map (held_in places table)) is))
-          | Some w ↦ elim w as (λ w. finite.get places q ≡ Some w → option_map (held_in after left) (Some w) ≡ finite.get (forget x (names_of places table)) q) [
-            | None ↦ λ is. sym (get_forget_other (names_of places table) x q nothing ne (get_names_of places table q ∙ ap (option_map (held_in places table)) is))
+    at_other q ne = get_names_of after left q ∙ ap (option_map (holding_in after left)) (found_other q ne) ∙
+        elim (finite.get places q) as (λ o. finite.get places q ≡ o → option_map (holding_in after left) o ≡ finite.get (forget x (names_of places table)) q) [
+          | None ↦ λ is. sym (get_forget_none (names_of places table) x q (get_names_of places table q ∙ ap (option_map (holding_in places table)) is))
+          | Some w ↦ elim w as (λ w. finite.get places q ≡ Some w → option_map (holding_in after left) (Some w) ≡ finite.get (forget x (names_of places table)) q) [
+            | None ↦ λ is. sym (get_forget_other (names_of places table) x q nothing ne (get_names_of places table q ∙ ap (option_map (holding_in places table)) is))
             | Some other ↦ λ is.
-                ap (λ g. Some (held_together g (get left other))) (group_of_others other (alone q other ne is))
+                ap (λ g. Some (holding_together g (get left other))) (group_of_others other (alone q other ne is))
                 ∙ ap Some (others q other ne is (without x (names_at other places)))
                 ∙ ap Some (sym (leave_together x (names_at other places) (get table other)))
-                ∙ sym (get_forget_other (names_of places table) x q (held_in places table (Some other)) ne (get_names_of places table q ∙ ap (option_map (held_in places table)) is))
+                ∙ sym (get_forget_other (names_of places table) x q (holding_in places table (Some other)) ne (get_names_of places table q ∙ ap (option_map (holding_in places table)) is))
           ]
         ] refl
 
     -- x is gone
     pub names_of-forget : v ≡ None → names_of after left ≡ forget x (names_of places table)
     names_of-forget gone = same_nat _ _ (λ q. ⊎_elim
-        (λ (e : q ≡ x). ap (finite.get (names_of after left)) e ∙ get_names_of after left x ∙ ap (option_map (held_in after left)) (found_here ∙ gone) ∙ sym (ap (finite.get (forget x (names_of places table))) e ∙ get_forget_itself (names_of places table) x))
+        (λ (e : q ≡ x). ap (finite.get (names_of after left)) e ∙ get_names_of after left x ∙ ap (option_map (holding_in after left)) (found_here ∙ gone) ∙ sym (ap (finite.get (forget x (names_of places table))) e ∙ get_forget_itself (names_of places table) x))
         (λ (ne : q ≢ x). at_other q ne) (cases_eq q x))
 
     -- x is there with this list and capacity
-    by_settle : (items : List X) (capacity : ℕ) → option_map (held_in after left) v ≡ Some (record { items = items; group = cond (ltb 0 capacity) (x ∷ []) []; capacity = capacity }) → names_of after left ≡ settle x items capacity (names_of places table)
+    by_settle : (items : List X) (capacity : ℕ) → option_map (holding_in after left) v ≡ Some (record { items = items; group = cond (ltb 0 capacity) (x ∷ []) []; capacity = capacity }) → names_of after left ≡ settle x items capacity (names_of places table)
     by_settle items capacity own = same_nat _ _ (λ q. ⊎_elim
         (λ (e : q ≡ x).
-        ap (finite.get (names_of after left)) e ∙ get_names_of after left x ∙ ap (option_map (held_in after left)) found_here ∙ own
+        ap (finite.get (names_of after left)) e ∙ get_names_of after left x ∙ ap (option_map (holding_in after left)) found_here ∙ own
         ∙ sym (get-insert_nat (forget x (names_of places table)) x _ q ∙ ap (λ b. cond b (Some (record { items = items; group = cond (ltb 0 capacity) (x ∷ []) []; capacity = capacity })) (finite.get (forget x (names_of places table)) q)) (eq-eqb q x e)))
         (λ (ne : q ≢ x). at_other q ne ∙ sym (get-insert_nat (forget x (names_of places table)) x _ q ∙ ap (λ b. cond b (Some (record { items = items; group = cond (ltb 0 capacity) (x ∷ []) []; capacity = capacity })) (finite.get (forget x (names_of places table)) q)) (ne_eqb q x ne)))
         (cases_eq q x))
 
     pub names_of-bare : v ≡ Some None → names_of after left ≡ settle x [] 0 (names_of places table)
-    names_of-bare is = by_settle [] 0 (ap (option_map (held_in after left)) is)
+    names_of-bare is = by_settle [] 0 (ap (option_map (holding_in after left)) is)
 
     module _ (p : ℕ) (entry : Entry X) (is : v ≡ Some (Some p)) (here : get left p ≡ Some entry) where
       pub own_group : names_at p after ≡ x ∷ []
@@ -182,13 +182,13 @@ module _ {X : Type 0} where
 
       pub names_of-settle : 0 < entry.block.capacity → names_of after left ≡ settle x entry.block.items entry.block.capacity (names_of places table)
       names_of-settle backed = by_settle entry.block.items entry.block.capacity (
-          ap (option_map (held_in after left)) is ∙ ap (λ s. Some (held_together (names_at p after) s)) here
+          ap (option_map (holding_in after left)) is ∙ ap (λ s. Some (holding_together (names_at p after) s)) here
           ∙ ap (λ g. Some (record { items = entry.block.items; group = g; capacity = entry.block.capacity })) (own_group ∙ sym (ap (λ b. cond b (x ∷ []) []) (lt-ltb 0 entry.block.capacity backed))))
 
   pub same_names : (places : Places) (table left : Slab (Entry X)) → left.slots ≡ table.slots → names_of places table ≡ names_of places left
-  same_names places table left same = same_nat _ _ (λ q. get_names_of places table q ∙ elim (finite.get places q) as (λ o. option_map (held_in places table) o ≡ option_map (held_in places left) o) [
+  same_names places table left same = same_nat _ _ (λ q. get_names_of places table q ∙ elim (finite.get places q) as (λ o. option_map (holding_in places table) o ≡ option_map (holding_in places left) o) [
     | None ↦ refl
-    | Some w ↦ elim w as (λ w. Some (held_in places table w) ≡ Some (held_in places left w)) [ None ↦ refl | Some p ↦ ap (λ (s : List (Option (Entry X))). Some (held_together (names_at p places) (slice_index_or s p None))) (sym same) ]
+    | Some w ↦ elim w as (λ w. Some (holding_in places table w) ≡ Some (holding_in places left w)) [ None ↦ refl | Some p ↦ ap (λ (s : List (Option (Entry X))). Some (holding_together (names_at p places) (slice_index_or s p None))) (sym same) ]
   ] ∙ sym (get_names_of places left q))
 
   -- a table with the same entries

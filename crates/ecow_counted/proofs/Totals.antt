@@ -2,10 +2,10 @@
 use Rattle.std.proofs.Common.{◌≡◌, ℕ, ◌+◌, ◌*◌, ◌^◌, ◌<◌, ◌≤◌, List, ◌∷◌, sym, ◌∙◌, ap, subst, arith}
 use Rattle.std.specs.FinMap as finite
 use Rattle.ecow_model.specs.CountedRun.{CountedStep, CountedRun, saturating, if_accepted, sum_in_run, copied_in_run, moved_in_run, eager_in_run, input_in_run}
-use Rattle.ecow_model.specs.Lists.{ListUsage, vec_usage}
+use Rattle.ecow_model.specs.Vecs.{VecUsage, vec_usage}
 use Rattle.ecow_model.specs.Names.{Names, IsSharing, debt, strain}
 use Rattle.ecow_model.specs.declared.command.Outcome.{Outcome}
-use Rattle.ecow_model.specs.declared.lists.VecCommand.{VecCommand}
+use Rattle.ecow_model.specs.declared.vecs.VecCommand.{VecCommand}
 use Rattle.ecow_laws.proofs.Bounds.{step_paid, copies_at_most_eagerly, moves_are_paid, copies_from_nothing, moves_from_nothing}
 use Rattle.ecow_counted.specs.State.{CountedState}
 use Rattle.ecow_counted.specs.Totals.{CopiedIsSum, MovedIsSum, CopiedIsPaid, MovedIsPaid, CopiesFromNew, MovesFromNew}
@@ -19,7 +19,7 @@ saturating_none n h = omega arith
 pub saturating_small : (n a : ℕ) → saturating n a < 2 ^ 64
 saturating_small n a = omega arith
 
-module _ {T : Type 0} (cost : ListUsage T → Names T → ℕ) (before : ℕ) (c : VecCommand T) (old : Names T) (groups : IsSharing old) (outcome : Outcome T) (mid : Names T) (step : CountedStep old c outcome mid) where
+module _ {T : Type 0} (cost : VecUsage T → Names T → ℕ) (before : ℕ) (c : VecCommand T) (old : Names T) (groups : IsSharing old) (outcome : Outcome T) (mid : Names T) (step : CountedStep old c outcome mid) where
   -- the first command's share of a total, and that of the others
   pub total_goes_on : (after : ℕ) → after ≡ saturating before (if_accepted outcome (cost (vec_usage c) old)) → (cs : List (VecCommand T)) (outcomes : List (Outcome T))
       → saturating after (sum_in_run cost mid cs outcomes) ≡ saturating before (sum_in_run cost old (c ∷ cs) (outcome ∷ outcomes))

@@ -10,13 +10,13 @@ use Rattle.std.proofs.lemmas.Option.{none-some}
 use Rattle.slab.specs.Slab.{Slab, get, slab_len, HasRoomFor}
 use Rattle.ecow_base.specs.Capacity.{MAX}
 use Rattle.ecow_block.specs.Contents.{Contents}
-use Rattle.ecow_model.specs.CountedRun.{nothing, held_at}
-use Rattle.ecow_model.specs.Names.{Names, Held, IsSharing, forget, settle, join, blocks, one_block}
+use Rattle.ecow_model.specs.CountedRun.{nothing, holding_at}
+use Rattle.ecow_model.specs.Names.{Names, Holding, IsSharing, forget, settle, join, blocks, one_block}
 use Rattle.ecow_laws.proofs.Totals.{same_nat, total-empty, get-insert_nat, get-remove_nat}
 use Rattle.ecow_laws.proofs.Settled.{settle_bare}
 use Rattle.ecow_counted.specs.declared.blocks.Entry.{Entry}
 use Rattle.ecow_counted.specs.Sizes.{size_of, sole_block}
-use Rattle.ecow_counted.specs.Places.{Places, names_at, held_in, names_of, entry_in, has_room, IsOwned, IsTable}
+use Rattle.ecow_counted.specs.Places.{Places, names_at, holding_in, names_of, entry_in, has_room, IsOwned, IsTable}
 use Rattle.ecow_counted.proofs.Placing.{found_at, get_names_of, sharing-table}
 use Rattle.ecow_counted.proofs.Changes.{shown_at, shown_entry, shown_none, absent_place, some_place, entry_at, bare_place, removed_names, removed_table, made_names, made_table, placed_names, placed_table}
 use Rattle.ecow_counted.proofs.Leaving.{left_names, left_table}
@@ -43,11 +43,11 @@ module _ {X : Type 0} (places : Places) (table : Slab (Entry X)) (is : IsTable p
   shared_names_are = subst IsSharing shown (sharing-table places table is)
 
   module _ (x : ℕ) where
-    seen : (o : Option (Held X)) → finite.get names x ≡ o → finite.get (names_of places table) x ≡ o
+    seen : (o : Option (Holding X)) → finite.get names x ≡ o → finite.get (names_of places table) x ≡ o
     seen o at = ap (λ n. finite.get n x) shown ∙ at
 
     pub contained : finite.contains_key places x ≡ finite.contains_key names x
-    contained = sym (sym (ap (λ n. finite.contains_key n x) shown) ∙ ap is_some (get_names_of places table x) ∙ elim (finite.get places x) as (λ o. is_some (option_map (held_in places table) o) ≡ is_some o) [ None ↦ refl | Some w ↦ refl ])
+    contained = sym (sym (ap (λ n. finite.contains_key n x) shown) ∙ ap is_some (get_names_of places table x) ∙ elim (finite.get places x) as (λ o. is_some (option_map (holding_in places table) o) ≡ is_some o) [ None ↦ refl | Some w ↦ refl ])
 
     -- what an entry shows
     held_entry : (entry : Entry X) → entry_in table (finite.get places x) ≡ Some entry → (p : ℕ) × (finite.get names x ≡ Some (record { items = entry.block.items; group = names_at p places; capacity = entry.block.capacity })) × IsOwned entry (names_at p places)
@@ -68,11 +68,11 @@ module _ {X : Type 0} (places : Places) (table : Slab (Entry X)) (is : IsTable p
     absent f = sym (ap (λ n. finite.get n x) shown) ∙ shown_none places table x f
 
     -- the list of a name with a block, and of one without
-    pub list_shown : (entry : Entry X) → entry_in table (finite.get places x) ≡ Some entry → entry.block.items ≡ (held_at names x).items
+    pub list_shown : (entry : Entry X) → entry_in table (finite.get places x) ≡ Some entry → entry.block.items ≡ (holding_at names x).items
     list_shown entry e = let there = held_entry entry e in sym (ap (λ o. (unwrap_or o nothing).items) there.1)
 
-    pub no_list_shown : entry_in table (finite.get places x) ≡ None → [] ≡ (held_at names x).items
-    no_list_shown none = elim (finite.get places x) as (λ o. finite.get places x ≡ o → [] ≡ (held_at names x).items) [
+    pub no_list_shown : entry_in table (finite.get places x) ≡ None → [] ≡ (holding_at names x).items
+    no_list_shown none = elim (finite.get places x) as (λ o. finite.get places x ≡ o → [] ≡ (holding_at names x).items) [
       | None ↦ λ f. sym (ap (λ o. (unwrap_or o nothing).items) (absent f))
       | Some w ↦ λ f. sym (ap (λ o. (unwrap_or o nothing).items) (held_bare none (ap is_some f)))
     ] refl
@@ -171,11 +171,11 @@ module _ {X : Type 0} (places : Places) (table : Slab (Entry X)) (is : IsTable p
     free_place : finite.get places y ≡ None
     free_place = absent_place places table y (seen y None free)
 
-    held_is : (w : Option ℕ) → finite.get places x ≡ Some w → held_in places table w ≡ held_at names x
+    held_is : (w : Option ℕ) → finite.get places x ≡ Some w → holding_in places table w ≡ holding_at names x
     held_is w f = sym (ap (λ o. unwrap_or o nothing) (sym (ap (λ n. finite.get n x) shown) ∙ shown_at places table x w f))
 
     module _ (source : finite.get places x ≡ Some None) (written : after ≡ finite.insert places y None) where
-      pub bare_joined_names : names_of after table ≡ join x y (held_at names x) names
+      pub bare_joined_names : names_of after table ≡ join x y (holding_at names x) names
       bare_joined_names = bare_shared_names places after table is x y free_place source (λ q. ap (λ m. finite.get m q) written ∙ get-insert_nat places y None q)
           ∙ (λ i. join x y (held_is None source i) (shown i))
 
@@ -185,7 +185,7 @@ module _ {X : Type 0} (places : Places) (table : Slab (Entry X)) (is : IsTable p
     module _ (left : Slab (Entry X)) (p : ℕ) (source : finite.get places x ≡ Some (Some p)) (written : after ≡ finite.insert places y (Some p))
         (counted : (entry : Entry X) → get table p ≡ Some entry → get left p ≡ Some (record { block = entry.block; owners = entry.owners + 1 }))
         (others : (other : ℕ) → other ≢ p → get left other ≡ get table other) (len : slab_len left ≡ slab_len table) where
-      pub joined_names : names_of after left ≡ join x y (held_at names x) names
+      pub joined_names : names_of after left ≡ join x y (holding_at names x) names
       joined_names = block_shared_names places after table is x y free_place left p source (λ q. ap (λ m. finite.get m q) written ∙ get-insert_nat places y (Some p) q) counted others len
           ∙ (λ i. join x y (held_is (Some p) source i) (shown i))
 
@@ -207,11 +207,11 @@ module _ {X : Type 0} (places : Places) (table : Slab (Entry X)) (is : IsTable p
 -- a table with no names and no blocks
 module _ {X : Type 0} (table : Slab (Entry X)) (none : table.slots ≡ []) where
   pub no_names : names_of finite.empty table ≡ finite.empty
-  no_names = same_nat _ _ (λ q. get_names_of finite.empty table q ∙ ap (option_map (held_in finite.empty table)) (finite.get-empty nat_cmp q) ∙ sym (finite.get-empty nat_cmp q))
+  no_names = same_nat _ _ (λ q. get_names_of finite.empty table q ∙ ap (option_map (holding_in finite.empty table)) (finite.get-empty nat_cmp q) ∙ sym (finite.get-empty nat_cmp q))
 
   pub empty_table : IsTable finite.empty table
   empty_table = record {
     placed = λ x p f. absurd (none-some (Some p) (sym (finite.get-empty nat_cmp x) ∙ f));
     owned = λ p entry e. absurd (none-some entry (sym (ap (λ (s : List (Option (Entry X))). slice_index_or s p None) none) ∙ e));
-    blocks_are = ap (λ (s : List (Option (Entry X))). count_by is_some s) none ∙ sym (ap blocks no_names ∙ total-empty {X = Held X} one_block);
+    blocks_are = ap (λ (s : List (Option (Entry X))). count_by is_some s) none ∙ sym (ap blocks no_names ∙ total-empty {X = Holding X} one_block);
   }

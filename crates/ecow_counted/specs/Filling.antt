@@ -4,8 +4,8 @@ use Rattle.ecow_model.specs.CountedRun.{CountedRun}
 use Rattle.ecow_model.specs.declared.command.Outcome.{Outcome}
 use Rattle.ecow_model.specs.declared.command.Outcome.TheVariants.{Done, Refused}
 use Rattle.ecow_model.specs.declared.command.Refusal.{Refusal}
-use Rattle.ecow_model.specs.declared.lists.VecCommand.{VecCommand}
-use Rattle.ecow_model.specs.declared.lists.VecCommand.TheVariants.{New, Push}
+use Rattle.ecow_model.specs.declared.vecs.VecCommand.{VecCommand}
+use Rattle.ecow_model.specs.declared.vecs.VecCommand.TheVariants.{New, Push}
 use Rattle.ecow_counted.specs.declared.fill.Filled.{Filled}
 use Rattle.ecow_counted.specs.State.{CountedState}
 use Rattle.ecow_counted.specs.Totals.{CopiedIsSum, MovedIsSum}

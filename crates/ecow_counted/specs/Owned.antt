@@ -1,6 +1,6 @@
 -- What a block for one name alone has, and what it cost.
-use Rattle.std.specs.Prelude.{◌≡◌, ℕ, cond, nat_le}
-use Rattle.ecow_model.specs.Names.{Held, is_shared}
+use Rattle.std.specs.Prelude.{◌≡◌, ℕ, nat_le, if◌then◌else◌}
+use Rattle.ecow_model.specs.Names.{Holding, is_shared}
 use Rattle.ecow_block.specs.Contents.{Contents}
 use Rattle.ecow_counted.specs.declared.own.Owned.{Owned}
 use Rattle.ecow_counted.specs.declared.own.Want.{Want}
@@ -13,9 +13,9 @@ module _ {T : Type 0} where
     pub moved : own.moved ≡ moves
 
   -- how many elements are copied for a name that holds h: none where it shares its block with none
-  abbrev pub copies_for : Want → Held T → ℕ
-  copies_for want h = cond (is_shared h) want.copies 0
+  abbrev pub copies_for : Want → Holding T → ℕ
+  copies_for want h = if is_shared h then want.copies else 0
 
   -- how many elements are moved for it: those that stay, where a block of its own grows
-  abbrev pub moves_for : Want → Held T → ℕ
-  moves_for want h = cond (is_shared h) 0 (cond (nat_le want.capacity h.capacity) 0 want.staying)
+  abbrev pub moves_for : Want → Holding T → ℕ
+  moves_for want h = if is_shared h then 0 else if nat_le want.capacity h.capacity then 0 else want.staying

@@ -5,7 +5,7 @@ use Rattle.std.specs.FinMap as finite
 use Rattle.slab.specs.Slab.{Slab, get, slab_len}
 use Rattle.ecow_base.specs.Capacity.{MAX}
 use Rattle.ecow_model.specs.CountedRun.{nothing}
-use Rattle.ecow_model.specs.Names.{Names, Held, blocks, map_values}
+use Rattle.ecow_model.specs.Names.{Names, Holding, blocks, map_values}
 use Rattle.ecow_counted.specs.declared.blocks.Entry.{Entry}
 
 -- each name's place; a name without a block has none
@@ -27,15 +27,15 @@ names_at place places = names_in place (finite.entries places)
 
 module _ {T : Type 0} where
   -- what the names of a group hold together
-  abbrev pub held_together : List ℕ → Option (Entry T) → Held T
-  held_together group None = nothing
-  held_together group (Some entry) =
+  abbrev pub holding_together : List ℕ → Option (Entry T) → Holding T
+  holding_together group None = nothing
+  holding_together group (Some entry) =
       record { items = entry.block.items; group = group; capacity = entry.block.capacity }
 
   -- what a name with this place holds
-  abbrev pub held_in : Places → Slab (Entry T) → Option ℕ → Held T
-  held_in places table None = nothing
-  held_in places table (Some place) = held_together (names_at place places) (get table place)
+  abbrev pub holding_in : Places → Slab (Entry T) → Option ℕ → Holding T
+  holding_in places table None = nothing
+  holding_in places table (Some place) = holding_together (names_at place places) (get table place)
 
   -- the entry at a name's place, if it has one
   abbrev pub entry_in : Slab (Entry T) → Option (Option ℕ) → Option (Entry T)
@@ -45,7 +45,7 @@ module _ {T : Type 0} where
 
   -- what each name holds
   abbrev pub names_of : Places → Slab (Entry T) → Names T
-  names_of places table = map_values (held_in places table) places
+  names_of places table = map_values (holding_in places table) places
 
   -- whether one more block fits in the table with no more memory
   abbrev pub has_room : Slab (Entry T) → Bool

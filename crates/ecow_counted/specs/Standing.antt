@@ -2,7 +2,7 @@
 use Rattle.std.specs.Prelude.{ℕ, Bool, List, refl}
 use Rattle.std.specs.Coded.{Coded, code_by, coded×, coded_ℕ, coded_bool, coded_list}
 use Rattle.std.specs.FinMap as finite
-use Rattle.ecow_model.specs.Names.{Names, Held}
+use Rattle.ecow_model.specs.Names.{Names, Holding}
 
 -- what each name holds, and whether one more block has room in the table
 pub record Standing (T : Type 0) : Type 0 where
@@ -10,8 +10,8 @@ pub record Standing (T : Type 0) : Type 0 where
   pub has_room : Bool
 
 -- how a proof tells what a name holds apart
-abbrev pub held_code : {T : Type 0} → Coded T → Coded (Held T)
-held_code {T} code =
+abbrev pub holding_code : {T : Type 0} → Coded T → Coded (Holding T)
+holding_code {T} code =
     code_by
     (List T × (List ℕ × ℕ))
     (coded× (coded_list code) (coded× (coded_list coded_ℕ) coded_ℕ))
@@ -21,7 +21,7 @@ held_code {T} code =
 
 -- how a proof tells apart what all names hold
 abbrev pub names_code : {T : Type 0} → Coded T → Coded (Names T)
-names_code code = finite.code coded_ℕ (held_code code)
+names_code code = finite.code coded_ℕ (holding_code code)
 
 -- how a proof tells tables apart
 abbrev pub standing_code : {T : Type 0} → Coded T → Coded (Standing T)

@@ -1,4 +1,4 @@
--- What contracts see of the counted keeping.
+-- What contracts see of the counted store.
 use Rattle.std.specs.Prelude.{ℕ, ◌<◌, ◌^◌, refl}
 use Rattle.std.specs.Coded.{Coded, code_by, coded×, coded_ℕ}
 use Rattle.ecow_model.specs.Names.{Names, IsSharing}
@@ -10,7 +10,7 @@ pub record CountedState (T : Type 0) : Type 0 where
   pub copied : ℕ
   pub moved : ℕ
 
--- how a proof tells keepings apart
+-- how a proof tells stores apart
 abbrev pub counted_code : {T : Type 0} → Coded T → Coded (CountedState T)
 counted_code {T} code =
     code_by (Names T × (ℕ × ℕ)) (coded× (names_code code) (coded× coded_ℕ coded_ℕ))

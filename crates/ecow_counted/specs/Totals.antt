@@ -4,7 +4,7 @@ use Rattle.std.specs.FinMap as finite
 use Rattle.ecow_model.specs.CountedRun.{saturating, copied_in_run, moved_in_run, eager_in_run, input_in_run}
 use Rattle.ecow_model.specs.Names.{debt, strain}
 use Rattle.ecow_model.specs.declared.command.Outcome.{Outcome}
-use Rattle.ecow_model.specs.declared.lists.VecCommand.{VecCommand}
+use Rattle.ecow_model.specs.declared.vecs.VecCommand.{VecCommand}
 use Rattle.ecow_counted.specs.State.{CountedState}
 
 module _ {T : Type 0} (old : CountedState T) (cs : List (VecCommand T))

@@ -5,13 +5,13 @@ ghost use Rattle.std.specs.List.{splice, items_where_true};
 ghost use Rattle.ecow_base.specs.Clones.{ClonesAreEqual};
 ghost use Rattle.ecow_base.specs.Range.{range_of, items_in_range};
 ghost use Rattle.ecow_block.specs.Contents.{contents};
-ghost use Rattle.ecow_model.specs.Lists.{edit_list};
+ghost use Rattle.ecow_model.specs.Vecs.{edit_vec};
 ghost use Rattle.ecow_model.specs.Refusing.{OnRefused, verdict};
 ghost use Rattle.ecow_counted.specs.Edits.{asked_length, length_after, new_items, spare_room, taken_out, takes_spare};
 
 use ecow_base::{MAX_LEN, resolve};
 use ecow_block::Block;
-use ecow_model::lists::ListEdit;
+use ecow_model::vecs::VecEdit;
 use ecow_model::{Bounds, Items, Outcome};
 use std::alloc::{AllocError, Global};
 
@@ -25,7 +25,7 @@ pub(crate) struct Spare<T> {
 
 impl<T: Clone> Spare<T> {
     /// All that a change of a list of `len` elements takes.
-    pub fn new(alloc: Global, edit: &ListEdit<T>, len: usize) -> Result<Self, AllocError>
+    pub fn new(alloc: Global, edit: &VecEdit<T>, len: usize) -> Result<Self, AllocError>
         requires bounded { len ≤ MAX_LEN }
         requires asked { asked_length edit.now len ≤ MAX_LEN }
         ensures items { ClonesAreEqual T.is_clone
@@ -40,10 +40,10 @@ impl<T: Clone> Spare<T> {
         let taken = answer_len(edit, len);
         let answer = Vec::with_capacity(alloc, taken)?;
         let block = match edit {
-            ListEdit::Extend(items) if items.len() > 0 => {
+            VecEdit::Extend(items) if items.len() > 0 => {
                 Block::from_clones(alloc, items.as_slice(), items.len())?
             }
-            ListEdit::Splice(_, items) => Block::with_capacity(alloc, taken.max(items.len()))?,
+            VecEdit::Splice(_, items) => Block::with_capacity(alloc, taken.max(items.len()))?,
             _ => Block::with_capacity(alloc, taken)?,
         };
         Ok(Spare { block, answer })
@@ -51,13 +51,13 @@ impl<T: Clone> Spare<T> {
 }
 
 /// How many elements a change answers.
-fn answer_len<T>(edit: &ListEdit<T>, len: usize) -> usize
+fn answer_len<T>(edit: &VecEdit<T>, len: usize) -> usize
     ensures taken { result ≡ taken_out edit.now len }
     ensures bounded { result ≤ len }
 {
     match edit {
-        ListEdit::Drain(bounds) => count_in(bounds, len),
-        ListEdit::Splice(bounds, _) => count_in(bounds, len),
+        VecEdit::Drain(bounds) => count_in(bounds, len),
+        VecEdit::Splice(bounds, _) => count_in(bounds, len),
         _ => 0,
     }
 }
@@ -125,15 +125,15 @@ fn append<T: Drop>(block: &mut Block<T>, other: Block<T>)
 }
 
 /// Makes a change in a block with room for it.
-pub(crate) fn apply<T: Drop>(block: &mut Block<T>, edit: ListEdit<T>, spare: Spare<T>) -> Outcome<T>
-    requires asked { verdict (edit_list edit block.old.items) ≡ Ok tt }
+pub(crate) fn apply<T: Drop>(block: &mut Block<T>, edit: VecEdit<T>, spare: Spare<T>) -> Outcome<T>
+    requires asked { verdict (edit_vec edit block.old.items) ≡ Ok tt }
     requires room { length_after edit (length block.old.items) ≤ block.old.capacity }
     requires brought { length spare.block.items ≡ length (new_items edit) }
     requires places { spare_room edit (length block.old.items) ≤ spare.block.capacity }
     requires empty { spare.answer.items ≡ [] }
     requires answer { taken_out edit (length block.old.items) ≤ vec_capacity spare.answer }
     ensures change { spare.block.items ≡ new_items edit
-        → edit_list edit block.old.items ≡ Ok (result, block.new.items) }
+        → edit_vec edit block.old.items ≡ Ok (result, block.new.items) }
     ensures capacity { block.new.capacity ≡ block.old.capacity }
     ensures accepted { OnRefused result ⊥ }
 {
@@ -142,23 +142,23 @@ pub(crate) fn apply<T: Drop>(block: &mut Block<T>, edit: ListEdit<T>, spare: Spa
         answer,
     } = spare;
     match edit {
-        ListEdit::Pop => return Outcome::Popped(block.pop()),
-        ListEdit::Remove(index) => return Outcome::Element(block.remove(index)),
-        ListEdit::Drain(bounds) => {
+        VecEdit::Pop => return Outcome::Popped(block.pop()),
+        VecEdit::Remove(index) => return Outcome::Element(block.remove(index)),
+        VecEdit::Drain(bounds) => {
             return Outcome::Elements(replace(block, bounds, beside, answer));
         }
-        ListEdit::Splice(bounds, items) => {
+        VecEdit::Splice(bounds, items) => {
             beside.fill_within_capacity(items.into_vec());
             return Outcome::Elements(replace(block, bounds, beside, answer));
         }
-        ListEdit::Push(value) => block.push_within_capacity(value),
-        ListEdit::Insert(index, value) => block.insert_within_capacity(index, value),
-        ListEdit::Write(index, value) => block.set(index, value),
-        ListEdit::Truncate(target) => block.truncate(target),
-        ListEdit::Clear => block.truncate(0),
-        ListEdit::Retain(marks) => retain_by_marks(block, marks.as_slice()),
-        ListEdit::Extend(_items) => append(block, beside),
-        ListEdit::Reserve(_) => {}
+        VecEdit::Push(value) => block.push_within_capacity(value),
+        VecEdit::Insert(index, value) => block.insert_within_capacity(index, value),
+        VecEdit::Write(index, value) => block.set(index, value),
+        VecEdit::Truncate(target) => block.truncate(target),
+        VecEdit::Clear => block.truncate(0),
+        VecEdit::Retain(marks) => retain_by_marks(block, marks.as_slice()),
+        VecEdit::Extend(_items) => append(block, beside),
+        VecEdit::Reserve(_) => {}
     }
     Outcome::Done
 }

@@ -4,7 +4,7 @@ ghost use Rattle.std.specs.Prelude.{◌≡◌, ◌≢◌, ℕ, ◌+◌, ◌-◌,
 ghost use Rattle.std.specs.FinMap as finite;
 ghost use Rattle.std.specs.Option.{option_copied, option_map};
 ghost use Rattle.slab.specs.Slab.{ContainsKey, HasRoomFor, get, slab_len};
-ghost use Rattle.ecow_model.specs.CountedRun.{held_at, nothing};
+ghost use Rattle.ecow_model.specs.CountedRun.{holding_at, nothing};
 ghost use Rattle.ecow_model.specs.Names.{IsSharing, blocks, forget, join, settle};
 ghost use Rattle.ecow_counted.specs.declared.blocks.Entry.{Entry};
 ghost use Rattle.ecow_counted.specs.Places.{entry_in};
@@ -12,8 +12,8 @@ ghost use Rattle.ecow_counted.specs.Sizes.{size_of, sole_block};
 
 use ecow_base::MAX_LEN;
 use ecow_block::Block;
-use ecow_keeping::table::Table;
 use ecow_model::Name;
+use ecow_named::table::Table;
 use slab::Slab;
 use std::alloc::{AllocError, Global};
 use std::marker::Model;
@@ -108,7 +108,7 @@ impl<T> Blocks<T> {
 
     /// The list of a name; of one that is not there, none.
     pub fn elements(&self, name: Name) -> &[T]
-        ensures { result.now ≡ (held_at self.now.names name).items }
+        ensures { result.now ≡ (holding_at self.now.names name).items }
     {
         match entry_of(&self.places, &self.table, name) {
             Some(entry) => entry.block.as_slice(),
@@ -186,7 +186,7 @@ impl<T> Blocks<T> {
         requires there { IsSome (finite.get self.old.names from) }
         requires free { finite.get self.old.names to ≡ None }
         ensures ok { OnOk result
-            (self.new.names ≡ join from to (held_at self.old.names from) self.old.names) }
+            (self.new.names ≡ join from to (holding_at self.old.names from) self.old.names) }
         ensures unchanged { OnErr result (self.new.names ≡ self.old.names) }
         ensures sharing { IsSharing self.new.names }
     {

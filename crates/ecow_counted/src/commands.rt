@@ -4,13 +4,13 @@ ghost use Rattle.ecow_base.specs.Clones.{ClonesAreEqual};
 ghost use Rattle.ecow_block.specs.Contents.{contents};
 ghost use Rattle.ecow_model.specs.Costs.{make_capacity};
 ghost use Rattle.ecow_model.specs.CountedRun.{IsCountedUse, IsCountedVerdict};
-ghost use Rattle.ecow_model.specs.Lists.{make_list};
+ghost use Rattle.ecow_model.specs.Vecs.{make_vec};
 ghost use Rattle.ecow_model.specs.Names.{IsSharing};
 ghost use Rattle.ecow_model.specs.Refusing.{OnRefused};
 ghost use Rattle.ecow_model.specs.Uses.{IsRefusedAlike};
 ghost use Rattle.ecow_model.specs.declared.command.Outcome.{Outcome};
 ghost use Rattle.ecow_model.specs.declared.command.Refusal.{Refusal};
-ghost use Rattle.ecow_model.specs.declared.lists.ListDerive.{ListDerive};
+ghost use Rattle.ecow_model.specs.declared.vecs.VecDerive.{VecDerive};
 ghost use Rattle.ecow_model.specs.declared.usage.Usage.{Usage};
 ghost use Rattle.ecow_counted.specs.Carrying.{IsCarried, still};
 ghost use Rattle.ecow_counted.specs.Edits.{unchanged as is_unchanged};
@@ -21,8 +21,8 @@ use crate::costs::{capacity, copies, staying, unshares};
 use crate::own::{Owned, Want};
 use ecow_base::{MAX_LEN, fresh_capacity};
 use ecow_block::Block;
-use ecow_model::lists::{ListAsk, ListEdit, ListMake, ListUsage};
 use ecow_model::usage::Usage;
+use ecow_model::vecs::{VecAsk, VecEdit, VecMake, VecUsage};
 use ecow_model::{Items, Name, Outcome, Refusal};
 use std::alloc::{AllocError, Global};
 
@@ -51,9 +51,9 @@ impl<T> Blocks<T> {
     /// Puts a name in the group of another.
     pub fn join(&mut self, from: Name, to: Name) -> Outcome<T>
         ensures step { IsCountedUse self.old.names
-            (Usage.Derive from to ListDerive.Clone) result self.new.names }
+            (Usage.Derive from to VecDerive.Clone) result self.new.names }
         ensures verdict { IsCountedVerdict self.old.names
-            (Usage.Derive from to ListDerive.Clone) result }
+            (Usage.Derive from to VecDerive.Clone) result }
         ensures unchanged { OnRefused result (self.new.names ≡ self.old.names) }
         ensures sharing { IsSharing self.old.names → IsSharing self.new.names }
     {
@@ -88,7 +88,7 @@ impl<T: Drop> Blocks<T> {
 
 impl<T: Clone> Blocks<T> {
     /// Makes a list under a name that is new.
-    fn begin_list(&mut self, alloc: Global, name: Name, how: ListMake<T>) -> Outcome<T>
+    fn begin_list(&mut self, alloc: Global, name: Name, how: VecMake<T>) -> Outcome<T>
         ensures step { ClonesAreEqual T.is_clone
             → IsCountedUse self.old.names (Usage.Make name how) result self.new.names }
         ensures verdict { IsCountedVerdict self.old.names (Usage.Make name how) result }
@@ -109,7 +109,7 @@ impl<T: Clone> Blocks<T> {
     }
 
     /// Answers a question to the list of a name.
-    fn ask(&self, alloc: Global, name: Name, question: ListAsk) -> Outcome<T>
+    fn ask(&self, alloc: Global, name: Name, question: VecAsk) -> Outcome<T>
         ensures step { ClonesAreEqual T.is_clone
             → IsCountedUse self.now.names (Usage.Ask name question) result self.now.names }
         ensures verdict { IsCountedVerdict self.now.names (Usage.Ask name question) result }
@@ -118,17 +118,17 @@ impl<T: Clone> Blocks<T> {
             return Outcome::Refused(Refusal::NoName);
         };
         match question {
-            ListAsk::Len => Outcome::Count(size.len),
-            ListAsk::Capacity => Outcome::Count(size.capacity),
-            ListAsk::Unique => Outcome::Flag(size.owners <= 1),
-            ListAsk::Read(index) => match self.elements(name).get(index) {
+            VecAsk::Len => Outcome::Count(size.len),
+            VecAsk::Capacity => Outcome::Count(size.capacity),
+            VecAsk::Unique => Outcome::Flag(size.owners <= 1),
+            VecAsk::Read(index) => match self.elements(name).get(index) {
                 None => Outcome::Refused(Refusal::Index),
                 Some(element) => match element.clone() {
                     Ok(copy) => Outcome::Element(copy),
                     Err(_) => Outcome::Refused(Refusal::Memory),
                 },
             },
-            ListAsk::Contents => match Items::from_slice(alloc, self.elements(name)) {
+            VecAsk::Contents => match Items::from_slice(alloc, self.elements(name)) {
                 Ok(elements) => Outcome::Elements(elements),
                 Err(_) => Outcome::Refused(Refusal::Memory),
             },
@@ -136,7 +136,7 @@ impl<T: Clone> Blocks<T> {
     }
 
     /// Changes the list of a name, in a block of its own. All that can be refused is taken first.
-    fn edit(&mut self, alloc: Global, name: Name, edit: ListEdit<T>) -> Carried<T>
+    fn edit(&mut self, alloc: Global, name: Name, edit: VecEdit<T>) -> Carried<T>
         ensures carried { IsCarried (ClonesAreEqual T.is_clone) self.old.names
             (Usage.Edit name edit) result self.new.names }
         ensures sharing { IsSharing self.old.names → IsSharing self.new.names }
@@ -177,7 +177,7 @@ impl<T: Clone> Blocks<T> {
     }
 
     /// Carries out one command by its parts. A refused one changes nothing.
-    pub fn carry_out(&mut self, alloc: Global, usage: ListUsage<T>) -> Carried<T>
+    pub fn carry_out(&mut self, alloc: Global, usage: VecUsage<T>) -> Carried<T>
         ensures carried { IsCarried
             (ClonesAreEqual T.is_clone) self.old.names usage result self.new.names }
         ensures sharing { IsSharing self.old.names → IsSharing self.new.names }
@@ -193,32 +193,32 @@ impl<T: Clone> Blocks<T> {
 }
 
 /// What a change answers that changes nothing and leaves a shared block where it is.
-fn no_change<T: Drop>(edit: ListEdit<T>) -> Outcome<T>
+fn no_change<T: Drop>(edit: VecEdit<T>) -> Outcome<T>
     ensures outcome { result ≡ is_unchanged edit }
     ensures accepted { OnRefused result ⊥ }
 {
     match edit {
-        ListEdit::Pop => Outcome::Popped(None),
+        VecEdit::Pop => Outcome::Popped(None),
         _ => Outcome::Done,
     }
 }
 
 /// A list in a block of its own, with exactly the room that it is to have; or why it can't be made.
-fn new_block<T: Clone>(alloc: Global, how: ListMake<T>) -> Result<Block<T>, Refusal>
+fn new_block<T: Clone>(alloc: Global, how: VecMake<T>) -> Result<Block<T>, Refusal>
     ensures items { ClonesAreEqual T.is_clone
-        → IfOk result (λ block. make_list how ≡ Ok block.items) }
-    ensures verdict { IsRefusedAlike (make_list how) result }
+        → IfOk result (λ block. make_vec how ≡ Ok block.items) }
+    ensures verdict { IsRefusedAlike (make_vec how) result }
     ensures capacity { IfOk result (λ block. block.capacity ≡ make_capacity how) }
 {
     match how {
-        ListMake::New => Ok(Block::new(alloc)),
-        ListMake::WithCapacity(capacity) => {
+        VecMake::New => Ok(Block::new(alloc)),
+        VecMake::WithCapacity(capacity) => {
             if capacity > MAX_LEN {
                 return Err(Refusal::Capacity);
             }
             empty(alloc, capacity)
         }
-        ListMake::FromList(items) => {
+        VecMake::FromList(items) => {
             let len = items.len();
             if len > MAX_LEN {
                 return Err(Refusal::Capacity);
@@ -227,7 +227,7 @@ fn new_block<T: Clone>(alloc: Global, how: ListMake<T>) -> Result<Block<T>, Refu
             block.fill_within_capacity(items.into_vec());
             Ok(block)
         }
-        ListMake::FromElem(value, n) => {
+        VecMake::FromElem(value, n) => {
             if n > MAX_LEN {
                 return Err(Refusal::Capacity);
             }

@@ -1,44 +1,44 @@
 //! What a change of a list costs where it stands in a block that others may hold.
-ghost use Rattle.std.specs.Prelude.{◌≡◌, ◌≤◌, true, false, cond, nat_lt};
+ghost use Rattle.std.specs.Prelude.{◌≡◌, ◌≤◌, true, false, nat_lt, if◌then◌else◌};
 ghost use Rattle.ecow_model.specs.Costs.{capacity_after, copies as are_copied, unshares as is_unshared};
 ghost use Rattle.ecow_counted.specs.Edits.{asked_length, length_after, staying as are_staying};
 
 use crate::blocks::Size;
 use ecow_base::{MAX_LEN, fresh_capacity, resolve, room_for};
-use ecow_model::lists::ListEdit;
+use ecow_model::vecs::VecEdit;
 
 /// Whether a name that shares its block leaves it for the change.
-pub(crate) fn unshares<T>(edit: &ListEdit<T>, len: usize) -> bool
+pub(crate) fn unshares<T>(edit: &VecEdit<T>, len: usize) -> bool
     ensures { result ≡ is_unshared edit.now len }
 {
     match edit {
-        ListEdit::Pop => len > 0,
-        ListEdit::Clear => len > 0,
-        ListEdit::Truncate(target) => *target < len,
-        ListEdit::Extend(items) => items.len() > 0,
+        VecEdit::Pop => len > 0,
+        VecEdit::Clear => len > 0,
+        VecEdit::Truncate(target) => *target < len,
+        VecEdit::Extend(items) => items.len() > 0,
         _ => true,
     }
 }
 
 /// How many elements a name copies that leaves its block for the change.
-pub(crate) fn copies<T>(edit: &ListEdit<T>, len: usize) -> usize
+pub(crate) fn copies<T>(edit: &VecEdit<T>, len: usize) -> usize
     ensures copies { result ≡ are_copied edit.now len }
     ensures bounded { is_unshared edit.now len ≡ true → result ≤ len }
 {
     match edit {
-        ListEdit::Truncate(target) => *target,
-        ListEdit::Clear => 0,
+        VecEdit::Truncate(target) => *target,
+        VecEdit::Clear => 0,
         _ => len,
     }
 }
 
 /// How many elements stay in the list where it moves to a greater block.
-pub(crate) fn staying<T>(edit: &ListEdit<T>, len: usize) -> usize
+pub(crate) fn staying<T>(edit: &VecEdit<T>, len: usize) -> usize
     ensures staying { result ≡ are_staying edit.now len }
     ensures bounded { result ≤ len }
 {
     match edit {
-        ListEdit::Splice(bounds, _) => match resolve(bounds, len) {
+        VecEdit::Splice(bounds, _) => match resolve(bounds, len) {
             Some((start, end)) => len - (end - start),
             None => len,
         },
@@ -47,7 +47,7 @@ pub(crate) fn staying<T>(edit: &ListEdit<T>, len: usize) -> usize
 }
 
 /// The capacity after the change.
-pub(crate) fn capacity<T>(edit: &ListEdit<T>, size: Size) -> usize
+pub(crate) fn capacity<T>(edit: &VecEdit<T>, size: Size) -> usize
     requires fits { size.len ≤ size.capacity }
     requires bounded { size.capacity ≤ MAX_LEN }
     requires asked { asked_length edit.now size.len ≤ MAX_LEN }
@@ -58,15 +58,15 @@ pub(crate) fn capacity<T>(edit: &ListEdit<T>, size: Size) -> usize
     ensures grows { nat_lt 1 size.owners ≡ false → size.capacity ≤ result }
     ensures holds { nat_lt 1 size.owners ≡ true → are_copied edit.now size.len ≤ result }
     ensures room { length_after edit.now
-        (cond (nat_lt 1 size.owners) (are_copied edit.now size.len) size.len) ≤ result }
+        (if nat_lt 1 size.owners then are_copied edit.now size.len else size.len) ≤ result }
 {
     let shared = size.owners > 1;
     match edit {
-        ListEdit::Push(_) => room_for(size.len, 1, size.capacity),
-        ListEdit::Insert(_, _) => room_for(size.len, 1, size.capacity),
-        ListEdit::Extend(items) => room_for(size.len, items.len(), size.capacity),
-        ListEdit::Reserve(additional) => room_for(size.len, *additional, size.capacity),
-        ListEdit::Splice(_, items) => {
+        VecEdit::Push(_) => room_for(size.len, 1, size.capacity),
+        VecEdit::Insert(_, _) => room_for(size.len, 1, size.capacity),
+        VecEdit::Extend(items) => room_for(size.len, items.len(), size.capacity),
+        VecEdit::Reserve(additional) => room_for(size.len, *additional, size.capacity),
+        VecEdit::Splice(_, items) => {
             let held = if shared {
                 fresh_capacity(size.len)
             } else {
@@ -74,8 +74,8 @@ pub(crate) fn capacity<T>(edit: &ListEdit<T>, size: Size) -> usize
             };
             room_for(staying(edit, size.len), items.len(), held)
         }
-        ListEdit::Clear => if shared { 0 } else { size.capacity },
-        ListEdit::Truncate(target) => if shared {
+        VecEdit::Clear => if shared { 0 } else { size.capacity },
+        VecEdit::Truncate(target) => if shared {
             fresh_capacity(*target)
         } else {
             size.capacity

@@ -1,8 +1,8 @@
 //! A block that one name alone is about to have: its own, or a copy of one that it shares.
-ghost use Rattle.std.specs.Prelude.{◌≡◌, ℕ, ◌<◌, ◌≤◌, [], true, false, cond, nat_le, length, take, IsSome, IsOk, IfOk, OnOk, OnErr};
+ghost use Rattle.std.specs.Prelude.{◌≡◌, ℕ, ◌<◌, ◌≤◌, [], true, false, nat_le, length, take, IsSome, IsOk, IfOk, OnOk, OnErr, if◌then◌else◌};
 ghost use Rattle.std.specs.FinMap as finite;
 ghost use Rattle.ecow_base.specs.Clones.{ClonesAreEqual};
-ghost use Rattle.ecow_model.specs.CountedRun.{held_at, nothing};
+ghost use Rattle.ecow_model.specs.CountedRun.{holding_at, nothing};
 ghost use Rattle.ecow_model.specs.Names.{IsSharing, is_shared, settle};
 ghost use Rattle.ecow_counted.specs.Opened.{IsOpened};
 ghost use Rattle.ecow_counted.specs.Owned.{HasCost, copies_for, moves_for};
@@ -44,7 +44,7 @@ impl<T: Drop> Blocks<T> {
             (self.new.names ≡ settle name block.items block.capacity self.old.names) }
         ensures items { IfOk result (λ own. own.block.items ≡ block.items) }
         ensures cost { IfOk result
-            (HasCost want 0 (cond (nat_le want.capacity block.capacity) 0 want.staying)) }
+            (HasCost want 0 (if nat_le want.capacity block.capacity then 0 else want.staying)) }
         ensures free { want.capacity ≡ block.capacity → IsOk result }
     {
         let mut block = block;
@@ -71,14 +71,14 @@ impl<T: Clone> Blocks<T> {
     /// A new block with clones of the first elements of a name's list, each of which is counted.
     /// The name stays where it is until it settles.
     fn copy(&mut self, alloc: Global, name: Name, want: Want) -> Result<Owned<T>, AllocError>
-        requires whole { want.copies ≤ length (held_at self.old.names name).items }
+        requires whole { want.copies ≤ length (holding_at self.old.names name).items }
         requires fits { want.copies ≤ want.capacity }
         requires bounded { want.capacity ≤ MAX_LEN }
         ensures names { self.new.names ≡ self.old.names }
         ensures room { OnOk result (0 < want.capacity → self.new.has_room ≡ true) }
         ensures items { ClonesAreEqual T.is_clone
             → IfOk result (λ own. own.block.items
-            ≡ take want.copies (held_at self.old.names name).items) }
+            ≡ take want.copies (holding_at self.old.names name).items) }
         ensures len { IfOk result (λ own. length own.block.items ≡ want.copies) }
         ensures cost { IfOk result (HasCost want want.copies 0) }
         ensures free { want.capacity ≡ 0 → IsOk result }
@@ -105,20 +105,20 @@ impl<T: Clone> Blocks<T> {
     /// The block of a name that shares it with none, which has none until it settles.
     fn open(&mut self, alloc: Global, name: Name, want: Want) -> Result<Owned<T>, AllocError>
         requires there { IsSome (finite.get self.old.names name) }
-        requires sole { is_shared (held_at self.old.names name) ≡ false }
+        requires sole { is_shared (holding_at self.old.names name) ≡ false }
         requires sharing { IsSharing self.old.names }
-        requires backed { 0 < length (held_at self.old.names name).group
-            → 0 < (held_at self.old.names name).capacity }
-        requires grows { (held_at self.old.names name).capacity ≤ want.capacity }
-        requires staying { want.staying ≤ length (held_at self.old.names name).items }
+        requires backed { 0 < length (holding_at self.old.names name).group
+            → 0 < (holding_at self.old.names name).capacity }
+        requires grows { (holding_at self.old.names name).capacity ≤ want.capacity }
+        requires staying { want.staying ≤ length (holding_at self.old.names name).items }
         requires bounded { want.capacity ≤ MAX_LEN }
         ensures opened { OnOk result (IsOpened name self.old.names self.new.names) }
         ensures room { OnOk result (0 < want.capacity → self.new.has_room ≡ true) }
         ensures unchanged { OnErr result (self.new.names ≡ self.old.names) }
-        ensures items { IfOk result (λ own. own.block.items ≡ (held_at self.old.names name).items) }
+        ensures items { IfOk result (λ own. own.block.items ≡ (holding_at self.old.names name).items) }
         ensures cost { IfOk result
-            (HasCost want 0 (moves_for want (held_at self.old.names name))) }
-        ensures free { want.capacity ≡ (held_at self.old.names name).capacity → IsOk result }
+            (HasCost want 0 (moves_for want (holding_at self.old.names name))) }
+        ensures free { want.capacity ≡ (holding_at self.old.names name).capacity → IsOk result }
     {
         match self.take(name) {
             Some(block) => self.grow(name, block, want),
@@ -130,28 +130,24 @@ impl<T: Clone> Blocks<T> {
     /// that it shares. Where there is no memory, or a clone is refused, nothing changes.
     pub fn own(&mut self, alloc: Global, name: Name, want: Want) -> Result<Owned<T>, AllocError>
         requires there { IsSome (finite.get self.old.names name) }
-        requires whole { is_shared (held_at self.old.names name) ≡ true
-            → (want.copies ≤ length (held_at self.old.names name).items)
+        requires whole { is_shared (holding_at self.old.names name) ≡ true
+            → (want.copies ≤ length (holding_at self.old.names name).items)
             × (want.copies ≤ want.capacity) }
-        requires grows { is_shared (held_at self.old.names name) ≡ false
-            → (held_at self.old.names name).capacity ≤ want.capacity }
-        requires staying { want.staying ≤ length (held_at self.old.names name).items }
+        requires grows { is_shared (holding_at self.old.names name) ≡ false
+            → (holding_at self.old.names name).capacity ≤ want.capacity }
+        requires staying { want.staying ≤ length (holding_at self.old.names name).items }
         requires bounded { want.capacity ≤ MAX_LEN }
         ensures opened { OnOk result (IsOpened name self.old.names self.new.names) }
         ensures room { OnOk result (0 < want.capacity → self.new.has_room ≡ true) }
         ensures unchanged { OnErr result (self.new.names ≡ self.old.names) }
         ensures items { ClonesAreEqual T.is_clone
-            → IfOk result (λ own. own.block.items ≡ cond (is_shared (held_at self.old.names name))
-            (take want.copies (held_at self.old.names name).items)
-            (held_at self.old.names name).items) }
+            → IfOk result (λ own. own.block.items ≡ if is_shared (holding_at self.old.names name) then take want.copies (holding_at self.old.names name).items else (holding_at self.old.names name).items) }
         ensures len { IfOk result (λ own. length own.block.items
-            ≡ cond (is_shared (held_at self.old.names name)) want.copies
-            (length (held_at self.old.names name).items)) }
+            ≡ if is_shared (holding_at self.old.names name) then want.copies else length (holding_at self.old.names name).items) }
         ensures cost { IfOk result
-            (HasCost want (copies_for want (held_at self.old.names name))
-            (moves_for want (held_at self.old.names name))) }
-        ensures free { (want.capacity ≡ cond (is_shared (held_at self.old.names name)) 0
-            (held_at self.old.names name).capacity) → IsOk result }
+            (HasCost want (copies_for want (holding_at self.old.names name))
+            (moves_for want (holding_at self.old.names name))) }
+        ensures free { (want.capacity ≡ if is_shared (holding_at self.old.names name) then 0 else (holding_at self.old.names name).capacity) → IsOk result }
     {
         let size = self.size(name).unwrap();
         if size.owners > 1 {

@@ -4,7 +4,7 @@ use crate::small::{Call, Small, State, states};
 use crate::steps::{Row, Word};
 use crate::watch::Watch;
 use ecow_bytes::SmallBytes;
-use ecow_list::{EcoError, EcoVec};
+use ecow_vec::{EcoError, EcoVec};
 use std::alloc::Global;
 use std::io::Write;
 

@@ -1,6 +1,6 @@
 //! Values that print themselves into texts.
 use crate::watch::Watch;
-use ecow_text::{EcoString, ToEcoString, eco_format};
+use ecow_string::{EcoString, ToEcoString, eco_format};
 use std::alloc::Global;
 use std::fmt;
 

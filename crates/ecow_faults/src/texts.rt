@@ -1,11 +1,11 @@
-//! The calls of `SmallText`.
+//! The calls of `SmallString`.
 use crate::short::Long;
 use crate::small::{Call, Small, State, states};
 use crate::steps::{Edit, Row, Word};
 use crate::watch::Watch;
 use ecow_bytes::SmallBytes;
-use ecow_list::{EcoError, EcoVec};
-use ecow_text::SmallText;
+use ecow_string::SmallString;
+use ecow_vec::{EcoError, EcoVec};
 use std::alloc::Global;
 use std::fmt::Write;
 
@@ -83,7 +83,7 @@ pub fn added(count: usize) -> &'static str {
     }
 }
 
-impl<const N: usize> Small for SmallText<N> {
+impl<const N: usize> Small for SmallString<N> {
     fn limit() -> usize {
         N
     }
@@ -99,11 +99,11 @@ impl<const N: usize> Small for SmallText<N> {
     fn made(alloc: Global, state: State) -> Result<Self, EcoError> {
         let text = letters(state.len);
         if !state.spilled {
-            return SmallText::from_str(alloc, text);
+            return SmallString::from_str(alloc, text);
         }
         let mut vector = EcoVec::with_capacity(alloc, state.room)?;
         vector.extend_from_slice(text.as_bytes())?;
-        match SmallText::try_from(vector) {
+        match SmallString::try_from(vector) {
             Ok(text) => Ok(text),
             Err(_) => Err(EcoError::Capacity),
         }
@@ -137,7 +137,7 @@ impl<const N: usize> Small for SmallText<N> {
 }
 
 /// A call that is handed a character.
-fn one<const N: usize>(text: &mut SmallText<N>, call: &Call) -> Result<bool, EcoError> {
+fn one<const N: usize>(text: &mut SmallString<N>, call: &Call) -> Result<bool, EcoError> {
     let start = call.step.start;
     let c = if call.change.count == 4 { '😀' } else { '.' };
     match call.step.word {
@@ -158,7 +158,7 @@ fn is_taken(c: char, call: &Call) -> bool {
 }
 
 /// A call that answers what it takes out.
-fn take<const N: usize>(text: &mut SmallText<N>, call: &Call) -> Result<bool, EcoError> {
+fn take<const N: usize>(text: &mut SmallString<N>, call: &Call) -> Result<bool, EcoError> {
     let start = call.step.start;
     match call.step.word {
         Word::Pop => match text.pop()? {
@@ -173,7 +173,7 @@ fn take<const N: usize>(text: &mut SmallText<N>, call: &Call) -> Result<bool, Ec
     }
 }
 
-fn several<const N: usize>(text: &mut SmallText<N>, call: &Call) -> Result<bool, EcoError> {
+fn several<const N: usize>(text: &mut SmallString<N>, call: &Call) -> Result<bool, EcoError> {
     let start = call.step.start;
     let given = added(call.change.count);
     match call.step.word {
@@ -189,7 +189,7 @@ fn several<const N: usize>(text: &mut SmallText<N>, call: &Call) -> Result<bool,
     Ok(true)
 }
 
-fn pieces<const N: usize>(text: &mut SmallText<N>, call: &Call) -> Result<bool, EcoError> {
+fn pieces<const N: usize>(text: &mut SmallString<N>, call: &Call) -> Result<bool, EcoError> {
     match call.step.word {
         Word::ExtendEach => text.extend_chars(added(call.change.count).chars())?,
         _ => {
@@ -200,7 +200,7 @@ fn pieces<const N: usize>(text: &mut SmallText<N>, call: &Call) -> Result<bool, 
     Ok(true)
 }
 
-fn shorten<const N: usize>(text: &mut SmallText<N>, call: &Call) -> Result<bool, EcoError> {
+fn shorten<const N: usize>(text: &mut SmallString<N>, call: &Call) -> Result<bool, EcoError> {
     match call.step.word {
         Word::Truncate if text.is_char_boundary(call.step.start) => {
             text.truncate(call.step.start)?
@@ -219,7 +219,7 @@ fn shorten<const N: usize>(text: &mut SmallText<N>, call: &Call) -> Result<bool,
 /// Whether a text was made as it is to be, or for want of memory not at all.
 pub fn is_made<const N: usize>(
     watch: &Watch,
-    made: Result<SmallText<N>, EcoError>,
+    made: Result<SmallString<N>, EcoError>,
     want: &[i64],
     inline: bool,
 ) -> bool {
@@ -232,22 +232,22 @@ pub fn is_made<const N: usize>(
 }
 
 /// `none` names the type in which values are made: a proof knows then that they have a size.
-pub fn makers_hold<const N: usize>(alloc: Global, watch: &Watch, none: &SmallText<N>) -> bool {
+pub fn makers_hold<const N: usize>(alloc: Global, watch: &Watch, none: &SmallString<N>) -> bool {
     let mut hold = chars_hold(alloc, watch, none);
     for len in [0, 1, N, N.saturating_add(1), N.saturating_add(9)] {
         let (text, inline) = (letters(len), text_fits(len, N));
-        let bytes = SmallText::<N>::letters(len);
+        let bytes = SmallString::<N>::letters(len);
         let want = bytes.as_slice();
-        hold = is_made(watch, SmallText::<N>::from_str(alloc, text), want, inline) && hold;
+        hold = is_made(watch, SmallString::<N>::from_str(alloc, text), want, inline) && hold;
         hold = is_made(
             watch,
-            SmallText::<N>::from_chars(alloc, text.chars()),
+            SmallString::<N>::from_chars(alloc, text.chars()),
             want,
             inline,
         ) && hold;
         hold = is_made(
             watch,
-            SmallText::<N>::with_capacity(alloc, len),
+            SmallString::<N>::with_capacity(alloc, len),
             &[],
             len <= N,
         ) && hold;
@@ -263,18 +263,18 @@ fn text_fits(len: usize, limit: usize) -> bool {
     letters(len).len() <= limit
 }
 
-fn chars_hold<const N: usize>(alloc: Global, watch: &Watch, _none: &SmallText<N>) -> bool {
-    let four = SmallText::<N>::added(4);
-    is_made(watch, SmallText::<N>::from_char(alloc, 'a'), &[97], N > 0)
+fn chars_hold<const N: usize>(alloc: Global, watch: &Watch, _none: &SmallString<N>) -> bool {
+    let four = SmallString::<N>::added(4);
+    is_made(watch, SmallString::<N>::from_char(alloc, 'a'), &[97], N > 0)
         && is_made(
             watch,
-            SmallText::<N>::from_char(alloc, 'é'),
+            SmallString::<N>::from_char(alloc, 'é'),
             &[195, 169],
             N > 1,
         )
         && is_made(
             watch,
-            SmallText::<N>::from_char(alloc, '😀'),
+            SmallString::<N>::from_char(alloc, '😀'),
             four.as_slice(),
             N > 3,
         )
@@ -283,13 +283,13 @@ fn chars_hold<const N: usize>(alloc: Global, watch: &Watch, _none: &SmallText<N>
 fn strs_hold<const N: usize>(
     alloc: Global,
     watch: &Watch,
-    _none: &SmallText<N>,
+    _none: &SmallString<N>,
     text: &str,
 ) -> bool {
     let bytes = Long::of_bytes(text.as_bytes());
     let (want, inline) = (bytes.as_slice(), text.len() <= N);
-    let made = SmallText::<N>::from_strs(alloc, ["", text]);
-    let collected = match text.chars().collect::<SmallText<N>>(alloc) {
+    let made = SmallString::<N>::from_strs(alloc, ["", text]);
+    let collected = match text.chars().collect::<SmallString<N>>(alloc) {
         Ok(text) => Ok(text),
         Err(_) => Err(EcoError::Memory),
     };
@@ -300,7 +300,7 @@ fn strs_hold<const N: usize>(
 fn string_holds<const N: usize>(
     alloc: Global,
     watch: &Watch,
-    _none: &SmallText<N>,
+    _none: &SmallString<N>,
     want: &str,
 ) -> bool {
     let Ok(string) = String::from_str(alloc, want) else {
@@ -308,7 +308,7 @@ fn string_holds<const N: usize>(
     };
     let bytes = Long::of_bytes(want.as_bytes());
     let inline = want.len() <= N;
-    match SmallText::<N>::from_string(alloc, string) {
+    match SmallString::<N>::from_string(alloc, string) {
         Ok(text) => is_made(watch, Ok(text), bytes.as_slice(), inline),
         Err(rejected) => {
             rejected.value.as_str() == want
@@ -321,12 +321,12 @@ fn string_holds<const N: usize>(
 fn joined_holds<const N: usize>(
     alloc: Global,
     watch: &Watch,
-    _none: &SmallText<N>,
+    _none: &SmallString<N>,
     text: &str,
 ) -> bool {
     let mut parts = Vec::new(alloc);
     for part in [text, "!"] {
-        let Ok(part) = SmallText::<N>::from_str(alloc, part) else {
+        let Ok(part) = SmallString::<N>::from_str(alloc, part) else {
             return watch.may_refuse();
         };
         if parts.push(part).is_err() {
@@ -335,15 +335,15 @@ fn joined_holds<const N: usize>(
     }
     let mut want = Long::of_bytes(text.as_bytes());
     want.push(33);
-    let made = SmallText::<N>::from_eco_strings(alloc, parts);
+    let made = SmallString::<N>::from_eco_strings(alloc, parts);
     is_made(watch, made, want.as_slice(), want.len() <= N)
 }
 
 /// What is made of a text in each state, which stays as it is.
-pub fn derived_hold<const N: usize>(alloc: Global, watch: &Watch, none: &SmallText<N>) -> bool {
+pub fn derived_hold<const N: usize>(alloc: Global, watch: &Watch, none: &SmallString<N>) -> bool {
     let mut hold = true;
     for state in states(N) {
-        let Ok(text) = SmallText::<N>::made(alloc, state) else {
+        let Ok(text) = SmallString::<N>::made(alloc, state) else {
             return state.spilled && watch.may_refuse() && hold;
         };
         hold = repeated_hold(watch, &text) && replaced_hold(watch, &text) && hold;
@@ -352,7 +352,7 @@ pub fn derived_hold<const N: usize>(alloc: Global, watch: &Watch, none: &SmallTe
             && hold;
         hold = text
             .bytes()
-            .is(SmallText::<N>::letters(state.len).as_slice())
+            .is(SmallString::<N>::letters(state.len).as_slice())
             && hold;
         hold = text.is_inline() != state.spilled && into_holds(watch, state, text) && hold;
         hold = sums_hold(alloc, watch, none, state) && hold;
@@ -360,7 +360,7 @@ pub fn derived_hold<const N: usize>(alloc: Global, watch: &Watch, none: &SmallTe
     hold
 }
 
-fn repeated_hold<const N: usize>(watch: &Watch, text: &SmallText<N>) -> bool {
+fn repeated_hold<const N: usize>(watch: &Watch, text: &SmallString<N>) -> bool {
     let mut hold = true;
     let mut want = Long::new();
     for count in 0..3 {
@@ -372,7 +372,7 @@ fn repeated_hold<const N: usize>(watch: &Watch, text: &SmallText<N>) -> bool {
 }
 
 /// The text with other bytes where the letter `a` stands, which it does first.
-fn with_other<const N: usize>(text: &SmallText<N>, other: &str) -> Long {
+fn with_other<const N: usize>(text: &SmallString<N>, other: &str) -> Long {
     let bytes = text.bytes();
     let first = Edit {
         start: 0,
@@ -385,7 +385,7 @@ fn with_other<const N: usize>(text: &SmallText<N>, other: &str) -> Long {
     bytes.replaced(first, &Long::of_bytes(other.as_bytes()))
 }
 
-fn replaced_hold<const N: usize>(watch: &Watch, text: &SmallText<N>) -> bool {
+fn replaced_hold<const N: usize>(watch: &Watch, text: &SmallString<N>) -> bool {
     let mut hold = true;
     for (pattern, replacement, count) in [
         ("a", "", 9),
@@ -408,7 +408,7 @@ fn replaced_hold<const N: usize>(watch: &Watch, text: &SmallText<N>) -> bool {
 }
 
 /// Nothing is found before the first letter.
-fn spread_holds<const N: usize>(watch: &Watch, text: &SmallText<N>) -> bool {
+fn spread_holds<const N: usize>(watch: &Watch, text: &SmallString<N>) -> bool {
     let mut want = Long::of_bytes(b"..");
     want.append(text.bytes().as_slice());
     is_made(
@@ -435,7 +435,7 @@ fn upper(letters: &Long, other: i64) -> Long {
 
 /// In ASCII case a text keeps its mode. In Unicode case it is inline where it fits; past ASCII
 /// memory for std's text may be refused.
-fn cased_hold<const N: usize>(watch: &Watch, text: &SmallText<N>, spilled: bool) -> bool {
+fn cased_hold<const N: usize>(watch: &Watch, text: &SmallString<N>, spilled: bool) -> bool {
     let lower = text.bytes();
     let ascii = upper(&lower, 169);
     is_made(watch, text.to_ascii_lowercase(), lower.as_slice(), !spilled)
@@ -446,7 +446,7 @@ fn cased_hold<const N: usize>(watch: &Watch, text: &SmallText<N>, spilled: bool)
 
 fn is_cased<const N: usize>(
     watch: &Watch,
-    made: Result<SmallText<N>, EcoError>,
+    made: Result<SmallString<N>, EcoError>,
     want: &Long,
 ) -> bool {
     let inline = want.len() <= N;
@@ -457,7 +457,7 @@ fn is_cased<const N: usize>(
 }
 
 /// A `String` of the text, and the text printed.
-fn printed_holds<const N: usize>(alloc: Global, watch: &Watch, text: &SmallText<N>) -> bool {
+fn printed_holds<const N: usize>(alloc: Global, watch: &Watch, text: &SmallString<N>) -> bool {
     let copied = match text.to_std_string() {
         Ok(copy) => copy.as_str() == text.as_str(),
         Err(error) => error == EcoError::Memory && text.len() > 0 && watch.may_refuse(),
@@ -470,8 +470,8 @@ fn printed_holds<const N: usize>(alloc: Global, watch: &Watch, text: &SmallText<
 }
 
 /// The vector of a spilled text is there; an inline one comes back where there is none.
-fn into_holds<const N: usize>(watch: &Watch, state: State, text: SmallText<N>) -> bool {
-    let want = SmallText::<N>::letters(state.len);
+fn into_holds<const N: usize>(watch: &Watch, state: State, text: SmallString<N>) -> bool {
+    let want = SmallString::<N>::letters(state.len);
     match text.into_eco_vec() {
         Ok(vector) => want.is_bytes(vector.as_slice()),
         Err(rejected) => {
@@ -488,12 +488,12 @@ fn into_holds<const N: usize>(watch: &Watch, state: State, text: SmallText<N>) -
 fn sums_hold<const N: usize>(
     alloc: Global,
     watch: &Watch,
-    _none: &SmallText<N>,
+    _none: &SmallString<N>,
     state: State,
 ) -> bool {
     let mut hold = true;
     for count in [0, 1, 4, 12] {
-        let Ok(text) = SmallText::<N>::made(alloc, state) else {
+        let Ok(text) = SmallString::<N>::made(alloc, state) else {
             return state.spilled && watch.may_refuse() && hold;
         };
         hold = sum_holds(watch, state, text, count) && hold;
@@ -504,12 +504,12 @@ fn sums_hold<const N: usize>(
 fn sum_holds<const N: usize>(
     watch: &Watch,
     state: State,
-    text: SmallText<N>,
+    text: SmallString<N>,
     count: usize,
 ) -> bool {
     let (letters, capacity) = (text.bytes(), text.capacity());
     let mut want = letters;
-    want.append(SmallText::<N>::added(count).as_slice());
+    want.append(SmallString::<N>::added(count).as_slice());
     let inline = !state.spilled && want.len() <= N;
     match text.add(added(count)) {
         Ok(sum) => sum.bytes().is(want.as_slice()) && sum.is_inline() == inline,

@@ -10,16 +10,16 @@ use Rattle.ecow_base.specs.Capacity.{MAX}
 use Rattle.ecow_model.specs.Refusing.{◌>>=◌, OnRefused}
 use Rattle.ecow_model.specs.Values.{there, unused}
 use Rattle.ecow_model.specs.Uses.{Gives}
-use Rattle.ecow_model.specs.Lists.{ListUsage, make_list, edit_list, ask_list, vec_usage}
+use Rattle.ecow_model.specs.Vecs.{VecUsage, make_vec, edit_vec, ask_vec, vec_usage}
 use Rattle.ecow_model.specs.Costs.{make_capacity, unshares, copies, capacity_after, moves, make_input, edit_input, copied_by, moved_by}
-use Rattle.ecow_model.specs.CountedRun.{nothing, held_at, observation_of, change, counted_carry_out, counted_is_free, IsCountedUse, CountedRun, if_accepted, names_or, names_after, copied_in, moved_in, eager_in, input_in, copied_in_run, moved_in_run, eager_in_run, input_in_run, CopiesAtMostEagerly, MovesArePaid}
-use Rattle.ecow_model.specs.Names.{Names, Held, IsSharing, is_shared, forget, settle, join, debt, debt_of, strain, strain_of, strain_at}
+use Rattle.ecow_model.specs.CountedRun.{nothing, holding_at, observation_of, change, counted_carry_out, counted_is_free, IsCountedUse, CountedRun, if_accepted, names_or, names_after, copied_in, moved_in, eager_in, input_in, copied_in_run, moved_in_run, eager_in_run, input_in_run, CopiesAtMostEagerly, MovesArePaid}
+use Rattle.ecow_model.specs.Names.{Names, Holding, IsSharing, is_shared, forget, settle, join, debt, debt_of, strain, strain_of, strain_at}
 use Rattle.ecow_model.specs.declared.usage.Usage.TheVariants.{Make, Derive, Drop, Edit, Ask}
-use Rattle.ecow_model.specs.declared.lists.ListMake.{ListMake}
-use Rattle.ecow_model.specs.declared.lists.ListDerive.{ListDerive}
-use Rattle.ecow_model.specs.declared.lists.ListEdit.{ListEdit}
-use Rattle.ecow_model.specs.declared.lists.ListAsk.{ListAsk}
-use Rattle.ecow_model.specs.declared.lists.VecCommand.{VecCommand}
+use Rattle.ecow_model.specs.declared.vecs.VecMake.{VecMake}
+use Rattle.ecow_model.specs.declared.vecs.VecDerive.{VecDerive}
+use Rattle.ecow_model.specs.declared.vecs.VecEdit.{VecEdit}
+use Rattle.ecow_model.specs.declared.vecs.VecAsk.{VecAsk}
+use Rattle.ecow_model.specs.declared.vecs.VecCommand.{VecCommand}
 use Rattle.ecow_model.specs.declared.command.Outcome.{Outcome}
 use Rattle.ecow_model.specs.declared.command.Outcome.TheVariants.{Refused}
 use Rattle.ecow_model.specs.declared.command.Refusal.{Refusal}
@@ -57,7 +57,7 @@ module _ {T : Type 0} where
 
   module _ (names : Names T) (groups : IsSharing names) where
     -- x, which holds h, settles with this list
-    module _ (x : ℕ) (h : Held T) (at : finite.get names x ≡ Some h) (edit : ListEdit T) (items : List T) (is : LengthIs edit (length h.items) (length items)) where
+    module _ (x : ℕ) (h : Holding T) (at : finite.get names x ≡ Some h) (edit : VecEdit T) (items : List T) (is : LengthIs edit (length h.items) (length items)) where
       within : length h.items ≤ h.capacity
       within = (groups.fits x h at).0
 
@@ -137,7 +137,7 @@ module _ {T : Type 0} where
           (cases_Bool (is_shared h))
 
     -- a new name
-    made_paid : (x : ℕ) → finite.get names x ≡ None → (how : ListMake T) (items : List T) → LengthMade how (length items) → IsPaid 0 0 (make_input how) 0 names (settle x items (make_capacity how) names)
+    made_paid : (x : ℕ) → finite.get names x ≡ None → (how : VecMake T) (items : List T) → LengthMade how (length items) → IsPaid 0 0 (make_input how) 0 names (settle x items (make_capacity how) names)
     made_paid x none how items is =
         let paid : IsPaidMade how (length items) = paid_made (length items) how is in
         let capacity : ℕ = make_capacity how in
@@ -152,7 +152,7 @@ module _ {T : Type 0} where
           moves_paid = omega (arith, strained, bound, paid.moved);
         }
 
-    joined_paid : (x y : ℕ) (h : Held T) → finite.get names x ≡ Some h → finite.get names y ≡ None → IsPaid 0 0 0 (length h.items) names (join x y h names)
+    joined_paid : (x y : ℕ) (h : Holding T) → finite.get names x ≡ Some h → finite.get names y ≡ None → IsPaid 0 0 0 (length h.items) names (join x y h names)
     joined_paid x y h at none =
         let owed : debt (join x y h names) ≤ debt names + length h.items = debt-join names groups x y h at none in
         let strains : strain (join x y h names) ≡ strain names = blocks-join names groups x y h at none (λ items capacity. strain_at (length items) capacity) in
@@ -162,7 +162,7 @@ module _ {T : Type 0} where
           moves_paid = omega (arith, strains);
         }
 
-    dropped_paid : (x : ℕ) (h : Held T) → finite.get names x ≡ Some h → IsPaid 0 0 0 0 names (forget x names)
+    dropped_paid : (x : ℕ) (h : Holding T) → finite.get names x ≡ Some h → IsPaid 0 0 0 0 names (forget x names)
     dropped_paid x h at =
         let left : debt names ≡ debt (forget x names) + cond (is_shared h) (length h.items) 0 = debt-forget names groups x h at in
         let strains : strain names ≡ strain (forget x names) + cond (is_sole_owner h) (strain_at (length h.items) h.capacity) 0 = blocks-forget names groups x h at (λ items capacity. strain_at (length items) capacity) in
@@ -175,7 +175,7 @@ module _ {T : Type 0} where
     asked_paid : IsPaid 0 0 0 0 names names
     asked_paid = record { sharing = groups; copies_paid = omega arith; moves_paid = omega arith }
 
-  held_is : (old : Names T) (x : ℕ) (h : Held T) → finite.get old x ≡ Some h → held_at old x ≡ h
+  held_is : (old : Names T) (x : ℕ) (h : Holding T) → finite.get old x ≡ Some h → holding_at old x ≡ h
   held_is old x h at = ap (λ o. unwrap_or o nothing) at
 
   -- an accepted command isn't answered by a refusal, and is paid
@@ -183,49 +183,49 @@ module _ {T : Type 0} where
   IsPaidAnswer copying moving brought owes old answer = OnRefused answer.0 ⊥ × IsPaid copying moving brought owes old answer.1
 
   module _ (old : Names T) (groups : IsSharing old) (answer : Outcome T × Names T) where
-    make_paid : (x : ℕ) (how : ListMake T) → counted_carry_out old (Make x how) ≡ Ok answer → IsPaidAnswer 0 0 (make_input how) 0 old answer
+    make_paid : (x : ℕ) (how : VecMake T) → counted_carry_out old (Make x how) ≡ Ok answer → IsPaidAnswer 0 0 (make_input how) 0 old answer
     make_paid x how e =
         let new = bound (unused old x) _ answer e in
         let none : finite.get old x ≡ None = absent (finite.get old x) new.0 new.1 in
-        let xs = bound (make_list how) _ answer new.2 in
+        let xs = bound (make_vec how) _ answer new.2 in
         subst (IsPaidAnswer 0 0 (make_input how) 0 old) (same_answer _ answer xs.2)
         (tt, made_paid old groups x none how xs.0 (is_made how xs.0 xs.1))
 
-    clone_paid : (x y : ℕ) (how : ListDerive) → counted_carry_out old (Derive x y how) ≡ Ok answer → IsPaidAnswer 0 0 0 (length (held_at old x).items) old answer
+    clone_paid : (x y : ℕ) (how : VecDerive) → counted_carry_out old (Derive x y how) ≡ Ok answer → IsPaidAnswer 0 0 0 (length (holding_at old x).items) old answer
     clone_paid x y how e =
         let is_there = bound (there old x) _ answer e in
-        let h : Held T = is_there.0 in
+        let h : Holding T = is_there.0 in
         let at : finite.get old x ≡ Some h = found_value (finite.get old x) h is_there.1 in
         let new = bound (unused old y) _ answer is_there.2 in
         let none : finite.get old y ≡ None = absent (finite.get old y) new.0 new.1 in
-        subst (IsPaidAnswer 0 0 0 (length (held_at old x).items) old) (same_answer _ answer new.2)
+        subst (IsPaidAnswer 0 0 0 (length (holding_at old x).items) old) (same_answer _ answer new.2)
         (tt, subst (λ k. IsPaid 0 0 0 (length k.items) old (join x y h old)) (sym (held_is old x h at)) (joined_paid old groups x y h at none))
 
     drop_paid : (x : ℕ) → counted_carry_out old (Drop x) ≡ Ok answer → IsPaidAnswer 0 0 0 0 old answer
     drop_paid x e =
         let is_there = bound (there old x) _ answer e in
-        let h : Held T = is_there.0 in
+        let h : Holding T = is_there.0 in
         let at : finite.get old x ≡ Some h = found_value (finite.get old x) h is_there.1 in
         subst (IsPaidAnswer 0 0 0 0 old) (same_answer _ answer is_there.2) (tt, dropped_paid old groups x h at)
 
-    edit_paid : (x : ℕ) (edit : ListEdit T) → counted_carry_out old (Edit x edit) ≡ Ok answer → IsPaidAnswer (copied_by edit (held_at old x)) (moved_by edit (held_at old x)) (edit_input edit) 0 old answer
+    edit_paid : (x : ℕ) (edit : VecEdit T) → counted_carry_out old (Edit x edit) ≡ Ok answer → IsPaidAnswer (copied_by edit (holding_at old x)) (moved_by edit (holding_at old x)) (edit_input edit) 0 old answer
     edit_paid x edit e =
         let is_there = bound (there old x) _ answer e in
-        let h : Held T = is_there.0 in
+        let h : Holding T = is_there.0 in
         let at : finite.get old x ≡ Some h = found_value (finite.get old x) h is_there.1 in
-        let after = bound (edit_list edit h.items) _ answer is_there.2 in
+        let after = bound (edit_vec edit h.items) _ answer is_there.2 in
         let is = is_answer h.items after.0 edit after.1 in
-        subst (IsPaidAnswer (copied_by edit (held_at old x)) (moved_by edit (held_at old x)) (edit_input edit) 0 old) (same_answer _ answer after.2)
+        subst (IsPaidAnswer (copied_by edit (holding_at old x)) (moved_by edit (holding_at old x)) (edit_input edit) 0 old) (same_answer _ answer after.2)
         (is.0, subst (λ k. IsPaid (copied_by edit k) (moved_by edit k) (edit_input edit) 0 old (change edit x h after.0.1 old)) (sym (held_is old x h at)) (change_paid old groups x h at edit after.0.1 is.1))
 
-    ask_paid : (x : ℕ) (question : ListAsk) → counted_carry_out old (Ask x question) ≡ Ok answer → IsPaidAnswer 0 0 0 0 old answer
+    ask_paid : (x : ℕ) (question : VecAsk) → counted_carry_out old (Ask x question) ≡ Ok answer → IsPaidAnswer 0 0 0 0 old answer
     ask_paid x question e =
         let is_there = bound (there old x) _ answer e in
-        let h : Held T = is_there.0 in
-        let outcome = bound (ask_list (observation_of h) question h.items) _ answer is_there.2 in
+        let h : Holding T = is_there.0 in
+        let outcome = bound (ask_vec (observation_of h) question h.items) _ answer is_there.2 in
         subst (IsPaidAnswer 0 0 0 0 old) (same_answer _ answer outcome.2) (is_asked (observation_of h) question h.items outcome.0 outcome.1, asked_paid old groups)
 
-    answer_paid : (usage : ListUsage T) → counted_carry_out old usage ≡ Ok answer → IsPaidAnswer (copied_in usage old) (moved_in usage old) (input_in usage old) (eager_in usage old) old answer
+    answer_paid : (usage : VecUsage T) → counted_carry_out old usage ≡ Ok answer → IsPaidAnswer (copied_in usage old) (moved_in usage old) (input_in usage old) (eager_in usage old) old answer
     answer_paid (Make x how) e = make_paid x how e
     answer_paid (Derive x y how) e = clone_paid x y how e
     answer_paid (Drop x) e = drop_paid x e
@@ -233,13 +233,13 @@ module _ {T : Type 0} where
     answer_paid (Ask x question) e = ask_paid x question e
 
   -- one command, accepted or refused
-  pub record IsPaidStep (usage : ListUsage T) (old : Names T) (outcome : Outcome T) (new : Names T) : Type 0 where
+  pub record IsPaidStep (usage : VecUsage T) (old : Names T) (outcome : Outcome T) (new : Names T) : Type 0 where
     pub sharing : IsSharing new
     pub after : names_after old usage outcome ≡ new
     pub copies_paid : if_accepted outcome (copied_in usage old) + debt new ≤ debt old + if_accepted outcome (eager_in usage old)
     pub moves_paid : if_accepted outcome (moved_in usage old) + strain new ≤ strain old + if_accepted outcome (copied_in usage old) + 2 * if_accepted outcome (input_in usage old)
 
-  module _ (usage : ListUsage T) (old : Names T) (groups : IsSharing old) where
+  module _ (usage : VecUsage T) (old : Names T) (groups : IsSharing old) where
     refused_paid : (refusal : Refusal) → IsPaidStep usage old (Refused refusal) old
     refused_paid refusal = record { sharing = groups; after = refl; copies_paid = omega arith; moves_paid = omega arith }
 

@@ -8,26 +8,26 @@ use Rattle.std.specs.Result.{result_ok}
 use Rattle.std.proofs.lemmas.Map.Views.{tells_apart}
 use Rattle.std.proofs.lemmas.Map.Lookups.{exact_unsigned}
 use Rattle.ecow_model.specs.CountedRun.{CountedStep}
-use Rattle.ecow_model.specs.Lists.{list_rules, vec_usage}
-use Rattle.ecow_model.specs.Names.{Held, Names, contents}
+use Rattle.ecow_model.specs.Vecs.{vec_rules, vec_usage}
+use Rattle.ecow_model.specs.Names.{Holding, Names, contents}
 use Rattle.ecow_model.specs.Refusing.{◌>>=◌, becomes}
 use Rattle.ecow_model.specs.Run.{IsVecStep}
 use Rattle.ecow_model.specs.State.{State, Plain}
 use Rattle.ecow_model.specs.Uses.{Gives, Observation, Rules, put_made, observation_in, carry_out, value_at}
-use Rattle.ecow_model.specs.Values.{Named, as_list, list_at, there, unused}
+use Rattle.ecow_model.specs.Values.{Named, as_vec, vec_at, there, unused}
 use Rattle.ecow_model.specs.declared.command.Outcome.{Outcome}
 use Rattle.ecow_model.specs.declared.command.Outcome.TheVariants.{Done}
 use Rattle.ecow_model.specs.declared.command.Refusal.{Refusal}
 use Rattle.ecow_model.specs.declared.command.Refusal.TheVariants.{NoName, Taken, Index}
-use Rattle.ecow_model.specs.declared.lists.ListDerive.TheVariants.{Clone}
-use Rattle.ecow_model.specs.declared.lists.ListEdit.TheVariants.{Write}
-use Rattle.ecow_model.specs.declared.lists.VecCommand.{VecCommand}
-use Rattle.ecow_model.specs.declared.lists.VecCommand.TheVariants as command
-use Rattle.ecow_model.specs.declared.usage.Made.{Made}
-use Rattle.ecow_model.specs.declared.usage.Made.TheVariants.{Always, Tried}
+use Rattle.ecow_model.specs.declared.vecs.VecDerive.TheVariants.{Clone}
+use Rattle.ecow_model.specs.declared.vecs.VecEdit.TheVariants.{Write}
+use Rattle.ecow_model.specs.declared.vecs.VecCommand.{VecCommand}
+use Rattle.ecow_model.specs.declared.vecs.VecCommand.TheVariants as command
+use Rattle.ecow_model.specs.declared.usage.NewValue.{NewValue}
+use Rattle.ecow_model.specs.declared.usage.NewValue.TheVariants.{Always, Tried}
 use Rattle.ecow_model.specs.declared.usage.Usage.{Usage}
 use Rattle.ecow_model.specs.declared.usage.Usage.TheVariants.{Make, Derive, Drop, Edit, Ask}
-use Rattle.ecow_model.specs.declared.value.Value.TheVariants.{List as Listed, Bytes as Buffered, Text as Written}
+use Rattle.ecow_model.specs.declared.value.Value.TheVariants.{Vec as VecValue, Bytes as BytesValue, Text as TextValue}
 use Rattle.ecow_model.proofs.Contents.{get-contents, step_of_contents}
 use Rattle.ecow_laws.specs.Callers.{LeavesName, list_of}
 
@@ -68,7 +68,7 @@ module _ {T V : Type 0} (old : Named V) (q : ℕ) where
   stays_given (Err refusal) free outcome new stays refused = ap (λ m. get m q) refused.1
 
 module _ {T V A M D E Q : Type 0} (rules : Rules T V A M D E Q) (seen : Observation) (old : Named V) (q : ℕ) where
-  stays_made : (name : ℕ) (made : Made A) → q ≢ name → get (put_made {T = T} rules old name made).1 q ≡ get old q
+  stays_made : (name : ℕ) (made : NewValue A) → q ≢ name → get (put_made {T = T} rules old name made).1 q ≡ get old q
   stays_made name (Always value) differ = past_insert old name (rules.wrap value) q differ
   stays_made name (Tried (Some value)) differ = past_insert old name (rules.wrap value) q differ
   stays_made name (Tried None) differ = refl
@@ -101,20 +101,20 @@ module _ {T : Type 0} (old new : State T) where
   fork_to to o taken = do
     source ← ok_or o NoName
     _ ← if taken then Err Taken else Ok nothing
-    xs ← as_list source
-    Ok (Done, insert old to (Listed xs))
+    xs ← as_vec source
+    Ok (Done, insert old to (VecValue xs))
 
   forked_from : (to : ℕ) (o : Option (Plain T)) (taken : Bool) → fork_to to o taken ≡ Ok (Done, new) → get new to ≡ o
   forked_from to None taken e = cc
-  forked_from to (Some (Listed xs)) true e = cc
-  forked_from to (Some (Listed xs)) false e = let same : new ≡ insert old to (Listed xs) = sym (ap left_by e) in rw same (at_insert old to (Listed xs))
-  forked_from to (Some (Buffered b)) true e = cc
-  forked_from to (Some (Buffered b)) false e = cc
-  forked_from to (Some (Written t)) true e = cc
-  forked_from to (Some (Written t)) false e = cc
+  forked_from to (Some (VecValue xs)) true e = cc
+  forked_from to (Some (VecValue xs)) false e = let same : new ≡ insert old to (VecValue xs) = sym (ap left_by e) in rw same (at_insert old to (VecValue xs))
+  forked_from to (Some (BytesValue b)) true e = cc
+  forked_from to (Some (BytesValue b)) false e = cc
+  forked_from to (Some (TextValue t)) true e = cc
+  forked_from to (Some (TextValue t)) false e = cc
 
-  fork_given : (free : Bool) (from to : ℕ) → Gives (carry_out list_rules unread old (Derive from to Clone)) free old Done new → get new to ≡ get old from
-  fork_given free from to given = forked_from to (get old from) (contains_key old to) (done_is (carry_out list_rules unread old (Derive from to Clone)) free old new given)
+  fork_given : (free : Bool) (from to : ℕ) → Gives (carry_out vec_rules unread old (Derive from to Clone)) free old Done new → get new to ≡ get old from
+  fork_given free from to given = forked_from to (get old from) (contains_key old to) (done_is (carry_out vec_rules unread old (Derive from to Clone)) free old new given)
 
   -- a list of which one element was written
   abbrev set_in : ℕ → T → Option (List T) → Option (List T)
@@ -124,27 +124,27 @@ module _ {T : Type 0} (old new : State T) where
   abbrev write_in : ℕ → ℕ → T → List T → Option T → Result (Outcome T × State T) Refusal
   write_in name index value xs item = do
     after ← ok_or item Index >>= (λ x. becomes (slice_set xs index value))
-    Ok (after.0, insert old name (Listed after.1))
+    Ok (after.0, insert old name (VecValue after.1))
 
   abbrev write_to : ℕ → ℕ → T → Option (Plain T) → Result (Outcome T × State T) Refusal
   write_to name index value o = do
-    xs ← ok_or o NoName >>= as_list
+    xs ← ok_or o NoName >>= as_vec
     write_in name index value xs (slice_get xs index)
 
-  written_to : (name index : ℕ) (value : T) (xs : List T) (item : Option T) → write_in name index value xs item ≡ Ok (Done, new) → get new name ≡ Some (Listed (slice_set xs index value))
+  written_to : (name index : ℕ) (value : T) (xs : List T) (item : Option T) → write_in name index value xs item ≡ Ok (Done, new) → get new name ≡ Some (VecValue (slice_set xs index value))
   written_to name index value xs None e = cc
-  written_to name index value xs (Some x) e = let same : new ≡ insert old name (Listed (slice_set xs index value)) = sym (ap left_by e) in rw same (at_insert old name (Listed (slice_set xs index value)))
+  written_to name index value xs (Some x) e = let same : new ≡ insert old name (VecValue (slice_set xs index value)) = sym (ap left_by e) in rw same (at_insert old name (VecValue (slice_set xs index value)))
 
   written_at : (name index : ℕ) (value : T) (o : Option (Plain T)) → write_to name index value o ≡ Ok (Done, new)
-      → result_ok (ok_or (get new name) NoName >>= as_list) ≡ set_in index value (result_ok (ok_or o NoName >>= as_list))
+      → result_ok (ok_or (get new name) NoName >>= as_vec) ≡ set_in index value (result_ok (ok_or o NoName >>= as_vec))
   written_at name index value None e = cc
-  written_at name index value (Some (Listed xs)) e = rw (written_to name index value xs (slice_get xs index) e) refl
-  written_at name index value (Some (Buffered b)) e = cc
-  written_at name index value (Some (Written t)) e = cc
+  written_at name index value (Some (VecValue xs)) e = rw (written_to name index value xs (slice_get xs index) e) refl
+  written_at name index value (Some (BytesValue b)) e = cc
+  written_at name index value (Some (TextValue t)) e = cc
 
-  write_given : (free : Bool) (name index : ℕ) (value : T) → Gives (carry_out list_rules unread old (Edit name (Write index value))) free old Done new
-      → result_ok (list_at new name) ≡ set_in index value (result_ok (list_at old name))
-  write_given free name index value given = written_at name index value (get old name) (done_is (carry_out list_rules unread old (Edit name (Write index value))) free old new given)
+  write_given : (free : Bool) (name index : ℕ) (value : T) → Gives (carry_out vec_rules unread old (Edit name (Write index value))) free old Done new
+      → result_ok (vec_at new name) ≡ set_in index value (result_ok (vec_at old name))
+  write_given free name index value given = written_at name index value (get old name) (done_is (carry_out vec_rules unread old (Edit name (Write index value))) free old new given)
 
 module _ {T : Type 0} (old new : State T) (outcome : Outcome T) where
   -- a fork reads as its source does
@@ -153,31 +153,31 @@ module _ {T : Type 0} (old new : State T) (outcome : Outcome T) where
 
   -- a write sets one element
   pub write_sets : (name index : ℕ) (value : T) → IsVecStep old (command.Write name index value) outcome new → outcome ≡ Done
-      → result_ok (list_at new name) ≡ option_map (λ xs. slice_set xs index value) (result_ok (list_at old name))
+      → result_ok (vec_at new name) ≡ option_map (λ xs. slice_set xs index value) (result_ok (vec_at old name))
   write_sets name index value step e = write_given old new _ name index value (subst (λ o. IsVecStep old (command.Write name index value) o new) e step)
 
   -- what stands under all other names stays
   pub others_stay : (c : VecCommand T) (q : ℕ) → IsVecStep old c outcome new → LeavesName (vec_usage c) q → get new q ≡ get old q
-  others_stay c q step differ = name_stays list_rules (observation_in outcome) old q (vec_usage c) _ outcome new differ step
+  others_stay c q step differ = name_stays vec_rules (observation_in outcome) old q (vec_usage c) _ outcome new differ step
 
 module _ {T : Type 0} where
-  abbrev plain : Held T → Plain T
-  plain h = Listed h.items
+  abbrev plain : Holding T → Plain T
+  plain h = VecValue h.items
 
-  abbrev listed : Option (Held T) → Option (List T)
-  listed o = result_ok (ok_or (option_map plain o) NoName >>= as_list)
+  abbrev listed : Option (Holding T) → Option (List T)
+  listed o = result_ok (ok_or (option_map plain o) NoName >>= as_vec)
 
-  listed-is : (o : Option (Held T)) → listed o ≡ option_map (λ h. h.items) o
+  listed-is : (o : Option (Holding T)) → listed o ≡ option_map (λ h. h.items) o
   listed-is None = refl
   listed-is (Some h) = refl
 
   -- the list of a name is the one of its plain value
-  list_of-contents : (names : Names T) (name : ℕ) → result_ok (list_at (contents names) name) ≡ list_of names name
+  list_of-contents : (names : Names T) (name : ℕ) → result_ok (vec_at (contents names) name) ≡ list_of names name
   list_of-contents names name = rw (get-contents names name) (listed-is (get names name))
 
 module _ {T : Type 0} (old new : Names T) (outcome : Outcome T) where
   same_lists : (x y : ℕ) → get (contents new) x ≡ get (contents old) y → list_of new x ≡ list_of old y
-  same_lists x y e = sym (list_of-contents new x) ∙ ap (λ o. result_ok (ok_or o NoName >>= as_list)) e ∙ list_of-contents old y
+  same_lists x y e = sym (list_of-contents new x) ∙ ap (λ o. result_ok (ok_or o NoName >>= as_vec)) e ∙ list_of-contents old y
 
   -- in shared blocks: a fork reads as its source does
   pub share_reads : (from to : ℕ) → CountedStep old (command.Clone from to) outcome new → outcome ≡ Done → list_of new to ≡ list_of old from
@@ -192,4 +192,4 @@ module _ {T : Type 0} (old new : Names T) (outcome : Outcome T) where
 
   -- the lists of all other names stay, whoever shares their blocks
   pub other_lists_stay : (c : VecCommand T) (q : ℕ) → CountedStep old c outcome new → LeavesName (vec_usage c) q → list_of new q ≡ list_of old q
-  other_lists_stay c q step differ = same_lists q q (name_stays list_rules _ (contents old) q (vec_usage c) _ outcome (contents new) differ (step_of_contents c old outcome new step))
+  other_lists_stay c q step differ = same_lists q q (name_stays vec_rules _ (contents old) q (vec_usage c) _ outcome (contents new) differ (step_of_contents c old outcome new step))

@@ -4,11 +4,11 @@ use Rattle.std.specs.Prelude.{◌==◌}
 use Rattle.std.specs.FinMap as finite
 use Rattle.std.proofs.lemmas.Bool.{eqb-true, eqb-false, ne_eqb, eq-eqb, true≢false, cases_eq, lt-ltb}
 use Rattle.std.proofs.lemmas.Option.{none-some, same_Some}
-use Rattle.ecow_model.specs.Names.{Names, Held, IsSharing, IsRising, is_member, without, head_of, leave, forget, total, debt, debt_of, block_number, is_shared, past_head, at_head}
+use Rattle.ecow_model.specs.Names.{Names, Holding, IsSharing, IsRising, is_member, without, head_of, leave, forget, total, debt, debt_of, block_number, is_shared, past_head, at_head}
 use Rattle.ecow_laws.proofs.Totals.{total-map_values, total_congr, total-remove, get-remove_nat}
 
 -- whether the name alone holds its block
-abbrev pub is_sole_owner : {T : Type 0} → Held T → Bool
+abbrev pub is_sole_owner : {T : Type 0} → Holding T → Bool
 is_sole_owner h = length h.group == 1
 
 -- a name that isn't in the group doesn't change it by leaving
@@ -46,25 +46,25 @@ or_true true = refl
 or_true false = refl
 
 -- what is still there once x is gone
-pub kept_by_remove : {T : Type 0} (names : Names T) (x q : ℕ) (k : Held T) → finite.get (finite.remove names x) q ≡ Some k → (q ≢ x) × (finite.get names q ≡ Some k)
+pub kept_by_remove : {T : Type 0} (names : Names T) (x q : ℕ) (k : Holding T) → finite.get (finite.remove names x) q ≡ Some k → (q ≢ x) × (finite.get names q ≡ Some k)
 kept_by_remove names x q k is = elim (eqb q x) as (λ b. eqb q x ≡ b → cond b None (finite.get names q) ≡ Some k → (q ≢ x) × (finite.get names q ≡ Some k)) [
   | true ↦ λ t e. absurd (none-some k e)
   | false ↦ λ t e. (eqb-false q x t, e)
 ] refl (sym (get-remove_nat names x q) ∙ is)
 
-module _ {T : Type 0} (names : Names T) (sharing : IsSharing names) (x : ℕ) (h : Held T) (at : finite.get names x ≡ Some h) (f : ℕ → Option ℕ → List T → ℕ → ℕ) where
-  abbrev weight : ℕ → Held T → ℕ
+module _ {T : Type 0} (names : Names T) (sharing : IsSharing names) (x : ℕ) (h : Holding T) (at : finite.get names x ≡ Some h) (f : ℕ → Option ℕ → List T → ℕ → ℕ) where
+  abbrev weight : ℕ → Holding T → ℕ
   weight q k = f q (head_of k.group) k.items k.capacity
 
-  kept : (q : ℕ) (k : Held T) → finite.get (finite.remove names x) q ≡ Some k → (q ≢ x) × (finite.get names q ≡ Some k)
+  kept : (q : ℕ) (k : Holding T) → finite.get (finite.remove names x) q ≡ Some k → (q ≢ x) × (finite.get names q ≡ Some k)
   kept q k is = kept_by_remove names x q k is
 
   -- who has x in the group holds what x holds
-  held_with : (q : ℕ) (k : Held T) → finite.get names q ≡ Some k → is_member x k.group ≡ true → h ≡ k
+  held_with : (q : ℕ) (k : Holding T) → finite.get names q ≡ Some k → is_member x k.group ≡ true → h ≡ k
   held_with q k is m = same_Some h k (sym at ∙ sharing.common q x k is m)
 
   -- x is no head: the heads of the others stay
-  same_heads : ((group : List ℕ) → h.group ≡ x ∷ group → ⊥) → (q : ℕ) (k : Held T) → finite.get names q ≡ Some k → head_of (without x k.group) ≡ head_of k.group
+  same_heads : ((group : List ℕ) → h.group ≡ x ∷ group → ⊥) → (q : ℕ) (k : Holding T) → finite.get names q ≡ Some k → head_of (without x k.group) ≡ head_of k.group
   same_heads no_head q k is = elim k.group as (λ g. k.group ≡ g → head_of (without x g) ≡ head_of g) [
     | [] ↦ λ e. refl
     | y ∷ g ↦ λ e. ⊎_elim
@@ -82,7 +82,7 @@ module _ {T : Type 0} (names : Names T) (sharing : IsSharing names) (x : ℕ) (h
       omega (arith, others, same, split)
 
   -- the others' groups where x is alone in its own
-  alone_others : h.group ≡ x ∷ [] → (q : ℕ) (k : Held T) → finite.get (finite.remove names x) q ≡ Some k → is_member x k.group ≡ false
+  alone_others : h.group ≡ x ∷ [] → (q : ℕ) (k : Holding T) → finite.get (finite.remove names x) q ≡ Some k → is_member x k.group ≡ false
   alone_others alone q k is = elim (is_member x k.group) as (λ b. is_member x k.group ≡ b → b ≡ false) [
     | true ↦ λ t.
         let there = kept q k is in
@@ -116,7 +116,7 @@ module _ {T : Type 0} (names : Names T) (sharing : IsSharing names) (x : ℕ) (h
     at_next_kept : finite.get (finite.remove names x) y ≡ Some h
     at_next_kept = get-remove_nat names x y ∙ ap (λ b. cond b None (finite.get names y)) (ne_eqb y x next_apart) ∙ at_next
 
-    others_agree : (q : ℕ) (k : Held T) → finite.get (finite.remove (finite.remove names x) y) q ≡ Some k → weight q (leave x k) ≡ weight q k
+    others_agree : (q : ℕ) (k : Holding T) → finite.get (finite.remove (finite.remove names x) y) q ≡ Some k → weight q (leave x k) ≡ weight q k
     others_agree q k is =
         let past_y : (q ≢ y) × (finite.get (finite.remove names x) q ≡ Some k) = kept_by_remove (finite.remove names x) y q k is in
         let past_x : (q ≢ x) × (finite.get names q ≡ Some k) = kept q k past_y.1 in
@@ -142,7 +142,7 @@ module _ {T : Type 0} (names : Names T) (sharing : IsSharing names) (x : ℕ) (h
         let x_head : weight x h ≡ f x (Some x) h.items h.capacity = ap (λ g. f x (head_of g) h.items h.capacity) group_is in
         omega (arith, others, next, before, same, split, new_head, old_head, x_head)
 
-module _ {T : Type 0} (names : Names T) (sharing : IsSharing names) (x : ℕ) (h : Held T) (at : finite.get names x ≡ Some h) where
+module _ {T : Type 0} (names : Names T) (sharing : IsSharing names) (x : ℕ) (h : Holding T) (at : finite.get names x ≡ Some h) where
   -- the four places that a name can have
   group_cases : (P : Type 0)
       → (h.group ≡ [] → P)

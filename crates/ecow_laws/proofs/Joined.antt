@@ -5,7 +5,7 @@ use Rattle.std.specs.Option.{option_map}
 use Rattle.std.proofs.lemmas.Bool.{eqb-true, ne_eqb, eq-eqb, true≢false, cases_eq, cases_Bool, or_cases, false_from_ne_true}
 use Rattle.std.proofs.lemmas.Option.{none-some, same_Some}
 use Rattle.ecow_base.specs.Capacity.{MAX}
-use Rattle.ecow_model.specs.Names.{Names, Held, IsSharing, IsRising, is_member, with_name, leave, forget, enter, join, total, debt, block_number, is_shared}
+use Rattle.ecow_model.specs.Names.{Names, Holding, IsSharing, IsRising, is_member, with_name, leave, forget, enter, join, total, debt, block_number, is_shared}
 use Rattle.ecow_laws.proofs.Totals.{get-insert_nat, same_nat}
 use Rattle.ecow_model.proofs.Contents.{get-map_values}
 use Rattle.ecow_laws.proofs.Groups.{is_sole_owner, without_absent, or_true, debt-forget, blocks-forget}
@@ -19,47 +19,47 @@ empty_at : (group : List ℕ) → length group ≡ 0 → group ≡ []
 empty_at [] e = refl
 empty_at (z ∷ group) e = absurd (omega arith)
 
-module _ {T : Type 0} (names : Names T) (sharing : IsSharing names) (x y : ℕ) (h : Held T) (at : finite.get names x ≡ Some h) (free : finite.get names y ≡ None) where
+module _ {T : Type 0} (names : Names T) (sharing : IsSharing names) (x y : ℕ) (h : Holding T) (at : finite.get names x ≡ Some h) (free : finite.get names y ≡ None) where
   pub get_join : (q : ℕ) → finite.get (join x y h names) q ≡ cond (eqb q y) (Some (enter x y h)) (option_map (enter x y) (finite.get names q))
   get_join q = get-insert_nat _ y (enter x y h) q ∙ ap (cond (eqb q y) (Some (enter x y h))) (get-map_values (enter x y) names q)
 
   pub get_join_new : finite.get (join x y h names) y ≡ Some (enter x y h)
   get_join_new = get_join y ∙ ap (λ b. cond b (Some (enter x y h)) (option_map (enter x y) (finite.get names y))) (eq-eqb y y refl)
 
-  apart : (q : ℕ) (k : Held T) → finite.get names q ≡ Some k → q ≢ y
+  apart : (q : ℕ) (k : Holding T) → finite.get names q ≡ Some k → q ≢ y
   apart q k is e = none-some k (sym free ∙ ap (finite.get names) (sym e) ∙ is)
 
-  pub get_join_other : (q : ℕ) (k : Held T) → finite.get names q ≡ Some k → finite.get (join x y h names) q ≡ Some (enter x y k)
+  pub get_join_other : (q : ℕ) (k : Holding T) → finite.get names q ≡ Some k → finite.get (join x y h names) q ≡ Some (enter x y k)
   get_join_other q k is = get_join q ∙ ap (λ b. cond b (Some (enter x y h)) (option_map (enter x y) (finite.get names q))) (ne_eqb q y (apart q k is)) ∙ ap (option_map (enter x y)) is
 
   -- no group has the free name
-  absent : (q : ℕ) (k : Held T) → finite.get names q ≡ Some k → is_member y k.group ≡ false
+  absent : (q : ℕ) (k : Holding T) → finite.get names q ≡ Some k → is_member y k.group ≡ false
   absent q k is = false_from_ne_true (is_member y k.group) (λ m. none-some k (sym free ∙ sharing.common q y k is m))
 
   -- who has x in the group holds what x holds
-  held_with : (q : ℕ) (k : Held T) → finite.get names q ≡ Some k → is_member x k.group ≡ true → h ≡ k
+  held_with : (q : ℕ) (k : Holding T) → finite.get names q ≡ Some k → is_member x k.group ≡ true → h ≡ k
   held_with q k is m = same_Some h k (sym at ∙ sharing.common q x k is m)
 
   -- each entry after it is an entry that was there, entered; at y that of x
-  from_join : (q : ℕ) (k : Held T) → finite.get (join x y h names) q ≡ Some k → (p : ℕ) × (v : Held T) × (finite.get names p ≡ Some v) × (enter x y v ≡ k) × (((q ≡ y) × (p ≡ x) × (v ≡ h)) ⊎ (q ≡ p))
+  from_join : (q : ℕ) (k : Holding T) → finite.get (join x y h names) q ≡ Some k → (p : ℕ) × (v : Holding T) × (finite.get names p ≡ Some v) × (enter x y v ≡ k) × (((q ≡ y) × (p ≡ x) × (v ≡ h)) ⊎ (q ≡ p))
   from_join q k is = ⊎_elim
       (λ (e : q ≡ y). (x, h, at, same_Some (enter x y h) k (sym get_join_new ∙ ap (finite.get (join x y h names)) (sym e) ∙ is), inl (e, refl, refl)))
       (λ (ne : q ≢ y).
-      let there : (v : Held T) × (finite.get names q ≡ Some v) × (enter x y v ≡ k) = mapped (enter x y) (finite.get names q) k (sym (get_join q ∙ ap (λ b. cond b (Some (enter x y h)) (option_map (enter x y) (finite.get names q))) (ne_eqb q y ne)) ∙ is) in
+      let there : (v : Holding T) × (finite.get names q ≡ Some v) × (enter x y v ≡ k) = mapped (enter x y) (finite.get names q) k (sym (get_join q ∙ ap (λ b. cond b (Some (enter x y h)) (option_map (enter x y) (finite.get names q))) (ne_eqb q y ne)) ∙ is) in
       (q, there.0, there.1, there.2, inr refl))
       (cases_eq q y)
 
-  entered : (v : Held T) → is_member x v.group ≡ true → enter x y v ≡ record { items = v.items; group = with_name y v.group; capacity = v.capacity }
+  entered : (v : Holding T) → is_member x v.group ≡ true → enter x y v ≡ record { items = v.items; group = with_name y v.group; capacity = v.capacity }
   entered v m = ap (λ b. cond b (record { items = v.items; group = with_name y v.group; capacity = v.capacity }) v) m
 
-  stayed : (v : Held T) → is_member x v.group ≡ false → enter x y v ≡ v
+  stayed : (v : Holding T) → is_member x v.group ≡ false → enter x y v ≡ v
   stayed v m = ap (λ b. cond b (record { items = v.items; group = with_name y v.group; capacity = v.capacity }) v) m
 
   -- a fact of the entered value, from the two cases
-  by_entry : (P : Held T → Type 0) (v : Held T) → (is_member x v.group ≡ true → P (record { items = v.items; group = with_name y v.group; capacity = v.capacity })) → (is_member x v.group ≡ false → P v) → P (enter x y v)
+  by_entry : (P : Holding T → Type 0) (v : Holding T) → (is_member x v.group ≡ true → P (record { items = v.items; group = with_name y v.group; capacity = v.capacity })) → (is_member x v.group ≡ false → P v) → P (enter x y v)
   by_entry P v then_in none = ⊎_elim (λ m. subst P (sym (entered v m)) (then_in m)) (λ m. subst P (sym (stayed v m)) (none m)) (cases_Bool (is_member x v.group))
 
-  common_entry : (q p z : ℕ) (v : Held T) → finite.get names p ≡ Some v → (((q ≡ y) × (p ≡ x) × (v ≡ h)) ⊎ (q ≡ p)) → is_member z (enter x y v).group ≡ true → finite.get (join x y h names) z ≡ Some (enter x y v)
+  common_entry : (q p z : ℕ) (v : Holding T) → finite.get names p ≡ Some v → (((q ≡ y) × (p ≡ x) × (v ≡ h)) ⊎ (q ≡ p)) → is_member z (enter x y v).group ≡ true → finite.get (join x y h names) z ≡ Some (enter x y v)
   common_entry q p z v is place = by_entry (λ k. is_member z k.group ≡ true → finite.get (join x y h names) z ≡ Some (enter x y v)) v
       (λ has m. ⊎_elim
       (λ (e : eqb y z ≡ true). ap (finite.get (join x y h names)) (sym (eqb-true y z e)) ∙ get_join_new ∙ ap (λ k. Some (enter x y k)) (held_with p v is has))
@@ -71,10 +71,10 @@ module _ {T : Type 0} (names : Names T) (sharing : IsSharing names) (x y : ℕ) 
   sharing-join = record {
     common = λ q z k is m.
         let there = from_join q k is in
-        common_entry q there.0 z there.1 there.2 there.4 (ap (λ (k : Held T). is_member z k.group) there.3 ∙ m) ∙ ap Some there.3;
+        common_entry q there.0 z there.1 there.2 there.4 (ap (λ (k : Holding T). is_member z k.group) there.3 ∙ m) ∙ ap Some there.3;
     itself = λ q k is.
         let there = from_join q k is in
-        subst (λ (k : Held T). (k.group ≡ []) ⊎ (is_member q k.group ≡ true)) there.3
+        subst (λ (k : Holding T). (k.group ≡ []) ⊎ (is_member q k.group ≡ true)) there.3
         (by_entry (λ k. (k.group ≡ []) ⊎ (is_member q k.group ≡ true)) there.1
         (λ has. inr (is_member-with_name q y there.1.group ∙ ⊎_elim
         (λ (w : (q ≡ y) × (there.0 ≡ x) × (there.1 ≡ h)). ap (λ b. b || is_member q there.1.group) (eq-eqb y q (sym w.0)))
@@ -92,20 +92,20 @@ module _ {T : Type 0} (names : Names T) (sharing : IsSharing names) (x y : ℕ) 
         there.4));
     rising = λ q k is.
         let there = from_join q k is in
-        subst (λ (k : Held T). IsRising k.group) there.3 (by_entry (λ k. IsRising k.group) there.1 (λ has. rising-with_name y there.1.group (absent there.0 there.1 there.2) (sharing.rising there.0 there.1 there.2)) (λ hasnt. sharing.rising there.0 there.1 there.2));
+        subst (λ (k : Holding T). IsRising k.group) there.3 (by_entry (λ k. IsRising k.group) there.1 (λ has. rising-with_name y there.1.group (absent there.0 there.1 there.2) (sharing.rising there.0 there.1 there.2)) (λ hasnt. sharing.rising there.0 there.1 there.2));
     fits = λ q k is.
         let there = from_join q k is in
         let old = sharing.fits there.0 there.1 there.2 in
-        subst (λ (k : Held T). (length k.items ≤ k.capacity) × (k.capacity ≤ MAX)) there.3 (by_entry (λ k. (length k.items ≤ k.capacity) × (k.capacity ≤ MAX)) there.1 (λ has. old) (λ hasnt. old));
+        subst (λ (k : Holding T). (length k.items ≤ k.capacity) × (k.capacity ≤ MAX)) there.3 (by_entry (λ k. (length k.items ≤ k.capacity) × (k.capacity ≤ MAX)) there.1 (λ has. old) (λ hasnt. old));
     bare = λ q k is.
         let there = from_join q k is in
-        subst (λ (k : Held T). k.group ≡ [] → k.capacity ≡ 0) there.3 (by_entry (λ k. k.group ≡ [] → k.capacity ≡ 0) there.1
+        subst (λ (k : Holding T). k.group ≡ [] → k.capacity ≡ 0) there.3 (by_entry (λ k. k.group ≡ [] → k.capacity ≡ 0) there.1
         (λ has e. absurd (let count : length (with_name y there.1.group) ≡ 0 = ap length e in let more : length (with_name y there.1.group) ≡ length there.1.group + 1 = length-with_name y there.1.group in omega arith))
         (λ hasnt. sharing.bare there.0 there.1 there.2));
   }
 
   -- forgetting the new name is to have it back as it was
-  left_again : (v : Held T) → is_member y v.group ≡ false → leave y (enter x y v) ≡ v
+  left_again : (v : Holding T) → is_member y v.group ≡ false → leave y (enter x y v) ≡ v
   left_again v none = by_entry (λ k. leave y k ≡ v) v
       (λ has. ap (λ g. record { items = v.items; group = g; capacity = v.capacity }) (without-with_name y v.group none))
       (λ hasnt. ap (λ g. record { items = v.items; group = g; capacity = v.capacity }) (without_absent y v.group none))

@@ -5,7 +5,7 @@ use Rattle.std.specs.Option.{option_map}
 use Rattle.std.proofs.lemmas.Bool.{eqb-true, eqb-false, ne_eqb, eq-eqb, true≢false, cases_eq, ltb-true, ltb-false, or_cases}
 use Rattle.std.proofs.lemmas.Option.{none-some, same_Some}
 use Rattle.ecow_base.specs.Capacity.{MAX}
-use Rattle.ecow_model.specs.Names.{Names, Held, IsSharing, IsRising, is_member, without, with_name, head_of, leave, forget, settle, total, debt, debt_of, past_head, at_head, block_number}
+use Rattle.ecow_model.specs.Names.{Names, Holding, IsSharing, IsRising, is_member, without, with_name, head_of, leave, forget, settle, total, debt, debt_of, past_head, at_head, block_number}
 use Rattle.ecow_laws.proofs.Totals.{total-insert, get-remove_nat, get-insert_nat}
 use Rattle.ecow_model.proofs.Contents.{get-map_values}
 use Rattle.ecow_laws.proofs.Groups.{without_absent, kept_by_remove}
@@ -99,7 +99,7 @@ module _ {T : Type 0} (names : Names T) (x : ℕ) where
   get_forget : (q : ℕ) → finite.get (forget x names) q ≡ option_map (leave x) (finite.get (finite.remove names x) q)
   get_forget q = get-map_values (leave x) (finite.remove names x) q
 
-  pub get_forget_other : (q : ℕ) (k : Held T) → q ≢ x → finite.get names q ≡ Some k → finite.get (forget x names) q ≡ Some (leave x k)
+  pub get_forget_other : (q : ℕ) (k : Holding T) → q ≢ x → finite.get names q ≡ Some k → finite.get (forget x names) q ≡ Some (leave x k)
   get_forget_other q k ne is = get_forget q ∙ ap (option_map (leave x)) (get-remove_nat names x q ∙ ap (λ b. cond b None (finite.get names q)) (ne_eqb q x ne) ∙ is)
 
   pub get_forget_none : (q : ℕ) → finite.get names q ≡ None → finite.get (forget x names) q ≡ None
@@ -108,45 +108,45 @@ module _ {T : Type 0} (names : Names T) (x : ℕ) where
   pub get_forget_itself : finite.get (forget x names) x ≡ None
   get_forget_itself = get_forget x ∙ ap (option_map (leave x)) (get-remove_nat names x x ∙ ap (λ b. cond b None (finite.get names x)) (eq-eqb x x refl))
 
-  pub from_forget : (q : ℕ) (k : Held T) → finite.get (forget x names) q ≡ Some k → (v : Held T) × (q ≢ x) × (finite.get names q ≡ Some v) × (leave x v ≡ k)
+  pub from_forget : (q : ℕ) (k : Holding T) → finite.get (forget x names) q ≡ Some k → (v : Holding T) × (q ≢ x) × (finite.get names q ≡ Some v) × (leave x v ≡ k)
   from_forget q k is =
-      let there : (v : Held T) × (finite.get (finite.remove names x) q ≡ Some v) × (leave x v ≡ k) = mapped (leave x) (finite.get (finite.remove names x) q) k (sym (get_forget q) ∙ is) in
+      let there : (v : Holding T) × (finite.get (finite.remove names x) q ≡ Some v) × (leave x v ≡ k) = mapped (leave x) (finite.get (finite.remove names x) q) k (sym (get_forget q) ∙ is) in
       let kept : (q ≢ x) × (finite.get names q ≡ Some (there.0)) = kept_by_remove names x q there.0 there.1 in
       (there.0, kept.0, kept.1, there.2)
 
   module _ (sharing : IsSharing names) where
-    still_member : (q : ℕ) (v : Held T) → q ≢ x → is_member q v.group ≡ true → is_member q (without x v.group) ≡ true
+    still_member : (q : ℕ) (v : Holding T) → q ≢ x → is_member q v.group ≡ true → is_member q (without x v.group) ≡ true
     still_member q v ne m = is_member-without q x v.group ∙ ap (λ b. cond b false (is_member q v.group)) (ne_eqb q x ne) ∙ m
 
     pub sharing-forget : IsSharing (forget x names)
     sharing-forget = record {
       common = λ q y k is m.
           let there = from_forget q k is in
-          let has : is_member y (without x there.0.group) ≡ true = ap (λ (h : Held T). is_member y h.group) there.3 ∙ m in
+          let has : is_member y (without x there.0.group) ≡ true = ap (λ (h : Holding T). is_member y h.group) there.3 ∙ m in
           let apart : y ≢ x = λ e. true≢false (sym has ∙ is_member-without y x there.0.group ∙ ap (λ b. cond b false (is_member y there.0.group)) (eq-eqb y x e)) in
           get_forget_other y there.0 apart (sharing.common q y there.0 there.2 (member_of_without y x there.0.group has)) ∙ ap Some there.3;
       itself = λ q k is.
           let there = from_forget q k is in
-          ⊎_elim (λ (e : there.0.group ≡ []). inl (ap (λ (h : Held T). h.group) (sym there.3) ∙ ap (without x) e))
-          (λ (m : is_member q there.0.group ≡ true). inr (ap (λ (h : Held T). is_member q h.group) (sym there.3) ∙ still_member q there.0 there.1 m))
+          ⊎_elim (λ (e : there.0.group ≡ []). inl (ap (λ (h : Holding T). h.group) (sym there.3) ∙ ap (without x) e))
+          (λ (m : is_member q there.0.group ≡ true). inr (ap (λ (h : Holding T). is_member q h.group) (sym there.3) ∙ still_member q there.0 there.1 m))
           (sharing.itself q there.0 there.2);
       rising = λ q k is.
           let there = from_forget q k is in
-          subst (λ (h : Held T). IsRising h.group) there.3 (rising-without x there.0.group (sharing.rising q there.0 there.2));
+          subst (λ (h : Holding T). IsRising h.group) there.3 (rising-without x there.0.group (sharing.rising q there.0 there.2));
       fits = λ q k is.
           let there = from_forget q k is in
-          subst (λ (h : Held T). (length h.items ≤ h.capacity) × (h.capacity ≤ MAX)) there.3 (sharing.fits q there.0 there.2);
+          subst (λ (h : Holding T). (length h.items ≤ h.capacity) × (h.capacity ≤ MAX)) there.3 (sharing.fits q there.0 there.2);
       bare = λ q k is e.
           let there = from_forget q k is in
-          let empty : without x there.0.group ≡ [] = ap (λ (h : Held T). h.group) there.3 ∙ e in
-          ap (λ (h : Held T). h.capacity) (sym there.3) ∙ ⊎_elim
+          let empty : without x there.0.group ≡ [] = ap (λ (h : Holding T). h.group) there.3 ∙ e in
+          ap (λ (h : Holding T). h.capacity) (sym there.3) ∙ ⊎_elim
           (λ (none : there.0.group ≡ []). sharing.bare q there.0 there.2 none)
           (λ (m : is_member q there.0.group ≡ true). absurd (true≢false (sym (still_member q there.0 there.1 m) ∙ ap (is_member q) empty)))
           (sharing.itself q there.0 there.2);
     }
 
     module _ (items : List T) (capacity : ℕ) (fit : length items ≤ capacity) (small : capacity ≤ MAX) where
-      abbrev own : Held T
+      abbrev own : Holding T
       own = record { items = items; group = cond (ltb 0 capacity) (x ∷ []) []; capacity = capacity }
 
       get_settle : (q : ℕ) → finite.get (settle x items capacity names) q ≡ cond (eqb q x) (Some own) (finite.get (forget x names) q)
@@ -158,7 +158,7 @@ module _ {T : Type 0} (names : Names T) (x : ℕ) where
       pub get_settle_other : (q : ℕ) → q ≢ x → finite.get (settle x items capacity names) q ≡ finite.get (forget x names) q
       get_settle_other q ne = get_settle q ∙ ap (λ b. cond b (Some own) (finite.get (forget x names) q)) (ne_eqb q x ne)
 
-      from_settle : (q : ℕ) (k : Held T) → finite.get (settle x items capacity names) q ≡ Some k → ((q ≡ x) × (own ≡ k)) ⊎ ((q ≢ x) × (finite.get (forget x names) q ≡ Some k))
+      from_settle : (q : ℕ) (k : Holding T) → finite.get (settle x items capacity names) q ≡ Some k → ((q ≡ x) × (own ≡ k)) ⊎ ((q ≢ x) × (finite.get (forget x names) q ≡ Some k))
       from_settle q k is = ⊎_elim
           (λ (e : q ≡ x). inl (e, same_Some own k (sym get_settle_itself ∙ ap (finite.get (settle x items capacity names)) (sym e) ∙ is)))
           (λ (ne : q ≢ x). inr (ne, sym (get_settle_other q ne) ∙ is))
@@ -180,28 +180,28 @@ module _ {T : Type 0} (names : Names T) (x : ℕ) where
       sharing-settle = record {
         common = λ q y k is m. ⊎_elim
             (λ (w : (q ≡ x) × (own ≡ k)).
-            let itself : y ≡ x = own_member y (ap (λ (h : Held T). is_member y h.group) w.1 ∙ m) in
+            let itself : y ≡ x = own_member y (ap (λ (h : Holding T). is_member y h.group) w.1 ∙ m) in
             ap (finite.get (settle x items capacity names)) itself ∙ get_settle_itself ∙ ap Some w.1)
             (λ (w : (q ≢ x) × (finite.get (forget x names) q ≡ Some k)).
             let there : finite.get (forget x names) y ≡ Some k = sharing-forget.common q y k w.1 m in
             get_settle_other y (λ e. none-some k (sym (get_forget_itself) ∙ ap (finite.get (forget x names)) (sym e) ∙ there)) ∙ there)
             (from_settle q k is);
         itself = λ q k is. ⊎_elim
-            (λ (w : (q ≡ x) × (own ≡ k)). subst (λ (h : Held T). (h.group ≡ []) ⊎ (is_member q h.group ≡ true)) w.1
+            (λ (w : (q ≡ x) × (own ≡ k)). subst (λ (h : Holding T). (h.group ≡ []) ⊎ (is_member q h.group ≡ true)) w.1
             (elim (ltb 0 capacity) as (λ b. (cond b (x ∷ []) [] ≡ []) ⊎ (is_member q (cond b (x ∷ []) []) ≡ true)) [ true ↦ inr (ap (λ b. b || false) (eq-eqb x q (sym w.0))) | false ↦ inl refl ]))
             (λ (w : (q ≢ x) × (finite.get (forget x names) q ≡ Some k)). sharing-forget.itself q k w.1)
             (from_settle q k is);
         rising = λ q k is. ⊎_elim
-            (λ (w : (q ≡ x) × (own ≡ k)). subst (λ (h : Held T). IsRising h.group) w.1
+            (λ (w : (q ≡ x) × (own ≡ k)). subst (λ (h : Holding T). IsRising h.group) w.1
             (elim (ltb 0 capacity) as (λ b. IsRising (cond b (x ∷ []) [])) [ true ↦ (λ y m. absurd (true≢false (sym m)), tt) | false ↦ tt ]))
             (λ (w : (q ≢ x) × (finite.get (forget x names) q ≡ Some k)). sharing-forget.rising q k w.1)
             (from_settle q k is);
         fits = λ q k is. ⊎_elim
-            (λ (w : (q ≡ x) × (own ≡ k)). subst (λ (h : Held T). (length h.items ≤ h.capacity) × (h.capacity ≤ MAX)) w.1 (fit, small))
+            (λ (w : (q ≡ x) × (own ≡ k)). subst (λ (h : Holding T). (length h.items ≤ h.capacity) × (h.capacity ≤ MAX)) w.1 (fit, small))
             (λ (w : (q ≢ x) × (finite.get (forget x names) q ≡ Some k)). sharing-forget.fits q k w.1)
             (from_settle q k is);
         bare = λ q k is e. ⊎_elim
-            (λ (w : (q ≡ x) × (own ≡ k)). ap (λ (h : Held T). h.capacity) (sym w.1) ∙ own_bare (ap (λ (h : Held T). h.group) w.1 ∙ e))
+            (λ (w : (q ≡ x) × (own ≡ k)). ap (λ (h : Holding T). h.capacity) (sym w.1) ∙ own_bare (ap (λ (h : Holding T). h.group) w.1 ∙ e))
             (λ (w : (q ≢ x) × (finite.get (forget x names) q ≡ Some k)). sharing-forget.bare q k w.1 e)
             (from_settle q k is);
       }

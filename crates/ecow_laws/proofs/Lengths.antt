@@ -11,13 +11,13 @@ use Rattle.ecow_base.specs.Capacity.{MAX}
 use Rattle.ecow_base.specs.Range.{range_of, items_in_range}
 use Rattle.ecow_model.specs.Refusing.{◌>>=◌, OnRefused, Effect, allowed, check, becomes}
 use Rattle.ecow_model.specs.Uses.{Observation}
-use Rattle.ecow_model.specs.Lists.{make_list, edit_list, ask_list, grows}
-use Rattle.ecow_model.specs.declared.lists.ListMake.{ListMake}
-use Rattle.ecow_model.specs.declared.lists.ListMake.TheVariants.{New, WithCapacity, FromList, FromElem}
-use Rattle.ecow_model.specs.declared.lists.ListEdit.{ListEdit}
-use Rattle.ecow_model.specs.declared.lists.ListEdit.TheVariants.{Push, Pop, Insert, Remove, Truncate, Clear, Retain, Drain, Splice, Extend, Reserve, Write}
-use Rattle.ecow_model.specs.declared.lists.ListAsk.{ListAsk}
-use Rattle.ecow_model.specs.declared.lists.ListAsk.TheVariants.{Read, Len, Contents, Capacity, Unique}
+use Rattle.ecow_model.specs.Vecs.{make_vec, edit_vec, ask_vec, grows}
+use Rattle.ecow_model.specs.declared.vecs.VecMake.{VecMake}
+use Rattle.ecow_model.specs.declared.vecs.VecMake.TheVariants.{New, WithCapacity, FromList, FromElem}
+use Rattle.ecow_model.specs.declared.vecs.VecEdit.{VecEdit}
+use Rattle.ecow_model.specs.declared.vecs.VecEdit.TheVariants.{Push, Pop, Insert, Remove, Truncate, Clear, Retain, Drain, Splice, Extend, Reserve, Write}
+use Rattle.ecow_model.specs.declared.vecs.VecAsk.{VecAsk}
+use Rattle.ecow_model.specs.declared.vecs.VecAsk.TheVariants.{Read, Len, Contents, Capacity, Unique}
 use Rattle.ecow_model.specs.declared.command.Outcome.{Outcome}
 use Rattle.ecow_model.specs.declared.command.Outcome.TheVariants.{Done, Popped, Elements, Element}
 use Rattle.ecow_model.specs.declared.command.Refusal.{Refusal}
@@ -61,20 +61,20 @@ module _ {T : Type 0} where
   widened P answer ys p e = limited P answer (length ys) (λ _. becomes ys) (λ le e. answered P answer (Done, ys) (p le) e) e
 
   -- how long a list is that is made
-  abbrev pub LengthMade : ListMake T → ℕ → Type 0
+  abbrev pub LengthMade : VecMake T → ℕ → Type 0
   LengthMade New m = m ≡ 0
   LengthMade (WithCapacity asked) m = (m ≡ 0) × (asked ≤ MAX)
   LengthMade (FromList items) m = (m ≡ length items) × (m ≤ MAX)
   LengthMade (FromElem value count) m = (m ≡ count) × (count ≤ MAX)
 
-  pub is_made : (how : ListMake T) (xs : List T) → make_list how ≡ Ok xs → LengthMade how (length xs)
+  pub is_made : (how : VecMake T) (xs : List T) → make_vec how ≡ Ok xs → LengthMade how (length xs)
   is_made New xs e = answered (λ xs. LengthMade New (length xs)) xs [] refl e
   is_made (WithCapacity asked) xs e = limited (λ xs. LengthMade (WithCapacity asked) (length xs)) xs asked _ (λ le e. answered (λ xs. LengthMade (WithCapacity asked) (length xs)) xs [] (refl, le) e) e
   is_made (FromList items) xs e = limited (λ xs. LengthMade (FromList items) (length xs)) xs (length items) _ (λ le e. answered (λ xs. LengthMade (FromList items) (length xs)) xs items (refl, le) e) e
   is_made (FromElem value n) xs e = limited (λ xs. LengthMade (FromElem value n) (length xs)) xs n _ (λ le e. answered (λ xs. LengthMade (FromElem value n) (length xs)) xs (replicate n value) (length-replicate n value, le) e) e
 
   -- a list of n elements has m after the change
-  abbrev pub LengthIs : ListEdit T → ℕ → ℕ → Type 0
+  abbrev pub LengthIs : VecEdit T → ℕ → ℕ → Type 0
   LengthIs (Push value) n m = (m ≡ n + 1) × (m ≤ MAX)
   LengthIs (Insert index value) n m = (m ≡ n + 1) × (m ≤ MAX)
   LengthIs (Truncate target) n m = (m ≤ n) × (m ≤ target)
@@ -85,7 +85,7 @@ module _ {T : Type 0} where
   LengthIs _ n m = m ≤ n
 
   -- it isn't refused, and has this length
-  abbrev pub IsAnswer : ListEdit T → ℕ → Outcome T × List T → Type 0
+  abbrev pub IsAnswer : VecEdit T → ℕ → Outcome T × List T → Type 0
   IsAnswer edit n answer = OnRefused answer.0 ⊥ × LengthIs edit n (length answer.1)
 
   spliced_then : (answer : Outcome T × List T) (removed ys : List T) (r : Effect T (List T)) → (r >>= (λ spliced. Ok (Elements removed, spliced.1))) ≡ Ok answer → ((other : Outcome T × List T) → r ≡ Ok other → length other.1 ≡ length ys × length other.1 ≤ MAX) → OnRefused answer.0 ⊥ × (length answer.1 ≡ length ys × length answer.1 ≤ MAX)
@@ -94,7 +94,7 @@ module _ {T : Type 0} where
 
   -- what an accepted change answers
   module _ (xs : List T) (answer : Outcome T × List T) where
-    pub is_answer : (edit : ListEdit T) → edit_list edit xs ≡ Ok answer → IsAnswer edit (length xs) answer
+    pub is_answer : (edit : VecEdit T) → edit_vec edit xs ≡ Ok answer → IsAnswer edit (length xs) answer
     is_answer (Push value) e = widened (IsAnswer (Push value) (length xs)) answer (xs ++ value ∷ []) (λ le. (tt, (length-append xs (value ∷ []), le))) e
     is_answer Pop e = answered (IsAnswer Pop (length xs)) answer (Popped (slice_get xs (length xs - 1)), take (length xs - 1) xs) (tt, omega (arith, length-take (length xs - 1) xs)) e
     is_answer (Insert index value) e = checked (IsAnswer (Insert index value) (length xs)) answer (nat_le index (length xs)) Index _ (λ t e. widened (IsAnswer (Insert index value) (length xs)) answer (insert_at xs index value) (λ le. (tt, (length-inserted xs index value (leb-true index (length xs) t), le))) e) e
@@ -117,7 +117,7 @@ module _ {T : Type 0} where
     is_answer (Write index value) e = given (IsAnswer (Write index value) (length xs)) answer (slice_get xs index) Index _ (λ _ _ e. answered (IsAnswer (Write index value) (length xs)) answer (Done, slice_set xs index value) (tt, omega (arith, length-set xs index value)) e) e
 
   -- a question that is answered isn't refused
-  pub is_asked : (seen : Observation) (question : ListAsk) (xs : List T) (answer : Outcome T) → ask_list seen question xs ≡ Ok answer → OnRefused answer ⊥
+  pub is_asked : (seen : Observation) (question : VecAsk) (xs : List T) (answer : Outcome T) → ask_vec seen question xs ≡ Ok answer → OnRefused answer ⊥
   is_asked seen (Read index) xs answer e = given (λ (a : Outcome T). OnRefused a ⊥) answer (slice_get xs index) Index _ (λ y _ e. answered (λ (a : Outcome T). OnRefused a ⊥) answer (Element y) tt e) e
   is_asked seen Len xs answer e = answered (λ (a : Outcome T). OnRefused a ⊥) answer _ tt e
   is_asked seen Contents xs answer e = answered (λ (a : Outcome T). OnRefused a ⊥) answer _ tt e

@@ -4,7 +4,7 @@ use Rattle.std.specs.FinMap as finite
 use Rattle.std.proofs.lemmas.Bool.{eqb-true, ne_eqb, eq-eqb, true≢false, cases_eq, lt-ltb, false_from_ne_true}
 use Rattle.std.proofs.lemmas.Option.{none-some, same_Some}
 use Rattle.ecow_model.specs.CountedRun.{nothing}
-use Rattle.ecow_model.specs.Names.{Names, Held, IsSharing, is_member, without, leave, forget, settle, blocks}
+use Rattle.ecow_model.specs.Names.{Names, Holding, IsSharing, is_member, without, leave, forget, settle, blocks}
 use Rattle.ecow_laws.proofs.Totals.{same_nat, get-insert_nat}
 use Rattle.ecow_laws.proofs.Groups.{is_sole_owner, without_absent, blocks-forget}
 use Rattle.ecow_laws.proofs.Kept.{get_forget_none, get_forget_other, get_forget_itself, is_member-without}
@@ -27,12 +27,12 @@ empty_of [] e = refl
 empty_of (y ∷ group) e = absurd (omega arith)
 
 -- how many blocks a name alone holds
-abbrev pub own_blocks : {T : Type 0} → Option (Held T) → ℕ
+abbrev pub own_blocks : {T : Type 0} → Option (Holding T) → ℕ
 own_blocks None = 0
 own_blocks (Some h) = cond (is_sole_owner h) 1 0
 
 module _ {T : Type 0} (names : Names T) (x : ℕ) where
-  left_twice : (k : Held T) → leave x (leave x k) ≡ leave x k
+  left_twice : (k : Holding T) → leave x (leave x k) ≡ leave x k
   left_twice k = ap (λ g. record { items = k.items; group = g; capacity = k.capacity }) (without_twice x k.group)
 
   -- x leaves names that are as those without it
@@ -73,7 +73,7 @@ module _ {T : Type 0} (names : Names T) (x : ℕ) where
       | Some h ↦ λ is. blocks-forget names groups x h is (λ items capacity. 1)
     ] refl
 
-    module _ (h : Held T) (at : finite.get names x ≡ Some h) (few : length h.group ≤ 1) (backed : 0 < length h.group → 0 < h.capacity) where
+    module _ (h : Holding T) (at : finite.get names x ≡ Some h) (few : length h.group ≤ 1) (backed : 0 < length h.group → 0 < h.capacity) where
       group_is : h.group ≡ cond (ltb 0 h.capacity) (x ∷ []) []
       group_is = ⊎_elim
           (λ (none : h.group ≡ []). none ∙ sym (ap (λ c. cond (ltb 0 c) (x ∷ []) []) (groups.bare x h at none)))
@@ -83,7 +83,7 @@ module _ {T : Type 0} (names : Names T) (x : ℕ) where
           alone_of x h.group has (omega (arith, some, few)) ∙ sym (ap (λ b. cond b (x ∷ []) []) (lt-ltb 0 h.capacity room)))
           (groups.itself x h at)
 
-      stays : (q : ℕ) (k : Held T) → q ≢ x → finite.get names q ≡ Some k → is_member x k.group ≡ false
+      stays : (q : ℕ) (k : Holding T) → q ≢ x → finite.get names q ≡ Some k → is_member x k.group ≡ false
       stays q k ne is = false_from_ne_true (is_member x k.group) (λ m.
           let same : h ≡ k = same_Some h k (sym at ∙ groups.common q x k is m) in
           let one : length k.group ≡ 1 = elim k.group as (λ g. is_member x g ≡ true → length g ≤ 1 → length g ≡ 1) [ [] ↦ λ m _. absurd (true≢false (sym m)) | y ∷ g ↦ λ m few. omega arith ] m (rw (sym same) few) in

@@ -5,13 +5,13 @@ ghost use Rattle.std.specs.Option.{option_map};
 ghost use Rattle.std.specs.Result.{result_ok};
 ghost use Rattle.ecow_laws.specs.Callers.{LeavesName, list_of};
 ghost use Rattle.ecow_model.specs.CountedRun.{CountedStep};
-ghost use Rattle.ecow_model.specs.Lists.{vec_usage};
+ghost use Rattle.ecow_model.specs.Vecs.{vec_usage};
 ghost use Rattle.ecow_model.specs.Names.{Names};
 ghost use Rattle.ecow_model.specs.Run.{IsVecStep};
 ghost use Rattle.ecow_model.specs.State.{State};
-ghost use Rattle.ecow_model.specs.Values.{list_at};
+ghost use Rattle.ecow_model.specs.Values.{vec_at};
 ghost use Rattle.ecow_model.specs.declared.command.Outcome.{Outcome};
-ghost use Rattle.ecow_model.specs.declared.lists.VecCommand.{VecCommand};
+ghost use Rattle.ecow_model.specs.declared.vecs.VecCommand.{VecCommand};
 
 /// Of a command on lists of named plain values: a fork reads as its source does, a write sets one
 /// element, and what stands under all other names stays.
@@ -22,8 +22,8 @@ pub fn plain_steps<T>()
     ensures write { (old : State T) (new : State T) (outcome : Outcome T) (name : ℕ) (index : ℕ)
         (value : T) → IsVecStep old (VecCommand.Write name index value) outcome new
         → outcome ≡ Outcome.Done
-        → result_ok (list_at new name) ≡ option_map (λ xs. slice_set xs index value)
-        (result_ok (list_at old name)) }
+        → result_ok (vec_at new name) ≡ option_map (λ xs. slice_set xs index value)
+        (result_ok (vec_at old name)) }
     ensures others { (old : State T) (new : State T) (outcome : Outcome T) (command : VecCommand T)
         (name : ℕ) → IsVecStep old command outcome new → LeavesName (vec_usage command) name
         → get new name ≡ get old name }

@@ -3,13 +3,13 @@ ghost use Rattle.std.specs.Prelude.{◌≡◌, ℕ, ◌+◌, ◌*◌, ◌≤◌,
 ghost use Rattle.std.specs.FinMap as finite;
 ghost use Rattle.ecow_model.specs.Agreement.{LacksNoMemory, SameAnswers};
 ghost use Rattle.ecow_model.specs.CountedRun.{CountedRun, CopiesAtMostEagerly, MovesArePaid, copied_in_run, counted_carry_out, eager_in_run, input_in_run, moved_in_run};
-ghost use Rattle.ecow_model.specs.Names.{Held, IsSharing, Names, contents};
+ghost use Rattle.ecow_model.specs.Names.{Holding, IsSharing, Names, contents};
 ghost use Rattle.ecow_model.specs.Run.{IsVecStep, Run, RunBy};
 ghost use Rattle.ecow_model.specs.State.{State};
 ghost use Rattle.ecow_model.specs.declared.command.Outcome.{Outcome};
 ghost use Rattle.ecow_model.specs.declared.command.Command.{Command};
-ghost use Rattle.ecow_model.specs.declared.lists.ListAsk.{ListAsk};
-ghost use Rattle.ecow_model.specs.declared.lists.VecCommand.{VecCommand};
+ghost use Rattle.ecow_model.specs.declared.vecs.VecAsk.{VecAsk};
+ghost use Rattle.ecow_model.specs.declared.vecs.VecCommand.{VecCommand};
 ghost use Rattle.ecow_model.specs.declared.usage.Usage.{Usage};
 
 /// What a run copies and moves is paid; from no names at all, sharing never copies more than
@@ -33,7 +33,7 @@ pub fn runs_are_paid<T>()
 
 /// Where neither lacks memory, plain lists and lists in shared blocks give the same contents and,
 /// but for what Capacity and Unique read, the same answers to the same commands.
-pub fn keepings_agree<T>()
+pub fn stores_agree<T>()
     ensures answers { (commands : List (VecCommand T)) (ours : List (Outcome T))
         (theirs : List (Outcome T)) (old : State T) (new : State T) (names : Names T)
         (later : Names T) → contents names ≡ old → RunBy IsVecStep old commands ours new
@@ -58,8 +58,8 @@ pub fn keepings_agree<T>()
 
 /// In shared blocks Capacity answers exactly the capacity of the name's block.
 pub fn capacities_are_exact<T>()
-    ensures { (names : Names T) (name : ℕ) (held : Held T) → IsSharing names
+    ensures { (names : Names T) (name : ℕ) (held : Holding T) → IsSharing names
         → finite.get names name ≡ Some held
-        → counted_carry_out names (Usage.Ask name ListAsk.Capacity)
+        → counted_carry_out names (Usage.Ask name VecAsk.Capacity)
         ≡ Ok (Outcome.Count held.capacity, names) }
 {}

@@ -1,4 +1,4 @@
-//! The laws of the counted keeping: what sharing copies and what growing moves, over every run.
+//! The laws of the counted store: what sharing copies and what growing moves, over every run.
 #![tactic(auto)]
 
 pub mod callers;

@@ -1,16 +1,16 @@
--- The answers of two keepings to the same commands, where neither lacks memory.
+-- The answers of two stores to the same commands, where neither lacks memory.
 use Rattle.std.specs.Prelude.{◌≡◌, false, List, [], ◌∷◌}
-use Rattle.ecow_model.specs.Lists.{ListUsage, vec_usage}
+use Rattle.ecow_model.specs.Vecs.{VecUsage, vec_usage}
 use Rattle.ecow_model.specs.declared.usage.Usage.TheVariants.{Ask}
-use Rattle.ecow_model.specs.declared.lists.ListAsk.TheVariants.{Capacity, Unique}
-use Rattle.ecow_model.specs.declared.lists.VecCommand.{VecCommand}
+use Rattle.ecow_model.specs.declared.vecs.VecAsk.TheVariants.{Capacity, Unique}
+use Rattle.ecow_model.specs.declared.vecs.VecCommand.{VecCommand}
 use Rattle.ecow_model.specs.declared.command.Outcome.{Outcome}
 use Rattle.ecow_model.specs.declared.command.Outcome.TheVariants.{Count, Flag, Refused}
 use Rattle.ecow_model.specs.declared.command.Refusal.TheVariants.{Memory}
 
 module _ {T : Type 0} where
   -- an answer, less the number or the flag that Capacity or Unique read
-  abbrev pub plain_answer : ListUsage T → Outcome T → Outcome T
+  abbrev pub plain_answer : VecUsage T → Outcome T → Outcome T
   plain_answer (Ask name Capacity) (Count n) = Count 0
   plain_answer (Ask name Unique) (Flag b) = Flag false
   plain_answer _ outcome = outcome

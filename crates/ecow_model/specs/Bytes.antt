@@ -10,13 +10,13 @@ use Rattle.ecow_model.specs.Values.{as_bytes, as_text}
 use Rattle.ecow_model.specs.Uses.{Observation, Rules}
 use Rattle.ecow_values.specs.Plain.{plain_bytes, bytes_of}
 use Rattle.ecow_values.specs.declared.plain.PlainBytes.{PlainBytes}
-use Rattle.ecow_model.specs.declared.value.Value.TheVariants.{Bytes as Buffered}
+use Rattle.ecow_model.specs.declared.value.Value.TheVariants.{Bytes as BytesValue}
 use Rattle.ecow_model.specs.declared.command.Outcome.{Outcome}
 use Rattle.ecow_model.specs.declared.command.Outcome.TheVariants.{Byte, PoppedByte, Bytes, Count, Flag}
 use Rattle.ecow_model.specs.declared.command.Refusal.{Refusal}
 use Rattle.ecow_model.specs.declared.command.Refusal.TheVariants.{Index}
-use Rattle.ecow_model.specs.declared.usage.Made.{Made}
-use Rattle.ecow_model.specs.declared.usage.Made.TheVariants.{Always, Tried}
+use Rattle.ecow_model.specs.declared.usage.NewValue.{NewValue}
+use Rattle.ecow_model.specs.declared.usage.NewValue.TheVariants.{Always, Tried}
 use Rattle.ecow_model.specs.declared.usage.Usage.{Usage}
 use Rattle.ecow_model.specs.declared.usage.Usage.TheVariants.{Make, Derive, Drop, Edit, Ask}
 use Rattle.ecow_model.specs.declared.bytes.BytesCommand.{BytesCommand}
@@ -41,13 +41,13 @@ bytes_ask_is_free _ = true
 
 module _ (limit : ℕ) where
   -- inline bytes, if they are within the limit
-  abbrev pub try_bytes : List ℕ → Result (Made PlainBytes) Refusal
+  abbrev pub try_bytes : List ℕ → Result (NewValue PlainBytes) Refusal
   try_bytes bytes = if nat_le (length bytes) limit then (do
     _ ← allowed (length bytes)
     Ok (Tried (Some (plain_bytes bytes true)))) else Ok (Tried None)
 
   -- the bytes that are made
-  abbrev pub make_bytes : BytesMake → Result (Made PlainBytes) Refusal
+  abbrev pub make_bytes : BytesMake → Result (NewValue PlainBytes) Refusal
   make_bytes New = Ok (Always (plain_bytes [] true))
   make_bytes (TryInline bytes) = try_bytes bytes
   make_bytes (WithCapacity capacity) = do
@@ -140,7 +140,7 @@ module _ {T : Type 0} (limit : ℕ) where
   abbrev pub bytes_rules : Rules T (Plain T) PlainBytes BytesMake BytesDerive BytesEdit BytesAsk
   bytes_rules = record {
     payload = as_bytes;
-    wrap = Buffered;
+    wrap = BytesValue;
     make = make_bytes limit;
     derive = derive_bytes;
     edit = edit_bytes;

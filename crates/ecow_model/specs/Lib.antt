@@ -2,7 +2,7 @@ pub mod State
 pub mod Refusing
 pub mod Values
 pub mod Uses
-pub mod Lists
+pub mod Vecs
 pub mod Bytes
 pub mod Texts
 pub mod Run

@@ -16,13 +16,13 @@ use Rattle.ecow_model.specs.Uses.{Observation, Rules}
 use Rattle.ecow_values.specs.Plain.{plain_text, text_of}
 use Rattle.ecow_values.specs.declared.plain.PlainBytes.{PlainBytes}
 use Rattle.ecow_values.specs.declared.plain.PlainText.{PlainText}
-use Rattle.ecow_model.specs.declared.value.Value.TheVariants.{Text as Written}
+use Rattle.ecow_model.specs.declared.value.Value.TheVariants.{Text as TextValue}
 use Rattle.ecow_model.specs.declared.command.Outcome.{Outcome}
 use Rattle.ecow_model.specs.declared.command.Outcome.TheVariants.{Char, PoppedChar, Text as Texted, Count, Flag}
 use Rattle.ecow_model.specs.declared.command.Refusal.{Refusal}
 use Rattle.ecow_model.specs.declared.command.Refusal.TheVariants.{Boundary, NotUtf8}
-use Rattle.ecow_model.specs.declared.usage.Made.{Made}
-use Rattle.ecow_model.specs.declared.usage.Made.TheVariants.{Always, Tried}
+use Rattle.ecow_model.specs.declared.usage.NewValue.{NewValue}
+use Rattle.ecow_model.specs.declared.usage.NewValue.TheVariants.{Always, Tried}
 use Rattle.ecow_model.specs.declared.usage.Usage.{Usage}
 use Rattle.ecow_model.specs.declared.usage.Usage.TheVariants.{Make, Derive, Drop, Edit, Ask}
 use Rattle.ecow_model.specs.declared.texts.TextCommand.{TextCommand}
@@ -57,7 +57,7 @@ text_ask_is_free _ = true
 
 module _ (limit : ℕ) where
   -- an inline text, if its bytes are within the limit
-  abbrev pub try_text : List ℕ → Result (Made PlainText) Refusal
+  abbrev pub try_text : List ℕ → Result (NewValue PlainText) Refusal
   try_text text = if nat_le (utf8_len text) limit then (do
     _ ← allowed (utf8_len text)
     Ok (Tried (Some (plain_text text true)))) else Ok (Tried None)
@@ -69,7 +69,7 @@ module _ (limit : ℕ) where
     Ok (plain_text cs (inline_for limit (utf8_len cs)))
 
   -- the text that is made
-  abbrev pub make_text : TextMake → Result (Made PlainText) Refusal
+  abbrev pub make_text : TextMake → Result (NewValue PlainText) Refusal
   make_text New = Ok (Always (plain_text [] true))
   make_text (TryInline text) = try_text text
   make_text (WithCapacity capacity) = do
@@ -172,7 +172,7 @@ module _ {T : Type 0} (limit : ℕ) where
   abbrev pub text_rules : Rules T (Plain T) PlainText TextMake TextDerive TextEdit TextAsk
   text_rules = record {
     payload = as_text;
-    wrap = Written;
+    wrap = TextValue;
     make = make_text limit;
     derive = derive_text;
     edit = edit_text;

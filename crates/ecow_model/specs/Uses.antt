@@ -4,8 +4,8 @@ use Rattle.std.specs.Prelude.{◌≡◌, ℕ, ◌⊎◌, Bool, true, false, Some
 use Rattle.std.specs.FinMap.{insert, remove}
 use Rattle.ecow_model.specs.Refusing.{◌>>=◌, Effect, IfRefused}
 use Rattle.ecow_model.specs.Values.{Named, there, unused}
-use Rattle.ecow_model.specs.declared.usage.Made.{Made}
-use Rattle.ecow_model.specs.declared.usage.Made.TheVariants.{Always, Tried}
+use Rattle.ecow_model.specs.declared.usage.NewValue.{NewValue}
+use Rattle.ecow_model.specs.declared.usage.NewValue.TheVariants.{Always, Tried}
 use Rattle.ecow_model.specs.declared.usage.Usage.{Usage}
 use Rattle.ecow_model.specs.declared.usage.Usage.TheVariants.{Make, Derive, Drop, Edit, Ask}
 use Rattle.ecow_model.specs.declared.command.Outcome.{Outcome}
@@ -30,7 +30,7 @@ observation_in _ = record { capacity = 0; unique = false }
 pub record Rules (T V A M D E Q : Type 0) : Type 0 where
   pub payload : V → Result A Refusal
   pub wrap : A → V
-  pub make : M → Result (Made A) Refusal
+  pub make : M → Result (NewValue A) Refusal
   pub derive : D → V → Result A Refusal
   pub edit : E → A → Effect T A
   pub ask : Observation → Q → A → Result (Outcome T) Refusal
@@ -82,7 +82,7 @@ module _ {T V A M D E Q : Type 0} (rules : Rules T V A M D E Q) where
   value_at old name = there old name >>= rules.payload
 
   -- what is answered, and the values, where a value was made under a name
-  abbrev pub put_made : Named V → ℕ → Made A → Outcome T × Named V
+  abbrev pub put_made : Named V → ℕ → NewValue A → Outcome T × Named V
   put_made old name (Always value) = (Done, insert old name (rules.wrap value))
   put_made old name (Tried (Some value)) = (Flag true, insert old name (rules.wrap value))
   put_made old name (Tried None) = (Flag false, old)
@@ -152,11 +152,11 @@ module _ {T V A M D E Q : Type 0} (rules : Rules T V A M D E Q) where
       (rules.ask_is_free question) outcome
 
   -- one value that is made, and one that is derived
-  abbrev pub IsMade : M → Result (Made A) Refusal → Type 0
+  abbrev pub IsMade : M → Result (NewValue A) Refusal → Type 0
   IsMade how result = IsGiven (rules.make how) result
 
   -- of a value that is made, only whether it is refused, and why
-  abbrev pub IsMadeOrRefused : M → Result (Made A) Refusal → Type 0
+  abbrev pub IsMadeOrRefused : M → Result (NewValue A) Refusal → Type 0
   IsMadeOrRefused how result = IsRefusedAlike (rules.make how) result
 
   -- one value that is derived

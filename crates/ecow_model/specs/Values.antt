@@ -5,7 +5,7 @@ use Rattle.std.specs.FinMap.{FinMap, get, contains_key}
 use Rattle.std.specs.Option.{ok_or}
 use Rattle.ecow_model.specs.Refusing.{◌>>=◌}
 use Rattle.ecow_model.specs.declared.value.Value.{Value}
-use Rattle.ecow_model.specs.declared.value.Value.TheVariants.{List as Listed, Bytes as Buffered, Text as Written}
+use Rattle.ecow_model.specs.declared.value.Value.TheVariants.{Vec as VecValue, Bytes as BytesValue, Text as TextValue}
 use Rattle.ecow_model.specs.declared.command.Refusal.{Refusal}
 use Rattle.ecow_model.specs.declared.command.Refusal.TheVariants.{NoName, Taken, Kind}
 
@@ -22,23 +22,23 @@ abbrev pub unused : {V : Type 0} → Named V → ℕ → Result (Unit {0}) Refus
 unused old name = if contains_key old name then Err Taken else Ok tt
 
 -- refused where the value is of another kind
-abbrev pub as_list : {L B S : Type 0} → Value L B S → Result L Refusal
-as_list (Listed xs) = Ok xs
-as_list (Buffered b) = Err Kind
-as_list (Written t) = Err Kind
+abbrev pub as_vec : {L B S : Type 0} → Value L B S → Result L Refusal
+as_vec (VecValue xs) = Ok xs
+as_vec (BytesValue b) = Err Kind
+as_vec (TextValue t) = Err Kind
 
 -- the bytes of a value, refused where it is of another kind
 abbrev pub as_bytes : {L B S : Type 0} → Value L B S → Result B Refusal
-as_bytes (Listed xs) = Err Kind
-as_bytes (Buffered b) = Ok b
-as_bytes (Written t) = Err Kind
+as_bytes (VecValue xs) = Err Kind
+as_bytes (BytesValue b) = Ok b
+as_bytes (TextValue t) = Err Kind
 
 -- the text of a value, refused where it is of another kind
 abbrev pub as_text : {L B S : Type 0} → Value L B S → Result S Refusal
-as_text (Listed xs) = Err Kind
-as_text (Buffered b) = Err Kind
-as_text (Written t) = Ok t
+as_text (VecValue xs) = Err Kind
+as_text (BytesValue b) = Err Kind
+as_text (TextValue t) = Ok t
 
 -- the list under a name
-abbrev pub list_at : {L B S : Type 0} → Named (Value L B S) → ℕ → Result L Refusal
-list_at old name = there old name >>= as_list
+abbrev pub vec_at : {L B S : Type 0} → Named (Value L B S) → ℕ → Result L Refusal
+vec_at old name = there old name >>= as_vec

@@ -1,7 +1,7 @@
 //! The commands on named values, their outcomes and their refusals.
 use crate::bytes::BytesCommand;
-use crate::lists::VecCommand;
 use crate::texts::TextCommand;
+use crate::vecs::VecCommand;
 use ecow_values::{Items, Text};
 use std::ops::Bound;
 

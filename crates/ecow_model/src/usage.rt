@@ -23,7 +23,7 @@ pub enum Usage<Make, Derive, Edit, Ask> {
 
 /// What comes of a command that makes a value.
 #[derive(Drop)]
-pub enum Made<V> {
+pub enum NewValue<V> {
     /// The value. The command answers `Done`.
     Always(V),
     /// The value, if it could be made. The command answers `Flag`.

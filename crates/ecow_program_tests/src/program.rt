@@ -1,4 +1,4 @@
-//! The program in both keepings, over readers and writers that are slow, fail or never end, and
+//! The program in both stores, over readers and writers that are slow, fail or never end, and
 //! which words it takes. What it answers to scripts, cases say.
 use ecow_tool::{End, read_arguments, run_counted, run_store};
 use std::alloc::{AllocError, Global};

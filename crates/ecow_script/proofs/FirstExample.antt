@@ -7,14 +7,14 @@ use Rattle.std.specs.FinMap as finite
 use Rattle.std.specs.FinMap.Entries.{find, put, where_key}
 use Rattle.std.specs.Prelude.{codes, decimal}
 use Rattle.ecow_model.specs.CountedRun.{CountedRun, counted_carry_out, counted_is_free, copied_in_run, moved_in_run, saturating}
-use Rattle.ecow_model.specs.Names.{Names, Held, blocks, map_values}
+use Rattle.ecow_model.specs.Names.{Names, Holding, blocks, map_values}
 use Rattle.ecow_model.proofs.Entries.{entries-empty, entries-remove, entries-insert, get-entries, entries-map_values}
 use Rattle.ecow_counted.specs.Filling.{IsRunOf}
 use Rattle.ecow_counted.specs.State.{CountedState}
 use Rattle.ecow_script.specs.Runs.{new_table, totals_line}
 use Rattle.ecow_model.specs.State.{State, Plain}
 use Rattle.ecow_model.specs.Uses.{Observation, Gives, carry_out, use_is_free, observation_in}
-use Rattle.ecow_model.specs.Lists.{list_rules, vec_usage}
+use Rattle.ecow_model.specs.Vecs.{vec_rules, vec_usage}
 use Rattle.ecow_model.specs.Run.{Run, outcomes, outcome_then}
 use Rattle.ecow_model.specs.declared.command.Command.{Command}
 use Rattle.ecow_model.specs.declared.command.Command.TheVariants.{Vec, Bytes, Text}
@@ -22,12 +22,12 @@ use Rattle.ecow_model.specs.declared.command.Outcome.{Outcome}
 use Rattle.ecow_model.specs.declared.command.Outcome.TheVariants.{Done, Elements, Refused}
 use Rattle.ecow_model.specs.declared.command.Refusal.{Refusal}
 use Rattle.ecow_model.specs.declared.command.Refusal.TheVariants.{Memory}
-use Rattle.ecow_model.specs.declared.lists.VecCommand.{VecCommand}
-use Rattle.ecow_model.specs.declared.lists.VecCommand.TheVariants as vec
+use Rattle.ecow_model.specs.declared.vecs.VecCommand.{VecCommand}
+use Rattle.ecow_model.specs.declared.vecs.VecCommand.TheVariants as vec
 use Rattle.ecow_script.specs.Answers.{answer_lines}
 use Rattle.ecow_script.specs.Scripts.{script_commands}
 use Rattle.ecow_script.specs.Commands.{store_form, counted_form}
-use Rattle.ecow_script.specs.FirstExample.{first_script, first_commands, first_list_commands, first_answers, first_totals, LackNothing, first_totals}
+use Rattle.ecow_script.specs.FirstExample.{first_script, first_commands, first_vec_commands, first_answers, first_totals, LackNothing, first_totals}
 
 pub first_read : script_commands store_form first_script ≡ Ok first_commands
 first_read = refl
@@ -50,7 +50,7 @@ AskNeither (Text c ∷ commands) = ⊥
 
 module _ {T : Type 0} where
   as_unseen : (seen : Observation) (old : State T) (c : VecCommand T) → AsksNeither c
-      → carry_out list_rules seen old (vec_usage c) ≡ carry_out list_rules unseen old (vec_usage c)
+      → carry_out vec_rules seen old (vec_usage c) ≡ carry_out vec_rules unseen old (vec_usage c)
   as_unseen seen old (vec.New x) h = refl
   as_unseen seen old (vec.WithCapacity x n) h = refl
   as_unseen seen old (vec.FromList x xs) h = refl
@@ -98,9 +98,9 @@ module _ {T : Type 0} where
   outcomes_of_run (Bytes c ∷ commands) (o ∷ os) old new h lacks run = absurd h
   outcomes_of_run (Text c ∷ commands) (o ∷ os) old new h lacks run = absurd h
   outcomes_of_run (Vec c ∷ commands) (o ∷ os) old new h lacks run =
-      next_given (carry_out list_rules unseen old (vec_usage c))
-      (use_is_free list_rules old (vec_usage c)) old run.0 o os commands lacks.0
-      (subst (λ given. Gives given (use_is_free list_rules old (vec_usage c)) old o run.0)
+      next_given (carry_out vec_rules unseen old (vec_usage c))
+      (use_is_free vec_rules old (vec_usage c)) old run.0 o os commands lacks.0
+      (subst (λ given. Gives given (use_is_free vec_rules old (vec_usage c)) old o run.0)
       (as_unseen (observation_in o) old c h.0) run.1)
       (outcomes_of_run commands os run.0 new h.1 lacks.1 run.2)
 
@@ -134,9 +134,9 @@ first_answered os last run lacks =
     (outcomes_of_run first_commands os empty last
     (tt, (tt, (tt, (tt, (tt, (tt, (tt, (tt, (tt, tt))))))))) lacks run ∙ nine_outcomes) ∙ nine_lines
 
--- ---- in the counted keeping
+-- ---- in the counted store
 
-pub first_counted_read : script_commands counted_form first_script ≡ Ok first_list_commands
+pub first_counted_read : script_commands counted_form first_script ≡ Ok first_vec_commands
 first_counted_read = refl
 
 module _ {T : Type 0} where
@@ -186,7 +186,7 @@ module _ {T : Type 0} where
             (λ outcome names. names_after_all names cs) lacks.0 run.1,
       )
 
-none_entered : finite.entries (finite.empty {X = Held ℤ} {R = nat_cmp}) ≡ []
+none_entered : finite.entries (finite.empty {X = Holding ℤ} {R = nat_cmp}) ≡ []
 none_entered = entries-empty
 
 removed : (m : Names ℤ) (k : ℕ)
@@ -194,29 +194,29 @@ removed : (m : Names ℤ) (k : ℕ)
     ≡ where_key nat_cmp (λ x. not (eq_by_cmp nat_cmp k x)) (finite.entries m)
 removed = entries-remove
 
-entered : (m : Names ℤ) (k : ℕ) (v : Held ℤ)
+entered : (m : Names ℤ) (k : ℕ) (v : Holding ℤ)
     → finite.entries (finite.insert m k v) ≡ put nat_cmp k v (finite.entries m)
 entered = entries-insert
 
 looked_up : (m : Names ℤ) (q : ℕ) → finite.get m q ≡ find nat_cmp q (finite.entries m)
 looked_up = get-entries
 
-mapped : (f : Held ℤ → Held ℤ) (m : Names ℤ)
+mapped : (f : Holding ℤ → Holding ℤ) (m : Names ℤ)
     → finite.entries (map_values f m) ≡ map (λ e. (e.0, f e.1)) (finite.entries m)
 mapped = entries-map_values
 
 ruleset table_rules = (none_entered, removed, entered, looked_up, mapped)
 
-nine_counted : outcomes_of_all finite.empty first_list_commands ≡ nine
+nine_counted : outcomes_of_all finite.empty first_vec_commands ≡ nine
 nine_counted = simp table_rules refl
 
-three_blocks : blocks (names_after_all finite.empty first_list_commands) ≡ 3
+three_blocks : blocks (names_after_all finite.empty first_vec_commands) ≡ 3
 three_blocks = simp table_rules refl
 
-four_copied : copied_in_run finite.empty first_list_commands nine ≡ 4
+four_copied : copied_in_run finite.empty first_vec_commands nine ≡ 4
 four_copied = simp table_rules refl
 
-none_moved : moved_in_run finite.empty first_list_commands nine ≡ 0
+none_moved : moved_in_run finite.empty first_vec_commands nine ≡ 0
 none_moved = simp table_rules refl
 
 abbrev totals : ℕ → ℕ → ℕ → List ℕ
@@ -228,22 +228,22 @@ last_line : totals 3 4 0 ≡ first_totals
 unfolding Rattle.std.specs.Fmt.digits
 last_line = refl
 
--- every run in the counted keeping that lacks nothing answers them, and a tenth
+-- every run in the counted store that lacks nothing answers them, and a tenth
 pub first_counted : (os : List (Outcome ℤ)) (last : CountedState ℤ)
-    → IsRunOf new_table first_list_commands os last → LackNothing os
+    → IsRunOf new_table first_vec_commands os last → LackNothing os
     → answer_lines os ++ totals_line last ≡ first_answers ++ first_totals
 first_counted os last run lacks =
-    let is = counted_run_is first_list_commands os finite.empty last.names lacks run.run in
+    let is = counted_run_is first_vec_commands os finite.empty last.names lacks run.run in
     let outcomes_are : os ≡ nine = is.0 ∙ nine_counted in
     let copied : last.copied ≡ 4 =
     run.copied
     ∙ ap (λ (answers : List (Outcome ℤ)). saturating 0
-    (copied_in_run finite.empty first_list_commands answers)) outcomes_are
+    (copied_in_run finite.empty first_vec_commands answers)) outcomes_are
     ∙ ap (saturating 0) four_copied in
     let moved : last.moved ≡ 0 =
     run.moved
     ∙ ap (λ (answers : List (Outcome ℤ)). saturating 0
-    (moved_in_run finite.empty first_list_commands answers)) outcomes_are
+    (moved_in_run finite.empty first_vec_commands answers)) outcomes_are
     ∙ ap (saturating 0) none_moved in
     let held : blocks last.names ≡ 3 = ap (λ (names : Names ℤ). blocks names) is.1 ∙ three_blocks in
     ap (λ (answers : List (Outcome ℤ)). answer_lines answers ++ totals_line last) outcomes_are

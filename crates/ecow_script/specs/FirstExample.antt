@@ -5,8 +5,8 @@ use Rattle.ecow_model.specs.declared.command.Command.TheVariants.{Vec}
 use Rattle.ecow_model.specs.declared.command.Outcome.{Outcome}
 use Rattle.ecow_model.specs.declared.command.Outcome.TheVariants.{Refused}
 use Rattle.ecow_model.specs.declared.command.Refusal.TheVariants.{Memory}
-use Rattle.ecow_model.specs.declared.lists.VecCommand.{VecCommand}
-use Rattle.ecow_model.specs.declared.lists.VecCommand.TheVariants.{FromList, Clone, Push, Truncate, Clear, Contents}
+use Rattle.ecow_model.specs.declared.vecs.VecCommand.{VecCommand}
+use Rattle.ecow_model.specs.declared.vecs.VecCommand.TheVariants.{FromList, Clone, Push, Truncate, Clear, Contents}
 
 -- the characters of the file, a line of it on each line
 abbrev pub first_script : List ℕ
@@ -32,8 +32,8 @@ first_script =
     ++ codes "#> [1]\n"
 
 -- the commands on a, b and c, which are numbered 0, 1 and 2
-abbrev pub first_list_commands : List (VecCommand ℤ)
-first_list_commands =
+abbrev pub first_vec_commands : List (VecCommand ℤ)
+first_vec_commands =
     FromList 0 (pos 1 ∷ pos 2 ∷ pos 3 ∷ [])
     ∷ Clone 0 1
     ∷ Push 1 (pos 4)
@@ -47,7 +47,7 @@ first_list_commands =
 
 -- these for a store
 abbrev pub first_commands : List (Command ℤ)
-first_commands = map Vec first_list_commands
+first_commands = map Vec first_vec_commands
 
 -- the nine lines
 abbrev pub first_answers : List ℕ

@@ -4,7 +4,7 @@ pub mod Outcomes
 pub mod Parts
 pub mod Words
 pub mod Forms
-pub mod ListCommands
+pub mod VecCommands
 pub mod BytesCommands
 pub mod TextCommands
 pub mod Commands

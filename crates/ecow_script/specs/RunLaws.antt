@@ -4,11 +4,11 @@ use Rattle.std.proofs.Common.{subst, ap, arith, refl}
 use Rattle.ecow_model.specs.State.{State}
 use Rattle.ecow_model.specs.Run.{Run, RunBy, Step}
 use Rattle.ecow_model.specs.CountedRun.{CountedRun, CountedStep, copied_in, moved_in, sum_in_run}
-use Rattle.ecow_model.specs.Lists.{ListUsage, vec_usage}
+use Rattle.ecow_model.specs.Vecs.{VecUsage, vec_usage}
 use Rattle.ecow_model.specs.Names.{Names, IsSharing}
 use Rattle.ecow_model.specs.declared.command.Command.{Command}
 use Rattle.ecow_model.specs.declared.command.Outcome.{Outcome}
-use Rattle.ecow_model.specs.declared.lists.VecCommand.{VecCommand}
+use Rattle.ecow_model.specs.declared.vecs.VecCommand.{VecCommand}
 use Rattle.ecow_counted.specs.Filling.{IsRunOf}
 use Rattle.ecow_counted.specs.State.{CountedState, IsValid}
 use Rattle.ecow_laws.proofs.Bounds.{run_shares, step_paid}
@@ -30,7 +30,7 @@ run_on a b d cs ds os ps h k = by_on (Step 15) a b d cs ds os ps h k
 
 module _ {T : Type 0} where
   -- what a run costs behind a run
-  sum_on : (cost : ListUsage T → Names T → ℕ) (a b : Names T) (cs ds : List (VecCommand T))
+  sum_on : (cost : VecUsage T → Names T → ℕ) (a b : Names T) (cs ds : List (VecCommand T))
       (os ps : List (Outcome T)) → IsSharing a → CountedRun a cs os b
       → sum_in_run cost a (cs ++ ds) (os ++ ps)
       ≡ sum_in_run cost a cs os + sum_in_run cost b ds ps

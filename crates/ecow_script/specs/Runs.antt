@@ -6,7 +6,7 @@ use Rattle.ecow_model.specs.Run.{Run}
 use Rattle.ecow_model.specs.State.{State}
 use Rattle.ecow_model.specs.declared.command.Command.{Command}
 use Rattle.ecow_model.specs.declared.command.Outcome.{Outcome}
-use Rattle.ecow_model.specs.declared.lists.VecCommand.{VecCommand}
+use Rattle.ecow_model.specs.declared.vecs.VecCommand.{VecCommand}
 use Rattle.ecow_counted.specs.Filling.{IsRunOf}
 use Rattle.ecow_counted.specs.State.{CountedState}
 use Rattle.ecow_script.specs.Scripts.{script_commands}

@@ -6,13 +6,13 @@ ghost use Rattle.ecow_script.specs.Commands.{counted_form};
 ghost use Rattle.ecow_script.specs.Runs.{CountedAnswers, totals_line};
 
 use crate::answer::write_number;
-use crate::run::{Keeping, answers_of};
+use crate::run::{NamedStore, answers_of};
 use crate::script::Fault;
 use ecow_counted::Counted;
 use ecow_model::{Outcome, VecCommand};
 use std::alloc::{AllocError, Global};
 
-impl Keeping<VecCommand<i64>> for Counted<i64> {
+impl NamedStore<VecCommand<i64>> for Counted<i64> {
     ghost use Rattle.std.specs.Prelude.{IfOk};
     ghost use Rattle.ecow_script.specs.RunLaws.{CountedRuns, no_counted_run, counted_run_on};
 

@@ -8,7 +8,7 @@ ghost use Rattle.ecow_model.specs.State.{State};
 ghost use Rattle.ecow_model.specs.declared.command.Outcome.{Outcome};
 ghost use Rattle.ecow_script.specs.Answers.{answer_lines};
 ghost use Rattle.ecow_script.specs.Commands.{counted_form, store_form};
-ghost use Rattle.ecow_script.specs.FirstExample.{LackNothing, first_answers, first_commands, first_list_commands, first_script, first_totals};
+ghost use Rattle.ecow_script.specs.FirstExample.{LackNothing, first_answers, first_commands, first_vec_commands, first_script, first_totals};
 ghost use Rattle.ecow_script.specs.Runs.{new_table, totals_line};
 ghost use Rattle.ecow_script.specs.Scripts.{script_commands};
 
@@ -19,8 +19,8 @@ pub fn first_example()
     ensures answers { (outcomes : List (Outcome ℤ)) (last : State ℤ)
         → Run 15 finite.empty first_commands outcomes last → LackNothing outcomes
         → answer_lines outcomes ≡ first_answers }
-    ensures list_commands { script_commands counted_form first_script ≡ Ok first_list_commands }
+    ensures vec_commands { script_commands counted_form first_script ≡ Ok first_vec_commands }
     ensures counted_answers { (outcomes : List (Outcome ℤ)) (last : CountedState ℤ)
-        → IsRunOf new_table first_list_commands outcomes last → LackNothing outcomes
+        → IsRunOf new_table first_vec_commands outcomes last → LackNothing outcomes
         → answer_lines outcomes ++ totals_line last ≡ first_answers ++ first_totals }
 {}

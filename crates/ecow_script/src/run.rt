@@ -10,7 +10,7 @@ use ecow_model::Outcome;
 use std::alloc::{AllocError, Global};
 
 /// What carries commands out.
-pub(crate) trait Keeping<C: Scripted>: Drop {
+pub(crate) trait NamedStore<C: Scripted>: Drop {
     /// How commands with these outcomes lead from one state to another.
     ghost runs: { Self → List C → List (Outcome ℤ) → Self → Type 0 };
 
@@ -26,9 +26,9 @@ pub(crate) trait Keeping<C: Scripted>: Drop {
 }
 
 /// The answers to a script.
-pub(crate) fn answers_of<C: Scripted, K: Keeping<C>>(
+pub(crate) fn answers_of<C: Scripted, K: NamedStore<C>>(
     alloc: Global,
-    keeping: &mut K,
+    store: &mut K,
     script: &str,
 ) -> Result<String, Fault>
     requires { length script.now < 2 ^ 63 }
@@ -36,7 +36,7 @@ pub(crate) fn answers_of<C: Scripted, K: Keeping<C>>(
         (λ answers.
         (commands : List C) × (outcomes : List (Outcome ℤ))
         × (script_commands C.form script.now ≡ Ok commands)
-        × K.runs keeping.old commands outcomes keeping.new
+        × K.runs store.old commands outcomes store.new
         × (string_bytes answers ≡ answer_lines outcomes)) }
     ensures fault { IfErr result (λ fault. IsFaultOf fault (script_commands C.form script.now)) }
 {
@@ -48,27 +48,27 @@ pub(crate) fn answers_of<C: Scripted, K: Keeping<C>>(
         if piece.is_empty() {
             break 'pieces;
         }
-        ran = run_piece(ran, keeping, piece, &mut answers);
+        ran = run_piece(ran, store, piece, &mut answers);
     }
     if ran { Ok(answers) } else { Err(Fault::Memory) }
 }
 
 /// Carries commands out and appends their answers, unless there was no memory before.
-fn run_piece<C: Scripted, K: Keeping<C>>(
+fn run_piece<C: Scripted, K: NamedStore<C>>(
     ran: bool,
-    keeping: &mut K,
+    store: &mut K,
     piece: Vec<C>,
     answers: &mut String,
 ) -> bool
     ensures { IsTrue result
         → (outcomes : List (Outcome ℤ)) × IsTrue ran
-        × K.runs keeping.old piece.items outcomes keeping.new
+        × K.runs store.old piece.items outcomes store.new
         × Appended answers.old answers.new (answer_lines outcomes) }
 {
     if !ran {
         return false;
     }
-    let Ok(outcomes) = keeping.run(piece) else {
+    let Ok(outcomes) = store.run(piece) else {
         return false;
     };
     write_answers(answers, outcomes.as_slice()).is_ok()

@@ -4,13 +4,13 @@ ghost use Rattle.ecow_script.specs.Scripts.{script_commands, IsFaultOf};
 ghost use Rattle.ecow_script.specs.Commands.{store_form};
 ghost use Rattle.ecow_script.specs.Runs.{Answers};
 
-use crate::run::{Keeping, answers_of};
+use crate::run::{NamedStore, answers_of};
 use crate::script::Fault;
 use ecow_model::{Command, Outcome};
 use ecow_store::Store;
 use std::alloc::{AllocError, Global};
 
-impl Keeping<Command<i64>> for Store<i64> {
+impl NamedStore<Command<i64>> for Store<i64> {
     ghost use Rattle.std.specs.Prelude.{refl, IfOk};
     ghost use Rattle.ecow_model.specs.Run.{Run};
     ghost use Rattle.ecow_script.specs.RunLaws.{run_on};

@@ -9,8 +9,8 @@ use Rattle.std.proofs.lemmas.List.{nil_from_length}
 use Rattle.std.proofs.lemmas.Str.{encodes-append, len_utf8_bounds, is_utf8-from_IsUtf8}
 use Rattle.ecow_values.specs.Utf8.{utf8_len}
 use Rattle.ecow_values.proofs.Boundaries.{width}
-use Rattle.ecow_text.proofs.Places.{nothing_at_end}
-use Rattle.ecow_text.proofs.Texts.{not_utf8}
+use Rattle.ecow_string.proofs.Places.{nothing_at_end}
+use Rattle.ecow_string.proofs.Texts.{not_utf8}
 
 pub utf8_len-append : (cs ds : List ℕ) → utf8_len (cs ++ ds) ≡ utf8_len cs + utf8_len ds
 utf8_len-append cs ds = ap length (encodes-append cs ds) ∙ length-append (encode_utf8_all cs) (encode_utf8_all ds)

@@ -2,12 +2,12 @@
 ghost use Rattle.std.specs.Prelude.{◌≡◌, Ok, Err, MatchResult};
 ghost use Rattle.ecow_model.specs.declared.command.Outcome.{Outcome};
 ghost use Rattle.ecow_model.specs.declared.command.Refusal.{Refusal};
-ghost use Rattle.ecow_model.specs.declared.usage.Made.{Made};
+ghost use Rattle.ecow_model.specs.declared.usage.NewValue.{NewValue};
 ghost use Rattle.ecow_store.specs.Refusals.{refusal_for};
 
-use ecow_list::EcoError;
-use ecow_model::usage::Made;
+use ecow_model::usage::NewValue;
 use ecow_model::{Outcome, Refusal};
+use ecow_vec::EcoError;
 
 /// Why a command was refused whose call was.
 pub(crate) fn refusal_of(error: EcoError) -> Refusal
@@ -31,12 +31,12 @@ pub(crate) fn answer_change<T: Drop, E: Drop>(change: Result<(), E>) -> Outcome<
 }
 
 /// A value that was made, or why it was not.
-pub(crate) fn answer_make<V>(made: Result<V, EcoError>) -> Result<Made<V>, Refusal>
-    ensures { MatchResult made (λ value. result ≡ Ok (Made.Always value))
+pub(crate) fn answer_make<V>(made: Result<V, EcoError>) -> Result<NewValue<V>, Refusal>
+    ensures { MatchResult made (λ value. result ≡ Ok (NewValue.Always value))
         (λ error. result ≡ Err (refusal_for error)) }
 {
     match made {
-        Ok(value) => Ok(Made::Always(value)),
+        Ok(value) => Ok(NewValue::Always(value)),
         Err(error) => Err(refusal_of(error)),
     }
 }

@@ -3,20 +3,20 @@ ghost use Rattle.std.specs.Prelude.{◌≡◌, ⊤};
 ghost use Rattle.ecow_model.specs.Bytes.{bytes_rules};
 ghost use Rattle.ecow_model.specs.Refusing.{OnRefused};
 ghost use Rattle.ecow_model.specs.Run.{IsBytesStep, IsBytesVerdict};
-ghost use Rattle.ecow_keeping.proofs.Uses.{bytes_wraps};
+ghost use Rattle.ecow_named.proofs.Uses.{bytes_wraps};
 
 use crate::answers::{answer_change, answer_make, refusal_of};
 use crate::store::Stored;
 use ecow_bytes::SmallBytes;
-use ecow_keeping::kinds::{Kind, carry_out};
-use ecow_keeping::table::Table;
-use ecow_keeping::values::{bytes_in, bytes_in_mut};
-use ecow_list::EcoVec;
 use ecow_model::bytes::{BytesAsk, BytesDerive, BytesEdit, BytesMake};
-use ecow_model::usage::Made;
+use ecow_model::usage::NewValue;
 use ecow_model::value::Value;
 use ecow_model::{BytesCommand, Items, Outcome, Refusal};
-use ecow_text::SmallText;
+use ecow_named::kinds::{ValueKind, carry_out};
+use ecow_named::table::Table;
+use ecow_named::values::{bytes_in, bytes_in_mut};
+use ecow_string::SmallString;
+use ecow_vec::EcoVec;
 use std::alloc::{AllocError, Global};
 
 /// One command on bytes.
@@ -35,7 +35,7 @@ pub(crate) fn step<T: Clone, const N: usize>(
 /// Bytes, inline or in handles.
 pub(crate) struct BytesKind;
 
-impl<T: Clone, const N: usize> Kind<T, Stored<T, N>> for BytesKind {
+impl<T: Clone, const N: usize> ValueKind<T, Stored<T, N>> for BytesKind {
     type Payload = SmallBytes<N>;
 
     type Make = BytesMake;
@@ -50,11 +50,11 @@ impl<T: Clone, const N: usize> Kind<T, Stored<T, N>> for BytesKind {
 
     ghost premise = { ⊤ };
 
-    fn make(alloc: Global, how: BytesMake) -> Result<Made<SmallBytes<N>>, Refusal> {
+    fn make(alloc: Global, how: BytesMake) -> Result<NewValue<SmallBytes<N>>, Refusal> {
         match how {
-            BytesMake::New => Ok(Made::Always(SmallBytes::new(alloc))),
+            BytesMake::New => Ok(NewValue::Always(SmallBytes::new(alloc))),
             BytesMake::TryInline(bytes) => {
-                Ok(Made::Tried(SmallBytes::try_inline(alloc, bytes.as_slice())))
+                Ok(NewValue::Tried(SmallBytes::try_inline(alloc, bytes.as_slice())))
             }
             BytesMake::WithCapacity(capacity) => answer_make(SmallBytes::with_capacity(
                 alloc, capacity,
@@ -64,7 +64,7 @@ impl<T: Clone, const N: usize> Kind<T, Stored<T, N>> for BytesKind {
                 bytes.as_slice(),
             )),
             BytesMake::FromEcoVec(bytes) => match EcoVec::from_vec(alloc, bytes.into_vec()) {
-                Ok(vec) => Ok(Made::Always(SmallBytes::from(vec))),
+                Ok(vec) => Ok(NewValue::Always(SmallBytes::from(vec))),
                 Err(rejected) => Err(refusal_of(rejected.error)),
             },
         }
@@ -77,7 +77,7 @@ impl<T: Clone, const N: usize> Kind<T, Stored<T, N>> for BytesKind {
     ) -> Result<SmallBytes<N>, Refusal> {
         match (how, source) {
             (BytesDerive::FromText, Value::Text(text)) => {
-                let copy: Result<SmallText<N>, AllocError> = text.clone();
+                let copy: Result<SmallString<N>, AllocError> = text.clone();
                 match copy {
                     Ok(copy) => Ok(SmallBytes::from(copy)),
                     Err(_) => Err(Refusal::Memory),

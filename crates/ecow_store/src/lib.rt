@@ -3,8 +3,8 @@
 
 mod answers;
 mod bytes;
-mod lists;
 pub mod store;
 mod texts;
+mod vecs;
 
 pub use store::{SmallStore, Store};

@@ -2,24 +2,24 @@
 ghost use Rattle.std.specs.Prelude.{◌≡◌, IfOk, IfErr, OnErr};
 ghost use Rattle.std.specs.FinMap as map;
 ghost use Rattle.ecow_base.specs.Clones.{ClonesAreEqual};
-ghost use Rattle.ecow_list.specs.declared.error.EcoError.{EcoError};
+ghost use Rattle.ecow_vec.specs.declared.error.EcoError.{EcoError};
 ghost use Rattle.ecow_model.specs.Refusing.{OnRefused};
 ghost use Rattle.ecow_model.specs.Run.{Run, RunBy, Step, StepVerdict, StepWhere};
 
 mod read;
 
-use crate::{bytes, lists, texts};
+use crate::{bytes, texts, vecs};
 use ecow_bytes::SmallBytes;
-use ecow_keeping::table::Table;
-use ecow_list::{EcoError, EcoVec, Rejected};
 use ecow_model::value::Value;
 use ecow_model::{Command, Outcome};
-use ecow_text::SmallText;
+use ecow_named::table::Table;
+use ecow_string::SmallString;
+use ecow_vec::{EcoError, EcoVec, Rejected};
 use std::alloc::Global;
 use std::marker::Model;
 
 /// What stands under a name.
-pub type Stored<T, const N: usize> = Value<EcoVec<T>, SmallBytes<N>, SmallText<N>>;
+pub type Stored<T, const N: usize> = Value<EcoVec<T>, SmallBytes<N>, SmallString<N>>;
 
 /// Named values of which `V` is the type.
 #[derive(Drop)]
@@ -69,7 +69,7 @@ impl<T: Clone, const N: usize> NamedValues<Stored<T, N>> {
         ensures unchanged { OnRefused result (self.new ≡ self.old) }
     {
         match command {
-            Command::Vec(command) => lists::step::<T, N>(self.alloc, &mut self.values, command),
+            Command::Vec(command) => vecs::step::<T, N>(self.alloc, &mut self.values, command),
             Command::Bytes(command) => bytes::step::<T, N>(self.alloc, &mut self.values, command),
             Command::Text(command) => texts::step::<T, N>(self.alloc, &mut self.values, command),
         }

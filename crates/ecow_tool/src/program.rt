@@ -72,7 +72,7 @@ impl From<Fault> for End {
     }
 }
 
-/// Whether the counted keeping is asked for, and the place of the file's name among the words
+/// Whether the counted store is asked for, and the place of the file's name among the words
 /// after the program's name. `None` where they are no use of the program.
 pub fn read_arguments(words: &[String]) -> Option<(bool, usize)>
     ensures asked { result ≡ asked words.now }
@@ -85,7 +85,7 @@ pub fn read_arguments(words: &[String]) -> Option<(bool, usize)>
     }
 }
 
-/// Whether a word asks for the counted keeping.
+/// Whether a word asks for the counted store.
 fn is_flag(word: &String) -> bool
     ensures { result ≡ is_flag word.now }
 {

@@ -1,5 +1,5 @@
 -- What names mean in a scope.
-use Rattle.std.specs.Prelude.{ℕ, Bool, List, Option, None, Some, cond, nat_eq, fold}
+use Rattle.std.specs.Prelude.{ℕ, Bool, List, Option, None, Some, nat_eq, fold, if◌then◌else◌}
 use Rattle.std.specs.Cmp.Lexicographic.{pointwise}
 use Rattle.std.specs.Str.{encode_utf8_all}
 use Rattle.ecow_uses.specs.declared.symbols.Binding.{Binding}
@@ -11,5 +11,7 @@ same_name = pointwise nat_eq
 -- the value of the last binding of the name, which is given by its bytes
 abbrev pub meaning : List Binding → List ℕ → Option ℕ
 meaning bindings name =
-    fold (λ (value : Option ℕ) (b : Binding). cond
-    (same_name (encode_utf8_all b.name.chars) name) (Some b.value) value) None bindings
+    fold
+    (λ (value : Option ℕ) (b : Binding).
+    if same_name (encode_utf8_all b.name.chars) name then Some b.value else value)
+    None bindings

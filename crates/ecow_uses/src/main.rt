@@ -1,4 +1,4 @@
-//! Small programs over the vector, the text and the counted keeping, each with a law that its user
+//! Small programs over the vector, the text and the counted store, each with a law that its user
 //! cares about. This one runs each of them on an example.
 #![tactic(auto)]
 
@@ -16,8 +16,8 @@ use crate::undo::History;
 use anyhow::Result;
 use ecow_bytes::EcoBytes;
 use ecow_counted::Counted;
-use ecow_list::{EcoVec, eco_vec};
-use ecow_text::EcoString;
+use ecow_string::EcoString;
+use ecow_vec::{EcoVec, eco_vec};
 use std::collections::BTreeMap;
 
 fn main(rt: HostRuntime) -> Result<()> {

@@ -1,4 +1,4 @@
-//! Numbered settings in versions, on the counted keeping. A fork copies nothing, and a write to it
+//! Numbered settings in versions, on the counted store. A fork copies nothing, and a write to it
 //! copies the settings once, where another version still shares them.
 ghost use Rattle.std.specs.Prelude.{◌≡◌, ◌≢◌, ℕ, OnErr, OnOk, slice_get, slice_set};
 ghost use Rattle.std.specs.Option.{option_and_then, option_map};

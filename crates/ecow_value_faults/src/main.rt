@@ -8,7 +8,7 @@ use ecow_faults::elements::Named;
 use ecow_faults::parts::{Parts, run};
 use ecow_faults::watch::Watch;
 use ecow_faults::{asked, bytes, makers, prints, small, texts, vectors};
-use ecow_text::SmallText;
+use ecow_string::SmallString;
 use std::alloc::Global;
 use std::io;
 
@@ -19,8 +19,8 @@ fn bytes_hold<const N: usize>(alloc: Global, watch: &Watch, none: &SmallBytes<N>
         && bytes::derived_hold(alloc, watch, none)
 }
 
-fn texts_hold<const N: usize>(alloc: Global, watch: &Watch, none: &SmallText<N>) -> bool {
-    small::calls_hold::<SmallText<N>>(alloc, watch, &texts::STEPS)
+fn texts_hold<const N: usize>(alloc: Global, watch: &Watch, none: &SmallString<N>) -> bool {
+    small::calls_hold::<SmallString<N>>(alloc, watch, &texts::STEPS)
         && texts::makers_hold(alloc, watch, none)
         && texts::derived_hold(alloc, watch, none)
 }
@@ -38,12 +38,12 @@ fn is_right_bytes(part: usize, alloc: Global, watch: &Watch) -> bool {
 
 fn is_right_text(part: usize, alloc: Global, watch: &Watch) -> bool {
     match part {
-        8 => texts_hold::<0>(alloc, watch, &SmallText::new(alloc)),
-        9 => texts_hold::<1>(alloc, watch, &SmallText::new(alloc)),
-        10 => texts_hold::<3>(alloc, watch, &SmallText::new(alloc)),
-        11 => texts_hold::<15>(alloc, watch, &SmallText::new(alloc)),
-        12 => texts_hold::<23>(alloc, watch, &SmallText::new(alloc)),
-        _ => texts_hold::<255>(alloc, watch, &SmallText::new(alloc)),
+        8 => texts_hold::<0>(alloc, watch, &SmallString::new(alloc)),
+        9 => texts_hold::<1>(alloc, watch, &SmallString::new(alloc)),
+        10 => texts_hold::<3>(alloc, watch, &SmallString::new(alloc)),
+        11 => texts_hold::<15>(alloc, watch, &SmallString::new(alloc)),
+        12 => texts_hold::<23>(alloc, watch, &SmallString::new(alloc)),
+        _ => texts_hold::<255>(alloc, watch, &SmallString::new(alloc)),
     }
 }
 

@@ -1,8 +1,8 @@
 //! What values print, the limits of what stands inline, and what errors say.
 use crate::texts::text;
 use ecow_bytes::{EcoBytes, SmallBytes};
-use ecow_list::{EcoError, EcoVec, IntoArray, Rejected};
-use ecow_text::{EcoString, SmallText};
+use ecow_string::{EcoString, SmallString};
+use ecow_vec::{EcoError, EcoVec, IntoArray, Rejected};
 use std::alloc::{AllocError, Global};
 use std::fmt::Debug;
 use std::str;
@@ -20,12 +20,12 @@ fn limits_are_those_of_the_type(rt: HostRuntime) {
         SmallBytes::<255>::INLINE_LIMIT,
     ];
     let texts = [
-        SmallText::<0>::INLINE_LIMIT,
-        SmallText::<1>::INLINE_LIMIT,
-        SmallText::<3>::INLINE_LIMIT,
+        SmallString::<0>::INLINE_LIMIT,
+        SmallString::<1>::INLINE_LIMIT,
+        SmallString::<3>::INLINE_LIMIT,
         EcoString::INLINE_LIMIT,
-        SmallText::<23>::INLINE_LIMIT,
-        SmallText::<255>::INLINE_LIMIT,
+        SmallString::<23>::INLINE_LIMIT,
+        SmallString::<255>::INLINE_LIMIT,
     ];
     assert!(rt; bytes == [0, 1, 3, 15, 23, 255] && texts == bytes);
 }

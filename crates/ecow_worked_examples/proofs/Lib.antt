@@ -1,5 +1,5 @@
 pub mod Scripts
-pub mod ListFacts
+pub mod VecFacts
 pub mod ByteFacts
 pub mod TextFacts
 pub mod Tables

@@ -5,14 +5,14 @@ use Rattle.std.specs.Ordering.{nat_cmp, eq_by_cmp}
 use Rattle.std.specs.FinMap as finite
 use Rattle.std.specs.FinMap.Entries.{find, put, where_key}
 use Rattle.ecow_model.specs.Refusing.{◌>>=◌, Effect}
-use Rattle.ecow_model.specs.Lists.{ListUsage, make_list, edit_list, ask_list, vec_usage}
+use Rattle.ecow_model.specs.Vecs.{VecUsage, make_vec, edit_vec, ask_vec, vec_usage}
 use Rattle.ecow_model.specs.Costs.{make_capacity, unshares, capacity_after, copied_by, moved_by, make_input, edit_input}
 use Rattle.ecow_model.specs.CountedRun.{observation_of, nothing, change, counted_carry_out, copied_in, moved_in, eager_in, input_in}
-use Rattle.ecow_model.specs.Names.{Names, Held, is_shared, leave, enter, forget, settle, join, debt_of, strain_of}
+use Rattle.ecow_model.specs.Names.{Names, Holding, is_shared, leave, enter, forget, settle, join, debt_of, strain_of}
 use Rattle.ecow_model.specs.declared.usage.Usage.TheVariants.{Make, Derive, Drop, Edit, Ask}
-use Rattle.ecow_model.specs.declared.lists.ListEdit.{ListEdit}
-use Rattle.ecow_model.specs.declared.lists.ListAsk.{ListAsk}
-use Rattle.ecow_model.specs.declared.lists.VecCommand.{VecCommand}
+use Rattle.ecow_model.specs.declared.vecs.VecEdit.{VecEdit}
+use Rattle.ecow_model.specs.declared.vecs.VecAsk.{VecAsk}
+use Rattle.ecow_model.specs.declared.vecs.VecCommand.{VecCommand}
 use Rattle.ecow_model.specs.declared.command.Outcome.{Outcome}
 use Rattle.ecow_model.specs.declared.command.Outcome.TheVariants.{Done}
 use Rattle.ecow_model.specs.declared.command.Refusal.{Refusal}
@@ -21,7 +21,7 @@ use Rattle.ecow_model.proofs.Entries.{entries-empty, entries-remove, entries-ins
 use Rattle.ecow_worked_examples.specs.Tables.{Tally, tallied, tally_from, tally}
 
 abbrev Entries : Type 0
-Entries = List (ℕ × Held ℕ)
+Entries = List (ℕ × Holding ℕ)
 
 -- the changes of names, on their entries
 abbrev forget_in : ℕ → Entries → Entries
@@ -30,10 +30,10 @@ forget_in x es = map (λ e. (e.0, leave x e.1)) (where_key nat_cmp (λ y. not (e
 abbrev settle_in : ℕ → List ℕ → ℕ → Entries → Entries
 settle_in x items capacity es = put nat_cmp x (record { items = items; group = cond (nat_lt 0 capacity) (x ∷ []) []; capacity = capacity }) (forget_in x es)
 
-abbrev join_in : ℕ → ℕ → Held ℕ → Entries → Entries
+abbrev join_in : ℕ → ℕ → Holding ℕ → Entries → Entries
 join_in x y h es = put nat_cmp y (enter x y h) (map (λ e. (e.0, enter x y e.1)) es)
 
-abbrev change_in : ListEdit ℕ → ℕ → Held ℕ → List ℕ → Entries → Entries
+abbrev change_in : VecEdit ℕ → ℕ → Holding ℕ → List ℕ → Entries → Entries
 change_in edit x h xs es = cond (is_shared h && not (unshares edit (length h.items))) es (settle_in x xs (capacity_after edit (is_shared h) (length h.items) h.capacity) es)
 
 entries-forget : (x : ℕ) (names : Names ℕ) → finite.entries (forget x names) ≡ forget_in x (finite.entries names)
@@ -42,10 +42,10 @@ entries-forget x names = entries-map_values (leave x) (finite.remove names x) �
 entries-settle : (x : ℕ) (items : List ℕ) (capacity : ℕ) (names : Names ℕ) → finite.entries (settle x items capacity names) ≡ settle_in x items capacity (finite.entries names)
 entries-settle x items capacity names = entries-insert (forget x names) x _ ∙ ap (put nat_cmp x _) (entries-forget x names)
 
-entries-join : (x y : ℕ) (h : Held ℕ) (names : Names ℕ) → finite.entries (join x y h names) ≡ join_in x y h (finite.entries names)
+entries-join : (x y : ℕ) (h : Holding ℕ) (names : Names ℕ) → finite.entries (join x y h names) ≡ join_in x y h (finite.entries names)
 entries-join x y h names = entries-insert _ y (enter x y h) ∙ ap (put nat_cmp y (enter x y h)) (entries-map_values (enter x y) names)
 
-entries-change : (edit : ListEdit ℕ) (x : ℕ) (h : Held ℕ) (xs : List ℕ) (names : Names ℕ) → finite.entries (change edit x h xs names) ≡ change_in edit x h xs (finite.entries names)
+entries-change : (edit : VecEdit ℕ) (x : ℕ) (h : Holding ℕ) (xs : List ℕ) (names : Names ℕ) → finite.entries (change edit x h xs names) ≡ change_in edit x h xs (finite.entries names)
 entries-change edit x h xs names =
     elim (is_shared h && not (unshares edit (length h.items))) as (λ b. finite.entries (cond b names (settle x xs (capacity_after edit (is_shared h) (length h.items) h.capacity) names)) ≡ cond b (finite.entries names) (settle_in x xs (capacity_after edit (is_shared h) (length h.items) h.capacity) (finite.entries names))) [
       | true ↦ refl
@@ -53,19 +53,19 @@ entries-change edit x h xs names =
     ]
 
 -- a command, on the entries of the names
-abbrev there_in : Option (Held ℕ) → Result (Held ℕ) Refusal
+abbrev there_in : Option (Holding ℕ) → Result (Holding ℕ) Refusal
 there_in held = ok_or held NoName
 
-abbrev free_in : Option (Held ℕ) → Result (Unit {0}) Refusal
+abbrev free_in : Option (Holding ℕ) → Result (Unit {0}) Refusal
 free_in held = if is_some held then Err Taken else Ok tt
 
 abbrev Answer : Type 0
 Answer = Result (Outcome ℕ × Entries) Refusal
 
-abbrev used_in : Entries → ListUsage ℕ → Answer
+abbrev used_in : Entries → VecUsage ℕ → Answer
 used_in es (Make x how) = do
   _ ← free_in (find nat_cmp x es)
-  xs ← make_list how
+  xs ← make_vec how
   Ok (Done, settle_in x xs (make_capacity how) es)
 used_in es (Derive x y how) = do
   h ← there_in (find nat_cmp x es)
@@ -76,11 +76,11 @@ used_in es (Drop x) = do
   Ok (Done, forget_in x es)
 used_in es (Edit x edit) = do
   h ← there_in (find nat_cmp x es)
-  after ← edit_list edit h.items
+  after ← edit_vec edit h.items
   Ok (after.0, change_in edit x h after.1 es)
 used_in es (Ask x question) = do
   h ← there_in (find nat_cmp x es)
-  answer ← ask_list (observation_of h) question h.items
+  answer ← ask_vec (observation_of h) question h.items
   Ok (answer, es)
 
 abbrev given : Result (Outcome ℕ × Names ℕ) Refusal → Answer
@@ -96,51 +96,51 @@ listed : (r : Result (List ℕ) Refusal) (f : List ℕ → Names ℕ) (g : List 
 listed (Ok xs) f g same = ap (λ es. Ok (Done, es)) (same xs)
 listed (Err refusal) f g same = refl
 
-made : (o : Option (Held ℕ)) (r : Result (List ℕ) Refusal) (f : List ℕ → Names ℕ) (g : List ℕ → Entries) → ((xs : List ℕ) → finite.entries (f xs) ≡ g xs) → given (free_in o >>= (λ _. r >>= (λ xs. Ok (Done, f xs)))) ≡ (free_in o >>= (λ _. r >>= (λ xs. Ok (Done, g xs))))
+made : (o : Option (Holding ℕ)) (r : Result (List ℕ) Refusal) (f : List ℕ → Names ℕ) (g : List ℕ → Entries) → ((xs : List ℕ) → finite.entries (f xs) ≡ g xs) → given (free_in o >>= (λ _. r >>= (λ xs. Ok (Done, f xs)))) ≡ (free_in o >>= (λ _. r >>= (λ xs. Ok (Done, g xs))))
 made None r f g same = listed r f g same
 made (Some h) r f g same = refl
 
-joined : (x y : ℕ) (names : Names ℕ) (o p : Option (Held ℕ)) → given (there_in o >>= (λ h. free_in p >>= (λ _. Ok (Done, join x y h names)))) ≡ (there_in o >>= (λ h. free_in p >>= (λ _. Ok (Done, join_in x y h (finite.entries names)))))
+joined : (x y : ℕ) (names : Names ℕ) (o p : Option (Holding ℕ)) → given (there_in o >>= (λ h. free_in p >>= (λ _. Ok (Done, join x y h names)))) ≡ (there_in o >>= (λ h. free_in p >>= (λ _. Ok (Done, join_in x y h (finite.entries names)))))
 joined x y names None p = refl
 joined x y names (Some h) None = ap (λ es. Ok (Done, es)) (entries-join x y h names)
 joined x y names (Some h) (Some k) = refl
 
-dropped : (x : ℕ) (names : Names ℕ) (o : Option (Held ℕ)) → given (there_in o >>= (λ h. Ok (Done, forget x names))) ≡ (there_in o >>= (λ h. Ok (Done, forget_in x (finite.entries names))))
+dropped : (x : ℕ) (names : Names ℕ) (o : Option (Holding ℕ)) → given (there_in o >>= (λ h. Ok (Done, forget x names))) ≡ (there_in o >>= (λ h. Ok (Done, forget_in x (finite.entries names))))
 dropped x names None = refl
 dropped x names (Some h) = ap (λ es. Ok (Done, es)) (entries-forget x names)
 
-written : (edit : ListEdit ℕ) (x : ℕ) (names : Names ℕ) (o : Option (Held ℕ)) → given (there_in o >>= (λ h. edit_list edit h.items >>= (λ after. Ok (after.0, change edit x h after.1 names)))) ≡ (there_in o >>= (λ h. edit_list edit h.items >>= (λ after. Ok (after.0, change_in edit x h after.1 (finite.entries names)))))
+written : (edit : VecEdit ℕ) (x : ℕ) (names : Names ℕ) (o : Option (Holding ℕ)) → given (there_in o >>= (λ h. edit_vec edit h.items >>= (λ after. Ok (after.0, change edit x h after.1 names)))) ≡ (there_in o >>= (λ h. edit_vec edit h.items >>= (λ after. Ok (after.0, change_in edit x h after.1 (finite.entries names)))))
 written edit x names None = refl
-written edit x names (Some h) = changed (edit_list edit h.items) (λ xs. change edit x h xs names) (λ xs. change_in edit x h xs (finite.entries names)) (λ xs. entries-change edit x h xs names)
+written edit x names (Some h) = changed (edit_vec edit h.items) (λ xs. change edit x h xs names) (λ xs. change_in edit x h xs (finite.entries names)) (λ xs. entries-change edit x h xs names)
 
 answered : (r : Result (Outcome ℕ) Refusal) (names : Names ℕ) → given (r >>= (λ answer. Ok (answer, names))) ≡ (r >>= (λ answer. Ok (answer, finite.entries names)))
 answered (Ok answer) names = refl
 answered (Err refusal) names = refl
 
-asked : (question : ListAsk) (names : Names ℕ) (o : Option (Held ℕ)) → given (there_in o >>= (λ h. ask_list (observation_of h) question h.items >>= (λ answer. Ok (answer, names)))) ≡ (there_in o >>= (λ h. ask_list (observation_of h) question h.items >>= (λ answer. Ok (answer, finite.entries names))))
+asked : (question : VecAsk) (names : Names ℕ) (o : Option (Holding ℕ)) → given (there_in o >>= (λ h. ask_vec (observation_of h) question h.items >>= (λ answer. Ok (answer, names)))) ≡ (there_in o >>= (λ h. ask_vec (observation_of h) question h.items >>= (λ answer. Ok (answer, finite.entries names))))
 asked question names None = refl
-asked question names (Some h) = answered (ask_list (observation_of h) question h.items) names
+asked question names (Some h) = answered (ask_vec (observation_of h) question h.items) names
 
-carry_out-entries : (usage : ListUsage ℕ) (names : Names ℕ) → given (counted_carry_out names usage) ≡ used_in (finite.entries names) usage
-carry_out-entries (Make x how) names = rw (get-entries names x) (made (find nat_cmp x (finite.entries names)) (make_list how) (λ xs. settle x xs (make_capacity how) names) (λ xs. settle_in x xs (make_capacity how) (finite.entries names)) (λ xs. entries-settle x xs (make_capacity how) names))
+carry_out-entries : (usage : VecUsage ℕ) (names : Names ℕ) → given (counted_carry_out names usage) ≡ used_in (finite.entries names) usage
+carry_out-entries (Make x how) names = rw (get-entries names x) (made (find nat_cmp x (finite.entries names)) (make_vec how) (λ xs. settle x xs (make_capacity how) names) (λ xs. settle_in x xs (make_capacity how) (finite.entries names)) (λ xs. entries-settle x xs (make_capacity how) names))
 carry_out-entries (Derive x y how) names = rw (get-entries names x, get-entries names y) (joined x y names (find nat_cmp x (finite.entries names)) (find nat_cmp y (finite.entries names)))
 carry_out-entries (Drop x) names = rw (get-entries names x) (dropped x names (find nat_cmp x (finite.entries names)))
 carry_out-entries (Edit x edit) names = rw (get-entries names x) (written edit x names (find nat_cmp x (finite.entries names)))
 carry_out-entries (Ask x question) names = rw (get-entries names x) (asked question names (find nat_cmp x (finite.entries names)))
 
 -- the sums, over entries
-abbrev held_in : Entries → ℕ → Held ℕ
-held_in es x = unwrap_or (find nat_cmp x es) nothing
+abbrev holding_in : Entries → ℕ → Holding ℕ
+holding_in es x = unwrap_or (find nat_cmp x es) nothing
 
 -- what a command copies, what copying at once would, and what it moves and brings
-abbrev cost_in : ListUsage ℕ → Entries → (ℕ × ℕ) × (ℕ × ℕ)
+abbrev cost_in : VecUsage ℕ → Entries → (ℕ × ℕ) × (ℕ × ℕ)
 cost_in (Make x how) es = ((0, 0), (0, make_input how))
-cost_in (Derive x y how) es = ((0, length (held_in es x).items), (0, 0))
+cost_in (Derive x y how) es = ((0, length (holding_in es x).items), (0, 0))
 cost_in (Drop x) es = ((0, 0), (0, 0))
-cost_in (Edit x edit) es = ((copied_by edit (held_in es x), 0), (moved_by edit (held_in es x), edit_input edit))
+cost_in (Edit x edit) es = ((copied_by edit (holding_in es x), 0), (moved_by edit (holding_in es x), edit_input edit))
 cost_in (Ask x question) es = ((0, 0), (0, 0))
 
-cost-entries : (usage : ListUsage ℕ) (names : Names ℕ) → ((copied_in usage names, eager_in usage names), (moved_in usage names, input_in usage names)) ≡ cost_in usage (finite.entries names)
+cost-entries : (usage : VecUsage ℕ) (names : Names ℕ) → ((copied_in usage names, eager_in usage names), (moved_in usage names, input_in usage names)) ≡ cost_in usage (finite.entries names)
 cost-entries (Make x how) names = refl
 cost-entries (Derive x y how) names = ap (λ o. ((0, length (unwrap_or o nothing).items), (0, 0))) (get-entries names x)
 cost-entries (Drop x) names = refl
@@ -152,7 +152,7 @@ tallied_in (Ok answer) es rest = rest answer.1 1
 tallied_in (Err refusal) es rest = rest es 0
 
 abbrev tally_in : List (VecCommand ℕ) → ℕ → ℕ → ℕ → ℕ → Entries → Tally
-tally_in [] copying clones moves items es = record { copied = copying; eager = clones; debt = sum_by (λ (e : ℕ × Held ℕ). debt_of e.0 e.1) es; moved = moves; input = items; strain = sum_by (λ (e : ℕ × Held ℕ). strain_of e.0 e.1) es }
+tally_in [] copying clones moves items es = record { copied = copying; eager = clones; debt = sum_by (λ (e : ℕ × Holding ℕ). debt_of e.0 e.1) es; moved = moves; input = items; strain = sum_by (λ (e : ℕ × Holding ℕ). strain_of e.0 e.1) es }
 tally_in (c ∷ cs) copying clones moves items es = tallied_in (used_in es (vec_usage c)) es (λ new n. tally_in cs (copying + n * (cost_in (vec_usage c) es).0.0) (clones + n * (cost_in (vec_usage c) es).0.1) (moves + n * (cost_in (vec_usage c) es).1.0) (items + n * (cost_in (vec_usage c) es).1.1) new)
 
 tallied-entries : (g : Result (Outcome ℕ × Names ℕ) Refusal) (names : Names ℕ) (rest : Names ℕ → ℕ → Tally) (rest_in : Entries → ℕ → Tally) → ((new : Names ℕ) (n : ℕ) → rest new n ≡ rest_in (finite.entries new) n) → tallied g names rest ≡ tallied_in (given g) (finite.entries names) rest_in

@@ -2,8 +2,8 @@
 -- name, the number of blocks, copied and moved elements.
 use Rattle.std.specs.Prelude.{◌≡◌, ℕ, true, false, List, [], ◌∷◌, ◌++◌, map, replicate, Some, None}
 use Rattle.std.specs.declared.ops.Bound.TheVariants.{Included, Excluded}
-use Rattle.ecow_model.specs.declared.lists.VecCommand.{VecCommand}
-use Rattle.ecow_model.specs.declared.lists.VecCommand.TheVariants as vec
+use Rattle.ecow_model.specs.declared.vecs.VecCommand.{VecCommand}
+use Rattle.ecow_model.specs.declared.vecs.VecCommand.TheVariants as vec
 use Rattle.ecow_model.specs.declared.command.Outcome.TheVariants as gives
 use Rattle.ecow_model.specs.declared.command.Refusal.TheVariants as refuses
 use Rattle.ecow_worked_examples.specs.Tables.{table, leaves, tally, sums}

@@ -1,7 +1,7 @@
 -- What scripts on bytes answer.
 use Rattle.std.specs.Prelude.{◌≡◌, true, false, [], ◌∷◌, Some, codes}
 use Rattle.ecow_model.specs.declared.command.Command.TheVariants.{Vec, Bytes, Text}
-use Rattle.ecow_model.specs.declared.lists.VecCommand.TheVariants as vec
+use Rattle.ecow_model.specs.declared.vecs.VecCommand.TheVariants as vec
 use Rattle.ecow_model.specs.declared.bytes.BytesCommand.TheVariants as bytes
 use Rattle.ecow_model.specs.declared.texts.TextCommand.TheVariants as text
 use Rattle.ecow_model.specs.declared.command.Outcome.TheVariants as gives

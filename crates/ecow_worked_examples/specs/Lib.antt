@@ -1,5 +1,5 @@
 pub mod Scripts
-pub mod ListScripts
+pub mod VecScripts
 pub mod ByteScripts
 pub mod TextScripts
 pub mod Tables

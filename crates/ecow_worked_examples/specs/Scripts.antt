@@ -7,7 +7,7 @@ use Rattle.ecow_model.specs.Uses.{Observation}
 use Rattle.ecow_model.specs.Run.{outcomes}
 use Rattle.ecow_model.specs.declared.command.Command.{Command}
 use Rattle.ecow_model.specs.declared.command.Command.TheVariants.{Vec}
-use Rattle.ecow_model.specs.declared.lists.VecCommand.TheVariants as vec
+use Rattle.ecow_model.specs.declared.vecs.VecCommand.TheVariants as vec
 use Rattle.ecow_model.specs.declared.command.Outcome.{Outcome}
 
 -- what Capacity and Unique read in scripts that don't ask for them

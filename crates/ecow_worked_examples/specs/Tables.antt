@@ -3,11 +3,11 @@ use Rattle.std.specs.Prelude.{ℕ, zero, suc, ◌+◌, ◌*◌, false, List, [],
 use Rattle.std.specs.Option.{option_map}
 use Rattle.std.specs.FinMap as finite
 use Rattle.ecow_model.specs.Names.{Names, owners_of, blocks, debt, strain}
-use Rattle.ecow_model.specs.Lists.{vec_usage}
+use Rattle.ecow_model.specs.Vecs.{vec_usage}
 use Rattle.ecow_model.specs.CountedRun.{counted_carry_out, names_or, copied_in, moved_in, eager_in, input_in}
 use Rattle.ecow_model.specs.Costs.{capacity_after, moves}
-use Rattle.ecow_model.specs.declared.lists.ListEdit.TheVariants.{Push}
-use Rattle.ecow_model.specs.declared.lists.VecCommand.{VecCommand}
+use Rattle.ecow_model.specs.declared.vecs.VecEdit.TheVariants.{Push}
+use Rattle.ecow_model.specs.declared.vecs.VecCommand.{VecCommand}
 use Rattle.ecow_model.specs.declared.command.Outcome.{Outcome}
 use Rattle.ecow_model.specs.declared.command.Outcome.TheVariants.{Refused}
 use Rattle.ecow_model.specs.declared.command.Refusal.{Refusal}

@@ -1,11 +1,11 @@
 //! What scripts on lists in shared blocks answer, leave and cost.
 ghost use Rattle.std.specs.Prelude.{◌≡◌, ℕ, true, false, [], ◌∷◌};
 ghost use Rattle.ecow_model.specs.CountedRun.{CountedStep, counted_is_free};
-ghost use Rattle.ecow_model.specs.Lists.{vec_usage};
+ghost use Rattle.ecow_model.specs.Vecs.{vec_usage};
 ghost use Rattle.ecow_model.specs.Names.{Names};
 ghost use Rattle.ecow_model.specs.declared.command.Outcome.TheVariants.{Refused};
 ghost use Rattle.ecow_model.specs.declared.command.Refusal.TheVariants.{Memory};
-ghost use Rattle.ecow_model.specs.declared.lists.VecCommand.TheVariants.{Clear, Extend, Pop, Push, Reserve, Retain, Truncate, Write};
+ghost use Rattle.ecow_model.specs.declared.vecs.VecCommand.TheVariants.{Clear, Extend, Pop, Push, Reserve, Retain, Truncate, Write};
 ghost use Rattle.ecow_worked_examples.specs.Memory.{four_of_four, shared_block, three_of_four};
 ghost use Rattle.ecow_worked_examples.specs.Tables.{pushed};
 ghost use Rattle.ecow_worked_examples.specs.BlockScripts.{ANewTableIsEmpty, AMissingNameIsNotShared, WithoutABlockNothingIsShared, ThreeNamesEndInThreeBlocks, ACloneOfACloneSharesOneBlock, BlocksGoWithTheirLastName, PopCopiesTheWholeSharedList, TruncateCopiesWhatStays, DrainOfNothingUnshares, ExtendByNothingStaysShared, ReserveOfNothingUnshares, AnEmptyBlockIsShared, AnEmptyBlockStaysShared, RetainGivesUpAnEmptyBlock, ReserveGivesAnEmptyBlockOfItsOwn, FourPushesMoveNothing, TheFifthPushMovesFour, TheThirdPushOutgrowsRoomForTwo, AnInsertWithinTheCapacityMovesNothing, AnInsertPastTheCapacityMovesAll, APushAfterAnExtendDoublesTheCapacity, SpliceMakesItsBlockAtOnce, SpliceMovesWhatIsLeft, APushByACloneTakesRoomForFour, PushesAfterAPop, ReserveGrowsUpToTheGreatest, TakenAndDroppedNamesAreRefused, DrainedAndRetainedAlone, EachWrittenCloneIsCopiedOnce, UnwrittenClonesAreOwed, DroppedClonesCostNothing, PushesAfterAPopArePaid, ElevenPushesCopyTenTimes, APushAfterTheClonesAreDroppedCopiesNothing};

@@ -4,6 +4,6 @@
 
 pub mod blocks;
 pub mod bytes;
-pub mod lists;
 pub mod texts;
 pub mod values;
+pub mod vecs;

@@ -3,13 +3,13 @@
 ghost use Rattle.std.specs.Prelude.{◌≡◌, ℕ, List, ◌+◌, ◌-◌, ◌<◌, ◌≤◌, ◌↔◌, [], ◌∷◌, ◌++◌, length, true, false, IsOk, IfOk, OnOk, OnErr, IsErrOf};
 ghost use Rattle.std.specs.Iterator.{IsFinite, ExtendsWithItems};
 ghost use Rattle.std.specs.List.{replace_range};
-ghost use Rattle.ecow_list.specs.Vectors.{Appends, ExtendsBy, GivesFirst};
+ghost use Rattle.ecow_vec.specs.Vectors.{Appends, ExtendsBy, GivesFirst};
 ghost use Rattle.ecow_values.specs.Inline.{inline_after};
 
 use crate::bytes::SmallBytes;
 use crate::form::Form;
 use ecow_base::{MAX_LEN, room_for};
-use ecow_list::{EcoError, EcoVec};
+use ecow_vec::{EcoError, EcoVec};
 
 impl<const N: usize> SmallBytes<N> {
     /// Appends `byte`: inline where it fits, which is never refused, and else spilled. Spilled

@@ -6,7 +6,7 @@ ghost use Rattle.ecow_values.specs.Inline.{inline_after, inline_for};
 use crate::bytes::SmallBytes;
 use crate::form::Form;
 use ecow_base::MAX_LEN;
-use ecow_list::EcoError;
+use ecow_vec::EcoError;
 
 impl<const N: usize> SmallBytes<N> {
     /// The bytes `count` times over: inline where they come to at most `N`, which is never refused,

@@ -5,7 +5,7 @@ ghost use Rattle.ecow_bytes.specs.Rewrites.{Rewrites};
 
 use crate::bytes::SmallBytes;
 use crate::form::Form;
-use ecow_list::EcoError;
+use ecow_vec::EcoError;
 
 impl<const N: usize> SmallBytes<N> {
     /// Lends the bytes to `f` for writing, once, and keeps as many of them from the front as it

@@ -4,7 +4,7 @@ ghost use Rattle.ecow_nested.specs.Values.{len_of, part_of, fields_of, value_in,
 
 use crate::refusal::Refusal;
 use crate::value::{Field, Value};
-use ecow_text::EcoString;
+use ecow_string::EcoString;
 
 impl Value {
     /// How many items a list has, or how many fields there are; `None` where this is neither.

@@ -2,18 +2,18 @@
 ghost use Rattle.std.specs.Prelude.{◌≡◌};
 ghost use Rattle.std.specs.Option.{option_copied, option_map};
 ghost use Rattle.std.specs.Str.{encode_utf8_all};
-ghost use Rattle.ecow_store.specs.Reading.{bytes_under, list_under, text_under};
+ghost use Rattle.ecow_store.specs.Reading.{bytes_under, vec_under, text_under};
 
 use crate::store::{NamedValues, Stored};
-use ecow_keeping::values::{bytes_in, list_in, text_in};
 use ecow_model::Name;
+use ecow_named::values::{bytes_in, text_in, vec_in};
 
 impl<T, const N: usize> NamedValues<Stored<T, N>> {
     /// The list of a name; `None` where no list stands there. Takes no memory.
     pub fn get(&self, name: Name) -> Option<&[T]>
-        ensures { option_copied result ≡ list_under self.now name }
+        ensures { option_copied result ≡ vec_under self.now name }
     {
-        let list = list_in(self.values.get(name)?).ok()?;
+        let list = vec_in(self.values.get(name)?).ok()?;
         Some(list.as_slice())
     }
 

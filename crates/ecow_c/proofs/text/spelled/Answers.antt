@@ -1,5 +1,5 @@
 use Rattle.std.proofs.lemmas.Str.{is_utf8-from_IsUtf8}
-use Rattle.ecow_text.proofs.Texts.{not_utf8}
+use Rattle.ecow_string.proofs.Texts.{not_utf8}
 use Rattle.ecow_c.proofs.text.spelled.Goals as goal
 
 pub returns-in-Ok-clause-utf8 : goal.returns-in-Ok-clause-utf8

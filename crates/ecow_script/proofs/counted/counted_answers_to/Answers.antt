@@ -11,7 +11,7 @@ new_is_valid = record { sharing = nothing_shares; copied = omega arith; moved = 
 pub returns-clause-answers : goal.returns-clause-answers
 returns-clause-answers c =
     let read = c.in_ok-answers.ensures.answers in
-    let last : CountedState ℤ = c.answers_of.new.keeping in
+    let last : CountedState ℤ = c.answers_of.new.store in
     let new = c.new-counted.ensures in
     let is_new : c.new-counted.result ≡ new_table =
     λ i. record { names = new.names i; copied = new.copied i; moved = new.moved i } in (

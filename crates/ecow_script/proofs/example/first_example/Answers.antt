@@ -7,8 +7,8 @@ returns-clause-commands c = first_read
 pub returns-clause-answers : goal.returns-clause-answers
 returns-clause-answers c = first_answered
 
-pub returns-clause-list_commands : goal.returns-clause-list_commands
-returns-clause-list_commands c = first_counted_read
+pub returns-clause-vec_commands : goal.returns-clause-vec_commands
+returns-clause-vec_commands c = first_counted_read
 
 pub returns-clause-counted_answers : goal.returns-clause-counted_answers
 returns-clause-counted_answers c = first_counted

@@ -12,7 +12,7 @@ pieces-init g c = (
   [],
   sym (front_nil (commands_ahead g.C.Scripted.form c.new-rest.result)
       ∙ ap (commands_ahead g.C.Scripted.form) c.new-rest.ensures),
-  λ _. ([], g.K.Keeping.runs_none c.args.keeping.now, c.new-answers.ensures.bytes),
+  λ _. ([], g.K.NamedStore.runs_none c.args.store.now, c.new-answers.ensures.bytes),
 )
 
 pub pieces-preserved : goal.pieces-preserved
@@ -26,7 +26,7 @@ pieces-preserved g c =
           let more = c.run_piece-ran.ensures is in
           let before = done.2 more.1 in (
             before.0 ++ more.0,
-            g.K.Keeping.runs_on _ _ _ _ _ _ _ before.1 more.2,
+            g.K.NamedStore.runs_on _ _ _ _ _ _ _ before.1 more.2,
             more.3 ∙ ap (λ (bytes : List ℕ). bytes ++ answer_lines more.0) before.2
                 ∙ sym (flat_map-append answer_line before.0 more.0),
           ),

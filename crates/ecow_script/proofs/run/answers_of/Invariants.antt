@@ -11,7 +11,7 @@ invariant-pieces g l =
     (script_commands g.C.Scripted.form l.fn.script
     ≡ with_front done (commands_ahead g.C.Scripted.form l.rest))
     × (l.ran ≡ true →
-    (outcomes : List (Outcome ℤ)) × g.K.Keeping.runs l.fn.keeping done outcomes l.keeping ×
+    (outcomes : List (Outcome ℤ)) × g.K.NamedStore.runs l.fn.store done outcomes l.store ×
     (string_bytes l.answers ≡ answer_lines outcomes))
 
 abbrev pub decreases-pieces : goal.decreases-pieces

@@ -10,9 +10,9 @@ returns-clause-answers c =
     (λ answers h. (
       h.0,
       h.1,
-      c.answers_of.new.keeping,
+      c.answers_of.new.store,
       h.2,
-      subst (λ (s : State ℤ). Run 15 s h.0 h.1 c.answers_of.new.keeping) c.new-store.ensures h.3,
+      subst (λ (s : State ℤ). Run 15 s h.0 h.1 c.answers_of.new.store) c.new-store.ensures h.3,
       h.4,
     ))
     c.answers_of.ensures.answers

@@ -1,5 +1,5 @@
 use Rattle.ecow_laws.proofs.CallerLemmas.{other_lists_stay}
-use Rattle.ecow_model.specs.declared.lists.VecCommand.TheVariants.{Clone}
+use Rattle.ecow_model.specs.declared.vecs.VecCommand.TheVariants.{Clone}
 use Rattle.ecow_uses.proofs.settings.fork.Goals as goal
 
 pub returns-clause-others : goal.returns-clause-others

@@ -1,5 +1,5 @@
 use Rattle.ecow_laws.proofs.CallerLemmas.{other_lists_stay}
-use Rattle.ecow_model.specs.declared.lists.VecCommand.TheVariants.{Write}
+use Rattle.ecow_model.specs.declared.vecs.VecCommand.TheVariants.{Write}
 use Rattle.ecow_uses.proofs.settings.set.Goals as goal
 
 pub returns-clause-others : goal.returns-clause-others

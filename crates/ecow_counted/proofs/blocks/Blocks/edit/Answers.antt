@@ -3,8 +3,8 @@ use Rattle.std.specs.Prelude.{nat_lt, nat_le, vec_capacity}
 use Rattle.std.proofs.lemmas.Bool.{true≢false, le-ltb, cases_Bool}
 use Rattle.ecow_base.specs.Capacity.{MAX}
 use Rattle.ecow_base.specs.Clones.{ClonesAreEqual}
-use Rattle.ecow_model.specs.Costs.{unshares, copies, capacity_after, held_is_free}
-use Rattle.ecow_model.specs.CountedRun.{held_at}
+use Rattle.ecow_model.specs.Costs.{unshares, copies, capacity_after, holding_is_free}
+use Rattle.ecow_model.specs.CountedRun.{holding_at}
 use Rattle.ecow_model.specs.Names.{is_shared}
 use Rattle.ecow_model.specs.declared.usage.Usage.TheVariants.{Edit}
 use Rattle.ecow_counted.specs.Edits.{asked_length, staying, spare_room, taken_out, takes_spare}
@@ -16,7 +16,7 @@ use Rattle.ecow_counted.proofs.blocks.Blocks.edit.Goals.{else-size-gt1-via-then-
 pub capacity-requires-clause-asked : goal.capacity-requires-clause-asked
 capacity-requires-clause-asked g c =
     let names = c.args.self.now.names in
-    let h = held_at names c.args.name in
+    let h = holding_at names c.args.name in
     let found = found_size names c.args.name c.in-Some.size (sym c.in-Some.is ∙ c.size.ensures.size) in
     let len = ap (λ s. s.len) found.1 in
     let fits : length h.items ≤ MAX = omega (arith, len, c.in-Some.ensures.bounds.0, c.in-Some.ensures.bounds.1) in
@@ -26,7 +26,7 @@ capacity-requires-clause-asked g c =
 pub returns-in_default-new-clause-carried : goal.returns-in_default-new-clause-carried
 returns-in_default-new-clause-carried g c =
     let names = c.args.self.now.names in
-    let h = held_at names c.args.name in
+    let h = holding_at names c.args.name in
     let found = found_size names c.args.name c.in-Some.size (sym c.in-Some.is ∙ c.size.ensures.size) in
     let asked = sym (c.check.ensures h.items (sym (ap (λ s. s.len) found.1))) ∙ c.in_default-check.is in
     rw c.still-in_default-new.ensures (edit_memory (ClonesAreEqual g.T.Clone.is_clone) names c.args.name c.args.edit h found.0 asked (spare_not_free h (found_fits h found.1 c.in-Some.ensures.bounds.0) c.args.edit
@@ -35,7 +35,7 @@ returns-in_default-new-clause-carried g c =
 pub returns-in_default-own-clause-carried : goal.returns-in_default-own-clause-carried
 returns-in_default-own-clause-carried g c =
     let names = c.args.self.now.names in
-    let h = held_at names c.args.name in
+    let h = holding_at names c.args.name in
     let found = found_size names c.args.name c.in-Some.size (sym c.in-Some.is ∙ c.size.ensures.size) in
     let len = ap (λ s. s.len) found.1 in
     let capacity = ap (λ s. s.capacity) found.1 in
@@ -48,12 +48,12 @@ returns-in_default-own-clause-carried g c =
     ] in
     rw c.still-in_default-own.ensures (same_carried (ClonesAreEqual g.T.Clone.is_clone) names (Edit c.args.name c.args.edit) _ _ c.in_default-own.ensures.unchanged
     (edit_memory (ClonesAreEqual g.T.Clone.is_clone) names c.args.name c.args.edit h found.0 asked
-    (⊎_elim (λ t. absurd (refused_is c.own.result c.in_default-own.field-0 c.in_default-own.is (c.own.ensures.free (wanted ∙ free_keeps h (found_fits h found.1 c.in-Some.ensures.bounds.0) c.args.edit leaves t)))) (λ f. f) (cases_Bool (held_is_free c.args.edit h)))))
+    (⊎_elim (λ t. absurd (refused_is c.own.result c.in_default-own.field-0 c.in_default-own.is (c.own.ensures.free (wanted ∙ free_keeps h (found_fits h found.1 c.in-Some.ensures.bounds.0) c.args.edit leaves t)))) (λ f. f) (cases_Bool (holding_is_free c.args.edit h)))))
 
 pub apply-outcome-requires-clause-asked : goal.apply-outcome-requires-clause-asked
 apply-outcome-requires-clause-asked g c =
     let names = c.args.self.now.names in
-    let h = held_at names c.args.name in
+    let h = holding_at names c.args.name in
     let found = found_size names c.args.name c.in-Some.size (sym c.in-Some.is ∙ c.size.ensures.size) in
     let len = ap (λ s. s.len) found.1 in
     let copied = c.copies.ensures.copies ∙ ap (copies c.args.edit) len in
@@ -62,7 +62,7 @@ apply-outcome-requires-clause-asked g c =
 pub apply-outcome-requires-clause-places : goal.apply-outcome-requires-clause-places
 apply-outcome-requires-clause-places g c =
     let names = c.args.self.now.names in
-    let h = held_at names c.args.name in
+    let h = holding_at names c.args.name in
     let found = found_size names c.args.name c.in-Some.size (sym c.in-Some.is ∙ c.size.ensures.size) in
     let len = ap (λ s. s.len) found.1 in
     let copied = c.copies.ensures.copies ∙ ap (copies c.args.edit) len in
@@ -72,7 +72,7 @@ apply-outcome-requires-clause-places g c =
 pub apply-outcome-requires-clause-answer : goal.apply-outcome-requires-clause-answer
 apply-outcome-requires-clause-answer g c =
     let names = c.args.self.now.names in
-    let h = held_at names c.args.name in
+    let h = holding_at names c.args.name in
     let found = found_size names c.args.name c.in-Some.size (sym c.in-Some.is ∙ c.size.ensures.size) in
     let len = ap (λ s. s.len) found.1 in
     let copied = c.copies.ensures.copies ∙ ap (copies c.args.edit) len in
@@ -82,7 +82,7 @@ apply-outcome-requires-clause-answer g c =
 pub returns-clause-carried : goal.returns-clause-carried
 returns-clause-carried g c =
     let names = c.args.self.now.names in
-    let h = held_at names c.args.name in
+    let h = holding_at names c.args.name in
     let found = found_size names c.args.name c.in-Some.size (sym c.in-Some.is ∙ c.size.ensures.size) in
     let len = ap (λ s. s.len) found.1 in
     let capacity = ap (λ s. s.capacity) found.1 in

@@ -6,7 +6,7 @@ use Rattle.ecow_model.specs.Refusing.{OnRefused}
 use Rattle.ecow_model.specs.declared.command.Outcome.{Outcome}
 use Rattle.ecow_model.specs.declared.command.Outcome.TheVariants.{Refused}
 use Rattle.ecow_model.specs.declared.command.Refusal.TheVariants.{Taken}
-use Rattle.ecow_model.specs.declared.lists.VecCommand.TheVariants.{New, Push}
+use Rattle.ecow_model.specs.declared.vecs.VecCommand.TheVariants.{New, Push}
 use Rattle.ecow_counted.specs.Filling.{IsRunOf, filling, accepted}
 use Rattle.ecow_counted.specs.State.{CountedState}
 use Rattle.ecow_counted.proofs.Filling.{next_of, accepted_more, filling_more, runs_one, runs_more, begins, pushes, moves_at_most, not_refused_by, is_taken, refusal_in}

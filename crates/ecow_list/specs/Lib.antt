@@ -1,6 +1,0 @@
-pub mod Edits
-pub mod IntoArray
-pub mod Lends
-pub mod Ranges
-pub mod Vectors
-pub mod formers

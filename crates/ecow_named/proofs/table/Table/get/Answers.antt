@@ -1,0 +1,20 @@
+use Rattle.std.proofs.Common.{ap, sym, ◌∙◌, None, get_or}
+use Rattle.std.specs.FinMap as map
+use Rattle.std.proofs.lemmas.List.{get_or_past}
+use Rattle.ecow_named.proofs.Maps.{get-slot, get-entry}
+use Rattle.ecow_named.proofs.table.Table.get.Goals as goal
+
+pub returns-in-Some : goal.returns-in-Some
+returns-in-Some g c =
+    c.as_ref.ensures.value ∙ c.in-Some.ensures.lookup.3.1 None ∙ ap (λ s. get_or s c.args.name None) c.as_slice.ensures.value
+    ∙ sym (get-slot c.self.inside.slots.items c.self.inside.others.entries c.args.name c.if-name-lt-SLOTS.true) ∙ ap (λ m. map.get m c.args.name) c.self.view_is
+
+pub returns-in-None : goal.returns-in-None
+returns-in-None g c =
+    sym (get_or_past c.as_slice.result.now c.args.name None c.in-None.ensures.lookup.3) ∙ ap (λ s. get_or s c.args.name None) c.as_slice.ensures.value
+    ∙ sym (get-slot c.self.inside.slots.items c.self.inside.others.entries c.args.name c.if-name-lt-SLOTS.true) ∙ ap (λ m. map.get m c.args.name) c.self.view_is
+
+pub returns-else-name-lt-SLOTS : goal.returns-else-name-lt-SLOTS
+returns-else-name-lt-SLOTS g c =
+    c.get-else-name-lt-SLOTS.ensures.value
+    ∙ sym (get-entry c.self.inside.slots.items c.self.inside.others.entries c.args.name c.if-name-lt-SLOTS.false) ∙ ap (λ m. map.get m c.args.name) c.self.view_is

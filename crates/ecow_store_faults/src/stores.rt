@@ -1,0 +1,490 @@
+//! The commands of both stores, each in each state of its value. The test keeps the same names
+//! by itself, and compares.
+use crate::model::{Entry, Model, Want};
+use crate::orders::{Kind, Order, Verb, command, vec_command};
+use ecow_counted::Counted;
+use ecow_faults::steps::{Row, Word, step_of};
+use ecow_faults::watch::Watch;
+use ecow_faults::{bytes, texts, vectors};
+use ecow_model::{BytesCommand, Command, Outcome, Refusal, TextCommand, VecCommand};
+use ecow_store::SmallStore;
+use ecow_vec::EcoError;
+use std::alloc::{AllocError, Global};
+
+const NAMES: [u32; 4] = [0, 1, 2, 3];
+
+/// What a store says of its blocks.
+type Account = [(Option<usize>, Option<usize>); 4];
+
+/// What a run of several commands came to.
+pub(crate) enum Run {
+    /// The test itself lacks memory for the commands.
+    Lacking,
+    /// Why, and how many commands came back.
+    Refused(EcoError, usize),
+    Done(Vec<Outcome<i64>>),
+}
+
+/// A store of named values.
+pub(crate) trait NamedStore: Drop {
+    fn start(alloc: Global) -> Self;
+
+    /// How many bytes stand inline.
+    fn limit() -> usize;
+
+    /// Carries a command out; `None` where the store has no such one.
+    fn carry_out(
+        &mut self,
+        alloc: Global,
+        order: &Order,
+    ) -> Result<Option<Outcome<i64>>, AllocError>;
+
+    fn run_orders(&mut self, alloc: Global, orders: &[Order]) -> Run;
+
+    /// For how many items there is room under a name, and how many names share it, where a store
+    /// tells that.
+    fn room(&mut self, name: u32) -> (Option<usize>, Option<usize>);
+
+    /// Whether the room is as the test keeps it.
+    fn has_room(&mut self, name: u32, model: &Model, held: &Entry) -> bool;
+
+    fn is_held(&mut self, name: u32, held: &Entry) -> bool;
+
+    /// Whether the number of blocks and both totals are as the test keeps them.
+    fn has_totals(&self, model: &Model) -> bool;
+}
+
+fn commands(alloc: Global, orders: &[Order]) -> Result<Vec<Command<i64>>, AllocError> {
+    let mut commands = Vec::new(alloc);
+    for order in orders {
+        if let Some(command) = command(alloc, order)? {
+            commands.push(command)?;
+        }
+    }
+    Ok(commands)
+}
+
+fn vec_commands(alloc: Global, orders: &[Order]) -> Result<Vec<VecCommand<i64>>, AllocError> {
+    let mut commands = Vec::new(alloc);
+    for order in orders {
+        if let Some(command) = vec_command(alloc, order)? {
+            commands.push(command)?;
+        }
+    }
+    Ok(commands)
+}
+
+fn count_of(outcome: Outcome<i64>) -> Option<usize> {
+    match outcome {
+        Outcome::Count(count) => Some(count),
+        _ => None,
+    }
+}
+
+fn flag_of(outcome: Outcome<i64>) -> Option<bool> {
+    match outcome {
+        Outcome::Flag(flag) => Some(flag),
+        _ => None,
+    }
+}
+
+impl<const N: usize> NamedStore for SmallStore<i64, N> {
+    fn start(alloc: Global) -> Self {
+        SmallStore::new(alloc)
+    }
+
+    fn limit() -> usize {
+        N
+    }
+
+    fn carry_out(
+        &mut self,
+        alloc: Global,
+        order: &Order,
+    ) -> Result<Option<Outcome<i64>>, AllocError> {
+        match command(alloc, order)? {
+            Some(command) => Ok(Some(self.step(command))),
+            None => Ok(None),
+        }
+    }
+
+    fn run_orders(&mut self, alloc: Global, orders: &[Order]) -> Run {
+        let Ok(commands) = commands(alloc, orders) else {
+            return Run::Lacking;
+        };
+        match self.run(commands) {
+            Ok(outcomes) => Run::Done(outcomes),
+            Err(rejected) => Run::Refused(rejected.error, rejected.value.len()),
+        }
+    }
+
+    fn room(&mut self, name: u32) -> (Option<usize>, Option<usize>) {
+        let list = count_of(self.step(Command::Vec(VecCommand::Capacity { name })));
+        let bytes = count_of(self.step(Command::Bytes(BytesCommand::Capacity { name })));
+        let text = count_of(self.step(Command::Text(TextCommand::Capacity { name })));
+        (list.or(bytes).or(text), None)
+    }
+
+    /// The room over `Rc` is what fits at least, and inline the limit.
+    fn has_room(&mut self, name: u32, model: &Model, held: &Entry) -> bool {
+        let (room, _) = self.room(name);
+        let Some(room) = room else {
+            return false;
+        };
+        if held.inline {
+            return room == N;
+        }
+        let unique = flag_of(self.step(Command::Vec(VecCommand::Unique { name })));
+        let is_unique = held.kind != Kind::List || unique == Some(!model.is_shared(held));
+        room >= held.items.len() && is_unique
+    }
+
+    fn is_held(&mut self, name: u32, held: &Entry) -> bool {
+        match held.kind {
+            Kind::List => match self.get(name) {
+                Some(items) => held.items.is(items),
+                None => false,
+            },
+            Kind::Bytes => {
+                let inline = flag_of(self.step(Command::Bytes(BytesCommand::IsInline { name })));
+                match self.get_bytes(name) {
+                    Some(bytes) => held.items.is_bytes(bytes) && inline == Some(held.inline),
+                    None => false,
+                }
+            }
+            Kind::Text => {
+                let inline = flag_of(self.step(Command::Text(TextCommand::IsInline { name })));
+                match self.get_str(name) {
+                    Some(text) => {
+                        held.items.is_bytes(text.as_bytes()) && inline == Some(held.inline)
+                    }
+                    None => false,
+                }
+            }
+        }
+    }
+
+    fn has_totals(&self, _model: &Model) -> bool {
+        true
+    }
+}
+
+impl NamedStore for Counted<i64> {
+    fn start(alloc: Global) -> Self {
+        Counted::new(alloc)
+    }
+
+    fn limit() -> usize {
+        0
+    }
+
+    /// Every second name is given by `share`, which is the command `Clone`.
+    fn carry_out(
+        &mut self,
+        alloc: Global,
+        order: &Order,
+    ) -> Result<Option<Outcome<i64>>, AllocError> {
+        if order.kind != Kind::List {
+            return Ok(None);
+        }
+        if order.verb == Verb::Clone && order.count > 0 {
+            return Ok(Some(self.share(order.name, order.to)));
+        }
+        match vec_command(alloc, order)? {
+            Some(command) => Ok(Some(self.step(command))),
+            None => Ok(None),
+        }
+    }
+
+    fn run_orders(&mut self, alloc: Global, orders: &[Order]) -> Run {
+        let Ok(commands) = vec_commands(alloc, orders) else {
+            return Run::Lacking;
+        };
+        match self.run(commands) {
+            Ok(outcomes) => Run::Done(outcomes),
+            Err(rejected) => Run::Refused(rejected.error, rejected.value.len()),
+        }
+    }
+
+    fn room(&mut self, name: u32) -> (Option<usize>, Option<usize>) {
+        (self.capacity(name), self.owners(name))
+    }
+
+    fn has_room(&mut self, name: u32, model: &Model, held: &Entry) -> bool {
+        let owners = model.owners(held);
+        let owned = if owners > 0 { Some(owners) } else { None };
+        self.room(name) == (Some(held.capacity), owned) && self.is_unique(name) == Some(owners <= 1)
+    }
+
+    fn is_held(&mut self, name: u32, held: &Entry) -> bool {
+        match self.get(name) {
+            Some(items) => held.items.is(items),
+            None => false,
+        }
+    }
+
+    fn has_totals(&self, model: &Model) -> bool {
+        self.blocks() == model.blocks()
+            && self.copied() == model.copied
+            && self.moved() == model.moved
+    }
+}
+
+fn account<K: NamedStore>(store: &mut K) -> Account {
+    [store.room(0), store.room(1), store.room(2), store.room(3)]
+}
+
+/// Whether the store has under each name what the test keeps there.
+pub(crate) fn agrees<K: NamedStore>(store: &mut K, model: &Model) -> bool {
+    let mut hold = store.has_totals(model);
+    for name in NAMES {
+        hold = hold
+            && match model.held(name) {
+                Some(held) => { store.is_held(name, &held) && store.has_room(name, model, &held) }
+                None => store.room(name) == (None, None),
+            };
+    }
+    hold
+}
+
+fn lacks_memory(outcome: &Outcome<i64>) -> bool {
+    matches!(outcome, Outcome::Refused(Refusal::Memory))
+}
+
+/// Whether an outcome is what the command is to answer. `room` is the room under the name.
+pub(crate) fn fits(want: &Want, outcome: &Outcome<i64>, limit: usize, room: Option<usize>) -> bool {
+    match (want, outcome) {
+        (Want::Done, Outcome::Done) => true,
+        (Want::Item(item), Outcome::Element(element)) => *item == *element,
+        (Want::Item(item), Outcome::Byte(byte)) => *item == i64::from(*byte),
+        (Want::Item(item), Outcome::Char(c)) => *item == i64::from(u32::from(*c)),
+        (Want::Items(items), Outcome::Elements(elements)) => items.is(elements.as_slice()),
+        (Want::Items(items), Outcome::Bytes(bytes)) => items.is_bytes(bytes.as_slice()),
+        (Want::Items(items), Outcome::Text(text)) => items.is_bytes(text.as_str().as_bytes()),
+        (Want::Count(count), Outcome::Count(counted)) => *count == *counted,
+        (Want::Room(held), Outcome::Count(counted)) if held.inline => *counted == limit,
+        (Want::Room(_), Outcome::Count(counted)) => Some(*counted) == room,
+        (Want::Flag(flag), Outcome::Flag(said)) => *flag == *said,
+        (Want::Refused(refusal), Outcome::Refused(said)) => *refusal == *said,
+        (Want::Popped(item), popped) => is_popped(*item, popped),
+        _ => false,
+    }
+}
+
+fn is_popped(item: Option<i64>, outcome: &Outcome<i64>) -> bool {
+    match outcome {
+        Outcome::Popped(popped) => *popped == item,
+        Outcome::PoppedByte(None) => item.is_none(),
+        Outcome::PoppedByte(Some(byte)) => item == Some(i64::from(*byte)),
+        Outcome::PoppedChar(None) => item.is_none(),
+        Outcome::PoppedChar(Some(c)) => item == Some(i64::from(u32::from(*c))),
+        _ => false,
+    }
+}
+
+/// Carries a command out, again where memory was refused; says whether all is then as it is to be.
+/// `None` where the test itself lacks memory.
+fn order_holds<K: NamedStore>(
+    alloc: Global,
+    watch: &Watch,
+    store: &mut K,
+    model: &mut Model,
+    order: &Order,
+) -> Option<bool> {
+    let mut next = *model;
+    let Some(want) = next.carry_out(order) else {
+        return Some(true);
+    };
+    let before = account(store);
+    let (room, _) = store.room(order.name);
+    let Some(outcome) = store.carry_out(alloc, order).ok()? else {
+        return Some(true);
+    };
+    let mut outcome = outcome;
+    if lacks_memory(&outcome) {
+        let is_free = model.is_free(order, room.unwrap_or(0));
+        let is_refused = matches!(&want, Want::Refused(_));
+        if is_free || is_refused || !watch.may_refuse() {
+            return Some(false);
+        }
+        if account(store) != before || !agrees(store, model) {
+            return Some(false);
+        }
+        match store.carry_out(alloc, order).ok()? {
+            Some(again) => outcome = again,
+            None => return Some(false),
+        }
+    }
+    if !matches!(&want, Want::Refused(_)) {
+        *model = next;
+    }
+    Some(fits(&want, &outcome, K::limit(), room) && agrees(store, model))
+}
+
+/// Carries commands out, one by one, on a new store.
+pub(crate) fn orders_hold<K: NamedStore>(alloc: Global, watch: &Watch, orders: &[Order]) -> bool {
+    let mut store = K::start(alloc);
+    let mut model = Model::new(K::limit());
+    for order in orders {
+        match order_holds(alloc, watch, &mut store, &mut model, order) {
+            Some(true) => {}
+            Some(false) => return false,
+            None => return watch.may_refuse(),
+        }
+    }
+    true
+}
+
+/// The commands that make a value in the state with a number.
+fn setup(kind: Kind, state: usize, limit: usize) -> [Order; 3] {
+    let (verb, count) = match (kind, state) {
+        (_, 0) => (Verb::New, 0),
+        (Kind::List, 1) => (Verb::WithCapacity, 3),
+        (Kind::List, 2) => (Verb::WithCapacity, 8),
+        (Kind::List, _) => (Verb::FromItems, 4),
+        (_, 1) => (Verb::FromItems, limit.saturating_sub(1)),
+        (_, 2) => (Verb::FromItems, limit),
+        (_, 3) => (Verb::FromItems, limit.saturating_add(5)),
+        (_, 4) => (Verb::WithCapacity, limit.saturating_add(8)),
+        _ => return spilled(kind, limit),
+    };
+    let none = Order::of(kind, Verb::Len, 3, 0);
+    let filled = match (kind, state) {
+        (Kind::List, 2) => extended(kind, 4),
+        (Kind::Bytes | Kind::Text, 4) => extended(kind, limit.min(12)),
+        _ => none,
+    };
+    [Order::of(kind, verb, 0, count), filled, none]
+}
+
+fn extended(kind: Kind, count: usize) -> Order {
+    let mut order = Order::of(kind, Verb::Edit(Word::Extend), 0, count);
+    order.start = 0;
+    order
+}
+
+/// Spilled bytes that would fit inline, or the text of such.
+fn spilled(kind: Kind, limit: usize) -> [Order; 3] {
+    let none = Order::of(kind, Verb::Len, 3, 0);
+    if kind == Kind::Bytes {
+        return [Order::of(kind, Verb::FromEcoVec, 0, limit), none, none];
+    }
+    let bytes = Order::of(Kind::Bytes, Verb::FromEcoVec, 3, limit);
+    let mut text = Order::of(Kind::Text, Verb::FromOther, 3, 0);
+    text.to = 0;
+    [bytes, text, Order::of(Kind::Bytes, Verb::Drop, 3, 0)]
+}
+
+/// Makes values in each state, shared or not, and carries one command out on each.
+pub(crate) fn kind_holds<K: NamedStore>(alloc: Global, watch: &Watch, kind: Kind) -> bool {
+    let (states, rows) = match kind {
+        Kind::List => (4, vectors::STEPS.as_slice()),
+        Kind::Bytes => (6, bytes::STEPS.as_slice()),
+        Kind::Text => (6, texts::STEPS.as_slice()),
+    };
+    let mut hold = true;
+    for state in 0..states {
+        for shared in [false, true] {
+            // An inline value shares nothing.
+            if shared && kind != Kind::List && state < 3 {
+                continue;
+            }
+            hold = state_holds::<K>(alloc, watch, (kind, state, shared), rows) && hold;
+        }
+    }
+    hold
+}
+
+fn state_holds<K: NamedStore>(
+    alloc: Global,
+    watch: &Watch,
+    made: (Kind, usize, bool),
+    rows: &[Row],
+) -> bool {
+    let (kind, _, _) = made;
+    let mut hold = true;
+    for row in rows {
+        if is_command(kind, row) {
+            let mut order = Order::edit(kind, step_of(row));
+            if row.0 == Word::Retain {
+                order.count = 4;
+            }
+            hold = case_holds::<K>(alloc, watch, made, order) && hold;
+        }
+    }
+    for (verb, count) in OTHERS {
+        hold = case_holds::<K>(alloc, watch, made, Order::of(kind, verb, 0, count)) && hold;
+    }
+    hold
+}
+
+/// The commands that don't change a value, and those that make another of it.
+const OTHERS: [(Verb, usize); 17] = [
+    (Verb::Read, 0),
+    (Verb::Len, 0),
+    (Verb::Contents, 0),
+    (Verb::Capacity, 0),
+    (Verb::Unique, 0),
+    (Verb::IsInline, 0),
+    (Verb::Clone, 0),
+    (Verb::Clone, 1),
+    (Verb::Drop, 0),
+    (Verb::New, 0),
+    (Verb::Repeat, 0),
+    (Verb::Repeat, 1),
+    (Verb::Repeat, 2),
+    (Verb::Replace, 9),
+    (Verb::ToUpper, 0),
+    (Verb::ToLower, 0),
+    (Verb::FromOther, 0),
+];
+
+/// Whether a row says a command; of those that bring several items the shortest and the longest
+/// do.
+fn is_command(kind: Kind, row: &Row) -> bool {
+    let (word, _, _, count) = *row;
+    match word {
+        Word::MakeMut | Word::Rewrite => false,
+        Word::ExtendEach | Word::ExtendPieces | Word::Put => false,
+        Word::Reserve | Word::InsertSlice => kind == Kind::List || count != 2,
+        _ => true,
+    }
+}
+
+/// Makes a value in a state, and carries a command out on it.
+fn case_holds<K: NamedStore>(
+    alloc: Global,
+    watch: &Watch,
+    made: (Kind, usize, bool),
+    order: Order,
+) -> bool {
+    let (kind, state, shared) = made;
+    let [first, second, third] = setup(kind, state, K::limit());
+    let mut twin = Order::of(kind, Verb::Len, 3, 0);
+    if shared {
+        twin = Order::of(kind, Verb::Clone, 0, state % 2);
+        twin.to = 1;
+    }
+    orders_hold::<K>(alloc, watch, &[first, second, third, twin, order])
+}
+
+/// The makers, at lengths about the inline limit.
+pub(crate) fn makers_hold<K: NamedStore>(alloc: Global, watch: &Watch, kind: Kind) -> bool {
+    let mut hold = true;
+    let limit = K::limit();
+    for verb in [
+        Verb::New,
+        Verb::TryInline,
+        Verb::WithCapacity,
+        Verb::FromItems,
+        Verb::FromElem,
+        Verb::FromEcoVec,
+        Verb::FromChar,
+    ] {
+        for count in [0, limit, limit.saturating_add(1), limit.saturating_add(7)] {
+            let order = Order::of(kind, verb, 0, count);
+            hold = orders_hold::<K>(alloc, watch, &[order]) && hold;
+        }
+    }
+    hold
+}

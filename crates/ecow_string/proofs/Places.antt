@@ -1,0 +1,31 @@
+-- What stands at a byte index of a text, for those who test an index before they call `remove` or `truncate`.
+use Rattle.std.proofs.Common.{◌≡◌, ℕ, ◌<◌, ◌≤◌, Bool, true, false, List, length, take, get_or, Some, None, refl, sym, ap, ◌∙◌, arith, inl, inr}
+use Rattle.std.specs.Prelude.{slice_get, nat_lt, ◌||◌}
+use Rattle.std.proofs.lemmas.List.{take_all}
+use Rattle.std.proofs.lemmas.Bool.{cases_lt, le-ltb}
+use Rattle.std.proofs.lemmas.Option.{slice_get_past, slice_get-get_or}
+use Rattle.ecow_values.specs.Utf8.{utf8_len, chars_before, is_boundary}
+use Rattle.ecow_values.proofs.Boundaries.{chars_before-front, passes_boundary}
+use Rattle.ecow_string.proofs.Texts.{chars_before-past}
+
+-- no character stands at the end or past it
+pub nothing_at_end : (cs : List ℕ) (index : ℕ) → utf8_len cs ≤ index → slice_get cs (chars_before cs index) ≡ None
+nothing_at_end cs index past = slice_get_past cs (chars_before cs index) (chars_before-past cs index past)
+
+-- at a boundary below the length stands one
+pub char_at_boundary : (cs : List ℕ) (index : ℕ) → is_boundary cs index ≡ true → index < utf8_len cs → (c : ℕ) × (slice_get cs (chars_before cs index) ≡ Some c)
+char_at_boundary cs index passes below =
+    let at = passes_boundary cs index passes in
+    let place : chars_before cs index ≡ at.front = rw at.ends at (chars_before-front cs at.front at.fits) in
+    elim (cases_lt at.front (length cs)) [
+      | inl within ↦ rw place (get_or cs at.front 0, slice_get-get_or cs at.front 0 within)
+      | inr past ↦ (let whole : utf8_len (take at.front cs) ≡ utf8_len cs = ap utf8_len (take_all at.front cs (omega arith)) in absurd (omega (arith, whole, at.ends)))
+    ]
+
+-- what `truncate` asks, where a boundary was tested first and the end then
+pub may_cut : (cs : List ℕ) (index : ℕ) → (is_boundary cs index || nat_lt (utf8_len cs) index) ≡ true → index ≤ utf8_len cs → is_boundary cs index ≡ true
+may_cut cs index tested within = by_test (is_boundary cs index) (nat_lt (utf8_len cs) index) (le-ltb (utf8_len cs) index within) tested
+  where
+    by_test : (a b : Bool) → b ≡ false → (a || b) ≡ true → a ≡ true
+    by_test true b f t = refl
+    by_test false b f t = sym f ∙ t

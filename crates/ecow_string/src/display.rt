@@ -1,0 +1,79 @@
+//! Texts that are printed, and printing to a text.
+ghost use Rattle.std.specs.Prelude.{◌≡◌, ◌++◌, length, Some, IsOk, IfOk, IfSome, OnOk, OnErr, true, false};
+ghost use Rattle.std.specs.Str.{chars, encode_utf8_all};
+ghost use Rattle.ecow_values.specs.Inline.{inline_after, inline_for};
+ghost use Rattle.ecow_values.specs.Utf8.{utf8_len};
+
+use crate::string::{EcoString, SmallString};
+use std::alloc::Global;
+use std::fmt;
+use std::fmt::{Display, Write};
+
+/// Prints the text, padded and cut as a `str` is.
+impl<const N: usize> fmt::Display for SmallString<N> {
+    ghost output = { λ t. Some (encode_utf8_all t.chars) };
+
+    fn fmt<W: fmt::Write>(&self, f: &mut fmt::Formatter<W>) -> fmt::Result {
+        f.pad(self.as_str())
+    }
+}
+
+/// What is written is appended: a whole piece, or the error and nothing.
+impl<const N: usize> fmt::Write for SmallString<N> {
+    ghost write_str_gives = { λ old bytes new. encode_utf8_all new.chars
+        ≡ encode_utf8_all old.chars ++ bytes };
+
+    fn write_str(&mut self, text: &str) -> fmt::Result
+        ensures ok { IsOk result → encode_utf8_all self.new.chars ≡ encode_utf8_all self.old.chars
+            ++ text.now }
+        ensures chars { OnOk result (self.new.chars ≡ self.old.chars ++ chars text.now) }
+        ensures mode { OnOk result
+            (self.new.inline ≡ inline_after N self.old.inline (utf8_len self.old.chars)
+            (length text.now)) }
+        ensures unchanged { OnErr result (self.new ≡ self.old) }
+        ensures free { OnErr result (inline_after N self.old.inline (utf8_len self.old.chars)
+            (length text.now) ≡ false) }
+    {
+        match self.push_str(text) {
+            Ok(()) => Ok(()),
+            Err(_) => Err(fmt::Error),
+        }
+    }
+}
+
+impl<const N: usize> SmallString<N> {
+    /// The text that a value prints: inline where it has at most `N` bytes, and else spilled. The
+    /// error is the value's own, or tells that there was no memory for the text or that it passes
+    /// 2^63 - 1 bytes.
+    ///
+    /// `eco_format!` calls it.
+    pub fn format<T: Display + Drop>(alloc: Global, value: T) -> Result<Self, fmt::Error>
+        ensures text { IfOk result
+            (λ made. IfSome (T.output value) (λ bytes. encode_utf8_all made.chars ≡ bytes)) }
+        ensures mode { IfOk result (λ made. made.inline ≡ inline_for N (utf8_len made.chars)) }
+    {
+        let mut made = Self::new(alloc);
+        made.write(value)?;
+        // For the proof alone: an inline text has at most `N` bytes.
+        let _len = made.len();
+        made.shrink_to_fit();
+        Ok(made)
+    }
+}
+
+/// Texts of what values print.
+pub trait ToEcoString: Display {
+    /// The text that the value prints: inline where it has at most 15 bytes, and else spilled. The
+    /// error is the value's own, or tells that there was no memory for the text or that it passes
+    /// 2^63 - 1 bytes.
+    fn to_eco_string(&self, alloc: Global) -> Result<EcoString, fmt::Error>
+        ensures text { IfOk result
+            (λ made. IfSome (Self.output self.now) (λ bytes. encode_utf8_all made.chars ≡ bytes)) }
+        ensures mode { IfOk result (λ made. made.inline ≡ inline_for 15 (utf8_len made.chars)) };
+}
+
+impl<T: Display> ToEcoString for T {
+    fn to_eco_string(&self, alloc: Global) -> Result<EcoString, fmt::Error> {
+        EcoString::format(alloc, self)
+    }
+}

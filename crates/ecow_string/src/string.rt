@@ -1,0 +1,136 @@
+//! `SmallString`, and `EcoString`, its name for 15 bytes.
+ghost use Rattle.std.specs.Prelude.{◌≡◌, ◌≤◌, ◌==◌, [], length, true, false};
+ghost use Rattle.std.specs.Str.{chars, encode_utf8_all};
+ghost use Rattle.ecow_values.specs.Utf8.{utf8_len, is_boundary};
+ghost use Rattle.ecow_string.specs.Text.{AreChars};
+
+mod case;
+mod collect;
+mod conversions;
+mod edits;
+mod make;
+mod push;
+mod repeat;
+mod replace;
+
+use ecow_base::MAX_LEN;
+use ecow_bytes::SmallBytes;
+use std::alloc::{AllocError, Global};
+use std::marker::Model;
+use std::str;
+
+/// Text: its UTF-8 bytes are inline, in the value itself, where they are at most `N`, or spilled,
+/// in a vector whose block clones share until one of them is written to.
+///
+/// A text that comes to more than `N` bytes, or gets room for more, spills. A spilled one stays
+/// spilled, however short it becomes: `shrink_to_fit` alone brings it back. Equality, order and
+/// hash see the text and not where it stands.
+///
+/// Lengths and indices are numbers of bytes. An index is a boundary where a character begins or the
+/// text ends.
+#[derive(Drop)]
+pub struct SmallString<const N: usize> {
+    pub(crate) bytes: SmallBytes<N>,
+}
+
+/// Text of which at most 15 bytes stand in the value itself.
+pub type EcoString = SmallString<15>;
+
+impl<const N: usize> Model for SmallString<N> {
+    ghost use Rattle.ecow_values.specs.Plain.{text_of};
+    ghost use Rattle.ecow_values.specs.declared.plain.PlainText.{PlainText};
+    ghost use Rattle.ecow_string.specs.Text.{AreUtf8};
+
+    ghost Value = { PlainText };
+
+    ghost view = { λ t. text_of t.bytes };
+
+    ghost invariant = { λ t. AreUtf8 t.bytes.bytes };
+}
+
+impl<const N: usize> SmallString<N> {
+    /// The greatest number of bytes that stand in the value itself.
+    pub const INLINE_LIMIT: usize = N;
+
+    /// No text, inline. Takes no memory.
+    pub fn new(alloc: Global) -> Self
+        ensures chars { result.chars ≡ [] }
+        ensures mode { result.inline ≡ true }
+    {
+        SmallString {
+            bytes: SmallBytes::new(alloc),
+        }
+    }
+
+    /// The text.
+    #[inline]
+    pub fn as_str(&self) -> &str
+        ensures bytes { result.now ≡ encode_utf8_all self.now.chars }
+        ensures chars { chars result.now ≡ self.now.chars }
+        ensures valid { AreChars self.now.chars }
+    {
+        unsafe { str::from_utf8_unchecked(self.bytes.as_slice()) }
+    }
+
+    /// The number of bytes.
+    #[inline]
+    pub fn len(&self) -> usize
+        ensures len { result ≡ utf8_len self.now.chars }
+        ensures bounded { result ≤ MAX_LEN }
+        ensures fits { self.now.inline ≡ true → result ≤ N }
+        ensures valid { AreChars self.now.chars }
+    {
+        self.bytes.len()
+    }
+
+    /// Whether there is no character.
+    pub fn is_empty(&self) -> bool
+        ensures { result ≡ (length self.now.chars == 0) }
+    {
+        self.bytes.is_empty()
+    }
+
+    /// Whether the bytes stand in the value itself.
+    pub fn is_inline(&self) -> bool
+        ensures { result ≡ self.now.inline }
+    {
+        self.bytes.is_inline()
+    }
+
+    /// For how many bytes there is room, never fewer than there are: the limit where they are
+    /// inline.
+    pub fn capacity(&self) -> usize
+        ensures room { utf8_len self.now.chars ≤ result }
+        ensures bounded { result ≤ MAX_LEN }
+        ensures inline { self.now.inline ≡ true → result ≡ N }
+    {
+        self.bytes.capacity()
+    }
+
+    /// Whether `index` is a boundary: one of a character's first byte, or the length.
+    pub fn is_char_boundary(&self, index: usize) -> bool
+        ensures { result ≡ is_boundary self.now.chars index }
+    {
+        self.as_str().is_char_boundary(index)
+    }
+
+    /// Keeps no character. An inline text stays inline and a spilled one spilled; a shared block is
+    /// given up, with nothing copied. Never refused.
+    pub fn clear(&mut self)
+        ensures chars { self.new.chars ≡ [] }
+        ensures mode { self.new.inline ≡ self.old.inline }
+    {
+        self.bytes.clear();
+    }
+}
+
+impl<const N: usize> Clone for SmallString<N> {
+    ghost is_clone = { λ t u. u ≡ t };
+
+    #[inline]
+    fn clone(&self) -> Result<Self, AllocError> {
+        Ok(SmallString {
+            bytes: self.bytes.clone()?,
+        })
+    }
+}

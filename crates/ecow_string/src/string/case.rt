@@ -1,0 +1,181 @@
+//! The letters of a text in one case.
+ghost use Rattle.std.specs.Prelude.{◌≡◌, ◌<◌, ◌≤◌, length, true, false, IsOk, IfOk, IfErr, OnOk, OnErr, IsErrOf, map};
+ghost use Rattle.std.specs.Char.{to_ascii_lowercase, to_ascii_uppercase};
+ghost use Rattle.std.specs.Str.{encode_utf8_all, IsAscii};
+ghost use Rattle.std.specs.StrCase.Lower.{str_to_lowercase};
+ghost use Rattle.std.specs.StrCase.Upper.{str_to_uppercase};
+ghost use Rattle.ecow_values.specs.Inline.{inline_for};
+ghost use Rattle.ecow_values.specs.Utf8.{utf8_len};
+ghost use Rattle.ecow_string.specs.Case.{in_case, str_in_case};
+
+use crate::case::Case;
+use crate::string::SmallString;
+use ecow_base::MAX_LEN;
+use ecow_bytes::SmallBytes;
+use ecow_vec::{EcoError, EcoVec};
+
+impl<const N: usize> SmallString<N> {
+    /// Maps the letters `A` to `Z` to lower case where they stand, and leaves all others and the
+    /// mode. Never refused for an inline text. A spilled text that is shared is copied first, and
+    /// the one error is `Memory`, which changes nothing.
+    pub fn make_ascii_lowercase(&mut self) -> Result<(), EcoError>
+        ensures chars { OnOk result (self.new.chars ≡ map to_ascii_lowercase self.old.chars) }
+        ensures mode { self.new.inline ≡ self.old.inline }
+        ensures memory { IfErr result (λ error. error ≡ EcoError.Memory) }
+        ensures unchanged { OnErr result (self.new ≡ self.old) }
+        ensures free { OnErr result (self.old.inline ≡ false) }
+    {
+        self.make_ascii(Case::Lower)
+    }
+
+    /// Maps the letters `a` to `z` to upper case, as `make_ascii_lowercase` maps to lower.
+    pub fn make_ascii_uppercase(&mut self) -> Result<(), EcoError>
+        ensures chars { OnOk result (self.new.chars ≡ map to_ascii_uppercase self.old.chars) }
+        ensures mode { self.new.inline ≡ self.old.inline }
+        ensures memory { IfErr result (λ error. error ≡ EcoError.Memory) }
+        ensures unchanged { OnErr result (self.new ≡ self.old) }
+        ensures free { OnErr result (self.old.inline ≡ false) }
+    {
+        self.make_ascii(Case::Upper)
+    }
+
+    /// The text with the letters `A` to `Z` in lower case, in the mode of this one. Never refused
+    /// of an inline text; the one error is `Memory`.
+    pub fn to_ascii_lowercase(&self) -> Result<Self, EcoError>
+        ensures chars { IfOk result (λ made. made.chars ≡ map to_ascii_lowercase self.now.chars) }
+        ensures mode { IfOk result (λ made. made.inline ≡ self.now.inline) }
+        ensures memory { IfErr result (λ error. error ≡ EcoError.Memory) }
+        ensures free { OnErr result (self.now.inline ≡ false) }
+    {
+        self.to_ascii(Case::Lower)
+    }
+
+    /// The text with the letters `a` to `z` in upper case, as `to_ascii_lowercase` has them in
+    /// lower.
+    pub fn to_ascii_uppercase(&self) -> Result<Self, EcoError>
+        ensures chars { IfOk result (λ made. made.chars ≡ map to_ascii_uppercase self.now.chars) }
+        ensures mode { IfOk result (λ made. made.inline ≡ self.now.inline) }
+        ensures memory { IfErr result (λ error. error ≡ EcoError.Memory) }
+        ensures free { OnErr result (self.now.inline ≡ false) }
+    {
+        self.to_ascii(Case::Upper)
+    }
+
+    /// The text in lower case, as std's `str` has it: of an ASCII text the letters mapped, and past
+    /// ASCII by Unicode. It is inline where it has at most `N` bytes, which is never refused of an
+    /// ASCII text, and else spilled. Past ASCII memory for std's text may be refused too.
+    ///
+    /// Answers `Memory`, or `Capacity` where std's text has more than 2^63 - 1 bytes, which no
+    /// ASCII text has.
+    pub fn to_lowercase(&self) -> Result<Self, EcoError>
+        ensures bytes { IfOk result (λ made. encode_utf8_all made.chars
+            ≡ str_to_lowercase (encode_utf8_all self.now.chars)) }
+        ensures ascii { IsAscii (encode_utf8_all self.now.chars)
+            → IfOk result (λ made. made.chars ≡ map to_ascii_lowercase self.now.chars) }
+        ensures mode { IfOk result (λ made. made.inline ≡ inline_for N (utf8_len made.chars)) }
+        ensures capacity { IsErrOf result EcoError.Capacity
+            → MAX_LEN < length (str_to_lowercase (encode_utf8_all self.now.chars)) }
+        ensures ascii_memory { IsAscii (encode_utf8_all self.now.chars)
+            → IfErr result (λ error. error ≡ EcoError.Memory) }
+        ensures free { IsAscii (encode_utf8_all self.now.chars) → utf8_len self.now.chars ≤ N
+            → IsOk result }
+    {
+        self.to_case(Case::Lower)
+    }
+
+    /// The text in upper case, as std's `str` has it: of an ASCII text the letters mapped, and past
+    /// ASCII by Unicode. It is inline where it has at most `N` bytes, which is never refused of an
+    /// ASCII text, and else spilled. Past ASCII memory for std's text may be refused too.
+    ///
+    /// Answers `Memory`, or `Capacity` where std's text has more than 2^63 - 1 bytes, which no
+    /// ASCII text has.
+    pub fn to_uppercase(&self) -> Result<Self, EcoError>
+        ensures bytes { IfOk result (λ made. encode_utf8_all made.chars
+            ≡ str_to_uppercase (encode_utf8_all self.now.chars)) }
+        ensures ascii { IsAscii (encode_utf8_all self.now.chars)
+            → IfOk result (λ made. made.chars ≡ map to_ascii_uppercase self.now.chars) }
+        ensures mode { IfOk result (λ made. made.inline ≡ inline_for N (utf8_len made.chars)) }
+        ensures capacity { IsErrOf result EcoError.Capacity
+            → MAX_LEN < length (str_to_uppercase (encode_utf8_all self.now.chars)) }
+        ensures ascii_memory { IsAscii (encode_utf8_all self.now.chars)
+            → IfErr result (λ error. error ≡ EcoError.Memory) }
+        ensures free { IsAscii (encode_utf8_all self.now.chars) → utf8_len self.now.chars ≤ N
+            → IsOk result }
+    {
+        self.to_case(Case::Upper)
+    }
+
+    /// Maps the ASCII letters to one case, where they stand.
+    fn make_ascii(&mut self, case: Case) -> Result<(), EcoError>
+        ensures chars { OnOk result (self.new.chars ≡ map (in_case case) self.old.chars) }
+        ensures mode { self.new.inline ≡ self.old.inline }
+        ensures memory { IfErr result (λ error. error ≡ EcoError.Memory) }
+        ensures unchanged { OnErr result (self.new ≡ self.old) }
+        ensures free { OnErr result (self.old.inline ≡ false) }
+    {
+        self.bytes.rewrite(|bytes| {
+            case.map(bytes);
+            bytes.len()
+        })?;
+        Ok(())
+    }
+
+    /// The text with its ASCII letters in one case, in its mode.
+    fn to_ascii(&self, case: Case) -> Result<Self, EcoError>
+        ensures chars { IfOk result (λ made. made.chars ≡ map (in_case case) self.now.chars) }
+        ensures mode { IfOk result (λ made. made.inline ≡ self.now.inline) }
+        ensures memory { IfErr result (λ error. error ≡ EcoError.Memory) }
+        ensures free { OnErr result (self.now.inline ≡ false) }
+    {
+        // For the proof: an inline text has at most `N` bytes.
+        let _len = self.len();
+        let mut made = self.copy(self.is_inline())?;
+        made.make_ascii(case)?;
+        Ok(made)
+    }
+
+    /// A copy of the text, inline or spilled.
+    fn copy(&self, inline: bool) -> Result<Self, EcoError>
+        requires { inline ≡ true → utf8_len self.now.chars ≤ N }
+        ensures chars { IfOk result (λ made. made.chars ≡ self.now.chars) }
+        ensures mode { IfOk result (λ made. made.inline ≡ inline) }
+        ensures memory { IfErr result (λ error. error ≡ EcoError.Memory) }
+        ensures free { OnErr result (inline ≡ false) }
+    {
+        // The length stands here for the proof alone: it is bounded.
+        let (_len, alloc) = (self.len(), self.bytes.allocator());
+        let text = self.bytes.as_slice();
+        let bytes = if inline {
+            SmallBytes::inline(alloc, text)
+        } else {
+            SmallBytes::from(EcoVec::from_copied(alloc, text)?)
+        };
+        Ok(SmallString { bytes })
+    }
+
+    /// The text in one case, as std's `str` has it.
+    fn to_case(&self, case: Case) -> Result<Self, EcoError>
+        ensures bytes { IfOk result (λ made. encode_utf8_all made.chars
+            ≡ str_in_case case (encode_utf8_all self.now.chars)) }
+        ensures ascii { IsAscii (encode_utf8_all self.now.chars)
+            → IfOk result (λ made. made.chars ≡ map (in_case case) self.now.chars) }
+        ensures mode { IfOk result (λ made. made.inline ≡ inline_for N (utf8_len made.chars)) }
+        ensures capacity { IsErrOf result EcoError.Capacity
+            → MAX_LEN < length (str_in_case case (encode_utf8_all self.now.chars)) }
+        ensures ascii_memory { IsAscii (encode_utf8_all self.now.chars)
+            → IfErr result (λ error. error ≡ EcoError.Memory) }
+        ensures free { IsAscii (encode_utf8_all self.now.chars) → utf8_len self.now.chars ≤ N
+            → IsOk result }
+    {
+        let text = self.as_str();
+        if text.is_ascii() {
+            let mut ascii = self.copy(self.len() <= N)?;
+            ascii.make_ascii(case)?;
+            return Ok(ascii);
+        }
+        let alloc = self.bytes.allocator();
+        let cased = case.copy(alloc, text)?;
+        let made = Self::from_str(alloc, cased.as_str())?;
+        Ok(made)
+    }
+}

@@ -1,0 +1,223 @@
+//! Texts of the items of iterators. A size hint isn't asked: so a text is inline wherever it fits.
+ghost use Rattle.std.specs.Prelude.{◌≡◌, ℕ, List, ◌+◌, ◌<◌, ◌↔◌, ◌++◌, length, false, IfOk, OnOk, OnErr, IsErrOf};
+ghost use Rattle.std.specs.Borrow.{Bor};
+ghost use Rattle.std.specs.Str.{chars};
+ghost use Rattle.std.specs.Iterator.{IsFinite, ExtendsWithItems, Yields};
+ghost use Rattle.ecow_vec.specs.Vectors.{Appends, ExtendsBy, GivesFirst, GivesItems};
+ghost use Rattle.ecow_values.specs.Inline.{inline_after, inline_for};
+ghost use Rattle.ecow_values.specs.Utf8.{utf8_len};
+ghost use Rattle.ecow_values.specs.declared.plain.PlainText.{PlainText};
+ghost use Rattle.ecow_string.specs.Appends.{AppendsBy, AppendsStrs, LeavesLastOut, joined_by, joined_strs, joined_texts};
+
+use crate::string::SmallString;
+use ecow_base::MAX_LEN;
+use ecow_vec::EcoError;
+use std::alloc::Global;
+
+/// A text that is joined to others.
+trait Joined: Drop {
+    ghost text_of: { Self → List ℕ };
+
+    /// The text.
+    fn text(&self) -> &str
+        ensures { chars result.now ≡ text_of self.now };
+}
+
+impl<const N: usize> Joined for SmallString<N> {
+    ghost text_of = { λ text. text.chars };
+
+    fn text(&self) -> &str {
+        self.as_str()
+    }
+}
+
+impl Joined for &str {
+    ghost text_of = { λ text. chars text.now };
+
+    fn text(&self) -> &str {
+        self
+    }
+}
+
+impl<const N: usize> SmallString<N> {
+    /// The characters of `iter`, one after another: inline where they come to at most `N` bytes,
+    /// which is never refused, and else spilled. Answers `Capacity` at the character with which
+    /// they come to more than 2^63 - 1, and else `Memory`: no further one is asked for then.
+    pub fn from_chars<I: IntoIterator<Item = char>>(
+        alloc: Global,
+        iter: I,
+    ) -> Result<Self, EcoError>
+        requires { (it : I.IntoIter) → I.into_iter_gives iter it → I.IntoIter.can_next it
+            × IsFinite (I.IntoIter.remaining it) }
+        ensures chars { IfOk result
+            (λ made. GivesItems I.into_iter_gives I.IntoIter.next_gives iter made.chars) }
+        ensures mode { IfOk result (λ made. made.inline ≡ inline_for N (utf8_len made.chars)) }
+        ensures refused { OnErr result ((items : List ℕ)
+            × GivesFirst I.into_iter_gives I.IntoIter.next_gives iter items × (N < utf8_len items)
+            × (IsErrOf result EcoError.Capacity ↔ (MAX_LEN < utf8_len items))) }
+    {
+        let mut made = Self::new(alloc);
+        made.extend_chars(iter)?;
+        Ok(made)
+    }
+
+    /// The texts of `iter`, one after another: inline where they come to at most `N` bytes, which
+    /// is never refused, and else spilled. Answers `Capacity` at the text with which they come to
+    /// more than 2^63 - 1, and else `Memory`: no further one is asked for then.
+    pub fn from_strs<'a, I: IntoIterator<Item = &'a str>>(
+        alloc: Global,
+        iter: I,
+    ) -> Result<Self, EcoError>
+        requires { (it : I.IntoIter) → I.into_iter_gives iter it → I.IntoIter.can_next it
+            × IsFinite (I.IntoIter.remaining it) }
+        ensures chars { IfOk result (λ made. (items : List (Bor (List ℕ)))
+            × GivesItems I.into_iter_gives I.IntoIter.next_gives iter items
+            × (made.chars ≡ joined_strs items)) }
+        ensures mode { IfOk result (λ made. made.inline ≡ inline_for N (utf8_len made.chars)) }
+        ensures refused { OnErr result ((items : List (Bor (List ℕ)))
+            × GivesFirst I.into_iter_gives I.IntoIter.next_gives iter items
+            × (N < utf8_len (joined_strs items))
+            × (IsErrOf result EcoError.Capacity ↔ (MAX_LEN < utf8_len (joined_strs items)))) }
+    {
+        let mut made = Self::new(alloc);
+        made.extend_strs(iter)?;
+        Ok(made)
+    }
+
+    /// The texts of `iter`, one after another, as `from_strs` makes them.
+    pub fn from_eco_strings<I: IntoIterator<Item = Self>>(
+        alloc: Global,
+        iter: I,
+    ) -> Result<Self, EcoError>
+        requires { (it : I.IntoIter) → I.into_iter_gives iter it → I.IntoIter.can_next it
+            × IsFinite (I.IntoIter.remaining it) }
+        ensures chars { IfOk result (λ made. (items : List PlainText)
+            × GivesItems I.into_iter_gives I.IntoIter.next_gives iter items
+            × (made.chars ≡ joined_texts items)) }
+        ensures mode { IfOk result (λ made. made.inline ≡ inline_for N (utf8_len made.chars)) }
+        ensures refused { OnErr result ((items : List PlainText)
+            × GivesFirst I.into_iter_gives I.IntoIter.next_gives iter items
+            × (N < utf8_len (joined_texts items))
+            × (IsErrOf result EcoError.Capacity ↔ (MAX_LEN < utf8_len (joined_texts items)))) }
+    {
+        let mut made = Self::new(alloc);
+        made.extend_from_texts(&mut iter.into_iter())?;
+        Ok(made)
+    }
+
+    /// Appends the characters of `iter`, one after another, each as `push` does: so an inline text
+    /// spills at the one with which it passes `N` bytes, and nothing changes where there is none.
+    ///
+    /// Where a character is refused those before it stay, and no further one is asked for:
+    /// `Capacity` where the text would pass 2^63 - 1 bytes with it, and else `Memory`. None is
+    /// refused that fits inline.
+    pub fn extend_chars<I: IntoIterator<Item = char>>(&mut self, iter: I) -> Result<(), EcoError>
+        requires { (it : I.IntoIter) → I.into_iter_gives iter it → I.IntoIter.can_next it
+            × IsFinite (I.IntoIter.remaining it) }
+        ensures chars { ExtendsWithItems I.into_iter_gives I.IntoIter.next_gives Appends iter
+            self.old.chars self.new.chars result }
+        ensures mode { self.new.inline
+            ≡ inline_after N self.old.inline (utf8_len self.new.chars) 0 }
+        ensures refused { OnErr result ((items : List ℕ)
+            × GivesFirst I.into_iter_gives I.IntoIter.next_gives iter items
+            × (length self.new.chars + 1 ≡ length self.old.chars + length items)
+            × (inline_after N self.old.inline (utf8_len (self.old.chars ++ items)) 0 ≡ false)
+            × (IsErrOf result EcoError.Capacity ↔ (MAX_LEN < utf8_len (self.old.chars ++ items)))) }
+    {
+        self.extend_from_chars(&mut iter.into_iter())
+    }
+
+    /// Appends what `iter` still gives, as `extend_chars` does.
+    fn extend_from_chars<I: Iterator<Item = char>>(&mut self, iter: &mut I) -> Result<(), EcoError>
+        requires ends { I.can_next iter.old × IsFinite (I.remaining iter.old) }
+        ensures chars { ExtendsBy I.next_gives Appends iter.old
+            self.old.chars self.new.chars result iter.new }
+        ensures mode { self.new.inline
+            ≡ inline_after N self.old.inline (utf8_len self.new.chars) 0 }
+        ensures refused { OnErr result ((items : List ℕ)
+            × Yields I.next_gives iter.old items iter.new
+            × (length self.new.chars + 1 ≡ length self.old.chars + length items)
+            × (inline_after N self.old.inline (utf8_len (self.old.chars ++ items)) 0 ≡ false)
+            × (IsErrOf result EcoError.Capacity ↔ (MAX_LEN < utf8_len (self.old.chars ++ items)))) }
+    {
+        // For the proof alone: an inline text has at most `N` bytes.
+        let _len = self.len();
+        while let Some(c) = iter.next() {
+            self.push(c)?;
+        }
+        Ok(())
+    }
+
+    /// Appends the texts of `iter`, one after another, each as `push_str` does: so an inline text
+    /// spills at the one with which it passes `N` bytes, and nothing changes where there is none.
+    ///
+    /// Where a text is refused those before it stay, and no further one is asked for: `Capacity`
+    /// where the text would pass 2^63 - 1 bytes with it, and else `Memory`. None is refused that
+    /// fits inline.
+    pub fn extend_strs<'a, I: IntoIterator<Item = &'a str>>(
+        &mut self,
+        iter: I,
+    ) -> Result<(), EcoError>
+        requires { (it : I.IntoIter) → I.into_iter_gives iter it → I.IntoIter.can_next it
+            × IsFinite (I.IntoIter.remaining it) }
+        ensures chars { ExtendsWithItems I.into_iter_gives I.IntoIter.next_gives AppendsStrs iter
+            self.old.chars self.new.chars result }
+        ensures mode { self.new.inline
+            ≡ inline_after N self.old.inline (utf8_len self.new.chars) 0 }
+        ensures refused { OnErr result
+            ((items : List (Bor (List ℕ)))
+            × GivesFirst I.into_iter_gives I.IntoIter.next_gives iter items
+            × (inline_after N self.old.inline
+            (utf8_len (self.old.chars ++ joined_strs items)) 0 ≡ false)
+            × (IsErrOf result EcoError.Capacity
+            ↔ (MAX_LEN < utf8_len (self.old.chars ++ joined_strs items)))
+            × LeavesLastOut (λ text. chars text.now) self.old.chars items self.new.chars) }
+    {
+        self.extend_from_texts(&mut iter.into_iter())
+    }
+
+    /// Appends what `iter` still gives, as `extend_strs` does.
+    fn extend_from_texts<T: Joined, I: Iterator<Item = T>>(
+        &mut self,
+        iter: &mut I,
+    ) -> Result<(), EcoError>
+        requires ends { I.can_next iter.old × IsFinite (I.remaining iter.old) }
+        ensures chars { ExtendsBy I.next_gives (AppendsBy T.text_of) iter.old
+            self.old.chars self.new.chars result iter.new }
+        ensures mode { self.new.inline
+            ≡ inline_after N self.old.inline (utf8_len self.new.chars) 0 }
+        ensures refused { OnErr result
+            ((items : List T)
+            × Yields I.next_gives iter.old items iter.new
+            × (inline_after N self.old.inline
+            (utf8_len (self.old.chars ++ joined_by T.text_of items)) 0 ≡ false)
+            × (IsErrOf result EcoError.Capacity
+            ↔ (MAX_LEN < utf8_len (self.old.chars ++ joined_by T.text_of items)))
+            × LeavesLastOut T.text_of self.old.chars items self.new.chars) }
+    {
+        // For the proof alone: an inline text has at most `N` bytes.
+        let _len = self.len();
+        while let Some(text) = iter.next() {
+            self.push_next(text.text())?;
+        }
+        Ok(())
+    }
+
+    /// `push_str` of an item.
+    fn push_next(&mut self, text: &str) -> Result<(), EcoError>
+        ensures chars { OnOk result (self.new.chars ≡ self.old.chars ++ chars text.now) }
+        ensures mode { OnOk result
+            (self.new.inline ≡ inline_after N self.old.inline (utf8_len self.old.chars)
+            (length text.now)) }
+        ensures capacity { IsErrOf result EcoError.Capacity
+            ↔ (MAX_LEN < utf8_len self.old.chars + length text.now) }
+        ensures unchanged { OnErr result (self.new ≡ self.old) }
+        ensures free { OnErr result (inline_after N self.old.inline (utf8_len self.old.chars)
+            (length text.now) ≡ false) }
+        ensures len { utf8_len (self.old.chars ++ chars text.now) ≡ utf8_len self.old.chars
+            + length text.now }
+    {
+        self.push_str(text)?;
+        Ok(())
+    }
+}

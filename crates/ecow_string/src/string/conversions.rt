@@ -1,0 +1,75 @@
+//! The calls that make something else of a text, and texts of bytes.
+ghost use Rattle.std.specs.Prelude.{◌≡◌, true, false, string_bytes, IfOk, IfErr, OnErr};
+ghost use Rattle.std.specs.Str.{encode_utf8_all};
+ghost use Rattle.ecow_values.specs.Plain.{plain_bytes};
+ghost use Rattle.ecow_string.specs.Text.{TriesText, bytes_of};
+
+use crate::string::SmallString;
+use ecow_bytes::SmallBytes;
+use ecow_vec::{EcoError, EcoVec, Rejected};
+use std::str;
+use std::str::Utf8Error;
+
+impl<const N: usize> SmallString<N> {
+    /// A copy of the text in a `String`. The one error is `Memory`.
+    pub fn to_std_string(&self) -> Result<String, EcoError>
+        ensures bytes { IfOk result (λ copy. string_bytes copy ≡ encode_utf8_all self.now.chars) }
+        ensures memory { IfErr result (λ error. error ≡ EcoError.Memory) }
+    {
+        Ok(String::from_str(self.bytes.allocator(), self.as_str())?)
+    }
+
+    /// The UTF-8 bytes in a vector: that of a spilled text as it is, shared or not, which is never
+    /// refused, and a new one for an inline text. The one error is `Memory`, with which the text
+    /// comes back as it was.
+    pub fn into_eco_vec(self) -> Result<EcoVec<u8>, Rejected<Self>>
+        ensures bytes { IfOk result (λ vec. vec ≡ encode_utf8_all self.entry.chars) }
+        ensures memory { IfErr result (λ rejected. rejected.error ≡ EcoError.Memory) }
+        ensures value_returned { IfErr result (λ rejected. rejected.value ≡ self.entry) }
+        ensures free { OnErr result (self.entry.inline ≡ true) }
+    {
+        match self.bytes.into_eco_vec() {
+            Ok(vec) => Ok(vec),
+            Err(rejected) => Err(Rejected {
+                error: rejected.error,
+                value: SmallString {
+                    bytes: rejected.value,
+                },
+            }),
+        }
+    }
+}
+
+/// The text that bytes spell, in their mode: exactly where they are UTF-8, which has no overlong
+/// form, no surrogate and nothing past U+10FFFF. A refusal drops the bytes. Takes no memory.
+impl<const N: usize> TryFrom<SmallBytes<N>> for SmallString<N> {
+    type Error = Utf8Error;
+
+    ghost try_from_gives = { TriesText };
+
+    fn try_from(bytes: SmallBytes<N>) -> Result<Self, Utf8Error> {
+        str::from_utf8(bytes.as_slice())?;
+        Ok(SmallString { bytes })
+    }
+}
+
+/// The text that the bytes of a vector spell, spilled, however short: it keeps the vector's block,
+/// shared or not. Refused as of other bytes. Takes no memory.
+impl<const N: usize> TryFrom<EcoVec<u8>> for SmallString<N> {
+    type Error = Utf8Error;
+
+    ghost try_from_gives = { λ vec result. TriesText (plain_bytes vec false) result };
+
+    fn try_from(vec: EcoVec<u8>) -> Result<Self, Utf8Error> {
+        SmallString::try_from(SmallBytes::from(vec))
+    }
+}
+
+/// The UTF-8 bytes of a text, in its mode. Takes no memory.
+impl<const N: usize> From<SmallString<N>> for SmallBytes<N> {
+    ghost from_gives = { λ text bytes. bytes ≡ bytes_of text };
+
+    fn from(text: SmallString<N>) -> Self {
+        text.bytes
+    }
+}

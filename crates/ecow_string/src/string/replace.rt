@@ -1,0 +1,116 @@
+//! A text with another in place of a pattern. The resulting length is counted first, so that a text
+//! that would be too long asks for no memory.
+ghost use Rattle.std.specs.Prelude.{◌≡◌, ◌≢◌, ◌+◌, ◌<◌, ◌≤◌, ◌↔◌, [], length, IsOk, IfOk, IsErrOf};
+ghost use Rattle.std.specs.Str.{chars};
+ghost use Rattle.ecow_values.specs.Inline.{inline_for};
+ghost use Rattle.ecow_values.specs.Replaced.{replacen, replace_all};
+ghost use Rattle.ecow_values.specs.Utf8.{utf8_len};
+
+mod interleave;
+mod parts;
+mod pattern;
+
+use crate::string::SmallString;
+use crate::string::replace::interleave::{interleaving_len, push_interleaving};
+use crate::string::replace::pattern::{push_replacement, replacement_len};
+use ecow_base::MAX_LEN;
+use ecow_vec::EcoError;
+use memchr::memmem::Finder;
+
+impl<const N: usize> SmallString<N> {
+    /// The text with `replacement` in place of the first `count` occurrences of `pattern`, from the
+    /// left and without overlap; an empty pattern occurs at each boundary, the end too. It is
+    /// inline where it has at most `N` bytes, which is never refused, and else spilled.
+    ///
+    /// Answers `Capacity` where it comes to more than 2^63 - 1 bytes, and else `Memory`.
+    pub fn replacen(&self, pattern: &str, replacement: &str, count: usize) -> Result<Self, EcoError>
+        ensures chars { IfOk result (λ made. made.chars ≡ replacen count (chars pattern.now)
+            (chars replacement.now) self.now.chars) }
+        ensures mode { IfOk result (λ made. made.inline
+            ≡ inline_for N
+            (utf8_len (replacen count (chars pattern.now)
+            (chars replacement.now) self.now.chars))) }
+        ensures capacity { IsErrOf result EcoError.Capacity
+            ↔ (MAX_LEN < utf8_len
+            (replacen count (chars pattern.now) (chars replacement.now) self.now.chars)) }
+        ensures free { utf8_len
+            (replacen count (chars pattern.now) (chars replacement.now) self.now.chars) ≤ N
+            → IsOk result }
+    {
+        if pattern.is_empty() {
+            return self.interleave(replacement, count);
+        }
+        self.replace_pattern(pattern, replacement, count)
+    }
+
+    /// The text with `replacement` in place of all occurrences of `pattern`: `replacen` without a
+    /// limit.
+    pub fn replace(&self, pattern: &str, replacement: &str) -> Result<Self, EcoError>
+        ensures chars { IfOk result (λ made. made.chars
+            ≡ replace_all (chars pattern.now) (chars replacement.now) self.now.chars) }
+        ensures mode { IfOk result (λ made. made.inline
+            ≡ inline_for N
+            (utf8_len (replace_all (chars pattern.now) (chars replacement.now) self.now.chars))) }
+        ensures capacity { IsErrOf result EcoError.Capacity
+            ↔ (MAX_LEN < utf8_len
+            (replace_all (chars pattern.now) (chars replacement.now) self.now.chars)) }
+        ensures free { utf8_len
+            (replace_all (chars pattern.now) (chars replacement.now) self.now.chars) ≤ N
+            → IsOk result }
+    {
+        self.replacen(pattern, replacement, self.len() + 1)
+    }
+
+    /// `replacen` of a pattern that is not empty.
+    fn replace_pattern(
+        &self,
+        pattern: &str,
+        replacement: &str,
+        count: usize,
+    ) -> Result<Self, EcoError>
+        requires { pattern.now ≢ [] }
+        ensures chars { IfOk result (λ made. made.chars ≡ replacen count (chars pattern.now)
+            (chars replacement.now) self.now.chars) }
+        ensures mode { IfOk result (λ made. made.inline
+            ≡ inline_for N
+            (utf8_len (replacen count (chars pattern.now)
+            (chars replacement.now) self.now.chars))) }
+        ensures capacity { IsErrOf result EcoError.Capacity
+            ↔ (MAX_LEN < utf8_len
+            (replacen count (chars pattern.now) (chars replacement.now) self.now.chars)) }
+        ensures free { utf8_len
+            (replacen count (chars pattern.now) (chars replacement.now) self.now.chars) ≤ N
+            → IsOk result }
+    {
+        let text = self.as_str();
+        let finder = Finder::new(pattern.as_bytes());
+        let Some(most) = replacement_len(text, &finder, pattern, replacement, count) else {
+            return Err(EcoError::Capacity);
+        };
+        let mut made = Self::with_capacity(self.bytes.allocator(), most)?;
+        push_replacement(&mut made, text, &finder, pattern, replacement, count, most)?;
+        Ok(made)
+    }
+
+    /// `replacen` of the empty pattern.
+    fn interleave(&self, replacement: &str, count: usize) -> Result<Self, EcoError>
+        ensures chars { IfOk result (λ made. made.chars
+            ≡ replacen count [] (chars replacement.now) self.now.chars) }
+        ensures mode { IfOk result (λ made. made.inline
+            ≡ inline_for N (utf8_len (replacen count [] (chars replacement.now) self.now.chars))) }
+        ensures capacity { IsErrOf result EcoError.Capacity
+            ↔ (MAX_LEN < utf8_len (replacen count [] (chars replacement.now) self.now.chars)) }
+        ensures free { utf8_len (replacen count [] (chars replacement.now) self.now.chars) ≤ N
+            → IsOk result }
+    {
+        let text = self.as_str();
+        // For the proof alone: the length is bounded.
+        let _len = self.len();
+        let Some(most) = interleaving_len(text, replacement, count) else {
+            return Err(EcoError::Capacity);
+        };
+        let mut made = Self::with_capacity(self.bytes.allocator(), most)?;
+        push_interleaving(&mut made, text, replacement, count, most)?;
+        Ok(made)
+    }
+}

@@ -1,0 +1,69 @@
+//! The occurrences of the empty pattern: before each character, and at the end.
+ghost use Rattle.std.specs.Prelude.{◌≡◌, ◌+◌, ◌<◌, ◌≤◌, [], ◌++◌, length, IfErr, OnOk, OnErr, SomeIff};
+ghost use Rattle.std.specs.Str.{chars};
+ghost use Rattle.ecow_values.specs.Inline.{inline_for};
+ghost use Rattle.ecow_values.specs.Replaced.{replacen};
+ghost use Rattle.ecow_values.specs.Utf8.{utf8_len};
+ghost use Rattle.ecow_string.specs.Replace.{SplitsChar};
+
+use crate::string::SmallString;
+use crate::string::replace::parts::{push_both, push_part, total_with};
+use ecow_base::MAX_LEN;
+use ecow_vec::EcoError;
+
+/// The first character, and the text behind it.
+fn split_char(text: &str) -> Option<(&str, &str)>
+    ensures { SplitsChar text.now result }
+{
+    let end = text.chars().next()?.len_utf8();
+    Some((&text[..end], &text[end..]))
+}
+
+/// How many bytes `replacen` of the empty pattern comes to, where a text may have so many.
+pub(super) fn interleaving_len(text: &str, replacement: &str, count: usize) -> Option<usize>
+    requires { length text.now ≤ MAX_LEN }
+    ensures { let made = replacen count [] (chars replacement.now)
+        (chars text.now) in SomeIff result (utf8_len made ≤ MAX_LEN) (utf8_len made) }
+{
+    let places = count.min(text.chars().count() + 1);
+    let added = places.checked_mul(replacement.len())?;
+    total_with(text.len(), added)
+}
+
+/// Appends what `replacen` of the empty pattern makes of `text` to a text that was made for `most`
+/// bytes.
+pub(super) fn push_interleaving<const N: usize>(
+    made: &mut SmallString<N>,
+    text: &str,
+    replacement: &str,
+    count: usize,
+    most: usize,
+) -> Result<(), EcoError>
+    requires bounded { most ≤ MAX_LEN }
+    requires fits { utf8_len made.old.chars
+        + utf8_len (replacen count [] (chars replacement.now) (chars text.now)) ≤ most }
+    requires mode { made.old.inline ≡ inline_for N most }
+    ensures chars { OnOk result
+        (made.new.chars ≡ made.old.chars ++ replacen count [] (chars replacement.now)
+        (chars text.now)) }
+    ensures mode { OnOk result (made.new.inline ≡ inline_for N most) }
+    ensures memory { IfErr result (λ error. error ≡ EcoError.Memory) }
+    ensures free { OnErr result (N < most) }
+{
+    let mut rest = text;
+    let mut left = count;
+    while left > 0 {
+        match split_char(rest) {
+            None => {
+                push_part(made, replacement, most)?;
+                left = 0;
+            }
+            Some((first, behind)) => {
+                push_both(made, replacement, first, most)?;
+                rest = behind;
+                left -= 1;
+            }
+        }
+    }
+    push_part(made, rest, most)
+}

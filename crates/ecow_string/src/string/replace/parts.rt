@@ -1,0 +1,60 @@
+//! Appending to a text that was made for so many bytes, and keeps its mode while it gets no more.
+ghost use Rattle.std.specs.Prelude.{◌≡◌, ◌+◌, ◌<◌, ◌≤◌, ◌++◌, length, IfErr, OnOk, OnErr, SomeIff};
+ghost use Rattle.std.specs.Str.{chars};
+ghost use Rattle.ecow_values.specs.Inline.{inline_for};
+ghost use Rattle.ecow_values.specs.Utf8.{utf8_len};
+
+use crate::string::SmallString;
+use ecow_base::MAX_LEN;
+use ecow_vec::EcoError;
+
+/// `total` and `more` bytes together, where a text may have so many.
+pub(super) fn total_with(total: usize, more: usize) -> Option<usize>
+    requires { total ≤ MAX_LEN }
+    ensures { SomeIff result (total + more ≤ MAX_LEN) (total + more) }
+{
+    if more > MAX_LEN - total {
+        return None;
+    }
+    Some(total + more)
+}
+
+/// Appends `text` to a text that was made for `most` bytes.
+#[tactic(auto, using(crate::proofs::Limits::keeps_mode, crate::proofs::Limits::none_refused))]
+pub(super) fn push_part<const N: usize>(
+    made: &mut SmallString<N>,
+    text: &str,
+    most: usize,
+) -> Result<(), EcoError>
+    requires bounded { most ≤ MAX_LEN }
+    requires fits { utf8_len made.old.chars + length text.now ≤ most }
+    requires mode { made.old.inline ≡ inline_for N most }
+    ensures chars { OnOk result (made.new.chars ≡ made.old.chars ++ chars text.now) }
+    ensures mode { OnOk result (made.new.inline ≡ inline_for N most) }
+    ensures memory { IfErr result (λ error. error ≡ EcoError.Memory) }
+    ensures free { OnErr result (N < most) }
+{
+    made.push_str(text)?;
+    Ok(())
+}
+
+/// Appends one text and then another.
+pub(super) fn push_both<const N: usize>(
+    made: &mut SmallString<N>,
+    first: &str,
+    second: &str,
+    most: usize,
+) -> Result<(), EcoError>
+    requires bounded { most ≤ MAX_LEN }
+    requires fits { utf8_len made.old.chars + length first.now + length second.now ≤ most }
+    requires mode { made.old.inline ≡ inline_for N most }
+    ensures chars { OnOk result (made.new.chars ≡ (made.old.chars ++ chars first.now)
+        ++ chars second.now) }
+    ensures mode { OnOk result (made.new.inline ≡ inline_for N most) }
+    ensures memory { IfErr result (λ error. error ≡ EcoError.Memory) }
+    ensures free { OnErr result (N < most) }
+{
+    push_part(made, first, most)?;
+    push_part(made, second, most)?;
+    Ok(())
+}

@@ -1,0 +1,93 @@
+//! The occurrences of a pattern that is not empty. A finder looks for its bytes; a place at which
+//! these stand is a boundary, since the first byte of a character is no later one's.
+ghost use Rattle.std.specs.Prelude.{◌≡◌, ◌≢◌, ◌+◌, ◌<◌, ◌≤◌, [], ◌++◌, length, IfErr, OnOk, OnErr, SomeIff};
+ghost use Rattle.std.specs.Str.{chars};
+ghost use Rattle.ecow_values.specs.Inline.{inline_for};
+ghost use Rattle.ecow_values.specs.Replaced.{replacen};
+ghost use Rattle.ecow_values.specs.Utf8.{utf8_len};
+ghost use Rattle.ecow_string.specs.Replace.{SplitsFirst};
+
+use crate::string::SmallString;
+use crate::string::replace::parts::{push_both, push_part, total_with};
+use ecow_base::MAX_LEN;
+use ecow_vec::EcoError;
+use memchr::memmem::Finder;
+
+/// The text before the first occurrence of `pattern`, and the text behind it.
+fn split_first<'a>(text: &'a str, finder: &Finder, pattern: &str) -> Option<(&'a str, &'a str)>
+    requires finder { finder.now ≡ pattern.now }
+    requires some { pattern.now ≢ [] }
+    ensures { SplitsFirst pattern.now text.now result }
+{
+    let start = finder.find(text.as_bytes())?;
+    Some((&text[..start], &text[start + pattern.len()..]))
+}
+
+/// How many bytes `replacen` comes to, where a text may have so many.
+pub(super) fn replacement_len(
+    text: &str,
+    finder: &Finder,
+    pattern: &str,
+    replacement: &str,
+    count: usize,
+) -> Option<usize>
+    requires finder { finder.now ≡ pattern.now }
+    requires some { pattern.now ≢ [] }
+    ensures { let made = replacen count (chars pattern.now) (chars replacement.now)
+        (chars text.now) in SomeIff result (utf8_len made ≤ MAX_LEN) (utf8_len made) }
+{
+    let mut total = 0usize;
+    let mut rest = text;
+    let mut left = count;
+    while left > 0 {
+        match split_first(rest, finder, pattern) {
+            None => left = 0,
+            Some((before, behind)) => {
+                total = total_with(total, before.len())?;
+                total = total_with(total, replacement.len())?;
+                rest = behind;
+                left -= 1;
+            }
+        }
+    }
+    total_with(total, rest.len())
+}
+
+/// Appends what `replacen` makes of `text` to a text that was made for `most` bytes.
+pub(super) fn push_replacement<const N: usize>(
+    made: &mut SmallString<N>,
+    text: &str,
+    finder: &Finder,
+    pattern: &str,
+    replacement: &str,
+    count: usize,
+    most: usize,
+) -> Result<(), EcoError>
+    requires finder { finder.now ≡ pattern.now }
+    requires some { pattern.now ≢ [] }
+    requires bounded { most ≤ MAX_LEN }
+    requires fits { utf8_len made.old.chars
+        + utf8_len (replacen count (chars pattern.now) (chars replacement.now) (chars text.now))
+        ≤ most }
+    requires mode { made.old.inline ≡ inline_for N most }
+    ensures chars { OnOk result
+        (made.new.chars ≡ made.old.chars ++ replacen count (chars pattern.now)
+        (chars replacement.now) (chars text.now)) }
+    ensures mode { OnOk result (made.new.inline ≡ inline_for N most) }
+    ensures memory { IfErr result (λ error. error ≡ EcoError.Memory) }
+    ensures free { OnErr result (N < most) }
+{
+    let mut rest = text;
+    let mut left = count;
+    while left > 0 {
+        match split_first(rest, finder, pattern) {
+            None => left = 0,
+            Some((before, behind)) => {
+                push_both(made, before, replacement, most)?;
+                rest = behind;
+                left -= 1;
+            }
+        }
+    }
+    push_part(made, rest, most)
+}

@@ -1,0 +1,93 @@
+//! std's traits by which a text is used as the `str` that it is, and is collected from an iterator,
+//! as a `String` is.
+ghost use Rattle.std.specs.Prelude.{◌≡◌};
+ghost use Rattle.std.specs.Str.{encode_utf8_all};
+ghost use Rattle.ecow_values.specs.Inline.{inline_for};
+ghost use Rattle.ecow_values.specs.Utf8.{utf8_len};
+ghost use Rattle.ecow_string.specs.Appends.{joined_strs, joined_texts};
+
+use crate::string::SmallString;
+use std::alloc::{AllocError, Global};
+use std::convert::{AsSlice, AsStr};
+use std::ops::DerefStr;
+
+/// The text: so `text.chars()`, `text.find(..)` and all other calls of a `str`.
+impl<const N: usize> DerefStr for SmallString<N> {
+    ghost deref_gives = { λ text bytes. bytes ≡ encode_utf8_all text.chars };
+
+    #[inline]
+    fn deref(&self) -> &str {
+        self.as_str()
+    }
+}
+
+impl<const N: usize> AsStr for SmallString<N> {
+    ghost text = { λ text. encode_utf8_all text.chars };
+
+    #[inline]
+    fn as_str(&self) -> &str {
+        SmallString::as_str(self)
+    }
+}
+
+/// The UTF-8 bytes.
+impl<const N: usize> AsSlice<u8> for SmallString<N> {
+    ghost items = { λ text. encode_utf8_all text.chars };
+
+    #[inline]
+    fn as_slice(&self) -> &[u8] {
+        SmallString::as_str(self).as_bytes()
+    }
+}
+
+/// The text of the characters, as `SmallString::from_chars` makes it; its two errors are one here.
+impl<const N: usize> FromIterator<char> for SmallString<N> {
+    type Alloc = Global;
+
+    ghost from_iter_gives = { λ items made. (made.chars ≡ items)
+        × (made.inline ≡ inline_for N (utf8_len items)) };
+
+    fn from_iter<I: IntoIterator<Item = char>>(alloc: Global, iter: I) -> Result<Self, AllocError> {
+        match SmallString::from_chars(alloc, iter) {
+            Ok(text) => Ok(text),
+            Err(_) => Err(AllocError),
+        }
+    }
+}
+
+/// The texts, one after another, as `SmallString::from_strs` makes them; its two errors are one here.
+impl<'a, const N: usize> FromIterator<&'a str> for SmallString<N> {
+    type Alloc = Global;
+
+    ghost from_iter_gives = { λ items made. (made.chars ≡ joined_strs items)
+        × (made.inline ≡ inline_for N (utf8_len made.chars)) };
+
+    fn from_iter<I: IntoIterator<Item = &'a str>>(
+        alloc: Global,
+        iter: I,
+    ) -> Result<Self, AllocError> {
+        match SmallString::from_strs(alloc, iter) {
+            Ok(made) => Ok(made),
+            Err(_) => Err(AllocError),
+        }
+    }
+}
+
+/// The texts, one after another, as `SmallString::from_eco_strings` makes them; its two errors are
+/// one here.
+impl<const N: usize> FromIterator<SmallString<N>> for SmallString<N> {
+    type Alloc = Global;
+
+    ghost from_iter_gives = { λ items made. (made.chars ≡ joined_texts items)
+        × (made.inline ≡ inline_for N (utf8_len made.chars)) };
+
+    fn from_iter<I: IntoIterator<Item = SmallString<N>>>(
+        alloc: Global,
+        iter: I,
+    ) -> Result<Self, AllocError> {
+        match SmallString::from_eco_strings(alloc, iter) {
+            Ok(made) => Ok(made),
+            Err(_) => Err(AllocError),
+        }
+    }
+}

@@ -1,7 +1,0 @@
-use Rattle.std.proofs.Common.{ap, ◌∙◌}
-use Rattle.std.specs.Str.{chars}
-use Rattle.ecow_text.proofs.Texts.{chars_of_one}
-use Rattle.ecow_text.proofs.text.SmallText.from_char.Goals as goal
-
-pub returns-clause-chars : goal.returns-clause-chars
-returns-clause-chars g c = c.in_ok-made.ensures.chars ∙ ap chars c.encode_utf8.ensures.value ∙ chars_of_one c.args.c c.ranges.c.0

@@ -1,0 +1,7 @@
+pub mod Edits
+pub mod IntoArray
+pub mod Lends
+pub mod Ranges
+pub mod Refusals
+pub mod Vectors
+pub mod formers
