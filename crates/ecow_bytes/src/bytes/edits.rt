@@ -4,7 +4,8 @@ ghost use Rattle.std.specs.Prelude.{◌≡◌, ◌+◌, ◌-◌, ◌<◌, ◌≤
 ghost use Rattle.std.specs.List.{insert_slice, replace_range};
 ghost use Rattle.ecow_base.specs.Range.{range_of};
 ghost use Rattle.ecow_vec.specs.Ranges.{AtRange};
-ghost use Rattle.ecow_values.specs.Inline.{inline_after, inline_shrunk};
+ghost use Rattle.ecow_vec.specs.Refusals.{RefusesForMemory, RefusesPast};
+ghost use Rattle.ecow_values.specs.Inline.{Grows, KeepsMode, inline_shrunk};
 
 use crate::bytes::SmallBytes;
 use crate::form::Form;
@@ -13,19 +14,18 @@ use ecow_vec::EcoError;
 use std::ops::RangeBounds;
 
 impl<const N: usize> SmallBytes<N> {
-    /// Takes the last byte: `None` where there is none, which changes nothing. Never refused for
-    /// inline bytes or none. Spilled bytes that are shared are copied first, and the one error is
-    /// `Memory`, which changes nothing.
+    /// Takes the last byte: `None` where there is none. Spilled bytes that are shared are copied
+    /// first.
     #[inline]
     pub fn pop(&mut self) -> Result<Option<u8>, EcoError>
         ensures value { IfOk result
             (λ last. last ≡ slice_get self.old.bytes (length self.old.bytes - 1)) }
         ensures bytes { OnOk result
             (self.new.bytes ≡ take (length self.old.bytes - 1) self.old.bytes) }
-        ensures mode { self.new.inline ≡ self.old.inline }
-        ensures memory { IfErr result (λ error. error ≡ EcoError.Memory) }
-        ensures unchanged { OnErr result (self.new ≡ self.old) }
-        ensures free { OnErr result (self.old.inline ≡ false) }
+        ensures mode { KeepsMode self.old.inline result self.new.inline }
+
+        // Refused where shared bytes must be copied, and not where there are none.
+        ensures refused { RefusesForMemory self.old result self.new }
         ensures empty { self.old.bytes ≡ [] → IsOk result × (self.new ≡ self.old) }
     {
         match &mut self.form {
@@ -39,15 +39,14 @@ impl<const N: usize> SmallBytes<N> {
         }
     }
 
-    /// Keeps the first `target` bytes, or all where there are fewer. Never refused for inline bytes
-    /// and where all or none stay. Else spilled bytes that are shared copy those that stay, and the
-    /// one error is `Memory`, which changes nothing.
+    /// Keeps the first `target` bytes, or all where there are fewer. Spilled bytes that are shared
+    /// copy those that stay.
     pub fn truncate(&mut self, target: usize) -> Result<(), EcoError>
         ensures bytes { OnOk result (self.new.bytes ≡ take target self.old.bytes) }
-        ensures mode { self.new.inline ≡ self.old.inline }
-        ensures memory { IfErr result (λ error. error ≡ EcoError.Memory) }
-        ensures unchanged { OnErr result (self.new ≡ self.old) }
-        ensures free { OnErr result (self.old.inline ≡ false) }
+        ensures mode { KeepsMode self.old.inline result self.new.inline }
+
+        // Refused where shared bytes must be copied, and not where all or none stay.
+        ensures refused { RefusesForMemory self.old result self.new }
         ensures keeps_all { length self.old.bytes ≤ target → IsOk result × (self.new ≡ self.old) }
         ensures keeps_none { target ≡ 0 → IsOk result × (self.new.bytes ≡ []) }
     {
@@ -60,20 +59,14 @@ impl<const N: usize> SmallBytes<N> {
         }
     }
 
-    /// Puts `byte` in at `index`, before the byte that stands there: inline where it fits, which is
-    /// never refused, and else spilled. Spilled bytes that are shared are copied first.
-    ///
-    /// A refusal changes nothing: `Capacity` where there are 2^63 - 1 bytes, and else `Memory`.
+    /// Puts `byte` in at `index`, before the byte that stands there. Spilled bytes that are shared
+    /// are copied first.
     #[tactic(auto, using(crate::proofs::Limits::past_limit))]
     pub fn insert(&mut self, index: usize, byte: u8) -> Result<(), EcoError>
         requires { index ≤ length self.old.bytes }
         ensures bytes { OnOk result (self.new.bytes ≡ insert self.old.bytes index byte) }
-        ensures mode { OnOk result
-            (self.new.inline ≡ inline_after N self.old.inline (length self.old.bytes) 1) }
-        ensures unchanged { OnErr result (self.new ≡ self.old) }
-        ensures capacity { IsErrOf result EcoError.Capacity ↔ (MAX_LEN ≤ length self.old.bytes) }
-        ensures free { OnErr result (inline_after N self.old.inline (length self.old.bytes) 1
-            ≡ false) }
+        ensures mode { Grows N self.old.inline (length self.old.bytes) 1 result self.new.inline }
+        ensures refused { RefusesPast (length self.old.bytes + 1) self.old result self.new }
     {
         if let Form::Spilled(vec) = &mut self.form {
             return match vec.insert(index, byte) {
@@ -85,24 +78,16 @@ impl<const N: usize> SmallBytes<N> {
     }
 
     /// Puts `bytes` in at `index`, before the byte that stands there: all, or none where it is
-    /// refused. They are inline where they fit, which is never refused, and else spilled. Spilled
-    /// bytes that are shared are copied first, also where none is put in.
-    ///
-    /// A refusal changes nothing: `Capacity` where the new length passes 2^63 - 1, and else
-    /// `Memory`.
+    /// refused. Spilled bytes that are shared are copied first, also where none is put in.
     #[inline]
     #[tactic(auto, using(crate::proofs::Limits::past_limit))]
     pub fn insert_slice(&mut self, index: usize, bytes: &[u8]) -> Result<(), EcoError>
         requires { index ≤ length self.old.bytes }
         ensures bytes { OnOk result (self.new.bytes ≡ insert_slice self.old.bytes index bytes.now) }
-        ensures mode { OnOk result
-            (self.new.inline ≡ inline_after N self.old.inline (length self.old.bytes)
-            (length bytes.now)) }
-        ensures unchanged { OnErr result (self.new ≡ self.old) }
-        ensures capacity { IsErrOf result EcoError.Capacity
-            ↔ (MAX_LEN < length self.old.bytes + length bytes.now) }
-        ensures free { OnErr result (inline_after N self.old.inline (length self.old.bytes)
-            (length bytes.now) ≡ false) }
+        ensures mode { Grows N self.old.inline (length self.old.bytes) (length bytes.now)
+            result self.new.inline }
+        ensures refused { RefusesPast (length self.old.bytes + length bytes.now)
+            self.old result self.new }
     {
         if let Form::Spilled(vec) = &mut self.form {
             return vec.insert_slice(index, bytes);
@@ -115,12 +100,8 @@ impl<const N: usize> SmallBytes<N> {
     }
 
     /// Puts `bytes` in place of the bytes of `range`, which `range_in` tests: all, or none where it
-    /// is refused. They are inline where they fit, which is never refused, and else spilled. In a
-    /// spilled value that shares nothing, those before the range stay where they are. Spilled bytes
-    /// that are shared are copied first, also where nothing changes.
-    ///
-    /// A refusal changes nothing: `Capacity` where the new length passes 2^63 - 1, and else
-    /// `Memory`.
+    /// is refused. In a spilled value that shares nothing, those before the range stay where they
+    /// are. Spilled bytes that are shared are copied first, also where nothing changes.
     ///
     /// This project's own, named as that of std's `String`.
     #[inline]
@@ -136,18 +117,16 @@ impl<const N: usize> SmallBytes<N> {
         ensures bytes { OnOk result
             (AtRange (R.start_bound range, R.end_bound range) (length self.old.bytes)
             (λ start end. self.new.bytes ≡ replace_range self.old.bytes start end bytes.now)) }
-        ensures mode { OnOk result
-            (AtRange (R.start_bound range, R.end_bound range) (length self.old.bytes)
-            (λ start end. self.new.inline ≡ inline_after N self.old.inline
-            (length self.old.bytes - (end - start)) (length bytes.now))) }
+        ensures mode { AtRange (R.start_bound range, R.end_bound range) (length self.old.bytes)
+            (λ start end.
+            Grows N self.old.inline (length self.old.bytes - (end - start)) (length bytes.now)
+            result self.new.inline) }
+
+        // A refusal leaves the bytes, and is for capacity exactly past the limit.
         ensures unchanged { OnErr result (self.new ≡ self.old) }
         ensures capacity { AtRange (R.start_bound range, R.end_bound range) (length self.old.bytes)
             (λ start end. IsErrOf result EcoError.Capacity
             ↔ (MAX_LEN < length self.old.bytes - (end - start) + length bytes.now)) }
-        ensures free { OnErr result
-            (AtRange (R.start_bound range, R.end_bound range) (length self.old.bytes)
-            (λ start end. inline_after N self.old.inline (length self.old.bytes - (end - start))
-            (length bytes.now) ≡ false)) }
     {
         let (start, end) = resolve(&range, self.len()).unwrap();
         if let Form::Spilled(vec) = &mut self.form {
@@ -160,16 +139,13 @@ impl<const N: usize> SmallBytes<N> {
         Ok(())
     }
 
-    /// Takes the byte at `index`. Never refused for inline bytes. Spilled bytes that are shared are
-    /// copied first, and the one error is `Memory`, which changes nothing.
+    /// Takes the byte at `index`. Spilled bytes that are shared are copied first.
     pub fn remove(&mut self, index: usize) -> Result<u8, EcoError>
         requires { index < length self.old.bytes }
         ensures value { IfOk result (λ byte. slice_get self.old.bytes index ≡ Some byte) }
         ensures bytes { OnOk result (self.new.bytes ≡ remove self.old.bytes index) }
-        ensures mode { self.new.inline ≡ self.old.inline }
-        ensures memory { IfErr result (λ error. error ≡ EcoError.Memory) }
-        ensures unchanged { OnErr result (self.new ≡ self.old) }
-        ensures free { OnErr result (self.old.inline ≡ false) }
+        ensures mode { KeepsMode self.old.inline result self.new.inline }
+        ensures refused { RefusesForMemory self.old result self.new }
     {
         match &mut self.form {
             Form::Short(_) | Form::Full(_) => Ok(self.form.remove(index)),
@@ -177,17 +153,14 @@ impl<const N: usize> SmallBytes<N> {
         }
     }
 
-    /// Puts `byte` in place of the byte at `index`. Never refused for inline bytes. Spilled bytes
-    /// that are shared are copied first, and the one error is `Memory`, which changes nothing.
+    /// Puts `byte` in place of the byte at `index`. Spilled bytes that are shared are copied first.
     ///
     /// This project's own: the original writes through `make_mut`.
     pub fn set(&mut self, index: usize, byte: u8) -> Result<(), EcoError>
         requires { index < length self.old.bytes }
         ensures bytes { OnOk result (self.new.bytes ≡ slice_set self.old.bytes index byte) }
-        ensures mode { self.new.inline ≡ self.old.inline }
-        ensures memory { IfErr result (λ error. error ≡ EcoError.Memory) }
-        ensures unchanged { OnErr result (self.new ≡ self.old) }
-        ensures free { OnErr result (self.old.inline ≡ false) }
+        ensures mode { KeepsMode self.old.inline result self.new.inline }
+        ensures refused { RefusesForMemory self.old result self.new }
     {
         match &mut self.form {
             Form::Short(_) | Form::Full(_) => {
@@ -201,22 +174,15 @@ impl<const N: usize> SmallBytes<N> {
         }
     }
 
-    /// Asks for room for `additional` more bytes; no capacity is promised. Inline bytes stay inline
-    /// where so many more fit, which is never refused, and else they spill. Spilled bytes that are
+    /// Asks for room for `additional` more bytes; no capacity is promised. Spilled bytes that are
     /// shared are copied, also where `additional` is 0.
-    ///
-    /// A refusal changes nothing: `Capacity` where the length and `additional` together pass
-    /// 2^63 - 1, and else `Memory`.
     #[tactic(auto, using(crate::proofs::Limits::past_limit))]
     pub fn reserve(&mut self, additional: usize) -> Result<(), EcoError>
         ensures bytes { self.new.bytes ≡ self.old.bytes }
-        ensures mode { OnOk result
-            (self.new.inline ≡ inline_after N self.old.inline (length self.old.bytes) additional) }
-        ensures unchanged { OnErr result (self.new ≡ self.old) }
-        ensures capacity { IsErrOf result EcoError.Capacity
-            ↔ (MAX_LEN < length self.old.bytes + additional) }
-        ensures free { OnErr result
-            (inline_after N self.old.inline (length self.old.bytes) additional ≡ false) }
+        ensures mode { Grows N self.old.inline (length self.old.bytes) additional
+            result self.new.inline }
+        ensures refused { RefusesPast (length self.old.bytes + additional)
+            self.old result self.new }
     {
         if let Form::Spilled(vec) = &mut self.form {
             return vec.reserve(additional);

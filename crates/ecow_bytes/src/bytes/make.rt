@@ -4,6 +4,7 @@ ghost use Rattle.std.specs.Iterator.{IsFinite};
 ghost use Rattle.ecow_vec.specs.Vectors.{GivesFirst, GivesItems};
 ghost use Rattle.ecow_values.specs.Plain.{plain_bytes};
 ghost use Rattle.ecow_values.specs.Inline.{inline_for};
+ghost use Rattle.ecow_bytes.specs.Makes.{MakesBytes};
 
 use crate::bytes::SmallBytes;
 use crate::form::Form;
@@ -15,8 +16,8 @@ impl<const N: usize> SmallBytes<N> {
     /// A copy of `bytes`, inline: `None` where there are more than `N`. Takes no memory.
     pub fn try_inline(alloc: Global, bytes: &[u8]) -> Option<Self>
         ensures fits { IsSome result ↔ (length bytes.now ≤ N) }
-        ensures bytes { IfSome result (λ made. made.bytes ≡ bytes.now) }
-        ensures mode { IfSome result (λ made. made.inline ≡ true) }
+        ensures bytes { IfSome result (λ b. b.bytes ≡ bytes.now) }
+        ensures mode { IfSome result (λ b. b.inline ≡ true) }
     {
         match Form::inline(bytes) {
             Some(form) => Some(SmallBytes { form, alloc }),
@@ -33,13 +34,9 @@ impl<const N: usize> SmallBytes<N> {
         Self::try_inline(alloc, bytes).unwrap()
     }
 
-    /// No bytes, with room for `capacity`: inline where that is at most `N`, which is never
-    /// refused, and else spilled. Answers `Capacity` where that passes 2^63 - 1, and else `Memory`.
+    /// No bytes, with room for `capacity`.
     pub fn with_capacity(alloc: Global, capacity: usize) -> Result<Self, EcoError>
-        ensures bytes { IfOk result (λ made. made.bytes ≡ []) }
-        ensures mode { IfOk result (λ made. made.inline ≡ inline_for N capacity) }
-        ensures capacity { IsErrOf result EcoError.Capacity ↔ (MAX_LEN < capacity) }
-        ensures free { capacity ≤ N → IsOk result }
+        ensures { MakesBytes N capacity [] result }
     {
         let made = Self::new(alloc);
         if capacity <= made.capacity() {
@@ -52,14 +49,10 @@ impl<const N: usize> SmallBytes<N> {
         })
     }
 
-    /// A copy of `bytes`: inline where there are at most `N`, which is never refused, and else
-    /// spilled. Answers `Capacity` past 2^63 - 1 bytes, and else `Memory`.
+    /// A copy of `bytes`.
     #[inline]
     pub fn from_slice(alloc: Global, bytes: &[u8]) -> Result<Self, EcoError>
-        ensures bytes { IfOk result (λ made. made.bytes ≡ bytes.now) }
-        ensures mode { IfOk result (λ made. made.inline ≡ inline_for N (length bytes.now)) }
-        ensures capacity { IsErrOf result EcoError.Capacity ↔ (MAX_LEN < length bytes.now) }
-        ensures free { length bytes.now ≤ N → IsOk result }
+        ensures { MakesBytes N (length bytes.now) bytes.now result }
     {
         let form = match Form::inline(bytes) {
             Some(inline) => inline,
@@ -70,10 +63,7 @@ impl<const N: usize> SmallBytes<N> {
 
     /// The bytes of an array, as `from_slice` makes them.
     pub fn from_array<const M: usize>(alloc: Global, bytes: [u8; M]) -> Result<Self, EcoError>
-        ensures bytes { IfOk result (λ made. made.bytes ≡ bytes.entry) }
-        ensures mode { IfOk result (λ made. made.inline ≡ inline_for N M) }
-        ensures capacity { IsErrOf result EcoError.Capacity ↔ (MAX_LEN < M) }
-        ensures free { M ≤ N → IsOk result }
+        ensures { MakesBytes N M bytes.entry result }
     {
         Self::from_slice(alloc, &bytes)
     }
@@ -85,8 +75,8 @@ impl<const N: usize> SmallBytes<N> {
         requires { (it : I.IntoIter) → I.into_iter_gives iter it → I.IntoIter.can_next it
             × IsFinite (I.IntoIter.remaining it) }
         ensures bytes { IfOk result
-            (λ made. GivesItems I.into_iter_gives I.IntoIter.next_gives iter made.bytes) }
-        ensures mode { IfOk result (λ made. made.inline ≡ inline_for N (length made.bytes)) }
+            (λ b. GivesItems I.into_iter_gives I.IntoIter.next_gives iter b.bytes) }
+        ensures mode { IfOk result (λ b. b.inline ≡ inline_for N (length b.bytes)) }
         ensures refused { OnErr result ((items : List ℕ)
             × GivesFirst I.into_iter_gives I.IntoIter.next_gives iter items × (N < length items)
             × (IsErrOf result EcoError.Capacity ↔ (MAX_LEN < length items))) }
@@ -96,16 +86,17 @@ impl<const N: usize> SmallBytes<N> {
         Ok(made)
     }
 
-    /// The bytes of a `Vec`: inline where there are at most `N`, which is never refused, and else
-    /// spilled, with a block of their own. A refusal hands the `Vec` back, with `Capacity` past
-    /// 2^63 - 1 bytes, and else with `Memory`.
+    /// The bytes of a `Vec`: inline where there are at most `N`, and else spilled, with a block of
+    /// their own. Answers `Capacity` past 2^63 - 1 bytes, and else `Memory`.
     pub fn from_vec(alloc: Global, bytes: Vec<u8>) -> Result<Self, Rejected<Vec<u8>>>
-        ensures bytes { IfOk result (λ made. made.bytes ≡ bytes.items) }
-        ensures mode { IfOk result (λ made. made.inline ≡ inline_for N (vec_len bytes)) }
+        ensures bytes { IfOk result (λ b. b.bytes ≡ bytes.items) }
+        ensures mode { IfOk result (λ b. b.inline ≡ inline_for N (vec_len bytes)) }
+        ensures free { vec_len bytes ≤ N → IsOk result }
+
+        // A refusal hands the `Vec` back, and is for capacity exactly past the limit.
         ensures value_returned { IfErr result (λ rejected. rejected.value.items ≡ bytes.items) }
         ensures capacity { IsErrAnd result (λ rejected. rejected.error ≡ EcoError.Capacity)
             ↔ (MAX_LEN < vec_len bytes) }
-        ensures free { vec_len bytes ≤ N → IsOk result }
     {
         let form = match Form::inline(bytes.as_slice()) {
             Some(inline) => inline,

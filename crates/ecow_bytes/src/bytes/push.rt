@@ -4,7 +4,8 @@ ghost use Rattle.std.specs.Prelude.{◌≡◌, ℕ, List, ◌+◌, ◌-◌, ◌<
 ghost use Rattle.std.specs.Iterator.{IsFinite, ExtendsWithItems};
 ghost use Rattle.std.specs.List.{replace_range};
 ghost use Rattle.ecow_vec.specs.Vectors.{Appends, ExtendsBy, GivesFirst};
-ghost use Rattle.ecow_values.specs.Inline.{inline_after};
+ghost use Rattle.ecow_vec.specs.Refusals.{RefusesPast};
+ghost use Rattle.ecow_values.specs.Inline.{Grows, inline_after};
 
 use crate::bytes::SmallBytes;
 use crate::form::Form;
@@ -12,20 +13,13 @@ use ecow_base::{MAX_LEN, room_for};
 use ecow_vec::{EcoError, EcoVec};
 
 impl<const N: usize> SmallBytes<N> {
-    /// Appends `byte`: inline where it fits, which is never refused, and else spilled. Spilled
-    /// bytes that are shared are copied first.
-    ///
-    /// A refusal changes nothing: `Capacity` where there are 2^63 - 1 bytes, and else `Memory`.
+    /// Appends `byte`. Spilled bytes that are shared are copied first.
     #[inline(always)]
     #[tactic(auto, using(crate::proofs::Limits::past_limit, crate::proofs::Moves::put_at_end))]
     pub fn push(&mut self, byte: u8) -> Result<(), EcoError>
         ensures bytes { OnOk result (self.new.bytes ≡ self.old.bytes ++ byte ∷ []) }
-        ensures mode { OnOk result
-            (self.new.inline ≡ inline_after N self.old.inline (length self.old.bytes) 1) }
-        ensures unchanged { OnErr result (self.new ≡ self.old) }
-        ensures capacity { IsErrOf result EcoError.Capacity ↔ (MAX_LEN ≤ length self.old.bytes) }
-        ensures free { OnErr result (inline_after N self.old.inline (length self.old.bytes) 1
-            ≡ false) }
+        ensures mode { Grows N self.old.inline (length self.old.bytes) 1 result self.new.inline }
+        ensures refused { RefusesPast (length self.old.bytes + 1) self.old result self.new }
     {
         let end = match &mut self.form {
             Form::Spilled(vec) => {
@@ -45,24 +39,18 @@ impl<const N: usize> SmallBytes<N> {
         self.spill_with(end, end, &[byte])
     }
 
-    /// Appends `bytes`: all, or none where it is refused. They are inline where they fit, which is
-    /// never refused, and else spilled. Spilled bytes that are shared are copied first. For no
-    /// bytes it is never refused and changes nothing, sharing included.
-    ///
-    /// A refusal changes nothing: `Capacity` where the new length passes 2^63 - 1, and else
-    /// `Memory`.
+    /// Appends `bytes`: all, or none where it is refused. Spilled bytes that are shared are copied
+    /// first.
     #[inline]
     #[tactic(auto, using(crate::proofs::Limits::past_limit, crate::proofs::Moves::put_at_end))]
     pub fn extend_from_slice(&mut self, bytes: &[u8]) -> Result<(), EcoError>
         ensures bytes { OnOk result (self.new.bytes ≡ self.old.bytes ++ bytes.now) }
-        ensures mode { OnOk result
-            (self.new.inline ≡ inline_after N self.old.inline (length self.old.bytes)
-            (length bytes.now)) }
-        ensures unchanged { OnErr result (self.new ≡ self.old) }
-        ensures capacity { IsErrOf result EcoError.Capacity
-            ↔ (MAX_LEN < length self.old.bytes + length bytes.now) }
-        ensures free { OnErr result (inline_after N self.old.inline (length self.old.bytes)
-            (length bytes.now) ≡ false) }
+        ensures mode { Grows N self.old.inline (length self.old.bytes) (length bytes.now)
+            result self.new.inline }
+        ensures refused { RefusesPast (length self.old.bytes + length bytes.now)
+            self.old result self.new }
+
+        // For no bytes nothing changes, sharing included.
         ensures nothing { bytes.now ≡ [] → IsOk result × (self.new ≡ self.old) }
     {
         if let [byte] = bytes {
@@ -140,9 +128,8 @@ impl<const N: usize> SmallBytes<N> {
         ensures bytes { OnOk result
             (self.new.bytes ≡ replace_range self.old.bytes start end bytes.now) }
         ensures mode { OnOk result (self.new.inline ≡ false) }
-        ensures unchanged { OnErr result (self.new ≡ self.old) }
-        ensures capacity { IsErrOf result EcoError.Capacity
-            ↔ (MAX_LEN < length self.old.bytes - (end - start) + length bytes.now) }
+        ensures refused { RefusesPast (length self.old.bytes - (end - start) + length bytes.now)
+            self.old result self.new }
     {
         let len = self.form.len();
         let new_len = len - (end - start) + bytes.len();

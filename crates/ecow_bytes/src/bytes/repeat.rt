@@ -1,7 +1,8 @@
 //! Repetition of the bytes.
 ghost use Rattle.std.specs.Prelude.{◌≡◌, ◌+◌, ◌*◌, ◌<◌, ◌≤◌, ◌↔◌, ◌++◌, false, length, take, IsOk, IfOk, IfErr, OnOk, OnErr, IsErrOf};
 ghost use Rattle.std.specs.List.{repeat};
-ghost use Rattle.ecow_values.specs.Inline.{inline_after, inline_for};
+ghost use Rattle.ecow_values.specs.Inline.{Grows};
+ghost use Rattle.ecow_bytes.specs.Makes.{MakesBytes};
 
 use crate::bytes::SmallBytes;
 use crate::form::Form;
@@ -9,18 +10,10 @@ use ecow_base::MAX_LEN;
 use ecow_vec::EcoError;
 
 impl<const N: usize> SmallBytes<N> {
-    /// The bytes `count` times over: inline where they come to at most `N`, which is never refused,
-    /// and else spilled. Each step appends as many copies as there are, in one move of memory. Of
-    /// no bytes it returns at once, however often.
-    ///
-    /// Answers `Capacity` where they come to more than 2^63 - 1, and else `Memory`.
+    /// The bytes `count` times over. Each step appends as many copies as there are, in one move of
+    /// memory. Of no bytes it returns at once, however often.
     pub fn repeat(&self, count: usize) -> Result<Self, EcoError>
-        ensures bytes { IfOk result (λ made. made.bytes ≡ repeat count self.now.bytes) }
-        ensures mode { IfOk result (λ made. made.inline
-            ≡ inline_for N (length self.now.bytes * count)) }
-        ensures capacity { IsErrOf result EcoError.Capacity
-            ↔ (MAX_LEN < length self.now.bytes * count) }
-        ensures free { length self.now.bytes * count ≤ N → IsOk result }
+        ensures { MakesBytes N (length self.now.bytes * count) (repeat count self.now.bytes) result }
     {
         let len = self.len();
         if len == 0 || count == 0 {
@@ -46,11 +39,9 @@ impl<const N: usize> SmallBytes<N> {
         requires in_bounds { len ≤ length self.old.bytes }
         requires bounded { length self.old.bytes + len ≤ MAX_LEN }
         ensures bytes { OnOk result (self.new.bytes ≡ self.old.bytes ++ take len self.old.bytes) }
-        ensures mode { OnOk result
-            (self.new.inline ≡ inline_after N self.old.inline (length self.old.bytes) len) }
+        ensures mode { Grows N self.old.inline (length self.old.bytes) len
+            result self.new.inline }
         ensures memory { IfErr result (λ error. error ≡ EcoError.Memory) }
-        ensures free { OnErr result (inline_after N self.old.inline (length self.old.bytes) len
-            ≡ false) }
     {
         if let Form::Spilled(vec) = &mut self.form {
             return vec.extend_from_within(..len);

@@ -22,8 +22,8 @@ returns-after-own_mut-clause-bytes g c =
     ]
 
 -- where the copy was refused, the vector has the bytes of before
-pub returns-after-own_mut-clause-unchanged : goal.returns-after-own_mut-clause-unchanged
-returns-after-own_mut-clause-unchanged g c = elim c.match-own_mut.branch [
+pub returns-after-own_mut-clause-refused : goal.returns-after-own_mut-clause-refused
+returns-after-own_mut-clause-refused g c = elim c.match-own_mut.branch [
   | in-Ok w ↦ search rules
   | in-Err-None w ↦ search rules
   | in-Err-Some w ↦
