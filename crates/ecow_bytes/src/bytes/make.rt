@@ -1,6 +1,6 @@
 //! The calls that make bytes of something else.
 ghost use Rattle.std.specs.Prelude.{◌≡◌, ℕ, ◌<◌, ◌≤◌, ◌↔◌, [], List, length, vec_len, true, false, IsOk, IfOk, IfErr, OnErr, IsErrAnd, IsErrOf, IsSome, IfSome};
-ghost use Rattle.std.specs.Iterator.{IsFinite};
+ghost use Rattle.std.specs.Iterator.{IsFiniteIterable};
 ghost use Rattle.ecow_vec.specs.Vectors.{GivesFirst, GivesItems};
 ghost use Rattle.ecow_values.specs.Plain.{plain_bytes};
 ghost use Rattle.ecow_values.specs.Inline.{inline_for};
@@ -72,8 +72,8 @@ impl<const N: usize> SmallBytes<N> {
     /// spilled. Its size hint isn't asked. Answers `Capacity` at the byte past 2^63 - 1, and else
     /// `Memory`: no further one is asked for then.
     pub fn from_iter<I: IntoIterator<Item = u8>>(alloc: Global, iter: I) -> Result<Self, EcoError>
-        requires { (it : I.IntoIter) → I.into_iter_gives iter it → I.IntoIter.can_next it
-            × IsFinite (I.IntoIter.remaining it) }
+        requires { IsFiniteIterable
+            I.into_iter_gives I.IntoIter.can_next I.IntoIter.remaining iter }
         ensures bytes { IfOk result
             (λ b. GivesItems I.into_iter_gives I.IntoIter.next_gives iter b.bytes) }
         ensures mode { IfOk result (λ b. b.inline ≡ inline_for N (length b.bytes)) }

@@ -1,7 +1,7 @@
 //! Appending bytes. The case in which they fit inline is short, so that it is inlined; the others
 //! are out of line.
 ghost use Rattle.std.specs.Prelude.{◌≡◌, ℕ, List, ◌+◌, ◌-◌, ◌<◌, ◌≤◌, ◌↔◌, [], ◌∷◌, ◌++◌, length, true, false, IsOk, IfOk, OnOk, OnErr, IsErrOf};
-ghost use Rattle.std.specs.Iterator.{IsFinite, ExtendsWithItems};
+ghost use Rattle.std.specs.Iterator.{IsFinite, IsFiniteIterable, ExtendsWithItems};
 ghost use Rattle.std.specs.List.{replace_range};
 ghost use Rattle.ecow_vec.specs.Vectors.{Appends, ExtendsBy, GivesFirst};
 ghost use Rattle.ecow_vec.specs.Refusals.{RefusesPast};
@@ -76,8 +76,8 @@ impl<const N: usize> SmallBytes<N> {
     /// Where a byte is refused those before it stay, and no further one is asked for: `Capacity`
     /// where there are 2^63 - 1 bytes then, and else `Memory`. No byte is refused that fits inline.
     pub fn extend<I: IntoIterator<Item = u8>>(&mut self, iter: I) -> Result<(), EcoError>
-        requires { (it : I.IntoIter) → I.into_iter_gives iter it → I.IntoIter.can_next it
-            × IsFinite (I.IntoIter.remaining it) }
+        requires { IsFiniteIterable
+            I.into_iter_gives I.IntoIter.can_next I.IntoIter.remaining iter }
         ensures bytes { ExtendsWithItems I.into_iter_gives I.IntoIter.next_gives Appends iter
             self.old.bytes self.new.bytes result }
         ensures mode { self.new.inline ≡ inline_after N self.old.inline (length self.new.bytes) 0 }

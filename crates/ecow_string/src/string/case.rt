@@ -4,9 +4,11 @@ ghost use Rattle.std.specs.Char.{to_ascii_lowercase, to_ascii_uppercase};
 ghost use Rattle.std.specs.Str.{encode_utf8_all, IsAscii};
 ghost use Rattle.std.specs.StrCase.Lower.{str_to_lowercase};
 ghost use Rattle.std.specs.StrCase.Upper.{str_to_uppercase};
-ghost use Rattle.ecow_values.specs.Inline.{inline_for};
+ghost use Rattle.ecow_values.specs.Inline.{KeepsMode};
 ghost use Rattle.ecow_values.specs.Utf8.{utf8_len};
-ghost use Rattle.ecow_string.specs.Case.{in_case, str_in_case};
+ghost use Rattle.ecow_string.specs.Case.{in_case};
+ghost use Rattle.ecow_vec.specs.Refusals.{RefusesForMemory};
+ghost use Rattle.ecow_string.specs.Makes.{MakesTextIn, MakesCased};
 
 use crate::case::Case;
 use crate::string::SmallString;
@@ -15,15 +17,12 @@ use ecow_bytes::SmallBytes;
 use ecow_vec::{EcoError, EcoVec};
 
 impl<const N: usize> SmallString<N> {
-    /// Maps the letters `A` to `Z` to lower case where they stand, and leaves all others and the
-    /// mode. Never refused for an inline text. A spilled text that is shared is copied first, and
-    /// the one error is `Memory`, which changes nothing.
+    /// Maps the letters `A` to `Z` to lower case where they stand, and leaves all others. A spilled
+    /// text that is shared is copied first.
     pub fn make_ascii_lowercase(&mut self) -> Result<(), EcoError>
         ensures chars { OnOk result (self.new.chars ≡ map to_ascii_lowercase self.old.chars) }
-        ensures mode { self.new.inline ≡ self.old.inline }
-        ensures memory { IfErr result (λ error. error ≡ EcoError.Memory) }
-        ensures unchanged { OnErr result (self.new ≡ self.old) }
-        ensures free { OnErr result (self.old.inline ≡ false) }
+        ensures mode { KeepsMode self.old.inline result self.new.inline }
+        ensures refused { RefusesForMemory self.old result self.new }
     {
         self.make_ascii(Case::Lower)
     }
@@ -31,21 +30,15 @@ impl<const N: usize> SmallString<N> {
     /// Maps the letters `a` to `z` to upper case, as `make_ascii_lowercase` maps to lower.
     pub fn make_ascii_uppercase(&mut self) -> Result<(), EcoError>
         ensures chars { OnOk result (self.new.chars ≡ map to_ascii_uppercase self.old.chars) }
-        ensures mode { self.new.inline ≡ self.old.inline }
-        ensures memory { IfErr result (λ error. error ≡ EcoError.Memory) }
-        ensures unchanged { OnErr result (self.new ≡ self.old) }
-        ensures free { OnErr result (self.old.inline ≡ false) }
+        ensures mode { KeepsMode self.old.inline result self.new.inline }
+        ensures refused { RefusesForMemory self.old result self.new }
     {
         self.make_ascii(Case::Upper)
     }
 
-    /// The text with the letters `A` to `Z` in lower case, in the mode of this one. Never refused
-    /// of an inline text; the one error is `Memory`.
+    /// The text with the letters `A` to `Z` in lower case, in the mode of this one.
     pub fn to_ascii_lowercase(&self) -> Result<Self, EcoError>
-        ensures chars { IfOk result (λ made. made.chars ≡ map to_ascii_lowercase self.now.chars) }
-        ensures mode { IfOk result (λ made. made.inline ≡ self.now.inline) }
-        ensures memory { IfErr result (λ error. error ≡ EcoError.Memory) }
-        ensures free { OnErr result (self.now.inline ≡ false) }
+        ensures { MakesTextIn self.now.inline (map to_ascii_lowercase self.now.chars) result }
     {
         self.to_ascii(Case::Lower)
     }
@@ -53,54 +46,23 @@ impl<const N: usize> SmallString<N> {
     /// The text with the letters `a` to `z` in upper case, as `to_ascii_lowercase` has them in
     /// lower.
     pub fn to_ascii_uppercase(&self) -> Result<Self, EcoError>
-        ensures chars { IfOk result (λ made. made.chars ≡ map to_ascii_uppercase self.now.chars) }
-        ensures mode { IfOk result (λ made. made.inline ≡ self.now.inline) }
-        ensures memory { IfErr result (λ error. error ≡ EcoError.Memory) }
-        ensures free { OnErr result (self.now.inline ≡ false) }
+        ensures { MakesTextIn self.now.inline (map to_ascii_uppercase self.now.chars) result }
     {
         self.to_ascii(Case::Upper)
     }
 
     /// The text in lower case, as std's `str` has it: of an ASCII text the letters mapped, and past
-    /// ASCII by Unicode. It is inline where it has at most `N` bytes, which is never refused of an
-    /// ASCII text, and else spilled. Past ASCII memory for std's text may be refused too.
-    ///
-    /// Answers `Memory`, or `Capacity` where std's text has more than 2^63 - 1 bytes, which no
-    /// ASCII text has.
+    /// ASCII by Unicode, where memory for std's text may be refused too.
     pub fn to_lowercase(&self) -> Result<Self, EcoError>
-        ensures bytes { IfOk result (λ made. encode_utf8_all made.chars
-            ≡ str_to_lowercase (encode_utf8_all self.now.chars)) }
-        ensures ascii { IsAscii (encode_utf8_all self.now.chars)
-            → IfOk result (λ made. made.chars ≡ map to_ascii_lowercase self.now.chars) }
-        ensures mode { IfOk result (λ made. made.inline ≡ inline_for N (utf8_len made.chars)) }
-        ensures capacity { IsErrOf result EcoError.Capacity
-            → MAX_LEN < length (str_to_lowercase (encode_utf8_all self.now.chars)) }
-        ensures ascii_memory { IsAscii (encode_utf8_all self.now.chars)
-            → IfErr result (λ error. error ≡ EcoError.Memory) }
-        ensures free { IsAscii (encode_utf8_all self.now.chars) → utf8_len self.now.chars ≤ N
-            → IsOk result }
+        ensures { MakesCased N Case.Lower self.now.chars result }
     {
         self.to_case(Case::Lower)
     }
 
     /// The text in upper case, as std's `str` has it: of an ASCII text the letters mapped, and past
-    /// ASCII by Unicode. It is inline where it has at most `N` bytes, which is never refused of an
-    /// ASCII text, and else spilled. Past ASCII memory for std's text may be refused too.
-    ///
-    /// Answers `Memory`, or `Capacity` where std's text has more than 2^63 - 1 bytes, which no
-    /// ASCII text has.
+    /// ASCII by Unicode, where memory for std's text may be refused too.
     pub fn to_uppercase(&self) -> Result<Self, EcoError>
-        ensures bytes { IfOk result (λ made. encode_utf8_all made.chars
-            ≡ str_to_uppercase (encode_utf8_all self.now.chars)) }
-        ensures ascii { IsAscii (encode_utf8_all self.now.chars)
-            → IfOk result (λ made. made.chars ≡ map to_ascii_uppercase self.now.chars) }
-        ensures mode { IfOk result (λ made. made.inline ≡ inline_for N (utf8_len made.chars)) }
-        ensures capacity { IsErrOf result EcoError.Capacity
-            → MAX_LEN < length (str_to_uppercase (encode_utf8_all self.now.chars)) }
-        ensures ascii_memory { IsAscii (encode_utf8_all self.now.chars)
-            → IfErr result (λ error. error ≡ EcoError.Memory) }
-        ensures free { IsAscii (encode_utf8_all self.now.chars) → utf8_len self.now.chars ≤ N
-            → IsOk result }
+        ensures { MakesCased N Case.Upper self.now.chars result }
     {
         self.to_case(Case::Upper)
     }
@@ -108,10 +70,8 @@ impl<const N: usize> SmallString<N> {
     /// Maps the ASCII letters to one case, where they stand.
     fn make_ascii(&mut self, case: Case) -> Result<(), EcoError>
         ensures chars { OnOk result (self.new.chars ≡ map (in_case case) self.old.chars) }
-        ensures mode { self.new.inline ≡ self.old.inline }
-        ensures memory { IfErr result (λ error. error ≡ EcoError.Memory) }
-        ensures unchanged { OnErr result (self.new ≡ self.old) }
-        ensures free { OnErr result (self.old.inline ≡ false) }
+        ensures mode { KeepsMode self.old.inline result self.new.inline }
+        ensures refused { RefusesForMemory self.old result self.new }
     {
         self.bytes.rewrite(|bytes| {
             case.map(bytes);
@@ -122,10 +82,7 @@ impl<const N: usize> SmallString<N> {
 
     /// The text with its ASCII letters in one case, in its mode.
     fn to_ascii(&self, case: Case) -> Result<Self, EcoError>
-        ensures chars { IfOk result (λ made. made.chars ≡ map (in_case case) self.now.chars) }
-        ensures mode { IfOk result (λ made. made.inline ≡ self.now.inline) }
-        ensures memory { IfErr result (λ error. error ≡ EcoError.Memory) }
-        ensures free { OnErr result (self.now.inline ≡ false) }
+        ensures { MakesTextIn self.now.inline (map (in_case case) self.now.chars) result }
     {
         // For the proof: an inline text has at most `N` bytes.
         let _len = self.len();
@@ -137,10 +94,7 @@ impl<const N: usize> SmallString<N> {
     /// A copy of the text, inline or spilled.
     fn copy(&self, inline: bool) -> Result<Self, EcoError>
         requires { inline ≡ true → utf8_len self.now.chars ≤ N }
-        ensures chars { IfOk result (λ made. made.chars ≡ self.now.chars) }
-        ensures mode { IfOk result (λ made. made.inline ≡ inline) }
-        ensures memory { IfErr result (λ error. error ≡ EcoError.Memory) }
-        ensures free { OnErr result (inline ≡ false) }
+        ensures { MakesTextIn inline self.now.chars result }
     {
         // The length stands here for the proof alone: it is bounded.
         let (_len, alloc) = (self.len(), self.bytes.allocator());
@@ -155,17 +109,7 @@ impl<const N: usize> SmallString<N> {
 
     /// The text in one case, as std's `str` has it.
     fn to_case(&self, case: Case) -> Result<Self, EcoError>
-        ensures bytes { IfOk result (λ made. encode_utf8_all made.chars
-            ≡ str_in_case case (encode_utf8_all self.now.chars)) }
-        ensures ascii { IsAscii (encode_utf8_all self.now.chars)
-            → IfOk result (λ made. made.chars ≡ map (in_case case) self.now.chars) }
-        ensures mode { IfOk result (λ made. made.inline ≡ inline_for N (utf8_len made.chars)) }
-        ensures capacity { IsErrOf result EcoError.Capacity
-            → MAX_LEN < length (str_in_case case (encode_utf8_all self.now.chars)) }
-        ensures ascii_memory { IsAscii (encode_utf8_all self.now.chars)
-            → IfErr result (λ error. error ≡ EcoError.Memory) }
-        ensures free { IsAscii (encode_utf8_all self.now.chars) → utf8_len self.now.chars ≤ N
-            → IsOk result }
+        ensures { MakesCased N case self.now.chars result }
     {
         let text = self.as_str();
         if text.is_ascii() {

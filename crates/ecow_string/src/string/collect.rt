@@ -2,12 +2,13 @@
 ghost use Rattle.std.specs.Prelude.{◌≡◌, ℕ, List, ◌+◌, ◌<◌, ◌↔◌, ◌++◌, length, false, IfOk, OnOk, OnErr, IsErrOf};
 ghost use Rattle.std.specs.Borrow.{Bor};
 ghost use Rattle.std.specs.Str.{chars};
-ghost use Rattle.std.specs.Iterator.{IsFinite, ExtendsWithItems, Yields};
+ghost use Rattle.std.specs.Iterator.{IsFinite, IsFiniteIterable, ExtendsWithItems, Yields};
 ghost use Rattle.ecow_vec.specs.Vectors.{Appends, ExtendsBy, GivesFirst, GivesItems};
-ghost use Rattle.ecow_values.specs.Inline.{inline_after, inline_for};
+ghost use Rattle.ecow_values.specs.Inline.{inline_after, inline_for, Grows};
 ghost use Rattle.ecow_values.specs.Utf8.{utf8_len};
 ghost use Rattle.ecow_values.specs.declared.plain.PlainText.{PlainText};
 ghost use Rattle.ecow_string.specs.Appends.{AppendsBy, AppendsStrs, LeavesLastOut, joined_by, joined_strs, joined_texts};
+ghost use Rattle.ecow_vec.specs.Refusals.{RefusesPast};
 
 use crate::string::SmallString;
 use ecow_base::MAX_LEN;
@@ -47,11 +48,11 @@ impl<const N: usize> SmallString<N> {
         alloc: Global,
         iter: I,
     ) -> Result<Self, EcoError>
-        requires { (it : I.IntoIter) → I.into_iter_gives iter it → I.IntoIter.can_next it
-            × IsFinite (I.IntoIter.remaining it) }
+        requires { IsFiniteIterable
+            I.into_iter_gives I.IntoIter.can_next I.IntoIter.remaining iter }
         ensures chars { IfOk result
-            (λ made. GivesItems I.into_iter_gives I.IntoIter.next_gives iter made.chars) }
-        ensures mode { IfOk result (λ made. made.inline ≡ inline_for N (utf8_len made.chars)) }
+            (λ t. GivesItems I.into_iter_gives I.IntoIter.next_gives iter t.chars) }
+        ensures mode { IfOk result (λ t. t.inline ≡ inline_for N (utf8_len t.chars)) }
         ensures refused { OnErr result ((items : List ℕ)
             × GivesFirst I.into_iter_gives I.IntoIter.next_gives iter items × (N < utf8_len items)
             × (IsErrOf result EcoError.Capacity ↔ (MAX_LEN < utf8_len items))) }
@@ -68,12 +69,12 @@ impl<const N: usize> SmallString<N> {
         alloc: Global,
         iter: I,
     ) -> Result<Self, EcoError>
-        requires { (it : I.IntoIter) → I.into_iter_gives iter it → I.IntoIter.can_next it
-            × IsFinite (I.IntoIter.remaining it) }
-        ensures chars { IfOk result (λ made. (items : List (Bor (List ℕ)))
+        requires { IsFiniteIterable
+            I.into_iter_gives I.IntoIter.can_next I.IntoIter.remaining iter }
+        ensures chars { IfOk result (λ t. (items : List (Bor (List ℕ)))
             × GivesItems I.into_iter_gives I.IntoIter.next_gives iter items
-            × (made.chars ≡ joined_strs items)) }
-        ensures mode { IfOk result (λ made. made.inline ≡ inline_for N (utf8_len made.chars)) }
+            × (t.chars ≡ joined_strs items)) }
+        ensures mode { IfOk result (λ t. t.inline ≡ inline_for N (utf8_len t.chars)) }
         ensures refused { OnErr result ((items : List (Bor (List ℕ)))
             × GivesFirst I.into_iter_gives I.IntoIter.next_gives iter items
             × (N < utf8_len (joined_strs items))
@@ -89,12 +90,12 @@ impl<const N: usize> SmallString<N> {
         alloc: Global,
         iter: I,
     ) -> Result<Self, EcoError>
-        requires { (it : I.IntoIter) → I.into_iter_gives iter it → I.IntoIter.can_next it
-            × IsFinite (I.IntoIter.remaining it) }
-        ensures chars { IfOk result (λ made. (items : List PlainText)
+        requires { IsFiniteIterable
+            I.into_iter_gives I.IntoIter.can_next I.IntoIter.remaining iter }
+        ensures chars { IfOk result (λ t. (items : List PlainText)
             × GivesItems I.into_iter_gives I.IntoIter.next_gives iter items
-            × (made.chars ≡ joined_texts items)) }
-        ensures mode { IfOk result (λ made. made.inline ≡ inline_for N (utf8_len made.chars)) }
+            × (t.chars ≡ joined_texts items)) }
+        ensures mode { IfOk result (λ t. t.inline ≡ inline_for N (utf8_len t.chars)) }
         ensures refused { OnErr result ((items : List PlainText)
             × GivesFirst I.into_iter_gives I.IntoIter.next_gives iter items
             × (N < utf8_len (joined_texts items))
@@ -112,8 +113,8 @@ impl<const N: usize> SmallString<N> {
     /// `Capacity` where the text would pass 2^63 - 1 bytes with it, and else `Memory`. None is
     /// refused that fits inline.
     pub fn extend_chars<I: IntoIterator<Item = char>>(&mut self, iter: I) -> Result<(), EcoError>
-        requires { (it : I.IntoIter) → I.into_iter_gives iter it → I.IntoIter.can_next it
-            × IsFinite (I.IntoIter.remaining it) }
+        requires { IsFiniteIterable
+            I.into_iter_gives I.IntoIter.can_next I.IntoIter.remaining iter }
         ensures chars { ExtendsWithItems I.into_iter_gives I.IntoIter.next_gives Appends iter
             self.old.chars self.new.chars result }
         ensures mode { self.new.inline
@@ -158,8 +159,8 @@ impl<const N: usize> SmallString<N> {
         &mut self,
         iter: I,
     ) -> Result<(), EcoError>
-        requires { (it : I.IntoIter) → I.into_iter_gives iter it → I.IntoIter.can_next it
-            × IsFinite (I.IntoIter.remaining it) }
+        requires { IsFiniteIterable
+            I.into_iter_gives I.IntoIter.can_next I.IntoIter.remaining iter }
         ensures chars { ExtendsWithItems I.into_iter_gives I.IntoIter.next_gives AppendsStrs iter
             self.old.chars self.new.chars result }
         ensures mode { self.new.inline
@@ -206,14 +207,9 @@ impl<const N: usize> SmallString<N> {
     /// `push_str` of an item.
     fn push_next(&mut self, text: &str) -> Result<(), EcoError>
         ensures chars { OnOk result (self.new.chars ≡ self.old.chars ++ chars text.now) }
-        ensures mode { OnOk result
-            (self.new.inline ≡ inline_after N self.old.inline (utf8_len self.old.chars)
-            (length text.now)) }
-        ensures capacity { IsErrOf result EcoError.Capacity
-            ↔ (MAX_LEN < utf8_len self.old.chars + length text.now) }
-        ensures unchanged { OnErr result (self.new ≡ self.old) }
-        ensures free { OnErr result (inline_after N self.old.inline (utf8_len self.old.chars)
-            (length text.now) ≡ false) }
+        ensures mode { Grows N self.old.inline (utf8_len self.old.chars) (length text.now)
+            result self.new.inline }
+        ensures refused { RefusesPast (utf8_len self.old.chars + length text.now) self.old result self.new }
         ensures len { utf8_len (self.old.chars ++ chars text.now) ≡ utf8_len self.old.chars
             + length text.now }
     {

@@ -5,8 +5,9 @@ ghost use Rattle.std.specs.Char.{len_utf8, to_ascii_lowercase, to_ascii_uppercas
 ghost use Rattle.std.specs.Str.{chars};
 ghost use Rattle.ecow_base.specs.Range.{range_of};
 ghost use Rattle.ecow_vec.specs.Ranges.{AtRange};
-ghost use Rattle.ecow_values.specs.Inline.{inline_after, inline_shrunk};
+ghost use Rattle.ecow_values.specs.Inline.{inline_shrunk, Grows, KeepsMode};
 ghost use Rattle.ecow_values.specs.Utf8.{utf8_len, chars_before, is_boundary};
+ghost use Rattle.ecow_vec.specs.Refusals.{RefusesForMemory, RefusesPast};
 
 use crate::string::SmallString;
 use ecow_base::{MAX_LEN, resolve};
@@ -14,18 +15,17 @@ use ecow_vec::EcoError;
 use std::ops::RangeBounds;
 
 impl<const N: usize> SmallString<N> {
-    /// Takes the last character: `None` where there is none, which changes nothing. Never refused
-    /// for an inline text or an empty one. A spilled text that is shared copies what stays, and the
-    /// one error is `Memory`, which changes nothing.
+    /// Takes the last character: `None` where there is none. A spilled text that is shared copies
+    /// what stays.
     pub fn pop(&mut self) -> Result<Option<char>, EcoError>
         ensures value { IfOk result
             (λ last. last ≡ slice_get self.old.chars (length self.old.chars - 1)) }
         ensures chars { OnOk result
             (self.new.chars ≡ take (length self.old.chars - 1) self.old.chars) }
-        ensures mode { self.new.inline ≡ self.old.inline }
-        ensures memory { IfErr result (λ error. error ≡ EcoError.Memory) }
-        ensures unchanged { OnErr result (self.new ≡ self.old) }
-        ensures free { OnErr result (self.old.inline ≡ false) }
+        ensures mode { KeepsMode self.old.inline result self.new.inline }
+
+        // Refused where a shared text must be copied, and not where there is none.
+        ensures refused { RefusesForMemory self.old result self.new }
         ensures empty { self.old.chars ≡ [] → IsOk result × (self.new ≡ self.old) }
     {
         let mut rest = self.as_str().chars();
@@ -38,16 +38,15 @@ impl<const N: usize> SmallString<N> {
     }
 
     /// Keeps the first `target` bytes, or all where there are fewer: `target` is a boundary or past
-    /// the end. Never refused for an inline text and where all or nothing stays. Else a spilled
-    /// text that is shared copies what stays, and the one error is `Memory`, which changes nothing.
+    /// the end. A spilled text that is shared copies what stays.
     pub fn truncate(&mut self, target: usize) -> Result<(), EcoError>
         requires { target ≤ utf8_len self.old.chars → is_boundary self.old.chars target ≡ true }
         ensures chars { OnOk result
             (self.new.chars ≡ take (chars_before self.old.chars target) self.old.chars) }
-        ensures mode { self.new.inline ≡ self.old.inline }
-        ensures memory { IfErr result (λ error. error ≡ EcoError.Memory) }
-        ensures unchanged { OnErr result (self.new ≡ self.old) }
-        ensures free { OnErr result (self.old.inline ≡ false) }
+        ensures mode { KeepsMode self.old.inline result self.new.inline }
+
+        // Refused where a shared text must be copied, and not where all or nothing stays.
+        ensures refused { RefusesForMemory self.old result self.new }
         ensures keeps_all { utf8_len self.old.chars ≤ target → IsOk result × (self.new ≡ self.old) }
         ensures keeps_none { target ≡ 0 → IsOk result × (self.new.chars ≡ []) }
     {
@@ -55,62 +54,40 @@ impl<const N: usize> SmallString<N> {
         Ok(())
     }
 
-    /// Puts `c` in at the boundary `index`: inline where its bytes fit, which is never refused, and
-    /// else spilled. A spilled text that is shared is copied first.
-    ///
-    /// A refusal changes nothing: `Capacity` where the new length passes 2^63 - 1, and else
-    /// `Memory`.
+    /// Puts `c` in at the boundary `index`. A spilled text that is shared is copied first.
     pub fn insert(&mut self, index: usize, c: char) -> Result<(), EcoError>
         requires { is_boundary self.old.chars index ≡ true }
         ensures chars { OnOk result
             (self.new.chars ≡ insert self.old.chars (chars_before self.old.chars index) c) }
-        ensures mode { OnOk result
-            (self.new.inline ≡ inline_after N self.old.inline (utf8_len self.old.chars)
-            (len_utf8 c)) }
-        ensures unchanged { OnErr result (self.new ≡ self.old) }
-        ensures capacity { IsErrOf result EcoError.Capacity
-            ↔ (MAX_LEN < utf8_len self.old.chars + len_utf8 c) }
-        ensures free { OnErr result (inline_after N self.old.inline (utf8_len self.old.chars)
-            (len_utf8 c) ≡ false) }
+        ensures mode { Grows N self.old.inline (utf8_len self.old.chars) (len_utf8 c)
+            result self.new.inline }
+        ensures refused { RefusesPast (utf8_len self.old.chars + len_utf8 c) self.old result self.new }
     {
         let mut buffer = [0; 4];
         self.insert_str(index, c.encode_utf8(&mut buffer))?;
         Ok(())
     }
 
-    /// Puts `text` in at the boundary `index`: all, or nothing where it is refused. It is inline
-    /// where it fits, which is never refused, and else spilled. A spilled text that is shared is
-    /// copied first, also where nothing is put in.
-    ///
-    /// A refusal changes nothing: `Capacity` where the new length passes 2^63 - 1, and else
-    /// `Memory`.
+    /// Puts `text` in at the boundary `index`: all, or nothing where it is refused. A spilled text
+    /// that is shared is copied first, also where nothing is put in.
     #[inline]
     pub fn insert_str(&mut self, index: usize, text: &str) -> Result<(), EcoError>
         requires { is_boundary self.old.chars index ≡ true }
         ensures chars { OnOk result
             (self.new.chars ≡ insert_slice self.old.chars (chars_before self.old.chars index)
             (chars text.now)) }
-        ensures mode { OnOk result
-            (self.new.inline ≡ inline_after N self.old.inline (utf8_len self.old.chars)
-            (length text.now)) }
-        ensures unchanged { OnErr result (self.new ≡ self.old) }
-        ensures capacity { IsErrOf result EcoError.Capacity
-            ↔ (MAX_LEN < utf8_len self.old.chars + length text.now) }
-        ensures free { OnErr result (inline_after N self.old.inline (utf8_len self.old.chars)
-            (length text.now) ≡ false) }
+        ensures mode { Grows N self.old.inline (utf8_len self.old.chars) (length text.now)
+            result self.new.inline }
+        ensures refused { RefusesPast (utf8_len self.old.chars + length text.now) self.old result self.new }
     {
         self.bytes.insert_slice(index, text.as_bytes())?;
         Ok(())
     }
 
     /// Puts `text` in place of the bytes of `range`, which `range_in` tests and which begins and
-    /// ends at boundaries: all, or nothing where it is refused. It is inline where it fits, which
-    /// is never refused, and else spilled. In a spilled text that shares nothing, what stands
-    /// before the range stays where it is. A spilled text that is shared is copied first, also
-    /// where nothing changes.
-    ///
-    /// A refusal changes nothing: `Capacity` where the new length passes 2^63 - 1, and else
-    /// `Memory`.
+    /// ends at boundaries: all, or nothing where it is refused. In a spilled text that shares
+    /// nothing, what stands before the range stays where it is. A spilled text that is shared is
+    /// copied first, also where nothing changes.
     ///
     /// This project's own: the call of std's `String`, which the original lacks.
     #[inline]
@@ -131,28 +108,25 @@ impl<const N: usize> SmallString<N> {
             (λ start end. self.new.chars ≡ replace_range self.old.chars
             (chars_before self.old.chars start) (chars_before self.old.chars end)
             (chars text.now))) }
-        ensures mode { OnOk result
-            (AtRange (R.start_bound range, R.end_bound range) (utf8_len self.old.chars)
-            (λ start end. self.new.inline ≡ inline_after N self.old.inline
-            (utf8_len self.old.chars - (end - start)) (length text.now))) }
+        ensures mode { AtRange (R.start_bound range, R.end_bound range) (utf8_len self.old.chars)
+            (λ start end.
+            Grows N self.old.inline (utf8_len self.old.chars - (end - start)) (length text.now)
+            result self.new.inline) }
+
+        // A refusal leaves the text, and is for capacity exactly past the limit.
         ensures unchanged { OnErr result (self.new ≡ self.old) }
         ensures capacity { AtRange (R.start_bound range, R.end_bound range)
             (utf8_len self.old.chars)
             (λ start end. IsErrOf result EcoError.Capacity
             ↔ (MAX_LEN < utf8_len self.old.chars - (end - start) + length text.now)) }
-        ensures free { OnErr result
-            (AtRange (R.start_bound range, R.end_bound range) (utf8_len self.old.chars)
-            (λ start end. inline_after N self.old.inline
-            (utf8_len self.old.chars - (end - start)) (length text.now) ≡ false)) }
     {
         let (start, end) = resolve(&range, self.len()).unwrap();
         self.bytes.replace_range(start..end, text.as_bytes())?;
         Ok(())
     }
 
-    /// Takes the character at `index`, a boundary below the length. Never refused for an inline
-    /// text. A spilled text that is shared is copied first, and the one error is `Memory`, which
-    /// changes nothing.
+    /// Takes the character at `index`, a boundary below the length. A spilled text that is shared
+    /// is copied first.
     pub fn remove(&mut self, index: usize) -> Result<char, EcoError>
         requires boundary { is_boundary self.old.chars index ≡ true }
         requires in_bounds { index < utf8_len self.old.chars }
@@ -160,10 +134,8 @@ impl<const N: usize> SmallString<N> {
             (λ c. slice_get self.old.chars (chars_before self.old.chars index) ≡ Some c) }
         ensures chars { OnOk result
             (self.new.chars ≡ remove self.old.chars (chars_before self.old.chars index)) }
-        ensures mode { self.new.inline ≡ self.old.inline }
-        ensures memory { IfErr result (λ error. error ≡ EcoError.Memory) }
-        ensures unchanged { OnErr result (self.new ≡ self.old) }
-        ensures free { OnErr result (self.old.inline ≡ false) }
+        ensures mode { KeepsMode self.old.inline result self.new.inline }
+        ensures refused { RefusesForMemory self.old result self.new }
     {
         let c = self.as_str()[index..].chars().next().unwrap();
         let end = index + c.len_utf8();
@@ -174,22 +146,13 @@ impl<const N: usize> SmallString<N> {
         Ok(c)
     }
 
-    /// Asks for room for `additional` more bytes; no capacity is promised. An inline text stays
-    /// inline where so many more fit, which is never refused, and else it spills. A spilled text
-    /// that is shared is copied, also where `additional` is 0.
-    ///
-    /// A refusal changes nothing: `Capacity` where the length and `additional` together pass
-    /// 2^63 - 1, and else `Memory`.
+    /// Asks for room for `additional` more bytes; no capacity is promised. A spilled text that is
+    /// shared is copied, also where `additional` is 0.
     pub fn reserve(&mut self, additional: usize) -> Result<(), EcoError>
         ensures chars { self.new.chars ≡ self.old.chars }
-        ensures mode { OnOk result
-            (self.new.inline
-            ≡ inline_after N self.old.inline (utf8_len self.old.chars) additional) }
-        ensures unchanged { OnErr result (self.new ≡ self.old) }
-        ensures capacity { IsErrOf result EcoError.Capacity
-            ↔ (MAX_LEN < utf8_len self.old.chars + additional) }
-        ensures free { OnErr result
-            (inline_after N self.old.inline (utf8_len self.old.chars) additional ≡ false) }
+        ensures mode { Grows N self.old.inline (utf8_len self.old.chars) additional
+            result self.new.inline }
+        ensures refused { RefusesPast (utf8_len self.old.chars + additional) self.old result self.new }
     {
         self.bytes.reserve(additional)?;
         Ok(())

@@ -3,6 +3,7 @@ ghost use Rattle.std.specs.Prelude.{◌≡◌, ◌<◌, ◌≤◌, ◌↔◌, []
 ghost use Rattle.std.specs.Char.{len_utf8};
 ghost use Rattle.std.specs.Str.{chars};
 ghost use Rattle.ecow_values.specs.Inline.{inline_for};
+ghost use Rattle.ecow_string.specs.Makes.{MakesText};
 
 use crate::string::SmallString;
 use ecow_base::MAX_LEN;
@@ -14,8 +15,8 @@ impl<const N: usize> SmallString<N> {
     /// A copy of `text`, inline: `None` where it has more than `N` bytes. Takes no memory.
     pub fn try_inline(alloc: Global, text: &str) -> Option<Self>
         ensures fits { IsSome result ↔ (length text.now ≤ N) }
-        ensures chars { IfSome result (λ made. made.chars ≡ chars text.now) }
-        ensures mode { IfSome result (λ made. made.inline ≡ true) }
+        ensures chars { IfSome result (λ t. t.chars ≡ chars text.now) }
+        ensures mode { IfSome result (λ t. t.inline ≡ true) }
     {
         let bytes = SmallBytes::try_inline(alloc, text.as_bytes())?;
         Some(SmallString { bytes })
@@ -32,55 +33,44 @@ impl<const N: usize> SmallString<N> {
         }
     }
 
-    /// No text, with room for `capacity` bytes: inline where that is at most `N`, which is never
-    /// refused, and else spilled. Answers `Capacity` where that passes 2^63 - 1, and else `Memory`.
+    /// No text, with room for `capacity` bytes.
     pub fn with_capacity(alloc: Global, capacity: usize) -> Result<Self, EcoError>
-        ensures chars { IfOk result (λ made. made.chars ≡ []) }
-        ensures mode { IfOk result (λ made. made.inline ≡ inline_for N capacity) }
-        ensures capacity { IsErrOf result EcoError.Capacity ↔ (MAX_LEN < capacity) }
-        ensures free { capacity ≤ N → IsOk result }
+        ensures { MakesText N capacity [] result }
     {
         let bytes = SmallBytes::with_capacity(alloc, capacity)?;
         Ok(SmallString { bytes })
     }
 
-    /// The text of one character: inline where its bytes are at most `N`, which is never refused,
-    /// and else spilled. The one error is `Memory`.
+    /// The text of one character.
     pub fn from_char(alloc: Global, c: char) -> Result<Self, EcoError>
-        ensures chars { IfOk result (λ made. made.chars ≡ c ∷ []) }
-        ensures mode { IfOk result (λ made. made.inline ≡ inline_for N (len_utf8 c)) }
+        ensures text { MakesText N (len_utf8 c) (c ∷ []) result }
         ensures memory { IfErr result (λ error. error ≡ EcoError.Memory) }
-        ensures free { len_utf8 c ≤ N → IsOk result }
     {
         let mut buffer = [0; 4];
         let made = Self::from_str(alloc, c.encode_utf8(&mut buffer))?;
         Ok(made)
     }
 
-    /// A copy of `text`: inline where it has at most `N` bytes, which is never refused, and else
-    /// spilled. Answers `Capacity` past 2^63 - 1 bytes, and else `Memory`.
+    /// A copy of `text`.
     #[inline]
     pub fn from_str(alloc: Global, text: &str) -> Result<Self, EcoError>
-        ensures chars { IfOk result (λ made. made.chars ≡ chars text.now) }
-        ensures mode { IfOk result (λ made. made.inline ≡ inline_for N (length text.now)) }
-        ensures capacity { IsErrOf result EcoError.Capacity ↔ (MAX_LEN < length text.now) }
-        ensures free { length text.now ≤ N → IsOk result }
+        ensures { MakesText N (length text.now) (chars text.now) result }
     {
         let bytes = SmallBytes::from_slice(alloc, text.as_bytes())?;
         Ok(SmallString { bytes })
     }
 
-    /// The text of a `String`: inline where it has at most `N` bytes, which is never refused, and
-    /// else spilled, with a block of its own. A refusal hands the `String` back, with `Capacity`
-    /// past 2^63 - 1 bytes, and else with `Memory`.
+    /// The text of a `String`: inline where it has at most `N` bytes, and else spilled, with a block
+    /// of its own. Answers `Capacity` past 2^63 - 1 bytes, and else `Memory`.
     pub fn from_string(alloc: Global, text: String) -> Result<Self, Rejected<String>>
-        ensures chars { IfOk result (λ made. made.chars ≡ chars (string_bytes text)) }
-        ensures mode { IfOk result (λ made. made.inline
-            ≡ inline_for N (length (string_bytes text))) }
+        ensures chars { IfOk result (λ t. t.chars ≡ chars (string_bytes text)) }
+        ensures mode { IfOk result (λ t. t.inline ≡ inline_for N (length (string_bytes text))) }
+        ensures free { length (string_bytes text) ≤ N → IsOk result }
+
+        // A refusal hands the `String` back, and is for capacity exactly past the limit.
         ensures value_returned { IfErr result (λ rejected. rejected.value ≡ text) }
         ensures capacity { IsErrAnd result (λ rejected. rejected.error ≡ EcoError.Capacity)
             ↔ (MAX_LEN < length (string_bytes text)) }
-        ensures free { length (string_bytes text) ≤ N → IsOk result }
     {
         match Self::from_str(alloc, text.as_str()) {
             Ok(made) => Ok(made),

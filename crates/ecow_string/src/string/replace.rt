@@ -2,9 +2,9 @@
 //! that would be too long asks for no memory.
 ghost use Rattle.std.specs.Prelude.{◌≡◌, ◌≢◌, ◌+◌, ◌<◌, ◌≤◌, ◌↔◌, [], length, IsOk, IfOk, IsErrOf};
 ghost use Rattle.std.specs.Str.{chars};
-ghost use Rattle.ecow_values.specs.Inline.{inline_for};
 ghost use Rattle.ecow_values.specs.Replaced.{replacen, replace_all};
 ghost use Rattle.ecow_values.specs.Utf8.{utf8_len};
+ghost use Rattle.ecow_string.specs.Makes.{MakesText};
 
 mod interleave;
 mod parts;
@@ -19,23 +19,12 @@ use memchr::memmem::Finder;
 
 impl<const N: usize> SmallString<N> {
     /// The text with `replacement` in place of the first `count` occurrences of `pattern`, from the
-    /// left and without overlap; an empty pattern occurs at each boundary, the end too. It is
-    /// inline where it has at most `N` bytes, which is never refused, and else spilled.
-    ///
-    /// Answers `Capacity` where it comes to more than 2^63 - 1 bytes, and else `Memory`.
+    /// left and without overlap; an empty pattern occurs at each boundary, the end too.
     pub fn replacen(&self, pattern: &str, replacement: &str, count: usize) -> Result<Self, EcoError>
-        ensures chars { IfOk result (λ made. made.chars ≡ replacen count (chars pattern.now)
-            (chars replacement.now) self.now.chars) }
-        ensures mode { IfOk result (λ made. made.inline
-            ≡ inline_for N
-            (utf8_len (replacen count (chars pattern.now)
-            (chars replacement.now) self.now.chars))) }
-        ensures capacity { IsErrOf result EcoError.Capacity
-            ↔ (MAX_LEN < utf8_len
-            (replacen count (chars pattern.now) (chars replacement.now) self.now.chars)) }
-        ensures free { utf8_len
-            (replacen count (chars pattern.now) (chars replacement.now) self.now.chars) ≤ N
-            → IsOk result }
+        ensures { MakesText N
+            (utf8_len (replacen count (chars pattern.now) (chars replacement.now) self.now.chars))
+            (replacen count (chars pattern.now) (chars replacement.now) self.now.chars)
+            result }
     {
         if pattern.is_empty() {
             return self.interleave(replacement, count);
@@ -46,17 +35,10 @@ impl<const N: usize> SmallString<N> {
     /// The text with `replacement` in place of all occurrences of `pattern`: `replacen` without a
     /// limit.
     pub fn replace(&self, pattern: &str, replacement: &str) -> Result<Self, EcoError>
-        ensures chars { IfOk result (λ made. made.chars
-            ≡ replace_all (chars pattern.now) (chars replacement.now) self.now.chars) }
-        ensures mode { IfOk result (λ made. made.inline
-            ≡ inline_for N
-            (utf8_len (replace_all (chars pattern.now) (chars replacement.now) self.now.chars))) }
-        ensures capacity { IsErrOf result EcoError.Capacity
-            ↔ (MAX_LEN < utf8_len
-            (replace_all (chars pattern.now) (chars replacement.now) self.now.chars)) }
-        ensures free { utf8_len
-            (replace_all (chars pattern.now) (chars replacement.now) self.now.chars) ≤ N
-            → IsOk result }
+        ensures { MakesText N
+            (utf8_len (replace_all (chars pattern.now) (chars replacement.now) self.now.chars))
+            (replace_all (chars pattern.now) (chars replacement.now) self.now.chars)
+            result }
     {
         self.replacen(pattern, replacement, self.len() + 1)
     }
@@ -69,18 +51,10 @@ impl<const N: usize> SmallString<N> {
         count: usize,
     ) -> Result<Self, EcoError>
         requires { pattern.now ≢ [] }
-        ensures chars { IfOk result (λ made. made.chars ≡ replacen count (chars pattern.now)
-            (chars replacement.now) self.now.chars) }
-        ensures mode { IfOk result (λ made. made.inline
-            ≡ inline_for N
-            (utf8_len (replacen count (chars pattern.now)
-            (chars replacement.now) self.now.chars))) }
-        ensures capacity { IsErrOf result EcoError.Capacity
-            ↔ (MAX_LEN < utf8_len
-            (replacen count (chars pattern.now) (chars replacement.now) self.now.chars)) }
-        ensures free { utf8_len
-            (replacen count (chars pattern.now) (chars replacement.now) self.now.chars) ≤ N
-            → IsOk result }
+        ensures { MakesText N
+            (utf8_len (replacen count (chars pattern.now) (chars replacement.now) self.now.chars))
+            (replacen count (chars pattern.now) (chars replacement.now) self.now.chars)
+            result }
     {
         let text = self.as_str();
         let finder = Finder::new(pattern.as_bytes());
@@ -94,14 +68,10 @@ impl<const N: usize> SmallString<N> {
 
     /// `replacen` of the empty pattern.
     fn interleave(&self, replacement: &str, count: usize) -> Result<Self, EcoError>
-        ensures chars { IfOk result (λ made. made.chars
-            ≡ replacen count [] (chars replacement.now) self.now.chars) }
-        ensures mode { IfOk result (λ made. made.inline
-            ≡ inline_for N (utf8_len (replacen count [] (chars replacement.now) self.now.chars))) }
-        ensures capacity { IsErrOf result EcoError.Capacity
-            ↔ (MAX_LEN < utf8_len (replacen count [] (chars replacement.now) self.now.chars)) }
-        ensures free { utf8_len (replacen count [] (chars replacement.now) self.now.chars) ≤ N
-            → IsOk result }
+        ensures { MakesText N
+            (utf8_len (replacen count [] (chars replacement.now) self.now.chars))
+            (replacen count [] (chars replacement.now) self.now.chars)
+            result }
     {
         let text = self.as_str();
         // For the proof alone: the length is bounded.

@@ -1,6 +1,6 @@
 //! The calls that make a vector of other collections, or other collections of a vector.
 ghost use Rattle.std.specs.Prelude.{◌≡◌, ◌≢◌, ◌+◌, ◌<◌, ◌≤◌, ◌↔◌, [], All, List, length, replicate, vec_len, IsOk, IfOk, IfErr, OnErr, IsErrAnd, IsErrOf};
-ghost use Rattle.std.specs.Iterator.{IsFinite, ExtendsWithItems};
+ghost use Rattle.std.specs.Iterator.{IsFinite, IsFiniteIterable, ExtendsWithItems};
 ghost use Rattle.std.specs.List.{AllZip};
 ghost use Rattle.ecow_base.specs.Clones.{ClonesAreEqual};
 ghost use Rattle.ecow_vec.specs.Vectors.{Appends, ExtendsBy, GivesFirst, GivesItems, IsKept, Lengthens, SomeFirst};
@@ -84,9 +84,8 @@ impl<T: Drop> EcoVec<T> {
     /// are none. Its size hint isn't asked. Answers `Capacity` at the item past 2^63 - 1, and else
     /// `Memory`: the items so far are dropped then, and no further one is asked for.
     pub fn from_iter<I: IntoIterator<Item = T>>(alloc: Global, iter: I) -> Result<Self, EcoError>
-        requires { (it : I.IntoIter)
-            → I.into_iter_gives iter it
-            → I.IntoIter.can_next it × IsFinite (I.IntoIter.remaining it) }
+        requires { IsFiniteIterable
+            I.into_iter_gives I.IntoIter.can_next I.IntoIter.remaining iter }
         ensures ok { IfOk result (λ v. GivesItems I.into_iter_gives I.IntoIter.next_gives iter v) }
         ensures refused { OnErr result
             (SomeFirst I.into_iter_gives I.IntoIter.next_gives iter
@@ -182,9 +181,8 @@ impl<T: Clone> EcoVec<T> {
     /// An item that is refused is dropped; those before it stay, and no further one is asked for.
     /// The error is `Capacity` where there are 2^63 - 1 elements then, and else `Memory`.
     pub fn extend<I: IntoIterator<Item = T>>(&mut self, iter: I) -> Result<(), EcoError>
-        requires { (it : I.IntoIter)
-            → I.into_iter_gives iter it
-            → I.IntoIter.can_next it × IsFinite (I.IntoIter.remaining it) }
+        requires { IsFiniteIterable
+            I.into_iter_gives I.IntoIter.can_next I.IntoIter.remaining iter }
         ensures ok { ClonesAreEqual T.is_clone
             → ExtendsWithItems I.into_iter_gives I.IntoIter.next_gives Appends
             iter self.old self.new result }

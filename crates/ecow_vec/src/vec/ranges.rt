@@ -1,7 +1,7 @@
 //! The calls on a range of elements.
 ghost use Rattle.std.specs.Prelude.{◌≡◌, ◌+◌, ◌-◌, ◌<◌, ◌≤◌, ◌↔◌, length, IfOk, OnErr, IsErrOf, IsSome, slice_range, List};
 ghost use Rattle.std.specs.List.{remove_range, splice};
-ghost use Rattle.std.specs.Iterator.{IsFinite};
+ghost use Rattle.std.specs.Iterator.{IsFiniteIterable};
 ghost use Rattle.ecow_base.specs.Range.{range_of};
 ghost use Rattle.ecow_vec.specs.Ranges.{AtRange};
 ghost use Rattle.ecow_vec.specs.Refusals.{RefusesForMemory};
@@ -60,9 +60,8 @@ impl<T: Clone> EcoVec<T> {
         requires known { R.has_bounds range }
         requires in_range { IsSome
             (range_of (R.start_bound range, R.end_bound range) (length self.old)) }
-        requires ends { (it : I.IntoIter)
-            → I.into_iter_gives replace_with it
-            → I.IntoIter.can_next it × IsFinite (I.IntoIter.remaining it) }
+        requires ends { IsFiniteIterable
+            I.into_iter_gives I.IntoIter.can_next I.IntoIter.remaining replace_with }
         ensures change { ChangesBy T.is_clone self.old
             (λ xs removed ys.
             (items : List T)

@@ -15,7 +15,7 @@ loop-c-preserved g c =
     let given = c.in_ok-push.ensures in
     let goes = c.in-Some.ensures.goes.on c.loop-c.invariant.3 in (
       given.chars ∙ ap (λ l. l ++ x ∷ []) c.loop-c.invariant.0 ∙ append_assoc c.args.self.now.chars c.loop-c.yielded (x ∷ []),
-      given.mode ∙ stays g.row.N c.args.self.now.inline now.inline (utf8_len now.chars) (len_utf8 x) _ c.loop-c.invariant.1 (ap utf8_len given.chars ∙ one_char_more now.chars x),
+      given.mode.mode ∙ stays g.row.N c.args.self.now.inline now.inline (utf8_len now.chars) (len_utf8 x) _ c.loop-c.invariant.1 (ap utf8_len given.chars ∙ one_char_more now.chars x),
       goes.0,
       goes.1,
     )
@@ -27,7 +27,7 @@ returns-in_err-push-clause-refused g c =
     let xs = c.loop-c.yielded in
     let x = c.in-Some.c in
     let given = c.in_err-push.ensures in
-    let kept : length c.push.new.self.chars ≡ length now.chars = ap (λ t. length t.chars) given.unchanged in
+    let kept : length c.push.new.self.chars ≡ length now.chars = ap (λ t. length t.chars) given.refused.unchanged in
     let sum : length now.chars ≡ length old.chars + length xs = ap length c.loop-c.invariant.0 ∙ length-append old.chars xs in
     let count : length (xs ++ x ∷ []) ≡ length xs + 1 = length-append xs (x ∷ []) in
     let whole : utf8_len (old.chars ++ (xs ++ x ∷ [])) ≡ utf8_len now.chars + len_utf8 x =
@@ -37,6 +37,6 @@ returns-in_err-push-clause-refused g c =
       xs ++ x ∷ [],
       Yields-more g.I.Iterator.next_gives c.args.iter.now xs c.loop-c.iter x c.next.new.self c.loop-c.yielded_by c.in-Some.ensures.steps,
       omega arith,
-      sym (stays g.row.N old.inline now.inline (utf8_len now.chars) (len_utf8 x) _ c.loop-c.invariant.1 whole) ∙ given.free,
-      rw (p.1, p.2, whole) given.capacity,
+      sym (stays g.row.N old.inline now.inline (utf8_len now.chars) (len_utf8 x) _ c.loop-c.invariant.1 whole) ∙ given.mode.free,
+      rw (p.1, p.2, whole) given.refused.capacity,
     )

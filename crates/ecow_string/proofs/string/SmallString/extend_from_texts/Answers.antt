@@ -21,7 +21,7 @@ returns-in_err-push_next-clause-refused g c =
     on_err c.from_residual.result (
       xs ++ x ∷ [],
       Yields-more g.I.Iterator.next_gives c.args.iter.now xs c.loop-text.iter x c.next.new.self c.loop-text.yielded_by c.in-Some.ensures.steps,
-      sym (stays g.row.N old.inline now.inline (utf8_len now.chars) (length c.text.result.now) _ c.loop-text.invariant.1 whole) ∙ given.free,
-      rw (p.1, p.2, whole) given.capacity,
-      (xs, x, refl, ap (λ t. t.chars) given.unchanged ∙ c.loop-text.invariant.0),
+      sym (stays g.row.N old.inline now.inline (utf8_len now.chars) (length c.text.result.now) _ c.loop-text.invariant.1 whole) ∙ given.mode.free,
+      rw (p.1, p.2, whole) given.refused.capacity,
+      (xs, x, refl, ap (λ t. t.chars) given.refused.unchanged ∙ c.loop-text.invariant.0),
     )

@@ -1,7 +1,12 @@
-use Rattle.std.proofs.Common.{ap, ◌∙◌}
+use Rattle.std.proofs.Common.{ap, ◌∙◌, rules}
 use Rattle.std.specs.Str.{chars}
 use Rattle.ecow_string.proofs.Texts.{chars_of_one}
 use Rattle.ecow_string.proofs.string.SmallString.from_char.Goals as goal
 
-pub returns-clause-chars : goal.returns-clause-chars
-returns-clause-chars g c = c.in_ok-made.ensures.chars ∙ ap chars c.encode_utf8.ensures.value ∙ chars_of_one c.args.c c.ranges.c.0
+pub returns-clause-text : goal.returns-clause-text
+returns-clause-text g c = record {
+  chars = c.in_ok-made.ensures.chars ∙ ap chars c.encode_utf8.ensures.value ∙ chars_of_one c.args.c c.ranges.c.0;
+  mode = search rules;
+  free = search rules;
+  capacity = search rules;
+}

@@ -12,7 +12,7 @@ edit-requires-clause-callable g c = λ b kept len room.
 pub returns-clause-change : goal.returns-clause-change
 returns-clause-change g c = record {
   ok = λ equal. let e = c.in_ok-edit.ensures.edited.ok equal in
-    subst (λ xs. UpdatesAt g.F.FnOnce c.args.f c.args.index xs c.edit.new.self c.in_ok-edit.field-0) e.shows
-    (subst (λ ys. UpdatesAt g.F.FnOnce c.args.f c.args.index e.shown.now.items ys c.in_ok-edit.field-0) e.leaves (search (rules, e.met)));
+      subst (λ xs. UpdatesAt g.F.FnOnce c.args.f c.args.index xs c.edit.new.self c.in_ok-edit.field-0) e.shows
+      (subst (λ ys. UpdatesAt g.F.FnOnce c.args.f c.args.index e.shown.now.items ys c.in_ok-edit.field-0) e.leaves (search (rules, e.met)));
   kept = search rules;
 }
