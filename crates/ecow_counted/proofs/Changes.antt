@@ -9,9 +9,9 @@ use Rattle.slab.specs.Slab.{Slab, get, slab_len}
 use Rattle.ecow_base.specs.Capacity.{MAX}
 use Rattle.ecow_model.specs.CountedRun.{nothing}
 use Rattle.ecow_model.specs.Names.{Holding, IsSharing, without, forget, settle, blocks}
-use Rattle.ecow_laws.proofs.Groups.{without_absent}
-use Rattle.ecow_laws.proofs.Kept.{blocks-settle}
-use Rattle.ecow_laws.proofs.Settled.{own_blocks, blocks_left}
+use Rattle.ecow_counted.proofs.Groups.{without_absent}
+use Rattle.ecow_counted.proofs.Kept.{blocks-settle}
+use Rattle.ecow_counted.proofs.Settled.{own_blocks, blocks_left}
 use Rattle.ecow_counted.specs.declared.blocks.Entry.{Entry}
 use Rattle.ecow_counted.specs.Places.{Places, names_at, holding_together, holding_in, names_of, IsOwned, IsTable}
 use Rattle.ecow_counted.proofs.Placing.{found_at, member-names_at, get_names_of, sharing-table, names_of-forget, names_of-bare, names_of-settle, own_group, group_of_others}

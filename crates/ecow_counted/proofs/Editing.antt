@@ -16,7 +16,7 @@ use Rattle.ecow_model.specs.declared.command.Outcome.{Outcome}
 use Rattle.ecow_model.specs.declared.command.Outcome.TheVariants.{Done, Popped}
 use Rattle.ecow_model.specs.declared.command.Refusal.{Refusal}
 use Rattle.ecow_model.specs.declared.command.Refusal.TheVariants.{Capacity as TooMuch}
-use Rattle.ecow_laws.proofs.Lengths.{is_answer}
+use Rattle.ecow_counted.proofs.Lengths.{is_answer}
 use Rattle.ecow_counted.specs.Edits.{staying, asked_length, taken_out, spare_room, takes_spare, unchanged}
 
 take_twice : {X : Type 0} (n : ℕ) (xs : List X) → take n (take n xs) ≡ take n xs

@@ -21,10 +21,10 @@ use Rattle.ecow_model.specs.declared.command.Outcome.{Outcome}
 use Rattle.ecow_model.specs.declared.command.Outcome.TheVariants.{Done, Refused}
 use Rattle.ecow_model.specs.declared.command.Refusal.{Refusal}
 use Rattle.ecow_model.specs.declared.command.Refusal.TheVariants.{Taken}
-use Rattle.ecow_laws.proofs.Bounds.{bound, same_answer, step_paid}
-use Rattle.ecow_laws.proofs.Lengths.{is_answer}
-use Rattle.ecow_laws.proofs.Settled.{get-settle}
-use Rattle.ecow_laws.proofs.Steps.{IsPaidSole, paid_sole}
+use Rattle.ecow_counted.proofs.Bounds.{bound, same_answer, step_paid}
+use Rattle.ecow_counted.proofs.Lengths.{is_answer}
+use Rattle.ecow_counted.proofs.Settled.{get-settle}
+use Rattle.ecow_counted.proofs.Steps.{IsPaidSole, paid_sole}
 use Rattle.ecow_counted.specs.Filling.{IsRunOf, filling, accepted}
 use Rattle.ecow_counted.specs.State.{CountedState}
 

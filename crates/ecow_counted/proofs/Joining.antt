@@ -7,9 +7,9 @@ use Rattle.std.proofs.lemmas.Bool.{ne_eqb, eq-eqb, true≢false, cases_eq}
 use Rattle.std.proofs.lemmas.Option.{same_Some}
 use Rattle.slab.specs.Slab.{Slab, get, slab_len}
 use Rattle.ecow_model.specs.Names.{Holding, IsRising, is_member, with_name, enter, join, blocks}
-use Rattle.ecow_laws.proofs.Totals.{same_nat}
-use Rattle.ecow_laws.proofs.Kept.{is_member-with_name, rising-with_name, length-with_name}
-use Rattle.ecow_laws.proofs.Joined.{get_join, blocks-join}
+use Rattle.ecow_counted.proofs.Sums.{same_nat}
+use Rattle.ecow_counted.proofs.Kept.{is_member-with_name, rising-with_name, length-with_name}
+use Rattle.ecow_counted.proofs.Joined.{get_join, blocks-join}
 use Rattle.ecow_counted.specs.declared.blocks.Entry.{Entry}
 use Rattle.ecow_counted.specs.Places.{Places, is_at, names_in, names_at, holding_together, holding_in, names_of, IsTable}
 use Rattle.ecow_counted.proofs.Placing.{found_at, member-names_at, rising-names_at, rising_same, get_names_of, sharing-table}

@@ -6,9 +6,9 @@ use Rattle.std.proofs.lemmas.Bool.{eqb-true, ne_eqb, eq-eqb, true≢false, cases
 use Rattle.std.proofs.lemmas.Option.{none-some, same_Some}
 use Rattle.slab.specs.Slab.{Slab, get, slab_len}
 use Rattle.ecow_model.specs.Names.{IsRising, is_member, without, settle, blocks}
-use Rattle.ecow_laws.proofs.Groups.{above_absent, without_absent}
-use Rattle.ecow_laws.proofs.Kept.{is_member-without}
-use Rattle.ecow_laws.proofs.Settled.{own_blocks}
+use Rattle.ecow_counted.proofs.Groups.{above_absent, without_absent}
+use Rattle.ecow_counted.proofs.Kept.{is_member-without}
+use Rattle.ecow_counted.proofs.Settled.{own_blocks}
 use Rattle.ecow_counted.specs.declared.blocks.Entry.{Entry}
 use Rattle.ecow_counted.specs.Places.{Places, names_at, holding_together, names_of, IsOwned, IsTable}
 use Rattle.ecow_counted.proofs.Placing.{found_at, member-names_at, rising-names_at, names_of-bare, group_of_others}

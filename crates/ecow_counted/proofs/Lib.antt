@@ -1,3 +1,13 @@
+pub mod Strains
+pub mod Groups
+pub mod Joined
+pub mod Kept
+pub mod Sums
+pub mod Settled
+pub mod Ranges
+pub mod Lengths
+pub mod Steps
+pub mod Bounds
 pub mod Changes
 pub mod Joining
 pub mod Leaving

@@ -9,7 +9,7 @@ use Rattle.std.proofs.lemmas.List.{nil_from_length}
 use Rattle.ecow_block.specs.Contents.{Contents, contents}
 use Rattle.ecow_model.specs.CountedRun.{holding_at, nothing}
 use Rattle.ecow_model.specs.Names.{Names, IsSharing, is_shared, settle}
-use Rattle.ecow_laws.proofs.Settled.{get-settle, settle-settle, settle_same}
+use Rattle.ecow_counted.proofs.Settled.{get-settle, settle-settle, settle_same}
 use Rattle.ecow_counted.specs.Opened.{IsOpened}
 use Rattle.ecow_counted.specs.Sizes.{sole_block}
 

@@ -12,9 +12,9 @@ use Rattle.ecow_base.specs.Capacity.{MAX}
 use Rattle.ecow_model.specs.CountedRun.{nothing}
 use Rattle.ecow_model.specs.Names.{Holding, IsSharing, IsRising, is_member, without, leave, forget, settle, blocks}
 use Rattle.ecow_model.proofs.Contents.{get-map_values}
-use Rattle.ecow_laws.proofs.Totals.{ties, first, second, below, missed, same_nat, get-insert_nat}
-use Rattle.ecow_laws.proofs.Groups.{above_absent}
-use Rattle.ecow_laws.proofs.Kept.{is_member-without, rising-without, get_forget_other, get_forget_none, get_forget_itself}
+use Rattle.ecow_counted.proofs.Sums.{ties, first, second, below, missed, same_nat, get-insert_nat}
+use Rattle.ecow_counted.proofs.Groups.{above_absent}
+use Rattle.ecow_counted.proofs.Kept.{is_member-without, rising-without, get_forget_other, get_forget_none, get_forget_itself}
 use Rattle.ecow_counted.specs.declared.blocks.Entry.{Entry}
 use Rattle.ecow_counted.specs.Places.{Places, is_at, names_in, names_at, holding_together, holding_in, names_of, IsOwned, IsTable}
 

@@ -6,7 +6,7 @@ use Rattle.ecow_model.specs.Vecs.{VecUsage, vec_usage}
 use Rattle.ecow_model.specs.Names.{Names, IsSharing, debt, strain}
 use Rattle.ecow_model.specs.declared.command.Outcome.{Outcome}
 use Rattle.ecow_model.specs.declared.vecs.VecCommand.{VecCommand}
-use Rattle.ecow_laws.proofs.Bounds.{step_paid, copies_at_most_eagerly, moves_are_paid, copies_from_nothing, moves_from_nothing}
+use Rattle.ecow_counted.proofs.Bounds.{step_paid, copies_at_most_eagerly, moves_are_paid, copies_from_nothing, moves_from_nothing}
 use Rattle.ecow_counted.specs.State.{CountedState}
 use Rattle.ecow_counted.specs.Totals.{CopiedIsSum, MovedIsSum, CopiedIsPaid, MovedIsPaid, CopiesFromNew, MovesFromNew}
 

@@ -12,8 +12,8 @@ use Rattle.ecow_base.specs.Capacity.{MAX}
 use Rattle.ecow_block.specs.Contents.{Contents}
 use Rattle.ecow_model.specs.CountedRun.{nothing, holding_at}
 use Rattle.ecow_model.specs.Names.{Names, Holding, IsSharing, forget, settle, join, blocks, one_block}
-use Rattle.ecow_laws.proofs.Totals.{same_nat, total-empty, get-insert_nat, get-remove_nat}
-use Rattle.ecow_laws.proofs.Settled.{settle_bare}
+use Rattle.ecow_counted.proofs.Sums.{same_nat, total-empty, get-insert_nat, get-remove_nat}
+use Rattle.ecow_counted.proofs.Settled.{settle_bare}
 use Rattle.ecow_counted.specs.declared.blocks.Entry.{Entry}
 use Rattle.ecow_counted.specs.Sizes.{size_of, sole_block}
 use Rattle.ecow_counted.specs.Places.{Places, names_at, holding_in, names_of, entry_in, has_room, IsOwned, IsTable}

@@ -42,3 +42,12 @@ module _ {T : Type 0} (old : CountedState T) (cs : List (VecCommand T))
   -- from a new table, no more is moved than what is copied and twice what is put in
   abbrev pub MovesFromNew : Type 0
   MovesFromNew = IsNew → new.moved ≤ new.copied + 2 * input_in_run old.names cs outcomes
+
+  -- what a run adds to the totals, and what pays for it
+  pub record TotalsArePaid : Type 0 where
+    pub copied : CopiedIsSum
+    pub moved : MovedIsSum
+    pub copies_paid : CopiedIsPaid
+    pub moves_paid : MovedIsPaid
+    pub copies_from_new : CopiesFromNew
+    pub moves_from_new : MovesFromNew

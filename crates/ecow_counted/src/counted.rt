@@ -3,14 +3,14 @@ ghost use Rattle.std.specs.Prelude.{◌≡◌, not, OnErr, IfOk, IfErr};
 ghost use Rattle.std.specs.FinMap as finite;
 ghost use Rattle.std.specs.Option.{option_map};
 ghost use Rattle.ecow_base.specs.Clones.{ClonesAreEqual};
-ghost use Rattle.ecow_vec.specs.declared.error.EcoError.{EcoError};
+ghost use Rattle.ecow_vec.specs.Refusals.{RejectsForMemory};
 ghost use Rattle.ecow_model.specs.CountedRun.{ContentsStep, CountedRun, CountedStep, CountedVerdict, copied_in, if_accepted, moved_in, saturating};
 ghost use Rattle.ecow_model.specs.Vecs.{vec_usage};
 ghost use Rattle.ecow_model.specs.Names.{IsSharing, blocks, is_shared, owners_of};
 ghost use Rattle.ecow_model.specs.Refusing.{OnRefused};
 ghost use Rattle.ecow_model.specs.Run.{RunBy};
 ghost use Rattle.ecow_model.specs.declared.vecs.VecCommand.{VecCommand};
-ghost use Rattle.ecow_counted.specs.Totals.{CopiedIsSum, CopiedIsPaid, CopiesFromNew, MovedIsSum, MovedIsPaid, MovesFromNew};
+ghost use Rattle.ecow_counted.specs.Totals.{TotalsArePaid};
 
 mod read;
 
@@ -128,9 +128,11 @@ impl<T> Counted<T> {
         ensures verdict { CountedVerdict self.old.names
             (VecCommand.Clone from to) result self.new.names }
         ensures unchanged { OnRefused result (self.new ≡ self.old) }
+        ensures sharing { IsSharing self.new.names }
+
+        // The totals stay.
         ensures copied { self.new.copied ≡ self.old.copied }
         ensures moved { self.new.moved ≡ self.old.moved }
-        ensures sharing { IsSharing self.new.names }
     {
         self.blocks.join(from, to)
     }
@@ -143,13 +145,15 @@ impl<T: Clone> Counted<T> {
             → CountedStep self.old.names command result self.new.names }
         ensures verdict { CountedVerdict self.old.names command result self.new.names }
         ensures unchanged { OnRefused result (self.new ≡ self.old) }
+        ensures sharing { IsSharing self.new.names }
+
+        // The totals rise by what the command cost, where it is accepted.
         ensures copied { self.new.copied
             ≡ saturating self.old.copied
             (if_accepted result (copied_in (vec_usage command) self.old.names)) }
         ensures moved { self.new.moved
             ≡ saturating self.old.moved
             (if_accepted result (moved_in (vec_usage command) self.old.names)) }
-        ensures sharing { IsSharing self.new.names }
     {
         let Carried {
             outcome,
@@ -162,7 +166,7 @@ impl<T: Clone> Counted<T> {
     }
 
     /// Carries out commands in order and answers the outcome of each. Room for the outcomes is
-    /// taken first: where it is refused nothing is carried out, and the commands come back.
+    /// taken first.
     pub fn run(
         &mut self,
         commands: Vec<VecCommand<T>>,
@@ -170,33 +174,19 @@ impl<T: Clone> Counted<T> {
         ensures run { ClonesAreEqual T.is_clone
             → IfOk result
             (λ outcomes. CountedRun self.old.names commands.items outcomes.items self.new.names) }
-        ensures verdicts { IfOk result
-            (λ outcomes.
-            RunBy CountedVerdict self.old.names commands.items outcomes.items self.new.names) }
         ensures contents { ClonesAreEqual T.is_clone
             → IfOk result
             (λ outcomes.
             RunBy ContentsStep self.old.names commands.items outcomes.items self.new.names) }
-        ensures copied { ClonesAreEqual T.is_clone
+        ensures verdicts { IfOk result
+            (λ outcomes.
+            RunBy CountedVerdict self.old.names commands.items outcomes.items self.new.names) }
+        ensures totals { ClonesAreEqual T.is_clone
             → IfOk result
-            (λ outcomes. CopiedIsSum self.old commands.items outcomes.items self.new) }
-        ensures moved { ClonesAreEqual T.is_clone
-            → IfOk result (λ outcomes. MovedIsSum self.old commands.items outcomes.items self.new) }
-        ensures copies_paid { ClonesAreEqual T.is_clone
-            → IfOk result
-            (λ outcomes. CopiedIsPaid self.old commands.items outcomes.items self.new) }
-        ensures moves_paid { ClonesAreEqual T.is_clone
-            → IfOk result
-            (λ outcomes. MovedIsPaid self.old commands.items outcomes.items self.new) }
-        ensures copies_from_new { ClonesAreEqual T.is_clone
-            → IfOk result
-            (λ outcomes. CopiesFromNew self.old commands.items outcomes.items self.new) }
-        ensures moves_from_new { ClonesAreEqual T.is_clone
-            → IfOk result
-            (λ outcomes. MovesFromNew self.old commands.items outcomes.items self.new) }
-        ensures unchanged { OnErr result (self.new ≡ self.old) }
-        ensures value_returned { IfErr result (λ rejected. rejected.value ≡ commands) }
-        ensures memory { IfErr result (λ rejected. rejected.error ≡ EcoError.Memory) }
+            (λ outcomes. TotalsArePaid self.old commands.items outcomes.items self.new) }
+
+        // Where there is no room for the outcomes, nothing is carried out.
+        ensures refused { RejectsForMemory commands self.old result self.new }
     {
         let Ok(mut outcomes) = Vec::with_capacity(self.alloc, commands.len()) else {
             return Err(Rejected {

@@ -1,11 +1,11 @@
 //! A block that one name alone is about to have: its own, or a copy of one that it shares.
-ghost use Rattle.std.specs.Prelude.{◌≡◌, ℕ, ◌<◌, ◌≤◌, [], true, false, nat_le, length, take, IsSome, IsOk, IfOk, OnOk, OnErr, if◌then◌else◌};
+ghost use Rattle.std.specs.Prelude.{◌≡◌, ◌<◌, ◌≤◌, true, false, length, take, IsSome, IsOk, IfOk, OnOk, OnErr};
 ghost use Rattle.std.specs.FinMap as finite;
 ghost use Rattle.ecow_base.specs.Clones.{ClonesAreEqual};
 ghost use Rattle.ecow_model.specs.CountedRun.{holding_at, nothing};
 ghost use Rattle.ecow_model.specs.Names.{IsSharing, is_shared, settle};
 ghost use Rattle.ecow_counted.specs.Opened.{IsOpened};
-ghost use Rattle.ecow_counted.specs.Owned.{HasCost, copies_for, moves_for};
+ghost use Rattle.ecow_counted.specs.Owned.{CanHave, HasCost, capacity_for, copies_for, items_for, length_for, moves_for, moves_from};
 
 use crate::blocks::Blocks;
 use ecow_base::MAX_LEN;
@@ -38,13 +38,16 @@ impl<T: Drop> Blocks<T> {
         requires room { self.old.has_room ≡ true }
         requires grows { block.capacity ≤ want.capacity }
         requires bounded { want.capacity ≤ MAX_LEN }
+
+        // What the block has, and what it cost; there is still room for it.
+        ensures items { IfOk result (λ own. own.block.items ≡ block.items) }
+        ensures cost { IfOk result (HasCost want 0 (moves_from want block.capacity)) }
         ensures names { OnOk result (self.new.names ≡ self.old.names) }
         ensures room { OnOk result (self.new.has_room ≡ true) }
-        ensures unchanged { OnErr result
+
+        // A refusal gives it back, and none comes where it has the capacity.
+        ensures given_back { OnErr result
             (self.new.names ≡ settle name block.items block.capacity self.old.names) }
-        ensures items { IfOk result (λ own. own.block.items ≡ block.items) }
-        ensures cost { IfOk result
-            (HasCost want 0 (if nat_le want.capacity block.capacity then 0 else want.staying)) }
         ensures free { want.capacity ≡ block.capacity → IsOk result }
     {
         let mut block = block;
@@ -74,8 +77,12 @@ impl<T: Clone> Blocks<T> {
         requires whole { want.copies ≤ length (holding_at self.old.names name).items }
         requires fits { want.copies ≤ want.capacity }
         requires bounded { want.capacity ≤ MAX_LEN }
+
+        // No name changes, and there is room for the block.
         ensures names { self.new.names ≡ self.old.names }
         ensures room { OnOk result (0 < want.capacity → self.new.has_room ≡ true) }
+
+        // What the block has, and what it cost.
         ensures items { ClonesAreEqual T.is_clone
             → IfOk result (λ own. own.block.items
             ≡ take want.copies (holding_at self.old.names name).items) }
@@ -109,15 +116,20 @@ impl<T: Clone> Blocks<T> {
         requires sharing { IsSharing self.old.names }
         requires backed { 0 < length (holding_at self.old.names name).group
             → 0 < (holding_at self.old.names name).capacity }
-        requires grows { (holding_at self.old.names name).capacity ≤ want.capacity }
-        requires staying { want.staying ≤ length (holding_at self.old.names name).items }
+        requires wanted { CanHave want (holding_at self.old.names name) }
         requires bounded { want.capacity ≤ MAX_LEN }
+
+        // The name is about to settle, and there is room for its block.
         ensures opened { OnOk result (IsOpened name self.old.names self.new.names) }
         ensures room { OnOk result (0 < want.capacity → self.new.has_room ≡ true) }
-        ensures unchanged { OnErr result (self.new.names ≡ self.old.names) }
+
+        // Its block is as it was, but for its capacity.
         ensures items { IfOk result (λ own. own.block.items ≡ (holding_at self.old.names name).items) }
         ensures cost { IfOk result
             (HasCost want 0 (moves_for want (holding_at self.old.names name))) }
+
+        // A refusal changes no name, and none comes where the block has the capacity.
+        ensures unchanged { OnErr result (self.new.names ≡ self.old.names) }
         ensures free { want.capacity ≡ (holding_at self.old.names name).capacity → IsOk result }
     {
         match self.take(name) {
@@ -127,27 +139,30 @@ impl<T: Clone> Blocks<T> {
     }
 
     /// A block for a name alone, with exactly the capacity that it wants: its own, or a copy of one
-    /// that it shares. Where there is no memory, or a clone is refused, nothing changes.
+    /// that it shares.
     pub fn own(&mut self, alloc: Global, name: Name, want: Want) -> Result<Owned<T>, AllocError>
         requires there { IsSome (finite.get self.old.names name) }
-        requires whole { is_shared (holding_at self.old.names name) ≡ true
-            → (want.copies ≤ length (holding_at self.old.names name).items)
-            × (want.copies ≤ want.capacity) }
-        requires grows { is_shared (holding_at self.old.names name) ≡ false
-            → (holding_at self.old.names name).capacity ≤ want.capacity }
-        requires staying { want.staying ≤ length (holding_at self.old.names name).items }
+        requires wanted { CanHave want (holding_at self.old.names name) }
         requires bounded { want.capacity ≤ MAX_LEN }
+
+        // The name is about to settle, and there is room for its block.
         ensures opened { OnOk result (IsOpened name self.old.names self.new.names) }
         ensures room { OnOk result (0 < want.capacity → self.new.has_room ≡ true) }
-        ensures unchanged { OnErr result (self.new.names ≡ self.old.names) }
+
+        // What the block has, and what it cost.
         ensures items { ClonesAreEqual T.is_clone
-            → IfOk result (λ own. own.block.items ≡ if is_shared (holding_at self.old.names name) then take want.copies (holding_at self.old.names name).items else (holding_at self.old.names name).items) }
-        ensures len { IfOk result (λ own. length own.block.items
-            ≡ if is_shared (holding_at self.old.names name) then want.copies else length (holding_at self.old.names name).items) }
+            → IfOk result
+            (λ own. own.block.items ≡ items_for want (holding_at self.old.names name)) }
+        ensures len { IfOk result
+            (λ own. length own.block.items ≡ length_for want (holding_at self.old.names name)) }
         ensures cost { IfOk result
             (HasCost want (copies_for want (holding_at self.old.names name))
             (moves_for want (holding_at self.old.names name))) }
-        ensures free { (want.capacity ≡ if is_shared (holding_at self.old.names name) then 0 else (holding_at self.old.names name).capacity) → IsOk result }
+
+        // A refusal changes no name, and none comes where nothing is asked for.
+        ensures unchanged { OnErr result (self.new.names ≡ self.old.names) }
+        ensures free { want.capacity ≡ capacity_for (holding_at self.old.names name)
+            → IsOk result }
     {
         let size = self.size(name).unwrap();
         if size.owners > 1 {

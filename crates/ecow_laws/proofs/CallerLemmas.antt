@@ -9,7 +9,7 @@ use Rattle.std.proofs.lemmas.Map.Views.{tells_apart}
 use Rattle.std.proofs.lemmas.Map.Lookups.{exact_unsigned}
 use Rattle.ecow_model.specs.CountedRun.{CountedStep}
 use Rattle.ecow_model.specs.Vecs.{vec_rules, vec_usage}
-use Rattle.ecow_model.specs.Names.{Holding, Names, contents}
+use Rattle.ecow_model.specs.Names.{Holding, Names, contents, list_of}
 use Rattle.ecow_model.specs.Refusing.{◌>>=◌, becomes}
 use Rattle.ecow_model.specs.Run.{IsVecStep}
 use Rattle.ecow_model.specs.State.{State, Plain}
@@ -29,7 +29,7 @@ use Rattle.ecow_model.specs.declared.usage.Usage.{Usage}
 use Rattle.ecow_model.specs.declared.usage.Usage.TheVariants.{Make, Derive, Drop, Edit, Ask}
 use Rattle.ecow_model.specs.declared.value.Value.TheVariants.{Vec as VecValue, Bytes as BytesValue, Text as TextValue}
 use Rattle.ecow_model.proofs.Contents.{get-contents, step_of_contents}
-use Rattle.ecow_laws.specs.Callers.{LeavesName, list_of}
+use Rattle.ecow_laws.specs.Callers.{LeavesName}
 
 abbrev nothing : Unit {0}
 nothing = tt

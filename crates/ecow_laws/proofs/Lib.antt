@@ -1,12 +1,2 @@
-pub mod Costs
-pub mod Groups
-pub mod Joined
-pub mod Kept
-pub mod Totals
-pub mod Settled
-pub mod Ranges
-pub mod Lengths
-pub mod Steps
-pub mod Bounds
 pub mod Agreement
 pub mod CallerLemmas

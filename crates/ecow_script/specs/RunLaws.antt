@@ -11,7 +11,7 @@ use Rattle.ecow_model.specs.declared.command.Outcome.{Outcome}
 use Rattle.ecow_model.specs.declared.vecs.VecCommand.{VecCommand}
 use Rattle.ecow_counted.specs.Filling.{IsRunOf}
 use Rattle.ecow_counted.specs.State.{CountedState, IsValid}
-use Rattle.ecow_laws.proofs.Bounds.{run_shares, step_paid}
+use Rattle.ecow_counted.proofs.Bounds.{run_shares, step_paid}
 use Rattle.ecow_counted.proofs.Totals.{saturating_none, saturating_small}
 
 module _ {C S : Type 0} {T : Type 0} (step : S → C → Outcome T → S → Type 0) where

@@ -1,8 +1,8 @@
 //! Named handles, and the commands on them.
-ghost use Rattle.std.specs.Prelude.{◌≡◌, IfOk, IfErr, OnErr};
+ghost use Rattle.std.specs.Prelude.{◌≡◌, IfOk};
 ghost use Rattle.std.specs.FinMap as map;
 ghost use Rattle.ecow_base.specs.Clones.{ClonesAreEqual};
-ghost use Rattle.ecow_vec.specs.declared.error.EcoError.{EcoError};
+ghost use Rattle.ecow_vec.specs.Refusals.{RejectsForMemory};
 ghost use Rattle.ecow_model.specs.Refusing.{OnRefused};
 ghost use Rattle.ecow_model.specs.Run.{Run, RunBy, Step, StepVerdict, StepWhere};
 
@@ -76,7 +76,7 @@ impl<T: Clone, const N: usize> NamedValues<Stored<T, N>> {
     }
 
     /// Carries out commands in order and answers the outcome of each. Room for the outcomes is
-    /// taken first: where it is refused nothing is carried out, and the commands come back.
+    /// taken first.
     pub fn run(
         &mut self,
         commands: Vec<Command<T>>,
@@ -88,9 +88,9 @@ impl<T: Clone, const N: usize> NamedValues<Stored<T, N>> {
             self.old commands.items outcomes.items self.new) }
         ensures verdicts { IfOk result
             (λ outcomes. RunBy (StepVerdict N) self.old commands.items outcomes.items self.new) }
-        ensures unchanged { OnErr result (self.new ≡ self.old) }
-        ensures value_returned { IfErr result (λ rejected. rejected.value ≡ commands) }
-        ensures memory { IfErr result (λ rejected. rejected.error ≡ EcoError.Memory) }
+
+        // Where there is no room for the outcomes, nothing is carried out.
+        ensures refused { RejectsForMemory commands self.old result self.new }
     {
         let Ok(mut outcomes) = Vec::with_capacity(self.alloc, commands.len()) else {
             return Err(Rejected {

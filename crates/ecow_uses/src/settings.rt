@@ -2,7 +2,7 @@
 //! copies the settings once, where another version still shares them.
 ghost use Rattle.std.specs.Prelude.{◌≡◌, ◌≢◌, ℕ, OnErr, OnOk, slice_get, slice_set};
 ghost use Rattle.std.specs.Option.{option_and_then, option_map};
-ghost use Rattle.ecow_laws.specs.Callers.{list_of};
+ghost use Rattle.ecow_model.specs.Names.{list_of};
 
 use ecow_counted::Counted;
 use ecow_model::{Name, Outcome, Refusal, VecCommand};

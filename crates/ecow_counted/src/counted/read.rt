@@ -1,7 +1,7 @@
 //! What a name holds, read without a command.
 ghost use Rattle.std.specs.Prelude.{◌≡◌};
 ghost use Rattle.std.specs.Option.{option_copied};
-ghost use Rattle.ecow_laws.specs.Callers.{list_of};
+ghost use Rattle.ecow_model.specs.Names.{list_of};
 
 use crate::counted::Counted;
 use ecow_model::Name;

@@ -1,6 +1,6 @@
 use Rattle.std.proofs.Common.{◌≡◌, ◌++◌, ◌∙◌, ℕ, ℤ, List, ap, subst, arith}
 use Rattle.ecow_counted.specs.State.{CountedState, IsValid}
-use Rattle.ecow_laws.proofs.Bounds.{nothing_shares}
+use Rattle.ecow_counted.proofs.Bounds.{nothing_shares}
 use Rattle.ecow_script.specs.RunLaws.{CountedRuns}
 use Rattle.ecow_script.specs.Runs.{new_table, totals_line}
 use Rattle.ecow_script.proofs.counted.counted_answers_to.Goals as goal

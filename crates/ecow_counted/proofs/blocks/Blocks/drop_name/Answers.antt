@@ -1,7 +1,7 @@
 use Rattle.std.proofs.Common.{ap, [], ◌∙◌}
 use Rattle.std.specs.FinMap as finite
 use Rattle.ecow_model.specs.Names.{forget}
-use Rattle.ecow_laws.proofs.Settled.{get-settle, forget-settle}
+use Rattle.ecow_counted.proofs.Settled.{get-settle, forget-settle}
 use Rattle.ecow_counted.proofs.blocks.Blocks.drop_name.Goals as goal
 
 pub remove-requires : goal.remove-requires

@@ -1,4 +1,4 @@
-use Rattle.std.proofs.Common.{◌≡◌, ◌≤◌, true, cond, length, take, sym, ap, ◌∙◌, subst, arith, ⊎_elim}
+use Rattle.std.proofs.Common.{rules, ◌≡◌, ◌≤◌, true, cond, length, take, sym, ap, ◌∙◌, subst, arith, ⊎_elim}
 use Rattle.std.specs.Prelude.{nat_lt, nat_le, vec_capacity}
 use Rattle.std.proofs.lemmas.Bool.{true≢false, le-ltb, cases_Bool}
 use Rattle.ecow_base.specs.Capacity.{MAX}
@@ -31,6 +31,10 @@ returns-in_default-new-clause-carried g c =
     let asked = sym (c.check.ensures h.items (sym (ap (λ s. s.len) found.1))) ∙ c.in_default-check.is in
     rw c.still-in_default-new.ensures (edit_memory (ClonesAreEqual g.T.Clone.is_clone) names c.args.name c.args.edit h found.0 asked (spare_not_free h (found_fits h found.1 c.in-Some.ensures.bounds.0) c.args.edit
     (⊎_elim (λ t. t) (λ f. absurd (refused_is c.new.result c.in_default-new.field-0 c.in_default-new.is (c.new.ensures.free f))) (cases_Bool (takes_spare c.args.edit)))))
+
+-- copies that there are, or no smaller a block
+pub own-requires-clause-wanted : goal.own-requires-clause-wanted
+own-requires-clause-wanted g c = record { copies = search rules; fits = search rules; grows = search rules; staying = search rules; }
 
 pub returns-in_default-own-clause-carried : goal.returns-in_default-own-clause-carried
 returns-in_default-own-clause-carried g c =

@@ -1,7 +1,7 @@
 use Rattle.std.proofs.Common.{ap, [], ◌∙◌}
 use Rattle.std.specs.FinMap as finite
 use Rattle.ecow_model.specs.Names.{settle}
-use Rattle.ecow_laws.proofs.Settled.{get-settle, settle-settle}
+use Rattle.ecow_counted.proofs.Settled.{get-settle, settle-settle}
 use Rattle.ecow_counted.proofs.blocks.Blocks.settle.Goals as goal
 
 pub place-requires-clause-bare : goal.place-requires-clause-bare

@@ -46,32 +46,29 @@ returns-clause-verdicts g c =
 pub returns-clause-contents : goal.returns-clause-contents
 returns-clause-contents g c = λ clones. run_of_contents c.args.commands.items c.loop-command.outcomes.items c.args.self.now.names c.loop-command.self.names (returns-clause-run g c clones)
 
-pub returns-clause-copied : goal.returns-clause-copied
-returns-clause-copied g c = λ clones.
+-- what the whole run adds to the totals, and what pays for it
+pub returns-clause-totals : goal.returns-clause-totals
+returns-clause-totals g c = λ clones.
+    let old = c.args.self.now in
+    let new = c.loop-command.self in
+    let commands = c.args.commands.items in
+    let outcomes = c.loop-command.outcomes.items in
+    let so_far = c.loop-command.invariant in
     let rest = c.loop-command.rest in
     let ended : into_iter_items rest ≡ [] = nil_from_length (into_iter_items rest) (omega (arith, rest.rest.ok.0, c.in_default-next.ensures.cases.0)) in
-    saturating_none c.loop-command.self.copied c.loop-command.invariant.valid.copied
-    ∙ ap (λ cs. saturating c.loop-command.self.copied (copied_in_run c.loop-command.self.names cs [])) (sym ended)
-    ∙ c.loop-command.invariant.copied clones []
-    ∙ ap (λ outcomes. saturating c.args.self.now.copied (copied_in_run c.args.self.now.names c.args.commands.items outcomes)) (append-nil c.loop-command.outcomes.items)
-
-pub returns-clause-moved : goal.returns-clause-moved
-returns-clause-moved g c = λ clones.
-    let rest = c.loop-command.rest in
-    let ended : into_iter_items rest ≡ [] = nil_from_length (into_iter_items rest) (omega (arith, rest.rest.ok.0, c.in_default-next.ensures.cases.0)) in
-    saturating_none c.loop-command.self.moved c.loop-command.invariant.valid.moved
-    ∙ ap (λ cs. saturating c.loop-command.self.moved (moved_in_run c.loop-command.self.names cs [])) (sym ended)
-    ∙ c.loop-command.invariant.moved clones []
-    ∙ ap (λ outcomes. saturating c.args.self.now.moved (moved_in_run c.args.self.now.names c.args.commands.items outcomes)) (append-nil c.loop-command.outcomes.items)
-
-pub returns-clause-copies_paid : goal.returns-clause-copies_paid
-returns-clause-copies_paid g c = λ clones. copies_paid c.args.self.now c.args.commands.items c.loop-command.outcomes.items c.loop-command.self (subst IsValid c.self.view_is c.self.invariant).sharing (returns-clause-run g c clones) (returns-clause-copied g c clones) (returns-clause-moved g c clones)
-
-pub returns-clause-moves_paid : goal.returns-clause-moves_paid
-returns-clause-moves_paid g c = λ clones. moves_paid c.args.self.now c.args.commands.items c.loop-command.outcomes.items c.loop-command.self (subst IsValid c.self.view_is c.self.invariant).sharing (returns-clause-run g c clones) (returns-clause-copied g c clones) (returns-clause-moved g c clones)
-
-pub returns-clause-copies_from_new : goal.returns-clause-copies_from_new
-returns-clause-copies_from_new g c = λ clones. copies_from_new c.args.self.now c.args.commands.items c.loop-command.outcomes.items c.loop-command.self (subst IsValid c.self.view_is c.self.invariant).sharing (returns-clause-run g c clones) (returns-clause-copied g c clones) (returns-clause-moved g c clones)
-
-pub returns-clause-moves_from_new : goal.returns-clause-moves_from_new
-returns-clause-moves_from_new g c = λ clones. moves_from_new c.args.self.now c.args.commands.items c.loop-command.outcomes.items c.loop-command.self (subst IsValid c.self.view_is c.self.invariant).sharing (returns-clause-run g c clones) (returns-clause-copied g c clones) (returns-clause-moved g c clones)
+    let ran = returns-clause-run g c clones in
+    let valid = subst IsValid c.self.view_is c.self.invariant in
+    let copied =
+    saturating_none new.copied so_far.valid.copied ∙ ap (λ cs. saturating new.copied (copied_in_run new.names cs [])) (sym ended) ∙ so_far.copied clones []
+    ∙ ap (λ all. saturating old.copied (copied_in_run old.names commands all)) (append-nil outcomes) in
+    let moved =
+    saturating_none new.moved so_far.valid.moved ∙ ap (λ cs. saturating new.moved (moved_in_run new.names cs [])) (sym ended) ∙ so_far.moved clones []
+    ∙ ap (λ all. saturating old.moved (moved_in_run old.names commands all)) (append-nil outcomes) in
+    record {
+      copied = copied;
+      moved = moved;
+      copies_paid = copies_paid old commands outcomes new valid.sharing ran copied moved;
+      moves_paid = moves_paid old commands outcomes new valid.sharing ran copied moved;
+      copies_from_new = copies_from_new old commands outcomes new valid.sharing ran copied moved;
+      moves_from_new = moves_from_new old commands outcomes new valid.sharing ran copied moved;
+    }

@@ -9,11 +9,11 @@ returns-in_default-clause-index c =
 
 pub returns-in-Ok-clause-ok : goal.returns-in-Ok-clause-ok
 returns-in-Ok-clause-ok c =
-    c.in-Ok.ensures.ok (λ x y same. same) ∙ removed c.args.name.now c.args.fields.now c.in-Some.at (rw c.as_slice.ensures at c.in-Some.ensures)
+    (c.in-Ok.ensures.change.ok (λ x y same. same)).1 ∙ removed c.args.name.now c.args.fields.now c.in-Some.at (rw c.as_slice.ensures at c.in-Some.ensures)
 
 pub returns-in-Ok-clause-value : goal.returns-in-Ok-clause-value
 returns-in-Ok-clause-value c =
-    taken c.args.name.now c.args.fields.now c.in-Some.at c.in-Ok.field (rw c.as_slice.ensures at c.in-Some.ensures) (c.in-Ok.ensures.value (λ x y same. same))
+    taken c.args.name.now c.args.fields.now c.in-Some.at c.in-Ok.field (rw c.as_slice.ensures at c.in-Some.ensures) (c.in-Ok.ensures.change.ok (λ x y same. same)).0
 
 pub returns-in-Ok-clause-index : goal.returns-in-Ok-clause-index
 returns-in-Ok-clause-index c =

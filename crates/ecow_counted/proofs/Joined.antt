@@ -6,10 +6,10 @@ use Rattle.std.proofs.lemmas.Bool.{eqb-true, ne_eqb, eq-eqb, true≢false, cases
 use Rattle.std.proofs.lemmas.Option.{none-some, same_Some}
 use Rattle.ecow_base.specs.Capacity.{MAX}
 use Rattle.ecow_model.specs.Names.{Names, Holding, IsSharing, IsRising, is_member, with_name, leave, forget, enter, join, total, debt, block_number, is_shared}
-use Rattle.ecow_laws.proofs.Totals.{get-insert_nat, same_nat}
+use Rattle.ecow_counted.proofs.Sums.{get-insert_nat, same_nat}
 use Rattle.ecow_model.proofs.Contents.{get-map_values}
-use Rattle.ecow_laws.proofs.Groups.{is_sole_owner, without_absent, or_true, debt-forget, blocks-forget}
-use Rattle.ecow_laws.proofs.Kept.{mapped, get_forget_itself, get_forget_other, get_forget_none, is_member-with_name, rising-with_name, without-with_name, length-with_name}
+use Rattle.ecow_counted.proofs.Groups.{is_sole_owner, without_absent, or_true, debt-forget, blocks-forget}
+use Rattle.ecow_counted.proofs.Kept.{mapped, get_forget_itself, get_forget_other, get_forget_none, is_member-with_name, rising-with_name, without-with_name, length-with_name}
 
 at_most : (b : Bool) (m n : ℕ) → m ≤ n → cond b m 0 ≤ n
 at_most true m n le = le

@@ -25,13 +25,13 @@ use Rattle.ecow_model.specs.declared.command.Outcome.TheVariants.{Refused}
 use Rattle.ecow_model.specs.declared.command.Refusal.{Refusal}
 use Rattle.ecow_model.specs.declared.command.Refusal.TheVariants.{Taken, Memory}
 use Rattle.ecow_model.proofs.PutBack.{found_value}
-use Rattle.ecow_laws.proofs.Groups.{is_sole_owner, debt-forget, blocks-forget}
-use Rattle.ecow_laws.proofs.Totals.{total-empty}
-use Rattle.ecow_laws.proofs.Kept.{sharing-forget, sharing-settle, debt-settle, blocks-settle}
-use Rattle.ecow_laws.proofs.Joined.{sharing-join, debt-join, blocks-join}
-use Rattle.ecow_laws.proofs.Settled.{forget_absent, empty_of}
-use Rattle.ecow_laws.proofs.Lengths.{LengthMade, LengthIs, is_made, is_answer, is_asked}
-use Rattle.ecow_laws.proofs.Steps.{IsPaidMade, IsPaidSole, IsPaidShared, paid_made, paid_sole, paid_shared}
+use Rattle.ecow_counted.proofs.Groups.{is_sole_owner, debt-forget, blocks-forget}
+use Rattle.ecow_counted.proofs.Sums.{total-empty}
+use Rattle.ecow_counted.proofs.Kept.{sharing-forget, sharing-settle, debt-settle, blocks-settle}
+use Rattle.ecow_counted.proofs.Joined.{sharing-join, debt-join, blocks-join}
+use Rattle.ecow_counted.proofs.Settled.{forget_absent, empty_of}
+use Rattle.ecow_counted.proofs.Lengths.{LengthMade, LengthIs, is_made, is_answer, is_asked}
+use Rattle.ecow_counted.proofs.Steps.{IsPaidMade, IsPaidSole, IsPaidShared, paid_made, paid_sole, paid_shared}
 
 settled : (b : Bool) (m : ℕ) → cond b m 0 ≤ m
 settled true m = omega arith

@@ -5,9 +5,9 @@ use Rattle.std.proofs.lemmas.Bool.{eqb-true, ne_eqb, eq-eqb, true≢false, cases
 use Rattle.std.proofs.lemmas.Option.{none-some, same_Some}
 use Rattle.ecow_model.specs.CountedRun.{nothing}
 use Rattle.ecow_model.specs.Names.{Names, Holding, IsSharing, is_member, without, leave, forget, settle, blocks}
-use Rattle.ecow_laws.proofs.Totals.{same_nat, get-insert_nat}
-use Rattle.ecow_laws.proofs.Groups.{is_sole_owner, without_absent, blocks-forget}
-use Rattle.ecow_laws.proofs.Kept.{get_forget_none, get_forget_other, get_forget_itself, is_member-without}
+use Rattle.ecow_counted.proofs.Sums.{same_nat, get-insert_nat}
+use Rattle.ecow_counted.proofs.Groups.{is_sole_owner, without_absent, blocks-forget}
+use Rattle.ecow_counted.proofs.Kept.{get_forget_none, get_forget_other, get_forget_itself, is_member-without}
 
 -- to leave a group twice is to leave it once
 pub without_twice : (x : ℕ) (group : List ℕ) → without x (without x group) ≡ without x group

@@ -5,7 +5,7 @@ use Rattle.std.specs.FinMap as finite
 use Rattle.std.proofs.lemmas.Bool.{eqb-true, eqb-false, ne_eqb, eq-eqb, true≢false, cases_eq, lt-ltb}
 use Rattle.std.proofs.lemmas.Option.{none-some, same_Some}
 use Rattle.ecow_model.specs.Names.{Names, Holding, IsSharing, IsRising, is_member, without, head_of, leave, forget, total, debt, debt_of, block_number, is_shared, past_head, at_head}
-use Rattle.ecow_laws.proofs.Totals.{total-map_values, total_congr, total-remove, get-remove_nat}
+use Rattle.ecow_counted.proofs.Sums.{total-map_values, total_congr, total-remove, get-remove_nat}
 
 -- whether the name alone holds its block
 abbrev pub is_sole_owner : {T : Type 0} → Holding T → Bool

@@ -6,9 +6,9 @@ use Rattle.std.proofs.lemmas.Bool.{eqb-true, eqb-false, ne_eqb, eq-eqb, true≢f
 use Rattle.std.proofs.lemmas.Option.{none-some, same_Some}
 use Rattle.ecow_base.specs.Capacity.{MAX}
 use Rattle.ecow_model.specs.Names.{Names, Holding, IsSharing, IsRising, is_member, without, with_name, head_of, leave, forget, settle, total, debt, debt_of, past_head, at_head, block_number}
-use Rattle.ecow_laws.proofs.Totals.{total-insert, get-remove_nat, get-insert_nat}
+use Rattle.ecow_counted.proofs.Sums.{total-insert, get-remove_nat, get-insert_nat}
 use Rattle.ecow_model.proofs.Contents.{get-map_values}
-use Rattle.ecow_laws.proofs.Groups.{without_absent, kept_by_remove}
+use Rattle.ecow_counted.proofs.Groups.{without_absent, kept_by_remove}
 
 or_swap : (a b c : Bool) → (a || (b || c)) ≡ (b || (a || c))
 or_swap true true c = refl

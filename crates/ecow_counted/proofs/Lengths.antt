@@ -23,7 +23,7 @@ use Rattle.ecow_model.specs.declared.command.Outcome.TheVariants.{Done, Popped, 
 use Rattle.ecow_model.specs.declared.command.Refusal.{Refusal}
 use Rattle.ecow_model.specs.declared.command.Refusal.TheVariants.{Capacity as TooMuch, Index, Range, Marks}
 use Rattle.ecow_model.proofs.Lengths.{length-inserted, length-spliced}
-use Rattle.ecow_laws.proofs.Ranges.{range_fits}
+use Rattle.ecow_counted.proofs.Ranges.{range_fits}
 
 length-picked : {T : Type 0} (marks : List Bool) (xs : List T) → length (items_where_true marks xs) ≤ length xs
 length-picked [] xs = omega arith

@@ -9,8 +9,8 @@ use Rattle.ecow_model.specs.declared.vecs.VecMake.{VecMake}
 use Rattle.ecow_model.specs.declared.vecs.VecMake.TheVariants.{New, WithCapacity, FromList, FromElem}
 use Rattle.ecow_model.specs.declared.vecs.VecEdit.{VecEdit}
 use Rattle.ecow_model.specs.declared.vecs.VecEdit.TheVariants.{Push, Pop, Insert, Remove, Truncate, Clear, Retain, Drain, Splice, Extend, Reserve, Write}
-use Rattle.ecow_laws.proofs.Costs.{strain_le, strain_keep, le-fresh, fresh-le, strain_fresh, le-room, room-le, paid_by_room, paid_by_copy}
-use Rattle.ecow_laws.proofs.Lengths.{LengthMade, LengthIs}
+use Rattle.ecow_counted.proofs.Strains.{strain_le, strain_keep, le-fresh, fresh-le, strain_fresh, le-room, room-le, paid_by_room, paid_by_copy}
+use Rattle.ecow_counted.proofs.Lengths.{LengthMade, LengthIs}
 
 -- a list that is made fits in its block, and is paid
 pub record IsPaidMade {T : Type 0} (how : VecMake T) (m : ℕ) : Type 0 where
