@@ -22,6 +22,8 @@ pub fn room_for(len: usize, additional: usize, capacity: usize) -> usize
     requires needed { len + additional ≤ MAX_LEN }
     requires bounded { capacity ≤ MAX_LEN }
     ensures value { result ≡ room len additional capacity }
+
+    // It is enough, no less than before, and within the limit.
     ensures fits { len + additional ≤ result }
     ensures keeps { capacity ≤ result }
     ensures bounded { result ≤ MAX_LEN }

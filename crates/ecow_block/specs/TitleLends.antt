@@ -8,7 +8,8 @@ use Rattle.ecow_block.specs.contracts.room.Title.{the_row}
 
 -- the title with these fields in place of its own
 abbrev pub with_fields : {X A : Type 0} → Title X A → Fields X → Title X A
-with_fields t x = record { mark = t.mark; at = t.at; fields = x; places = t.places; alloc = t.alloc }
+with_fields t x =
+    record { mark = t.mark; at = t.at; fields = x; places = t.places; alloc = t.alloc }
 
 -- the title ends with the last value behind r as its fields
 abbrev pub lends_fields : (R A : RattleType) (g : Ghosts A.Denot) → MutBor (Title R.Denot A.Denot)

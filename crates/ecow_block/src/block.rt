@@ -158,11 +158,15 @@ impl<T> Block<T> {
     pub fn fill_from<I: Iterator<Item = T>>(&mut self, most: usize, iter: &mut I) -> bool
         requires in_bounds { length self.old.items ≤ most }
         requires callable { I.can_next iter.old × IsFinite (I.remaining iter.old) }
+
+        // The items that came go behind the others.
         ensures items { GivesOn I.next_gives iter.old self.old.items
             iter.new self.new.items result }
         ensures len { (length self.old.items ≤ length self.new.items)
             × (length self.new.items ≤ most) }
         ensures full { result ≡ false → length self.new.items ≡ min most self.old.capacity }
+
+        // There is as much room as before, and the iterator may be asked again.
         ensures capacity { self.new.capacity ≡ self.old.capacity }
         ensures callable { result ≡ false → I.can_next iter.new × IsFinite (I.remaining iter.new) }
     {
@@ -423,6 +427,8 @@ impl<T> Block<T> {
         requires room { length self.old.items - (end - start) + length replacement.items
             ≤ self.old.capacity }
         requires spare { end - start ≤ replacement.capacity }
+
+        // What is taken out, and what the block has then.
         ensures removed { result ≡ slice_range self.old.items start end }
         ensures len { length result ≡ end - start }
         ensures block { self.new
@@ -500,6 +506,8 @@ impl<T: Clone> Block<T> {
             → OnOk result (self.new.items ≡ self.old.items ++ elements.now) }
         ensures len { OnOk result (length self.new.items ≡ length self.old.items
             + length elements.now) }
+
+        // There is as much room as before, and a refusal changes nothing.
         ensures capacity { self.new.capacity ≡ self.old.capacity }
         ensures unchanged { OnErr result (self.new ≡ self.old) }
     {
@@ -522,6 +530,8 @@ impl<T: Clone> Block<T> {
     pub fn from_clones(alloc: Global, elements: &[T], capacity: usize) -> Result<Self, AllocError>
         requires room { length elements.now ≤ capacity }
         requires bounded { capacity ≤ MAX_LEN }
+
+        // The clones, and as much room as is asked for.
         ensures clones { IfOk result (λ block. AllZip T.is_clone elements.now block.items) }
         ensures items { ClonesAreEqual T.is_clone
             → IfOk result (λ block. block.items ≡ elements.now) }

@@ -413,6 +413,8 @@ impl<T> Room<T> {
         requires ordered { start ≤ end }
         requires in_bounds { end ≤ len }
         requires room { len + (end - start) ≤ self.old.capacity }
+
+        // The copies go behind the others, in the same places.
         ensures items { self.new.items ≡ self.old.items ++ slice_range self.old.items start end }
         ensures places { SamePlaces self.old self.new }
     {
@@ -461,6 +463,8 @@ impl<T> Room<T> {
             → OnOk result (self.new.items ≡ self.old.items ++ elements.now) }
         ensures len { OnOk result (length self.new.items ≡ length self.old.items
             + length elements.now) }
+
+        // The places stay, and a refusal leaves the items.
         ensures places { SamePlaces self.old self.new }
         ensures unchanged { OnErr result (self.new.items ≡ self.old.items) }
     {
@@ -593,11 +597,15 @@ impl<T> Room<T> {
         requires room { (base.ptr ≡ self.old.at) × (at ≡ self.old.start + length self.old.items)
             × (length self.old.items + most ≤ self.old.capacity) × (at + most < 2 ^ 64) }
         requires callable { I.can_next iter.old × IsFinite (I.remaining iter.old) }
+
+        // The items that came go behind the others, in the same places.
         ensures items { GivesOn I.next_gives iter.old self.old.items
             iter.new self.new.items result.1 }
         ensures len { (length self.new.items ≡ length self.old.items + result.0)
             × (result.0 ≤ most) }
         ensures full { result.1 ≡ false → result.0 ≡ most }
+
+        // Where all went in, the iterator may be asked again.
         ensures callable { result.1 ≡ false → I.can_next iter.new
             × IsFinite (I.remaining iter.new) }
         ensures places { SamePlaces self.old self.new }

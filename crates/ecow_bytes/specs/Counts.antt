@@ -11,5 +11,6 @@ before_last limit cells = from_le_bytes w64 (take 8 (drop (limit - 9) cells))
 unfoldable pub counted : ℕ → List ℕ → ℕ
 counted limit cells =
     if nat_lt limit 257 then slice_index cells (limit - 1)
-    else if nat_lt (slice_index cells (limit - 1)) 255 then limit - 1 - slice_index cells (limit - 1)
+    else if nat_lt (slice_index cells (limit - 1)) 255
+    then limit - 1 - slice_index cells (limit - 1)
     else min (limit - 256) (before_last limit cells)

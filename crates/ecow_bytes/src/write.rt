@@ -15,8 +15,12 @@ impl<const N: usize> io::Write for SmallBytes<N> {
     ghost contents = { λ b. Some b.bytes };
 
     fn write(&mut self, buf: &[u8]) -> io::Result<usize>
+
+        // What std asks of a writer.
         ensures bound { WritesAtMost result buf.now }
         ensures bytes { WriteAppends (Some self.old.bytes) (Some self.new.bytes) result buf.now }
+
+        // All bytes go in, or none for want of memory.
         ensures mode { OnOk result
             (self.new.inline ≡ inline_after N self.old.inline (length self.old.bytes)
             (length buf.now)) }

@@ -28,11 +28,15 @@ impl<T: Clone> Spare<T> {
     pub fn new(alloc: Global, edit: &VecEdit<T>, len: usize) -> Result<Self, AllocError>
         requires bounded { len ≤ MAX_LEN }
         requires asked { asked_length edit.now len ≤ MAX_LEN }
+
+        // The clones that the change appends, and room for what changes places.
         ensures items { ClonesAreEqual T.is_clone
             → IfOk result (λ spare. spare.block.items ≡ new_items edit.now) }
         ensures len { IfOk result
             (λ spare. length spare.block.items ≡ length (new_items edit.now)) }
         ensures room { IfOk result (λ spare. spare_room edit.now len ≤ spare.block.capacity) }
+
+        // Room for what it answers.
         ensures empty { IfOk result (λ spare. spare.answer.items ≡ []) }
         ensures answer { IfOk result (λ spare. taken_out edit.now len ≤ vec_capacity spare.answer) }
         ensures free { takes_spare edit.now ≡ false → IsOk result }
@@ -87,6 +91,8 @@ fn replace<T: Drop>(
     requires places { items_in_range bounds (length block.old.items) ≤ replacement.capacity }
     requires empty { answer.items ≡ [] }
     requires answer { items_in_range bounds (length block.old.items) ≤ vec_capacity answer }
+
+    // What is taken out, and what the block has then.
     ensures taken { IfSome (range_of bounds (length block.old.items))
         (λ range. result ≡ slice_range block.old.items range.0 range.1) }
     ensures block { IfSome (range_of bounds (length block.old.items)) (λ range. block.new
@@ -132,6 +138,8 @@ pub(crate) fn apply<T: Drop>(block: &mut Block<T>, edit: VecEdit<T>, spare: Spar
     requires places { spare_room edit (length block.old.items) ≤ spare.block.capacity }
     requires empty { spare.answer.items ≡ [] }
     requires answer { taken_out edit (length block.old.items) ≤ vec_capacity spare.answer }
+
+    // It does what the definition says, in the same block.
     ensures change { spare.block.items ≡ new_items edit
         → edit_vec edit block.old.items ≡ Ok (result, block.new.items) }
     ensures capacity { block.new.capacity ≡ block.old.capacity }

@@ -167,6 +167,8 @@ impl<T> Blocks<T> {
         requires there { IsSome (finite.get self.old.names name) }
         ensures names { self.new.names ≡ settle name [] 0 self.old.names }
         ensures block { result ≡ sole_block (finite.get self.old.names name) }
+
+        // There is room for another block, where there was or where this one is given.
         ensures room { IsSome result → self.new.has_room ≡ true }
         ensures room_kept { self.old.has_room ≡ true → self.new.has_room ≡ true }
         ensures sharing { IsSharing self.new.names }
@@ -294,6 +296,8 @@ fn add_owner<T>(table: &mut Slab<Entry<T>>, place: usize)
 fn drop_owner<T>(table: &mut Slab<Entry<T>>, place: usize) -> Option<Block<T>>
     requires there { ContainsKey table.old place }
     requires some { (entry : Entry T) → get table.old place ≡ Some entry → 0 < entry.owners }
+
+    // The block comes out with its last name alone.
     ensures last { (entry : Entry T) → get table.old place ≡ Some entry → entry.owners ≡ 1
         → (result ≡ Some entry.block) × (get table.new place ≡ None)
         × (slab_len table.new + 1 ≡ slab_len table.old) × HasRoomFor table.new 1 }
@@ -301,6 +305,8 @@ fn drop_owner<T>(table: &mut Slab<Entry<T>>, place: usize) -> Option<Block<T>>
         → (result ≡ None)
         × (get table.new place ≡ Some (record { block = entry.block; owners = entry.owners - 1 }))
         × (slab_len table.new ≡ slab_len table.old) }
+
+    // All other places stay.
     ensures others { (other : ℕ) → other ≢ place → get table.new other ≡ get table.old other }
     ensures room { HasRoomFor table.old 1 → HasRoomFor table.new 1 }
 {

@@ -54,6 +54,8 @@ pub(crate) fn capacity<T>(edit: &VecEdit<T>, size: Size) -> usize
     requires leaves { nat_lt 1 size.owners ≡ true → is_unshared edit.now size.len ≡ true }
     ensures capacity { result
         ≡ capacity_after edit.now (nat_lt 1 size.owners) size.len size.capacity }
+
+    // It is within the limit, and enough for what is copied or stays.
     ensures bounded { result ≤ MAX_LEN }
     ensures grows { nat_lt 1 size.owners ≡ false → size.capacity ≤ result }
     ensures holds { nat_lt 1 size.owners ≡ true → are_copied edit.now size.len ≤ result }

@@ -124,7 +124,8 @@ impl<T: Clone> Blocks<T> {
         ensures room { OnOk result (0 < want.capacity → self.new.has_room ≡ true) }
 
         // Its block is as it was, but for its capacity.
-        ensures items { IfOk result (λ own. own.block.items ≡ (holding_at self.old.names name).items) }
+        ensures items { IfOk result
+            (λ own. own.block.items ≡ (holding_at self.old.names name).items) }
         ensures cost { IfOk result
             (HasCost want 0 (moves_for want (holding_at self.old.names name))) }
 

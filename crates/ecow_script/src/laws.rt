@@ -16,6 +16,8 @@ pub fn answers_are_arguments()
         → integer (place (signed_decimal z) names) ≡ Ok (z, place [] names) }
     ensures bytes { (b : ℕ) (names : List (List ℕ)) → b < 256
         → byte (place (decimal b) names) ≡ Ok (b, place [] names) }
+
+    // Lists and texts.
     ensures lists { (xs : List ℤ) (names : List (List ℕ)) → All IsI64 xs
         → integers (place (list_text signed_decimal xs) names) ≡ Ok (xs, place [] names) }
     ensures lists_of_bytes { (xs : List ℕ) (names : List (List ℕ)) → All (λ b. b < 256) xs

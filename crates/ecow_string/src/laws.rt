@@ -82,10 +82,14 @@ impl<const N: usize> fmt::Debug for SmallString<N> {
 pub fn texts_are_their_bytes()
     ensures passes { (held : PlainBytes) → IsUtf8 held.bytes → is_utf8 held.bytes ≡ true }
     ensures is { (held : PlainBytes) → is_utf8 held.bytes ≡ true → IsUtf8 held.bytes }
+
+    // Bytes that pass come back from their text.
     ensures kept { (held : PlainBytes) → is_utf8 held.bytes ≡ true
         → bytes_of (text_of held) ≡ held }
     ensures valid { (held : PlainBytes) → is_utf8 held.bytes ≡ true
         → AreChars (text_of held).chars }
+
+    // A text comes back from its bytes.
     ensures again_passes { (text : PlainText) → AreChars text.chars
         → is_utf8 (bytes_of text).bytes ≡ true }
     ensures again { (text : PlainText) → AreChars text.chars → text_of (bytes_of text) ≡ text }

@@ -55,7 +55,8 @@ impl<const N: usize> FromIterator<char> for SmallString<N> {
     }
 }
 
-/// The texts, one after another, as `SmallString::from_strs` makes them; its two errors are one here.
+/// The texts, one after another, as `SmallString::from_strs` makes them; its two errors are one
+/// here.
 impl<'a, const N: usize> FromIterator<&'a str> for SmallString<N> {
     type Alloc = Global;
 

@@ -208,10 +208,14 @@ fn read_script<R: Read>(alloc: Global, reader: &mut R) -> Result<Vec<u8>, End>
 fn read_piece<R: Read>(reader: &mut R, piece: &mut [u8], script: &mut Vec<u8>) -> Result<bool, End>
     requires room { 0 < length piece.old }
     requires fits { length script.old.items ≤ size_limit }
+
+    // The bytes that were read go behind the others.
     ensures read { OnOk result ((bytes : List ℕ)
         × (script.new.items ≡ script.old.items ++ bytes)
         × Consumes (R.remaining reader.old) (R.remaining reader.new) bytes) }
     ensures ended { IfOk result (λ ended. IsTrue ended → IsAtEnd (R.remaining reader.new)) }
+
+    // The script stays within its limit, and the piece as long as it was.
     ensures fits { OnOk result (length script.new.items ≤ size_limit) }
     ensures room { length piece.new ≡ length piece.old }
     ensures end { IfErr result (λ end. IfSome (R.remaining reader.old)

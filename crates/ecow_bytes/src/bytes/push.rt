@@ -81,6 +81,8 @@ impl<const N: usize> SmallBytes<N> {
         ensures bytes { ExtendsWithItems I.into_iter_gives I.IntoIter.next_gives Appends iter
             self.old.bytes self.new.bytes result }
         ensures mode { self.new.inline ≡ inline_after N self.old.inline (length self.new.bytes) 0 }
+
+        // A refusal is that of one byte: those before it stay. None is refused that fits inline.
         ensures refused { OnErr result ((items : List ℕ)
             × GivesFirst I.into_iter_gives I.IntoIter.next_gives iter items
             × (length self.new.bytes + 1 ≡ length self.old.bytes + length items)) }
@@ -125,6 +127,8 @@ impl<const N: usize> SmallBytes<N> {
         requires in_bounds { end ≤ length self.old.bytes }
         requires inline { self.old.inline ≡ true }
         requires full { N < length self.old.bytes - (end - start) + length bytes.now }
+
+        // They are spilled, all of them.
         ensures bytes { OnOk result
             (self.new.bytes ≡ replace_range self.old.bytes start end bytes.now) }
         ensures mode { OnOk result (self.new.inline ≡ false) }

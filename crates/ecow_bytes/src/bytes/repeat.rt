@@ -13,7 +13,9 @@ impl<const N: usize> SmallBytes<N> {
     /// The bytes `count` times over. Each step appends as many copies as there are, in one move of
     /// memory. Of no bytes it returns at once, however often.
     pub fn repeat(&self, count: usize) -> Result<Self, EcoError>
-        ensures { MakesBytes N (length self.now.bytes * count) (repeat count self.now.bytes) result }
+        ensures { MakesBytes N
+            (length self.now.bytes * count) (repeat count self.now.bytes)
+            result }
     {
         let len = self.len();
         if len == 0 || count == 0 {

@@ -11,8 +11,8 @@ use ecow_vec::EcoError;
 
 impl<const N: usize> SmallBytes<N> {
     /// Lends the bytes to `f` for writing, once, and keeps as many of them from the front as it
-    /// answers, or all where it answers more. Where there are none, `f` gets an empty slice. Spilled
-    /// bytes that are shared are copied first; where that copy is refused, `f` isn't called.
+    /// answers, or all where it answers more. Where there are none, `f` gets an empty slice.
+    /// Spilled bytes that are shared are copied first; where that is refused, `f` isn't called.
     ///
     /// This project's own: the original writes through `make_mut`, of whose borrow a proved caller
     /// learns less.

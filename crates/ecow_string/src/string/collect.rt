@@ -209,7 +209,8 @@ impl<const N: usize> SmallString<N> {
         ensures chars { OnOk result (self.new.chars ≡ self.old.chars ++ chars text.now) }
         ensures mode { Grows N self.old.inline (utf8_len self.old.chars) (length text.now)
             result self.new.inline }
-        ensures refused { RefusesPast (utf8_len self.old.chars + length text.now) self.old result self.new }
+        ensures refused { RefusesPast (utf8_len self.old.chars + length text.now)
+            self.old result self.new }
         ensures len { utf8_len (self.old.chars ++ chars text.now) ≡ utf8_len self.old.chars
             + length text.now }
     {

@@ -61,7 +61,8 @@ impl<const N: usize> SmallString<N> {
             (self.new.chars ≡ insert self.old.chars (chars_before self.old.chars index) c) }
         ensures mode { Grows N self.old.inline (utf8_len self.old.chars) (len_utf8 c)
             result self.new.inline }
-        ensures refused { RefusesPast (utf8_len self.old.chars + len_utf8 c) self.old result self.new }
+        ensures refused { RefusesPast (utf8_len self.old.chars + len_utf8 c)
+            self.old result self.new }
     {
         let mut buffer = [0; 4];
         self.insert_str(index, c.encode_utf8(&mut buffer))?;
@@ -78,7 +79,8 @@ impl<const N: usize> SmallString<N> {
             (chars text.now)) }
         ensures mode { Grows N self.old.inline (utf8_len self.old.chars) (length text.now)
             result self.new.inline }
-        ensures refused { RefusesPast (utf8_len self.old.chars + length text.now) self.old result self.new }
+        ensures refused { RefusesPast (utf8_len self.old.chars + length text.now)
+            self.old result self.new }
     {
         self.bytes.insert_slice(index, text.as_bytes())?;
         Ok(())
@@ -130,6 +132,8 @@ impl<const N: usize> SmallString<N> {
     pub fn remove(&mut self, index: usize) -> Result<char, EcoError>
         requires boundary { is_boundary self.old.chars index ≡ true }
         requires in_bounds { index < utf8_len self.old.chars }
+
+        // The character comes out, and the others stay.
         ensures value { IfOk result
             (λ c. slice_get self.old.chars (chars_before self.old.chars index) ≡ Some c) }
         ensures chars { OnOk result
@@ -152,7 +156,8 @@ impl<const N: usize> SmallString<N> {
         ensures chars { self.new.chars ≡ self.old.chars }
         ensures mode { Grows N self.old.inline (utf8_len self.old.chars) additional
             result self.new.inline }
-        ensures refused { RefusesPast (utf8_len self.old.chars + additional) self.old result self.new }
+        ensures refused { RefusesPast (utf8_len self.old.chars + additional)
+            self.old result self.new }
     {
         self.bytes.reserve(additional)?;
         Ok(())

@@ -60,8 +60,8 @@ impl<const N: usize> SmallString<N> {
         Ok(SmallString { bytes })
     }
 
-    /// The text of a `String`: inline where it has at most `N` bytes, and else spilled, with a block
-    /// of its own. Answers `Capacity` past 2^63 - 1 bytes, and else `Memory`.
+    /// The text of a `String`: inline where it has at most `N` bytes, and else spilled, with a
+    /// block of its own. Answers `Capacity` past 2^63 - 1 bytes, and else `Memory`.
     pub fn from_string(alloc: Global, text: String) -> Result<Self, Rejected<String>>
         ensures chars { IfOk result (λ t. t.chars ≡ chars (string_bytes text)) }
         ensures mode { IfOk result (λ t. t.inline ≡ inline_for N (length (string_bytes text))) }

@@ -17,7 +17,8 @@ impl<const N: usize> SmallString<N> {
         ensures chars { OnOk result (self.new.chars ≡ self.old.chars ++ c ∷ []) }
         ensures mode { Grows N self.old.inline (utf8_len self.old.chars) (len_utf8 c)
             result self.new.inline }
-        ensures refused { RefusesPast (utf8_len self.old.chars + len_utf8 c) self.old result self.new }
+        ensures refused { RefusesPast (utf8_len self.old.chars + len_utf8 c)
+            self.old result self.new }
     {
         let mut buffer = [0; 4];
         self.push_str(c.encode_utf8(&mut buffer))?;
@@ -31,7 +32,8 @@ impl<const N: usize> SmallString<N> {
         ensures chars { OnOk result (self.new.chars ≡ self.old.chars ++ chars text.now) }
         ensures mode { Grows N self.old.inline (utf8_len self.old.chars) (length text.now)
             result self.new.inline }
-        ensures refused { RefusesPast (utf8_len self.old.chars + length text.now) self.old result self.new }
+        ensures refused { RefusesPast (utf8_len self.old.chars + length text.now)
+            self.old result self.new }
 
         // For an empty text nothing changes, sharing included.
         ensures nothing { text.now ≡ [] → IsOk result × (self.new ≡ self.old) }

@@ -11,7 +11,9 @@ use ecow_vec::EcoError;
 impl<const N: usize> SmallString<N> {
     /// The text `count` times over.
     pub fn repeat(&self, count: usize) -> Result<Self, EcoError>
-        ensures { MakesText N (utf8_len self.now.chars * count) (repeat count self.now.chars) result }
+        ensures { MakesText N
+            (utf8_len self.now.chars * count) (repeat count self.now.chars)
+            result }
     {
         // For the proof alone: the length is bounded.
         let _len = self.bytes.len();

@@ -19,9 +19,13 @@ pub(super) fn collect<T: Drop, I: Iterator<Item = T>>(
 ) -> Result<Block<T>, EcoError>
     requires bounded { (least ≤ MAX_LEN) × (ample ≤ MAX_LEN) × (most ≤ MAX_LEN) }
     requires ends { I.can_next iter.old × IsFinite (I.remaining iter.old) }
+
+    // All items, in a block with room.
     ensures items { IfOk result (λ block. Drains I.next_gives iter.old block.items) }
     ensures fits { IfOk result (λ block. length block.items ≤ most) }
     ensures room { IfOk result (λ block. least ≤ block.capacity) }
+
+    // A refusal comes at an item, for capacity exactly past `most`.
     ensures refused { OnErr result
         ((items : List T)
         × Yields I.next_gives iter.old items iter.new

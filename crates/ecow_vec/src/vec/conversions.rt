@@ -139,6 +139,8 @@ impl<T: Clone> EcoVec<T> {
         ensures ok { ClonesAreEqual T.is_clone → IfOk result (λ v. v ≡ replicate n value) }
         ensures clones { IfOk result (All (T.is_clone value)) }
         ensures len { IfOk result (λ v. length v ≡ n) }
+
+        // A refusal hands `value` back, and none comes for no clones.
         ensures value_returned { IfErr result (λ rejected. rejected.value ≡ value) }
         ensures capacity { IsErrAnd result (λ rejected. rejected.error ≡ EcoError.Capacity)
             ↔ (MAX_LEN < n) }

@@ -138,6 +138,8 @@ fn copy_within<T: Copy>(all: &mut [T], start: usize, end: usize, to: usize)
 /// Fewer than `K` are copied one by one.
 fn copy_pieces<T: Copy, const K: usize>(all: &mut [T], start: usize, end: usize, to: usize)
     requires small { K * type_size T.row < 2 ^ 63 }
+
+    // Where the elements stand, and where they go.
     requires in_order { start ≤ end }
     requires in_bounds { end ≤ length all.old }
     requires room { to + (end - start) ≤ length all.old }

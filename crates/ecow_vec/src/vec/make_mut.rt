@@ -23,6 +23,8 @@ impl<T: Clone> EcoVec<T> {
         ensures* writes_back { sem 𝓛 (lends_slice T.row T.is_clone self.entry result) }
         ensures value { ClonesAreEqual T.is_clone → IfOk result (λ slice. slice.now ≡ self.old) }
         ensures len { IfOk result (λ slice. length slice.now ≡ length self.old) }
+
+        // Refused where a shared vector must be copied, and not where there is no element.
         ensures memory { IfErr result (λ error. error ≡ EcoError.Memory) }
         ensures empty { self.old ≡ [] → IsOk result }
         ensures kept { IfOk result (λ slice. IsKept T.is_clone self.old slice.now) }
@@ -51,6 +53,8 @@ impl<T: Clone> EcoVec<T> {
             → IfOk result (λ block. block.now.items ≡ self.old) }
         ensures kept { IfOk result (λ block. IsKept T.is_clone self.old block.now.items) }
         ensures len { IfOk result (λ block. length block.now.items ≡ length self.old) }
+
+        // There is none exactly where there is no element; else memory was lacking.
         ensures some { OnOk result (0 < length self.old) }
         ensures refused { IfErr result
             (λ refused.

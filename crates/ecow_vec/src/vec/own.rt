@@ -134,6 +134,8 @@ impl<T: Drop> EcoVec<T> {
     ) -> Result<Block<T>, AllocError>
         requires room { length elements.now ≤ capacity }
         requires bounded { capacity ≤ MAX_LEN }
+
+        // The copies, and as much room as is asked for; it is free for none.
         ensures copies { IfOk result (λ block. AllZip C.makes elements.now block.items) }
         ensures len { IfOk result (λ block. length block.items ≡ length elements.now) }
         ensures capacity { IfOk result (λ block. block.capacity ≡ capacity) }

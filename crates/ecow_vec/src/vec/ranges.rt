@@ -109,6 +109,8 @@ impl<T: Clone> EcoVec<T> {
         requires in_bounds { end ≤ length self.old }
         requires fits { length self.old - (end - start) + length replacement.items ≤ MAX_LEN }
         requires spare { end - start ≤ replacement.capacity }
+
+        // What is taken out, and what the vector has then.
         ensures change { ChangesBy T.is_clone self.old
             (λ xs removed ys.
             (removed ≡ slice_range xs start end)

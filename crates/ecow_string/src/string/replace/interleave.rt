@@ -43,6 +43,8 @@ pub(super) fn push_interleaving<const N: usize>(
     requires fits { utf8_len made.old.chars
         + utf8_len (replacen count [] (chars replacement.now) (chars text.now)) ≤ most }
     requires mode { made.old.inline ≡ inline_for N most }
+
+    // The text is appended, in the mode for `most` bytes; it is refused only where these spill.
     ensures chars { OnOk result
         (made.new.chars ≡ made.old.chars ++ replacen count [] (chars replacement.now)
         (chars text.now)) }

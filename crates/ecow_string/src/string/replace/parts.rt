@@ -29,6 +29,8 @@ pub(super) fn push_part<const N: usize>(
     requires bounded { most ≤ MAX_LEN }
     requires fits { utf8_len made.old.chars + length text.now ≤ most }
     requires mode { made.old.inline ≡ inline_for N most }
+
+    // It is appended, in the mode for `most` bytes; it is refused only where these spill.
     ensures chars { OnOk result (made.new.chars ≡ made.old.chars ++ chars text.now) }
     ensures mode { OnOk result (made.new.inline ≡ inline_for N most) }
     ensures memory { IfErr result (λ error. error ≡ EcoError.Memory) }
@@ -48,6 +50,8 @@ pub(super) fn push_both<const N: usize>(
     requires bounded { most ≤ MAX_LEN }
     requires fits { utf8_len made.old.chars + length first.now + length second.now ≤ most }
     requires mode { made.old.inline ≡ inline_for N most }
+
+    // It is appended, in the mode for `most` bytes; it is refused only where these spill.
     ensures chars { OnOk result (made.new.chars ≡ (made.old.chars ++ chars first.now)
         ++ chars second.now) }
     ensures mode { OnOk result (made.new.inline ≡ inline_for N most) }

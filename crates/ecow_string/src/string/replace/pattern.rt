@@ -70,6 +70,8 @@ pub(super) fn push_replacement<const N: usize>(
         + utf8_len (replacen count (chars pattern.now) (chars replacement.now) (chars text.now))
         ≤ most }
     requires mode { made.old.inline ≡ inline_for N most }
+
+    // The text is appended, in the mode for `most` bytes; it is refused only where these spill.
     ensures chars { OnOk result
         (made.new.chars ≡ made.old.chars ++ replacen count (chars pattern.now)
         (chars replacement.now) (chars text.now)) }

@@ -34,7 +34,7 @@ returns-in_default-new-clause-carried g c =
 
 -- copies that there are, or no smaller a block
 pub own-requires-clause-wanted : goal.own-requires-clause-wanted
-own-requires-clause-wanted g c = record { copies = search rules; fits = search rules; grows = search rules; staying = search rules; }
+own-requires-clause-wanted g c = record { copies = search rules; fits = search rules; grows = search rules; staying = search rules }
 
 pub returns-in_default-own-clause-carried : goal.returns-in_default-own-clause-carried
 returns-in_default-own-clause-carried g c =
