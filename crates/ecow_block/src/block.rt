@@ -26,10 +26,15 @@ use std_alloc::room::may_hold;
 /// A list of elements, and the number of elements that it has room for. It takes one word. Its
 /// parts are public for the crates that count a block's owners.
 pub struct Block<T> {
+    /// Where its head is, or null where it has no places.
     pub top: Top<T>,
+    /// All its places.
     pub room: Room<T>,
+    /// The right to the head.
     pub title: Title<T, Global>,
+    /// The right to give places back that stand apart from the head.
     pub deed: Deed<T, Global>,
+    /// Of which its memory was asked.
     pub alloc: Global,
 }
 

@@ -12,14 +12,23 @@ use std::marker::Model;
 /// The elements that are still to come, in the memory that they were in. What is left is dropped
 /// with it.
 pub struct Rest<T> {
+    /// Where the block's head is, or null.
     top: Top<T>,
+    /// Where its places begin.
     base: Base<T>,
+    /// The number of the next element's place.
     start: usize,
+    /// How many elements are still to come.
     len: usize,
+    /// The places before that one, which are empty.
     taken: Room<T>,
+    /// The others.
     room: Room<T>,
+    /// The right to the head.
     title: Title<T, Global>,
+    /// The right to give places back that stand apart from the head.
     deed: Deed<T, Global>,
+    /// Of which the memory was asked.
     alloc: Global,
 }
 

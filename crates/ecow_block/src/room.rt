@@ -24,6 +24,7 @@ pub(crate) const CHUNK: usize = 128;
 
 /// Where a block begins. It owns nothing.
 pub(crate) struct Base<T> {
+    /// The first place, or an aligned address of no memory.
     ptr: *mut T,
 }
 
@@ -44,13 +45,18 @@ unsafe impl<T> Send for Base<T> {}
 
 unsafe impl<T> Sync for Base<T> {}
 
-/// Some places of a block, side by side: the first of them hold the items, the others are empty.
-/// `at` is where the block begins, and `start` the number of the first place. It takes no space.
+/// Some places of a block, side by side: the first of them hold the items, the others are empty. It
+/// takes no space.
 pub struct Room<T> {
+    /// Names `T`, and takes no space.
     pub mark: PhantomData<*const T>,
+    /// Where the block begins.
     ghost at: { Ptr },
+    /// The number of the first place.
     ghost start: { ℕ },
+    /// What stands in the first places, in order.
     ghost items: { List T },
+    /// How many places there are.
     ghost capacity: { ℕ },
     ghost within: { length items ≤ capacity },
 }
@@ -75,9 +81,13 @@ unsafe impl<T: Sync> Sync for Room<T> {}
 /// The right to give a block of `capacity` places back to `alloc`, if it was asked of it. It takes
 /// no space.
 pub struct Deed<T, A: Allocator> {
+    /// Names `T` and `A`, and takes no space.
     pub mark: PhantomData<*const (T, A)>,
+    /// Where the block begins.
     ghost at: { Ptr },
+    /// How many places it has.
     ghost capacity: { ℕ },
+    /// Of which it was asked.
     ghost alloc: { A },
 }
 
@@ -102,8 +112,11 @@ unsafe impl<T, A: Allocator> Sync for Deed<T, A> {}
 /// What a head says of its block: where the places begin, how many items they hold, and how many
 /// places there are.
 pub(crate) struct Fields<T> {
+    /// Right behind the head, or in memory of their own.
     pub(crate) base: Base<T>,
+    /// In places.
     pub(crate) len: usize,
+    /// In places.
     pub(crate) capacity: usize,
 }
 
@@ -121,12 +134,15 @@ impl<T> Copy for Fields<T> {}
 
 /// What a block has beside its places: how many owners there are, and the fields.
 pub struct Head<T> {
+    /// How many owners the block has, one at least. It stands first: the counts' crates find it there.
     pub count: usize,
+    /// What a sole owner changes, and all owners read.
     fields: Fields<T>,
 }
 
 /// Where a head is, or null, where there is no block. It owns nothing.
 pub struct Top<T> {
+    /// Null, or the head.
     pub ptr: *mut Head<T>,
 }
 
@@ -151,10 +167,15 @@ unsafe impl<T> Sync for Top<T> {}
 /// `alloc`: the head's, and that of as many places right behind it. It takes no space, and is
 /// nothing at null.
 pub struct Title<T, A: Allocator> {
+    /// Names `T` and `A`, and takes no space.
     pub mark: PhantomData<*const (T, A)>,
+    /// Where the head is, or null.
     ghost at: { Ptr },
+    /// What stands in it.
     ghost fields: { Fields T },
+    /// How many places were asked for with it: none where they stand apart.
     ghost places: { ℕ },
+    /// Of which it was asked.
     ghost alloc: { A },
 }
 

@@ -1,4 +1,9 @@
-//! `SmallBytes`, and `EcoBytes`, its name for 15 bytes.
+//! `SmallBytes`: few bytes in the value itself, and more in a vector that clones share. `EcoBytes`
+//! is its name for 15 bytes.
+//!
+//! A call that takes memory may be refused, as a vector's is: with `Capacity` where there would be
+//! more than 2^63 - 1 bytes, and else with `Memory`. The value is then as it was. No call is refused
+//! whose bytes stay inline.
 ghost use Rattle.std.specs.Prelude.{◌≡◌, ◌≤◌, ◌==◌, [], length, true, false};
 
 mod allocator;
@@ -23,7 +28,9 @@ use std::marker::Model;
 /// see the bytes and not where they stand.
 #[derive(Drop)]
 pub struct SmallBytes<const N: usize> {
+    /// The bytes, inline or spilled.
     form: Form<N>,
+    /// Of which memory is asked when they spill.
     alloc: Global,
 }
 

@@ -9,6 +9,7 @@ use ecow_base::MAX_LEN;
 /// has no model, so that a copy of it is one of memory.
 #[derive(Clone, Copy, Drop)]
 pub(crate) struct Cells<const N: usize> {
+    /// A byte for each cell.
     pub(crate) bytes: [u8; N],
 }
 

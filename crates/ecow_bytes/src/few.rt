@@ -8,6 +8,7 @@ use std::marker::Model;
 /// Fewer than `N` bytes. The cells behind them say how many (`counted` in `specs`).
 #[derive(Drop)]
 pub(crate) struct Few<const N: usize> {
+    /// The first hold the bytes, and the last say how many there are.
     pub(crate) cells: Cells<N>,
 }
 

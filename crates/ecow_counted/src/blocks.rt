@@ -21,7 +21,9 @@ use std::marker::Model;
 /// A block, and how many names hold it.
 #[derive(Drop)]
 struct Entry<T> {
+    /// It has room: a name without room has no entry.
     block: Block<T>,
+    /// One at least.
     owners: usize,
 }
 
@@ -37,7 +39,9 @@ pub(crate) struct Size {
 /// Named lists. Several names may hold one block.
 #[derive(Drop)]
 pub(crate) struct Blocks<T> {
+    /// Of each name, where its block stands in `table`, if it has one.
     places: Table<Option<usize>>,
+    /// Each block once.
     table: Slab<Entry<T>>,
 }
 
@@ -154,7 +158,6 @@ impl<T> Blocks<T> {
         ensures names { self.new.names ≡ settle name block.items block.capacity self.old.names }
         ensures sharing { IsSharing self.new.names }
     {
-        // For the proof: a list fits in its block.
         // For the proof alone: a block has no more elements than places.
         let _fits = block.len();
         let place = self.table.insert_reserved(Entry { block, owners: 1 });

@@ -29,8 +29,11 @@ use std::alloc::{AllocError, Global};
 /// What a command answers, and how many elements it copied and moved.
 #[derive(Drop)]
 pub(crate) struct Carried<T> {
+    /// What it answers.
     pub outcome: Outcome<T>,
+    /// How many elements it copied.
     pub copied: usize,
+    /// How many elements it moved to a greater block.
     pub moved: usize,
 }
 

@@ -25,9 +25,13 @@ use std::marker::Model;
 /// copied and moved. The totals stop at the greatest `u64`.
 #[derive(Drop)]
 pub struct Counted<T> {
+    /// Of which all memory is asked.
     alloc: Global,
+    /// What each name holds.
     blocks: Blocks<T>,
+    /// How many elements were cloned since a name left a block that it shared.
     copied: u64,
+    /// How many elements moved since a name's own block grew.
     moved: u64,
 }
 

@@ -16,18 +16,22 @@ use std::alloc::{AllocError, Global};
 /// A block for one name, and how many elements were copied into it or moved with it.
 #[derive(Drop)]
 pub(crate) struct Owned<T> {
+    /// No name has it yet.
     pub block: Block<T>,
+    /// In elements.
     pub copied: usize,
+    /// In elements.
     pub moved: usize,
 }
 
-/// What a name wants: to copy the first `copies` elements of a block that it shares, or to keep its
-/// own, in either case with room for `capacity`. `staying` elements count as moved where its own
-/// grows.
+/// What a name wants: a copy of a block that it shares, or its own block.
 #[derive(Clone, Copy)]
 pub(crate) struct Want {
+    /// How many elements are copied, from the first on, of a block that it shares.
     pub copies: usize,
+    /// How many elements count as moved where its own block grows.
     pub staying: usize,
+    /// For how many elements there is to be room.
     pub capacity: usize,
 }
 

@@ -64,8 +64,7 @@ IsGiven given result =
     (λ refusal. result ≡ Err refusal)
 
 -- a value that is made or derived, as far as its refusal goes: it is refused exactly as is given,
--- or
--- for want of memory where nothing else refuses it
+-- or for want of memory where nothing else refuses it
 abbrev pub IsRefusedAlike : {A B : Type 0} → Result A Refusal → Result B Refusal → Type 0
 IsRefusedAlike given result =
     MatchResult given (λ _. IfErr result (λ refusal. refusal ≡ Memory))

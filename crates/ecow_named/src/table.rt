@@ -20,7 +20,9 @@ const SLOTS: Name = 65536;
 /// whoever chose them. The other names stand in a tree.
 #[derive(Drop)]
 pub struct Table<V> {
+    /// Those below 65536, each in the slot of its number.
     slots: Vec<Option<V>>,
+    /// The others.
     others: BTreeMap<Name, V>,
 }
 

@@ -21,7 +21,9 @@ const HASHED: usize = 1024;
 /// known to a proof alone.
 #[derive(Drop)]
 pub(crate) struct Names<'a> {
+    /// The number of the next new name.
     count: Name,
+    /// The number of each name.
     maps: Maps<'a>,
     ghost listed: { Numbering (number_at maps) count } by { Numbering-prop (number_at maps) count },
 }
@@ -29,8 +31,11 @@ pub(crate) struct Names<'a> {
 /// The numbers of names.
 #[derive(Drop)]
 pub(crate) struct Maps<'a> {
+    /// Names of seven bytes or fewer, each as one number.
     short: HashMap<u64, Name>,
+    /// Longer ones among the first names.
     long: HashMap<&'a str, Name>,
+    /// All that came after the first names.
     further: BTreeMap<&'a str, Name>,
 }
 

@@ -58,9 +58,13 @@ impl<T: Drop> From<AllocFailed<T>> for Fault {
 /// What is left of a script.
 #[derive(Drop)]
 pub(crate) struct Script<'a> {
+    /// Of which memory for commands is asked.
     alloc: Global,
+    /// Reads a line, and knows the names.
     reader: Reader<'a>,
+    /// The lines that aren't read yet.
     text: &'a str,
+    /// The number of the last line that was read.
     number: usize,
     ghost counted: { number + length text.now < 2 ^ 64 },
 }

@@ -15,8 +15,11 @@ use std::marker::Model;
 /// What is left of a line, and the names that were read so far.
 #[derive(Drop)]
 pub(crate) struct Reader<'a> {
+    /// Of which memory for arguments is asked.
     alloc: Global,
+    /// What isn't read yet of the line.
     rest: &'a str,
+    /// The names so far.
     names: Names<'a>,
 }
 

@@ -12,17 +12,22 @@ use std::mem::replace;
 
 /// Stands where a block has a part that takes no space. It owns nothing.
 struct Nil<T> {
+    /// Names `T` alone: a `*const` owns none.
     mark: PhantomData<*const T>,
 }
 
 /// An owner of a block that may have others. It takes one word, and lies in memory as a block does.
 /// A block without places has no other owner.
 pub struct Shared<T> {
+    /// The block's word: where its head is, or null.
     top: Top<T>,
+    /// In the places of a block's rights, which an owner has no more than a part of.
     room: Nil<T>,
     title: Nil<T>,
     deed: Nil<T>,
+    /// Of which the block's memory was asked.
     alloc: Global,
+    /// The block that it owns a part of, as a proof sees it.
     ghost inside: { BlockParts T },
 }
 

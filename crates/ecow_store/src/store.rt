@@ -24,7 +24,9 @@ pub type Stored<T, const N: usize> = Value<EcoVec<T>, SmallBytes<N>, SmallString
 /// Named values of which `V` is the type.
 #[derive(Drop)]
 pub struct NamedValues<V> {
+    /// Of which all memory is asked.
     alloc: Global,
+    /// What stands under each name.
     values: Table<V>,
 }
 

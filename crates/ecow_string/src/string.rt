@@ -1,4 +1,9 @@
-//! `SmallString`, and `EcoString`, its name for 15 bytes.
+//! `SmallString`: a short text in the value itself, and a longer one in a vector that clones share.
+//! `EcoString` is its name for 15 bytes.
+//!
+//! A call that takes memory may be refused, as a vector's is: with `Capacity` where there would be
+//! more than 2^63 - 1 bytes, and else with `Memory`. The text is then as it was. No call is refused
+//! whose text stays inline.
 ghost use Rattle.std.specs.Prelude.{◌≡◌, ◌≤◌, ◌==◌, [], length, true, false};
 ghost use Rattle.std.specs.Str.{chars, encode_utf8_all};
 ghost use Rattle.ecow_values.specs.Utf8.{utf8_len, is_boundary};
@@ -30,6 +35,7 @@ use std::str;
 /// text ends.
 #[derive(Drop)]
 pub struct SmallString<const N: usize> {
+    /// The UTF-8 bytes.
     pub(crate) bytes: SmallBytes<N>,
 }
 

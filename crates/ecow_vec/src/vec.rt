@@ -1,4 +1,14 @@
-//! `EcoVec`.
+//! `EcoVec`: a vector whose clones share its elements until one of them is written to.
+//!
+//! ```text
+//! let mut first = eco_vec![in alloc; 1, 2, 3]?;
+//! let second = first.clone()?; // asks for no memory, and clones no element
+//! first.push(4)?; // copies the elements into a block of its own
+//! // first is 1, 2, 3, 4, and second is still 1, 2, 3
+//! ```
+//!
+//! A call that takes memory may be refused, with an `EcoError`: `Capacity` where the length or the
+//! capacity would pass 2^63 - 1 elements, and else `Memory`. The vector is then as it was.
 ghost use Rattle.std.specs.Prelude.{◌≡◌, ◌+◌, ◌-◌, ◌<◌, ◌≤◌, ◌==◌, ◌↔◌, [], length, take, IfOk, IfSome, IsErrOf, IsOk};
 ghost use Rattle.std.specs.Borrow.{sem};
 ghost use Rattle.std.specs.List.{AllZip};
@@ -31,7 +41,9 @@ use std::slice;
 /// its elements into a block of its own first, element by element; no other vector sees the change.
 #[derive(Drop)]
 pub struct EcoVec<T> {
+    /// The elements' block, or none where there has been no element and no room.
     block: Shared<T>,
+    /// Of which further memory is asked.
     alloc: Global,
 }
 
