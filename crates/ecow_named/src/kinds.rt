@@ -41,7 +41,7 @@ pub trait ValueKind<T: Clone, V: Drop> {
 
     /// Makes a value, or says why it is refused.
     fn make(alloc: Global, how: Self::Make) -> Result<NewValue<Self::Payload>, Refusal>
-        ensures made { premise → IsMade rules how result }
+        ensures value { premise → IsMade rules how result }
         ensures verdict { IsMadeOrRefused rules how result };
 
     /// Makes a value from `source`, which stays as it is, or says why it is refused.
@@ -49,17 +49,17 @@ pub trait ValueKind<T: Clone, V: Drop> {
         ensures derived { premise → IsDerived rules how source.now result }
         ensures verdict { IsDerivedOrRefused rules how source.now result };
 
-    /// Carries out one change. A refused change leaves `held` as it was.
-    fn edit(alloc: Global, held: &mut Self::Payload, edit: Self::Edit) -> Outcome<T>
-        ensures step { premise → IsEdit rules edit held.old result held.new }
-        ensures verdict { IsEditVerdict rules edit held.old result }
-        ensures unchanged { OnRefused result (held.new ≡ held.old) };
+    /// Carries out one change.
+    fn edit(alloc: Global, payload: &mut Self::Payload, edit: Self::Edit) -> Outcome<T>
+        ensures step { premise → IsEdit rules edit payload.old result payload.new }
+        ensures verdict { IsEditVerdict rules edit payload.old result }
+        ensures unchanged { OnRefused result (payload.new ≡ payload.old) };
 
-    /// Answers one question. `held` stays as it was.
-    fn ask(alloc: Global, held: &mut Self::Payload, question: Self::Ask) -> Outcome<T>
-        ensures answer { premise → IsAnswer rules question held.old result }
-        ensures verdict { IsAnswerVerdict rules question held.old result }
-        ensures kept { held.new ≡ held.old };
+    /// Answers one question.
+    fn ask(alloc: Global, payload: &mut Self::Payload, question: Self::Ask) -> Outcome<T>
+        ensures answer { premise → IsAnswer rules question payload.old result }
+        ensures verdict { IsAnswerVerdict rules question payload.old result }
+        ensures unchanged { payload.new ≡ payload.old };
 
     /// The value of this kind that `value` is, for reading, and else the refusal.
     fn payload(value: &V) -> Result<&Self::Payload, Refusal>
@@ -73,9 +73,9 @@ pub trait ValueKind<T: Clone, V: Drop> {
         ensures value { MatchResult result (λ x. rules.payload value.old ≡ Ok x.now)
             (λ refusal. rules.payload value.old ≡ Err refusal) };
 
-    /// `held` as a value that may stand under a name.
-    fn wrap(held: Self::Payload) -> V
-        ensures { result ≡ rules.wrap held };
+    /// `payload` as a value that may stand under a name.
+    fn wrap(payload: Self::Payload) -> V
+        ensures { result ≡ rules.wrap payload };
 
     ghost wraps: { WrapsPayloads rules };
 }
@@ -95,7 +95,7 @@ fn payload_at<T: Clone, V: Drop, K: ValueKind<T, V>>(
 }
 
 /// Puts a value under a name, and then answers `outcome`. Without memory for the name it answers
-/// `Memory`, and nothing changes.
+/// `Memory`.
 fn put<T: Drop, V: Drop>(
     values: &mut Table<V>,
     name: Name,
@@ -111,7 +111,7 @@ fn put<T: Drop, V: Drop>(
     }
 }
 
-/// Carries out one command on values of one kind, by its parts. A refused command changes nothing.
+/// Carries out one command on values of one kind, by its parts.
 pub fn carry_out<T: Clone, V: Drop, K: ValueKind<T, V>>(
     alloc: Global,
     values: &mut Table<V>,
@@ -126,11 +126,11 @@ pub fn carry_out<T: Clone, V: Drop, K: ValueKind<T, V>>(
             if values.contains(name) {
                 return Outcome::Refused(Refusal::Taken);
             }
-            let made: NewValue<K::Payload> = match K::make(alloc, how) {
-                Ok(made) => made,
+            let value: NewValue<K::Payload> = match K::make(alloc, how) {
+                Ok(value) => value,
                 Err(refusal) => return Outcome::Refused(refusal),
             };
-            match made {
+            match value {
                 NewValue::Always(value) => put(values, name, K::wrap(value), Outcome::Done),
                 NewValue::Tried(Some(value)) => put(
                     values,
@@ -155,27 +155,27 @@ pub fn carry_out<T: Clone, V: Drop, K: ValueKind<T, V>>(
             }
         }
         Usage::Drop { name } => {
-            let Some(held) = values.get(name) else {
+            let Some(value) = values.get(name) else {
                 return Outcome::Refused(Refusal::NoName);
             };
-            let seen: Result<&K::Payload, Refusal> = K::payload(held);
-            if let Err(refusal) = seen {
+            let payload: Result<&K::Payload, Refusal> = K::payload(value);
+            if let Err(refusal) = payload {
                 return Outcome::Refused(refusal);
             }
             let _ = values.remove(name);
             Outcome::Done
         }
         Usage::Edit { name, edit } => {
-            let held: Result<&mut K::Payload, Refusal> = payload_at::<T, V, K>(values, name);
-            match held {
-                Ok(value) => K::edit(alloc, value, edit),
+            let payload: Result<&mut K::Payload, Refusal> = payload_at::<T, V, K>(values, name);
+            match payload {
+                Ok(payload) => K::edit(alloc, payload, edit),
                 Err(refusal) => Outcome::Refused(refusal),
             }
         }
         Usage::Ask { name, question } => {
-            let held: Result<&mut K::Payload, Refusal> = payload_at::<T, V, K>(values, name);
-            match held {
-                Ok(value) => K::ask(alloc, value, question),
+            let payload: Result<&mut K::Payload, Refusal> = payload_at::<T, V, K>(values, name);
+            match payload {
+                Ok(payload) => K::ask(alloc, payload, question),
                 Err(refusal) => Outcome::Refused(refusal),
             }
         }

@@ -9,7 +9,7 @@ use Rattle.std.proofs.lemmas.Bool.Decides.{nat_tests}
 use Rattle.std.proofs.lemmas.List.{take_all, drop_all}
 use Rattle.std.proofs.lemmas.Str.{chars-encodes}
 use Rattle.ecow_script.specs.Numbers.{is_digit, count_in, byte_in, integer_in, list_in, up_to, IsI64}
-use Rattle.ecow_script.specs.Words.{place, next_word, word_of, argument, wanted_at, read_on, spelled, wanted, count, integer, byte, integers, bytes, text, text_behind, ends_word, is_blank, is_ink}
+use Rattle.ecow_script.specs.Words.{place, next_word, word_of, argument, wanted_at, read_on, spelling, wanted, count, integer, byte, integers, bytes, text, text_behind, ends_word, is_blank, is_ink}
 use Rattle.ecow_script.specs.Quoted.{text_from}
 use Rattle.ecow_script.specs.Answers.{items_behind, items_text, list_text, text_form, escaped}
 use Rattle.ecow_script.specs.declared.reason.Reason.{Reason}
@@ -55,7 +55,7 @@ last_argument (c ∷ cs) names some h = ap (wanted_at Arguments) (next_word_is c
 
 module _ {A : Type 0} (expected_there : Reason) (form : List ℕ → Option A) where
   last_spelled : (word : List ℕ) (names : List (List ℕ)) (x : A) → 0 < length word → AreInk word
-      → form word ≡ Some x → spelled expected_there form (place word names) ≡ Ok (x, place [] names)
+      → form word ≡ Some x → spelling expected_there form (place word names) ≡ Ok (x, place [] names)
   last_spelled word names x some h is =
       ap (λ r. read_on r (λ w. wanted expected_there (form w))) (last_argument word names some h)
       ∙ ap (λ o. wanted expected_there o (place [] names)) is

@@ -34,9 +34,9 @@ by_key short (Some key) long = short key
 by_key short None long = long
 
 -- the number that the three maps have for a word
-abbrev pub kept : (ℕ → Option ℕ) → (List ℕ → Option ℕ) → (List ℕ → Option ℕ)
+abbrev pub number_under : (ℕ → Option ℕ) → (List ℕ → Option ℕ) → (List ℕ → Option ℕ)
     → List ℕ → Option ℕ
-kept short long further word = or_else (by_key short (packed word) (long word)) (further word)
+number_under short long further word = or_else (by_key short (packed word) (long word)) (further word)
 
 -- the number under a key
 abbrev pub short_at : {S : Type 0} → HashMap ℕ ℕ S → ℕ → Option ℕ
@@ -52,4 +52,4 @@ further_at m word = tree.get_by (λ k. slice_cmp nat_cmp word k.now) m
 
 -- the number of a name
 abbrev pub number_at : Maps → List ℕ → Option ℕ
-number_at maps = kept (short_at maps.short) (long_at maps.long) (further_at maps.further)
+number_at maps = number_under (short_at maps.short) (long_at maps.long) (further_at maps.further)

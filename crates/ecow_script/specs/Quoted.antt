@@ -39,12 +39,12 @@ plain_escape c =
 abbrev pub behind_bytes : List ℕ → Option (List ℕ × List ℕ)
     → Option (List ℕ × List ℕ)
 behind_bytes front None = None
-behind_bytes front (Some spelled) = Some (front ++ spelled.0, spelled.1)
+behind_bytes front (Some spelling) = Some (front ++ spelling.0, spelling.1)
 
 -- a character in front of what is spelled
 abbrev pub behind_char : Option ℕ → Option (List ℕ × List ℕ) → Option (List ℕ × List ℕ)
-behind_char None spelled = None
-behind_char (Some c) spelled = behind_bytes (encode_utf8 c) spelled
+behind_char None spelling = None
+behind_char (Some c) spelling = behind_bytes (encode_utf8 c) spelling
 
 -- the bytes that are spelled up to the closing quote, and what stands behind it
 abbrev mutual

@@ -88,36 +88,36 @@ abbrev pub argument : Reading (List ℕ)
 argument old = wanted_at reason.Arguments (next_word old)
 
 -- a word that spells a value, or is no such word
-abbrev pub spelled : {A : Type 0} → Reason → (List ℕ → Option A) → Reading A
-spelled reason form = argument >>= λ word. wanted reason (form word)
+abbrev pub spelling : {A : Type 0} → Reason → (List ℕ → Option A) → Reading A
+spelling reason form = argument >>= λ word. wanted reason (form word)
 
 -- COUNT
 abbrev pub count : Reading ℕ
-count = spelled reason.Number count_in
+count = spelling reason.Number count_in
 
 -- INT
 abbrev pub integer : Reading ℤ
-integer = spelled reason.Number integer_in
+integer = spelling reason.Number integer_in
 
 -- BYTE
 abbrev pub byte : Reading ℕ
-byte = spelled reason.Number byte_in
+byte = spelling reason.Number byte_in
 
 -- INTS
 abbrev pub integers : Reading (List ℤ)
-integers = spelled reason.List (list_in integer_in)
+integers = spelling reason.List (list_in integer_in)
 
 -- BYTES
 abbrev pub bytes : Reading (List ℕ)
-bytes = spelled reason.List (list_in byte_in)
+bytes = spelling reason.List (list_in byte_in)
 
 -- MARKS
 abbrev pub marks : Reading (List Bool)
-marks = spelled reason.Marks marks_in
+marks = spelling reason.Marks marks_in
 
 -- BOUNDS
 abbrev pub bounds : Reading (Bound ℕ × Bound ℕ)
-bounds = spelled reason.Bounds bounds_in
+bounds = spelling reason.Bounds bounds_in
 
 -- whether two words are equal
 abbrev pub same : List ℕ → List ℕ → Bool
@@ -179,8 +179,8 @@ ends_word (c ∷ cs) = is_blank c
 abbrev pub text_behind : Option (List ℕ × List ℕ) → List (List ℕ)
     → Result (List ℕ × Place) Reason
 text_behind None names = Err reason.Text
-text_behind (Some spelled) names =
-    if ends_word spelled.1 then Ok (chars spelled.0, place spelled.1 names)
+text_behind (Some spelling) names =
+    if ends_word spelling.1 then Ok (chars spelling.0, place spelling.1 names)
     else Err reason.Text
 
 -- a text from its quote (34) on

@@ -105,7 +105,7 @@ fn close_in(bytes: &[u8]) -> Option<usize>
 /// What stands before the first quote or backslash, and the text from that on.
 #[tactic(auto, using(crate::proofs::Quotes::plain_front, crate::proofs::Quotes::at_special))]
 fn plain_part(text: &str) -> (&str, &str)
-    ensures spelled { text_from text.now ≡ behind_bytes result.0.now (text_from result.1.now) }
+    ensures spelling { text_from text.now ≡ behind_bytes result.0.now (text_from result.1.now) }
     ensures special { position_or_len is_special result.1.now ≡ 0 }
     ensures front { result.0.now ≡ before_first is_special text.now }
     ensures back { result.1.now ≡ drop (position_or_len is_special text.now) text.now }

@@ -58,7 +58,7 @@ module _ (f : ℕ → ℕ) (low : (c : ℕ) → c < 128 → f c < 128) (high : (
 
   -- the bytes are mapped, and so are the characters
   as_encoded : (bs : List ℕ) → AreUtf8 bs → map f bs ≡ encode_utf8_all (map f (chars bs))
-  as_encoded bs text = ap (map f) (sym text.spelled) ∙ mapped_bytes (chars bs)
+  as_encoded bs text = ap (map f) (sym text.spelling) ∙ mapped_bytes (chars bs)
 
   AreUtf8-mapped : (bs : List ℕ) → AreUtf8 bs → AreUtf8 (map f bs)
   AreUtf8-mapped bs text = rw (as_encoded bs text) (AreUtf8-encoded _ (mapped_chars (chars bs) text.valid))

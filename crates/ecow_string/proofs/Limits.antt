@@ -4,11 +4,11 @@ use Rattle.ecow_values.specs.Inline.{inline_after, inline_for}
 
 -- a text that was made for n bytes keeps its mode while it gets no more than these
 pub keeps_mode : (limit n : ℕ) (inline : Bool) (len k : ℕ) → inline ≡ inline_for limit n → len + k ≤ n → inline_after limit inline len k ≡ inline_for limit n
-keeps_mode limit n inline len k made fits = search rules
+keeps_mode limit n inline len k target fits = search rules
 
 -- and is refused none of them where they fit inline
 pub none_refused : (limit n : ℕ) (inline : Bool) (len k : ℕ) → inline ≡ inline_for limit n → len + k ≤ n → inline_after limit inline len k ≡ false → limit < n
-none_refused limit n inline len k made fits refused = search rules
+none_refused limit n inline len k target fits refused = search rules
 
 -- a text that was inline where it fits gets k bytes, and is inline where these fit too
 pub stays : (limit : ℕ) (inline now : Bool) (len k total : ℕ) → now ≡ inline_after limit inline len 0 → total ≡ len + k → inline_after limit now len k ≡ inline_after limit inline total 0

@@ -34,7 +34,7 @@ removed bs tail index c text passes e =
     let front = take at.front (chars bs) in
     let before = front_bytes bs index text at in
     let after : drop index bs ≡ encode_utf8_all (drop at.front (chars bs)) =
-    ap (drop index) (sym text.spelled ∙ split_encoded (chars bs) at.front) ∙ drop_at (encode_utf8_all front) _ index at.ends in
+    ap (drop index) (sym text.spelling ∙ split_encoded (chars bs) at.front) ∙ drop_at (encode_utf8_all front) _ index at.ends in
     let parts = cons_from_encodes (drop at.front (chars bs)) tail c (sym after ∙ e) in
     let whole : chars bs ≡ front ++ c ∷ parts.0 = sym (take-append-drop at.front (chars bs)) ∙ ap (λ l. front ++ l) parts.1 in
     let place : chars_before (chars bs) index ≡ at.front = rw at.ends at (chars_before-front (chars bs) at.front at.fits) in

@@ -14,7 +14,7 @@ use Rattle.ecow_string.proofs.Texts.{AreUtf8-replace, chars-replace}
 module _ (bs ds new cs : List ℕ) (view : chars bs ≡ cs) (text : AreUtf8 bs) (put : IsUtf8 ds) (bounds : Bound ℕ × Bound ℕ) (len start end : ℕ) (size : len ≡ utf8_len cs)
     (found : range_of bounds len ≡ Some (start, end)) (order : (start ≤ end) × (end ≤ len))
     (cuts : AtRange bounds (utf8_len cs) (λ s e. (is_boundary cs s ≡ true) × (is_boundary cs e ≡ true)))
-    (made : AtRange (Included start, Excluded end) (length bs) (λ s e. new ≡ replace_range bs s e ds)) where
+    (target : AtRange (Included start, Excluded end) (length bs) (λ s e. new ≡ replace_range bs s e ds)) where
   found_here : range_of bounds (utf8_len cs) ≡ Some (start, end)
   found_here = ap (range_of bounds) (sym size) ∙ found
 
@@ -22,10 +22,10 @@ module _ (bs ds new cs : List ℕ) (view : chars bs ≡ cs) (text : AreUtf8 bs) 
   cuts_here = rw view (rw found_here at cuts)
 
   fits : end ≤ length bs
-  fits = omega (arith, order.1, size, ap utf8_len view, ap length text.spelled)
+  fits = omega (arith, order.1, size, ap utf8_len view, ap length text.spelling)
 
   made_here : new ≡ replace_range bs start end ds
-  made_here = rw (within start end (length bs) order.0 fits) at made
+  made_here = rw (within start end (length bs) order.0 fits) at target
 
   pub stays_utf8 : AreUtf8 new
   stays_utf8 = rw made_here (AreUtf8-replace bs ds start end text put cuts_here.0 cuts_here.1)

@@ -96,8 +96,8 @@ interleaving_total n places t s to text e =
     interleaving_size n (chars t) (chars s) ∙ (λ i. utf8_len-chars s text i + sym e i * utf8_len-chars t to i)
 
 -- what fits once all is appended leaves room for a part of it
-pub part_fits : (made old rest whole after : List ℕ) (most n : ℕ) → made ++ rest ≡ old ++ whole → utf8_len old + utf8_len whole ≤ most → utf8_len rest ≡ n + utf8_len after → utf8_len made + n ≤ most
-part_fits made old rest whole after most n joined fits size = omega (arith, ap utf8_len joined, encoded_len made rest, encoded_len old whole)
+pub part_fits : (target old rest whole after : List ℕ) (most n : ℕ) → target ++ rest ≡ old ++ whole → utf8_len old + utf8_len whole ≤ most → utf8_len rest ≡ n + utf8_len after → utf8_len target + n ≤ most
+part_fits target old rest whole after most n joined fits size = omega (arith, ap utf8_len joined, encoded_len target rest, encoded_len old whole)
 
 -- the bytes of a text with one character more
 pub one_char_more : (cs : List ℕ) (c : ℕ) → utf8_len (cs ++ c ∷ []) ≡ utf8_len cs + len_utf8 c

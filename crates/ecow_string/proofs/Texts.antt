@@ -13,10 +13,10 @@ use Rattle.ecow_values.proofs.Boundaries.{width, chars_before-front, passes_boun
 use Rattle.ecow_string.specs.Text.{AreChars, AreUtf8}
 
 pub AreUtf8-from : (bs : List ℕ) → IsUtf8 bs → AreUtf8 bs
-AreUtf8-from bs text = record { spelled = encodes-chars bs text; valid = scalars-chars bs text }
+AreUtf8-from bs text = record { spelling = encodes-chars bs text; valid = scalars-chars bs text }
 
 pub IsUtf8-from : (bs : List ℕ) → AreUtf8 bs → IsUtf8 bs
-IsUtf8-from bs text = (chars bs, (text.valid, text.spelled))
+IsUtf8-from bs text = (chars bs, (text.valid, text.spelling))
 
 pub AreUtf8-nil : (bs : List ℕ) → bs ≡ [] → AreUtf8 bs
 AreUtf8-nil bs e = AreUtf8-from bs (rw e IsUtf8-nil)
@@ -97,7 +97,7 @@ chars_before-past (c ∷ cs) index le =
 
 -- the bytes before a front's end are those of the front
 pub front_bytes : (bs : List ℕ) (index : ℕ) → AreUtf8 bs → (at : IsBoundary (chars bs) index) → take index bs ≡ encode_utf8_all (take at.front (chars bs))
-front_bytes bs index text at = ap (take index) (sym text.spelled) ∙ (rw at.ends at (take-encoded (chars bs) at.front))
+front_bytes bs index text at = ap (take index) (sym text.spelling) ∙ (rw at.ends at (take-encoded (chars bs) at.front))
 
 front_valid : (bs : List ℕ) (k : ℕ) → AreUtf8 bs → AreChars (take k (chars bs))
 front_valid bs k text = (split_valid (chars bs) k text.valid).0
@@ -111,10 +111,10 @@ pub chars-take : (bs : List ℕ) (index : ℕ) → AreUtf8 bs → IsCut (chars b
 chars-take bs index text at =
     elim (cases_lt (length bs) index) [
       | inl past ↦
-          let long : utf8_len (chars bs) ≤ index = rw text.spelled (omega arith) in
+          let long : utf8_len (chars bs) ≤ index = rw text.spelling (omega arith) in
           ap chars (take_all index bs (omega arith)) ∙ sym (take_all _ (chars bs) (chars_before-past (chars bs) index long))
       | inr within ↦
-          let front = passes_boundary (chars bs) index (at (rw text.spelled within)) in
+          let front = passes_boundary (chars bs) index (at (rw text.spelling within)) in
           let before : chars_before (chars bs) index ≡ front.front = rw front.ends at (chars_before-front (chars bs) front.front front.fits) in
           ap chars (front_bytes bs index text front) ∙ chars-encodes _ (front_valid bs front.front text) ∙ ap (λ n. take n (chars bs)) (sym before)
     ]
@@ -124,7 +124,7 @@ AreUtf8-take bs index text at =
     elim (cases_lt (length bs) index) [
       | inl past ↦ subst AreUtf8 (sym (take_all index bs (omega arith))) text
       | inr within ↦
-          let front = passes_boundary (chars bs) index (at (rw text.spelled within)) in
+          let front = passes_boundary (chars bs) index (at (rw text.spelling within)) in
           subst AreUtf8 (sym (front_bytes bs index text front)) (AreUtf8-encoded _ (front_valid bs front.front text))
     ]
 
@@ -134,7 +134,7 @@ chars_of_one c h = chars_past_char (encode_utf8 c) [] c (IsUtf8-encode c h) (sym
 -- the last character of a text
 pub last_char : (bs front : List ℕ) (c : ℕ) → AreUtf8 bs → IsUtf8 front → bs ≡ front ++ encode_utf8 c → chars bs ≡ chars front ++ c ∷ []
 last_char bs front c text before e =
-    encodes_same (chars bs) (chars front ++ c ∷ []) (text.spelled ∙ e ∙ sym (encodes-append (chars front) (c ∷ [])
+    encodes_same (chars bs) (chars front ++ c ∷ []) (text.spelling ∙ e ∙ sym (encodes-append (chars front) (c ∷ [])
     ∙ ap (λ l. l ++ encode_utf8_all (c ∷ [])) (encodes-chars front before) ∙ ap (λ l. front ++ l) (append-nil (encode_utf8 c))))
 
 -- a list of no items has no last
@@ -159,8 +159,8 @@ replaced_bytes bs ds start end text put at to =
     let back = drop to.front (chars bs) in
     let before = front_bytes bs start text at in
     let after : drop end bs ≡ encode_utf8_all back =
-    ap (drop end) (sym text.spelled ∙ split_encoded (chars bs) to.front) ∙ drop_at (encode_utf8_all (take to.front (chars bs))) _ end to.ends in
-    rw (before, after) (sym (encodes-append (front ++ chars ds) back ∙ ap (λ l. l ++ encode_utf8_all back) (encodes-append front (chars ds) ∙ ap (λ l. encode_utf8_all front ++ l) put.spelled)))
+    ap (drop end) (sym text.spelling ∙ split_encoded (chars bs) to.front) ∙ drop_at (encode_utf8_all (take to.front (chars bs))) _ end to.ends in
+    rw (before, after) (sym (encodes-append (front ++ chars ds) back ∙ ap (λ l. l ++ encode_utf8_all back) (encodes-append front (chars ds) ∙ ap (λ l. encode_utf8_all front ++ l) put.spelling)))
 
 replaced_valid : (bs ds : List ℕ) (j k : ℕ) → AreUtf8 bs → AreUtf8 ds → AreChars (replace_range (chars bs) j k (chars ds))
 replaced_valid bs ds j k text put =
@@ -194,7 +194,7 @@ insert_one cs k c = append_assoc (take k cs) (c ∷ []) (drop k cs)
 pub boundary_fits : (bs : List ℕ) (index : ℕ) → AreUtf8 bs → is_boundary (chars bs) index ≡ true → index ≤ length bs
 boundary_fits bs index text passes =
     let at = passes_boundary (chars bs) index passes in
-    omega (arith, ap length (front_bytes bs index text at), at.ends, ap length text.spelled, ap length (split_encoded (chars bs) at.front), length-append (encode_utf8_all (take at.front (chars bs))) (encode_utf8_all (drop at.front (chars bs))))
+    omega (arith, ap length (front_bytes bs index text at), at.ends, ap length text.spelling, ap length (split_encoded (chars bs) at.front), length-append (encode_utf8_all (take at.front (chars bs))) (encode_utf8_all (drop at.front (chars bs))))
 
 -- two tests that pass together are one
 pub same_test : (a b : Bool) → (a ≡ true → b ≡ true) → (b ≡ true → a ≡ true) → a ≡ b
@@ -206,7 +206,7 @@ same_test false false from to = refl
 pub empty_together : (bs : List ℕ) → AreUtf8 bs → (length bs == 0) ≡ (length (chars bs) == 0)
 empty_together bs text =
     let none : length bs ≡ 0 → length (chars bs) ≡ 0 = λ e. ap length (chars_of_nil bs (nil_from_length bs e)) in
-    let some : length (chars bs) ≡ 0 → length bs ≡ 0 = λ e. ap length (sym text.spelled) ∙ ap utf8_len (nil_from_length (chars bs) e) in
+    let some : length (chars bs) ≡ 0 → length bs ≡ 0 = λ e. ap length (sym text.spelling) ∙ ap utf8_len (nil_from_length (chars bs) e) in
     same_test _ _ (λ e. eq-eqb _ _ (none (eqb-true _ _ e))) (λ e. eq-eqb _ _ (some (eqb-true _ _ e)))
 
 -- the test of bytes that are not UTF-8

@@ -15,7 +15,7 @@ AreChars cs = all_scalars cs ≡ true
 
 -- the bytes are the UTF-8 of the characters that they spell
 pub record AreUtf8 (bytes : List ℕ) : Type 0 where
-  pub spelled : encode_utf8_all (chars bytes) ≡ bytes
+  pub spelling : encode_utf8_all (chars bytes) ≡ bytes
   pub valid : AreChars (chars bytes)
 
 -- the UTF-8 bytes of a text, in its mode

@@ -49,15 +49,15 @@ impl<const N: usize> SmallString<N> {
     /// `eco_format!` calls it.
     pub fn format<T: Display + Drop>(alloc: Global, value: T) -> Result<Self, fmt::Error>
         ensures text { IfOk result
-            (λ made. IfSome (T.output value) (λ bytes. encode_utf8_all made.chars ≡ bytes)) }
-        ensures mode { IfOk result (λ made. made.inline ≡ inline_for N (utf8_len made.chars)) }
+            (λ target. IfSome (T.output value) (λ bytes. encode_utf8_all target.chars ≡ bytes)) }
+        ensures mode { IfOk result (λ target. target.inline ≡ inline_for N (utf8_len target.chars)) }
     {
-        let mut made = Self::new(alloc);
-        made.write(value)?;
+        let mut target = Self::new(alloc);
+        target.write(value)?;
         // For the proof alone: an inline text has at most `N` bytes.
-        let _len = made.len();
-        made.shrink_to_fit();
-        Ok(made)
+        let _len = target.len();
+        target.shrink_to_fit();
+        Ok(target)
     }
 }
 
@@ -68,8 +68,8 @@ pub trait ToEcoString: Display {
     /// 2^63 - 1 bytes.
     fn to_eco_string(&self, alloc: Global) -> Result<EcoString, fmt::Error>
         ensures text { IfOk result
-            (λ made. IfSome (Self.output self.now) (λ bytes. encode_utf8_all made.chars ≡ bytes)) }
-        ensures mode { IfOk result (λ made. made.inline ≡ inline_for 15 (utf8_len made.chars)) };
+            (λ target. IfSome (Self.output self.now) (λ bytes. encode_utf8_all target.chars ≡ bytes)) }
+        ensures mode { IfOk result (λ target. target.inline ≡ inline_for 15 (utf8_len target.chars)) };
 }
 
 impl<T: Display> ToEcoString for T {

@@ -44,8 +44,8 @@ impl<const N: usize> AsSlice<u8> for SmallString<N> {
 impl<const N: usize> FromIterator<char> for SmallString<N> {
     type Alloc = Global;
 
-    ghost from_iter_gives = { λ items made. (made.chars ≡ items)
-        × (made.inline ≡ inline_for N (utf8_len items)) };
+    ghost from_iter_gives = { λ items target. (target.chars ≡ items)
+        × (target.inline ≡ inline_for N (utf8_len items)) };
 
     fn from_iter<I: IntoIterator<Item = char>>(alloc: Global, iter: I) -> Result<Self, AllocError> {
         match SmallString::from_chars(alloc, iter) {
@@ -60,15 +60,15 @@ impl<const N: usize> FromIterator<char> for SmallString<N> {
 impl<'a, const N: usize> FromIterator<&'a str> for SmallString<N> {
     type Alloc = Global;
 
-    ghost from_iter_gives = { λ items made. (made.chars ≡ joined_strs items)
-        × (made.inline ≡ inline_for N (utf8_len made.chars)) };
+    ghost from_iter_gives = { λ items target. (target.chars ≡ joined_strs items)
+        × (target.inline ≡ inline_for N (utf8_len target.chars)) };
 
     fn from_iter<I: IntoIterator<Item = &'a str>>(
         alloc: Global,
         iter: I,
     ) -> Result<Self, AllocError> {
         match SmallString::from_strs(alloc, iter) {
-            Ok(made) => Ok(made),
+            Ok(target) => Ok(target),
             Err(_) => Err(AllocError),
         }
     }
@@ -79,15 +79,15 @@ impl<'a, const N: usize> FromIterator<&'a str> for SmallString<N> {
 impl<const N: usize> FromIterator<SmallString<N>> for SmallString<N> {
     type Alloc = Global;
 
-    ghost from_iter_gives = { λ items made. (made.chars ≡ joined_texts items)
-        × (made.inline ≡ inline_for N (utf8_len made.chars)) };
+    ghost from_iter_gives = { λ items target. (target.chars ≡ joined_texts items)
+        × (target.inline ≡ inline_for N (utf8_len target.chars)) };
 
     fn from_iter<I: IntoIterator<Item = SmallString<N>>>(
         alloc: Global,
         iter: I,
     ) -> Result<Self, AllocError> {
         match SmallString::from_eco_strings(alloc, iter) {
-            Ok(made) => Ok(made),
+            Ok(target) => Ok(target),
             Err(_) => Err(AllocError),
         }
     }

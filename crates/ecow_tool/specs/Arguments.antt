@@ -7,7 +7,7 @@ abbrev pub is_flag : {Z : Type 0} → String Z → Bool
 is_flag word = pointwise nat_eq (string_bytes word) (codes "--counted")
 
 -- whether the counted store is asked for, and the place of the file's name
-abbrev pub asked : {Z : Type 0} → List (String Z) → Option (Bool × ℕ)
-asked (file ∷ []) = if is_flag file then None else Some (false, 0)
-asked (flag ∷ file ∷ []) = if is_flag flag then Some (true, 1) else None
-asked _ = None
+abbrev pub request : {Z : Type 0} → List (String Z) → Option (Bool × ℕ)
+request (file ∷ []) = if is_flag file then None else Some (false, 0)
+request (flag ∷ file ∷ []) = if is_flag flag then Some (true, 1) else None
+request _ = None

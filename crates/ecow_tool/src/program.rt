@@ -4,7 +4,7 @@ ghost use Rattle.std.specs.Io.KnownBytes.{Appends, Consumes, IsAtEnd};
 ghost use Rattle.ecow_script.specs.Commands.{counted_form, store_form};
 ghost use Rattle.ecow_script.specs.Runs.{Answers, CountedAnswers};
 ghost use Rattle.ecow_tool.specs.Programs.{EndsBy, EndsReading, EndsWriting, size_limit};
-ghost use Rattle.ecow_tool.specs.Arguments.{asked, is_flag};
+ghost use Rattle.ecow_tool.specs.Arguments.{request, is_flag};
 ghost use Rattle.ecow_tool.specs.Ends.{end_text, exit_text, status_after, status_of};
 
 use ecow_script::{Fault, Reason, answers_to, counted_answers_to};
@@ -75,7 +75,7 @@ impl From<Fault> for End {
 /// Whether the counted store is asked for, and the place of the file's name among the words
 /// after the program's name. `None` where they are no use of the program.
 pub fn read_arguments(words: &[String]) -> Option<(bool, usize)>
-    ensures asked { result ≡ asked words.now }
+    ensures request { result ≡ request words.now }
     ensures place { IfSome result (λ found. found.1 < length words.now) }
 {
     match words {

@@ -6,29 +6,29 @@ use Rattle.std.proofs.lemmas.List.Elements.{All-nil, All-push}
 use Rattle.ecow_values.specs.declared.plain.PlainText.{PlainText}
 use Rattle.ecow_uses.specs.declared.template.Piece.{Piece}
 use Rattle.ecow_uses.specs.declared.template.Piece.TheVariants.{Text, Hole}
-use Rattle.ecow_uses.specs.Template.{IsPlain, IsUnclosed, Lacks, Spells, closing, opening, spelled}
+use Rattle.ecow_uses.specs.Template.{IsPlain, IsUnclosed, Lacks, Spells, closing, opening, form_of}
 
 -- these pieces and this part, of a name or of a text, spell the characters so far
 abbrev pub SoFar : List Piece → Bool → List ℕ → List ℕ → Type 0
-SoFar pieces true name cs = All IsPlain pieces × Lacks closing name × (flat_map spelled pieces ++ opening ∷ name ≡ cs)
-SoFar pieces false text cs = All IsPlain pieces × Lacks opening text × (flat_map spelled pieces ++ text ≡ cs)
+SoFar pieces true name cs = All IsPlain pieces × Lacks closing name × (flat_map form_of pieces ++ opening ∷ name ≡ cs)
+SoFar pieces false text cs = All IsPlain pieces × Lacks opening text × (flat_map form_of pieces ++ text ≡ cs)
 
 pub map_same : {X : Type 0} (xs : List X) → map (λ x. x) xs ≡ xs
 map_same [] = refl
 map_same (x ∷ xs) = ap (λ ys. x ∷ ys) (map_same xs)
 
-one_more : (pieces : List Piece) (p : Piece) → flat_map spelled (pieces ++ p ∷ []) ≡ flat_map spelled pieces ++ spelled p
-one_more pieces p = flat_map-append spelled pieces (p ∷ []) ∙ ap (λ cs. flat_map spelled pieces ++ cs) (append-nil (spelled p))
+one_more : (pieces : List Piece) (p : Piece) → flat_map form_of (pieces ++ p ∷ []) ≡ flat_map form_of pieces ++ form_of p
+one_more pieces p = flat_map-append form_of pieces (p ∷ []) ∙ ap (λ cs. flat_map form_of pieces ++ cs) (append-nil (form_of p))
 
 module _ (pieces new : List Piece) (text : PlainText) (cs part : List ℕ) (c : ℕ) where
   -- one more character of a name, and of a text
   pub longer_name : c ≢ closing → part ≡ text.chars ++ c ∷ [] → SoFar pieces true text.chars cs → SoFar pieces true part (cs ++ c ∷ [])
   longer_name other grown so_far =
-      rw grown (so_far.0, All-push (λ x. x ≢ closing) text.chars c so_far.1 other, sym (append_assoc (flat_map spelled pieces) (opening ∷ text.chars) (c ∷ [])) ∙ ap (λ xs. xs ++ c ∷ []) so_far.2)
+      rw grown (so_far.0, All-push (λ x. x ≢ closing) text.chars c so_far.1 other, sym (append_assoc (flat_map form_of pieces) (opening ∷ text.chars) (c ∷ [])) ∙ ap (λ xs. xs ++ c ∷ []) so_far.2)
 
   pub longer_text : c ≢ opening → part ≡ text.chars ++ c ∷ [] → SoFar pieces false text.chars cs → SoFar pieces false part (cs ++ c ∷ [])
   longer_text other grown so_far =
-      rw grown (so_far.0, All-push (λ x. x ≢ opening) text.chars c so_far.1 other, sym (append_assoc (flat_map spelled pieces) text.chars (c ∷ [])) ∙ ap (λ xs. xs ++ c ∷ []) so_far.2)
+      rw grown (so_far.0, All-push (λ x. x ≢ opening) text.chars c so_far.1 other, sym (append_assoc (flat_map form_of pieces) text.chars (c ∷ [])) ∙ ap (λ xs. xs ++ c ∷ []) so_far.2)
 
   -- a text ends where a hole opens
   pub opens : c ≡ opening → part ≡ [] → new ≡ pieces ++ Text text ∷ [] → SoFar pieces false text.chars cs → SoFar new true part (cs ++ c ∷ [])
@@ -41,7 +41,7 @@ module _ (pieces new : List Piece) (text : PlainText) (cs part : List ℕ) (c : 
       rw (brace, empty, grown) (
         All-push IsPlain pieces (Hole text) so_far.0 so_far.1,
         All-nil (λ x. x ≢ opening),
-        append-nil (flat_map spelled (pieces ++ Hole text ∷ [])) ∙ one_more pieces (Hole text) ∙ sym (append_assoc (flat_map spelled pieces) (opening ∷ text.chars) (closing ∷ [])) ∙ ap (λ xs. xs ++ closing ∷ []) so_far.2,
+        append-nil (flat_map form_of (pieces ++ Hole text ∷ [])) ∙ one_more pieces (Hole text) ∙ sym (append_assoc (flat_map form_of pieces) (opening ∷ text.chars) (closing ∷ [])) ∙ ap (λ xs. xs ++ closing ∷ []) so_far.2,
       )
 
   -- the characters end in a text, or in a hole

@@ -23,9 +23,9 @@ abbrev pub Lacks : ℕ → List ℕ → Type 0
 Lacks c cs = All (λ x. x ≢ c) cs
 
 -- how a piece stands in its template
-abbrev pub spelled : Piece → List ℕ
-spelled (Text text) = text.chars
-spelled (Hole name) = opening ∷ name.chars ++ closing ∷ []
+abbrev pub form_of : Piece → List ℕ
+form_of (Text text) = text.chars
+form_of (Hole name) = opening ∷ name.chars ++ closing ∷ []
 
 -- a text opens no hole, and a name doesn't close one
 abbrev pub IsPlain : Piece → Type 0
@@ -34,7 +34,7 @@ IsPlain (Hole name) = Lacks closing name.chars
 
 -- the pieces spell these characters
 pub record Spells (pieces : List Piece) (cs : List ℕ) : Type 0 where
-  pub spells : flat_map spelled pieces ≡ cs
+  pub spells : flat_map form_of pieces ≡ cs
   pub plain : All IsPlain pieces
 
 -- the characters end in a hole that isn't closed
@@ -43,7 +43,7 @@ pub record IsUnclosed (cs : List ℕ) : Type 0 where
   pub name : List ℕ
   pub before : All IsPlain pieces
   pub open_hole : Lacks closing name
-  pub ends : flat_map spelled pieces ++ opening ∷ name ≡ cs
+  pub ends : flat_map form_of pieces ++ opening ∷ name ≡ cs
 
 -- texts in the order of their bytes
 abbrev pub text_cmp : PlainText → PlainText → Ordering

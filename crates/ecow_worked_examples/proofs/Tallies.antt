@@ -117,16 +117,16 @@ answered : (r : Result (Outcome ℕ) Refusal) (names : Names ℕ) → given (r >
 answered (Ok answer) names = refl
 answered (Err refusal) names = refl
 
-asked : (question : VecAsk) (names : Names ℕ) (o : Option (Holding ℕ)) → given (there_in o >>= (λ h. ask_vec (observation_of h) question h.items >>= (λ answer. Ok (answer, names)))) ≡ (there_in o >>= (λ h. ask_vec (observation_of h) question h.items >>= (λ answer. Ok (answer, finite.entries names))))
-asked question names None = refl
-asked question names (Some h) = answered (ask_vec (observation_of h) question h.items) names
+targets : (question : VecAsk) (names : Names ℕ) (o : Option (Holding ℕ)) → given (there_in o >>= (λ h. ask_vec (observation_of h) question h.items >>= (λ answer. Ok (answer, names)))) ≡ (there_in o >>= (λ h. ask_vec (observation_of h) question h.items >>= (λ answer. Ok (answer, finite.entries names))))
+targets question names None = refl
+targets question names (Some h) = answered (ask_vec (observation_of h) question h.items) names
 
 carry_out-entries : (usage : VecUsage ℕ) (names : Names ℕ) → given (counted_carry_out names usage) ≡ used_in (finite.entries names) usage
 carry_out-entries (Make x how) names = rw (get-entries names x) (made (find nat_cmp x (finite.entries names)) (make_vec how) (λ xs. settle x xs (make_capacity how) names) (λ xs. settle_in x xs (make_capacity how) (finite.entries names)) (λ xs. entries-settle x xs (make_capacity how) names))
 carry_out-entries (Derive x y how) names = rw (get-entries names x, get-entries names y) (joined x y names (find nat_cmp x (finite.entries names)) (find nat_cmp y (finite.entries names)))
 carry_out-entries (Drop x) names = rw (get-entries names x) (dropped x names (find nat_cmp x (finite.entries names)))
 carry_out-entries (Edit x edit) names = rw (get-entries names x) (written edit x names (find nat_cmp x (finite.entries names)))
-carry_out-entries (Ask x question) names = rw (get-entries names x) (asked question names (find nat_cmp x (finite.entries names)))
+carry_out-entries (Ask x question) names = rw (get-entries names x) (targets question names (find nat_cmp x (finite.entries names)))
 
 -- the sums, over entries
 abbrev holding_in : Entries → ℕ → Holding ℕ

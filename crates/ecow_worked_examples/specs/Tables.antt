@@ -23,35 +23,35 @@ pub record Summary : Type 0 where
   pub moved : ℕ
 
 -- a run that has ended: its outcomes, the numbers counted and what names hold
-abbrev pub done : List ℕ → List (Outcome ℕ) → ℕ → ℕ → Names ℕ → Summary
-done asked outcomes copies moves names =
+abbrev pub summary_of : List ℕ → List (Outcome ℕ) → ℕ → ℕ → Names ℕ → Summary
+summary_of targets outcomes copies moves names =
     record {
       outcomes = outcomes;
-      owners = map (λ x. owners_of (finite.get names x)) asked;
-      capacities = map (λ x. option_map (λ h. h.capacity) (finite.get names x)) asked;
+      owners = map (λ x. owners_of (finite.get names x)) targets;
+      capacities = map (λ x. option_map (λ h. h.capacity) (finite.get names x)) targets;
       blocks = blocks names;
       copied = copies;
       moved = moves;
     }
 
 -- what one more command answers and leaves
-abbrev pub played : Result (Outcome ℕ × Names ℕ) Refusal → VecCommand ℕ → List (Outcome ℕ) → ℕ
+abbrev pub play_one : Result (Outcome ℕ × Names ℕ) Refusal → VecCommand ℕ → List (Outcome ℕ) → ℕ
     → ℕ → Names ℕ → (List (Outcome ℕ) → ℕ → ℕ → Names ℕ → Summary) → Summary
-played (Ok answer) c outcomes copies moves names rest =
+play_one (Ok answer) c outcomes copies moves names rest =
     rest (outcomes ++ answer.0 ∷ []) (copies + copied_in (vec_usage c) names)
     (moves + moved_in (vec_usage c) names) answer.1
-played (Err refusal) c outcomes copies moves names rest =
+play_one (Err refusal) c outcomes copies moves names rest =
     rest (outcomes ++ Refused refusal ∷ []) copies moves names
 
 -- a run of commands from what names hold
 abbrev pub play : List ℕ → List (VecCommand ℕ) → List (Outcome ℕ) → ℕ → ℕ → Names ℕ → Summary
-play asked [] outcomes copies moves names = done asked outcomes copies moves names
-play asked (c ∷ cs) outcomes copies moves names =
-    played (counted_carry_out names (vec_usage c)) c outcomes copies moves names (play asked cs)
+play targets [] outcomes copies moves names = summary_of targets outcomes copies moves names
+play targets (c ∷ cs) outcomes copies moves names =
+    play_one (counted_carry_out names (vec_usage c)) c outcomes copies moves names (play targets cs)
 
 -- a run of commands from nothing
 abbrev pub table : List ℕ → List (VecCommand ℕ) → Summary
-table asked cs = play asked cs [] 0 0 finite.empty
+table targets cs = play targets cs [] 0 0 finite.empty
 
 -- a summary: outcomes, owners, capacities and the numbers counted
 abbrev pub leaves : List (Outcome ℕ) → List (Option ℕ) → List (Option ℕ) → ℕ → ℕ → ℕ → Summary

@@ -38,9 +38,9 @@ impl<const N: usize> SmallBytes<N> {
     pub fn with_capacity(alloc: Global, capacity: usize) -> Result<Self, EcoError>
         ensures { MakesBytes N capacity [] result }
     {
-        let made = Self::new(alloc);
-        if capacity <= made.capacity() {
-            return Ok(made);
+        let target = Self::new(alloc);
+        if capacity <= target.capacity() {
+            return Ok(target);
         }
         let vec = EcoVec::with_capacity(alloc, capacity)?;
         Ok(SmallBytes {
@@ -81,9 +81,9 @@ impl<const N: usize> SmallBytes<N> {
             × GivesFirst I.into_iter_gives I.IntoIter.next_gives iter items × (N < length items)
             × (IsErrOf result EcoError.Capacity ↔ (MAX_LEN < length items))) }
     {
-        let mut made = Self::new(alloc);
-        made.extend(iter)?;
-        Ok(made)
+        let mut target = Self::new(alloc);
+        target.extend(iter)?;
+        Ok(target)
     }
 
     /// The bytes of a `Vec`: inline where there are at most `N`, and else spilled, with a block of
@@ -112,7 +112,7 @@ impl<const N: usize> SmallBytes<N> {
 /// The bytes of a vector, which keep its block, shared or not: spilled, however few. Takes no
 /// memory.
 impl<const N: usize> From<EcoVec<u8>> for SmallBytes<N> {
-    ghost from_gives = { λ vec made. made ≡ plain_bytes vec false };
+    ghost from_gives = { λ vec target. target ≡ plain_bytes vec false };
 
     fn from(vec: EcoVec<u8>) -> Self {
         let alloc = vec.allocator();

@@ -24,15 +24,15 @@ impl<const N: usize> SmallBytes<N> {
         if count > MAX_LEN / len {
             return Err(EcoError::Capacity);
         }
-        let mut made = Self::with_capacity(self.alloc, len * count)?;
-        made.extend_from_slice(self.as_slice())?;
+        let mut target = Self::with_capacity(self.alloc, len * count)?;
+        target.extend_from_slice(self.as_slice())?;
         let mut copies = 1;
         while copies < count {
             let more = copies.min(count - copies);
-            made.append_front(more * len)?;
+            target.append_front(more * len)?;
             copies += more;
         }
-        Ok(made)
+        Ok(target)
     }
 
     /// Appends the first `len` bytes once more.

@@ -86,9 +86,9 @@ impl<const N: usize> SmallString<N> {
     {
         // For the proof: an inline text has at most `N` bytes.
         let _len = self.len();
-        let mut made = self.copy(self.is_inline())?;
-        made.make_ascii(case)?;
-        Ok(made)
+        let mut target = self.copy(self.is_inline())?;
+        target.make_ascii(case)?;
+        Ok(target)
     }
 
     /// A copy of the text, inline or spilled.
@@ -119,7 +119,7 @@ impl<const N: usize> SmallString<N> {
         }
         let alloc = self.bytes.allocator();
         let cased = case.copy(alloc, text)?;
-        let made = Self::from_str(alloc, cased.as_str())?;
-        Ok(made)
+        let target = Self::from_str(alloc, cased.as_str())?;
+        Ok(target)
     }
 }

@@ -57,9 +57,9 @@ impl<const N: usize> SmallString<N> {
             × GivesFirst I.into_iter_gives I.IntoIter.next_gives iter items × (N < utf8_len items)
             × (IsErrOf result EcoError.Capacity ↔ (MAX_LEN < utf8_len items))) }
     {
-        let mut made = Self::new(alloc);
-        made.extend_chars(iter)?;
-        Ok(made)
+        let mut target = Self::new(alloc);
+        target.extend_chars(iter)?;
+        Ok(target)
     }
 
     /// The texts of `iter`, one after another: inline where they come to at most `N` bytes, which
@@ -80,9 +80,9 @@ impl<const N: usize> SmallString<N> {
             × (N < utf8_len (joined_strs items))
             × (IsErrOf result EcoError.Capacity ↔ (MAX_LEN < utf8_len (joined_strs items)))) }
     {
-        let mut made = Self::new(alloc);
-        made.extend_strs(iter)?;
-        Ok(made)
+        let mut target = Self::new(alloc);
+        target.extend_strs(iter)?;
+        Ok(target)
     }
 
     /// The texts of `iter`, one after another, as `from_strs` makes them.
@@ -101,9 +101,9 @@ impl<const N: usize> SmallString<N> {
             × (N < utf8_len (joined_texts items))
             × (IsErrOf result EcoError.Capacity ↔ (MAX_LEN < utf8_len (joined_texts items)))) }
     {
-        let mut made = Self::new(alloc);
-        made.extend_from_texts(&mut iter.into_iter())?;
-        Ok(made)
+        let mut target = Self::new(alloc);
+        target.extend_from_texts(&mut iter.into_iter())?;
+        Ok(target)
     }
 
     /// Appends the characters of `iter`, one after another, each as `push` does: so an inline text

@@ -47,8 +47,8 @@ impl<const N: usize> SmallString<N> {
         ensures memory { IfErr result (λ error. error ≡ EcoError.Memory) }
     {
         let mut buffer = [0; 4];
-        let made = Self::from_str(alloc, c.encode_utf8(&mut buffer))?;
-        Ok(made)
+        let target = Self::from_str(alloc, c.encode_utf8(&mut buffer))?;
+        Ok(target)
     }
 
     /// A copy of `text`.
@@ -73,7 +73,7 @@ impl<const N: usize> SmallString<N> {
             ↔ (MAX_LEN < length (string_bytes text)) }
     {
         match Self::from_str(alloc, text.as_str()) {
-            Ok(made) => Ok(made),
+            Ok(target) => Ok(target),
             Err(error) => Err(Rejected { error, value: text }),
         }
     }

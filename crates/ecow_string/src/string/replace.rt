@@ -61,9 +61,9 @@ impl<const N: usize> SmallString<N> {
         let Some(most) = replacement_len(text, &finder, pattern, replacement, count) else {
             return Err(EcoError::Capacity);
         };
-        let mut made = Self::with_capacity(self.bytes.allocator(), most)?;
-        push_replacement(&mut made, text, &finder, pattern, replacement, count, most)?;
-        Ok(made)
+        let mut target = Self::with_capacity(self.bytes.allocator(), most)?;
+        push_replacement(&mut target, text, &finder, pattern, replacement, count, most)?;
+        Ok(target)
     }
 
     /// `replacen` of the empty pattern.
@@ -79,8 +79,8 @@ impl<const N: usize> SmallString<N> {
         let Some(most) = interleaving_len(text, replacement, count) else {
             return Err(EcoError::Capacity);
         };
-        let mut made = Self::with_capacity(self.bytes.allocator(), most)?;
-        push_interleaving(&mut made, text, replacement, count, most)?;
-        Ok(made)
+        let mut target = Self::with_capacity(self.bytes.allocator(), most)?;
+        push_interleaving(&mut target, text, replacement, count, most)?;
+        Ok(target)
     }
 }

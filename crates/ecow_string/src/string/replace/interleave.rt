@@ -22,8 +22,8 @@ fn split_char(text: &str) -> Option<(&str, &str)>
 /// How many bytes `replacen` of the empty pattern comes to, where a text may have so many.
 pub(super) fn interleaving_len(text: &str, replacement: &str, count: usize) -> Option<usize>
     requires { length text.now ≤ MAX_LEN }
-    ensures { let made = replacen count [] (chars replacement.now)
-        (chars text.now) in SomeIff result (utf8_len made ≤ MAX_LEN) (utf8_len made) }
+    ensures { let target = replacen count [] (chars replacement.now)
+        (chars text.now) in SomeIff result (utf8_len target ≤ MAX_LEN) (utf8_len target) }
 {
     let places = count.min(text.chars().count() + 1);
     let added = places.checked_mul(replacement.len())?;
@@ -33,22 +33,22 @@ pub(super) fn interleaving_len(text: &str, replacement: &str, count: usize) -> O
 /// Appends what `replacen` of the empty pattern makes of `text` to a text that was made for `most`
 /// bytes.
 pub(super) fn push_interleaving<const N: usize>(
-    made: &mut SmallString<N>,
+    target: &mut SmallString<N>,
     text: &str,
     replacement: &str,
     count: usize,
     most: usize,
 ) -> Result<(), EcoError>
     requires bounded { most ≤ MAX_LEN }
-    requires fits { utf8_len made.old.chars
+    requires fits { utf8_len target.old.chars
         + utf8_len (replacen count [] (chars replacement.now) (chars text.now)) ≤ most }
-    requires mode { made.old.inline ≡ inline_for N most }
+    requires mode { target.old.inline ≡ inline_for N most }
 
     // The text is appended, in the mode for `most` bytes; it is refused only where these spill.
     ensures chars { OnOk result
-        (made.new.chars ≡ made.old.chars ++ replacen count [] (chars replacement.now)
+        (target.new.chars ≡ target.old.chars ++ replacen count [] (chars replacement.now)
         (chars text.now)) }
-    ensures mode { OnOk result (made.new.inline ≡ inline_for N most) }
+    ensures mode { OnOk result (target.new.inline ≡ inline_for N most) }
     ensures memory { IfErr result (λ error. error ≡ EcoError.Memory) }
     ensures free { OnErr result (N < most) }
 {
@@ -57,15 +57,15 @@ pub(super) fn push_interleaving<const N: usize>(
     while left > 0 {
         match split_char(rest) {
             None => {
-                push_part(made, replacement, most)?;
+                push_part(target, replacement, most)?;
                 left = 0;
             }
             Some((first, behind)) => {
-                push_both(made, replacement, first, most)?;
+                push_both(target, replacement, first, most)?;
                 rest = behind;
                 left -= 1;
             }
         }
     }
-    push_part(made, rest, most)
+    push_part(target, rest, most)
 }

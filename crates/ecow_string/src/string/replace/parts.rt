@@ -22,43 +22,43 @@ pub(super) fn total_with(total: usize, more: usize) -> Option<usize>
 /// Appends `text` to a text that was made for `most` bytes.
 #[tactic(auto, using(crate::proofs::Limits::keeps_mode, crate::proofs::Limits::none_refused))]
 pub(super) fn push_part<const N: usize>(
-    made: &mut SmallString<N>,
+    target: &mut SmallString<N>,
     text: &str,
     most: usize,
 ) -> Result<(), EcoError>
     requires bounded { most ≤ MAX_LEN }
-    requires fits { utf8_len made.old.chars + length text.now ≤ most }
-    requires mode { made.old.inline ≡ inline_for N most }
+    requires fits { utf8_len target.old.chars + length text.now ≤ most }
+    requires mode { target.old.inline ≡ inline_for N most }
 
     // It is appended, in the mode for `most` bytes; it is refused only where these spill.
-    ensures chars { OnOk result (made.new.chars ≡ made.old.chars ++ chars text.now) }
-    ensures mode { OnOk result (made.new.inline ≡ inline_for N most) }
+    ensures chars { OnOk result (target.new.chars ≡ target.old.chars ++ chars text.now) }
+    ensures mode { OnOk result (target.new.inline ≡ inline_for N most) }
     ensures memory { IfErr result (λ error. error ≡ EcoError.Memory) }
     ensures free { OnErr result (N < most) }
 {
-    made.push_str(text)?;
+    target.push_str(text)?;
     Ok(())
 }
 
 /// Appends one text and then another.
 pub(super) fn push_both<const N: usize>(
-    made: &mut SmallString<N>,
+    target: &mut SmallString<N>,
     first: &str,
     second: &str,
     most: usize,
 ) -> Result<(), EcoError>
     requires bounded { most ≤ MAX_LEN }
-    requires fits { utf8_len made.old.chars + length first.now + length second.now ≤ most }
-    requires mode { made.old.inline ≡ inline_for N most }
+    requires fits { utf8_len target.old.chars + length first.now + length second.now ≤ most }
+    requires mode { target.old.inline ≡ inline_for N most }
 
     // It is appended, in the mode for `most` bytes; it is refused only where these spill.
-    ensures chars { OnOk result (made.new.chars ≡ (made.old.chars ++ chars first.now)
+    ensures chars { OnOk result (target.new.chars ≡ (target.old.chars ++ chars first.now)
         ++ chars second.now) }
-    ensures mode { OnOk result (made.new.inline ≡ inline_for N most) }
+    ensures mode { OnOk result (target.new.inline ≡ inline_for N most) }
     ensures memory { IfErr result (λ error. error ≡ EcoError.Memory) }
     ensures free { OnErr result (N < most) }
 {
-    push_part(made, first, most)?;
-    push_part(made, second, most)?;
+    push_part(target, first, most)?;
+    push_part(target, second, most)?;
     Ok(())
 }

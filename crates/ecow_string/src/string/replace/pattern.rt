@@ -33,8 +33,8 @@ pub(super) fn replacement_len(
 ) -> Option<usize>
     requires finder { finder.now ≡ pattern.now }
     requires some { pattern.now ≢ [] }
-    ensures { let made = replacen count (chars pattern.now) (chars replacement.now)
-        (chars text.now) in SomeIff result (utf8_len made ≤ MAX_LEN) (utf8_len made) }
+    ensures { let target = replacen count (chars pattern.now) (chars replacement.now)
+        (chars text.now) in SomeIff result (utf8_len target ≤ MAX_LEN) (utf8_len target) }
 {
     let mut total = 0usize;
     let mut rest = text;
@@ -55,7 +55,7 @@ pub(super) fn replacement_len(
 
 /// Appends what `replacen` makes of `text` to a text that was made for `most` bytes.
 pub(super) fn push_replacement<const N: usize>(
-    made: &mut SmallString<N>,
+    target: &mut SmallString<N>,
     text: &str,
     finder: &Finder,
     pattern: &str,
@@ -66,16 +66,16 @@ pub(super) fn push_replacement<const N: usize>(
     requires finder { finder.now ≡ pattern.now }
     requires some { pattern.now ≢ [] }
     requires bounded { most ≤ MAX_LEN }
-    requires fits { utf8_len made.old.chars
+    requires fits { utf8_len target.old.chars
         + utf8_len (replacen count (chars pattern.now) (chars replacement.now) (chars text.now))
         ≤ most }
-    requires mode { made.old.inline ≡ inline_for N most }
+    requires mode { target.old.inline ≡ inline_for N most }
 
     // The text is appended, in the mode for `most` bytes; it is refused only where these spill.
     ensures chars { OnOk result
-        (made.new.chars ≡ made.old.chars ++ replacen count (chars pattern.now)
+        (target.new.chars ≡ target.old.chars ++ replacen count (chars pattern.now)
         (chars replacement.now) (chars text.now)) }
-    ensures mode { OnOk result (made.new.inline ≡ inline_for N most) }
+    ensures mode { OnOk result (target.new.inline ≡ inline_for N most) }
     ensures memory { IfErr result (λ error. error ≡ EcoError.Memory) }
     ensures free { OnErr result (N < most) }
 {
@@ -85,11 +85,11 @@ pub(super) fn push_replacement<const N: usize>(
         match split_first(rest, finder, pattern) {
             None => left = 0,
             Some((before, behind)) => {
-                push_both(made, before, replacement, most)?;
+                push_both(target, before, replacement, most)?;
                 rest = behind;
                 left -= 1;
             }
         }
     }
-    push_part(made, rest, most)
+    push_part(target, rest, most)
 }

@@ -26,8 +26,8 @@ returns-in_err-append_front g c = record {
       let len = c.len-len.result in
       let less : more ≤ k = search rules in
       let within : k + more ≤ c.args.count = search rules in
-      let all = places len c.args.count k more (length c.loop-copies.made.bytes) c.loop-copies.invariant.long less within in
-      let past = none_refused g.row.N (len * c.args.count) c.loop-copies.made.inline (length c.loop-copies.made.bytes) (more * len) c.loop-copies.invariant.mode all.1
+      let all = places len c.args.count k more (length c.loop-copies.target.bytes) c.loop-copies.invariant.long less within in
+      let past = none_refused g.row.N (len * c.args.count) c.loop-copies.target.inline (length c.loop-copies.target.bytes) (more * len) c.loop-copies.invariant.mode all.1
       c.in_err-append_front.ensures.mode.free in
       λ fits. let same : len * c.args.count ≡ length c.args.self.now.bytes * c.args.count = ap (λ n. n * c.args.count) c.len-len.ensures.len in absurd (omega arith);
   capacity = search rules;
@@ -52,7 +52,7 @@ append_front-requires g c =
     let len = c.len-len.result in
     let less : more ≤ k = search rules in
     let within : k + more ≤ c.args.count = search rules in
-    let all = places len c.args.count k more (length c.loop-copies.made.bytes) c.loop-copies.invariant.long less within in
+    let all = places len c.args.count k more (length c.loop-copies.target.bytes) c.loop-copies.invariant.long less within in
     let room : len * c.args.count ≤ MAX_LEN = search rules in
     (search rules, (all.0, omega arith))
 
@@ -64,12 +64,12 @@ loop-copies-preserved g c =
     let less : more ≤ k = search rules in
     let within : k + more ≤ c.args.count = search rules in
     let given = c.in_ok-append_front.ensures in
-    let all = places len c.args.count k more (length c.loop-copies.made.bytes) c.loop-copies.invariant.long less within in
-    let joined = more_copies c.args.self.now.bytes k more len c.loop-copies.made.bytes c.append_front.new.self.bytes c.len-len.ensures.len c.loop-copies.invariant.joined less given.bytes in
+    let all = places len c.args.count k more (length c.loop-copies.target.bytes) c.loop-copies.invariant.long less within in
+    let joined = more_copies c.args.self.now.bytes k more len c.loop-copies.target.bytes c.append_front.new.self.bytes c.len-len.ensures.len c.loop-copies.invariant.joined less given.bytes in
     record {
       some = omega (arith, c.loop-copies.invariant.some);
       within = within;
       joined = joined;
       long = ap length joined ∙ (length-repeat (k + more) c.args.self.now.bytes ∙ ap (λ n. (k + more) * n) (sym c.len-len.ensures.len));
-      mode = given.mode.mode ∙ keeps_mode g.row.N (len * c.args.count) c.loop-copies.made.inline (length c.loop-copies.made.bytes) (more * len) c.loop-copies.invariant.mode all.1;
+      mode = given.mode.mode ∙ keeps_mode g.row.N (len * c.args.count) c.loop-copies.target.inline (length c.loop-copies.target.bytes) (more * len) c.loop-copies.invariant.mode all.1;
     }

@@ -7,9 +7,9 @@ abbrev pub invariant-loop-copies : goal.invariant-loop-copies
 invariant-loop-copies g l = record {
   some : 1 ≤ l.copies;
   within : l.copies ≤ l.count;
-  joined : l.made.bytes ≡ repeat l.copies l.fn.self.bytes;
-  long : length l.made.bytes ≡ l.copies * l.len;
-  mode : l.made.inline ≡ inline_for g.row.N (l.len * l.count);
+  joined : l.target.bytes ≡ repeat l.copies l.fn.self.bytes;
+  long : length l.target.bytes ≡ l.copies * l.len;
+  mode : l.target.inline ≡ inline_for g.row.N (l.len * l.count);
 }
 
 abbrev pub decreases-loop-copies : goal.decreases-loop-copies

@@ -5,7 +5,7 @@ use Rattle.ecow_string.proofs.string.SmallString.from_char.Goals as goal
 
 pub returns-clause-text : goal.returns-clause-text
 returns-clause-text g c = record {
-  chars = c.in_ok-made.ensures.chars ∙ ap chars c.encode_utf8.ensures.value ∙ chars_of_one c.args.c c.ranges.c.0;
+  chars = c.in_ok-target.ensures.chars ∙ ap chars c.encode_utf8.ensures.value ∙ chars_of_one c.args.c c.ranges.c.0;
   mode = search rules;
   free = search rules;
   capacity = search rules;

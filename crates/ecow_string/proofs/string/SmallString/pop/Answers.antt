@@ -18,7 +18,7 @@ returns-in_default-clause-chars g c = sym (nothing_last _ (no_chars g c)).1
 -- the bytes are those of the rest and then those of the last character
 whole : (g : Over) (c : goal.In_ok-truncate g) → c.self.inside.bytes.bytes ≡ c.as_str-len.result.now ++ encode_utf8 c.in-Some.last
 whole g c =
-    sym (c.chars-rest.ensures.rest ∙ c.as_str.ensures.bytes ∙ sym (ap (λ (t : PlainText). encode_utf8_all t.chars) c.self.view_is) ∙ c.self.invariant.spelled)
+    sym (c.chars-rest.ensures.rest ∙ c.as_str.ensures.bytes ∙ sym (ap (λ (t : PlainText). encode_utf8_all t.chars) c.self.view_is) ∙ c.self.invariant.spelling)
     ∙ c.in-Some.ensures.steps ∙ ap (λ l. l ++ encode_utf8 c.in-Some.last) (sym c.as_str-len.ensures)
 
 left : (g : Over) (c : goal.In_ok-truncate g) → c.truncate.new.self.bytes ≡ c.as_str-len.result.now

@@ -16,7 +16,7 @@ range_from-requires g c = λ _. rw c.as_str.ensures.bytes (boundary_of_front _ c
 taken : (g : Over) (c : goal.In_ok-rewrite g) → Removed c.self.inside.bytes.bytes c.args.index c.unwrap-c.result
 taken g c =
     let same : c.self.inside.bytes.bytes ≡ c.as_str.result.now =
-    sym c.self.invariant.spelled ∙ ap (λ (t : PlainText). encode_utf8_all t.chars) c.self.view_is ∙ sym c.as_str.ensures.bytes in
+    sym c.self.invariant.spelling ∙ ap (λ (t : PlainText). encode_utf8_all t.chars) c.self.view_is ∙ sym c.as_str.ensures.bytes in
     let read = (rw c.unwrap-c.ensures at c.next.ensures.steps).0 in
     let boundary = rw (← c.self.view_is) at c.requires.boundary in
     removed _ _ c.args.index c.unwrap-c.result c.self.invariant boundary

@@ -28,10 +28,10 @@ returns-then-is_ascii g c =
 pub returns : goal.returns
 returns g c = record {
   bytes =
-      rw c.in_ok-made.ensures.chars
+      rw c.in_ok-target.ensures.chars
       (encodes-chars _ c.as_str.utf8 ∙ c.as_str.ensures.value ∙ c.in_ok-cased.ensures ∙ ap (str_in_case c.args.case) c.as_str-text.ensures.bytes);
   ascii = search rules;
-  mode = rw c.in_ok-made.ensures.chars (c.in_ok-made.ensures.mode ∙ ap (inline_for g.row.N) (sym (utf8_len-chars _ c.as_str.utf8)));
+  mode = rw c.in_ok-target.ensures.chars (c.in_ok-target.ensures.mode ∙ ap (inline_for g.row.N) (sym (utf8_len-chars _ c.as_str.utf8)));
   capacity = search rules;
   ascii_memory = search rules;
   free = search rules;
