@@ -1,47 +1,51 @@
 # Proves, builds, runs and tests. Everything but `make lib`, `make dist`, `make python`, `make c-test`, `make c-fuzz`,
-# `make fuzz`, `make hostile`, `make bench`, `make edits` and `make times` needs the kit's `rt` on the path, make, git and
-# the usual POSIX tools, and nothing else.
+# `make fuzz`, `make hostile`, `make bench` and `make edits` needs the kit's `rt` on the path, make, git and the usual
+# POSIX tools, and nothing else.
 
 SOURCES := $(shell find crates -path '*/out' -prune -o \( -name '*.rt' -o -name '*.antt' \) -print) crates.txt
 
 PREFIX := /usr/local
 
-.PHONY: help try build run lib install dist python c-test c-fuzz test agree costs vendor vendor-test contracts edits times faults fuzz hostile bench clean
+.PHONY: help try build run lib install dist python c-test c-fuzz test agree costs vendor vendor-test contracts edits faults fuzz hostile bench clean
 
 help:
-	@echo "make try SCRIPT=FILE   runs the script with no proof, in half a minute"
-	@echo "make run SCRIPT=FILE   proves and builds what it must, says how far it is, and runs the script"
-	@echo "make build             leaves the proved program at bin/ecow-run"
-	@echo "make test              the whole gate: every proof from nothing, must-fail edits, tests, programs, the table"
-	@echo "                       of costs, each request for memory refused in turn, command lines, large scripts, and the"
-	@echo "                       library for C where there is a C compiler"
-	@echo "make lib               leaves the library for C at bin/libecow.a and bin/libecow.so, with its headers (needs a C"
-	@echo "                       compiler); COUNT=plain counts owners for one thread; make install PREFIX=$(PREFIX)"
-	@echo "                       puts them there"
-	@echo "make dist              packs it for a machine without the kit, in bin/, with a page, and with the package and the"
-	@echo "                       crate beside the headers, for each language (needs GNU tar); COUNT as above"
-	@echo "make python            builds the package for Python, a wheel in bin/ (needs Python 3.11, its headers and pip)"
-	@echo "make c-test            tests it from C, C++, Python and Rust, and the archive (needs gcc, clang, valgrind, cargo,"
-	@echo "                       and what make python needs)"
-	@echo "make c-fuzz SECONDS=60 fuzzes it, each kind of value for so long (needs clang with libFuzzer)"
-	@echo "make vendor TO=FOLDER  copies the crates of the vector into another repository, with their rows, so that its"
-	@echo "                       gate proves them; KIND=text: of all three types, KIND=store: of both stores too;"
-	@echo "                       COUNT=atomic: with values that threads may share"
-	@echo "make vendor-test       tries that on a new repository, whose gate it runs; KIND and COUNT as above"
-	@echo "make contracts         writes docs/CONTRACTS.md, the public calls quoted with their clauses"
-	@echo "make edits             tries each edit that must be refused, those beside the gate's too (needs"
-	@echo "                       python3); CRATES=\"NAME ..\" those of some crates"
-	@echo "make times             runs the gate and says what each part of it costs (needs python3)"
-	@echo "make costs             counts what each call costs, and compares docs/COSTS.md"
-	@echo "make faults            refuses each request for memory in turn, without the rest of the gate"
-	@echo "make fuzz SECONDS=60   runs the program on changed examples (needs python3)"
-	@echo "make hostile           runs the program with each request for memory refused in turn, with files and outputs"
-	@echo "                       that fail, and with scripts of 16 MiB (needs python3 and a C compiler); PEER=\"COMMAND\""
-	@echo "                       times another program beside it"
-	@echo "make bench ECOW=FOLDER times vector, bytes, text and four whole programs beside the original crate in FOLDER,"
-	@echo "                       and the programs beside std alone (needs cargo);"
-	@echo "                       CPU=x86-64-v3 has both compiled for a processor with AVX2; COUNT=atomic times that count"
-	@echo "make clean             removes what was built"
+	@echo "To use it:"
+	@echo "  make try SCRIPT=FILE     runs the script with no proof, in half a minute"
+	@echo "  make run SCRIPT=FILE     proves and builds what it must, says how far it is, and runs the script"
+	@echo "  make build               leaves the proved program at bin/ecow-run"
+	@echo "  make vendor TO=FOLDER    copies the crates of the vector into another repository, with their rows, so that its"
+	@echo "                           gate proves them. KIND=text: of all three types; KIND=store: of both stores too;"
+	@echo "                           KIND=laws: with the lemmas for callers of stores. COUNT=atomic: with values that"
+	@echo "                           threads may share"
+	@echo "  make lib                 leaves the library for C at bin/libecow.a and bin/libecow.so, with its headers (needs"
+	@echo "                           a C compiler). COUNT=plain: owners are counted for one thread"
+	@echo "  make install             puts it below PREFIX=$(PREFIX)"
+	@echo "  make dist                packs it for a machine without the kit, in bin/, with the package and the crate for"
+	@echo "                           each language (needs GNU tar); COUNT as above"
+	@echo "  make python              builds the package for Python, a wheel in bin/ (needs Python 3.11, its headers and pip)"
+	@echo
+	@echo "To change it:"
+	@echo "  make test                the whole gate: every proof from nothing, must-fail edits, tests, programs, costs,"
+	@echo "                           each request for memory refused in turn, command lines, large scripts, and the"
+	@echo "                           library for C where there is a C compiler"
+	@echo "  make agree               compares documents and examples with the code"
+	@echo "  make contracts           writes docs/CONTRACTS.md and the pages below docs/contracts"
+	@echo "  make edits               tries each edit that must be refused, those beside the gate's too (needs python3);"
+	@echo "                           CRATES=\"NAME ..\": those of some crates"
+	@echo "  make costs               counts what each call costs, and compares docs/COSTS.md"
+	@echo "  make faults              refuses each request for memory in turn, without the rest of the gate"
+	@echo "  make c-test              tests the library for C from C, C++, Python and Rust, and the archive (needs gcc,"
+	@echo "                           clang, valgrind, cargo, and what make python needs)"
+	@echo "  make c-fuzz SECONDS=60   fuzzes it, each kind of value for so long (needs clang with libFuzzer)"
+	@echo "  make vendor-test         tries make vendor on a new repository, whose gate it runs; KIND and COUNT as above"
+	@echo "  make fuzz SECONDS=60     runs the program on changed examples (needs python3)"
+	@echo "  make hostile             runs the program with each request for memory refused in turn, with files and outputs"
+	@echo "                           that fail, and with scripts of 16 MiB (needs python3 and a C compiler);"
+	@echo "                           PEER=\"COMMAND\": times another program beside it"
+	@echo "  make bench ECOW=FOLDER   times vector, bytes, text and four whole programs beside the original crate in FOLDER,"
+	@echo "                           and the programs beside std alone (needs cargo). CPU=x86-64-v3: both compiled for a"
+	@echo "                           processor with AVX2. COUNT=atomic: of that count"
+	@echo "  make clean               removes what was built"
 
 # SCRIPT may begin with --counted.
 try:
@@ -116,7 +120,8 @@ agree:
 	@for file in examples/*.eco; do cmp $$file crates/ecow_cases/data/$$(basename $$file) || exit 1; done
 	@cmp examples/first.eco crates/ecow_run/data/first.eco
 	@sed -n '/^first_script =/,/^$$/s/^[ +]*codes "\(.*\)\\n"$$/\1/p' crates/ecow_script/specs/FirstExample.antt | cmp - examples/first.eco
-	@tools/contracts.sh | cmp - docs/CONTRACTS.md
+	@mkdir -p bin/pages && tools/contracts.sh bin/pages
+	@cmp bin/pages/CONTRACTS.md docs/CONTRACTS.md && diff -r bin/pages/contracts docs/contracts
 	@tools/agree_statuses.sh
 	@tools/agree_docs.sh
 	@tools/agree_c.sh
@@ -126,16 +131,13 @@ vendor:
 	@tools/vendor.sh "$(TO)" $(KIND) $(COUNT)
 
 contracts:
-	tools/contracts.sh > docs/CONTRACTS.md
+	tools/contracts.sh docs
 
 vendor-test:
 	tools/vendor_test.sh $(KIND) $(COUNT)
 
 edits:
 	tools/edits.py $(CRATES)
-
-times: agree
-	tools/times.py
 
 costs:
 	cd crates/ecow_costs && rt run > /dev/null

@@ -19,26 +19,8 @@ cpu=${CPU:-x86-64-v2}
 crates=$root
 [ "${COUNT:-plain}" != atomic ] || crates=$("$root/tools/for_threads.sh" ecow_bench)
 (cd "$crates/crates/ecow_bench" && rt run --cpu "$cpu") > "$build/rt.log" 2>&1 || { cat "$build/rt.log"; exit 1; }
-cp "$root/tools/bench.rs" "$build/src/main.rs"
-cp "$root/tools/bench_lists.rs" "$build/src/lists.rs"
-cp "$root/tools/bench_curves.rs" "$build/src/curves.rs"
-cp "$root/tools/bench_workloads.rs" "$build/src/workloads.rs"
-cat > "$build/Cargo.toml" <<MANIFEST
-[package]
-name = "bench"
-version = "0.0.0"
-edition = "2024"
-
-[dependencies]
-ecow = { path = "$original" }
-
-[profile.release]
-opt-level = 3
-codegen-units = 1
-lto = true
-
-[workspace]
-MANIFEST
+cp "$root"/bench/src/*.rs "$build/src"
+sed "s|ORIGINAL\"|$original\"|" "$root/bench/Cargo.toml" > "$build/Cargo.toml"
 (cd "$build" && RUSTFLAGS="-C target-cpu=$cpu" cargo build --quiet --release)
 pictures=
 [ -n "${2:-}" ] || pictures=$build

@@ -1,24 +1,36 @@
 #!/bin/sh
-# Prints docs/CONTRACTS.md: the public calls of the types and the stores, quoted with their clauses.
+# Writes docs/CONTRACTS.md and the pages below docs/contracts, in FOLDER in place of docs: the public calls of each
+# crate that others call, quoted with their clauses: tools/contracts.sh FOLDER.
 set -eu
+to=$(cd "$1" && pwd)
 cd "$(dirname "$0")/.."
 export LC_ALL=C
-echo "# The contracts"
-echo
-echo "The public calls, trait methods and laws with their clauses, quoted from the files by \`make contracts\`. A trait"
-echo "method without clauses has those of its trait. \`docs/CALLING.md\`"
-echo "says what they mean for a caller, and \`docs/DEFINITIONS.md\` what their words do. \`x.now\` is what stands"
-echo "behind a \`&\`, \`x.old\` and \`x.new\` what stands behind a \`&mut\` before and after the call, and \`x.entry\` a"
-echo "value at the call."
-echo
-awk -f tools/contracts.awk crates/ecow_base/src/range.rt \
-    crates/ecow_vec/src/vec.rt crates/ecow_vec/src/vec/*.rt crates/ecow_vec/src/error.rt crates/ecow_vec/src/comparisons.rt \
-    crates/ecow_vec/src/iter.rt crates/ecow_vec/src/traits.rt crates/ecow_vec/src/write.rt \
-    crates/ecow_bytes/src/bytes.rt crates/ecow_bytes/src/bytes/*.rt crates/ecow_bytes/src/traits.rt crates/ecow_bytes/src/write.rt \
-    crates/ecow_string/src/string.rt crates/ecow_string/src/string/*.rt crates/ecow_string/src/display.rt crates/ecow_string/src/traits.rt \
-    crates/ecow_nested/src/value.rt crates/ecow_nested/src/value/*.rt crates/ecow_nested/src/refusal.rt \
-    crates/ecow_store/src/store.rt crates/ecow_store/src/store/*.rt \
-    crates/ecow_counted/src/counted.rt crates/ecow_counted/src/counted/*.rt crates/ecow_counted/src/fill.rt \
-    crates/ecow_values/src/laws.rt crates/ecow_model/src/laws.rt crates/ecow_bytes/src/laws.rt crates/ecow_string/src/laws.rt \
-    crates/ecow_laws/src/*.rt crates/ecow_script/src/store.rt crates/ecow_script/src/counted.rt \
-    crates/ecow_script/src/laws.rt crates/ecow_script/src/example.rt crates/ecow_tool/src/program.rt
+mkdir -p "$to/contracts"
+rm -f "$to"/contracts/*.md
+{
+    echo "# The contracts"
+    echo
+    echo "The public calls, trait methods and laws with their clauses, a page a crate. \`make contracts\` quotes them"
+    echo "from the files. A trait method without clauses has those of its trait."
+    echo "\`docs/CALLING.md\` says what they mean for a caller, and \`docs/DEFINITIONS.md\` what their words do."
+    echo "\`x.now\` is what stands behind a \`&\`, \`x.old\` and \`x.new\` what stands behind a \`&mut\` before and after the"
+    echo "call, and \`x.entry\` a value at the call."
+    echo
+    echo "| Page | Calls |"
+    echo "|---|---|"
+} > "$to/CONTRACTS.md"
+# The crates of KIND=laws and nested values, and the script and the program above.
+for crate in $(awk -F: -v tops="ecow_nested ecow_laws ecow_tool" -f tools/below.awk crates.txt); do
+    page=$to/contracts/$crate.md
+    files=$(find "crates/$crate/src" -name '*.rt' | sort)
+    # What stands below the vector is no part of it, but for the block that it lends.
+    case $crate in
+        ecow_shared | ecow_atomic) continue ;;
+        ecow_block) files="crates/ecow_block/src/block.rt" ;;
+    esac
+    awk -f tools/contracts.awk pass=1 $files pass=2 $files > "$to/contracts/body"
+    [ -s "$to/contracts/body" ] || continue
+    { echo "# The contracts of \`$crate\`"; echo; cat "$to/contracts/body"; } > "$page"
+    echo "| [\`$crate\`](contracts/$crate.md) | $(grep -c '^ *fn ' "$page") |" >> "$to/CONTRACTS.md"
+done
+rm -f "$to/contracts/body"

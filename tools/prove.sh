@@ -1,15 +1,28 @@
 #!/bin/sh
 # Proves the libraries that a crate stands on, of this repository or of another one: tools/prove.sh CRATE [FOLDER].
-# Those that don't stand on each other are proved side by side, and what hasn't changed since it was proved is skipped.
+# It says how far it is, and skips what hasn't changed since it was proved.
 set -eu
 tools=$(cd "$(dirname "$0")" && pwd)
 cd "${2:-$tools/..}"
 mkdir -p bin
-crates=$(awk -F: -v tops="$1" -f "$tools/below.awk" crates.txt | sed '$d' | tr '\n' ' ')
+crates=$(awk -F: -v tops="$1" -f "$tools/below.awk" crates.txt | sed '$d')
+count=$(echo "$crates" | grep -c '')
+number=0
+anew=
+
+# Whether a file of the crate is newer than its last proof, or there was none.
+changed() { # CRATE
+    [ -d "crates/$1/out/rlib" ] && [ -f "bin/$1.proved" ] || return 0
+    [ -n "$(find "crates/$1" crates.txt \( -name out -o -name must-fail -o -name edits \) -prune -o \
+        -type f -newer "bin/$1.proved" -print)" ]
+}
+
 for crate in $crates; do
-    [ -d "crates/$crate/out/rlib" ] || rm -f "bin/$crate.proved"
+    number=$((number + 1))
+    [ -n "$anew" ] || changed "$crate" || continue
+    anew=yes
+    echo "proving $crate, $number of $count"
+    (cd "crates/$crate" && rt lib > "../../bin/$crate.log" 2>&1) || { cat "bin/$crate.log"; exit 1; }
+    touch "bin/$crate.proved"
 done
-awk -F: -v crates="$crates" -f "$tools/rules.awk" crates.txt > bin/rules.mk
-# The rules run as a make of their own, with as many jobs as there are processors.
-env -u MAKEFLAGS -u MAKELEVEL make --no-print-directory -f bin/rules.mk -j "$(getconf _NPROCESSORS_ONLN)" all
 echo "proving and linking $1"

@@ -1,17 +1,19 @@
 #!/bin/sh
 # Copies crates into another repository, as plain folders below its crates/, with their rows in its
 # crates.txt, so that its gate proves them: tools/vendor.sh FOLDER [KIND [COUNT]]. KIND says what is
-# needed: vector (EcoVec), text (vector, bytes and text), or store (these and both stores). COUNT
-# says how owners are counted: plain, for one thread, or atomic. Tests and edits stay here.
+# needed: vector (EcoVec), text (vector, bytes and text), store (these and both stores), or laws
+# (with the lemmas for callers of stores). COUNT says how owners are counted: plain, for one
+# thread, or atomic. Tests and edits stay here.
 #
 # Where crates of an earlier call are there, it updates them, their rows too, and touches nothing
-# else. It refuses to, and changes nothing, where that would mix two states.
+# else; a crate that has another name now is replaced, and it says so. It refuses to, and changes
+# nothing, where that would mix two states.
 set -eu
 export LC_ALL=C
 to=${1:-}
 kind=${2:-vector}
 count=${3:-plain}
-use="make vendor TO=FOLDER [KIND=vector|text|store] [COUNT=plain|atomic]"
+use="make vendor TO=FOLDER [KIND=vector|text|store|laws] [COUNT=plain|atomic]"
 
 refuse() { # WHY..
     printf '%s\n' "$@" >&2
@@ -22,7 +24,8 @@ case $kind in
     vector) tops=ecow_vec ;;
     text) tops=ecow ;;
     store) tops="ecow ecow_store ecow_counted" ;;
-    *) refuse "$use" "KIND is vector, text or store, and not $kind" ;;
+    laws) tops="ecow ecow_store ecow_counted ecow_laws" ;;
+    *) refuse "$use" "KIND is vector, text, store or laws, and not $kind" ;;
 esac
 case $count in
     plain | atomic) ;;
@@ -44,8 +47,17 @@ sums() { # FOLDER
     (cd "$1" && find . -path ./out -prune -o -type f ! -name SUMS -print | sort | xargs cksum)
 }
 
+# Crates that had another name up to version 0.10.
+renamed="ecow_list:ecow_vec ecow_text:ecow_string ecow_keeping:ecow_named"
+
 # Of an earlier call: the crates that this one wouldn't bring up to date, and the files changed since.
 beyond= changed=
+for pair in $renamed; do
+    folder=$to/crates/${pair%:*}
+    [ -f "$folder/VERSION" ] && [ -f "$folder/SUMS" ] || continue
+    changed="$changed$(sums "$folder" | diff "$folder/SUMS" - \
+        | sed -n "s|^[<>] [0-9]* [0-9]* \./| crates/${pair%:*}/|p" | sort -u | tr -d '\n')"
+done
 for crate in $(cut -d : -f 1 crates.txt); do
     folder=$to/crates/$crate
     [ -e "$folder" ] || continue
@@ -66,7 +78,19 @@ if [ -n "$has" ] && [ "$has" != "$count" ]; then
 fi
 [ -z "$changed" ] || refuse "These files of $to were changed since they were copied:$changed" \
     "Keep the change in a crate of your own, and remove the changed crate's folder first."
-before=$(cat "$to/crates/ecow_vec/VERSION" 2> /dev/null || true)
+before=$(cat "$to/crates/ecow_vec/VERSION" "$to/crates/ecow_list/VERSION" 2> /dev/null | head -n 1 || true)
+
+# A crate of another name gives way: its folder and its row.
+new_names=
+for pair in $renamed; do
+    old=${pair%:*}
+    [ -f "$to/crates/$old/VERSION" ] || continue
+    rm -r "${to:?}/crates/$old"
+    sed "/^$old:/d" "$to/crates.txt" > "$to/crates.txt.new"
+    cat "$to/crates.txt.new" > "$to/crates.txt"
+    rm "$to/crates.txt.new"
+    new_names="$new_names $old is ${pair#*:};"
+done
 
 touch "$to/crates.txt"
 for crate in $crates; do
@@ -75,17 +99,17 @@ for crate in $crates; do
     cp -p VERSION LICENSE-APACHE LICENSE-MIT "$folder"
     [ "$crate" != ecow_shared ] || echo "$count" > "$folder/COUNT"
     sums "$folder" > "$folder/SUMS"
-    row=$(tools/rows.sh "$count" | grep "^$crate:")
-    if grep -q "^$crate:" "$to/crates.txt"; then
-        sed "s/^$crate:.*/$row/" "$to/crates.txt" > "$to/crates.txt.new"
-        cmp -s "$to/crates.txt" "$to/crates.txt.new" || cat "$to/crates.txt.new" > "$to/crates.txt"
-        rm "$to/crates.txt.new"
-    else
-        # A last line without its line feed gets one first.
-        [ -z "$(tail -c 1 "$to/crates.txt")" ] || echo >> "$to/crates.txt"
-        echo "$row" >> "$to/crates.txt"
-    fi
 done
+
+# Their rows, lowest first, stand together where the first of them stood, or at the end.
+rows=$(for crate in $crates; do tools/rows.sh "$count" | grep "^$crate:"; done)
+printf '%s\n' "$rows" | awk -F: '
+    NR == FNR { row[$1] = 1; all = all $0 "\n"; next }
+    !($1 in row) { print; next }
+    { printf "%s", all; all = "" }
+    END { printf "%s", all }' - "$to/crates.txt" > "$to/crates.txt.new"
+cmp -s "$to/crates.txt" "$to/crates.txt.new" || cat "$to/crates.txt.new" > "$to/crates.txt"
+rm "$to/crates.txt.new"
 
 case $before in
     "") echo "$to has now version $version, with the $count count of owners, of:" $crates ;;
@@ -95,3 +119,4 @@ esac
 echo "A crate of it whose row in crates.txt lists \"$(echo $tops)\" calls them, and \`rt ci\` there proves them from"
 echo "nothing: every function of theirs meets its contract. Tests and the edits that the prover must"
 echo "refuse are tried here alone, by \`make test\`."
+[ -z "$new_names" ] || echo "Use the new names in your crates' rows, \`use\` lines and proofs:${new_names%;}. See CHANGELOG.md."

@@ -62,7 +62,15 @@ impl<const N: usize> SmallString<N> {
             return Err(EcoError::Capacity);
         };
         let mut target = Self::with_capacity(self.bytes.allocator(), most)?;
-        push_replacement(&mut target, text, &finder, pattern, replacement, count, most)?;
+        push_replacement(
+            &mut target,
+            text,
+            &finder,
+            pattern,
+            replacement,
+            count,
+            most,
+        )?;
         Ok(target)
     }
 
