@@ -1,12 +1,12 @@
 //! Equality, order, hash and debug text of a text: those of its UTF-8 bytes, inline or spilled,
 //! shared or not. A front comes before what it begins. The hash is that of a `str`.
-ghost use Rattle.std.specs.Prelude.{◌≡◌, true, nat_eq, Some, refl};
+ghost use Rattle.std.specs.Prelude.{◌≡◌, ℕ, List, true, nat_eq, Some, refl};
 ghost use Rattle.std.specs.Ordering.{nat_cmp};
 ghost use Rattle.std.specs.Cmp.{on_equiv, on_total, on_po, on_per, partial_equiv_from_equiv};
 ghost use Rattle.std.specs.Cmp.Lexicographic.{pointwise, slice_cmp, nat_list_eq_equiv, nat_list_cmp_total, texts_po, texts_ties, bytes_decides};
 ghost use Rattle.std.specs.Hash as fed;
 ghost use Rattle.std.specs.Hash.{on_Alike, same_Alike};
-ghost use Rattle.std.specs.Str.{encode_utf8_all, is_utf8, IsUtf8};
+ghost use Rattle.std.specs.Str.{chars, encode_utf8_all, is_utf8, IsUtf8};
 ghost use Rattle.ecow_values.specs.Plain.{text_of};
 ghost use Rattle.ecow_values.specs.declared.plain.PlainBytes.{PlainBytes};
 ghost use Rattle.ecow_values.specs.declared.plain.PlainText.{PlainText};
@@ -93,6 +93,15 @@ pub fn texts_are_their_bytes()
     ensures again_passes { (text : PlainText) → AreChars text.chars
         → is_utf8 (bytes_of text).bytes ≡ true }
     ensures again { (text : PlainText) → AreChars text.chars → text_of (bytes_of text) ≡ text }
+{}
+
+/// A text is equal to a `str` exactly where it has its characters: so `text.as_str() == s` decides
+/// them.
+pub fn a_str_decides_the_characters()
+    ensures same { (t : PlainText) (s : List ℕ) → IsUtf8 s
+        → pointwise nat_eq (encode_utf8_all t.chars) s ≡ true → t.chars ≡ chars s }
+    ensures equal { (t : PlainText) (s : List ℕ) → IsUtf8 s → t.chars ≡ chars s
+        → pointwise nat_eq (encode_utf8_all t.chars) s ≡ true }
 {}
 
 /// Texts are equal exactly where they have the same characters. A text has Unicode scalar values

@@ -8,3 +8,4 @@ pub mod Ranges
 pub mod Replaced
 pub mod ResultTyped
 pub mod Views
+pub mod Popped
