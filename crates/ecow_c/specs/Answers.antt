@@ -1,20 +1,20 @@
 -- What a call answers, and what it leaves of the value at a pointer; `None` is the null pointer.
-use Rattle.std.specs.Prelude.{◌≡◌, ◌≢◌, ◌↔◌, ℕ, ℤ, pos, negsuc, Bool, true, false, ◌||◌, ◌==◌, List, [], ◌∷◌, Option, Some, None, IfSome, IsSomeAnd, is_none}
+use Rattle.std.specs.Prelude.{◌≡◌, ◌≢◌, ◌↔◌, ◌<◌, ℕ, ℤ, pos, negsuc, Bool, true, false, ◌||◌, ◌==◌, List, [], Option, Some, None, IfSome, IsSomeAnd, is_none}
 use Rattle.std.specs.Option.{option_map, option_map_or}
-use Rattle.std.specs.List.{fold}
+use Rattle.std.specs.List.{fold, list_any}
 use Rattle.std.specs.Hash.DefaultHasher.{initial, write, finish}
 use Rattle.std.specs.declared.cmp.Ordering.{Ordering}
 use Rattle.std.specs.declared.cmp.Ordering.TheVariants.{Less, Equal, Greater}
 use Rattle.ecow_values.specs.declared.plain.PlainBytes.{PlainBytes}
 use Rattle.ecow_values.specs.declared.plain.PlainText.{PlainText}
-use Rattle.ecow_c.specs.declared.status.TheConstants.{OK, NULL}
+use Rattle.ecow_base.specs.declared.capacity.TheConstants.{MAX_LEN}
+use Rattle.ecow_c.specs.declared.status.TheConstants.{OK, CAPACITY, NULL}
 
 -- the status is one of these
-abbrev pub is_one_of : List ℕ → ℕ → Bool
-is_one_of [] status = false
-is_one_of (code ∷ codes) status = (status == code) || is_one_of codes status
+abbrev pub IsAmong : List ℕ → ℕ → Type 0
+IsAmong statuses status = list_any (λ one. status == one) statuses ≡ true
 
--- the contents are what `change` makes of them, and where the call was refused nothing has changed
+-- the contents are what `change` makes of them; a refused call leaves the value as it was
 pub record Alters {X C : Type 0} (contents : X → C) (change : C → C) (old : Option X) (status : ℕ)
     (new : Option X) : Type 0 where
   pub ok : status ≡ OK → option_map contents new ≡ option_map (λ x. change (contents x)) old
@@ -35,8 +35,8 @@ abbrev pub AltersTexts : (List PlainText → List PlainText) → Option (List Pl
     → Option (List PlainText) → Type 0
 AltersTexts = Alters (λ texts. texts)
 
--- the contents are what `change` makes of them and of a second value, at another pointer; where the
--- call was refused nothing has changed
+-- the contents are what `change` makes of them and of a second value, at another pointer; a refused
+-- call leaves the value as it was
 pub record AltersBy {X C Y : Type 0} (contents : X → C) (change : Y → C → C) (old : Option X)
     (other : Option Y) (status : ℕ) (new : Option X) : Type 0 where
   pub ok : status ≡ OK
@@ -48,6 +48,41 @@ pub record AltersBy {X C Y : Type 0} (contents : X → C) (change : Y → C → 
 abbrev pub AltersTextsBy : {Y : Type 0} → (Y → List PlainText → List PlainText)
     → Option (List PlainText) → Option Y → ℕ → Option (List PlainText) → Type 0
 AltersTextsBy = AltersBy (λ texts. texts)
+
+-- `out` is what `read` finds in the value; a refused call leaves it as it was
+pub record Writes {X A : Type 0} (read : X → Option A) (old : Option X) (status : ℕ)
+    (before after : A) : Type 0 where
+  pub ok : status ≡ OK → IfSome old (λ x. read x ≡ Some after)
+  pub refused : status ≢ OK → after ≡ before
+
+-- the same of a value at a second pointer
+pub record WritesTo {X A : Type 0} (read : X → Option A) (old : Option X) (status : ℕ)
+    (before after : Option A) : Type 0 where
+  pub ok : status ≡ OK → IfSome old (λ x. read x ≡ after)
+  pub refused : status ≢ OK → after ≡ before
+
+-- the same of calls that leave the value as it was
+pub record Reads {X A : Type 0} (read : X → Option A) (old : Option X) (status : ℕ)
+    (new : Option X) (before after : A) : Type 0 where
+  pub ok : status ≡ OK → IfSome old (λ x. read x ≡ Some after)
+  pub refused : status ≢ OK → after ≡ before
+  pub null : status ≡ NULL ↔ old ≡ None
+  pub unchanged : new ≡ old
+
+pub record ReadsTo {X A : Type 0} (read : X → Option A) (old : Option X) (status : ℕ)
+    (new : Option X) (before after : Option A) : Type 0 where
+  pub ok : status ≡ OK → IfSome old (λ x. read x ≡ after)
+  pub refused : status ≢ OK → after ≡ before
+  pub null : status ≡ NULL ↔ is_none old || is_none before ≡ true
+  pub unchanged : new ≡ old
+
+-- the status is CAPACITY exactly where the length that the call needs passes the limit
+abbrev pub RefusesPast : {X : Type 0} → (X → ℕ) → Option X → ℕ → Type 0
+RefusesPast needed old status = status ≡ CAPACITY ↔ IsSomeAnd old (λ x. MAX_LEN < needed x)
+
+-- the status is CAPACITY only where that length passes the limit
+abbrev pub RefusesOnlyPast : {X : Type 0} → (X → ℕ) → Option X → ℕ → Type 0
+RefusesOnlyPast needed old status = status ≡ CAPACITY → IsSomeAnd old (λ x. MAX_LEN < needed x)
 
 -- both values are there, and P holds of them
 abbrev pub AreBothAnd : {X Y : Type 0} → Option X → Option Y → (X → Y → Type 0) → Type 0

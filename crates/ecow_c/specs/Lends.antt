@@ -6,11 +6,11 @@ use Rattle.ecow_values.specs.declared.plain.PlainBytes.{PlainBytes}
 use Rattle.ecow_values.specs.declared.plain.PlainText.{PlainText}
 use Rattle.ecow_nested.specs.declared.value.Value.{Value}
 use Rattle.ecow_c.specs.Rows.{list_row, bytes_row, text_row, texts_row, value_row}
-use Rattle.ecow_c.specs.contracts.list.pointer.ListPointer.{the_row as list_pointer}
-use Rattle.ecow_c.specs.contracts.bytes.pointer.BytesPointer.{the_row as bytes_pointer}
-use Rattle.ecow_c.specs.contracts.text.pointer.TextPointer.{the_row as text_pointer}
-use Rattle.ecow_c.specs.contracts.texts.pointer.TextsPointer.{the_row as texts_pointer}
-use Rattle.ecow_c.specs.contracts.value.pointer.ValuePointer.{the_row as value_pointer}
+use Rattle.ecow_c.specs.contracts.pointer.ListPointer.{the_row as list_pointer}
+use Rattle.ecow_c.specs.contracts.pointer.BytesPointer.{the_row as bytes_pointer}
+use Rattle.ecow_c.specs.contracts.pointer.TextPointer.{the_row as text_pointer}
+use Rattle.ecow_c.specs.contracts.pointer.TextsPointer.{the_row as texts_pointer}
+use Rattle.ecow_c.specs.contracts.pointer.ValuePointer.{the_row as value_pointer}
 
 abbrev pub lends_list : MutBor list_pointer.Denot → Option (MutBor (List ℤ)) → Fml
 lends_list pointer lent =

@@ -2,9 +2,9 @@
 //! `ecow_value` for C.
 #![tactic(auto)]
 
-mod bytes;
-mod list;
+mod common;
+mod elements;
+mod pointer;
 mod status;
 mod text;
-mod texts;
 mod value;

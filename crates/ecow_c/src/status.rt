@@ -1,9 +1,12 @@
 //! What a call answers.
-ghost use Rattle.std.specs.Prelude.{◌≡◌, MatchResult};
+ghost use Rattle.std.specs.Prelude.{◌≡◌, ℕ, IfErr, IfOk, MatchResult};
+ghost use Rattle.ecow_vec.specs.declared.error.EcoError.TheVariants.{Memory};
 ghost use Rattle.ecow_c.specs.Answers.{sign_of};
+ghost use Rattle.ecow_c.specs.Statuses.{status_of_error, status_of_refusal};
 
 use ecow_nested::Refusal;
-use ecow_vec::EcoError;
+use ecow_vec::{EcoError, Rejected};
+use std::alloc::AllocError;
 use std::cmp::Ordering;
 
 /// The call did what it says.
@@ -24,29 +27,96 @@ pub const NULL: u32 = 6;
 /// The value is of another kind.
 pub const KIND: u32 = 7;
 
-/// The status for a refusal of the library.
-pub(crate) fn refusal(error: EcoError) -> u32
-    ensures memory { error ≡ EcoError.Memory → result ≡ MEMORY }
-    ensures capacity { error ≡ EcoError.Capacity → result ≡ CAPACITY }
-{
-    match error {
-        EcoError::Memory => MEMORY,
-        EcoError::Capacity => CAPACITY,
+/// The value of an `Option`. Where there is none, the function returns `$answer`.
+macro_rules! some_or {
+    ($option:expr, $answer:expr) => {
+        match $option {
+            Some(value) => value,
+            None => return $answer,
+        }
+    };
+}
+
+/// The value of a `Result`. At an error the function returns its status.
+macro_rules! ok_or_status {
+    ($result:expr) => {
+        match $result {
+            Ok(value) => value,
+            Err(error) => return error.into_status(),
+        }
+    };
+}
+
+pub(crate) use ok_or_status;
+pub(crate) use some_or;
+
+/// Why a call of the library is refused.
+pub(crate) trait IntoStatus: Drop {
+    /// The status of each error.
+    ghost status: { Self → ℕ };
+
+    fn into_status(self) -> u32
+        ensures { result ≡ status self };
+}
+
+impl IntoStatus for EcoError {
+    ghost status = { status_of_error };
+
+    fn into_status(self) -> u32 {
+        Refusal::from(self).into_status()
     }
 }
 
-/// The status for a refusal of a call on a nested value.
-pub(crate) fn refusal_of_value(refusal: Refusal) -> u32
-    ensures kind { refusal ≡ Refusal.Kind → result ≡ KIND }
-    ensures index { refusal ≡ Refusal.Index → result ≡ INDEX }
-    ensures capacity { refusal ≡ Refusal.Capacity → result ≡ CAPACITY }
-    ensures memory { refusal ≡ Refusal.Memory → result ≡ MEMORY }
+impl<V: Drop> IntoStatus for Rejected<V> {
+    ghost status = { λ rejected. status_of_error rejected.error };
+
+    fn into_status(self) -> u32 {
+        self.error.into_status()
+    }
+}
+
+impl IntoStatus for AllocError {
+    ghost status = { λ _. status_of_error Memory };
+
+    fn into_status(self) -> u32 {
+        MEMORY
+    }
+}
+
+impl IntoStatus for Refusal {
+    ghost status = { status_of_refusal };
+
+    fn into_status(self) -> u32 {
+        match self {
+            Refusal::Kind => KIND,
+            Refusal::Index => INDEX,
+            Refusal::Capacity => CAPACITY,
+            Refusal::Memory => MEMORY,
+        }
+    }
+}
+
+/// The status of a call that gives no value.
+pub(crate) fn status<E: IntoStatus>(outcome: Result<(), E>) -> u32
+    ensures { MatchResult outcome (λ _. result ≡ OK) (λ error. result ≡ E.status error) }
 {
-    match refusal {
-        Refusal::Kind => KIND,
-        Refusal::Index => INDEX,
-        Refusal::Capacity => CAPACITY,
-        Refusal::Memory => MEMORY,
+    match outcome {
+        Ok(()) => OK,
+        Err(error) => error.into_status(),
+    }
+}
+
+/// Puts the value that a call gives in place of the one at `out`.
+pub(crate) fn put<V: Drop, E: IntoStatus>(outcome: Result<V, E>, out: &mut V) -> u32
+    ensures ok { IfOk outcome (λ value. (out.new ≡ value) × (result ≡ OK)) }
+    ensures err { IfErr outcome (λ error. (out.new ≡ out.old) × (result ≡ E.status error)) }
+{
+    match outcome {
+        Ok(value) => {
+            *out = value;
+            OK
+        }
+        Err(error) => error.into_status(),
     }
 }
 
