@@ -1,4 +1,4 @@
-//! The values of `ecow_vec`, `ecow_bytes`, `ecow_string`, `ecow_texts` and
+//! The values of `ecow_list`, `ecow_bytes`, `ecow_text`, `ecow_texts` and
 //! `ecow_value` for C.
 #![tactic(auto)]
 

@@ -19,7 +19,7 @@ use std::mem::size_of;
 
 const _: () = prove!(size_of::<EcoVec<i64>>() == 8);
 
-/// A pointer to an `EcoVec<i64>`, the struct `ecow_vec` of the header.
+/// A pointer to an `EcoVec<i64>`, the struct `ecow_list` of the header.
 #[repr(C)]
 pub struct ListPointer {
     at: *mut u8,
@@ -75,7 +75,7 @@ impl BytesPointer {
 
 const _: () = prove!(size_of::<EcoString>() == 16);
 
-/// A pointer to an `EcoString`, the struct `ecow_string` of the header.
+/// A pointer to an `EcoString`, the struct `ecow_text` of the header.
 #[repr(C)]
 pub struct TextPointer {
     at: *mut u8,
