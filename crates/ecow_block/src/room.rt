@@ -134,7 +134,7 @@ impl<T> Copy for Fields<T> {}
 
 /// What a block has beside its places: how many owners there are, and the fields.
 pub struct Head<T> {
-    /// How many owners the block has, one at least. It stands first: the counts' crates find it there.
+    /// How many owners the block has, one at least. It stands first, where the counts' crates look.
     pub count: usize,
     /// What a sole owner changes, and all owners read.
     fields: Fields<T>,

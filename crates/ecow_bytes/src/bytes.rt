@@ -2,8 +2,8 @@
 //! is its name for 15 bytes.
 //!
 //! A call that takes memory may be refused, as a vector's is: with `Capacity` where there would be
-//! more than 2^63 - 1 bytes, and else with `Memory`. The value is then as it was. No call is refused
-//! whose bytes stay inline.
+//! more than 2^63 - 1 bytes, and else with `Memory`. The value is then as it was. No call is
+//! refused whose bytes stay inline.
 ghost use Rattle.std.specs.Prelude.{◌≡◌, ◌≤◌, ◌==◌, [], length, true, false};
 
 mod allocator;

@@ -37,7 +37,7 @@ impl<const N: usize> Form<N> {
     #[inline]
     pub(crate) fn inline(bytes: &[u8]) -> Option<Self>
         ensures fits { IsSome result ↔ (length bytes.now ≤ N) }
-        ensures bytes { IfSome result (λ target. plain_of target ≡ plain_bytes bytes.now true) }
+        ensures bytes { IfSome result (λ form. plain_of form ≡ plain_bytes bytes.now true) }
     {
         if bytes.len() > N {
             return None;

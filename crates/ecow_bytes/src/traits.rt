@@ -53,8 +53,8 @@ impl<'a, const N: usize> IntoIterator for &'a SmallBytes<N> {
 impl<const N: usize> FromIterator<u8> for SmallBytes<N> {
     type Alloc = Global;
 
-    ghost from_iter_gives = { λ items target. (target.bytes ≡ items)
-        × (target.inline ≡ inline_for N (length items)) };
+    ghost from_iter_gives = { λ items b. (b.bytes ≡ items)
+        × (b.inline ≡ inline_for N (length items)) };
 
     fn from_iter<I: IntoIterator<Item = u8>>(alloc: Global, iter: I) -> Result<Self, AllocError> {
         match SmallBytes::from_iter(alloc, iter) {

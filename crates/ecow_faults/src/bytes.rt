@@ -1,10 +1,10 @@
 //! The calls of `SmallBytes`.
 use crate::short::Long;
-use crate::small::{Call, Small, State, states};
+use crate::small::{Small, SmallCall, SmallState, into_holds, is_made, repeated_hold, states};
 use crate::steps::{Row, Word};
 use crate::watch::Watch;
 use ecow_bytes::SmallBytes;
-use ecow_vec::{EcoError, EcoVec};
+use ecow_vec::{EcoError, EcoVec, Rejected};
 use std::alloc::Global;
 use std::io::Write;
 
@@ -79,7 +79,7 @@ impl<const N: usize> Small for SmallBytes<N> {
         Long::of_bytes(first(&ADDED, count))
     }
 
-    fn made(alloc: Global, state: State) -> Result<Self, EcoError> {
+    fn made(alloc: Global, state: SmallState) -> Result<Self, EcoError> {
         let letters = first(&LETTERS, state.len);
         if !state.spilled {
             return SmallBytes::from_slice(alloc, letters);
@@ -89,7 +89,7 @@ impl<const N: usize> Small for SmallBytes<N> {
         Ok(SmallBytes::from(vector))
     }
 
-    fn call(&mut self, call: &Call) -> Result<bool, EcoError> {
+    fn call(&mut self, call: &SmallCall) -> Result<bool, EcoError> {
         match call.step.word {
             Word::Push | Word::Insert | Word::Write | Word::MakeMut => one(self, call),
             Word::Pop | Word::Remove => take(self, call),
@@ -110,19 +110,17 @@ impl<const N: usize> Small for SmallBytes<N> {
         self.capacity()
     }
 
-    fn spilled(self) -> Option<EcoVec<u8>> {
-        if self.is_inline() {
-            return None;
-        }
-        match self.into_eco_vec() {
-            Ok(vector) => Some(vector),
-            Err(_) => None,
-        }
+    fn into_vector(self) -> Result<EcoVec<u8>, Rejected<Self>> {
+        self.into_eco_vec()
+    }
+
+    fn repeated(&self, count: usize) -> Result<Self, EcoError> {
+        self.repeat(count)
     }
 }
 
 /// A call that is handed a byte.
-fn one<const N: usize>(bytes: &mut SmallBytes<N>, call: &Call) -> Result<bool, EcoError> {
+fn one<const N: usize>(bytes: &mut SmallBytes<N>, call: &SmallCall) -> Result<bool, EcoError> {
     let start = call.step.start;
     match call.step.word {
         Word::Push => bytes.push(46)?,
@@ -140,7 +138,7 @@ fn one<const N: usize>(bytes: &mut SmallBytes<N>, call: &Call) -> Result<bool, E
 }
 
 /// A call that answers what it takes out.
-fn take<const N: usize>(bytes: &mut SmallBytes<N>, call: &Call) -> Result<bool, EcoError> {
+fn take<const N: usize>(bytes: &mut SmallBytes<N>, call: &SmallCall) -> Result<bool, EcoError> {
     let removed = SmallBytes::<N>::letters(call.state.len).part(call.change.start, call.change.end);
     match call.step.word {
         Word::Pop => match bytes.pop()? {
@@ -155,7 +153,7 @@ fn take<const N: usize>(bytes: &mut SmallBytes<N>, call: &Call) -> Result<bool, 
     }
 }
 
-fn several<const N: usize>(bytes: &mut SmallBytes<N>, call: &Call) -> Result<bool, EcoError> {
+fn several<const N: usize>(bytes: &mut SmallBytes<N>, call: &SmallCall) -> Result<bool, EcoError> {
     let given = first(&ADDED, call.change.count);
     match call.step.word {
         Word::Extend => bytes.extend_from_slice(given)?,
@@ -174,7 +172,7 @@ fn several<const N: usize>(bytes: &mut SmallBytes<N>, call: &Call) -> Result<boo
     Ok(true)
 }
 
-fn shorten<const N: usize>(bytes: &mut SmallBytes<N>, call: &Call) -> Result<bool, EcoError> {
+fn shorten<const N: usize>(bytes: &mut SmallBytes<N>, call: &SmallCall) -> Result<bool, EcoError> {
     match call.step.word {
         Word::Truncate => bytes.truncate(call.step.start)?,
         Word::Rewrite => {
@@ -190,20 +188,13 @@ fn shorten<const N: usize>(bytes: &mut SmallBytes<N>, call: &Call) -> Result<boo
 }
 
 /// Whether bytes were made as they are to be, or for want of memory not at all.
-pub fn is_made<const N: usize>(
+fn are_made<const N: usize>(
     watch: &Watch,
     made: Result<SmallBytes<N>, EcoError>,
     want: &[u8],
     inline: bool,
 ) -> bool {
-    match made {
-        Ok(bytes) => {
-            bytes.as_slice() == want
-                && bytes.is_inline() == inline
-                && (!inline || bytes.capacity() == N)
-        }
-        Err(error) => error == EcoError::Memory && !inline && watch.may_refuse(),
-    }
+    is_made(watch, made, Long::of_bytes(want).as_slice(), inline)
 }
 
 /// `none` names the type in which values are made: a proof knows then that they have a size.
@@ -211,20 +202,20 @@ pub fn makers_hold<const N: usize>(alloc: Global, watch: &Watch, none: &SmallByt
     let mut hold = arrays_hold(alloc, watch, none);
     for len in [0, 1, N, N.saturating_add(1), N.saturating_add(9)] {
         let (want, inline) = (first(&LETTERS, len), len <= N);
-        hold = is_made(
+        hold = are_made(
             watch,
             SmallBytes::<N>::from_slice(alloc, want),
             want,
             inline,
         ) && hold;
         let bytes = want.iter().copied();
-        hold = is_made(
+        hold = are_made(
             watch,
             SmallBytes::<N>::from_iter(alloc, bytes),
             want,
             inline,
         ) && hold;
-        hold = is_made(
+        hold = are_made(
             watch,
             SmallBytes::<N>::with_capacity(alloc, len),
             &[],
@@ -239,12 +230,12 @@ pub fn makers_hold<const N: usize>(alloc: Global, watch: &Watch, none: &SmallByt
 
 fn arrays_hold<const N: usize>(alloc: Global, watch: &Watch, _none: &SmallBytes<N>) -> bool {
     let long = b"abcdefghijklmnopqrstuvwxyz";
-    is_made(
+    are_made(
         watch,
         SmallBytes::<N>::from_array(alloc, *b"ab"),
         b"ab",
         N >= 2,
-    ) && is_made(
+    ) && are_made(
         watch,
         SmallBytes::<N>::from_array(alloc, *long),
         long,
@@ -259,8 +250,8 @@ fn collected_holds<const N: usize>(
     want: &[u8],
 ) -> bool {
     match want.iter().copied().collect::<SmallBytes<N>>(alloc) {
-        Ok(bytes) => is_made(watch, Ok(bytes), want, want.len() <= N),
-        Err(_) => is_made::<N>(watch, Err(EcoError::Memory), want, want.len() <= N),
+        Ok(bytes) => are_made(watch, Ok(bytes), want, want.len() <= N),
+        Err(_) => are_made::<N>(watch, Err(EcoError::Memory), want, want.len() <= N),
     }
 }
 
@@ -275,10 +266,10 @@ fn vec_holds<const N: usize>(
         return watch.may_refuse();
     };
     match SmallBytes::<N>::from_vec(alloc, bytes) {
-        Ok(bytes) => is_made(watch, Ok(bytes), want, want.len() <= N),
+        Ok(bytes) => are_made(watch, Ok(bytes), want, want.len() <= N),
         Err(rejected) => {
             rejected.value.as_slice() == want
-                && is_made::<N>(watch, Err(rejected.error), want, want.len() <= N)
+                && are_made::<N>(watch, Err(rejected.error), want, want.len() <= N)
         }
     }
 }
@@ -298,35 +289,4 @@ pub fn derived_hold<const N: usize>(alloc: Global, watch: &Watch, _none: &SmallB
         hold = into_holds(watch, state, bytes) && hold;
     }
     hold
-}
-
-fn repeated_hold<const N: usize>(watch: &Watch, bytes: &SmallBytes<N>) -> bool {
-    let mut hold = true;
-    let mut want = Long::new();
-    for count in 0..3 {
-        let inline = want.len() <= N;
-        hold = match bytes.repeat(count) {
-            Ok(repeated) => {
-                repeated.bytes().is(want.as_slice()) && repeated.is_inline() == inline
-            }
-            Err(error) => error == EcoError::Memory && !inline && watch.may_refuse(),
-        } && hold;
-        want.append(bytes.bytes().as_slice());
-    }
-    hold
-}
-
-/// The vector of spilled bytes is there; inline ones come back where there is none.
-fn into_holds<const N: usize>(watch: &Watch, state: State, bytes: SmallBytes<N>) -> bool {
-    let want = first(&LETTERS, state.len);
-    match bytes.into_eco_vec() {
-        Ok(vector) => vector.as_slice() == want,
-        Err(rejected) => {
-            rejected.error == EcoError::Memory
-                && !state.spilled
-                && state.len > 0
-                && watch.may_refuse()
-                && is_made(watch, Ok(rejected.value), want, true)
-        }
-    }
 }

@@ -1,7 +1,7 @@
 //! The calls that make an `EcoVec`, and those that take one apart.
 use crate::elements::{Element, elements, numbers};
 use crate::short::Short;
-use crate::vectors::{STATES, State, made};
+use crate::vectors::{VecState, made, states};
 use crate::watch::Watch;
 use ecow_vec::{EcoError, EcoVec, IntoArray, eco_vec};
 use std::alloc::Global;
@@ -28,7 +28,7 @@ pub fn makers_hold<T: Element>(alloc: Global, watch: &Watch) -> bool {
         hold = handed_hold::<T>(alloc, watch, count) && hold;
         hold = cloned_hold::<T>(alloc, watch, count) && hold;
     }
-    for state in STATES {
+    for state in states() {
         hold = taken_hold::<T>(alloc, watch, state) && hold;
     }
     hold
@@ -133,11 +133,11 @@ fn writes_hold(alloc: Global, watch: &Watch) -> bool {
 }
 
 /// A vector that is taken apart in each way. A sole one's iterator takes no memory.
-fn taken_hold<T: Element>(alloc: Global, watch: &Watch, state: State) -> bool {
+fn taken_hold<T: Element>(alloc: Global, watch: &Watch, state: VecState) -> bool {
     let mut hold = true;
     for way in 0..3 {
-        let (room, len, shared) = state;
-        let Ok(list) = made::<T>(alloc, room, len) else {
+        let VecState { len, shared, .. } = state;
+        let Ok(list) = made::<T>(alloc, state) else {
             return watch.may_refuse() && hold;
         };
         let mut twin = EcoVec::new(alloc);
@@ -161,9 +161,9 @@ fn taken_hold<T: Element>(alloc: Global, watch: &Watch, state: State) -> bool {
 }
 
 /// Whether a vector came back as it was, for want of memory.
-fn is_back<T: Element>(watch: &Watch, state: State, error: EcoError, list: EcoVec<T>) -> bool {
+fn is_back<T: Element>(watch: &Watch, state: VecState, error: EcoError, list: EcoVec<T>) -> bool {
     let mut list = list;
-    let (room, len, shared) = state;
+    let VecState { room, len, shared } = state;
     error == EcoError::Memory
         && len > 0
         && watch.may_refuse()
@@ -172,26 +172,26 @@ fn is_back<T: Element>(watch: &Watch, state: State, error: EcoError, list: EcoVe
         && list.is_unique() != shared
 }
 
-fn into_vec_holds<T: Element>(watch: &Watch, state: State, list: EcoVec<T>) -> bool {
+fn into_vec_holds<T: Element>(watch: &Watch, state: VecState, list: EcoVec<T>) -> bool {
     match list.into_vec() {
-        Ok(vec) => numbers(vec.as_slice()).is(Short::from(1, state.1).as_slice()),
+        Ok(vec) => numbers(vec.as_slice()).is(Short::from(1, state.len).as_slice()),
         Err(rejected) => is_back(watch, state, rejected.error, rejected.value),
     }
 }
 
-fn into_iter_holds<T: Element>(watch: &Watch, state: State, list: EcoVec<T>) -> bool {
+fn into_iter_holds<T: Element>(watch: &Watch, state: VecState, list: EcoVec<T>) -> bool {
     match list.into_iter() {
-        Ok(rest) => numbers(rest.as_slice()).is(Short::from(1, state.1).as_slice()),
-        Err(rejected) => state.2 && is_back(watch, state, rejected.error, rejected.value),
+        Ok(rest) => numbers(rest.as_slice()).is(Short::from(1, state.len).as_slice()),
+        Err(rejected) => state.shared && is_back(watch, state, rejected.error, rejected.value),
     }
 }
 
-fn into_array_holds<T: Element>(watch: &Watch, state: State, list: EcoVec<T>) -> bool {
+fn into_array_holds<T: Element>(watch: &Watch, state: VecState, list: EcoVec<T>) -> bool {
     match T::array_of(list) {
-        Ok(numbers) => state.1 == 4 && numbers.is(&[1, 2, 3, 4]),
-        Err(IntoArray::Length(list)) => state.1 != 4 && list.len() == state.1,
+        Ok(numbers) => state.len == 4 && numbers.is(&[1, 2, 3, 4]),
+        Err(IntoArray::Length(list)) => state.len != 4 && list.len() == state.len,
         Err(IntoArray::Refused(error, list)) => {
-            state.1 == 4 && is_back(watch, state, error, list)
+            state.len == 4 && is_back(watch, state, error, list)
         }
     }
 }

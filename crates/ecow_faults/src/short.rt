@@ -87,6 +87,17 @@ impl<const M: usize> List<M> {
         list
     }
 
+    /// The list with each ASCII letter in upper case.
+    pub fn ascii_uppercase(&self) -> Self {
+        let mut upper = *self;
+        for item in &mut upper.items {
+            if *item >= 97 && *item <= 122 {
+                *item = item.wrapping_sub(32);
+            }
+        }
+        upper
+    }
+
     pub fn is(&self, items: &[i64]) -> bool {
         self.as_slice() == items
     }

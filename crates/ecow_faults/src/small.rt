@@ -3,20 +3,20 @@
 use crate::short::Long;
 use crate::steps::{Edit, Row, Step, Word, step_of};
 use crate::watch::Watch;
-use ecow_vec::{EcoError, EcoVec};
+use ecow_vec::{EcoError, EcoVec, Rejected};
 use std::alloc::Global;
 
 /// In which form a value stands, with how many bytes, and whether a twin shares its block.
 #[derive(Clone, Copy)]
-pub struct State {
+pub struct SmallState {
     pub spilled: bool,
     pub len: usize,
     pub room: usize,
     pub shared: bool,
 }
 
-fn in_state(spilled: bool, len: usize, room: usize, shared: bool) -> State {
-    State {
+fn in_state(spilled: bool, len: usize, room: usize, shared: bool) -> SmallState {
+    SmallState {
         spilled,
         len,
         room,
@@ -26,7 +26,7 @@ fn in_state(spilled: bool, len: usize, room: usize, shared: bool) -> State {
 
 /// Inline with a place left, inline and full, spilled with room, spilled and full, and shared
 /// ones.
-pub fn states(limit: usize) -> [State; 7] {
+pub fn states(limit: usize) -> [SmallState; 7] {
     let (more, roomy) = (limit.saturating_add(5), limit.saturating_add(8));
     [
         in_state(false, limit.saturating_sub(1), limit, false),
@@ -41,15 +41,15 @@ pub fn states(limit: usize) -> [State; 7] {
 
 /// A call, what it is to do, and what stood there before.
 #[derive(Clone, Copy)]
-pub struct Call {
-    pub state: State,
+pub struct SmallCall {
+    pub state: SmallState,
     pub step: Step,
     pub change: Edit,
     limit: usize,
     capacity: usize,
 }
 
-impl Call {
+impl SmallCall {
     fn room(&self) -> usize {
         self.step.room(self.state.len, self.change)
     }
@@ -106,10 +106,10 @@ pub trait Small: Clone + Drop {
     fn added(count: usize) -> Long;
 
     /// The letters, in the form of the state.
-    fn made(alloc: Global, state: State) -> Result<Self, EcoError>;
+    fn made(alloc: Global, state: SmallState) -> Result<Self, EcoError>;
 
     /// Makes a call. Answers whether what it gave is right.
-    fn call(&mut self, call: &Call) -> Result<bool, EcoError>;
+    fn call(&mut self, call: &SmallCall) -> Result<bool, EcoError>;
 
     fn bytes(&self) -> Long;
 
@@ -117,8 +117,10 @@ pub trait Small: Clone + Drop {
 
     fn capacity(&self) -> usize;
 
-    /// The vector of spilled bytes, which takes no memory.
-    fn spilled(self) -> Option<EcoVec<u8>>;
+    /// The vector of the bytes; of spilled ones it takes no memory.
+    fn into_vector(self) -> Result<EcoVec<u8>, Rejected<Self>>;
+
+    fn repeated(&self, count: usize) -> Result<Self, EcoError>;
 }
 
 pub fn calls_hold<S: Small>(alloc: Global, watch: &Watch, rows: &[Row]) -> bool {
@@ -131,7 +133,7 @@ pub fn calls_hold<S: Small>(alloc: Global, watch: &Watch, rows: &[Row]) -> bool 
     hold
 }
 
-fn call_holds<S: Small>(alloc: Global, watch: &Watch, state: State, step: Step) -> bool {
+fn call_holds<S: Small>(alloc: Global, watch: &Watch, state: SmallState, step: Step) -> bool {
     let Some(change) = step.change(state.len) else {
         return true;
     };
@@ -145,7 +147,7 @@ fn call_holds<S: Small>(alloc: Global, watch: &Watch, state: State, step: Step) 
             Err(_) => return false,
         }
     }
-    let call = Call {
+    let call = SmallCall {
         state,
         step,
         change,
@@ -164,7 +166,7 @@ fn call_holds<S: Small>(alloc: Global, watch: &Watch, state: State, step: Step) 
 /// What a call is to leave: the bytes, whether they are inline, and whether the value is alone.
 fn wanted<S: Small>(
     watch: &Watch,
-    call: &Call,
+    call: &SmallCall,
     answer: Result<bool, EcoError>,
     len: usize,
 ) -> Option<(Long, bool, bool)> {
@@ -193,20 +195,9 @@ fn wanted<S: Small>(
 }
 
 /// The bytes behind a call that was done.
-fn changed<S: Small>(call: &Call, letters: &Long) -> Long {
+fn changed<S: Small>(call: &SmallCall, letters: &Long) -> Long {
     match call.step.word {
-        Word::Upper => {
-            let mut upper = Long::new();
-            for letter in letters.as_slice() {
-                let is_small = *letter >= 97 && *letter <= 122;
-                upper.push(if is_small {
-                    letter.wrapping_sub(32)
-                } else {
-                    *letter
-                });
-            }
-            upper
-        }
+        Word::Upper => letters.ascii_uppercase(),
         _ => letters.replaced(call.change, &S::added(call.change.count)),
     }
 }
@@ -215,7 +206,7 @@ fn changed<S: Small>(call: &Call, letters: &Long) -> Long {
 /// value is alone behind it.
 fn is_right<S: Small>(
     watch: &Watch,
-    call: &Call,
+    call: &SmallCall,
     answer: Result<bool, EcoError>,
     value: &S,
 ) -> (bool, bool) {
@@ -230,22 +221,22 @@ fn is_right<S: Small>(
 }
 
 /// Whether the twin is as it was, and its block its own where the value has left it.
-fn twin_holds<S: Small>(call: &Call, left: bool, twin: S) -> bool {
+fn twin_holds<S: Small>(call: &SmallCall, left: bool, twin: S) -> bool {
     let is_kept = twin.bytes().is(S::letters(call.state.len).as_slice())
         && !twin.is_inline()
         && twin.capacity() == call.capacity;
-    match twin.spilled() {
-        Some(vector) => {
+    match twin.into_vector() {
+        Ok(vector) => {
             let mut vector = vector;
             is_kept && vector.is_unique() == left
         }
-        None => false,
+        Err(_) => false,
     }
 }
 
 /// Whether the capacity is as it was where the call was refused or had its room, and else enough.
 fn has_room(
-    call: &Call,
+    call: &SmallCall,
     answer: Result<bool, EcoError>,
     inline: bool,
     left: bool,
@@ -259,5 +250,48 @@ fn has_room(
         capacity == call.capacity
     } else {
         answer.is_err() || capacity >= call.room()
+    }
+}
+
+/// Whether a value was made as it is to be, or for want of memory not at all.
+pub fn is_made<S: Small>(
+    watch: &Watch,
+    made: Result<S, EcoError>,
+    want: &[i64],
+    inline: bool,
+) -> bool {
+    match made {
+        Ok(value) => {
+            value.bytes().is(want)
+                && value.is_inline() == inline
+                && (!inline || value.capacity() == S::limit())
+        }
+        Err(error) => error == EcoError::Memory && !inline && watch.may_refuse(),
+    }
+}
+
+pub fn repeated_hold<S: Small>(watch: &Watch, value: &S) -> bool {
+    let mut hold = true;
+    let mut want = Long::new();
+    for count in 0..3 {
+        let inline = want.len() <= S::limit();
+        hold = is_made(watch, value.repeated(count), want.as_slice(), inline) && hold;
+        want.append(value.bytes().as_slice());
+    }
+    hold
+}
+
+/// The vector of a spilled value is there; an inline value comes back where there is none.
+pub fn into_holds<S: Small>(watch: &Watch, state: SmallState, value: S) -> bool {
+    let want = S::letters(state.len);
+    match value.into_vector() {
+        Ok(vector) => want.is_bytes(vector.as_slice()),
+        Err(rejected) => {
+            rejected.error == EcoError::Memory
+                && !state.spilled
+                && state.len > 0
+                && watch.may_refuse()
+                && is_made(watch, Ok(rejected.value), want.as_slice(), true)
+        }
     }
 }

@@ -1,11 +1,10 @@
 //! The calls of `SmallString`.
 use crate::short::Long;
-use crate::small::{Call, Small, State, states};
+use crate::small::{Small, SmallCall, SmallState, into_holds, is_made, repeated_hold, states};
 use crate::steps::{Edit, Row, Word};
 use crate::watch::Watch;
-use ecow_bytes::SmallBytes;
 use ecow_string::SmallString;
-use ecow_vec::{EcoError, EcoVec};
+use ecow_vec::{EcoError, EcoVec, Rejected};
 use std::alloc::Global;
 use std::fmt::Write;
 
@@ -96,7 +95,7 @@ impl<const N: usize> Small for SmallString<N> {
         Long::of_bytes(added(count).as_bytes())
     }
 
-    fn made(alloc: Global, state: State) -> Result<Self, EcoError> {
+    fn made(alloc: Global, state: SmallState) -> Result<Self, EcoError> {
         let text = letters(state.len);
         if !state.spilled {
             return SmallString::from_str(alloc, text);
@@ -109,7 +108,7 @@ impl<const N: usize> Small for SmallString<N> {
         }
     }
 
-    fn call(&mut self, call: &Call) -> Result<bool, EcoError> {
+    fn call(&mut self, call: &SmallCall) -> Result<bool, EcoError> {
         match call.step.word {
             Word::Push | Word::Insert => one(self, call),
             Word::Pop | Word::Remove => take(self, call),
@@ -131,13 +130,17 @@ impl<const N: usize> Small for SmallString<N> {
         self.capacity()
     }
 
-    fn spilled(self) -> Option<EcoVec<u8>> {
-        SmallBytes::<N>::from(self).spilled()
+    fn into_vector(self) -> Result<EcoVec<u8>, Rejected<Self>> {
+        self.into_eco_vec()
+    }
+
+    fn repeated(&self, count: usize) -> Result<Self, EcoError> {
+        self.repeat(count)
     }
 }
 
 /// A call that is handed a character.
-fn one<const N: usize>(text: &mut SmallString<N>, call: &Call) -> Result<bool, EcoError> {
+fn one<const N: usize>(text: &mut SmallString<N>, call: &SmallCall) -> Result<bool, EcoError> {
     let start = call.step.start;
     let c = if call.change.count == 4 { '😀' } else { '.' };
     match call.step.word {
@@ -149,7 +152,7 @@ fn one<const N: usize>(text: &mut SmallString<N>, call: &Call) -> Result<bool, E
 }
 
 /// Whether a character is that whose bytes were to be taken.
-fn is_taken(c: char, call: &Call) -> bool {
+fn is_taken(c: char, call: &SmallCall) -> bool {
     let width = call.change.end.saturating_sub(call.change.start);
     let Some(rest) = letters(call.state.len).get(call.change.start..) else {
         return false;
@@ -158,7 +161,7 @@ fn is_taken(c: char, call: &Call) -> bool {
 }
 
 /// A call that answers what it takes out.
-fn take<const N: usize>(text: &mut SmallString<N>, call: &Call) -> Result<bool, EcoError> {
+fn take<const N: usize>(text: &mut SmallString<N>, call: &SmallCall) -> Result<bool, EcoError> {
     let start = call.step.start;
     match call.step.word {
         Word::Pop => match text.pop()? {
@@ -173,7 +176,7 @@ fn take<const N: usize>(text: &mut SmallString<N>, call: &Call) -> Result<bool, 
     }
 }
 
-fn several<const N: usize>(text: &mut SmallString<N>, call: &Call) -> Result<bool, EcoError> {
+fn several<const N: usize>(text: &mut SmallString<N>, call: &SmallCall) -> Result<bool, EcoError> {
     let start = call.step.start;
     let given = added(call.change.count);
     match call.step.word {
@@ -189,7 +192,7 @@ fn several<const N: usize>(text: &mut SmallString<N>, call: &Call) -> Result<boo
     Ok(true)
 }
 
-fn pieces<const N: usize>(text: &mut SmallString<N>, call: &Call) -> Result<bool, EcoError> {
+fn pieces<const N: usize>(text: &mut SmallString<N>, call: &SmallCall) -> Result<bool, EcoError> {
     match call.step.word {
         Word::ExtendEach => text.extend_chars(added(call.change.count).chars())?,
         _ => {
@@ -200,7 +203,7 @@ fn pieces<const N: usize>(text: &mut SmallString<N>, call: &Call) -> Result<bool
     Ok(true)
 }
 
-fn shorten<const N: usize>(text: &mut SmallString<N>, call: &Call) -> Result<bool, EcoError> {
+fn shorten<const N: usize>(text: &mut SmallString<N>, call: &SmallCall) -> Result<bool, EcoError> {
     match call.step.word {
         Word::Truncate if text.is_char_boundary(call.step.start) => {
             text.truncate(call.step.start)?
@@ -214,21 +217,6 @@ fn shorten<const N: usize>(text: &mut SmallString<N>, call: &Call) -> Result<boo
         _ => return Ok(false),
     }
     Ok(true)
-}
-
-/// Whether a text was made as it is to be, or for want of memory not at all.
-pub fn is_made<const N: usize>(
-    watch: &Watch,
-    made: Result<SmallString<N>, EcoError>,
-    want: &[i64],
-    inline: bool,
-) -> bool {
-    match made {
-        Ok(text) => {
-            text.bytes().is(want) && text.is_inline() == inline && (!inline || text.capacity() == N)
-        }
-        Err(error) => error == EcoError::Memory && !inline && watch.may_refuse(),
-    }
 }
 
 /// `none` names the type in which values are made: a proof knows then that they have a size.
@@ -312,7 +300,7 @@ fn string_holds<const N: usize>(
         Ok(text) => is_made(watch, Ok(text), bytes.as_slice(), inline),
         Err(rejected) => {
             rejected.value.as_str() == want
-                && is_made::<N>(watch, Err(rejected.error), bytes.as_slice(), inline)
+                && is_made::<SmallString<N>>(watch, Err(rejected.error), bytes.as_slice(), inline)
         }
     }
 }
@@ -356,17 +344,6 @@ pub fn derived_hold<const N: usize>(alloc: Global, watch: &Watch, none: &SmallSt
             && hold;
         hold = text.is_inline() != state.spilled && into_holds(watch, state, text) && hold;
         hold = sums_hold(alloc, watch, none, state) && hold;
-    }
-    hold
-}
-
-fn repeated_hold<const N: usize>(watch: &Watch, text: &SmallString<N>) -> bool {
-    let mut hold = true;
-    let mut want = Long::new();
-    for count in 0..3 {
-        let inline = want.len() <= N;
-        hold = is_made(watch, text.repeat(count), want.as_slice(), inline) && hold;
-        want.append(text.bytes().as_slice());
     }
     hold
 }
@@ -419,16 +396,11 @@ fn spread_holds<const N: usize>(watch: &Watch, text: &SmallString<N>) -> bool {
     )
 }
 
-/// The letters in upper case; past ASCII those that `other` stands for in place of `é`.
-fn upper(letters: &Long, other: i64) -> Long {
+/// The letters in upper case, `é` among them, which ends in the byte 169, and `É` in 137.
+fn upper(letters: &Long) -> Long {
     let mut upper = Long::new();
-    for letter in letters.as_slice() {
-        let is_small = *letter >= 97 && *letter <= 122;
-        upper.push(match *letter {
-            169 => other,
-            _ if is_small => letter.wrapping_sub(32),
-            _ => *letter,
-        });
+    for letter in letters.ascii_uppercase().as_slice() {
+        upper.push(if *letter == 169 { 137 } else { *letter });
     }
     upper
 }
@@ -437,11 +409,11 @@ fn upper(letters: &Long, other: i64) -> Long {
 /// memory for std's text may be refused.
 fn cased_hold<const N: usize>(watch: &Watch, text: &SmallString<N>, spilled: bool) -> bool {
     let lower = text.bytes();
-    let ascii = upper(&lower, 169);
+    let ascii = lower.ascii_uppercase();
     is_made(watch, text.to_ascii_lowercase(), lower.as_slice(), !spilled)
         && is_made(watch, text.to_ascii_uppercase(), ascii.as_slice(), !spilled)
         && is_cased(watch, text.to_lowercase(), &lower)
-        && is_cased(watch, text.to_uppercase(), &upper(&lower, 137))
+        && is_cased(watch, text.to_uppercase(), &upper(&lower))
 }
 
 fn is_cased<const N: usize>(
@@ -469,27 +441,12 @@ fn printed_holds<const N: usize>(alloc: Global, watch: &Watch, text: &SmallStrin
     copied && printed
 }
 
-/// The vector of a spilled text is there; an inline one comes back where there is none.
-fn into_holds<const N: usize>(watch: &Watch, state: State, text: SmallString<N>) -> bool {
-    let want = SmallString::<N>::letters(state.len);
-    match text.into_eco_vec() {
-        Ok(vector) => want.is_bytes(vector.as_slice()),
-        Err(rejected) => {
-            rejected.error == EcoError::Memory
-                && !state.spilled
-                && state.len > 0
-                && watch.may_refuse()
-                && is_made(watch, Ok(rejected.value), want.as_slice(), true)
-        }
-    }
-}
-
 /// A sum that is refused hands the text back.
 fn sums_hold<const N: usize>(
     alloc: Global,
     watch: &Watch,
     _none: &SmallString<N>,
-    state: State,
+    state: SmallState,
 ) -> bool {
     let mut hold = true;
     for count in [0, 1, 4, 12] {
@@ -503,7 +460,7 @@ fn sums_hold<const N: usize>(
 
 fn sum_holds<const N: usize>(
     watch: &Watch,
-    state: State,
+    state: SmallState,
     text: SmallString<N>,
     count: usize,
 ) -> bool {

@@ -7,18 +7,30 @@ use ecow_vec::{EcoError, EcoVec, range_in};
 use std::alloc::Global;
 use std::mem;
 
-/// Room, elements, and whether a twin shares the block. Without room there is no block.
-pub type State = (usize, usize, bool);
+/// A vector before a call. Without room it has no block.
+#[derive(Clone, Copy)]
+pub struct VecState {
+    pub room: usize,
+    pub len: usize,
+    /// Whether a twin shares the block.
+    pub shared: bool,
+}
 
-pub const STATES: [State; 7] = [
-    (0, 0, false),
-    (3, 0, false),
-    (8, 4, false),
-    (4, 4, false),
-    (3, 0, true),
-    (8, 4, true),
-    (4, 4, true),
-];
+fn in_state(room: usize, len: usize, shared: bool) -> VecState {
+    VecState { room, len, shared }
+}
+
+pub fn states() -> [VecState; 7] {
+    [
+        in_state(0, 0, false),
+        in_state(3, 0, false),
+        in_state(8, 4, false),
+        in_state(4, 4, false),
+        in_state(3, 0, true),
+        in_state(8, 4, true),
+        in_state(4, 4, true),
+    ]
+}
 
 pub const STEPS: [Row; 34] = [
     (Word::Push, 0, 0, 1),
@@ -80,7 +92,7 @@ pub fn calls_hold<T: Element>(alloc: Global, watch: &Watch) -> bool {
 
 fn rows_hold<T: Element>(alloc: Global, watch: &Watch, rows: &[Row]) -> bool {
     let mut hold = true;
-    for state in STATES {
+    for state in states() {
         for row in rows {
             hold = call_holds::<T>(alloc, watch, state, step_of(row)) && hold;
         }
@@ -89,9 +101,9 @@ fn rows_hold<T: Element>(alloc: Global, watch: &Watch, rows: &[Row]) -> bool {
 }
 
 /// Makes a vector in a state; its elements have the numbers from 1 on.
-pub fn made<T: Element>(alloc: Global, room: usize, len: usize) -> Result<EcoVec<T>, EcoError> {
-    let mut list = EcoVec::with_capacity(alloc, room)?;
-    for element in elements(alloc, 1, len)? {
+pub fn made<T: Element>(alloc: Global, state: VecState) -> Result<EcoVec<T>, EcoError> {
+    let mut list = EcoVec::with_capacity(alloc, state.room)?;
+    for element in elements(alloc, 1, state.len)? {
         if list.push(element).is_err() {
             return Err(EcoError::Memory);
         }
@@ -101,17 +113,17 @@ pub fn made<T: Element>(alloc: Global, room: usize, len: usize) -> Result<EcoVec
 
 /// What stood before a call, and what it is to do.
 #[derive(Clone, Copy)]
-struct Call {
-    state: State,
+struct VecCall {
+    state: VecState,
     step: Step,
     change: Edit,
     capacity: usize,
     given: Short,
 }
 
-impl Call {
+impl VecCall {
     fn before(&self) -> Short {
-        Short::from(1, self.state.1)
+        Short::from(1, self.state.len)
     }
 
     /// What the call takes out.
@@ -120,12 +132,12 @@ impl Call {
     }
 
     fn room(&self) -> usize {
-        self.step.room(self.state.1, self.change)
+        self.step.room(self.state.len, self.change)
     }
 
     /// Whether the call needs no memory, nor a clone that does.
     fn is_free(&self, is_plain: bool) -> bool {
-        let (room, len, shared) = self.state;
+        let VecState { room, len, shared } = self.state;
         match self.step.word {
             _ if shared => self.step.is_free_shared(len),
             // What they take out or put in stands in a block of its own meanwhile.
@@ -137,13 +149,13 @@ impl Call {
     }
 }
 
-fn call_holds<T: Element>(alloc: Global, watch: &Watch, state: State, step: Step) -> bool {
-    let (room, len, shared) = state;
+fn call_holds<T: Element>(alloc: Global, watch: &Watch, state: VecState, step: Step) -> bool {
+    let VecState { len, shared, .. } = state;
     let Some(change) = step.change(len) else {
         return true;
     };
     let (Ok(list), Ok(given)) = (
-        made::<T>(alloc, room, len),
+        made::<T>(alloc, state),
         elements::<T>(alloc, 91, change.count),
     ) else {
         return watch.may_refuse();
@@ -155,7 +167,7 @@ fn call_holds<T: Element>(alloc: Global, watch: &Watch, state: State, step: Step
             Err(_) => return false,
         }
     }
-    let call = Call {
+    let call = VecCall {
         state,
         step,
         change,
@@ -171,7 +183,11 @@ fn call_holds<T: Element>(alloc: Global, watch: &Watch, state: State, step: Step
 }
 
 /// Makes a call. Answers whether what it gave is right.
-fn called<T: Element>(list: &mut EcoVec<T>, call: &Call, given: Vec<T>) -> Result<bool, EcoError> {
+fn called<T: Element>(
+    list: &mut EcoVec<T>,
+    call: &VecCall,
+    given: Vec<T>,
+) -> Result<bool, EcoError> {
     match call.step.word {
         Word::Push | Word::Insert | Word::Write | Word::Update | Word::MakeMut => {
             with_one(list, call, given)
@@ -188,7 +204,7 @@ fn called<T: Element>(list: &mut EcoVec<T>, call: &Call, given: Vec<T>) -> Resul
 /// A call that is handed an element, which comes back where it is refused.
 fn with_one<T: Element>(
     list: &mut EcoVec<T>,
-    call: &Call,
+    call: &VecCall,
     given: Vec<T>,
 ) -> Result<bool, EcoError> {
     let mut given = given;
@@ -212,7 +228,7 @@ fn with_one<T: Element>(
 }
 
 /// Answers whether the element that was there came out.
-fn updated<T: Element>(list: &mut EcoVec<T>, call: &Call, value: T) -> Result<bool, EcoError> {
+fn updated<T: Element>(list: &mut EcoVec<T>, call: &VecCall, value: T) -> Result<bool, EcoError> {
     let start = call.step.start;
     if start >= list.len() {
         return Ok(false);
@@ -234,7 +250,7 @@ fn written<T: Element>(list: &mut EcoVec<T>, value: T) -> Result<bool, EcoError>
 
 fn with_several<T: Element>(
     list: &mut EcoVec<T>,
-    call: &Call,
+    call: &VecCall,
     given: Vec<T>,
 ) -> Result<bool, EcoError> {
     let (start, end) = (call.step.start, call.step.end);
@@ -251,7 +267,7 @@ fn with_several<T: Element>(
 }
 
 /// A call that answers what it takes out.
-fn taking<T: Element>(list: &mut EcoVec<T>, call: &Call) -> Result<bool, EcoError> {
+fn taking<T: Element>(list: &mut EcoVec<T>, call: &VecCall) -> Result<bool, EcoError> {
     let (start, end) = (call.step.start, call.step.end);
     let removed = call.removed();
     match call.step.word {
@@ -271,7 +287,7 @@ fn taking<T: Element>(list: &mut EcoVec<T>, call: &Call) -> Result<bool, EcoErro
     }
 }
 
-fn shortening<T: Element>(list: &mut EcoVec<T>, call: &Call) -> Result<bool, EcoError> {
+fn shortening<T: Element>(list: &mut EcoVec<T>, call: &VecCall) -> Result<bool, EcoError> {
     let step = call.step;
     match step.word {
         Word::Truncate => list.truncate(step.start)?,
@@ -293,13 +309,13 @@ fn shortening<T: Element>(list: &mut EcoVec<T>, call: &Call) -> Result<bool, Eco
 /// Whether a call did all that it is to do, or was refused and left all as it was.
 fn is_right<T: Element>(
     watch: &Watch,
-    call: &Call,
+    call: &VecCall,
     answer: Result<bool, EcoError>,
     list: EcoVec<T>,
     twin: EcoVec<T>,
 ) -> bool {
     let mut list = list;
-    let (_, len, shared) = call.state;
+    let VecState { len, shared, .. } = call.state;
     let (after, left) = match answer {
         Ok(true) => (
             call.before().replaced(call.change, &call.given),
@@ -335,8 +351,8 @@ fn is_right<T: Element>(
 
 /// Whether an extension may have ended behind so many items: before the last, and not before the
 /// block was full.
-fn is_cut(call: &Call, count: usize) -> bool {
-    let (room, len, shared) = call.state;
+fn is_cut(call: &VecCall, count: usize) -> bool {
+    let VecState { room, len, shared } = call.state;
     match call.step.word {
         Word::ExtendEach => {
             count < call.change.count && (shared && count == 0 || len.saturating_add(count) >= room)
@@ -347,13 +363,13 @@ fn is_cut(call: &Call, count: usize) -> bool {
 
 /// Whether the capacity is as it was where the call was refused or had its room, and else enough.
 fn has_room(
-    call: &Call,
+    call: &VecCall,
     answer: Result<bool, EcoError>,
     left: bool,
     is_plain: bool,
     capacity: usize,
 ) -> bool {
-    let (room, len, shared) = call.state;
+    let VecState { room, len, shared } = call.state;
     if answer.is_err() && !shared && !is_plain && matches!(call.step.word, Word::Extend) {
         // The block has grown before the first clone, and stays so where a clone is refused.
         return capacity == call.capacity || capacity >= call.room();
@@ -370,9 +386,9 @@ fn has_room(
 }
 
 /// Whether the twin is as it was, and alone where the list has left it.
-fn twin_holds<T: Element>(call: &Call, left: bool, twin: EcoVec<T>) -> bool {
+fn twin_holds<T: Element>(call: &VecCall, left: bool, twin: EcoVec<T>) -> bool {
     let mut twin = twin;
-    let (_, len, shared) = call.state;
+    let VecState { len, shared, .. } = call.state;
     !shared
         || numbers(twin.as_slice()).is(Short::from(1, len).as_slice())
             && twin.capacity() == call.capacity

@@ -36,7 +36,8 @@ by_key short None long = long
 -- the number that the three maps have for a word
 abbrev pub number_under : (ℕ → Option ℕ) → (List ℕ → Option ℕ) → (List ℕ → Option ℕ)
     → List ℕ → Option ℕ
-number_under short long further word = or_else (by_key short (packed word) (long word)) (further word)
+number_under short long further word =
+    or_else (by_key short (packed word) (long word)) (further word)
 
 -- the number under a key
 abbrev pub short_at : {S : Type 0} → HashMap ℕ ℕ S → ℕ → Option ℕ

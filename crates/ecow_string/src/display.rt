@@ -49,8 +49,8 @@ impl<const N: usize> SmallString<N> {
     /// `eco_format!` calls it.
     pub fn format<T: Display + Drop>(alloc: Global, value: T) -> Result<Self, fmt::Error>
         ensures text { IfOk result
-            (λ target. IfSome (T.output value) (λ bytes. encode_utf8_all target.chars ≡ bytes)) }
-        ensures mode { IfOk result (λ target. target.inline ≡ inline_for N (utf8_len target.chars)) }
+            (λ text. IfSome (T.output value) (λ bytes. encode_utf8_all text.chars ≡ bytes)) }
+        ensures mode { IfOk result (λ text. text.inline ≡ inline_for N (utf8_len text.chars)) }
     {
         let mut target = Self::new(alloc);
         target.write(value)?;
@@ -68,8 +68,8 @@ pub trait ToEcoString: Display {
     /// 2^63 - 1 bytes.
     fn to_eco_string(&self, alloc: Global) -> Result<EcoString, fmt::Error>
         ensures text { IfOk result
-            (λ target. IfSome (Self.output self.now) (λ bytes. encode_utf8_all target.chars ≡ bytes)) }
-        ensures mode { IfOk result (λ target. target.inline ≡ inline_for 15 (utf8_len target.chars)) };
+            (λ text. IfSome (Self.output self.now) (λ bytes. encode_utf8_all text.chars ≡ bytes)) }
+        ensures mode { IfOk result (λ text. text.inline ≡ inline_for 15 (utf8_len text.chars)) };
 }
 
 impl<T: Display> ToEcoString for T {

@@ -44,8 +44,8 @@ impl<const N: usize> AsSlice<u8> for SmallString<N> {
 impl<const N: usize> FromIterator<char> for SmallString<N> {
     type Alloc = Global;
 
-    ghost from_iter_gives = { λ items target. (target.chars ≡ items)
-        × (target.inline ≡ inline_for N (utf8_len items)) };
+    ghost from_iter_gives = { λ items text. (text.chars ≡ items)
+        × (text.inline ≡ inline_for N (utf8_len items)) };
 
     fn from_iter<I: IntoIterator<Item = char>>(alloc: Global, iter: I) -> Result<Self, AllocError> {
         match SmallString::from_chars(alloc, iter) {
@@ -60,8 +60,8 @@ impl<const N: usize> FromIterator<char> for SmallString<N> {
 impl<'a, const N: usize> FromIterator<&'a str> for SmallString<N> {
     type Alloc = Global;
 
-    ghost from_iter_gives = { λ items target. (target.chars ≡ joined_strs items)
-        × (target.inline ≡ inline_for N (utf8_len target.chars)) };
+    ghost from_iter_gives = { λ items text. (text.chars ≡ joined_strs items)
+        × (text.inline ≡ inline_for N (utf8_len text.chars)) };
 
     fn from_iter<I: IntoIterator<Item = &'a str>>(
         alloc: Global,
@@ -79,8 +79,8 @@ impl<'a, const N: usize> FromIterator<&'a str> for SmallString<N> {
 impl<const N: usize> FromIterator<SmallString<N>> for SmallString<N> {
     type Alloc = Global;
 
-    ghost from_iter_gives = { λ items target. (target.chars ≡ joined_texts items)
-        × (target.inline ≡ inline_for N (utf8_len target.chars)) };
+    ghost from_iter_gives = { λ items text. (text.chars ≡ joined_texts items)
+        × (text.inline ≡ inline_for N (utf8_len text.chars)) };
 
     fn from_iter<I: IntoIterator<Item = SmallString<N>>>(
         alloc: Global,
