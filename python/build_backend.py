@@ -84,7 +84,9 @@ def metadata():
         f"Summary: {told['description']}",
         f"License: {told['license']}",
         f"Requires-Python: {told['requires-python']}",
+        "Description-Content-Type: text/markdown",
         "",
+        (HERE / told["readme"]).read_text("utf-8"),
     ])
 
 
@@ -147,7 +149,7 @@ def build_sdist(sdist_directory, config_settings=None):
     files = {
         str(path.relative_to(HERE)): path.read_bytes()
         for path in HERE.rglob("*")
-        if path.is_file() and path.suffix in (".py", ".pyi", ".c", ".h", ".toml", ".typed")
+        if path.is_file() and path.suffix in (".py", ".pyi", ".c", ".h", ".toml", ".typed", ".md")
     }
     files["VERSION"] = f"{version()}\n".encode()
     files["PKG-INFO"] = metadata().encode()

@@ -13,10 +13,10 @@ quotes() { # PAGE FILE..
     done
 }
 
-quotes docs/C.md c/examples/first.c c/examples/first.out c/examples/history.c
-quotes docs/CPP.md c/examples/interned.cpp c/examples/settings.cpp
-quotes docs/PYTHON.md python/examples/versions.py python/examples/versions.out
-quotes docs/RUST.md rust/examples/first.rs
+quotes c/README.md c/examples/first.c c/examples/first.out c/examples/history.c
+quotes c/CPP.md c/examples/interned.cpp c/examples/settings.cpp
+quotes python/README.md python/examples/versions.py python/examples/versions.out
+quotes rust/README.md rust/examples/first.rs
 
 version=$(cat VERSION)
 numbers=$(sed -n 's/^#define ECOW_VERSION_[MP][A-Z]* //p' include/ecow.h | paste -s -d . -)

@@ -47,7 +47,7 @@ for compilers in "gcc g++" "clang clang++"; do
 done
 tools/helgrind.sh 2000
 
-# The examples of docs/C.md and docs/CPP.md.
+# The examples of c/README.md and c/CPP.md.
 for example in first history; do
     cc -std=c11 $warnings $sanitized -Iinclude "c/examples/$example.c" bin/libecow.a -o "$out/$example"
     "$out/$example" > "$out/$example.out"
@@ -56,15 +56,15 @@ done
 c++ -std=c++17 $warnings $more_warnings $sanitized -Iinclude c/examples/interned.cpp bin/libecow.a -o "$out/interned"
 "$out/interned" < include/ecow.h > /dev/null
 echo to be or not to be | "$out/interned" > "$out/interned.out"
-case "$(cat docs/CPP.md)" in
+case "$(cat c/CPP.md)" in
     *"$(cat "$out/interned.out")"*) ;;
-    *) echo "docs/CPP.md says that c/examples/interned.cpp prints something else"; exit 1 ;;
+    *) echo "c/CPP.md says that c/examples/interned.cpp prints something else"; exit 1 ;;
 esac
 c++ -std=c++17 $warnings $more_warnings $sanitized -Iinclude c/examples/settings.cpp bin/libecow.a -o "$out/settings"
 "$out/settings" > "$out/settings.out"
 cmp "$out/settings.out" c/examples/settings.out
 for quoted in c/examples/settings.cpp c/examples/settings.out; do
-    case "$(cat docs/CPP.md)" in *"$(cat $quoted)"*) ;; *) echo "docs/CPP.md quotes another $quoted"; exit 1 ;; esac
+    case "$(cat c/CPP.md)" in *"$(cat $quoted)"*) ;; *) echo "c/CPP.md quotes another $quoted"; exit 1 ;; esac
 done
 
 ECOW_EDITS=$((edits / 50)) tools/python.sh

@@ -16,7 +16,7 @@ grep -q "($1 count)" bin/ecow.pc || { echo "bin/ has a library with another coun
 work=$(mktemp -d)
 trap 'rm -rf "$work"' EXIT
 to=$work/$name
-mkdir -p "$to/lib/pkgconfig" "$to/include" "$to/docs" "$to/examples"
+mkdir -p "$to/lib/pkgconfig" "$to/include" "$to/examples"
 cp bin/libecow.a "$to/lib"
 cp bin/libecow.so "$to/lib/libecow.so.$like"
 ln -s "libecow.so.$like" "$to/lib/libecow.so"
@@ -25,15 +25,14 @@ sed 's|^prefix=.*|prefix=${pcfiledir}/../..|' bin/ecow.pc > "$to/lib/pkgconfig/e
 cp include/ecow.h include/ecow.hpp "$to/include"
 git ls-files c/examples > "$work/examples"
 while read -r file; do cp "$file" "$to/examples"; done < "$work/examples"
-git ls-files python rust > "$work/files"
+git ls-files c/README.md c/CPP.md python rust > "$work/files"
 while read -r file; do
     mkdir -p "$to/${file%/*}"
     cp "$file" "$to/$file"
 done < "$work/files"
-cp docs/C.md docs/CPP.md docs/PYTHON.md docs/RUST.md "$to/docs"
 cp LICENSE-APACHE LICENSE-MIT VERSION CHANGELOG.md "$to"
-# The pages lie in docs/ there.
-sed 's|](\([A-Z]*\.md\))|](docs/\1)|g' docs/INSTALL.md > "$to/README.md"
+# It stands above the pages there, and in docs/ beside their folders here.
+sed 's|](\.\./|](|g' docs/INSTALL.md > "$to/README.md"
 find "$to" -type d -exec chmod 755 {} +
 find "$to" -type f -exec chmod 644 {} +
 tar --sort=name --mtime='2000-01-01 00:00Z' --owner=0 --group=0 --numeric-owner --format=ustar \

@@ -54,11 +54,11 @@ mkdir "$work/new" "$work/page"
 cp "$archive" "$work/new"
 tar xzf "$archive" -C "$work/page"
 top=$(ls "$work/page")
-pages=$work/page/$top/docs
+pages=$work/page/$top
 tar tzf "$archive" | grep -v "^$top/" && { echo "the archive has files beside its folder"; exit 1; }
 
 # The first block of the page for C unpacks the archive. What is unpacked is moved then.
-run "$pages/C.md" 1 "$work/new"
+run "$pages/c/README.md" 1 "$work/new"
 mv "$work/new/$top" "$work/moved"
 here=$work/moved
 for example in first history; do
@@ -66,7 +66,7 @@ for example in first history; do
     "$work/$example" | cmp - "$here/examples/$example.out"
 done
 if has pkg-config pkg-config --version; then
-    run "$pages/C.md" 2 "$here"
+    run "$pages/c/README.md" 2 "$here"
     if (cd "$here" && ./first-shared > /dev/null 2>&1); then
         echo "the flags of ecow.pc don't link the shared library of the archive"
         exit 1
@@ -74,25 +74,32 @@ if has pkg-config pkg-config --version; then
     [ "$(PKG_CONFIG_PATH=$here/lib/pkgconfig pkg-config --modversion ecow)" = "$(cat "$here/VERSION")" ]
 fi
 if has C++17 c++ -std=c++17 -fsyntax-only -include string_view -x c++ /dev/null; then
-    run "$pages/CPP.md" 1 "$here"
+    run "$pages/c/CPP.md" 1 "$here"
 fi
-if has Rust cargo --version; then run "$pages/RUST.md" 1 "$here"; fi
+if has Rust cargo --version; then run "$pages/rust/README.md" 1 "$here"; fi
 
 # pip and the headers of Python 3.11, in an environment of its own.
 if has Python python3 -c 'import ensurepip, os, sys, sysconfig, venv
 assert sys.version_info >= (3, 11) and os.path.exists(sysconfig.get_path("include") + "/Python.h")'; then
     python3 -m venv "$work/venv"
     PATH=$work/venv/bin:$PATH
-    commanded "$pages/PYTHON.md" 1 "$here"
-    awk '/^```python$/ { inside = 1; next } /^```$/ && inside { exit } inside' "$pages/PYTHON.md" > "$work/first.py"
+    commanded "$pages/python/README.md" 1 "$here"
+    awk '/^```python$/ { inside = 1; next } /^```$/ && inside { exit } inside' "$pages/python/README.md" > "$work/first.py"
     (cd "$work/new" && python3 "$work/first.py") > "$work/said"
-    compared "$pages/PYTHON.md"
+    compared "$pages/python/README.md"
 fi
 
-# The README has the commands of the pages.
-for page in C CPP PYTHON RUST; do
-    [ -f "$here/docs/$page.md" ] && grep -q "(docs/$page.md)" "$here/README.md"
+# The README leads to the pages, whose links hold in the archive too.
+for page in c/README.md c/CPP.md python/README.md rust/README.md; do
+    [ -f "$here/$page" ]
+    grep -q "($page)" "$here/README.md"
+    tr '(' '\n' < "$here/$page" | sed -n 's|^\([^): ]*\.md\)).*|\1|p' > "$work/links"
+    while read -r link; do
+        [ -f "$here/${page%/*}/$link" ] || { echo "$page leads to $link, which isn't there"; exit 1; }
+    done < "$work/links"
 done
+
+# It has their commands.
 sed -n 's/^| [A-Z][^|]*|[^|]*| `\(.*\)` | \[.*/\1/p' "$here/README.md" > "$work/commands"
 [ "$(wc -l < "$work/commands")" -eq 4 ]
 while read -r command; do

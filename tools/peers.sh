@@ -1,5 +1,5 @@
 #!/bin/sh
-# Times calls of the library for C beside std's containers, and prints the table of docs/C.md: tools/peers.sh [ROUNDS].
+# Times calls of the library for C beside std's containers, and prints the table of c/README.md: tools/peers.sh [ROUNDS].
 # A cell has the time over the library in bin/, whose count is atomic, and over the one in bin/plain/.
 set -eu
 cd "$(dirname "$0")/.."

@@ -22,9 +22,9 @@ command -v "$1" > /dev/null || skip "this machine has no C compiler"
 [ -f "$bin/libecow.a" ] || { echo "no $bin/libecow.a: \`make lib\` builds it"; exit 1; }
 
 for file in python/examples/versions.py python/examples/versions.out; do
-    case "$(cat docs/PYTHON.md)" in
+    case "$(cat python/README.md)" in
         *"$(cat $file)"*) ;;
-        *) echo "docs/PYTHON.md quotes another $file"; exit 1 ;;
+        *) echo "python/README.md quotes another $file"; exit 1 ;;
     esac
 done
 
@@ -58,7 +58,7 @@ cp -r python/tests "$work/tests"
 cmp "$work/out" python/examples/versions.out
 # Each program of the page.
 "$run" -c 'import re
-for program in re.findall("```python\n(.*?)```", open("docs/PYTHON.md").read(), re.S):
+for program in re.findall("```python\n(.*?)```", open("python/README.md").read(), re.S):
     exec(program, {})' > /dev/null
 "$run" python/tests/speed.py 0.01 > "$work/speed" || { cat "$work/speed"; exit 1; }
 echo "python: $(sed -n 's/^Ran \([0-9]*\) tests.*/\1/p' "$work/log") tests of the installed package $version"

@@ -50,7 +50,7 @@ cargo test --offline > "$work/log" 2>&1 || { cat "$work/log"; exit 1; }
 cargo run --offline --quiet --example first > "$work/first.out"
 cd - > /dev/null
 for file in rust/examples/first.rs "$work/first.out"; do
-    case "$(cat docs/RUST.md)" in *"$(cat "$file")"*) ;; *) echo "docs/RUST.md quotes another $file"; exit 1 ;; esac
+    case "$(cat rust/README.md)" in *"$(cat "$file")"*) ;; *) echo "rust/README.md quotes another $file"; exit 1 ;; esac
 done
 
 # A library of another version isn't linked: its values may have other sizes.

@@ -2,7 +2,7 @@
 //! changed, over a library whose calls are proved.
 //!
 //! [`EcoString`], [`EcoBytes`] and [`EcoVec`] have the names and signatures of the crate `ecow`.
-//! `docs/RUST.md` of the repository says what differs.
+//! `README.md` beside the crate says what differs.
 //!
 //! ```
 //! use ecow_proved::EcoString;
