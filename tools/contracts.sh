@@ -12,7 +12,7 @@ rm -f "$to"/contracts/*.md
     echo
     echo "The public calls, trait methods and laws with their clauses, a page a crate. \`make contracts\` quotes them"
     echo "from the files. A trait method without clauses has those of its trait."
-    echo "\`docs/CALLING.md\` says what they mean for a caller, and \`docs/DEFINITIONS.md\` what their words do."
+    echo "\`docs/CALLING.md\` says what they mean for a caller, and \`docs/DEFINITIONS.md\` where their words stand."
     echo "\`x.now\` is what stands behind a \`&\`, \`x.old\` and \`x.new\` what stands behind a \`&mut\` before and after the"
     echo "call, and \`x.entry\` a value at the call."
     echo
