@@ -1,5 +1,5 @@
 /* What a programmer writes first who knows std's containers: it compiles, and does what it does
- * there. At the end stands what doesn't compile, and c/README.md says why. */
+ * there. At the end stands what doesn't compile, and c/CPP.md says why. */
 #include "check.hpp"
 
 #include <cstring>
