@@ -19,6 +19,7 @@ file=$(realpath "$1")
 said=$(mktemp)
 trap 'rm -f "$said"' EXIT
 cd "$(dirname "$0")/../crates/ecow_run" || exit 1
+[ -d out ] || echo "building the program without proofs, in half a minute .." >&2
 rt try --data "script=$file" -- $flag script 2> "$said"
 status=$?
 if ! grep -q '^run=ended ' "$said"; then
