@@ -3,3 +3,4 @@ pub mod Meanings
 pub mod Holes
 pub mod Said
 pub mod Trees
+pub mod Paths

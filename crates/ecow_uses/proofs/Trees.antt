@@ -14,12 +14,12 @@ pub printed_out : (node : Node) → printed node ≡ 40 ∷ (name_of node ++ (sp
 printed_out = fold_out-Node (List ℕ) print_step
 
 -- an element of a list that was written at one place: what was written there, and elsewhere what was there
-get_set : {X : Type 0} (xs : List X) (i : ℕ) (x y : X) → slice_get xs i ≡ Some x → slice_get (slice_set xs i y) i ≡ Some y
+pub get_set : {X : Type 0} (xs : List X) (i : ℕ) (x y : X) → slice_get xs i ≡ Some x → slice_get (slice_set xs i y) i ≡ Some y
 get_set [] i x y found = absurd (none-some x found)
 get_set (z ∷ zs) zero x y found = refl
 get_set (z ∷ zs) (suc i) x y found = get_set zs i x y found
 
-get_other : {X : Type 0} (xs : List X) (i j : ℕ) (y : X) → i ≢ j → slice_get (slice_set xs i y) j ≡ slice_get xs j
+pub get_other : {X : Type 0} (xs : List X) (i j : ℕ) (y : X) → i ≢ j → slice_get (slice_set xs i y) j ≡ slice_get xs j
 get_other [] i j y apart = refl
 get_other (z ∷ zs) zero zero y apart = absurd (apart refl)
 get_other (z ∷ zs) zero (suc j) y apart = refl

@@ -2,3 +2,4 @@ pub mod History
 pub mod Template
 pub mod Scopes
 pub mod Trees
+pub mod Nested

@@ -3,6 +3,7 @@
 #![tactic(auto)]
 
 mod lines;
+mod nested;
 mod settings;
 mod symbols;
 mod template;
@@ -10,6 +11,7 @@ mod tree;
 mod undo;
 mod writing;
 
+use crate::nested::{Step, Value};
 use crate::symbols::{Interner, Scope};
 use crate::tree::Node;
 use crate::undo::History;
@@ -26,6 +28,7 @@ fn main(rt: HostRuntime) -> Result<()> {
     fill_a_letter(&rt)?;
     shadow_a_name(&rt)?;
     replace_a_node(&rt)?;
+    set_a_value(&rt)?;
     write_in_place(&rt)?;
     append_to_lines(&rt)?;
     collect_items(&rt)?;
@@ -150,6 +153,33 @@ fn text_of(rt: &HostRuntime, tree: &Node) -> Result<EcoString> {
     let mut text = EcoString::new(rt.alloc());
     tree.print(&mut text)?;
     Ok(text)
+}
+
+fn set_a_value(rt: &HostRuntime) -> Result<()> {
+    let document = a_document(rt)?;
+    let path = [Step::Name(name(rt, "sizes")?), Step::Index(1)];
+    if let Some((kept, changed)) = nested::set_and_keep(&document, &path, Value::Number(7))? {
+        println!(rt; "{kept:?}")?;
+        println!(rt; "{changed:?}")?;
+        println!(rt; "at sizes, 1: {:?}", changed.at(&path))?;
+    }
+    println!(rt; "at 1: {:?}", document.at(&[Step::Index(1)]))?;
+    Ok(())
+}
+
+fn a_document(rt: &HostRuntime) -> Result<Value> {
+    let alloc = rt.alloc();
+    let tags = eco_vec![in alloc; Value::Text(name(rt, "a")?)]?;
+    let sizes = eco_vec![in alloc; Value::Number(1), Value::Number(2)]?;
+    let fields = eco_vec![in alloc;
+        (name(rt, "tags")?, Value::List(tags)),
+        (name(rt, "sizes")?, Value::List(sizes))
+    ]?;
+    Ok(Value::Fields(fields))
+}
+
+fn name(rt: &HostRuntime, name: &str) -> Result<EcoString> {
+    Ok(EcoString::from_str(rt.alloc(), name)?)
 }
 
 fn write_in_place(rt: &HostRuntime) -> Result<()> {
