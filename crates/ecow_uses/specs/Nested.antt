@@ -27,12 +27,12 @@ names_of value = names_in (out-Value value)
 abbrev pub parts_of : Value → List Value
 parts_of value = parts_in (out-Value value)
 
--- whether a field's name has the same bytes
+-- whether a field has the name: its own has the same bytes
 abbrev pub has_name : PlainText → PlainText → Bool
 has_name name field = pointwise nat_eq (encode_utf8_all field.chars) (encode_utf8_all name.chars)
 
--- the number of the part that a step leads to, if there are so many: a name leads to the first field
--- that has it
+-- the number of the part that a step leads to, if there are so many: a name leads to the first
+-- field that has it
 abbrev pub place : Option (List PlainText) → Step → Option ℕ
 place None (step.Index index) = Some index
 place (Some names) (step.Name name) = position (has_name name) names
