@@ -18,7 +18,7 @@ use crate::pointer::{BytesPointer, ListPointer, TextPointer, TextsPointer, Value
 use crate::status::{
     CAPACITY, IntoStatus, MEMORY, NULL, OK, UTF8, ok_or_status, order, put, some_or, status,
 };
-use crate::text::spelled;
+use crate::text::to_str;
 use crate::value::assign;
 use ecow_base::MAX_LEN;
 use ecow_bytes::EcoBytes;
@@ -73,7 +73,7 @@ pub extern "C" fn ecow_proved_text_assign(
         (λ _. (is_utf8 added.now ≡ true) × (MAX_LEN < length added.now)) }
 {
     let text = some_or!(pointer.text(), NULL);
-    let added = some_or!(spelled(added), UTF8);
+    let added = some_or!(to_str(added), UTF8);
     put(EcoString::from_str(alloc, added), text)
 }
 

@@ -1,5 +1,5 @@
 //! The calls on texts. Indices and lengths count bytes.
-ghost use Rattle.std.specs.Prelude.{◌≡◌, ◌≢◌, ◌↔◌, ◌≤◌, ◌<◌, ◌+◌, ◌-◌, ◌*◌, ◌&&◌, ◌∷◌, ◌++◌, [], length, take, remove, slice_get, true, false, Some, IfSome, IsSomeAnd, is_some};
+ghost use Rattle.std.specs.Prelude.{◌≡◌, ◌↔◌, ◌≤◌, ◌<◌, ◌+◌, ◌-◌, ◌*◌, ◌&&◌, ◌∷◌, ◌++◌, [], length, take, remove, slice_get, true, false, Some, IfSome, IsSomeAnd, is_some};
 ghost use Rattle.std.specs.Char.{IsScalar, len_utf8};
 ghost use Rattle.std.specs.List.{insert_slice, repeat, replace_range};
 ghost use Rattle.std.specs.Option.{option_map_or};
@@ -34,7 +34,7 @@ fn cut_at(text: &EcoString, index: usize) -> u32
 }
 
 /// The text that bytes spell, if they are UTF-8.
-pub(crate) fn spelled(bytes: &[u8]) -> Option<&str>
+pub(crate) fn to_str(bytes: &[u8]) -> Option<&str>
     ensures bytes { IfSome result (λ text. text.now ≡ bytes.now) }
     ensures utf8 { is_utf8 bytes.now ≡ is_some result }
 {
@@ -49,7 +49,7 @@ pub(crate) fn spelled(bytes: &[u8]) -> Option<&str>
 pub extern "C" fn ecow_proved_is_utf8(bytes: &[u8]) -> bool
     ensures { result ≡ is_utf8 bytes.now }
 {
-    spelled(bytes).is_some()
+    to_str(bytes).is_some()
 }
 
 /// Whether a character begins at `index` or the text ends there; not so at a null pointer.
@@ -103,10 +103,9 @@ pub extern "C" fn ecow_proved_text_push(pointer: &mut TextPointer, character: u3
     ensures text { AltersText (λ cs. cs ++ character ∷ [])
         pointer.old.value result pointer.new.value }
     ensures statuses { IsAmong (OK ∷ MEMORY ∷ CAPACITY ∷ UTF8 ∷ NULL ∷ []) result }
-    ensures utf8 { IsScalar character → result ≢ UTF8 }
-    ensures valid { result ≡ OK → IsScalar character }
-    ensures capacity { RefusesOnlyPast (λ text. utf8_len text.chars + len_utf8 character)
-        pointer.old.value result }
+    ensures utf8 { result ≡ UTF8 ↔ IsSomeAnd pointer.old.value (λ _. IsScalar character → ⊥) }
+    ensures capacity { result ≡ CAPACITY ↔ IsSomeAnd pointer.old.value (λ text.
+        IsScalar character × (MAX_LEN < utf8_len text.chars + len_utf8 character)) }
 {
     let text = some_or!(pointer.text(), NULL);
     let c = some_or!(char::from_u32(character), UTF8);
@@ -143,11 +142,12 @@ pub extern "C" fn ecow_proved_text_insert(
     ensures utf8 { result ≡ UTF8 ↔ IsSomeAnd pointer.old.value (λ _. is_utf8 added.now ≡ false) }
     ensures index { IfSome pointer.old.value
         (λ text. is_utf8 added.now ≡ true → Heeds (index_status text.chars index) result) }
-    ensures capacity { RefusesOnlyPast (λ text. utf8_len text.chars + length added.now)
-        pointer.old.value result }
+    ensures capacity { result ≡ CAPACITY ↔ IsSomeAnd pointer.old.value (λ text.
+        (is_utf8 added.now ≡ true) × (index_status text.chars index ≡ OK)
+        × (MAX_LEN < utf8_len text.chars + length added.now)) }
 {
     let text = some_or!(pointer.text(), NULL);
-    let added = some_or!(spelled(added), UTF8);
+    let added = some_or!(to_str(added), UTF8);
     let cut = cut_at(text, index);
     if cut != OK {
         return cut;
@@ -210,7 +210,7 @@ pub extern "C" fn ecow_proved_text_extend(pointer: &mut TextPointer, added: &[u8
         (is_utf8 added.now ≡ true) × (MAX_LEN < utf8_len text.chars + length added.now)) }
 {
     let text = some_or!(pointer.text(), NULL);
-    let added = some_or!(spelled(added), UTF8);
+    let added = some_or!(to_str(added), UTF8);
     status(text.push_str(added))
 }
 
@@ -230,12 +230,12 @@ pub extern "C" fn ecow_proved_text_splice(
     ensures utf8 { result ≡ UTF8 ↔ IsSomeAnd pointer.old.value (λ _. is_utf8 added.now ≡ false) }
     ensures index { IfSome pointer.old.value
         (λ text. is_utf8 added.now ≡ true → Heeds (range_status text.chars start end) result) }
-    ensures capacity { RefusesOnlyPast
-        (λ text. utf8_len text.chars - (end - start) + length added.now)
-        pointer.old.value result }
+    ensures capacity { result ≡ CAPACITY ↔ IsSomeAnd pointer.old.value (λ text.
+        (is_utf8 added.now ≡ true) × (range_status text.chars start end ≡ OK)
+        × (MAX_LEN < utf8_len text.chars - (end - start) + length added.now)) }
 {
     let text = some_or!(pointer.text(), NULL);
-    let added = some_or!(spelled(added), UTF8);
+    let added = some_or!(to_str(added), UTF8);
     if start > end {
         return INDEX;
     }
@@ -302,12 +302,13 @@ pub extern "C" fn ecow_proved_text_replace(
     ensures statuses { IsAmong (OK ∷ MEMORY ∷ CAPACITY ∷ UTF8 ∷ NULL ∷ []) result }
     ensures utf8 { result ≡ UTF8 ↔ IsSomeAnd pointer.old.value
         (λ _. is_utf8 pattern.now && is_utf8 replacement.now ≡ false) }
-    ensures capacity { RefusesOnlyPast
-        (λ text. utf8_len (replace_all (chars pattern.now) (chars replacement.now) text.chars))
-        pointer.old.value result }
+    ensures capacity { result ≡ CAPACITY ↔ IsSomeAnd pointer.old.value (λ text.
+        (is_utf8 pattern.now && is_utf8 replacement.now ≡ true)
+        × (MAX_LEN < utf8_len
+        (replace_all (chars pattern.now) (chars replacement.now) text.chars))) }
 {
     let text = some_or!(pointer.text(), NULL);
-    let pattern = some_or!(spelled(pattern), UTF8);
-    let replacement = some_or!(spelled(replacement), UTF8);
+    let pattern = some_or!(to_str(pattern), UTF8);
+    let replacement = some_or!(to_str(replacement), UTF8);
     put(text.replace(pattern, replacement), text)
 }

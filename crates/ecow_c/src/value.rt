@@ -11,7 +11,7 @@ use crate::pointer::{TextPointer, ValuePointer};
 use crate::status::{
     CAPACITY, INDEX, IntoStatus, KIND, MEMORY, NULL, OK, UTF8, ok_or_status, put, some_or, status,
 };
-use crate::text::spelled;
+use crate::text::to_str;
 use ecow_base::MAX_LEN;
 use ecow_nested::{Kind, Value};
 use ecow_vec::EcoVec;
@@ -184,7 +184,7 @@ pub extern "C" fn ecow_proved_value_get_field(
 {
     let value = some_or!(pointer.value(), NULL);
     let out = some_or!(out.value(), NULL);
-    let name = some_or!(spelled(name), UTF8);
+    let name = some_or!(to_str(name), UTF8);
     put(ok_or_status!(value.field(name)).clone(), out)
 }
 
@@ -212,7 +212,7 @@ pub extern "C" fn ecow_proved_value_set_field(
 {
     let value = some_or!(pointer.value(), NULL);
     let item = some_or!(item.value(), NULL);
-    let name = some_or!(spelled(name), UTF8);
+    let name = some_or!(to_str(name), UTF8);
     if value.fields().is_none() {
         return KIND;
     }
@@ -244,7 +244,7 @@ pub extern "C" fn ecow_proved_value_remove_field(
 {
     let value = some_or!(pointer.value(), NULL);
     let out = some_or!(out.value(), NULL);
-    let name = some_or!(spelled(name), UTF8);
+    let name = some_or!(to_str(name), UTF8);
     put(value.remove_field(name), out)
 }
 
