@@ -1,6 +1,7 @@
 # Prints a row for each call and each state of the rows of docs/COSTS.md: a row of several says the same of each.
 # A cell of several parts, "5; 1000", says another thing of each: of few elements and of 1000, or of the limits
-# that the state names. What bytes and texts cost of 1000 they cost at each limit.
+# that the state names. What bytes and texts cost of 1000 they cost at each limit. A row without calls is of those
+# in the row above.
 BEGIN { FS = " [|] "; others = split("0 1 3 23 255", other, " ") }
 
 function print_rows(state, part,    i, rest, cell) {
@@ -10,9 +11,9 @@ function print_rows(state, part,    i, rest, cell) {
 
 /^## / { is_small = /Bytes|Texts/ }
 
-/^[|] `/ {
+/^[|] [`|]/ {
     sub(/ [|]$/, "")
-    calls = split(substr($1, 4, length($1) - 4), call, "`, `")
+    if ($1 != "|") calls = split(substr($1, 4, length($1) - 4), call, "`, `")
     states = split($2, state, ", ")
     for (j = 1; j <= states; j++) {
         limits = 0
