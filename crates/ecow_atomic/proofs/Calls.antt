@@ -75,7 +75,8 @@ module _ {M : Type 1} {𝓤 : Ura M} (𝓛 : Logic 𝓤) (𝓜 : Model 𝓤 𝓛
       via 𝓤 (sep 𝓤 C (emp 𝓤)) (via 𝓤 C (via 𝓤 (c.pre y) (qed 𝓛 (raw X ∷ []) ∵
       use0 𝓛 (raw (fact 𝓤 (SeqCst ≡ SeqCst))) (fact_i 𝓤 (SeqCst ≡ SeqCst) (emp 𝓤) refl) $ join ! $
       use0 𝓛 (raw (fact 𝓤 ([] ⊑ []))) (fact_i 𝓤 ([] ⊑ []) (emp 𝓤) (⊑_static [])) $ join ! $
-      nothing ! $ use0 𝓛 (‵ (Order.the_row.own_val SeqCst (seq_cst ∷ []))) (order_made 𝓛) $ fjoin ! $ feq_i ! (List Val) (ptr_val p ∷ []) (ptr_val p ∷ []) refl $ fjoin ! $
+      nothing ! $ use0 𝓛 (‵ (Order.the_row.own_val SeqCst (seq_cst ∷ []))) (order_made 𝓛) $
+      fjoin ! $ feq_i ! (List Val) (ptr_val p ∷ []) (ptr_val p ∷ []) refl $ fjoin ! $
       nothing ! $ use0 𝓛 (‵ (flft [] full_share)) (𝓛.lfts.lft-nil full_share) $ join ! $ join ! $ done !)
       (theirs.met 𝓤 𝓛 𝓜 𝓡 w marker marker_laws g dict record {} y))
       (via 𝓤 _ (emp∗ 𝓤 C) (comm∗ 𝓤 (emp 𝓤) C)))

@@ -170,7 +170,8 @@ module _ {M : Type 1} {𝓤 : Ura M} (𝓛 : Logic 𝓤) where
         qed 𝓛 (‵ (rest 63 a n) ∷ ‵ (flent (a ∷ []) P) ∷ ‵ (part 63 a) ∷ []) ∵ assume ! (‵ (word b o w)) $
         let e : w ≡ n - 1 = omega arith in rewrite ! 0 (λ (m : ℕ). ‵ (word b o m)) e refl $ suffices ! _ (shuts_with I j ⟦ fewer n ⟧) $
         move ! (1 ∷ 3 ∷ []) $ use2 𝓛 (‵ (rest 63 a (n - 1))) (gives 63 𝓛 a n (omega arith)) $ move ! (1 ∷ []) $ fjoin3 ! $ use1 𝓛 (‵ I) (counted (n - 1)) $
-        by ! (via 𝓤 (⟦ I ⟧ ∗ emp 𝓤) (via 𝓤 _ (emp∗ 𝓤 ⟦ I ⟧) (comm∗ 𝓤 (emp 𝓤) ⟦ I ⟧)) (mono_r 𝓤 ⟦ I ⟧ {Q = emp 𝓤} {Q' = all 𝓤 (λ (_ : n ≡ 1). ⟦ ended_at 0 ⟧)} (record { apply = λ r h y. absurd (many y) })))
+        by ! (via 𝓤 (⟦ I ⟧ ∗ emp 𝓤) (via 𝓤 _ (emp∗ 𝓤 ⟦ I ⟧) (comm∗ 𝓤 (emp 𝓤) ⟦ I ⟧))
+        (mono_r 𝓤 ⟦ I ⟧ {Q = emp 𝓤} {Q' = all 𝓤 (λ (_ : n ≡ 1). ⟦ ended_at 0 ⟧)} (record { apply = λ r h y. absurd (many y) })))
 
     pub drops : A.inv I ∗ ⟦ part 63 a ⟧ ⊢ asks 𝓛 (block_ptr b o) (λ n. (n + (2 ^ 64 - 1)) % 2 ^ 64) always fewer
     drops = let f : ℕ → ℕ = λ n. (n + (2 ^ 64 - 1)) % 2 ^ 64 in opens_for I b o f fewer ⟦ part 63 a ⟧ (λ j.
@@ -185,7 +186,8 @@ module _ {M : Type 1} {𝓤 : Ura M} (𝓛 : Logic 𝓤) where
 
     on_left : (φ ψ : Type 0) (U Y : Pr) → (ψ → ⊥) → U ⊢ all 𝓤 (λ (_ : φ). U) ∗ all 𝓤 (λ (_ : ψ). Y)
     on_left φ ψ U Y not = via 𝓤 (U ∗ emp 𝓤) (via 𝓤 _ (emp∗ 𝓤 U) (comm∗ 𝓤 (emp 𝓤) U))
-        (mono∗ 𝓤 {P = U} {P' = all 𝓤 (λ (_ : φ). U)} {Q = emp 𝓤} {Q' = all 𝓤 (λ (_ : ψ). Y)} (record { apply = λ r h _. h }) (record { apply = λ r h y. absurd (not y) }))
+        (mono∗ 𝓤 {P = U} {P' = all 𝓤 (λ (_ : φ). U)} {Q = emp 𝓤} {Q' = all 𝓤 (λ (_ : ψ). Y)}
+        (record { apply = λ r h _. h }) (record { apply = λ r h y. absurd (not y) }))
 
     on_right : (φ ψ : Type 0) (U Y : Pr) → (φ → ⊥) → Y ⊢ all 𝓤 (λ (_ : φ). U) ∗ all 𝓤 (λ (_ : ψ). Y)
     on_right φ ψ U Y not = via 𝓤 _ (on_left ψ φ Y U not) (comm∗ 𝓤 (all 𝓤 (λ (_ : ψ). Y)) (all 𝓤 (λ (_ : φ). U)))

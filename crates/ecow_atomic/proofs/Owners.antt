@@ -53,27 +53,33 @@ module _ (E : El) where
   data_ty = lone Data.mir
 
   pub laid-Good : (p : Ptr) → Good data_ty (laid p)
-  laid-Good p = as_fields (lone (Tp E).mir ∷ lone (Mark E).mir ∷ lone (Mark E).mir ∷ lone (Mark E).mir ∷ lone heap.the_row.mir ∷ []) (word p ∷ mark ∷ mark ∷ mark ∷ heap_val ∷ [])
+  laid-Good p =
+      as_fields (lone (Tp E).mir ∷ lone (Mark E).mir ∷ lone (Mark E).mir ∷ lone (Mark E).mir ∷ lone heap.the_row.mir ∷ [])
+      (word p ∷ mark ∷ mark ∷ mark ∷ heap_val ∷ [])
       (word-Good [] p, ((tt, (tt, tt)), ((tt, (tt, tt)), ((tt, (tt, tt)), ((tt, ((tt, tt), tt)), tt)))))
 
 module _ (E : El) {M : Type 1} {𝓤 : Ura M} {𝓛 : Logic 𝓤} {K : Type 0} {Γ : List (Item 𝓤)} {G : Goal 𝓤 𝓛.H} where
   pub data_had : K → (s : (Si E).Denot) (vs : List Val) → (vs ≡ laid s.top.ptr ∷ [] → Seq K 𝓛 Γ G) → Seq K 𝓛 (‵ ((Data E).own_val (data_of E s) vs) ∷ Γ) G
   data_had t s vs k = fpick t (λ vss. fsplit t $ feq_l t (λ whole.
-      fsplit t $ top_had E t s.top vss.0 (λ e₀. fsplit t $ mark_had E t vss.1.0 (λ e₁. fsplit t $ mark_had E t vss.1.1.0 (λ e₂. fsplit t $ mark_had E t vss.1.1.1.0 (λ e₃.
-      fsplit t $ heap_had t s.alloc vss.1.1.1.1.0 (λ e₄. drop t $ k (whole ∙ (λ j. vstruct (of_list (e₀ j ++ (e₁ j ++ (e₂ j ++ (e₃ j ++ (e₄ j ++ [])))))) ∷ [])))))))))
+      fsplit t $ top_had E t s.top vss.0
+      (λ e₀. fsplit t $ mark_had E t vss.1.0 (λ e₁. fsplit t $ mark_had E t vss.1.1.0 (λ e₂. fsplit t $ mark_had E t vss.1.1.1.0 (λ e₃.
+      fsplit t $ heap_had t s.alloc vss.1.1.1.1.0
+      (λ e₄. drop t $ k (whole ∙ (λ j. vstruct (of_list (e₀ j ++ (e₁ j ++ (e₂ j ++ (e₃ j ++ (e₄ j ++ [])))))) ∷ [])))))))))
 
   pub data_made : K → (s : (Si E).Denot) → Step K 𝓛 (‵ ((Data E).own_val (data_of E s) (laid s.top.ptr ∷ [])) ∷ Γ) G Γ G
   data_made t s = step (λ k.
       let Plain : Shape = shape (SI.the_type (R E)) in let v : Val = laid s.top.ptr in
       nothing t $ heap_made t s.alloc $ fjoin t $ use0 𝓛 (‵ ((Mark E).own_val (tt, tt) (mark ∷ []))) (mark_made E 𝓛) $ fjoin t $
-      use0 𝓛 (‵ ((Mark E).own_val (tt, tt) (mark ∷ []))) (mark_made E 𝓛) $ fjoin t $ use0 𝓛 (‵ ((Mark E).own_val (tt, tt) (mark ∷ []))) (mark_made E 𝓛) $ fjoin t $
+      use0 𝓛 (‵ ((Mark E).own_val (tt, tt) (mark ∷ []))) (mark_made E 𝓛) $ fjoin t $
+      use0 𝓛 (‵ ((Mark E).own_val (tt, tt) (mark ∷ []))) (mark_made E 𝓛) $ fjoin t $
       top_made E t s.top.ptr $ fjoin t $ feq_i t (List Val) (v ∷ []) (v ∷ []) refl $ fjoin t $
       fpack t (Valss Plain.fields) (within Plain (data_of E s) (v ∷ [])) (word s.top.ptr ∷ [], (mark ∷ [], (mark ∷ [], (mark ∷ [], (heap_val ∷ [], tt))))) $ k)
 
 module _ (E : El) {M : Type 1} {𝓤 : Ura M} {𝓛 : Logic 𝓤} {K : Type 0} {Γ : List (Item 𝓤)} {G : Goal 𝓤 𝓛.H} where
   -- [what is owned beside the fields]
   pub owner_had : K → (d : (Sh E).Denot) (vs : List Val)
-      → ((s : (Si E).Denot) → contents s.inside.room.items s.inside.room.capacity ≡ d → IsOwner s.top s.alloc s.inside → vs ≡ laid s.top.ptr ∷ [] → Seq K 𝓛 (‵ (owner_owns (R E) s.inside) ∷ Γ) G)
+      → ((s : (Si E).Denot) → contents s.inside.room.items s.inside.room.capacity ≡ d → IsOwner s.top s.alloc s.inside
+      → vs ≡ laid s.top.ptr ∷ [] → Seq K 𝓛 (‵ (owner_owns (R E) s.inside) ∷ Γ) G)
       → Seq K 𝓛 (‵ ((Sh E).own_val d vs) ∷ Γ) G
   owner_had t d vs k = fpick t (λ x. fsplit t $ move t (1 ∷ []) $ drop t $ fsplit t $ data_had E t x.0 vs (λ e. k x.0 x.1.0 x.1.1 e))
 
@@ -81,10 +87,12 @@ module _ (E : El) {M : Type 1} {𝓤 : Ura M} {𝓛 : Logic 𝓤} {K : Type 0} {
       → Step K 𝓛 (‵ ((Sh E).own_val (contents s.inside.room.items s.inside.room.capacity) (laid s.top.ptr ∷ [])) ∷ Γ) G (‵ (owner_owns (R E) s.inside) ∷ Γ) G
   owner_made t s is = step (λ k. let d : (Sh E).Denot = contents s.inside.room.items s.inside.room.capacity in
       data_made E t s $ fjoin t $ nothing t $ move t (1 ∷ 0 ∷ []) $ fjoin t $
-      fpack t ((a : (Si E).Denot) × ((contents a.inside.room.items a.inside.room.capacity ≡ d) × IsOwner a.top a.alloc a.inside)) (λ x. fsep ((Si E).own_val x.0 (laid s.top.ptr ∷ [])) ftrue) (s, (refl, is)) $ k)
+      fpack t ((a : (Si E).Denot) × ((contents a.inside.room.items a.inside.room.capacity ≡ d) × IsOwner a.top a.alloc a.inside))
+      (λ x. fsep ((Si E).own_val x.0 (laid s.top.ptr ∷ [])) ftrue) (s, (refl, is)) $ k)
 
 -- what a `&` to an owner holds, and what it sees, is what a `&` to the block holds
-module _ (E : El) (s : (Si E).Denot) (is : IsOwner s.top s.alloc s.inside) (κ : Lft) (b o : ℕ) {M : Type 1} {𝓤 : Ura M} {𝓛 : Logic 𝓤} {K : Type 0} {Γ : List (Item 𝓤)} {G : Goal 𝓤 𝓛.H} where
+module _ (E : El) (s : (Si E).Denot) (is : IsOwner s.top s.alloc s.inside) (κ : Lft)
+    (b o : ℕ) {M : Type 1} {𝓤 : Ura M} {𝓛 : Logic 𝓤} {K : Type 0} {Γ : List (Item 𝓤)} {G : Goal 𝓤 𝓛.H} where
   pub block_seen : K → Step K 𝓛 (‵ (hidden_shr (Bk E) κ (contents s.inside.room.items s.inside.room.capacity) b o) ∷ Γ) G
       (‵ (hidden_shr (Data E) κ (data_of E s) b o) ∷ ‵ (seen (R E) s.inside κ) ∷ Γ) G
   block_seen t = step (λ k. let i = s.inside in let d : (Bk E).Denot = contents i.room.items i.room.capacity in
@@ -92,6 +100,8 @@ module _ (E : El) (s : (Si E).Denot) (is : IsOwner s.top s.alloc s.inside) (κ :
       -- [the fields of the head; the items; the owner's fields]
       move t (2 ∷ []) $ fsplit t $ fsplit t $ rewrite t 0 (λ (p : Ptr). ‵ (shared_of (top_type.the_field (R E)).row (p, tt) b (o + 0) κ)) (sym is.top_is) refl $
       move t (1 ∷ []) $ fsplit t $ move t (0 ∷ 5 ∷ []) $ fjoin t $ move t (1 ∷ []) $ fsplit t $ move t (0 ∷ 5 ∷ []) $ fjoin t $
-      move t (1 ∷ []) $ fsplit t $ nothing t $ move t (1 ∷ 0 ∷ []) $ fjoin t $ fjoin t $ move t (1 ∷ 0 ∷ []) $ fjoin t $ move t (1 ∷ 0 ∷ []) $ fjoin t $ move t (1 ∷ 0 ∷ []) $ fjoin t $ fjoin t $
+      move t (1 ∷ []) $ fsplit t $ nothing t $ move t (1 ∷ 0 ∷ []) $ fjoin t $ fjoin t $ move t (1 ∷ 0 ∷ []) $
+      fjoin t $ move t (1 ∷ 0 ∷ []) $ fjoin t $ move t (1 ∷ 0 ∷ []) $ fjoin t $ fjoin t $
       nothing t $ move t (1 ∷ 0 ∷ []) $ fjoin t $
-      fpack t ((a : (Bi E).Denot) × ((contents a.room.items a.room.capacity ≡ d) × IsBlock a)) (λ x. beside ((Bi E).shr_at x.0 b o) nothing_held κ) (i, (refl, is.is_block)) $ hide t $ k)
+      fpack t ((a : (Bi E).Denot) × ((contents a.room.items a.room.capacity ≡ d) × IsBlock a))
+      (λ x. beside ((Bi E).shr_at x.0 b o) nothing_held κ) (i, (refl, is.is_block)) $ hide t $ k)

@@ -24,7 +24,8 @@ module _ (R : RattleType) (L : Laws R) (i : Inside R.Denot) where
     sole_settles μ q inc =
         let p = head_at R i in let P = kept R i in
         qed 𝓛 (‵ (sole_owns R i) ∷ ‵ (flft μ q) ∷ []) ∵ fsplit ! $ in_a_block ! p (λ u. counter_at u 0 1) (id⊢ 𝓤 (never 𝓤)) (λ b o e. fsplit ! $ drop ! $
-        let at_p : fsep (word_at b (o + 0) 1) P ≡ fsep (word_at (block_of p) (count_of p + 0) 1) P = λ j. let u = sym e j in fsep (word_at (block_of u) (count_of u + 0) 1) P in
+        let at_p : fsep (word_at b (o + 0) 1) P ≡ fsep (word_at (block_of p) (count_of p + 0) 1) P =
+        λ j. let u = sym e j in fsep (word_at (block_of u) (count_of u + 0) 1) P in
         fjoin ! $ rewrite ! 0 (λ (F : Fml). ‵ F) at_p refl $
         by ! (counted P (block_of p) (count_of p + 0) (seen R i) (seen_shr_laws R L i) 𝓛 l (Lends-kept R L i 𝓛 l within) μ q inc))
 

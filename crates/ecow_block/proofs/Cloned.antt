@@ -11,7 +11,8 @@ side_by_side R (x ∷ xs) [] ys ys' h k = absurd h
 side_by_side R (x ∷ xs) (x' ∷ xs') ys ys' h k = (h.0, side_by_side R xs xs' ys ys' h.1 k)
 
 module _ {T : Type 0} (R : T → T → Type 0) (old : List T) where
-  pub one_more : (xs more now new : List T) (x y : T) → AppendsClones R old xs now → more ≡ xs ++ x ∷ [] → R x y → new ≡ now ++ y ∷ [] → AppendsClones R old more new
+  pub one_more : (xs more now new : List T) (x y : T) → AppendsClones R old xs now
+      → more ≡ xs ++ x ∷ [] → R x y → new ≡ now ++ y ∷ [] → AppendsClones R old more new
   one_more xs more now new x y h e r f = record {
     copies = h.copies ++ y ∷ [];
     items = f ∙ ap (λ l. l ++ y ∷ []) h.items ∙ append_assoc old h.copies (y ∷ []);

@@ -56,11 +56,14 @@ abbrev pub three_val : Val → Val → Val → Val
 three_val u v w = vstruct (vcons u (vcons v (vcons w vnil)))
 
 pub three_of : {M : Type 1} {𝓤 : Ura M} (𝓛 : Logic 𝓤) (R S T : RattleType) (x : R.Denot) (y : S.Denot) (z : T.Denot) (u v w : Val)
-    → ent 𝓤 (sep 𝓤 (sem 𝓛 (R.own_val x (u ∷ []))) (sep 𝓤 (sem 𝓛 (S.own_val y (v ∷ []))) (sem 𝓛 (T.own_val z (w ∷ []))))) (sem 𝓛 ((Tuple (R ∷ S ∷ T ∷ [])).own_val (x, y, z) (three_val u v w ∷ [])))
+    → ent 𝓤 (sep 𝓤 (sem 𝓛 (R.own_val x (u ∷ []))) (sep 𝓤 (sem 𝓛 (S.own_val y (v ∷ []))) (sem 𝓛 (T.own_val z (w ∷ [])))))
+    (sem 𝓛 ((Tuple (R ∷ S ∷ T ∷ [])).own_val (x, y, z) (three_val u v w ∷ [])))
 three_of 𝓛 R S T x y z u v w =
-    qed 𝓛 (‵ (R.own_val x (u ∷ [])) ∷ ‵ (S.own_val y (v ∷ [])) ∷ ‵ (T.own_val z (w ∷ [])) ∷ []) ∵ nothing ! $ move ! (3 ∷ 0 ∷ []) $ fjoin ! $ move ! (2 ∷ 0 ∷ []) $ fjoin ! $ move ! (1 ∷ 0 ∷ []) $ fjoin ! $
+    qed 𝓛 (‵ (R.own_val x (u ∷ [])) ∷ ‵ (S.own_val y (v ∷ [])) ∷ ‵ (T.own_val z (w ∷ [])) ∷ []) ∵ nothing ! $
+    move ! (3 ∷ 0 ∷ []) $ fjoin ! $ move ! (2 ∷ 0 ∷ []) $ fjoin ! $ move ! (1 ∷ 0 ∷ []) $ fjoin ! $
     feq_i ! (List Val) (three_val u v w ∷ []) (three_val u v w ∷ []) refl $ fjoin ! $
-    fpack ! (Valss (R ∷ S ∷ T ∷ [])) (within (Declared.shape (tuple_type (R ∷ S ∷ T ∷ []))) (x, (y, (z, tt))) (three_val u v w ∷ [])) (u ∷ [], (v ∷ [], (w ∷ [], tt))) $ done !
+    fpack ! (Valss (R ∷ S ∷ T ∷ [])) (within (Declared.shape (tuple_type (R ∷ S ∷ T ∷ []))) (x, (y, (z, tt))) (three_val u v w ∷ []))
+    (u ∷ [], (v ∷ [], (w ∷ [], tt))) $ done !
 
 module _ (E : El) {M : Type 1} {𝓤 : Ura M} {𝓛 : Logic 𝓤} {K : Type 0} {Γ : List (Item 𝓤)} {G : Goal 𝓤 𝓛.H} where
   pub base_made : K → (p : Ptr) → Step K 𝓛 (‵ ((Bs E).own_val (record { ptr = p }) (word p ∷ [])) ∷ Γ) G Γ G
@@ -78,7 +81,8 @@ module _ (E : El) (Z : Al) where
   Right a p c = deed_owns (token Z a) (R E) p c
 
 module _ (E : El) (Z : Al) {M : Type 1} {𝓤 : Ura M} {𝓛 : Logic 𝓤} {K : Type 0} {Γ : List (Item 𝓤)} {G : Goal 𝓤 𝓛.H} where
-  pub deed_had : K → (d : (Dd E Z).Denot) (vs : List Val) → (vs ≡ mark ∷ [] → Seq K 𝓛 (‵ (Right E Z d.alloc d.at d.capacity) ∷ Γ) G) → Seq K 𝓛 (‵ ((Dd E Z).own_val d vs) ∷ Γ) G
+  pub deed_had : K → (d : (Dd E Z).Denot) (vs : List Val) → (vs ≡ mark ∷ [] → Seq K 𝓛 (‵ (Right E Z d.alloc d.at d.capacity) ∷ Γ) G)
+      → Seq K 𝓛 (‵ ((Dd E Z).own_val d vs) ∷ Γ) G
   deed_had t d vs k = fsplit t $ mark_had E t vs k
 
   pub deed_made : K → (d : (Dd E Z).Denot) → Step K 𝓛 (‵ ((Dd E Z).own_val d (mark ∷ [])) ∷ Γ) G (‵ (Right E Z d.alloc d.at d.capacity) ∷ Γ) G
@@ -95,7 +99,8 @@ module _ (E : El) {M : Type 1} {𝓤 : Ura M} {𝓛 : Logic 𝓤} {K : Type 0} {
   pub all_fresh : K → Step K 𝓛 (‵ (held_of E (fresh E b o c) b o) ∷ ‵ (spare_of E (fresh E b o c) b o) ∷ Γ) G (‵ (Spare E b o c) ∷ Γ) G
   all_fresh t = step (λ s.
       let s₁ = sz E in let none = zero-mul s₁ in let here : o ≡ o + 0 * s₁ + 0 * s₁ = omega arith in let all : c ≡ c - 0 = omega arith in
-      rewrite t 0 (λ (k : ℕ). ‵ (Spare E b k c)) here refl $ rewrite t 0 (λ (k : ℕ). ‵ (Spare E b (o + 0 * s₁ + 0 * s₁) k)) all refl $ use0 𝓛 (‵ (Held E b (o + 0 * s₁) [])) (none_held E 𝓛 b (o + 0 * s₁)) $ s)
+      rewrite t 0 (λ (k : ℕ). ‵ (Spare E b k c)) here refl $ rewrite t 0 (λ (k : ℕ). ‵ (Spare E b (o + 0 * s₁ + 0 * s₁) k)) all refl $
+      use0 𝓛 (‵ (Held E b (o + 0 * s₁) [])) (none_held E 𝓛 b (o + 0 * s₁)) $ s)
 
 pub fresh_small : (E : El) (b o c : ℕ) → c * sz E < 2 ^ 63 → Small E (fresh E b o c)
 fresh_small E b o c h = let all : c ≡ 0 + c = omega arith in subst (λ (k : ℕ). k * sz E < 2 ^ 63) all h
@@ -105,20 +110,24 @@ pub no_bytes_room : (E : El) {M : Type 1} {𝓤 : Ura M} (𝓛 : Logic 𝓤) (b 
 no_bytes_room E {𝓤 = 𝓤} 𝓛 b o c none =
     let none_at_all : ty_array_size E c ≡ ty_array_size E 0 = none ∙ sym (zero-mul (sz E)) in
     qed 𝓛 [] ∵ use0 𝓛 (‵ (froom (ty_array (elτ E) 0) b o)) (𝓛.laws.room_nil (elτ E) b o) $
-    use1 𝓛 (‵ (froom (ty_array (elτ E) c) b o) ⊛ raw (wand 𝓤 (𝓛.H.room (ty_array (elτ E) c) b o) (𝓛.H.room (ty_array (elτ E) 0) b o))) (𝓛.laws.room_as (ty_array (elτ E) 0) (ty_array (elτ E) c) b o none_at_all (dv_self (align (elτ E)))) $
+    use1 𝓛 (‵ (froom (ty_array (elτ E) c) b o) ⊛ raw (wand 𝓤 (𝓛.H.room (ty_array (elτ E) c) b o) (𝓛.H.room (ty_array (elτ E) 0) b o)))
+    (𝓛.laws.room_as (ty_array (elτ E) 0) (ty_array (elτ E) c) b o none_at_all (dv_self (align (elτ E)))) $
     split ! $ as_raw ! (ty_array (elτ E) c) b o $ keep ! (0 ∷ []) $ done !
 
 module _ (E : El) (Z : Al) {M : Type 1} {𝓤 : Ura M} {𝓛 : Logic 𝓤} {K : Type 0} {Γ : List (Item 𝓤)} {G : Goal 𝓤 𝓛.H} where
   -- a `&mut` to a deed is opened: [the right to give back; the mark's cell; the open borrow; obs; auth]; and it is closed
   pub deed_opens : K → Soaks G → {κ : Lft} {q : Share} {γ : GName} (d : (Dd E Z).Denot) (rb ro : ℕ)
-      → Step K 𝓛 (‵ (Right E Z d.alloc d.at d.capacity) ∷ ‵ (cell_at full_share (Dd E Z).mir (mark ∷ []) rb ro) ∷ ‵ (fobor κ q (Body (mem (Dd E Z)) rb ro γ)) ∷ ‵ (fobs γ ((Dd E Z).coded.code d)) ∷ ‵ (fauth γ ((Dd E Z).coded.code d)) ∷ Γ) G
+      → Step K 𝓛 (‵ (Right E Z d.alloc d.at d.capacity) ∷ ‵ (cell_at full_share (Dd E Z).mir (mark ∷ []) rb ro)
+      ∷ ‵ (fobor κ q (Body (mem (Dd E Z)) rb ro γ)) ∷ ‵ (fobs γ ((Dd E Z).coded.code d)) ∷ ‵ (fauth γ ((Dd E Z).coded.code d)) ∷ Γ) G
       (‵ (fobs γ ((Dd E Z).coded.code d)) ∷ ‵ (fbor κ (Body (mem (Dd E Z)) rb ro γ)) ∷ ‵ (flft κ q) ∷ Γ) G
   deed_opens t z d rb ro = step (λ k.
-      opens t z (Dd E Z) {h = d} rb ro (λ vs. move t (1 ∷ []) $ deed_had E Z t d vs (λ is. rewrite t 1 (λ (ws : List Val). ‵ (cell_at full_share (Dd E Z).mir ws rb ro)) is refl $ k)))
+      opens t z (Dd E Z) {h = d} rb ro (λ vs. move t (1 ∷ []) $
+      deed_had E Z t d vs (λ is. rewrite t 1 (λ (ws : List Val). ‵ (cell_at full_share (Dd E Z).mir ws rb ro)) is refl $ k)))
 
   pub deed_closes : K → Soaks G → {κ : Lft} {q : Share} {u v : Gv} {γ : GName} (d : (Dd E Z).Denot) (rb ro : ℕ)
       → Step K 𝓛 (‵ (fobs γ ((Dd E Z).coded.code d)) ∷ ‵ (fbor κ (Body (mem (Dd E Z)) rb ro γ)) ∷ ‵ (flft κ q) ∷ Γ) G
-      (‵ (Right E Z d.alloc d.at d.capacity) ∷ ‵ (cell_at full_share (Dd E Z).mir (mark ∷ []) rb ro) ∷ ‵ (fobor κ q (Body (mem (Dd E Z)) rb ro γ)) ∷ ‵ (fobs γ u) ∷ ‵ (fauth γ v) ∷ Γ) G
+      (‵ (Right E Z d.alloc d.at d.capacity) ∷ ‵ (cell_at full_share (Dd E Z).mir (mark ∷ []) rb ro)
+      ∷ ‵ (fobor κ q (Body (mem (Dd E Z)) rb ro γ)) ∷ ‵ (fobs γ u) ∷ ‵ (fauth γ v) ∷ Γ) G
   deed_closes t z d rb ro = step (λ s. deed_made E Z t d $ move t (1 ∷ 0 ∷ []) $ closes t z (Dd E Z) d (mark ∷ []) rb ro $ s)
 
 pub some_bytes : (n m s : ℕ) → n ≤ m → not (eqb (n * s) 0) ≡ true → not (eqb (m * s) 0) ≡ true
@@ -133,17 +142,21 @@ some_bytes n m s le e = by (eqb (m * s) 0) refl
 
 -- a room that is a whole block, with its deed, is what an allocator calls a block with items
 module _ (E : El) (Z : Al) {M : Type 1} {𝓤 : Ura M} (𝓛 : Logic 𝓤) (r : room_d E) (d : (Dd E Z).Denot) (a : Z.row.Denot) (b o len c : ℕ)
-    (begins : r.start ≡ 0) (long : len ≡ length r.items) (many : c ≡ r.capacity) (by : d.alloc ≡ a) (at : d.at ≡ block_ptr b o) (same : d.capacity ≡ r.capacity) (bytes : has_bytes (R E) c ≡ true) where
+    (begins : r.start ≡ 0) (long : len ≡ length r.items) (many : c ≡ r.capacity) (by : d.alloc ≡ a)
+    (at : d.at ≡ block_ptr b o) (same : d.capacity ≡ r.capacity) (bytes : has_bytes (R E) c ≡ true) where
   here : o + r.start * sz E ≡ o
   here = let e = ap (λ k. k * sz E) begins in let none = zero-mul (sz E) in omega arith
 
-  pub to_block : ent 𝓤 (sep 𝓤 (sem 𝓛 (held_of E r b o)) (sep 𝓤 (sem 𝓛 (spare_of E r b o)) (sem 𝓛 (Right E Z d.alloc d.at d.capacity)))) (sem 𝓛 (block_with_items (token Z a) (R E) (block_ptr b o) len c r.items))
+  pub to_block : ent 𝓤 (sep 𝓤 (sem 𝓛 (held_of E r b o)) (sep 𝓤 (sem 𝓛 (spare_of E r b o)) (sem 𝓛 (Right E Z d.alloc d.at d.capacity))))
+      (sem 𝓛 (block_with_items (token Z a) (R E) (block_ptr b o) len c r.items))
   to_block = qed 𝓛 (‵ (held_of E r b o) ∷ ‵ (spare_of E r b o) ∷ ‵ (Right E Z d.alloc d.at d.capacity) ∷ []) ∵
-      rewrite ! 2 (λ (w : Z.row.Denot × Ptr × ℕ). ‵ (Right E Z w.0 w.1 w.2)) (λ i. (by i, at i, (same ∙ sym many) i)) refl $ rewrite ! 2 (λ (w : Bool). ‵ (owns_if w (token Z a (block_ty E c) (block_ptr b o)))) bytes refl $
+      rewrite ! 2 (λ (w : Z.row.Denot × Ptr × ℕ). ‵ (Right E Z w.0 w.1 w.2)) (λ i. (by i, at i, (same ∙ sym many) i)) refl $
+      rewrite ! 2 (λ (w : Bool). ‵ (owns_if w (token Z a (block_ty E c) (block_ptr b o)))) bytes refl $
       rewrite ! 0 (λ (k : ℕ). ‵ (Held E b k r.items)) here refl $ rewrite ! 0 (λ (k : ℕ). ‵ (part_at (Array (R E) k) full_share r.items b o)) (sym long) refl $
       rewrite ! 1 (λ (w : ℕ × ℕ × ℕ). ‵ (Spare E b (w.0 + w.1 * sz E) (w.2 - w.1))) (λ i. (here i, sym long i, sym many i)) refl $ fjoin3 ! $ done !
 
-  pub of_block : ent 𝓤 (sem 𝓛 (block_with_items (token Z a) (R E) (block_ptr b o) len c r.items)) (sep 𝓤 (sem 𝓛 (held_of E r b o)) (sep 𝓤 (sem 𝓛 (spare_of E r b o)) (sem 𝓛 (Right E Z d.alloc d.at d.capacity))))
+  pub of_block : ent 𝓤 (sem 𝓛 (block_with_items (token Z a) (R E) (block_ptr b o) len c r.items))
+      (sep 𝓤 (sem 𝓛 (held_of E r b o)) (sep 𝓤 (sem 𝓛 (spare_of E r b o)) (sem 𝓛 (Right E Z d.alloc d.at d.capacity))))
   of_block = qed 𝓛 (‵ (block_with_items (token Z a) (R E) (block_ptr b o) len c r.items) ∷ []) ∵ fsplit3 ! $
       rewrite ! 2 (λ (w : Bool). ‵ (owns_if w (token Z a (block_ty E c) (block_ptr b o)))) (sym bytes) refl $
       rewrite ! 2 (λ (w : Z.row.Denot × Ptr × ℕ). ‵ (Right E Z w.0 w.1 w.2)) (λ i. (sym by i, sym at i, (many ∙ sym same) i)) refl $

@@ -122,7 +122,8 @@ module _ (E : El) {M : Type 1} {𝓤 : Ura M} {𝓛 : Logic 𝓤} {K : Type 0} {
   pub whole_out : K → Step K 𝓛 (‵ (count_room b (o + 0)) ∷ ‵ (fields_room E b (o + 8)) ∷ ‵ (Spare E b (o + 32) c) ∷ ‵ (Rejoins E 𝓛 b o c) ∷ Γ) G
       (‵ (froom (whole_ty E c) b o) ∷ Γ) G
   whole_out t = step (λ s. let arr : Ty = bare (ty_array (elτ E) c) in
-      use1 𝓛 ((‵ (count_room b (o + 0)) ⊛ ‵ (fields_room E b (o + 8)) ⊛ ‵ (froom arr b (o + up (align arr) 32)) ⊛ ‵ ftrue) ⊛ raw (Joins E 𝓛 b o c)) (𝓛.laws.room_fields [] (parts E c) b o) $
+      use1 𝓛 ((‵ (count_room b (o + 0)) ⊛ ‵ (fields_room E b (o + 8)) ⊛ ‵ (froom arr b (o + up (align arr) 32)) ⊛ ‵ ftrue)
+      ⊛ raw (Joins E 𝓛 b o c)) (𝓛.laws.room_fields [] (parts E c) b o) $
       split t $ split3 t $ move t (2 ∷ []) $ split t $ move t (1 ∷ []) $ drop t $
       rewrite t 0 (λ (k : ℕ). ‵ (Spare E b k c)) (there E 𝓛 b o c ∙ behind E 𝓛 b o c) refl $
       move t (3 ∷ []) $ use1 𝓛 (‵ (Rejoins E 𝓛 b o c)) (rejoins E 𝓛 b o c) $ move t (2 ∷ 3 ∷ 1 ∷ 0 ∷ []) $ s)
@@ -145,11 +146,13 @@ module _ (E : El) {M : Type 1} {𝓤 : Ura M} {𝓛 : Logic 𝓤} {K : Type 0} {
 
 module _ (E : El) {M : Type 1} {𝓤 : Ura M} {𝓛 : Logic 𝓤} {K : Type 0} {Γ : List (Item 𝓤)} {G : Goal 𝓤 𝓛.H} where
   pub fields_made : K → (p : Ptr) (n c b o : ℕ) → n < 2 ^ 64 → c < 2 ^ 64
-      → Step K 𝓛 (‵ (Shown E b o (record { base = record { ptr = p }; len = n; capacity = c })) ∷ Γ) G (‵ (fat full_share (written E) b (o + 8) (fields_val E p n c)) ∷ Γ) G
+      → Step K 𝓛 (‵ (Shown E b o (record { base = record { ptr = p }; len = n; capacity = c })) ∷ Γ) G
+      (‵ (fat full_share (written E) b (o + 8) (fields_val E p n c)) ∷ Γ) G
   unfolding part_of
   fields_made t p n c b o fn fc = step (λ s. let x : (Fl E).Denot = record { base = record { ptr = p }; len = n; capacity = c } in
       use1 𝓛 (‵ (fat full_share (bare (written E)) b (o + 8) (fields_val E p n c))) (𝓛.laws.at_raw full_share (written E) b (o + 8) (fields_val E p n c)) $
-      fields_own E t p n c fn fc $ move t (1 ∷ 0 ∷ []) $ fjoin t $ fpack t (List Val) (λ vs. fsep (cell_at full_share (Fl E).mir vs b (o + 8)) ((Fl E).own_val x vs)) (fields_val E p n c ∷ []) $ s)
+      fields_own E t p n c fn fc $ move t (1 ∷ 0 ∷ []) $ fjoin t $
+      fpack t (List Val) (λ vs. fsep (cell_at full_share (Fl E).mir vs b (o + 8)) ((Fl E).own_val x vs)) (fields_val E p n c ∷ []) $ s)
 
   pub fields_gone : K → (b o : ℕ) (x : (Fl E).Denot) → Step K 𝓛 (‵ (fields_room E b (o + 8)) ∷ Γ) G (‵ (Shown E b o x) ∷ Γ) G
   unfolding part_of
@@ -163,7 +166,8 @@ module _ (E : El) (Z : Al) {M : Type 1} {𝓤 : Ura M} {𝓛 : Logic 𝓤} {K : 
   -- [the count; the fields; the right to the memory; the way back]
   pub title_had : K → (d : (Tt E Z).Denot) (vs : List Val) → InBlock d.at
       → ((b o : ℕ) → d.at ≡ block_ptr b o → vs ≡ mark ∷ []
-      → Seq K 𝓛 (‵ (cell b (o + 0) 1) ∷ ‵ (Shown E b o d.fields) ∷ ‵ (token Z d.alloc (whole_ty E d.places) (block_ptr b o)) ∷ ‵ (Rejoins E 𝓛 b o d.places) ∷ Γ) G)
+      → Seq K 𝓛 (‵ (cell b (o + 0) 1) ∷ ‵ (Shown E b o d.fields)
+      ∷ ‵ (token Z d.alloc (whole_ty E d.places) (block_ptr b o)) ∷ ‵ (Rejoins E 𝓛 b o d.places) ∷ Γ) G)
       → Seq K 𝓛 (‵ ((Tt E Z).own_val d vs) ∷ Γ) G
   title_had t d vs there k = fsplit t $ mark_had E t vs (λ is.
       rewrite t 0 (λ (p : Ptr). ‵ (Owned E Z d p)) (at_block d.at there) refl $ fsplit t $ fsplit3 t $
@@ -178,7 +182,10 @@ module _ (E : El) (Z : Al) {M : Type 1} {𝓤 : Ura M} {𝓛 : Logic 𝓤} {K : 
 
 module _ (E : El) {M : Type 1} {𝓤 : Ura M} {𝓛 : Logic 𝓤} {K : Type 0} {Γ : List (Item 𝓤)} {G : Goal 𝓤 𝓛.H} where
   pub top_had : K → (top : (Tp E).Denot) (vs : List Val) → (vs ≡ word top.ptr ∷ [] → Seq K 𝓛 Γ G) → Seq K 𝓛 (‵ ((Tp E).own_val top vs) ∷ Γ) G
-  top_had t top vs k = fpick t (λ vss. fsplit t $ feq_l t (λ whole. fsplit t $ feq_l t (λ field. drop t $ k (subst (λ (ws : List Val). vs ≡ vstruct (of_list (ws ++ [])) ∷ []) field whole))))
+  top_had t top vs k =
+      fpick t (λ vss. fsplit t $
+      feq_l t (λ whole. fsplit t $
+      feq_l t (λ field. drop t $ k (subst (λ (ws : List Val). vs ≡ vstruct (of_list (ws ++ [])) ∷ []) field whole))))
 
   pub top_made : K → (p : Ptr) → Step K 𝓛 (‵ ((Tp E).own_val (record { ptr = p }) (word p ∷ [])) ∷ Γ) G Γ G
   top_made t p = step (λ s.

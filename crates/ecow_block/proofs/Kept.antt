@@ -54,8 +54,10 @@ module _ {M : Type 1} {𝓤 : Ura M} {𝓛 : Logic 𝓤} {K : Type 0} {Γ : List
   pub heap_made : K → (h : heap.the_row.Denot) → Step K 𝓛 (‵ (heap.the_row.own_val h (heap_val ∷ [])) ∷ Γ) G Γ G
   heap_made t h = step (λ s.
       let Plain = Declared.shape heap.the_type in let Inner = Declared.shape memory.the_type in
-      nothing t $ nothing t $ feq_i t (List Val) (vunit ∷ []) (vunit ∷ []) refl $ fjoin t $ feq_i t (List Val) (memory_val ∷ []) (memory_val ∷ []) refl $ fjoin t $
-      fpack t (Valss Inner.fields) (within Inner (tt, tt) (memory_val ∷ [])) (vunit ∷ [], tt) $ fjoin t $ feq_i t (List Val) (heap_val ∷ []) (heap_val ∷ []) refl $ fjoin t $
+      nothing t $ nothing t $ feq_i t (List Val) (vunit ∷ []) (vunit ∷ []) refl $ fjoin t $
+      feq_i t (List Val) (memory_val ∷ []) (memory_val ∷ []) refl $ fjoin t $
+      fpack t (Valss Inner.fields) (within Inner (tt, tt) (memory_val ∷ [])) (vunit ∷ [], tt) $
+      fjoin t $ feq_i t (List Val) (heap_val ∷ []) (heap_val ∷ []) refl $ fjoin t $
       fpack t (Valss Plain.fields) (within Plain ((tt, tt), tt) (heap_val ∷ [])) (memory_val ∷ [], tt) $ s)
 
 -- the machine value of a block at p, and of its owners
@@ -88,27 +90,33 @@ module _ (E : El) (i : (Bi E).Denot) where
 
 module _ (E : El) {M : Type 1} {𝓤 : Ura M} {𝓛 : Logic 𝓤} {K : Type 0} {Γ : List (Item 𝓤)} {G : Goal 𝓤 𝓛.H} where
   pub block_had : K → (d : (Bk E).Denot) (vs : List Val)
-      → ((i : (Bi E).Denot) → contents i.room.items i.room.capacity ≡ d → IsBlock i → vs ≡ laid i.top.ptr ∷ [] → Seq K 𝓛 (‵ (deeded E i) ∷ ‵ (titled E i) ∷ ‵ (roomed E i) ∷ Γ) G)
+      → ((i : (Bi E).Denot) → contents i.room.items i.room.capacity ≡ d → IsBlock i → vs ≡ laid i.top.ptr ∷ []
+      → Seq K 𝓛 (‵ (deeded E i) ∷ ‵ (titled E i) ∷ ‵ (roomed E i) ∷ Γ) G)
       → Seq K 𝓛 (‵ ((Bk E).own_val d vs) ∷ Γ) G
   block_had t d vs k = fpick t (λ x. fsplit t $ move t (1 ∷ []) $ drop t $ let i = x.0 in fpick t (λ vss. fsplit t $ feq_l t (λ whole.
-      fsplit t $ top_had E t i.top vss.0 (λ e₀. fsplit t $ fsplit t $ mark_had E t vss.1.0 (λ e₁. move t (1 ∷ []) $ fsplit t $ fsplit t $ mark_had E t vss.1.1.0 (λ e₂. move t (1 ∷ []) $
+      fsplit t $ top_had E t i.top vss.0 (λ e₀. fsplit t $ fsplit t $
+      mark_had E t vss.1.0 (λ e₁. move t (1 ∷ []) $ fsplit t $ fsplit t $ mark_had E t vss.1.1.0 (λ e₂. move t (1 ∷ []) $
       fsplit t $ fsplit t $ mark_had E t vss.1.1.1.0 (λ e₃. move t (1 ∷ []) $ fsplit t $ heap_had t i.alloc vss.1.1.1.1.0 (λ e₄. drop t $
       k i x.1.0 x.1.1 (whole ∙ (λ j. vstruct (of_list (e₀ j ++ (e₁ j ++ (e₂ j ++ (e₃ j ++ (e₄ j ++ [])))))) ∷ []))))))))))
 
   pub block_made : K → (i : (Bi E).Denot) → IsBlock i
-      → Step K 𝓛 (‵ ((Bk E).own_val (contents i.room.items i.room.capacity) (laid i.top.ptr ∷ [])) ∷ Γ) G (‵ (deeded E i) ∷ ‵ (titled E i) ∷ ‵ (roomed E i) ∷ Γ) G
+      → Step K 𝓛 (‵ ((Bk E).own_val (contents i.room.items i.room.capacity) (laid i.top.ptr ∷ [])) ∷ Γ) G
+      (‵ (deeded E i) ∷ ‵ (titled E i) ∷ ‵ (roomed E i) ∷ Γ) G
   block_made t i is = step (λ k.
       let Plain : Shape = Declared.shape (BI.the_type (R E)) in let v : Val = laid i.top.ptr in let d : (Bk E).Denot = contents i.room.items i.room.capacity in
       nothing t $ heap_made t i.alloc $ fjoin t $ move t (1 ∷ []) $ use0 𝓛 (‵ ((Mark E).own_val (tt, tt) (mark ∷ []))) (mark_made E 𝓛) $ fjoin t $ fjoin t $
       move t (1 ∷ []) $ use0 𝓛 (‵ ((Mark E).own_val (tt, tt) (mark ∷ []))) (mark_made E 𝓛) $ fjoin t $ fjoin t $
       move t (1 ∷ []) $ use0 𝓛 (‵ ((Mark E).own_val (tt, tt) (mark ∷ []))) (mark_made E 𝓛) $ fjoin t $ fjoin t $
       top_made E t i.top.ptr $ fjoin t $ feq_i t (List Val) (v ∷ []) (v ∷ []) refl $ fjoin t $
-      fpack t (Valss Plain.fields) (within Plain ((i.top.ptr, tt), (i.room, (i.title, (i.deed, (((tt, tt), tt), tt))))) (v ∷ [])) (word i.top.ptr ∷ [], (mark ∷ [], (mark ∷ [], (mark ∷ [], (heap_val ∷ [], tt))))) $
+      fpack t (Valss Plain.fields) (within Plain ((i.top.ptr, tt), (i.room, (i.title, (i.deed, (((tt, tt), tt), tt))))) (v ∷ []))
+      (word i.top.ptr ∷ [], (mark ∷ [], (mark ∷ [], (mark ∷ [], (heap_val ∷ [], tt))))) $
       nothing t $ move t (1 ∷ 0 ∷ []) $ fjoin t $
-      fpack t ((a : (Bi E).Denot) × ((contents a.room.items a.room.capacity ≡ d) × IsBlock a)) (λ x. fsep ((Bi E).own_val x.0 (v ∷ [])) ftrue) (i, (refl, is)) $ k)
+      fpack t ((a : (Bi E).Denot) × ((contents a.room.items a.room.capacity ≡ d) × IsBlock a))
+      (λ x. fsep ((Bi E).own_val x.0 (v ∷ [])) ftrue) (i, (refl, is)) $ k)
 
 -- a block with a head is what a sole owner has
-module _ (E : El) (i : (Bi E).Denot) (is : IsBlock i) (b o : ℕ) (at_b : i.top.ptr ≡ block_ptr b o) {M : Type 1} {𝓤 : Ura M} {𝓛 : Logic 𝓤} {K : Type 0} {Γ : List (Item 𝓤)} {G : Goal 𝓤 𝓛.H} where
+module _ (E : El) (i : (Bi E).Denot) (is : IsBlock i) (b o : ℕ)
+    (at_b : i.top.ptr ≡ block_ptr b o) {M : Type 1} {𝓤 : Ura M} {𝓛 : Logic 𝓤} {K : Type 0} {Γ : List (Item 𝓤)} {G : Goal 𝓤 𝓛.H} where
   pub to_sole : K → Step K 𝓛 (‵ (sole_owns (R E) i) ∷ Γ) G (‵ (deeded E i) ∷ ‵ (titled E i) ∷ ‵ (roomed E i) ∷ Γ) G
   to_sole t = step (λ s.
       rewrite t 1 (λ (p : Ptr). ‵ (title_at E i p)) (is.head.at ∙ at_b) refl $ move t (1 ∷ []) $ fsplit t $

@@ -47,16 +47,19 @@ module _ (R : RattleType) (L : Laws R) where
 
   module _ {M : Type 1} {𝓤 : Ura M} (𝓛 : Logic 𝓤) (l : Lft) (within : Incl l R.lives) where
     Lends-fields : (p : Ptr) (x : (fields_row R).Denot) → Lends 𝓛 (lies_at (fields_row R) full_share p x) (lent_at (fields_row R) p x) l
-    Lends-fields p x = Lends-lies 𝓛 (fields_row R) l p x (Shares-less 𝓛 (fields_row R) (fields_row R).lives l (laws.the_within R l within) (fields_laws.shares 𝓛) x)
+    Lends-fields p x =
+        Lends-lies 𝓛 (fields_row R) l p x (Shares-less 𝓛 (fields_row R) (fields_row R).lives l (laws.the_within R l within) (fields_laws.shares 𝓛) x)
 
     module _ (token : Ty → Ptr → Fml) where
       pub Lends-rest : (p : Ptr) (x : (fields_row R).Denot) (c : ℕ) → Lends 𝓛 (head_rest token R p x c) (title_shares R p x) l
       Lends-rest (block_ptr b o) x c = let p : Ptr = block_ptr b o in
-          Lends-first 𝓛 (lies_at (fields_row R) full_share (p +ₚ 8) x) (fsep (token (whole_type R c) p) (parts_rejoin R p c)) (title_shares R p x) l (Lends-fields (p +ₚ 8) x)
+          Lends-first 𝓛 (lies_at (fields_row R) full_share (p +ₚ 8) x) (fsep (token (whole_type R c) p) (parts_rejoin R p c))
+          (title_shares R p x) l (Lends-fields (p +ₚ 8) x)
       Lends-rest null_ptr x c = Lends-nothing 𝓛 (head_rest token R null_ptr x c) l
 
       pub Lends-title : (p : Ptr) (x : (fields_row R).Denot) (c : ℕ) → Lends 𝓛 (title_owns token R p x c) (title_shares R p x) l
-      Lends-title (block_ptr b o) x c = let p : Ptr = block_ptr b o in Lends-first 𝓛 (head_rest token R p x c) (counter_at p 0 1) (title_shares R p x) l (Lends-rest p x c)
+      Lends-title (block_ptr b o) x c =
+          let p : Ptr = block_ptr b o in Lends-first 𝓛 (head_rest token R p x c) (counter_at p 0 1) (title_shares R p x) l (Lends-rest p x c)
       Lends-title null_ptr x c = Lends-nothing 𝓛 ftrue l
 
     module _ (start c : ℕ) (xs : List R.Denot) where
@@ -66,7 +69,8 @@ module _ (R : RattleType) (L : Laws R) where
       Lends-items : (p : Ptr) → Lends 𝓛 (in_block p (lies_with_room R (place R p start) c xs)) (items p) l
       Lends-items null_ptr = Lends-false 𝓛 (items null_ptr) l
       Lends-items (block_ptr b o) = let p : Ptr = place R (block_ptr b o) start in let shares = Shares-less 𝓛 R R.lives l within (L.shares 𝓛) in
-          Lends-first 𝓛 (lies_at (Array R (length xs)) full_share p xs) (room_for (array_of R (c - length xs)) (place R p (length xs))) (items (block_ptr b o)) l
+          Lends-first 𝓛 (lies_at (Array R (length xs)) full_share p xs)
+          (room_for (array_of R (c - length xs)) (place R p (length xs))) (items (block_ptr b o)) l
           (Lends-lies 𝓛 (Array R (length xs)) l p xs (Shares-Array 𝓛 R (subst Single (sym L.one) tt) (length xs) l shares xs))
 
       pub Lends-room : (p : Ptr) → Lends 𝓛 (room_owns R p start c xs) (room_shares R p start c xs) l
@@ -82,7 +86,9 @@ module _ (R : RattleType) (L : Laws R) (i : Inside R.Denot) where
   items_seen = room_shares R i.room.at i.room.start i.room.capacity i.room.items
 
   pub seen_shr_laws : ShrLaws (seen R i)
-  seen_shr_laws = beside_shr_laws fields_seen items_seen (title_shr_laws R L (head_at R i) i.title.fields) (room_shr_laws R L i.room.at i.room.start i.room.capacity i.room.items)
+  seen_shr_laws =
+      beside_shr_laws fields_seen items_seen (title_shr_laws R L (head_at R i) i.title.fields)
+      (room_shr_laws R L i.room.at i.room.start i.room.capacity i.room.items)
 
   module _ {M : Type 1} {𝓤 : Ura M} (𝓛 : Logic 𝓤) (l : Lft) (within : Incl l R.lives) where
     abbrev Head : Fml
@@ -96,5 +102,6 @@ module _ (R : RattleType) (L : Laws R) (i : Inside R.Denot) where
 
     pub Lends-kept : Lends 𝓛 (kept R i) (seen R i) l
     Lends-kept = Lends-first 𝓛 (fsep Head Places) Right (seen R i) l
-        (Lends-both 𝓛 Head Places fields_seen items_seen l (Lends-rest R L 𝓛 l within (ghosts.dealloc_token i.title.alloc) (head_at R i) i.title.fields i.title.places)
+        (Lends-both 𝓛 Head Places fields_seen items_seen l
+        (Lends-rest R L 𝓛 l within (ghosts.dealloc_token i.title.alloc) (head_at R i) i.title.fields i.title.places)
         (Lends-room R L 𝓛 l within i.room.start i.room.capacity i.room.items i.room.at))

@@ -74,7 +74,9 @@ abbrev pub mark : Val
 mark = vstruct (vcons (vstruct vnil) vnil)
 
 pub mark_made : (E : El) {M : Type 1} {𝓤 : Ura M} (𝓛 : Logic 𝓤) → ent 𝓤 (emp 𝓤) (sem 𝓛 ((Mark E).own_val (tt, tt) (mark ∷ [])))
-mark_made E 𝓛 = makes_shadow 𝓛 ((Mark E).own_val (tt, tt) (mark ∷ [])) (λ vss. (tt, ((λ uss. (tt, tt)), tt))) ((vstruct vnil ∷ [], tt), (refl, ((tt, (refl, tt)), tt)))
+mark_made E 𝓛 =
+    makes_shadow 𝓛 ((Mark E).own_val (tt, tt) (mark ∷ []))
+    (λ vss. (tt, ((λ uss. (tt, tt)), tt))) ((vstruct vnil ∷ [], tt), (refl, ((tt, (refl, tt)), tt)))
 
 module _ {M : Type 1} {𝓤 : Ura M} {𝓛 : Logic 𝓤} {K : Type 0} {Γ : List (Item 𝓤)} {G : Goal 𝓤 𝓛.H} (E : El) where
   pub mark_had : K → (vs : List Val) → (vs ≡ mark ∷ [] → Seq K 𝓛 Γ G) → Seq K 𝓛 (‵ ((Mark E).own_val (tt, tt) vs) ∷ Γ) G
@@ -82,11 +84,15 @@ module _ {M : Type 1} {𝓤 : Ura M} {𝓛 : Logic 𝓤} {K : Type 0} {Γ : List
       k (subst (λ (ws : List Val). vs ≡ vstruct (of_list (ws ++ [])) ∷ []) field whole)))))
 
   pub base_had : K → (base : (Bs E).Denot) (vs : List Val) → (vs ≡ word base.ptr ∷ [] → Seq K 𝓛 Γ G) → Seq K 𝓛 (‵ ((Bs E).own_val base vs) ∷ Γ) G
-  base_had t base vs k = fpick t (λ vss. fsplit t $ feq_l t (λ whole. fsplit t $ feq_l t (λ field. drop t $ k (subst (λ (ws : List Val). vs ≡ vstruct (of_list (ws ++ [])) ∷ []) field whole))))
+  base_had t base vs k =
+      fpick t (λ vss. fsplit t $
+      feq_l t (λ whole. fsplit t $
+      feq_l t (λ field. drop t $ k (subst (λ (ws : List Val). vs ≡ vstruct (of_list (ws ++ [])) ∷ []) field whole))))
 
 module _ {M : Type 1} {𝓤 : Ura M} {𝓛 : Logic 𝓤} {K : Type 0} {Γ : List (Item 𝓤)} {G : Goal 𝓤 𝓛.H} (E : El) where
   -- an item's machine value is one, of its type
-  pub item_had : K → (x : el_x E) (vs : List Val) → ((v : Val) → vs ≡ v ∷ [] → Good E v → Seq K 𝓛 (‵ (E.row.own_val x (v ∷ [])) ∷ Γ) G) → Seq K 𝓛 (‵ ((R E).own_val x vs) ∷ Γ) G
+  pub item_had : K → (x : el_x E) (vs : List Val) → ((v : Val) → vs ≡ v ∷ [] → Good E v → Seq K 𝓛 (‵ (E.row.own_val x (v ∷ [])) ∷ Γ) G)
+      → Seq K 𝓛 (‵ ((R E).own_val x vs) ∷ Γ) G
   item_had t x vs k =
       peeks t (R E) (Is (R E)) (shows 𝓛 (R E)) x vs (λ is.
       let got = one E vs ((lawful E 𝓛).typed x vs is) in
@@ -97,20 +103,23 @@ module _ {M : Type 1} {𝓤 : Ura M} {𝓛 : Logic 𝓤} {K : Type 0} {Γ : List
       → Seq K 𝓛 (‵ ((Rm E).own_val d vs) ∷ Γ) G
   room_had t d vs k =
       fsplit t $ mark_had E t vs (λ is. fsplit t $ flt_l t (λ small.
-      in_a_block t d.at (λ p. in_block p (lies_with_room (R E) (place (R E) p d.start) d.capacity d.items)) (id⊢ 𝓤 (never 𝓤)) (λ b o at_b. fsplit t $ k b o at_b is small)))
+      in_a_block t d.at (λ p. in_block p (lies_with_room (R E) (place (R E) p d.start) d.capacity d.items)) (id⊢ 𝓤 (never 𝓤))
+      (λ b o at_b. fsplit t $ k b o at_b is small)))
 
   pub room_made : K → (d : room_d E) (b o : ℕ) → d.at ≡ block_ptr b o → Small E d
       → Step K 𝓛 (‵ ((Rm E).own_val d (mark ∷ [])) ∷ Γ) G (‵ (held_of E d b o) ∷ ‵ (spare_of E d b o) ∷ Γ) G
   room_made t d b o at_b small = step (λ s.
       fjoin t $ flt_i t ((d.start + d.capacity) * sz E) (2 ^ 63) small $ fjoin t $
-      rewrite t 0 (λ (p : Ptr). ‵ (fsep (flt ((d.start + d.capacity) * sz E) (2 ^ 63)) (in_block p (lies_with_room (R E) (place (R E) p d.start) d.capacity d.items)))) (sym at_b) refl $
+      rewrite t 0 (λ (p : Ptr). ‵ (fsep (flt ((d.start + d.capacity) * sz E) (2 ^ 63))
+      (in_block p (lies_with_room (R E) (place (R E) p d.start) d.capacity d.items)))) (sym at_b) refl $
       use0 𝓛 (‵ ((Mark E).own_val (tt, tt) (mark ∷ []))) (mark_made E 𝓛) $ fjoin t $ s)
 
 module _ {M : Type 1} {𝓤 : Ura M} {𝓛 : Logic 𝓤} {K : Type 0} {Γ : List (Item 𝓤)} {G : Goal 𝓤 𝓛.H} (E : El) where
   -- [the items; the empty places; the mark's cell; the open borrow; obs; auth]
   pub room_opens : K → Soaks G → {κ : Lft} {q : Share} {γ : GName} (d : room_d E) (rb ro : ℕ)
       → ((b o : ℕ) → d.at ≡ block_ptr b o → Small E d
-      → Seq K 𝓛 (‵ (held_of E d b o) ∷ ‵ (spare_of E d b o) ∷ ‵ (cell_at full_share (Rm E).mir (mark ∷ []) rb ro) ∷ ‵ (fobor κ q (Body (mem (Rm E)) rb ro γ)) ∷ ‵ (fobs γ ((Rm E).coded.code d)) ∷ ‵ (fauth γ ((Rm E).coded.code d)) ∷ Γ) G)
+      → Seq K 𝓛 (‵ (held_of E d b o) ∷ ‵ (spare_of E d b o) ∷ ‵ (cell_at full_share (Rm E).mir (mark ∷ []) rb ro)
+      ∷ ‵ (fobor κ q (Body (mem (Rm E)) rb ro γ)) ∷ ‵ (fobs γ ((Rm E).coded.code d)) ∷ ‵ (fauth γ ((Rm E).coded.code d)) ∷ Γ) G)
       → Seq K 𝓛 (‵ (fobs γ ((Rm E).coded.code d)) ∷ ‵ (fbor κ (Body (mem (Rm E)) rb ro γ)) ∷ ‵ (flft κ q) ∷ Γ) G
   room_opens t z d rb ro k =
       opens t z (Rm E) {h = d} rb ro (λ vs. move t (1 ∷ []) $ room_had E t d vs (λ b o at_b is small.
@@ -118,5 +127,6 @@ module _ {M : Type 1} {𝓤 : Ura M} {𝓛 : Logic 𝓤} {K : Type 0} {Γ : List
 
   pub room_closes : K → Soaks G → {κ : Lft} {q : Share} {u v : Gv} {γ : GName} (d : room_d E) (b o rb ro : ℕ) → d.at ≡ block_ptr b o → Small E d
       → Step K 𝓛 (‵ (fobs γ ((Rm E).coded.code d)) ∷ ‵ (fbor κ (Body (mem (Rm E)) rb ro γ)) ∷ ‵ (flft κ q) ∷ Γ) G
-      (‵ (held_of E d b o) ∷ ‵ (spare_of E d b o) ∷ ‵ (cell_at full_share (Rm E).mir (mark ∷ []) rb ro) ∷ ‵ (fobor κ q (Body (mem (Rm E)) rb ro γ)) ∷ ‵ (fobs γ u) ∷ ‵ (fauth γ v) ∷ Γ) G
+      (‵ (held_of E d b o) ∷ ‵ (spare_of E d b o) ∷ ‵ (cell_at full_share (Rm E).mir (mark ∷ []) rb ro)
+      ∷ ‵ (fobor κ q (Body (mem (Rm E)) rb ro γ)) ∷ ‵ (fobs γ u) ∷ ‵ (fauth γ v) ∷ Γ) G
   room_closes t z d b o rb ro at_b small = step (λ s. room_made E t d b o at_b small $ move t (1 ∷ 0 ∷ []) $ closes t z (Rm E) d (mark ∷ []) rb ro $ s)

@@ -60,7 +60,8 @@ module _ (E : El) {M : Type 1} {𝓤 : Ura M} (𝓛 : Logic 𝓤) (b : ℕ) wher
 
   pub spare_in : (o n c : ℕ) → n < c → ent 𝓤 (froom (elτ E) b (n * s + o) & Spare E b (o + (n + 1) * s) (c - (n + 1))) (sem 𝓛 (Spare E b (o + n * s) (c - n)))
   spare_in o n c lt =
-      let there : o + (n + 1) * s ≡ o + n * s + s = omega (arith, next n s) in let here : n * s + o ≡ o + n * s = omega arith in let many : suc (c - (n + 1)) ≡ c - n = omega arith in
+      let there : o + (n + 1) * s ≡ o + n * s + s = omega (arith, next n s) in
+      let here : n * s + o ≡ o + n * s = omega arith in let many : suc (c - (n + 1)) ≡ c - n = omega arith in
       qed 𝓛 (‵ (froom (elτ E) b (n * s + o)) ∷ ‵ (Spare E b (o + (n + 1) * s) (c - (n + 1))) ∷ []) ∵
       rewrite ! 0 (λ (k : ℕ). ‵ (froom (elτ E) b k)) here refl $ rewrite ! 1 (λ (k : ℕ). ‵ (Spare E b k (c - (n + 1)))) there refl $ move ! (1 ∷ []) $
       as_written ! (ty_array (elτ E) (c - (n + 1))) b (o + n * s + s) $ move ! (1 ∷ 0 ∷ []) $
@@ -68,7 +69,8 @@ module _ (E : El) {M : Type 1} {𝓤 : Ura M} (𝓛 : Logic 𝓤) (b : ℕ) wher
       rewrite ! 0 (λ (k : ℕ). ‵ (Room (o + n * s) k)) many refl $ as_raw ! (ty_array (elτ E) (c - n)) b (o + n * s) $ done !
 
   -- the last item
-  pub item_in : (o : ℕ) (xs : List (el_x E)) (x : el_x E) → ent 𝓤 (Held E b o xs & part_at (R E) full_share x b (length xs * s + o)) (sem 𝓛 (Held E b o (xs ++ x ∷ [])))
+  pub item_in : (o : ℕ) (xs : List (el_x E)) (x : el_x E)
+      → ent 𝓤 (Held E b o xs & part_at (R E) full_share x b (length xs * s + o)) (sem 𝓛 (Held E b o (xs ++ x ∷ [])))
   item_in o xs x = qed 𝓛 (‵ (Held E b o xs) ∷ ‵ (part_at (R E) full_share x b (length xs * s + o)) ∷ []) ∵
       use2 𝓛 (‵ (part_at (Array (R E) (length xs + 1)) full_share (xs ++ x ∷ []) b o)) (rows.snoc E' 𝓛 b o (length xs) xs x) $
       rewrite ! 0 (λ (k : ℕ). ‵ (part_at (Array (R E) k) full_share (xs ++ x ∷ []) b o)) (sym (length-append xs (x ∷ []))) refl $ done !
@@ -77,7 +79,9 @@ module _ (E : El) {M : Type 1} {𝓤 : Ura M} (𝓛 : Logic 𝓤) (b : ℕ) wher
   item_out o xs x = rows.unsnoc E' 𝓛 b o (length (xs ++ x ∷ [])) (length xs) xs x refl
 
   pub to_row : (o : ℕ) (xs : List (el_x E)) → Held E b o xs ⊢ sem 𝓛 (All xs o)
-  to_row o xs = qed 𝓛 (‵ (Held E b o xs) ∷ []) ∵ use1 𝓛 (given (length xs ≡ length xs) (‵ (All xs o))) (rows.apart E' 𝓛 full_share (length xs) xs b o) $ learn ! (λ _. done !)
+  to_row o xs =
+      qed 𝓛 (‵ (Held E b o xs) ∷ []) ∵ use1 𝓛 (given (length xs ≡ length xs) (‵ (All xs o)))
+      (rows.apart E' 𝓛 full_share (length xs) xs b o) $ learn ! (λ _. done !)
 
   pub of_row : (o : ℕ) (xs : List (el_x E)) → All xs o ⊢ sem 𝓛 (Held E b o xs)
   of_row o xs = rows.whole E' 𝓛 full_share (length xs) xs b o refl
@@ -86,17 +90,22 @@ module _ (E : El) {M : Type 1} {𝓤 : Ura M} (𝓛 : Logic 𝓤) (b : ℕ) wher
   none_held o = of_row o []
 
   pub no_spare : (o n : ℕ) → n ≡ 0 → ent 𝓤 (emp 𝓤) (sem 𝓛 (Spare E b o n))
-  no_spare o n e = qed 𝓛 [] ∵ use0 𝓛 (‵ (Room o zero)) (𝓛.laws.room_nil (elτ E) b o) $ as_raw ! (ty_array (elτ E) zero) b o $ rewrite ! 0 (λ (k : ℕ). ‵ (Spare E b o k)) (sym e) refl $ done !
+  no_spare o n e =
+      qed 𝓛 [] ∵ use0 𝓛 (‵ (Room o zero)) (𝓛.laws.room_nil (elτ E) b o) $ as_raw ! (ty_array (elτ E) zero) b o $
+      rewrite ! 0 (λ (k : ℕ). ‵ (Spare E b o k)) (sym e) refl $ done !
 
   -- two runs of items, the second at the place behind the first
   pub cut : (o at : ℕ) (xs ys : List (el_x E)) → at ≡ o + length xs * s → Held E b o (xs ++ ys) ⊢ Held E b o xs & Held E b at ys
   cut o at xs ys e = qed 𝓛 (‵ (Held E b o (xs ++ ys)) ∷ []) ∵ use1 𝓛 (‵ (All (xs ++ ys) o)) (to_row o (xs ++ ys)) $
       use1 𝓛 (‵ (All xs o) ⊛ ‵ (All ys (denote.Index.place s o (length xs)))) (rows.row_cut E' 𝓛 full_share xs ys b o) $ split ! $
-      use1 𝓛 (‵ (Held E b o xs)) (of_row o xs) $ move ! (1 ∷ []) $ rewrite ! 0 (λ (k : ℕ). ‵ (All ys k)) (place_is s o (length xs) ∙ add_comm (length xs * s) o ∙ sym e) refl $
+      use1 𝓛 (‵ (Held E b o xs)) (of_row o xs) $ move ! (1 ∷ []) $
+      rewrite ! 0 (λ (k : ℕ). ‵ (All ys k)) (place_is s o (length xs) ∙ add_comm (length xs * s) o ∙ sym e) refl $
       use1 𝓛 (‵ (Held E b at ys)) (of_row at ys) $ move ! (1 ∷ []) $ done !
 
   pub glue : (o at : ℕ) (xs ys : List (el_x E)) → at ≡ o + length xs * s → ent 𝓤 (Held E b o xs & Held E b at ys) (sem 𝓛 (Held E b o (xs ++ ys)))
-  glue o at xs ys e = qed 𝓛 (‵ (Held E b o xs) ∷ ‵ (Held E b at ys) ∷ []) ∵ use1 𝓛 (‵ (All xs o)) (to_row o xs) $ move ! (1 ∷ []) $ use1 𝓛 (‵ (All ys at)) (to_row at ys) $
+  glue o at xs ys e =
+      qed 𝓛 (‵ (Held E b o xs) ∷ ‵ (Held E b at ys) ∷ []) ∵ use1 𝓛 (‵ (All xs o)) (to_row o xs) $
+      move ! (1 ∷ []) $ use1 𝓛 (‵ (All ys at)) (to_row at ys) $
       rewrite ! 0 (λ (k : ℕ). ‵ (All ys k)) (e ∙ add_comm o (length xs * s) ∙ sym (place_is s o (length xs))) refl $ move ! (1 ∷ 0 ∷ []) $
       use2 𝓛 (‵ (All (xs ++ ys) o)) (rows.row_glue E' 𝓛 full_share xs ys b o) $ by ! (of_row o (xs ++ ys))
 
@@ -117,7 +126,8 @@ module _ (E : El) {M : Type 1} {𝓤 : Ura M} (𝓛 : Logic 𝓤) (b : ℕ) wher
   Whole o c xs = Held E b o xs & Spare E b (o + length xs * s) (c - length xs)
 
   -- it is cut in two behind its k-th place, among the items or behind them
-  cut_items : (o at k c : ℕ) (xs : List (el_x E)) → at ≡ o + k * s → length xs ≤ c → k ≤ length xs → ent 𝓤 (Whole o c xs) (base.Logic.sep 𝓤 (Whole o k (take k xs)) (Whole at (c - k) (drop_l k xs)))
+  cut_items : (o at k c : ℕ) (xs : List (el_x E)) → at ≡ o + k * s → length xs ≤ c → k ≤ length xs
+      → ent 𝓤 (Whole o c xs) (base.Logic.sep 𝓤 (Whole o k (take k xs)) (Whole at (c - k) (drop_l k xs)))
   cut_items o at k c xs begins fits le =
       let left = take k xs in let right = drop_l k xs in let n = length xs in let m = length right in
       let on_left : length left ≡ k = length-take-le k xs le in let on_right : m ≡ n - k = length-drop k xs in
@@ -129,13 +139,16 @@ module _ (E : El) {M : Type 1} {𝓤 : Ura M} (𝓛 : Logic 𝓤) (b : ℕ) wher
       rewrite ! 0 (λ (zs : List (el_x E)). ‵ (Held E b o zs)) (sym (take-append-drop k xs)) refl $
       use1 𝓛 (‵ (Held E b o left) ⊛ ‵ (Held E b at right)) (cut o at left right there) $ split ! $
       rewrite ! 2 (λ (j : ℕ). ‵ (Spare E b j (c - n))) ends refl $ rewrite ! 2 (λ (j : ℕ). ‵ (Spare E b (at + m * s) j)) many refl $
-      use0 𝓛 (‵ (Spare E b (o + length left * s) (k - length left))) (no_spare (o + length left * s) (k - length left) none) $ move ! (1 ∷ 0 ∷ []) $ join ! $ done !
+      use0 𝓛 (‵ (Spare E b (o + length left * s) (k - length left))) (no_spare (o + length left * s) (k - length left) none) $
+      move ! (1 ∷ 0 ∷ []) $ join ! $ done !
 
-  cut_spare : (o at k c : ℕ) (xs : List (el_x E)) → at ≡ o + k * s → k ≤ c → length xs ≤ k → ent 𝓤 (Whole o c xs) (base.Logic.sep 𝓤 (Whole o k (take k xs)) (Whole at (c - k) (drop_l k xs)))
+  cut_spare : (o at k c : ℕ) (xs : List (el_x E)) → at ≡ o + k * s → k ≤ c → length xs ≤ k
+      → ent 𝓤 (Whole o c xs) (base.Logic.sep 𝓤 (Whole o k (take k xs)) (Whole at (c - k) (drop_l k xs)))
   cut_spare o at k c xs begins fits le =
       let n = length xs in let all : take k xs ≡ xs = take_front k xs le in let none : drop_l k xs ≡ [] = drop_front k xs le in
       let parts : c - n ≡ (k - n) + (c - k) = omega arith in
-      let there : at ≡ o + n * s + (k - n) * s = let whole : k ≡ n + (k - n) = omega arith in let more = ap (λ j. j * s) whole ∙ add_times n (k - n) s in omega arith in
+      let there : at ≡ o + n * s + (k - n) * s = let whole : k ≡ n + (k - n) = omega arith in
+      let more = ap (λ j. j * s) whole ∙ add_times n (k - n) s in omega arith in
       let here : at ≡ at + 0 * s = let zero_times = zero-mul s in omega arith in let rest : c - k ≡ c - k - 0 = omega arith in
       qed 𝓛 (‵ (Held E b o xs) ∷ ‵ (Spare E b (o + n * s) (c - n)) ∷ []) ∵ move ! (1 ∷ []) $ rewrite ! 0 (λ (j : ℕ). ‵ (Spare E b (o + n * s) j)) parts refl $
       use1 𝓛 (‵ (Spare E b (o + n * s) (k - n)) ⊛ ‵ (Spare E b at (c - k))) (spare_cut (o + n * s) at (k - n) (c - k) there) $ split ! $
@@ -143,7 +156,10 @@ module _ (E : El) {M : Type 1} {𝓤 : Ura M} (𝓛 : Logic 𝓤) (b : ℕ) wher
       move ! (2 ∷ 0 ∷ []) $ join ! $
       rewrite ! 0 (λ (zs : List (el_x E)). ‵ (Held E b o zs) ⊛ ‵ (Spare E b (o + length zs * s) (k - length zs))) (sym all) refl $ move ! (1 ∷ []) $
       use0 𝓛 (‵ (Held E b at [])) (none_held at) $ join ! $
-      rewrite ! 0 (λ (zs : List (el_x E)). ‵ (Held E b at zs) ⊛ ‵ (Spare E b (at + length zs * s) (c - k - length zs))) (sym none) refl $ move ! (1 ∷ 0 ∷ []) $ done !
+      rewrite ! 0 (λ (zs : List (el_x E)). ‵ (Held E b at zs) ⊛ ‵ (Spare E b (at + length zs * s) (c - k - length zs)))
+      (sym none) refl $ move ! (1 ∷ 0 ∷ []) $ done !
 
-  pub cut_room : (o at k c : ℕ) (xs : List (el_x E)) → at ≡ o + k * s → length xs ≤ c → k ≤ c → ent 𝓤 (Whole o c xs) (base.Logic.sep 𝓤 (Whole o k (take k xs)) (Whole at (c - k) (drop_l k xs)))
-  cut_room o at k c xs begins fits le = ⊎_elim (λ below. cut_items o at k c xs begins fits (omega arith)) (λ past. cut_spare o at k c xs begins le past) (order k (length xs))
+  pub cut_room : (o at k c : ℕ) (xs : List (el_x E)) → at ≡ o + k * s → length xs ≤ c → k ≤ c
+      → ent 𝓤 (Whole o c xs) (base.Logic.sep 𝓤 (Whole o k (take k xs)) (Whole at (c - k) (drop_l k xs)))
+  cut_room o at k c xs begins fits le =
+      ⊎_elim (λ below. cut_items o at k c xs begins fits (omega arith)) (λ past. cut_spare o at k c xs begins le past) (order k (length xs))

@@ -24,10 +24,14 @@ module _ {S X : Type 0} (R : S → X → Bool → S → X → Type 0) (start : S
 
   module _ (s t : S) (x y : X) (rest more kept now : List X) (goes_on : rest ≡ x ∷ more) (d : Done s rest kept) where
     pub one_kept : R s x true t y → now ≡ kept ++ y ∷ [] → Done t more now
-    one_kept r e zs g = subst (RetainsInTurn R start all) (sym (ap (λ l. l ++ zs) e ∙ append_assoc kept (y ∷ []) zs)) (d (y ∷ zs) (subst (λ l. RetainsInTurn R s l (y ∷ zs)) (sym goes_on) (true, t, y, r, zs, g, refl)))
+    one_kept r e zs g =
+        subst (RetainsInTurn R start all) (sym (ap (λ l. l ++ zs) e ∙ append_assoc kept (y ∷ []) zs))
+        (d (y ∷ zs) (subst (λ l. RetainsInTurn R s l (y ∷ zs)) (sym goes_on) (true, t, y, r, zs, g, refl)))
 
     pub one_gone : R s x false t y → now ≡ kept → Done t more now
-    one_gone r e zs g = subst (λ l. RetainsInTurn R start all (l ++ zs)) (sym e) (d zs (subst (λ l. RetainsInTurn R s l zs) (sym goes_on) (false, t, y, r, zs, g, refl)))
+    one_gone r e zs g =
+        subst (λ l. RetainsInTurn R start all (l ++ zs)) (sym e)
+        (d zs (subst (λ l. RetainsInTurn R s l zs) (sym goes_on) (false, t, y, r, zs, g, refl)))
 
   pub all_done : (s : S) (rest kept now : List X) → Done s rest kept → rest ≡ [] → now ≡ kept → RetainsInTurn R start all now
   all_done s rest kept now d none e = subst (RetainsInTurn R start all) (append-nil kept ∙ sym e) (d [] (subst (λ l. RetainsInTurn R s l []) (sym none) refl))

@@ -37,7 +37,8 @@ module _ {X : Type 0} (xs ys : List X) (start both : ℕ) (in_bounds : start + b
   pub inserted : insert_slice swapped (start + both) (drop both swapped_other) ≡ splice xs start (start + both) ys
   inserted =
       ap₂ (λ l r. (l ++ drop both swapped_other) ++ r) before after
-      ∙ ap (λ l. l ++ drop (start + both) xs) (ap (λ m. (take start xs ++ take both ys) ++ m) rest ∙ append_assoc (take start xs) (take both ys) _ ∙ ap (λ l. take start xs ++ l) (take-append-drop both ys))
+      ∙ ap (λ l. l ++ drop (start + both) xs) (ap (λ m. (take start xs ++ take both ys) ++ m) rest
+      ∙ append_assoc (take start xs) (take both ys) _ ∙ ap (λ l. take start xs ++ l) (take-append-drop both ys))
       ∙ append_assoc (take start xs) ys _
 
 module _ {X : Type 0} (xs ys : List X) (start both end : ℕ) (ordered : start + both ≤ end) (in_bounds : end ≤ length xs) where

@@ -74,7 +74,8 @@ pub and_both : (a b : Bool) → a ≡ true → b ≡ true → (a && b) ≡ true
 and_both true b p q = q
 and_both false b p q = p
 
-pub longer_twice : (n m : ℕ) (xs ys : List ℕ) → take n xs ≡ take n ys → take m (drop n xs) ≡ take m (drop n ys) → take m (drop (n + m) xs) ≡ take m (drop (n + m) ys) → take (n + 2 * m) xs ≡ take (n + 2 * m) ys
+pub longer_twice : (n m : ℕ) (xs ys : List ℕ) → take n xs ≡ take n ys → take m (drop n xs) ≡ take m (drop n ys)
+    → take m (drop (n + m) xs) ≡ take m (drop (n + m) ys) → take (n + 2 * m) xs ≡ take (n + 2 * m) ys
 longer_twice n m xs ys front chunk next =
     let sum : n + 2 * m ≡ n + m + m = omega arith in
     ap (λ j. take j xs) sum ∙ longer (n + m) m xs ys (longer n m xs ys front chunk) next ∙ sym (ap (λ j. take j ys) sum)
@@ -96,10 +97,12 @@ joined n m len k xs ys nearer below fits reached in_xs in_ys front chunk back =
     let a = len - m in
     let sum : len ≡ a + m = omega arith in
     let near : take (k + m) xs ≡ take (k + m) ys = longer k m xs ys (part_of_front 0 k n xs ys (omega arith) (omega arith) (omega arith) front) chunk in
-    ap (λ j. take j xs) sum ∙ longer a m xs ys (part_of_front 0 a (k + m) xs ys (omega arith) (omega arith) (omega arith) near) back ∙ sym (ap (λ j. take j ys) sum)
+    ap (λ j. take j xs) sum ∙ longer a m xs ys (part_of_front 0 a (k + m) xs ys (omega arith) (omega arith) (omega arith) near) back
+    ∙ sym (ap (λ j. take j ys) sum)
 
 -- a front tells whether all are the same
-pub equal_by_front : (xs ys : List ℕ) (n : ℕ) → length xs ≡ length ys → n ≤ length xs → take n xs ≡ take n ys → (n < length xs → take (length xs) xs ≢ take (length xs) ys)
+pub equal_by_front : (xs ys : List ℕ) (n : ℕ) → length xs ≡ length ys → n ≤ length xs
+    → take n xs ≡ take n ys → (n < length xs → take (length xs) xs ≢ take (length xs) ys)
     → nat_eq n (length xs) ≡ pointwise nat_eq xs ys
 equal_by_front xs ys n long le front differ = decided (pointwise nat_eq xs ys) refl
   where
@@ -112,7 +115,8 @@ equal_by_front xs ys n long le front differ = decided (pointwise nat_eq xs ys) r
 
     decided : (b : Bool) → pointwise nat_eq xs ys ≡ b → nat_eq n (length xs) ≡ pointwise nat_eq xs ys
     decided true alike =
-        let all : n ≡ length xs = elim (cases_lt n (length xs)) [ inl l ↦ absurd (differ l (ap (take (length xs)) (same_text xs ys (sym alike)))) | inr g ↦ omega arith ] in
+        let all : n ≡ length xs =
+        elim (cases_lt n (length xs)) [ inl l ↦ absurd (differ l (ap (take (length xs)) (same_text xs ys (sym alike)))) | inr g ↦ omega arith ] in
         eq-eqb n (length xs) all ∙ sym alike
     decided false unlike = refuted (nat_eq n (length xs)) unlike refl ∙ sym unlike
 
@@ -138,7 +142,8 @@ one_more Equal n m h = omega arith
 one_more Greater n m h = omega arith
 
 -- where all of one are the front of the other, the lengths do
-by_lengths : (n : ℕ) (xs ys : List ℕ) → take n xs ≡ take n ys → (length xs ≤ n) ⊎ (length ys ≤ n) → MatchOrdering (slice_cmp nat_cmp xs ys) (length xs < length ys) (length xs ≡ length ys) (length ys < length xs)
+by_lengths : (n : ℕ) (xs ys : List ℕ) → take n xs ≡ take n ys → (length xs ≤ n) ⊎ (length ys ≤ n)
+    → MatchOrdering (slice_cmp nat_cmp xs ys) (length xs < length ys) (length xs ≡ length ys) (length ys < length xs)
 by_lengths n [] [] front short = refl
 by_lengths n [] (y ∷ ys) front short = omega arith
 by_lengths n (x ∷ xs) [] front short = omega arith
@@ -146,10 +151,12 @@ by_lengths zero (x ∷ xs) (y ∷ ys) front short = elim short [ inl l ↦ absur
 by_lengths (suc n) (x ∷ xs) (y ∷ ys) front short =
     let h = head_same x y (take n xs) (take n ys) front in
     let fewer : (length xs ≤ n) ⊎ (length ys ≤ n) = elim short [ inl l ↦ inl (omega arith) | inr l ↦ inr (omega arith) ] in
-    subst (λ o. MatchOrdering (ordering_then o (slice_cmp nat_cmp xs ys)) (suc (length xs) < suc (length ys)) (suc (length xs) ≡ suc (length ys)) (suc (length ys) < suc (length xs))) (tied x y h.0)
+    subst (λ o. MatchOrdering (ordering_then o (slice_cmp nat_cmp xs ys)) (suc (length xs) < suc (length ys))
+    (suc (length xs) ≡ suc (length ys)) (suc (length ys) < suc (length xs))) (tied x y h.0)
     (one_more (slice_cmp nat_cmp xs ys) (length xs) (length ys) (by_lengths n xs ys h.1 fewer))
 
-pub order_by_lengths : (n : ℕ) (xs ys : List ℕ) → take n xs ≡ take n ys → (length xs ≤ n) ⊎ (length ys ≤ n) → nat_cmp (length xs) (length ys) ≡ slice_cmp nat_cmp xs ys
+pub order_by_lengths : (n : ℕ) (xs ys : List ℕ) → take n xs ≡ take n ys → (length xs ≤ n) ⊎ (length ys ≤ n)
+    → nat_cmp (length xs) (length ys) ≡ slice_cmp nat_cmp xs ys
 order_by_lengths n xs ys front short = sym (nat_cmp_is (length xs) (length ys) (slice_cmp nat_cmp xs ys) (by_lengths n xs ys front short))
 
 pub order_of_same : (xs ys : List ℕ) → xs ≡ ys → Equal ≡ slice_cmp nat_cmp xs ys

@@ -22,7 +22,8 @@ module _ {A : Type 0} (xs : List A) where
       ap (λ l. take (b * length xs) l) (ap (λ k. repeat k xs) (sym e) ∙ sym (repeat_add b (a - b))) ∙ cut
 
   -- the first b of a copies appended once more
-  pub more_copies : (a b len : ℕ) (target new : List A) → len ≡ length xs → target ≡ repeat a xs → b ≤ a → new ≡ target ++ take (b * len) target → new ≡ repeat (a + b) xs
+  pub more_copies : (a b len : ℕ) (target new : List A) → len ≡ length xs → target ≡ repeat a xs
+      → b ≤ a → new ≡ target ++ take (b * len) target → new ≡ repeat (a + b) xs
   more_copies a b len target new size are le appended =
       let front : take (b * len) target ≡ repeat b xs = rw (size, are) (front_repeat a b le) in
       appended ∙ (ap (λ l. target ++ l) front ∙ (ap (λ l. l ++ repeat b xs) are ∙ repeat_add a b))

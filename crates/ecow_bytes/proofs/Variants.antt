@@ -63,11 +63,14 @@ module _ (k : ℕ) (R F : RattleType) (make : F.Denot → R.Denot) (ν : Sym) (�
   pub opened : (y : F.Denot) → ent 𝓤 (sem 𝓛 (part_at R full_share (make y) b o)) (ex 𝓤 (Opened y))
   opened y =
       qed 𝓛 (‵ (part_at R full_share (make y) b o) ∷ []) ∵
-      use1 𝓛 (some (λ (w : Val). ‵ (fat full_share ω b o w) ⊛ ‵ (R.own_val (make y) (w ∷ [])))) (part_out_at 𝓛 R one_R full_share (make y) b o ω is_R) $ pick ! (λ w. split ! $
-      rewrite ! 1 (λ (G : Fml). ‵ G) (owns_is y (w ∷ [])) refl $ move ! (1 ∷ []) $ fpick ! (λ us. fsplit ! $ feq_l ! (λ e. fpick ! (λ vss. fsplit ! $ feq_l ! (λ f. fsplit ! $
+      use1 𝓛 (some (λ (w : Val). ‵ (fat full_share ω b o w) ⊛ ‵ (R.own_val (make y) (w ∷ []))))
+      (part_out_at 𝓛 R one_R full_share (make y) b o ω is_R) $ pick ! (λ w. split ! $
+      rewrite ! 1 (λ (G : Fml). ‵ G) (owns_is y (w ∷ [])) refl $ move ! (1 ∷ []) $
+      fpick ! (λ us. fsplit ! $ feq_l ! (λ e. fpick ! (λ vss. fsplit ! $ feq_l ! (λ f. fsplit ! $
       let u : Val = live k (of_list (vss.0 ++ [])) in
       rewrite ! 2 (λ (v : Val). ‵ (fat full_share ω b o v)) (ap only e ∙ ap (λ (vs : List Val). live k (of_list vs)) f) refl $ keep ! (2 ∷ 0 ∷ []) $
-      use1 𝓛 (given (T (has_ty ω u) × WT u) (‵ (fat full_share ω b o u))) (𝓛.laws.at_wt full_share ω b o u) $ learn ! (λ g. by ! (one_value y vss.0 (typed (of_list (vss.0 ++ [])) g.0))))))))
+      use1 𝓛 (given (T (has_ty ω u) × WT u) (‵ (fat full_share ω b o u))) (𝓛.laws.at_wt full_share ω b o u) $
+      learn ! (λ g. by ! (one_value y vss.0 (typed (of_list (vss.0 ++ [])) g.0))))))))
 
   abbrev Back : Val → SProp 𝓤
   Back u = wand 𝓤 (H.at full_share τ b at u) (sem 𝓛 (cell u))
@@ -75,10 +78,13 @@ module _ (k : ℕ) (R F : RattleType) (make : F.Denot → R.Denot) (ν : Sym) (�
   pub back : (w : F.Denot) → ent 𝓤 (sep 𝓤 (sem 𝓛 ((mem F).own_at w b at)) (all 𝓤 Back)) (sem 𝓛 ((mem R).own_at (make w) b o))
   back w =
       qed 𝓛 (‵ (part_at F full_share w b at) ∷ raw (all 𝓤 Back) ∷ []) ∵
-      use1 𝓛 (some (λ (v : Val). ‵ (fat full_share τ b at v) ⊛ ‵ (F.own_val w (v ∷ [])))) (part_out_at 𝓛 F one_F full_share w b at τ is_F) $ pick ! (λ v. split ! $
+      use1 𝓛 (some (λ (v : Val). ‵ (fat full_share τ b at v) ⊛ ‵ (F.own_val w (v ∷ []))))
+      (part_out_at 𝓛 F one_F full_share w b at τ is_F) $ pick ! (λ v. split ! $
       let u : Val = live k (vcons v vnil) in
-      move ! (2 ∷ []) $ use1 𝓛 (raw (Back v)) (all_e 𝓤 Back v) $ move ! (1 ∷ 0 ∷ []) $ use2 𝓛 (‵ (cell v)) (apply∗ 𝓤 (H.at full_share τ b at v) (sem 𝓛 (cell v))) $
-      nothing ! $ move ! (2 ∷ 0 ∷ []) $ fjoin ! $ feq_i ! (List Val) (v ∷ []) (v ∷ []) refl $ fjoin ! $ fpack ! (Valss (F ∷ [])) (in_a_row (F ∷ []) (owns (F ∷ []) (w, tt)) (v ∷ [])) (v ∷ [], tt) $
+      move ! (2 ∷ []) $ use1 𝓛 (raw (Back v)) (all_e 𝓤 Back v) $ move ! (1 ∷ 0 ∷ []) $
+      use2 𝓛 (‵ (cell v)) (apply∗ 𝓤 (H.at full_share τ b at v) (sem 𝓛 (cell v))) $
+      nothing ! $ move ! (2 ∷ 0 ∷ []) $ fjoin ! $ feq_i ! (List Val) (v ∷ []) (v ∷ []) refl $ fjoin ! $
+      fpack ! (Valss (F ∷ [])) (in_a_row (F ∷ []) (owns (F ∷ []) (w, tt)) (v ∷ [])) (v ∷ [], tt) $
       feq_i ! (List Val) (u ∷ []) (u ∷ []) refl $ fjoin ! $ fpack ! (List Val) (tagged k F w (u ∷ [])) (v ∷ []) $
       rewrite ! 0 (λ (G : Fml). ‵ G) (sym (owns_is w (u ∷ []))) refl $ move ! (1 ∷ 0 ∷ []) $ by ! (part_in_at 𝓛 R one_R full_share (make w) b o ω is_R u))
 
@@ -87,9 +93,12 @@ module _ (k : ℕ) (R F : RattleType) (make : F.Denot → R.Denot) (ν : Sym) (�
     Lent = Part 𝓛 R F make (named 0) κ q b o b at γ (all 𝓤 Back) back
 
     pub lends : (y : F.Denot) (v : Val) (g : Gv)
-        → ent 𝓤 (sep 𝓤 (sem 𝓛 (cell v)) (sep 𝓤 (sem 𝓛 (F.own_val y (v ∷ []))) (sep 𝓤 (A.obor κ q (Body (mem R) b o γ)) (sep 𝓤 (A.obs γ g) (A.auth γ g))))) (H.⇛ (ex 𝓤 (Lent y)))
+        → ent 𝓤 (sep 𝓤 (sem 𝓛 (cell v))
+        (sep 𝓤 (sem 𝓛 (F.own_val y (v ∷ []))) (sep 𝓤 (A.obor κ q (Body (mem R) b o γ)) (sep 𝓤 (A.obs γ g) (A.auth γ g))))) (H.⇛ (ex 𝓤 (Lent y)))
     lends y v g =
         qed 𝓛 (‵ (cell v) ∷ ‵ (F.own_val y (v ∷ [])) ∷ ‵ (fobor κ q (Body (mem R) b o γ)) ∷ ‵ (fobs γ g) ∷ ‵ (fauth γ g) ∷ []) ∵
-        use1 𝓛 (‵ (fat full_share τ b at v) ⊛ raw (all 𝓤 Back)) (𝓛.laws.at_variant full_share ν τss k (tcons τ tnil) at_k 0 τ (up (align τ) 1) refl b o (vcons v vnil)) $ split ! $
-        move ! (0 ∷ 2 ∷ []) $ use2 𝓛 (‵ (part_at F full_share y b at)) (part_in_at 𝓛 F one_F full_share y b at τ is_F v) $ move ! (2 ∷ 3 ∷ 4 ∷ 0 ∷ 1 ∷ []) $ group ! 5 $
+        use1 𝓛 (‵ (fat full_share τ b at v) ⊛ raw (all 𝓤 Back))
+        (𝓛.laws.at_variant full_share ν τss k (tcons τ tnil) at_k 0 τ (up (align τ) 1) refl b o (vcons v vnil)) $ split ! $
+        move ! (0 ∷ 2 ∷ []) $ use2 𝓛 (‵ (part_at F full_share y b at)) (part_in_at 𝓛 F one_F full_share y b at τ is_F v) $
+        move ! (2 ∷ 3 ∷ 4 ∷ 0 ∷ 1 ∷ []) $ group ! 5 $
         by ! (lends_Part 𝓛 R F make (named 0) κ q b o b at γ (all 𝓤 Back) back g g y)

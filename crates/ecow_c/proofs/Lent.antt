@@ -118,7 +118,8 @@ module _ (E : Kind) where
     params = 1;
     locals = local (ty_enum OPTION (ttcons tnil (ttcons (tcons to_value tnil) ttnil))) value_local
         ∷ local (ty_ref (named 0) mut (ty_named (E.name, []) tnil)) value_local ∷ local ty_ptr value_local ∷ local ty_bool value_local
-        ∷ local (ty_ref erased mut E.written) value_local ∷ local (ty_ref erased mut E.written) value_local ∷ local ty_ptr value_local ∷ local ty_ptr value_local ∷ [];
+        ∷ local (ty_ref erased mut E.written) value_local ∷ local (ty_ref erased mut E.written) value_local
+        ∷ local ty_ptr value_local ∷ local ty_ptr value_local ∷ [];
     body = seq (assign (place_at 2 []) (rv_opd (copy (place_at 1 (deref laid_out ∷ field 0 ∷ [])))))
         (seq (assign (place_at 3 []) (op2 ptr_eq (copy (place_at 2 [])) (int w64 0)))
         (seq (cond (copy (place_at 3 [])) (seq (assign (place_at 0 []) (aggregate (int w8 0 ∷ []))) return) skip)
@@ -129,7 +130,15 @@ module _ (E : Kind) where
   }
 
   abbrev pub ended : Ended
-  ended = record { signature = record { lifetimes = 1; outlives = []; params = RefMutOf (0 ∷ []) tt (plain (λ _. B)) (λ _. tt) ∷ []; result = plain (λ κs. Opt.the_row (type_at {n = 1} (RefMutOf (0 ∷ []) tt (plain (λ _. R)) (λ _. E.one)) κs)) }; kept = (no, tt) }
+  ended = record {
+    signature = record {
+      lifetimes = 1;
+      outlives = [];
+      params = RefMutOf (0 ∷ []) tt (plain (λ _. B)) (λ _. tt) ∷ [];
+      result = plain (λ κs. Opt.the_row (type_at {n = 1} (RefMutOf (0 ∷ []) tt (plain (λ _. R)) (λ _. E.one)) κs));
+    };
+    kept = (no, tt);
+  }
 
   abbrev stayed : Stays ended.signature.params ended.kept
   stayed = (stay_dropped (mut_ref_to (0 ∷ []) tt (plain (λ _. B))) no, tt)
@@ -149,7 +158,14 @@ module _ (E : Kind) where
   with_value d x = E.make (E.at d) (Some x)
 
   abbrev pub spec : {M : Type 1} {𝓤 : Ura M} (𝓛 : Logic 𝓤) → Clauses 𝓤 ended
-  spec {𝓤 = 𝓤} 𝓛 κs a = record { ghost = Unit {0}; requires = λ _. emp 𝓤; ensures = λ _ r _. sep 𝓤 (sem 𝓛 (follows_if B R a.0.ghost_name (ghost_name_of r) (with_value a.0.now) a.0.now)) (fact 𝓤 (option_map (λ b. b.now) r ≡ E.value a.0.now)) }
+  spec {𝓤 = 𝓤} 𝓛 κs a =
+      record {
+        ghost = Unit {0};
+        requires = λ _. emp 𝓤;
+        ensures =
+            λ _ r _. sep 𝓤 (sem 𝓛 (follows_if B R a.0.ghost_name (ghost_name_of r) (with_value a.0.now) a.0.now))
+            (fact 𝓤 (option_map (λ b. b.now) r ≡ E.value a.0.now));
+      }
 
   module _ (c : Ptr) {M : Type 1} {𝓤 : Ura M} {𝓛 : Logic 𝓤} {K : Type 0} {Γ : List (Item 𝓤)} {G : Goal 𝓤 𝓛.H} where
     word_had : K → (vs : List Val) → (vs ≡ word c ∷ [] → Seq K 𝓛 Γ G) → Seq K 𝓛 (‵ (Word.own_val (c, tt) vs) ∷ Γ) G
@@ -188,30 +204,39 @@ module _ (E : Kind) where
     abbrev Rest : Fml
     Rest = cell_at full_share B.mir (word (E.at d) ∷ []) rb ro
 
-    back : (b o : ℕ) → E.at d ≡ block_ptr b o → count_of (E.at d) < 2 ^ 63 → (w : R.Denot) → ent 𝓤 (sep 𝓤 (sem 𝓛 ((mem R).own_at w b o)) (sem 𝓛 Rest)) (sem 𝓛 ((mem B).own_at (with_value d w) rb ro))
+    back : (b o : ℕ) → E.at d ≡ block_ptr b o → count_of (E.at d) < 2 ^ 63 → (w : R.Denot)
+        → ent 𝓤 (sep 𝓤 (sem 𝓛 ((mem R).own_at w b o)) (sem 𝓛 Rest)) (sem 𝓛 ((mem B).own_at (with_value d w) rb ro))
     unfolding part_of
     back b o e low w =
         let there : E.at (with_value d w) ≡ E.at d = E.at-make (E.at d) (Some w) in
         qed 𝓛 (‵ (part_at R full_share w b o) ∷ ‵ Rest ∷ []) ∵ rewrite ! 0 (λ (p : Ptr). ‵ (lies_there R p (Some w))) (sym e) refl $
-        flt_i ! (count_of (E.at d)) (2 ^ 63) low $ fjoin ! $ rewrite ! 0 (λ (v : Option R.Denot). ‵ (pointer_owns R (E.at d) v)) (sym (E.value-make (E.at d) (Some w))) refl $
+        flt_i ! (count_of (E.at d)) (2 ^ 63) low $ fjoin ! $
+        rewrite ! 0 (λ (v : Option R.Denot). ‵ (pointer_owns R (E.at d) v)) (sym (E.value-make (E.at d) (Some w))) refl $
         rewrite ! 0 (λ (p : Ptr). ‵ (pointer_owns R p (E.value (with_value d w)))) (sym there) refl $
-        word_made (E.at d) ! $ rewrite ! 0 (λ (p : Ptr). ‵ (Word.own_val (p, tt) (word (E.at d) ∷ []))) (sym there) refl $ fjoin ! $ move ! (1 ∷ 0 ∷ []) $ fjoin ! $
+        word_made (E.at d) ! $ rewrite ! 0 (λ (p : Ptr). ‵ (Word.own_val (p, tt) (word (E.at d) ∷ []))) (sym there) refl $
+        fjoin ! $ move ! (1 ∷ 0 ∷ []) $ fjoin ! $
         fpack ! (List Val) (λ us. fsep (cell_at full_share B.mir us rb ro) (B.own_val (with_value d w) us)) (word (E.at d) ∷ []) $ done !
 
-    walk : ent 𝓤 (on_entry 𝓛 ended.signature (κ, tt) (q, tt) (record { ref_ptr = (rb, ro); ghost_name = γ; now = d }, tt) (vptr rb ro ∷ [], tt)) (WpFn 𝓤 H C Λ here (vptr rb ro ∷ []) Post)
+    walk : ent 𝓤 (on_entry 𝓛 ended.signature (κ, tt) (q, tt) (record { ref_ptr = (rb, ro); ghost_name = γ; now = d }, tt)
+        (vptr rb ro ∷ [], tt)) (WpFn 𝓤 H C Λ here (vptr rb ro ∷ []) Post)
     unfolding follows_by
     walk =
-        qed 𝓛 ((‵ (flft κ q) ⊛ ‵ ftrue) ∷ ‵ (owns (MutRef (named 0) κ B ∷ []) (record { ref_ptr = (rb, ro); ghost_name = γ; now = d }, tt) (vptr rb ro ∷ [], tt)) ∷ []) ∵
+        qed 𝓛 ((‵ (flft κ q) ⊛ ‵ ftrue)
+        ∷ ‵ (owns (MutRef (named 0) κ B ∷ []) (record { ref_ptr = (rb, ro); ghost_name = γ; now = d }, tt) (vptr rb ro ∷ [], tt)) ∷ []) ∵
         enter ! C Λ here (vptr rb ro ∷ []) _ $ alloc_all ! (λ l. pass_all ! refl ((tt, tt), tt) $
         let En : Env 𝓤 H = env here.locals l in
         move ! (1 ∷ []) $ fsplit ! $ fsplit3 ! $ drop ! $ move ! (3 ∷ []) $ split ! $ move ! (2 ∷ 3 ∷ 0 ∷ []) $
-        opens ! tt B {h = d} rb ro (λ vs. move ! (1 ∷ []) $ fsplit ! $ word_had (E.at d) ! vs (λ ev. rewrite ! 1 (λ (ws : List Val). ‵ (cell_at full_share B.mir ws rb ro)) ev refl $
+        opens ! tt B {h = d} rb ro (λ vs. move ! (1 ∷ []) $ fsplit ! $
+        word_had (E.at d) ! vs (λ ev. rewrite ! 1 (λ (ws : List Val). ‵ (cell_at full_share B.mir ws rb ro)) ev refl $
         fsplit ! $ flt_l ! (λ low. cases ! (E.at d) (E.value d)
-        (λ e none. sets ! (is ! (of_opd ! (load ! (through ! refl (fld ! refl (stop !))) (look_in ! 0 (sub ! 0 refl (whole !))))) (ap ptr_val e)) refl (tt, record { fits = lit< tt }) $
+        (λ e none. sets ! (is ! (of_opd ! (load ! (through ! refl (fld ! refl (stop !))) (look_in ! 0 (sub ! 0 refl (whole !)))))
+        (ap ptr_val e)) refl (tt, record { fits = lit< tt }) $
         sets ! (bin ! (get ! refl) (lit ! tt) tt) refl (tt, tt) $ first ! $ branches ! (get ! refl)
         (λ null. sets ! (agg ! (and_then ! (lit ! tt) (no_more !))) refl (tt, (record { fits = lit< tt }, tt)) $
-        nothing ! $ rewrite ! 0 (λ (p : Ptr). ‵ (lies_there R p None)) (sym e) refl $ rewrite ! 0 (λ (v : Option R.Denot). ‵ (lies_there R (E.at d) v)) (sym none) refl $
-        flt_i ! (count_of (E.at d)) (2 ^ 63) low $ fjoin ! $ word_made (E.at d) ! $ fjoin ! $ move ! (1 ∷ 0 ∷ 2 ∷ 3 ∷ 4 ∷ []) $ closes ! tt B d (word (E.at d) ∷ []) rb ro $
+        nothing ! $ rewrite ! 0 (λ (p : Ptr). ‵ (lies_there R p None)) (sym e) refl $
+        rewrite ! 0 (λ (v : Option R.Denot). ‵ (lies_there R (E.at d) v)) (sym none) refl $
+        flt_i ! (count_of (E.at d)) (2 ^ 63) low $ fjoin ! $ word_made (E.at d) ! $ fjoin ! $
+        move ! (1 ∷ 0 ∷ 2 ∷ 3 ∷ 4 ∷ []) $ closes ! tt B d (word (E.at d) ∷ []) rb ro $
         use1 𝓛 (‵ (fres γ (B.coded.code d))) (𝓛.names.obs-res γ (B.coded.code d)) $ move ! (1 ∷ []) $ drop ! $
         use0 𝓛 (‵ ((Opt.the_row (Lent κ)).own_val None (live 0 vnil ∷ []))) (none_of 𝓛 (Lent κ)) $
         returns_within ! Post refl (look_at ! 0 refl) $ free_all ! refl $ keep ! (0 ∷ 2 ∷ 1 ∷ []) $
@@ -220,7 +245,8 @@ module _ (E : Kind) where
         (λ null. absurd null))
         (λ b o x e there. let at : Val = vptr b o in
         sets ! (is ! (of_opd ! (load ! (through ! refl (fld ! refl (stop !))) (look_in ! 1 (sub ! 0 refl (whole !))))) (ap ptr_val e)) refl (tt, tt) $
-        sets ! (bin ! (get ! refl) (lit ! tt) (tests_null (block_ptr b o) (subst (λ (p : Ptr). count_of p < 2 ^ 63) e low))) refl (tt, tt) $ first ! $ branches ! (get ! refl)
+        sets ! (bin ! (get ! refl) (lit ! tt) (tests_null (block_ptr b o) (subst (λ (p : Ptr). count_of p < 2 ^ 63) e low))) refl
+        (tt, tt) $ first ! $ branches ! (get ! refl)
         (λ null. absurd null)
         (λ null. skips ! $ exec ! C Λ En (after 3 here.body) (at_ret En Post) $ first ! $ blocks ! $
         sets ! (is ! (of_opd ! (load ! (through ! refl (fld ! refl (stop !))) (look_in ! 1 (sub ! 0 refl (whole !))))) (ap ptr_val e)) refl (tt, tt) $
@@ -228,8 +254,10 @@ module _ (E : Kind) where
         exec ! C Λ En (after 4 here.body) (at_ret En Post) $ sets ! (of_opd ! (get ! refl)) refl (tt, tt) $
         sets ! (agg ! (and_then ! (lit ! tt) (and_then ! (get ! refl) (no_more !)))) refl (tt, (record { fits = lit< tt }, (tt, tt))) $
         move ! (2 ∷ 3 ∷ 4 ∷ 0 ∷ 1 ∷ []) $ group ! 5 $
-        use1 𝓛 (later (some (λ (γ' : GName). ‵ ((Lent κ).own_val (record { ref_ptr = (b, o); ghost_name = γ'; now = x }) (at ∷ [])) ⊛ ‵ (flft κ q) ⊛ ‵ (follows B R γ γ' (with_value d)))))
-        (lends_Part 𝓛 B R (with_value d) (named 0) κ q rb ro b o γ (sem 𝓛 Rest) (back b o e low) (B.coded.code d) (B.coded.code d) x) $ await ! tt $ pick ! (λ γ'.
+        use1 𝓛 (later (some (λ (γ' : GName). ‵ ((Lent κ).own_val (record { ref_ptr = (b, o); ghost_name = γ'; now = x }) (at ∷ []))
+        ⊛ ‵ (flft κ q) ⊛ ‵ (follows B R γ γ' (with_value d)))))
+        (lends_Part 𝓛 B R (with_value d) (named 0) κ q rb ro b o γ (sem 𝓛 Rest) (back b o e low) (B.coded.code d) (B.coded.code d) x) $
+        await ! tt $ pick ! (λ γ'.
         let r : MutBor R.Denot = record { ref_ptr = (b, o); ghost_name = γ'; now = x } in
         split3 ! $ use1 𝓛 (‵ ((Opt.the_row (Lent κ)).own_val (Some r) (live 1 (vcons at vnil) ∷ []))) (Some-of 𝓛 (Lent κ) r at) $
         returns ! (look_at ! 0 refl) $ free_all ! refl $ keep ! (0 ∷ 1 ∷ 2 ∷ []) $

@@ -9,13 +9,15 @@ use Rattle.ecow_values.proofs.Boundaries.{chars_before-front, passes_boundary}
 use Rattle.ecow_string.specs.Text.{AreChars}
 use Rattle.ecow_string.proofs.Texts.{AreChars-append, split_encoded}
 
-pub chars-drop : (cs : List ℕ) (index : ℕ) → AreChars cs → is_boundary cs index ≡ true → chars (drop index (encode_utf8_all cs)) ≡ drop (chars_before cs index) cs
+pub chars-drop : (cs : List ℕ) (index : ℕ) → AreChars cs → is_boundary cs index ≡ true
+    → chars (drop index (encode_utf8_all cs)) ≡ drop (chars_before cs index) cs
 chars-drop cs index valid passes =
     let at = passes_boundary cs index passes in
     let pointer : chars_before cs index ≡ at.front = rw at.ends at (chars_before-front cs at.front at.fits) in
     let after : drop index (encode_utf8_all cs) ≡ encode_utf8_all (drop at.front cs) =
     ap (drop index) (split_encoded cs at.front) ∙ drop_at (encode_utf8_all (take at.front cs)) _ index at.ends in
-    ap chars after ∙ chars-encodes _ (AreChars-append (take at.front cs) (drop at.front cs) (subst AreChars (sym (take-append-drop at.front cs)) valid)).1 ∙ ap (λ k. drop k cs) (sym pointer)
+    ap chars after ∙ chars-encodes _ (AreChars-append (take at.front cs) (drop at.front cs)
+    (subst AreChars (sym (take-append-drop at.front cs)) valid)).1 ∙ ap (λ k. drop k cs) (sym pointer)
 
 -- an item is the first of those that begin with it
 pub item_at : (xs : List ℕ) (index : ℕ) → slice_get xs index ≡ slice_get (drop index xs) 0

@@ -57,7 +57,8 @@ module _ {T : Type 0} where
 
   module _ (names : Names T) (groups : IsSharing names) where
     -- x, which holds h, settles with this list
-    module _ (x : ℕ) (h : Holding T) (at : finite.get names x ≡ Some h) (edit : VecEdit T) (items : List T) (is : LengthIs edit (length h.items) (length items)) where
+    module _ (x : ℕ) (h : Holding T) (at : finite.get names x ≡ Some h) (edit : VecEdit T)
+        (items : List T) (is : LengthIs edit (length h.items) (length items)) where
       within : length h.items ≤ h.capacity
       within = (groups.fits x h at).0
 
@@ -68,32 +69,40 @@ module _ {T : Type 0} where
       strain_left : strain names ≡ strain (forget x names) + cond (is_sole_owner h) (strain_at (length h.items) h.capacity) 0
       strain_left = blocks-forget names groups x h at (λ items capacity. strain_at (length items) capacity)
 
-      after_settle : (capacity : ℕ) → length items ≤ capacity → capacity ≤ MAX → strain (settle x items capacity names) ≡ strain (forget x names) + cond (ltb 0 capacity) (strain_at (length items) capacity) 0
+      after_settle : (capacity : ℕ) → length items ≤ capacity → capacity ≤ MAX
+          → strain (settle x items capacity names) ≡ strain (forget x names) + cond (ltb 0 capacity) (strain_at (length items) capacity) 0
       after_settle capacity fit top = blocks-settle names x groups items capacity fit top (λ items capacity. strain_at (length items) capacity)
 
       owed : debt names ≡ debt (forget x names) + cond (is_shared h) (length h.items) 0
       owed = debt-forget names groups x h at
 
-      by_sharing : is_shared h ≡ true → unshares edit (length h.items) ≡ true → IsPaid (copied_by edit h) (moved_by edit h) (edit_input edit) 0 names (change edit x h items names)
+      by_sharing : is_shared h ≡ true → unshares edit (length h.items) ≡ true
+          → IsPaid (copied_by edit h) (moved_by edit h) (edit_input edit) 0 names (change edit x h items names)
       by_sharing shared leaves =
-          let paid : IsPaidShared edit (length h.items) (length items) h.capacity = paid_shared (length h.items) (length items) h.capacity within small edit is leaves in
+          let paid : IsPaidShared edit (length h.items) (length items) h.capacity =
+          paid_shared (length h.items) (length items) h.capacity within small edit is leaves in
           let capacity : ℕ = capacity_after edit true (length h.items) h.capacity in
-          let goes : change edit x h items names ≡ settle x items capacity names = (λ i. cond (shared i && not (leaves i)) names (settle x items (capacity_after edit (shared i) (length h.items) h.capacity) names)) in
+          let goes : change edit x h items names ≡ settle x items capacity names =
+          (λ i. cond (shared i && not (leaves i)) names (settle x items (capacity_after edit (shared i) (length h.items) h.capacity) names)) in
           let cost : copied_by edit h ≡ copies edit (length h.items) = (λ i. cond (shared i && leaves i) (copies edit (length h.items)) 0) in
           let growth : moved_by edit h ≡ 0 = ap (λ b. cond b 0 (moves edit (length h.items) h.capacity)) shared in
           let owes : cond (is_shared h) (length h.items) 0 ≡ length h.items = ap (λ b. cond b (length h.items) 0) shared in
           let free : debt (settle x items capacity names) ≡ debt (forget x names) = debt-settle names x groups items capacity paid.fits paid.small in
-          let strained : strain (settle x items capacity names) ≡ strain (forget x names) + cond (ltb 0 capacity) (strain_at (length items) capacity) 0 = after_settle capacity paid.fits paid.small in
-          let bound : cond (ltb 0 capacity) (strain_at (length items) capacity) 0 ≤ strain_at (length items) capacity = settled (ltb 0 capacity) (strain_at (length items) capacity) in
+          let strained : strain (settle x items capacity names) ≡ strain (forget x names)
+          + cond (ltb 0 capacity) (strain_at (length items) capacity) 0 = after_settle capacity paid.fits paid.small in
+          let bound : cond (ltb 0 capacity) (strain_at (length items) capacity) 0 ≤ strain_at (length items) capacity =
+          settled (ltb 0 capacity) (strain_at (length items) capacity) in
           record {
             sharing = subst IsSharing (sym goes) (sharing-settle names x groups items capacity paid.fits paid.small);
             copies_paid = rw goes (omega (arith, cost, owed, owes, free, paid.copied));
             moves_paid = rw goes (omega (arith, cost, growth, strained, bound, strain_left, paid.moved));
           }
 
-      by_staying : is_shared h ≡ true → unshares edit (length h.items) ≡ false → IsPaid (copied_by edit h) (moved_by edit h) (edit_input edit) 0 names (change edit x h items names)
+      by_staying : is_shared h ≡ true → unshares edit (length h.items) ≡ false
+          → IsPaid (copied_by edit h) (moved_by edit h) (edit_input edit) 0 names (change edit x h items names)
       by_staying shared stays =
-          let goes : change edit x h items names ≡ names = (λ i. cond (shared i && not (stays i)) names (settle x items (capacity_after edit (shared i) (length h.items) h.capacity) names)) in
+          let goes : change edit x h items names ≡ names =
+          (λ i. cond (shared i && not (stays i)) names (settle x items (capacity_after edit (shared i) (length h.items) h.capacity) names)) in
           let cost : copied_by edit h ≡ 0 = (λ i. cond (shared i && stays i) (copies edit (length h.items)) 0) in
           let growth : moved_by edit h ≡ 0 = ap (λ b. cond b 0 (moves edit (length h.items) h.capacity)) shared in
           record {
@@ -103,27 +112,34 @@ module _ {T : Type 0} where
           }
 
       own_strain : is_shared h ≡ false → cond (is_sole_owner h) (strain_at (length h.items) h.capacity) 0 ≡ strain_at (length h.items) h.capacity
-      own_strain sole = elim (is_sole_owner h) as (λ b. is_sole_owner h ≡ b → cond b (strain_at (length h.items) h.capacity) 0 ≡ strain_at (length h.items) h.capacity) [
-        | true ↦ λ _. refl
-        | false ↦ λ ne.
-            let few : length h.group ≤ 1 = ltb-false 1 (length h.group) sole in
-            let apart : length h.group ≡ 1 → ⊥ = eqb-false (length h.group) 1 ne in
-            let bare : h.capacity ≡ 0 = groups.bare x h at (empty_of h.group (omega (arith, few, apart))) in
-            let empty : length h.items ≡ 0 = omega (arith, within, bare) in
-            λ i. sym (λ j. strain_at (empty j) (bare j)) i
-      ] refl
+      own_strain sole =
+          elim (is_sole_owner h) as (λ b. is_sole_owner h ≡ b
+          → cond b (strain_at (length h.items) h.capacity) 0 ≡ strain_at (length h.items) h.capacity) [
+            | true ↦ λ _. refl
+            | false ↦ λ ne.
+                let few : length h.group ≤ 1 = ltb-false 1 (length h.group) sole in
+                let apart : length h.group ≡ 1 → ⊥ = eqb-false (length h.group) 1 ne in
+                let bare : h.capacity ≡ 0 = groups.bare x h at (empty_of h.group (omega (arith, few, apart))) in
+                let empty : length h.items ≡ 0 = omega (arith, within, bare) in
+                λ i. sym (λ j. strain_at (empty j) (bare j)) i
+          ] refl
 
       by_itself : is_shared h ≡ false → IsPaid (copied_by edit h) (moved_by edit h) (edit_input edit) 0 names (change edit x h items names)
       by_itself sole =
           let paid : IsPaidSole edit (length h.items) (length items) h.capacity = paid_sole (length h.items) (length items) h.capacity within small edit is in
           let capacity : ℕ = capacity_after edit false (length h.items) h.capacity in
-          let goes : change edit x h items names ≡ settle x items capacity names = ap (λ b. cond (b && not (unshares edit (length h.items))) names (settle x items (capacity_after edit b (length h.items) h.capacity) names)) sole in
+          let goes : change edit x h items names ≡ settle x items capacity names =
+          ap (λ b. cond (b && not (unshares edit (length h.items))) names
+          (settle x items (capacity_after edit b (length h.items) h.capacity) names)) sole in
           let cost : copied_by edit h ≡ 0 = ap (λ b. cond (b && unshares edit (length h.items)) (copies edit (length h.items)) 0) sole in
           let growth : moved_by edit h ≡ moves edit (length h.items) h.capacity = ap (λ b. cond b 0 (moves edit (length h.items) h.capacity)) sole in
           let free : debt (settle x items capacity names) ≡ debt (forget x names) = debt-settle names x groups items capacity paid.fits paid.small in
-          let strained : strain (settle x items capacity names) ≡ strain (forget x names) + cond (ltb 0 capacity) (strain_at (length items) capacity) 0 = after_settle capacity paid.fits paid.small in
-          let bound : cond (ltb 0 capacity) (strain_at (length items) capacity) 0 ≤ strain_at (length items) capacity = settled (ltb 0 capacity) (strain_at (length items) capacity) in
-          let left : strain names ≡ strain (forget x names) + strain_at (length h.items) h.capacity = strain_left ∙ ap (λ n. strain (forget x names) + n) (own_strain sole) in
+          let strained : strain (settle x items capacity names) ≡ strain (forget x names)
+          + cond (ltb 0 capacity) (strain_at (length items) capacity) 0 = after_settle capacity paid.fits paid.small in
+          let bound : cond (ltb 0 capacity) (strain_at (length items) capacity) 0 ≤ strain_at (length items) capacity =
+          settled (ltb 0 capacity) (strain_at (length items) capacity) in
+          let left : strain names ≡ strain (forget x names) + strain_at (length h.items) h.capacity =
+          strain_left ∙ ap (λ n. strain (forget x names) + n) (own_strain sole) in
           record {
             sharing = subst IsSharing (sym goes) (sharing-settle names x groups items capacity paid.fits paid.small);
             copies_paid = rw goes (omega (arith, cost, owed, free));
@@ -137,15 +153,18 @@ module _ {T : Type 0} where
           (cases_Bool (is_shared h))
 
     -- a new name
-    made_paid : (x : ℕ) → finite.get names x ≡ None → (how : VecMake T) (items : List T) → LengthMade how (length items) → IsPaid 0 0 (make_input how) 0 names (settle x items (make_capacity how) names)
+    made_paid : (x : ℕ) → finite.get names x ≡ None → (how : VecMake T) (items : List T) → LengthMade how (length items)
+        → IsPaid 0 0 (make_input how) 0 names (settle x items (make_capacity how) names)
     made_paid x none how items is =
         let paid : IsPaidMade how (length items) = paid_made (length items) how is in
         let capacity : ℕ = make_capacity how in
         let same : forget x names ≡ names = forget_absent names x groups none in
         let free : debt (settle x items capacity names) ≡ debt names = debt-settle names x groups items capacity paid.fits paid.small ∙ ap debt same in
         let strained : strain (settle x items capacity names) ≡ strain names + cond (ltb 0 capacity) (strain_at (length items) capacity) 0 =
-        blocks-settle names x groups items capacity paid.fits paid.small (λ items capacity. strain_at (length items) capacity) ∙ ap (λ n. strain n + cond (ltb 0 capacity) (strain_at (length items) capacity) 0) same in
-        let bound : cond (ltb 0 capacity) (strain_at (length items) capacity) 0 ≤ strain_at (length items) capacity = settled (ltb 0 capacity) (strain_at (length items) capacity) in
+        blocks-settle names x groups items capacity paid.fits paid.small (λ items capacity. strain_at (length items) capacity)
+        ∙ ap (λ n. strain n + cond (ltb 0 capacity) (strain_at (length items) capacity) 0) same in
+        let bound : cond (ltb 0 capacity) (strain_at (length items) capacity) 0 ≤ strain_at (length items) capacity =
+        settled (ltb 0 capacity) (strain_at (length items) capacity) in
         record {
           sharing = sharing-settle names x groups items capacity paid.fits paid.small;
           copies_paid = omega (arith, free);
@@ -165,7 +184,8 @@ module _ {T : Type 0} where
     dropped_paid : (x : ℕ) (h : Holding T) → finite.get names x ≡ Some h → IsPaid 0 0 0 0 names (forget x names)
     dropped_paid x h at =
         let left : debt names ≡ debt (forget x names) + cond (is_shared h) (length h.items) 0 = debt-forget names groups x h at in
-        let strains : strain names ≡ strain (forget x names) + cond (is_sole_owner h) (strain_at (length h.items) h.capacity) 0 = blocks-forget names groups x h at (λ items capacity. strain_at (length items) capacity) in
+        let strains : strain names ≡ strain (forget x names) + cond (is_sole_owner h) (strain_at (length h.items) h.capacity) 0 =
+        blocks-forget names groups x h at (λ items capacity. strain_at (length items) capacity) in
         record {
           sharing = sharing-forget names x groups;
           copies_paid = omega (arith, left);
@@ -191,7 +211,8 @@ module _ {T : Type 0} where
         subst (IsPaidAnswer 0 0 (make_input how) 0 old) (same_answer _ answer xs.2)
         (tt, made_paid old groups x none how xs.0 (is_made how xs.0 xs.1))
 
-    clone_paid : (x y : ℕ) (how : VecDerive) → counted_carry_out old (Derive x y how) ≡ Ok answer → IsPaidAnswer 0 0 0 (length (holding_at old x).items) old answer
+    clone_paid : (x y : ℕ) (how : VecDerive) → counted_carry_out old (Derive x y how) ≡ Ok answer
+        → IsPaidAnswer 0 0 0 (length (holding_at old x).items) old answer
     clone_paid x y how e =
         let is_there = bound (there old x) _ answer e in
         let h : Holding T = is_there.0 in
@@ -208,24 +229,30 @@ module _ {T : Type 0} where
         let at : finite.get old x ≡ Some h = found_value (finite.get old x) h is_there.1 in
         subst (IsPaidAnswer 0 0 0 0 old) (same_answer _ answer is_there.2) (tt, dropped_paid old groups x h at)
 
-    edit_paid : (x : ℕ) (edit : VecEdit T) → counted_carry_out old (Edit x edit) ≡ Ok answer → IsPaidAnswer (copied_by edit (holding_at old x)) (moved_by edit (holding_at old x)) (edit_input edit) 0 old answer
+    edit_paid : (x : ℕ) (edit : VecEdit T) → counted_carry_out old (Edit x edit) ≡ Ok answer
+        → IsPaidAnswer (copied_by edit (holding_at old x)) (moved_by edit (holding_at old x)) (edit_input edit) 0 old answer
     edit_paid x edit e =
         let is_there = bound (there old x) _ answer e in
         let h : Holding T = is_there.0 in
         let at : finite.get old x ≡ Some h = found_value (finite.get old x) h is_there.1 in
         let after = bound (edit_vec edit h.items) _ answer is_there.2 in
         let is = is_answer h.items after.0 edit after.1 in
-        subst (IsPaidAnswer (copied_by edit (holding_at old x)) (moved_by edit (holding_at old x)) (edit_input edit) 0 old) (same_answer _ answer after.2)
-        (is.0, subst (λ k. IsPaid (copied_by edit k) (moved_by edit k) (edit_input edit) 0 old (change edit x h after.0.1 old)) (sym (held_is old x h at)) (change_paid old groups x h at edit after.0.1 is.1))
+        subst (IsPaidAnswer (copied_by edit (holding_at old x)) (moved_by edit (holding_at old x)) (edit_input edit) 0 old) (same_answer _ answer after.2) (
+          is.0,
+          subst (λ k. IsPaid (copied_by edit k) (moved_by edit k) (edit_input edit) 0 old (change edit x h after.0.1 old))
+              (sym (held_is old x h at)) (change_paid old groups x h at edit after.0.1 is.1),
+        )
 
     ask_paid : (x : ℕ) (question : VecAsk) → counted_carry_out old (Ask x question) ≡ Ok answer → IsPaidAnswer 0 0 0 0 old answer
     ask_paid x question e =
         let is_there = bound (there old x) _ answer e in
         let h : Holding T = is_there.0 in
         let outcome = bound (ask_vec (observation_of h) question h.items) _ answer is_there.2 in
-        subst (IsPaidAnswer 0 0 0 0 old) (same_answer _ answer outcome.2) (is_asked (observation_of h) question h.items outcome.0 outcome.1, asked_paid old groups)
+        subst (IsPaidAnswer 0 0 0 0 old) (same_answer _ answer outcome.2)
+        (is_asked (observation_of h) question h.items outcome.0 outcome.1, asked_paid old groups)
 
-    answer_paid : (usage : VecUsage T) → counted_carry_out old usage ≡ Ok answer → IsPaidAnswer (copied_in usage old) (moved_in usage old) (input_in usage old) (eager_in usage old) old answer
+    answer_paid : (usage : VecUsage T) → counted_carry_out old usage ≡ Ok answer
+        → IsPaidAnswer (copied_in usage old) (moved_in usage old) (input_in usage old) (eager_in usage old) old answer
     answer_paid (Make x how) e = make_paid x how e
     answer_paid (Derive x y how) e = clone_paid x y how e
     answer_paid (Drop x) e = drop_paid x e
@@ -237,30 +264,37 @@ module _ {T : Type 0} where
     pub sharing : IsSharing new
     pub after : names_after old usage outcome ≡ new
     pub copies_paid : if_accepted outcome (copied_in usage old) + debt new ≤ debt old + if_accepted outcome (eager_in usage old)
-    pub moves_paid : if_accepted outcome (moved_in usage old) + strain new ≤ strain old + if_accepted outcome (copied_in usage old) + 2 * if_accepted outcome (input_in usage old)
+    pub moves_paid : if_accepted outcome (moved_in usage old) + strain new ≤ strain old
+        + if_accepted outcome (copied_in usage old) + 2 * if_accepted outcome (input_in usage old)
 
   module _ (usage : VecUsage T) (old : Names T) (groups : IsSharing old) where
     refused_paid : (refusal : Refusal) → IsPaidStep usage old (Refused refusal) old
     refused_paid refusal = record { sharing = groups; after = refl; copies_paid = omega arith; moves_paid = omega arith }
 
     refused_as : (refusal : Refusal) (outcome : Outcome T) (new : Names T) → outcome ≡ Refused refusal → new ≡ old → IsPaidStep usage old outcome new
-    refused_as refusal outcome new is same = subst (λ (a : Outcome T × Names T). IsPaidStep usage old a.0 a.1) (λ i. (sym is i, sym same i)) (refused_paid refusal)
+    refused_as refusal outcome new is same =
+        subst (λ (a : Outcome T × Names T). IsPaidStep usage old a.0 a.1) (λ i. (sym is i, sym same i)) (refused_paid refusal)
 
-    accepted_paid : (outcome : Outcome T) (new : Names T) → counted_carry_out old usage ≡ Ok (outcome, new) → OnRefused outcome ⊥ → IsPaid (copied_in usage old) (moved_in usage old) (input_in usage old) (eager_in usage old) old new → IsPaidStep usage old outcome new
+    accepted_paid : (outcome : Outcome T) (new : Names T) → counted_carry_out old usage ≡ Ok (outcome, new)
+        → OnRefused outcome ⊥ → IsPaid (copied_in usage old) (moved_in usage old) (input_in usage old) (eager_in usage old) old new
+        → IsPaidStep usage old outcome new
     accepted_paid (Refused refusal) new is accepted paid = absurd accepted
-    accepted_paid _ new is accepted paid = record { sharing = paid.sharing; after = ap (λ r. names_or r old) is; copies_paid = paid.copies_paid; moves_paid = paid.moves_paid }
+    accepted_paid _ new is accepted paid =
+        record { sharing = paid.sharing; after = ap (λ r. names_or r old) is; copies_paid = paid.copies_paid; moves_paid = paid.moves_paid }
 
     -- a step is paid, and the names after it are those that the sums of a run go on from
     pub step_paid : (outcome : Outcome T) (new : Names T) → IsCountedUse old usage outcome new → IsPaidStep usage old outcome new
-    step_paid outcome new h = elim (counted_carry_out old usage) as (λ r. counted_carry_out old usage ≡ r → Gives r (counted_is_free old usage) old outcome new → IsPaidStep usage old outcome new) [
-      | Ok answer ↦ λ e h. ⊎_elim
-          (λ (w : (outcome, new) ≡ answer).
-          let paid = answer_paid old groups answer usage e in
-          subst (λ (a : Outcome T × Names T). IsPaidStep usage old a.0 a.1) (sym w) (accepted_paid answer.0 answer.1 e paid.0 paid.1))
-          (λ (w : (outcome ≡ Refused Memory) × (new ≡ old) × (counted_is_free old usage ≡ false)). refused_as Memory outcome new w.0 w.1)
-          h
-      | Err refusal ↦ λ e h. refused_as refusal outcome new h.0 h.1
-    ] refl h
+    step_paid outcome new h =
+        elim (counted_carry_out old usage) as (λ r. counted_carry_out old usage ≡ r
+        → Gives r (counted_is_free old usage) old outcome new → IsPaidStep usage old outcome new) [
+          | Ok answer ↦ λ e h. ⊎_elim
+              (λ (w : (outcome, new) ≡ answer).
+              let paid = answer_paid old groups answer usage e in
+              subst (λ (a : Outcome T × Names T). IsPaidStep usage old a.0 a.1) (sym w) (accepted_paid answer.0 answer.1 e paid.0 paid.1))
+              (λ (w : (outcome ≡ Refused Memory) × (new ≡ old) × (counted_is_free old usage ≡ false)). refused_as Memory outcome new w.0 w.1)
+              h
+          | Err refusal ↦ λ e h. refused_as refusal outcome new h.0 h.1
+        ] refl h
 
   -- a run keeps what groups are
   pub run_shares : (cs : List (VecCommand T)) (outcomes : List (Outcome T)) (old new : Names T) → IsSharing old → CountedRun old cs outcomes new → IsSharing new
@@ -275,7 +309,8 @@ module _ {T : Type 0} where
   copies_at_most_eagerly (c ∷ cs) [] old new groups h = absurd h
   copies_at_most_eagerly (c ∷ cs) (outcome ∷ outcomes) old new groups h =
       let step : IsPaidStep (vec_usage c) old outcome h.0 = step_paid (vec_usage c) old groups outcome h.0 h.1 in
-      let rest : copied_in_run h.0 cs outcomes + debt new ≤ debt h.0 + eager_in_run h.0 cs outcomes = copies_at_most_eagerly cs outcomes h.0 new step.sharing h.2 in
+      let rest : copied_in_run h.0 cs outcomes + debt new ≤ debt h.0 + eager_in_run h.0 cs outcomes =
+      copies_at_most_eagerly cs outcomes h.0 new step.sharing h.2 in
       rw step.after (omega (arith, step.copies_paid, rest))
 
   pub moves_are_paid : (cs : List (VecCommand T)) (outcomes : List (Outcome T)) (old new : Names T) → MovesArePaid old cs outcomes new
@@ -284,7 +319,8 @@ module _ {T : Type 0} where
   moves_are_paid (c ∷ cs) [] old new groups h = absurd h
   moves_are_paid (c ∷ cs) (outcome ∷ outcomes) old new groups h =
       let step : IsPaidStep (vec_usage c) old outcome h.0 = step_paid (vec_usage c) old groups outcome h.0 h.1 in
-      let rest : moved_in_run h.0 cs outcomes + strain new ≤ strain h.0 + copied_in_run h.0 cs outcomes + 2 * input_in_run h.0 cs outcomes = moves_are_paid cs outcomes h.0 new step.sharing h.2 in
+      let rest : moved_in_run h.0 cs outcomes + strain new ≤ strain h.0 + copied_in_run h.0 cs outcomes + 2 * input_in_run h.0 cs outcomes =
+      moves_are_paid cs outcomes h.0 new step.sharing h.2 in
       rw step.after (omega (arith, step.moves_paid, rest))
 
   -- from no names at all
@@ -297,14 +333,19 @@ module _ {T : Type 0} where
     bare = λ x h is _. absurd (none-some h (sym (finite.get-empty nat_cmp x) ∙ is));
   }
 
-  pub copies_from_nothing : (cs : List (VecCommand T)) (outcomes : List (Outcome T)) (new : Names T) → CountedRun finite.empty cs outcomes new → copied_in_run finite.empty cs outcomes ≤ eager_in_run finite.empty cs outcomes
+  pub copies_from_nothing : (cs : List (VecCommand T)) (outcomes : List (Outcome T)) (new : Names T)
+      → CountedRun finite.empty cs outcomes new → copied_in_run finite.empty cs outcomes ≤ eager_in_run finite.empty cs outcomes
   copies_from_nothing cs outcomes new h =
-      let paid : copied_in_run finite.empty cs outcomes + debt new ≤ debt finite.empty + eager_in_run finite.empty cs outcomes = copies_at_most_eagerly cs outcomes finite.empty new nothing_shares h in
+      let paid : copied_in_run finite.empty cs outcomes + debt new ≤ debt finite.empty + eager_in_run finite.empty cs outcomes =
+      copies_at_most_eagerly cs outcomes finite.empty new nothing_shares h in
       let none : debt {T = T} finite.empty ≡ 0 = total-empty debt_of in
       omega (arith, paid, none)
 
-  pub moves_from_nothing : (cs : List (VecCommand T)) (outcomes : List (Outcome T)) (new : Names T) → CountedRun finite.empty cs outcomes new → moved_in_run finite.empty cs outcomes ≤ copied_in_run finite.empty cs outcomes + 2 * input_in_run finite.empty cs outcomes
+  pub moves_from_nothing : (cs : List (VecCommand T)) (outcomes : List (Outcome T)) (new : Names T)
+      → CountedRun finite.empty cs outcomes new → moved_in_run finite.empty cs outcomes
+      ≤ copied_in_run finite.empty cs outcomes + 2 * input_in_run finite.empty cs outcomes
   moves_from_nothing cs outcomes new h =
-      let paid : moved_in_run finite.empty cs outcomes + strain new ≤ strain finite.empty + copied_in_run finite.empty cs outcomes + 2 * input_in_run finite.empty cs outcomes = moves_are_paid cs outcomes finite.empty new nothing_shares h in
+      let paid : moved_in_run finite.empty cs outcomes + strain new ≤ strain finite.empty + copied_in_run finite.empty cs outcomes
+      + 2 * input_in_run finite.empty cs outcomes = moves_are_paid cs outcomes finite.empty new nothing_shares h in
       let none : strain {T = T} finite.empty ≡ 0 = total-empty strain_of in
       omega (arith, paid, none)

@@ -39,7 +39,9 @@ module _ {T : Type 0} where
 
   module _ (lawful : Type 0) (old : Names T) (usage : VecUsage T) where
     -- a command for which nothing is counted
-    pub still_carried : (outcome : Outcome T) (new : Names T) → (lawful → IsCountedUse old usage outcome new) → IsCountedVerdict old usage outcome → OnRefused outcome (new ≡ old) → copied_in usage old ≡ 0 → moved_in usage old ≡ 0 → IsCarried lawful old usage (still outcome) new
+    pub still_carried : (outcome : Outcome T) (new : Names T) → (lawful → IsCountedUse old usage outcome new)
+        → IsCountedVerdict old usage outcome → OnRefused outcome (new ≡ old) → copied_in usage old ≡ 0
+        → moved_in usage old ≡ 0 → IsCarried lawful old usage (still outcome) new
     still_carried outcome new step judged same copies moves = record {
       step = step;
       verdict = judged;
@@ -51,14 +53,18 @@ module _ {T : Type 0} where
     refused_carried : (refusal : Refusal) → counted_carry_out old usage ≡ Err refusal → IsCarried lawful old usage (still (Refused refusal)) old
     refused_carried refusal e = record { step = λ _. rw e (refl, refl); verdict = rw e refl; refused = refl; copied = refl; moved = refl }
 
-    memory_carried : (answer : Outcome T × Names T) → counted_carry_out old usage ≡ Ok answer → counted_is_free old usage ≡ false → IsCarried lawful old usage (still (Refused Memory)) old
-    memory_carried answer e takes = record { step = λ _. rw e (inr (refl, refl, takes)); verdict = rw e (refl, takes); refused = refl; copied = refl; moved = refl }
+    memory_carried : (answer : Outcome T × Names T) → counted_carry_out old usage ≡ Ok answer
+        → counted_is_free old usage ≡ false → IsCarried lawful old usage (still (Refused Memory)) old
+    memory_carried answer e takes =
+        record { step = λ _. rw e (inr (refl, refl, takes)); verdict = rw e (refl, takes); refused = refl; copied = refl; moved = refl }
 
     pub same_carried : (done : Carried T) (new : Names T) → new ≡ old → IsCarried lawful old usage done old → IsCarried lawful old usage done new
     same_carried done new e h = subst (IsCarried lawful old usage done) (sym e) h
 
     -- an accepted command
-    done_carried : (done : Carried T) (new : Names T) (answer : Outcome T × Names T) → counted_carry_out old usage ≡ Ok answer → OnRefused done.outcome ⊥ → (lawful → counted_carry_out old usage ≡ Ok (done.outcome, new)) → done.copied ≡ copied_in usage old → done.moved ≡ moved_in usage old → IsCarried lawful old usage done new
+    done_carried : (done : Carried T) (new : Names T) (answer : Outcome T × Names T) → counted_carry_out old usage ≡ Ok answer
+        → OnRefused done.outcome ⊥ → (lawful → counted_carry_out old usage ≡ Ok (done.outcome, new))
+        → done.copied ≡ copied_in usage old → done.moved ≡ moved_in usage old → IsCarried lawful old usage done new
     done_carried done new answer is accepted given copies_are moves_count = record {
       step = λ ok. rw (given ok) (inl refl);
       verdict = rw is (no_refusal _ done.outcome accepted);
@@ -89,16 +95,22 @@ module _ {T : Type 0} where
       moved_is = ap (moved_by e) held_is
 
       pub edit_refused : (refusal : Refusal) → verdict (edit_vec e h.items) ≡ Err refusal → IsCarried lawful old (Edit x e) (still (Refused refusal)) old
-      edit_refused refusal asked = refused_carried lawful old (Edit x e) refusal (given_at ∙ ap (λ r. r >>= (λ after. Ok (after.0, change e x h after.1 old))) (refuses e h.items refusal asked))
+      edit_refused refusal asked =
+          refused_carried lawful old (Edit x e) refusal (given_at
+          ∙ ap (λ r. r >>= (λ after. Ok (after.0, change e x h after.1 old))) (refuses e h.items refusal asked))
 
       module _ (asked : verdict (edit_vec e h.items) ≡ Ok tt) where
         answered : (answer : Outcome T × Names T) × (counted_carry_out old (Edit x e) ≡ Ok answer)
-        answered = let ok = accepts e h.items asked in ((ok.0.0, change e x h ok.0.1 old), given_at ∙ ap (λ r. r >>= (λ after. Ok (after.0, change e x h after.1 old))) ok.1)
+        answered =
+            let ok =
+            accepts e h.items asked in
+            ((ok.0.0, change e x h ok.0.1 old), given_at ∙ ap (λ r. r >>= (λ after. Ok (after.0, change e x h after.1 old))) ok.1)
 
         pub edit_memory : holding_is_free e h ≡ false → IsCarried lawful old (Edit x e) (still (Refused Memory)) old
         edit_memory takes = memory_carried lawful old (Edit x e) answered.0 answered.1 (free_at ∙ takes)
 
-        pub edit_stays : is_shared h ≡ true → unshares e (length h.items) ≡ false → OnRefused (unchanged e) ⊥ → IsCarried lawful old (Edit x e) (still (unchanged e)) old
+        pub edit_stays : is_shared h ≡ true → unshares e (length h.items) ≡ false → OnRefused (unchanged e) ⊥
+            → IsCarried lawful old (Edit x e) (still (unchanged e)) old
         edit_stays shared none accepted =
             let same = stays_as h.items e none asked in
             done_carried lawful old (Edit x e) (still (unchanged e)) old answered.0 answered.1 accepted
@@ -128,24 +140,35 @@ module _ {T : Type 0} where
         edit_done leaves fits from to capacity done new from_is changed accepted capacity_is names_are ticks_are steps_are =
             done_carried lawful old (Edit x e) done new answered.0 answered.1 accepted
             (λ ok. given_at ∙ ap (λ r. r >>= (λ after. Ok (after.0, change e x h after.1 old)))
-            (sym (elim (is_shared h) as (λ b. edit_vec e (cond b (take (copies e (length h.items)) h.items) h.items) ≡ edit_vec e h.items) [ true ↦ enough e h.items | false ↦ refl ])
+            (sym (elim (is_shared h) as (λ b. edit_vec e (cond b (take (copies e (length h.items)) h.items) h.items)
+            ≡ edit_vec e h.items) [ true ↦ enough e h.items | false ↦ refl ])
             ∙ ap (edit_vec e) (sym (from_is ok)) ∙ changed ok)
-            ∙ ap (λ n. Ok (done.outcome, n)) (leaves_it (is_shared h) (unshares e (length h.items)) old (settle x to (capacity_after e (is_shared h) (length h.items) h.capacity) old) leaves
+            ∙ ap (λ n. Ok (done.outcome, n)) (leaves_it (is_shared h) (unshares e (length h.items)) old
+            (settle x to (capacity_after e (is_shared h) (length h.items) h.capacity) old) leaves
             ∙ sym (names_are ∙ ap (λ k. settle x to k old) capacity_is)))
             (ticks_are ∙ copied_all (is_shared h) (unshares e (length h.items)) (copies e (length h.items)) leaves ∙ sym copied_is)
             (steps_are ∙ ap (λ k. cond (is_shared h) 0 (cond (nat_le k h.capacity) 0 (staying e (length h.items)))) capacity_is
-            ∙ elim (is_shared h) as (λ b. cond b 0 (cond (nat_le (capacity_after e b (length h.items) h.capacity) h.capacity) 0 (staying e (length h.items))) ≡ cond b 0 (moves e (length h.items) h.capacity)) [ true ↦ refl | false ↦ moves_are (length h.items) h.capacity e (asks_within e h.items fits asked) ]
+            ∙ elim (is_shared h) as (λ b.
+            cond b 0 (cond (nat_le (capacity_after e b (length h.items) h.capacity) h.capacity) 0 (staying e (length h.items)))
+            ≡ cond b 0 (moves e (length h.items) h.capacity)) [
+              | true ↦ refl
+              | false ↦ moves_are
+                  (length h.items) h.capacity e (asks_within e h.items fits asked)
+            ]
             ∙ sym moved_is)
 
   pub no_size_at : (o : Option (Holding T)) → None ≡ option_map size_of o → o ≡ None
   no_size_at None e = refl
   no_size_at (Some h) e = absurd (none-some (size_of h) e)
 
-  pub found_size : (names : Names T) (x : ℕ) (size : Size) → Some size ≡ option_map size_of (finite.get names x) → (finite.get names x ≡ Some (holding_at names x)) × (size ≡ size_of (holding_at names x))
-  found_size names x size e = elim (finite.get names x) as (λ o. Some size ≡ option_map size_of o → (o ≡ Some (unwrap_or o nothing)) × (size ≡ size_of (unwrap_or o nothing))) [
-    | None ↦ λ e. absurd (none-some size (sym e))
-    | Some h ↦ λ e. (refl, same_Some size (size_of h) e)
-  ] e
+  pub found_size : (names : Names T) (x : ℕ) (size : Size) → Some size ≡ option_map size_of (finite.get names x)
+      → (finite.get names x ≡ Some (holding_at names x)) × (size ≡ size_of (holding_at names x))
+  found_size names x size e =
+      elim (finite.get names x) as (λ o. Some size ≡ option_map size_of o
+      → (o ≡ Some (unwrap_or o nothing)) × (size ≡ size_of (unwrap_or o nothing))) [
+        | None ↦ λ e. absurd (none-some size (sym e))
+        | Some h ↦ λ e. (refl, same_Some size (size_of h) e)
+      ] e
 
 pub found_fits : {T : Type 0} {size : Size} (h : Holding T) → size ≡ size_of h → size.len ≤ size.capacity → length h.items ≤ h.capacity
 found_fits h same fits = subst (λ (s : Size). s.len ≤ s.capacity) same fits

@@ -21,7 +21,8 @@ module _ {X : Type 0} (places : Places) (table : Slab (Entry X)) (x : ℕ) where
   pub shown_at : (w : Option ℕ) → finite.get places x ≡ Some w → finite.get (names_of places table) x ≡ Some (holding_in places table w)
   shown_at w f = get_names_of places table x ∙ ap (option_map (holding_in places table)) f
 
-  pub shown_entry : (p : ℕ) (entry : Entry X) → finite.get places x ≡ Some (Some p) → get table p ≡ Some entry → finite.get (names_of places table) x ≡ Some (record { items = entry.block.items; group = names_at p places; capacity = entry.block.capacity })
+  pub shown_entry : (p : ℕ) (entry : Entry X) → finite.get places x ≡ Some (Some p) → get table p ≡ Some entry
+      → finite.get (names_of places table) x ≡ Some (record { items = entry.block.items; group = names_at p places; capacity = entry.block.capacity })
   shown_entry p entry f e = shown_at (Some p) f ∙ ap (λ s. Some (holding_together (names_at p places) s)) e
 
   pub shown_none : finite.get places x ≡ None → finite.get (names_of places table) x ≡ None
@@ -77,18 +78,22 @@ module _ {X : Type 0} (places after : Places) (table left : Slab (Entry X)) (is 
   pub left_blocks : blocks (names_of places table) ≡ blocks (forget x (names_of places table)) + own_blocks (finite.get (names_of places table) x)
   left_blocks = blocks_left (names_of places table) x before
 
-  pub settled_blocks : (items : List X) (capacity : ℕ) → length items ≤ capacity → capacity ≤ MAX → blocks (settle x items capacity (names_of places table)) ≡ blocks (forget x (names_of places table)) + cond (ltb 0 capacity) 1 0
+  pub settled_blocks : (items : List X) (capacity : ℕ) → length items ≤ capacity → capacity ≤ MAX
+      → blocks (settle x items capacity (names_of places table)) ≡ blocks (forget x (names_of places table)) + cond (ltb 0 capacity) 1 0
   settled_blocks items capacity fits small = blocks-settle (names_of places table) x before items capacity fits small (λ items capacity. 1)
 
   module _ (bare : (other : ℕ) → found_at other (finite.get places x) ≡ false) where
     no_block : own_blocks (finite.get (names_of places table) x) ≡ 0
-    no_block = ap own_blocks (get_names_of places table x) ∙ elim (finite.get places x) as (λ o. ((other : ℕ) → found_at other o ≡ false) → own_blocks (option_map (holding_in places table) o) ≡ 0) [
-      | None ↦ λ _. refl
-      | Some w ↦ elim w as (λ w. ((other : ℕ) → found_at other (Some w) ≡ false) → own_blocks (option_map (holding_in places table) (Some w)) ≡ 0) [
-        | None ↦ λ _. refl
-        | Some p ↦ λ none. absurd (true≢false (sym (eq-eqb p p refl) ∙ none p))
-      ]
-    ] bare
+    no_block =
+        ap own_blocks (get_names_of places table x)
+        ∙ elim (finite.get places x) as (λ o. ((other : ℕ) → found_at other o ≡ false)
+        → own_blocks (option_map (holding_in places table) o) ≡ 0) [
+          | None ↦ λ _. refl
+          | Some w ↦ elim w as (λ w. ((other : ℕ) → found_at other (Some w) ≡ false) → own_blocks (option_map (holding_in places table) (Some w)) ≡ 0) [
+            | None ↦ λ _. refl
+            | Some p ↦ λ none. absurd (true≢false (sym (eq-eqb p p refl) ∙ none p))
+          ]
+        ] bare
 
     unmoved : (other : ℕ) → without x (names_at other places) ≡ names_at other places
     unmoved other = without_absent x (names_at other places) (member-names_at other x places ∙ bare other)
@@ -96,7 +101,9 @@ module _ {X : Type 0} (places after : Places) (table left : Slab (Entry X)) (is 
     -- it has no block there either
     module _ (bare_after : (other : ℕ) → found_at other v ≡ false) where
       same_group : (other : ℕ) → names_at other after ≡ names_at other places
-      same_group other = group_of_others places after table table x v found (λ q p ne f. bare_after p) (λ q p ne f group. refl) other (bare_after other) ∙ unmoved other
+      same_group other =
+          group_of_others places after table table x v found (λ q p ne f. bare_after p)
+          (λ q p ne f group. refl) other (bare_after other) ∙ unmoved other
 
       still_table : blocks (names_of after table) ≡ blocks (names_of places table) → IsTable after table
       still_table same = record {
@@ -118,12 +125,15 @@ module _ {X : Type 0} (places after : Places) (table left : Slab (Entry X)) (is 
       made_names made = names_of-bare places after table table x v found (λ q p ne f. bare_after p) (λ q p ne f group. refl) made
 
       pub made_table : v ≡ Some None → IsTable after table
-      made_table made = still_table (ap blocks (made_names made) ∙ (let e = left_blocks in let n = settled_blocks [] 0 (omega arith) (omega arith) in omega (arith, e, n, no_block)))
+      made_table made =
+          still_table (ap blocks (made_names made)
+          ∙ (let e = left_blocks in let n = settled_blocks [] 0 (omega arith) (omega arith) in omega (arith, e, n, no_block)))
 
     -- it has a block of its own there
     module _ (p : ℕ) (entry : Entry X) (goes : v ≡ Some (Some p)) (vacant : get table p ≡ None)
         (here : get left p ≡ Some entry) (others : (other : ℕ) → other ≢ p → get left other ≡ get table other) (len : slab_len left ≡ slab_len table + 1)
-        (one : entry.owners ≡ 1) (fits : length entry.block.items ≤ entry.block.capacity) (small : entry.block.capacity ≤ MAX) (backed : 0 < entry.block.capacity) where
+        (one : entry.owners ≡ 1) (fits : length entry.block.items ≤ entry.block.capacity)
+        (small : entry.block.capacity ≤ MAX) (backed : 0 < entry.block.capacity) where
       apart : (q other : ℕ) → finite.get places q ≡ Some (Some other) → other ≢ p
       apart q other f e = true≢false (sym (is.placed q other f) ∙ ap is_some (ap (get table) e ∙ vacant))
 
@@ -158,14 +168,17 @@ module _ {X : Type 0} (places after : Places) (table left : Slab (Entry X)) (is 
       pub placed_table : IsTable after left
       placed_table = record {
         placed = λ q other f. ⊎_elim
-            (λ (e : q ≡ x). subst (λ z. IsSome (get left z)) (same_Some p other (same_Some (Some p) (Some other) (sym goes ∙ sym (found_here q e) ∙ f))) (ap is_some here))
+            (λ (e : q ≡ x). subst (λ z. IsSome (get left z))
+            (same_Some p other (same_Some (Some p) (Some other) (sym goes ∙ sym (found_here q e) ∙ f))) (ap is_some here))
             (λ (ne : q ≢ x). let there : finite.get places q ≡ Some (Some other) = sym (found_other q ne) ∙ f in
             ap is_some (others other (apart q other there)) ∙ is.placed q other there)
             (cases_eq q x);
         owned = λ other e at. ⊎_elim
             (λ (same : other ≡ p).
             let entry_is : entry ≡ e = same_Some entry e (sym here ∙ ap (get left) (sym same) ∙ at) in
-            subst (λ g. IsOwned e g) (sym own_is ∙ ap (λ z. names_at z after) (sym same)) (subst (λ e. IsOwned e (x ∷ [])) entry_is (record { counted = one; some = rw one (omega arith); fits = fits; small = small; backed = backed })))
+            subst (λ g. IsOwned e g) (sym own_is ∙ ap (λ z. names_at z after) (sym same))
+            (subst (λ e. IsOwned e (x ∷ [])) entry_is
+            (record { counted = one; some = rw one (omega arith); fits = fits; small = small; backed = backed })))
             (λ (ne : other ≢ p).
             subst (λ g. IsOwned e g) (sym (group_is other (λ e. ne (sym e)))) (is.owned other e (sym (others other ne) ∙ at)))
             (cases_eq other p);

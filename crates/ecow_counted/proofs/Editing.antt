@@ -25,10 +25,13 @@ take_twice (suc n) [] = refl
 take_twice (suc n) (x ∷ xs) = ap (λ ys. x ∷ ys) (take_twice n xs)
 
 in_room : (capacity k stays : ℕ) → stays + k ≤ MAX → cond (nat_le (room stays k capacity) capacity) 0 stays ≡ cond (nat_le (stays + k) capacity) 0 stays
-in_room capacity k stays fits = elim (nat_le (stays + k) capacity) as (λ b. nat_le (stays + k) capacity ≡ b → cond (nat_le (cond b capacity (grown stays k capacity)) capacity) 0 stays ≡ cond b 0 stays) [
-  | true ↦ λ t. ap (λ b. cond b 0 stays) (le-leb capacity capacity (omega arith))
-  | false ↦ λ t. let more : capacity < stays + k = leb-false (stays + k) capacity t in ap (λ b. cond b 0 stays) (lt-leb (grown stays k capacity) capacity (omega arith))
-] refl
+in_room capacity k stays fits =
+    elim (nat_le (stays + k) capacity) as (λ b. nat_le (stays + k) capacity ≡ b
+    → cond (nat_le (cond b capacity (grown stays k capacity)) capacity) 0 stays ≡ cond b 0 stays) [
+      | true ↦ λ t. ap (λ b. cond b 0 stays) (le-leb capacity capacity (omega arith))
+      | false ↦ λ t. let more : capacity < stays + k =
+          leb-false (stays + k) capacity t in ap (λ b. cond b 0 stays) (lt-leb (grown stays k capacity) capacity (omega arith))
+    ] refl
 
 in_place : (n capacity : ℕ) → cond (nat_le capacity capacity) 0 n ≡ 0
 in_place n capacity = ap (λ b. cond b 0 n) (le-leb capacity capacity (omega arith))
@@ -102,7 +105,8 @@ module _ {T : Type 0} where
     may_be_copied (Write index value) true may xs is = may xs is
 
     -- and takes the same beside it
-    pub taken_same : (e : VecEdit T) (b : Bool) → (taken_out e (cond b (copies e n) n) ≡ taken_out e n) × (spare_room e (cond b (copies e n) n) ≡ spare_room e n)
+    pub taken_same : (e : VecEdit T) (b : Bool) → (taken_out e (cond b (copies e n) n) ≡ taken_out e n)
+        × (spare_room e (cond b (copies e n) n) ≡ spare_room e n)
     taken_same e false = (refl, refl)
     taken_same (Truncate target) true = (refl, refl)
     taken_same Clear true = (refl, refl)
@@ -145,13 +149,17 @@ module _ {T : Type 0} where
     kept = cond (is_shared h) 0 h.capacity
 
     sole_keeps : (c : ℕ) → not (is_shared h) ≡ true → cond (is_shared h) c h.capacity ≡ kept
-    sole_keeps c sole = elim (is_shared h) as (λ b. not b ≡ true → cond b c h.capacity ≡ cond b 0 h.capacity) [ true ↦ λ e. absurd (true≢false (sym e)) | false ↦ λ e. refl ] sole
+    sole_keeps c sole =
+        elim (is_shared h) as (λ b. not b ≡ true
+        → cond b c h.capacity ≡ cond b 0 h.capacity) [ true ↦ λ e. absurd (true≢false (sym e)) | false ↦ λ e. refl ] sole
 
     room_keeps : (k : ℕ) → (not (is_shared h) && nat_le (length h.items + k) h.capacity) ≡ true → room (length h.items) k h.capacity ≡ kept
-    room_keeps k free = elim (is_shared h) as (λ b. (not b && nat_le (length h.items + k) h.capacity) ≡ true → room (length h.items) k h.capacity ≡ cond b 0 h.capacity) [
-      | true ↦ λ e. absurd (true≢false (sym e))
-      | false ↦ λ e. ap (λ b. cond b h.capacity (grown (length h.items) k h.capacity)) e
-    ] free
+    room_keeps k free =
+        elim (is_shared h) as (λ b. (not b && nat_le (length h.items + k) h.capacity) ≡ true
+        → room (length h.items) k h.capacity ≡ cond b 0 h.capacity) [
+          | true ↦ λ e. absurd (true≢false (sym e))
+          | false ↦ λ e. ap (λ b. cond b h.capacity (grown (length h.items) k h.capacity)) e
+        ] free
 
     pub free_keeps : (e : VecEdit T) → (is_shared h ≡ true → unshares e (length h.items) ≡ true) → holding_is_free e h ≡ true → wanted e ≡ kept
     free_keeps (Push value) leaves free = room_keeps 1 free
@@ -163,19 +171,26 @@ module _ {T : Type 0} where
     free_keeps (Drain bounds) leaves free = absurd (true≢false (sym free))
     free_keeps (Splice bounds items) leaves free = absurd (true≢false (sym free))
     free_keeps Clear leaves free = refl
-    free_keeps Pop leaves free = elim (is_shared h) as (λ b. (b ≡ true → ltb 0 (length h.items) ≡ true) → (not b || eqb (length h.items) 0) ≡ true → cond b (fresh (length h.items)) h.capacity ≡ cond b 0 h.capacity) [
-      | true ↦ λ l e. let some : 0 < length h.items = ltb-true 0 (length h.items) (l refl) in let none : length h.items ≡ 0 = eqb-true (length h.items) 0 e in absurd (omega (arith, some, none))
-      | false ↦ λ l e. refl
-    ] leaves free
-    free_keeps (Truncate target) leaves free = elim (is_shared h) as (λ b. (b ≡ true → ltb target (length h.items) ≡ true) → eqb (cond (b && ltb target (length h.items)) target 0) 0 ≡ true → cond b (fresh target) h.capacity ≡ cond b 0 h.capacity) [
-      | true ↦ λ l e. let none : target ≡ 0 = ap (λ t. cond t target 0) (sym (l refl)) ∙ eqb-true (cond (ltb target (length h.items)) target 0) 0 e in ap fresh none
-      | false ↦ λ l e. refl
-    ] leaves free
+    free_keeps Pop leaves free =
+        elim (is_shared h) as (λ b. (b ≡ true → ltb 0 (length h.items) ≡ true) → (not b || eqb (length h.items) 0) ≡ true
+        → cond b (fresh (length h.items)) h.capacity ≡ cond b 0 h.capacity) [
+          | true ↦ λ l e. let some : 0 < length h.items =
+              ltb-true 0 (length h.items) (l refl) in let none : length h.items ≡ 0 = eqb-true (length h.items) 0 e in absurd (omega (arith, some, none))
+          | false ↦ λ l e. refl
+        ] leaves free
+    free_keeps (Truncate target) leaves free =
+        elim (is_shared h) as (λ b. (b ≡ true → ltb target (length h.items) ≡ true)
+        → eqb (cond (b && ltb target (length h.items)) target 0) 0 ≡ true → cond b (fresh target) h.capacity ≡ cond b 0 h.capacity) [
+          | true ↦ λ l e. let none : target ≡ 0 =
+              ap (λ t. cond t target 0) (sym (l refl)) ∙ eqb-true (cond (ltb target (length h.items)) target 0) 0 e in ap fresh none
+          | false ↦ λ l e. refl
+        ] leaves free
     free_keeps (Extend items) leaves free =
         let none : length items ≡ 0 = eqb-true (length items) 0 free in
         elim (is_shared h) as (λ b. (b ≡ true → ltb 0 (length items) ≡ true) → room (length h.items) (length items) h.capacity ≡ cond b 0 h.capacity) [
           | true ↦ λ l. let some : 0 < length items = ltb-true 0 (length items) (l refl) in absurd (omega (arith, some, none))
-          | false ↦ λ l. ap (λ b. cond b h.capacity (grown (length h.items) (length items) h.capacity)) (le-leb (length h.items + length items) h.capacity (omega (arith, none, fits)))
+          | false ↦ λ l. ap (λ b. cond b h.capacity (grown (length h.items) (length items) h.capacity))
+              (le-leb (length h.items + length items) h.capacity (omega (arith, none, fits)))
         ] leaves
 
     -- what takes room for elements that are new_items or answered isn't free
@@ -195,7 +210,9 @@ module _ {T : Type 0} where
 
   -- a change that leaves a shared block where it is changes nothing
   grown_to : (ys : List T) → verdict (grows ys) ≡ Ok tt → grows ys ≡ Ok (Done, ys)
-  grown_to ys e = elim (nat_lt (length ys) (2 ^ 63)) as (λ b. verdict (check b TooMuch >>= (λ _. becomes {T = T} ys)) ≡ Ok tt → (check b TooMuch >>= (λ _. becomes {T = T} ys)) ≡ Ok (Done, ys)) [ true ↦ λ _. refl | false ↦ λ e. cc ] e
+  grown_to ys e =
+      elim (nat_lt (length ys) (2 ^ 63)) as (λ b. verdict (check b TooMuch >>= (λ _. becomes {T = T} ys)) ≡ Ok tt
+      → (check b TooMuch >>= (λ _. becomes {T = T} ys)) ≡ Ok (Done, ys)) [ true ↦ λ _. refl | false ↦ λ e. cc ] e
 
   module _ (xs : List T) where
     pub stays_as : (e : VecEdit T) → unshares e (length xs) ≡ false → verdict (edit_vec e xs) ≡ Ok tt → (ys : List T) × (edit_vec e xs ≡ Ok (unchanged e, ys))

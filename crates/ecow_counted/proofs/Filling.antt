@@ -58,38 +58,52 @@ module _ {T : Type 0} where
   map_more f [] x = refl
   map_more f (y ∷ xs) x = ap (λ cs. f y ∷ cs) (map_more f xs x)
 
-  pub filling_more : (name k : ℕ) (items : List T) (item : T) (rest : List T) → IsNext k items item rest → filling name (take (k + 1) items) ≡ filling name (take k items) ++ Push name item ∷ []
+  pub filling_more : (name k : ℕ) (items : List T) (item : T) (rest : List T) → IsNext k items item rest
+      → filling name (take (k + 1) items) ≡ filling name (take k items) ++ Push name item ∷ []
   filling_more name k items item rest next = ap (filling name) next.taken ∙ ap (λ cs. New name ∷ cs) (map_more (λ item. Push name item) (take k items) item)
 
   -- one command more
-  run_more : (cs : List (VecCommand T)) (outcomes : List (Outcome T)) (old mid new : Names T) (c : VecCommand T) (outcome : Outcome T) → CountedRun old cs outcomes mid → CountedStep mid c outcome new → CountedRun old (cs ++ c ∷ []) (outcomes ++ outcome ∷ []) new
+  run_more : (cs : List (VecCommand T)) (outcomes : List (Outcome T)) (old mid new : Names T) (c : VecCommand T) (outcome : Outcome T)
+      → CountedRun old cs outcomes mid → CountedStep mid c outcome new → CountedRun old (cs ++ c ∷ []) (outcomes ++ outcome ∷ []) new
   run_more [] [] old mid new c outcome h step = (new, subst (λ names. CountedStep names c outcome new) h step, refl)
   run_more [] (o ∷ outcomes) old mid new c outcome h step = absurd h
   run_more (d ∷ cs) [] old mid new c outcome h step = absurd h
   run_more (d ∷ cs) (o ∷ outcomes) old mid new c outcome h step = (h.0, h.1, run_more cs outcomes h.0 mid new c outcome h.2 step)
 
-  sum_more : (cost : VecUsage T → Names T → ℕ) (cs : List (VecCommand T)) (outcomes : List (Outcome T)) (old mid : Names T) (c : VecCommand T) (outcome : Outcome T) → IsSharing old → CountedRun old cs outcomes mid
+  sum_more : (cost : VecUsage T → Names T → ℕ) (cs : List (VecCommand T)) (outcomes : List (Outcome T)) (old mid : Names T)
+      (c : VecCommand T) (outcome : Outcome T) → IsSharing old → CountedRun old cs outcomes mid
       → sum_in_run cost old (cs ++ c ∷ []) (outcomes ++ outcome ∷ []) ≡ sum_in_run cost old cs outcomes + if_accepted outcome (cost (vec_usage c) mid)
-  sum_more cost [] [] old mid c outcome groups h = let same : if_accepted outcome (cost (vec_usage c) mid) ≡ if_accepted outcome (cost (vec_usage c) old) = ap (λ names. if_accepted outcome (cost (vec_usage c) names)) h in omega (arith, same)
+  sum_more cost [] [] old mid c outcome groups h =
+      let same : if_accepted outcome (cost (vec_usage c) mid) ≡ if_accepted outcome (cost (vec_usage c) old) =
+      ap (λ names. if_accepted outcome (cost (vec_usage c) names)) h in omega (arith, same)
   sum_more cost [] (o ∷ outcomes) old mid c outcome groups h = absurd h
   sum_more cost (d ∷ cs) [] old mid c outcome groups h = absurd h
   sum_more cost (d ∷ cs) (o ∷ outcomes) old mid c outcome groups h =
       let step = step_paid (vec_usage d) old groups o h.0 h.1 in
-      let later : sum_in_run cost h.0 (cs ++ c ∷ []) (outcomes ++ outcome ∷ []) ≡ sum_in_run cost h.0 cs outcomes + if_accepted outcome (cost (vec_usage c) mid) = sum_more cost cs outcomes h.0 mid c outcome step.sharing h.2 in
+      let later : sum_in_run cost h.0 (cs ++ c ∷ []) (outcomes ++ outcome ∷ []) ≡ sum_in_run cost h.0 cs outcomes
+      + if_accepted outcome (cost (vec_usage c) mid) = sum_more cost cs outcomes h.0 mid c outcome step.sharing h.2 in
       rw step.after (omega (arith, later))
 
-  pub runs_one : (old : CountedState T) (c : VecCommand T) (outcome : Outcome T) (new : CountedState T) → CountedStep old.names c outcome new.names → new.copied ≡ saturating old.copied (if_accepted outcome (copied_in (vec_usage c) old.names)) → new.moved ≡ saturating old.moved (if_accepted outcome (moved_in (vec_usage c) old.names)) → IsRunOf old (c ∷ []) (outcome ∷ []) new
+  pub runs_one : (old : CountedState T) (c : VecCommand T) (outcome : Outcome T) (new : CountedState T)
+      → CountedStep old.names c outcome new.names
+      → new.copied ≡ saturating old.copied (if_accepted outcome (copied_in (vec_usage c) old.names))
+      → new.moved ≡ saturating old.moved (if_accepted outcome (moved_in (vec_usage c) old.names)) → IsRunOf old (c ∷ []) (outcome ∷ []) new
   runs_one old c outcome new step copies moves = record { run = (new.names, step, refl); copied = omega (arith, copies); moved = omega (arith, moves) }
 
-  pub runs_more : (old : CountedState T) (cs : List (VecCommand T)) (outcomes : List (Outcome T)) (mid new : CountedState T) (c : VecCommand T) (outcome : Outcome T) → IsSharing old.names → IsRunOf old cs outcomes mid
-      → CountedStep mid.names c outcome new.names → new.copied ≡ saturating mid.copied (if_accepted outcome (copied_in (vec_usage c) mid.names)) → new.moved ≡ saturating mid.moved (if_accepted outcome (moved_in (vec_usage c) mid.names)) → IsRunOf old (cs ++ c ∷ []) (outcomes ++ outcome ∷ []) new
+  pub runs_more : (old : CountedState T) (cs : List (VecCommand T)) (outcomes : List (Outcome T)) (mid new : CountedState T)
+      (c : VecCommand T) (outcome : Outcome T) → IsSharing old.names → IsRunOf old cs outcomes mid
+      → CountedStep mid.names c outcome new.names
+      → new.copied ≡ saturating mid.copied (if_accepted outcome (copied_in (vec_usage c) mid.names))
+      → new.moved ≡ saturating mid.moved (if_accepted outcome (moved_in (vec_usage c) mid.names))
+      → IsRunOf old (cs ++ c ∷ []) (outcomes ++ outcome ∷ []) new
   runs_more old cs outcomes mid new c outcome groups so_far step copies moves = record {
     run = run_more cs outcomes old.names mid.names new.names c outcome so_far.run step;
     copied = omega (arith, copies, so_far.copied, sum_more copied_in cs outcomes old.names mid.names c outcome groups so_far.run);
     moved = omega (arith, moves, so_far.moved, sum_more moved_in cs outcomes old.names mid.names c outcome groups so_far.run);
   }
 
-  accepted_as : (given : Result (Outcome T × Names T) Refusal) (free : Bool) (old : Names T) (outcome : Outcome T) (new : Names T) → Gives given free old outcome new → OnRefused outcome ⊥ → given ≡ Ok (outcome, new)
+  accepted_as : (given : Result (Outcome T × Names T) Refusal) (free : Bool) (old : Names T) (outcome : Outcome T) (new : Names T)
+      → Gives given free old outcome new → OnRefused outcome ⊥ → given ≡ Ok (outcome, new)
   accepted_as (Ok answer) free old outcome new (inl h) ok = ap (λ a. Ok a) (sym h)
   accepted_as (Ok answer) free old outcome new (inr h) ok = absurd (subst (λ o. OnRefused o ⊥) h.0 ok)
   accepted_as (Err refusal) free old outcome new h ok = absurd (subst (λ o. OnRefused o ⊥) h.0 ok)
@@ -110,11 +124,14 @@ module _ {T : Type 0} where
     begun : CountedStep old.names (New name) outcome new.names → (outcome ≡ Done) × (new.names ≡ settle name [] 0 old.names)
     begun step =
         let answer : Outcome T × Names T = (outcome, new.names) in
-        let is_new = bound (unused old.names name) _ answer (accepted_as (counted_carry_out old.names (Make name Begin)) (counted_is_free old.names (Make name Begin)) old.names outcome new.names step ok) in
+        let is_new =
+        bound (unused old.names name) _ answer (accepted_as (counted_carry_out old.names (Make name Begin))
+        (counted_is_free old.names (Make name Begin)) old.names outcome new.names step ok) in
         let same : ◌≡◌ {A = Outcome T × Names T} (Done, settle name [] 0 old.names) answer = same_answer _ answer is_new.2 in
         (sym (ap (λ a. a.0) same), sym (ap (λ a. a.1) same))
 
-    pub begins : CountedStep old.names (New name) outcome new.names → new.moved ≡ saturating old.moved (if_accepted outcome 0) → (outcome ≡ Done) × IsFilling old.moved name 0 new
+    pub begins : CountedStep old.names (New name) outcome new.names → new.moved ≡ saturating old.moved (if_accepted outcome 0)
+        → (outcome ≡ Done) × IsFilling old.moved name 0 new
     begins step moves =
         let is = begun step in
         let count : if_accepted outcome 0 ≡ 0 = ap (λ o. if_accepted o 0) is.0 in (
@@ -136,33 +153,54 @@ module _ {T : Type 0} where
       abbrev capacity : ℕ
       capacity = capacity_after (Append value) false (length so_far.held.items) so_far.held.capacity
 
-      given_at : counted_carry_out old.names (Edit name (Append value)) ≡ (grows after >>= (λ a. Ok (a.0, change (Append value) name so_far.held a.1 old.names)))
+      given_at : counted_carry_out old.names (Edit name (Append value))
+          ≡ (grows after >>= (λ a. Ok (a.0, change (Append value) name so_far.held a.1 old.names)))
       given_at = rw so_far.at refl
 
       grown_is : (answer : Outcome T × List T) → grows after ≡ Ok answer → ◌≡◌ {A = Outcome T × List T} (Done, after) answer
       grown_is answer e = same_answer _ answer (bound (allowed (length after)) _ answer e).2
 
-      pushed : CountedStep old.names (Push name value) outcome new.names → (outcome ≡ Done) × (length after ≤ MAX) × (new.names ≡ change (Append value) name so_far.held after old.names)
+      pushed : CountedStep old.names (Push name value) outcome new.names → (outcome ≡ Done) × (length after ≤ MAX)
+          × (new.names ≡ change (Append value) name so_far.held after old.names)
       pushed step =
           let answer : Outcome T × Names T = (outcome, new.names) in
-          let grown = bound (grows after) _ answer (sym given_at ∙ accepted_as (counted_carry_out old.names (Edit name (Append value))) (counted_is_free old.names (Edit name (Append value))) old.names outcome new.names step ok) in
+          let grown =
+          bound (grows after) _ answer (sym given_at
+          ∙ accepted_as (counted_carry_out old.names (Edit name (Append value)))
+          (counted_is_free old.names (Edit name (Append value))) old.names outcome new.names step ok) in
           let is = is_answer so_far.held.items grown.0 (Append value) grown.1 in
           let same : ◌≡◌ {A = Outcome T × List T} (Done, after) grown.0 = grown_is grown.0 grown.1 in
-          let ends : ◌≡◌ {A = Outcome T × Names T} (grown.0.0, change (Append value) name so_far.held grown.0.1 old.names) answer = same_answer _ answer grown.2 in
-          (sym (ap (λ a. a.0) ends) ∙ sym (ap (λ a. a.0) same), subst (λ a. length a.1 ≤ MAX) (sym same) is.1.1, sym (ap (λ a. a.1) ends) ∙ ap (λ a. change (Append value) name so_far.held a.1 old.names) (sym same))
+          let ends : ◌≡◌ {A = Outcome T × Names T} (grown.0.0, change (Append value) name so_far.held grown.0.1 old.names) answer =
+          same_answer _ answer grown.2 in (
+            sym (ap (λ a. a.0) ends) ∙ sym (ap (λ a. a.0) same),
+            subst (λ a. length a.1 ≤ MAX) (sym same) is.1.1,
+            sym (ap (λ a. a.1) ends)
+                ∙ ap (λ a. change (Append value) name so_far.held a.1 old.names) (sym same),
+          )
 
-      pub pushes : CountedStep old.names (Push name value) outcome new.names → new.moved ≡ saturating old.moved (if_accepted outcome (moved_in (vec_usage (Push name value)) old.names)) → (outcome ≡ Done) × IsFilling before name (n + 1) new
+      pub pushes : CountedStep old.names (Push name value) outcome new.names
+          → new.moved ≡ saturating old.moved (if_accepted outcome (moved_in (vec_usage (Push name value)) old.names))
+          → (outcome ≡ Done) × IsFilling before name (n + 1) new
       pushes step moves_are =
           let is = pushed step in
           let long : length after ≡ length so_far.held.items + 1 = length-append so_far.held.items (value ∷ []) in
           let fits = groups.fits name so_far.held so_far.at in
-          let cost : IsPaidSole (Append value) (length so_far.held.items) (length after) so_far.held.capacity = paid_sole (length so_far.held.items) (length after) so_far.held.capacity fits.0 fits.1 (Append value) (long, is.1) in
-          let goes : change (Append value) name so_far.held after old.names ≡ settle name after capacity old.names = ap (λ b. cond (b && not true) old.names (settle name after (capacity_after (Append value) b (length so_far.held.items) so_far.held.capacity) old.names)) so_far.sole in
+          let cost : IsPaidSole (Append value) (length so_far.held.items) (length after) so_far.held.capacity =
+          paid_sole (length so_far.held.items) (length after) so_far.held.capacity fits.0 fits.1 (Append value) (long, is.1) in
+          let goes : change (Append value) name so_far.held after old.names ≡ settle name after capacity old.names =
+          ap (λ b. cond (b && not true) old.names
+          (settle name after (capacity_after (Append value) b (length so_far.held.items) so_far.held.capacity) old.names)) so_far.sole in
           let holds : holding_at old.names name ≡ so_far.held = ap (λ o. unwrap_or o nothing) so_far.at in
-          let growth : moved_in (vec_usage (Push name value)) old.names ≡ moves (Append value) (length so_far.held.items) so_far.held.capacity = ap (moved_by (Append value)) holds ∙ ap (λ b. cond b 0 (moves (Append value) (length so_far.held.items) so_far.held.capacity)) so_far.sole in
-          let count : if_accepted outcome (moved_in (vec_usage (Push name value)) old.names) ≡ moves (Append value) (length so_far.held.items) so_far.held.capacity = ap (λ o. if_accepted o (moved_in (vec_usage (Push name value)) old.names)) is.0 ∙ growth in
-          let had : strain_at n so_far.held.capacity ≡ strain_at (length so_far.held.items) so_far.held.capacity = ap (λ k. strain_at k so_far.held.capacity) (sym so_far.count) in
-          let has : strain_at (n + 1) capacity ≡ strain_at (length after) capacity = ap (λ k. strain_at k capacity) (sym (long ∙ ap (λ k. k + 1) so_far.count)) in (
+          let growth : moved_in (vec_usage (Push name value)) old.names ≡ moves (Append value) (length so_far.held.items) so_far.held.capacity =
+          ap (moved_by (Append value)) holds
+          ∙ ap (λ b. cond b 0 (moves (Append value) (length so_far.held.items) so_far.held.capacity)) so_far.sole in
+          let count : if_accepted outcome (moved_in (vec_usage (Push name value)) old.names) ≡ moves (Append value)
+          (length so_far.held.items) so_far.held.capacity =
+          ap (λ o. if_accepted o (moved_in (vec_usage (Push name value)) old.names)) is.0 ∙ growth in
+          let had : strain_at n so_far.held.capacity ≡ strain_at (length so_far.held.items) so_far.held.capacity =
+          ap (λ k. strain_at k so_far.held.capacity) (sym so_far.count) in
+          let has : strain_at (n + 1) capacity ≡ strain_at (length after) capacity =
+          ap (λ k. strain_at k capacity) (sym (long ∙ ap (λ k. k + 1) so_far.count)) in (
             is.0,
             record {
               held = record { items = after; group = cond (nat_lt 0 capacity) (name ∷ []) []; capacity = capacity };
@@ -174,11 +212,14 @@ module _ {T : Type 0} where
           )
 
 -- New of a name that is there is refused as taken
-pub is_taken : {T : Type 0} (old : Names T) (name : ℕ) (outcome : Outcome T) (new : Names T) → CountedVerdict old (New name) outcome new → IsSome (finite.get old name) → outcome ≡ Refused Taken
-is_taken {T} old name outcome new h there = elim (finite.get old name) as (λ o. IsVerdict {A = Outcome T × Names T} ((if is_some o then Err Taken else Ok tt) >>= (λ _. Ok (Done, settle name [] 0 old))) false outcome → IsSome o → outcome ≡ Refused Taken) [
-  | None ↦ λ h there. absurd (true≢false (sym there))
-  | Some held ↦ λ h there. h
-] h.0 there
+pub is_taken : {T : Type 0} (old : Names T) (name : ℕ) (outcome : Outcome T) (new : Names T)
+    → CountedVerdict old (New name) outcome new → IsSome (finite.get old name) → outcome ≡ Refused Taken
+is_taken {T} old name outcome new h there =
+    elim (finite.get old name) as (λ o. IsVerdict {A = Outcome T × Names T}
+    ((if is_some o then Err Taken else Ok tt) >>= (λ _. Ok (Done, settle name [] 0 old))) false outcome → IsSome o → outcome ≡ Refused Taken) [
+      | None ↦ λ h there. absurd (true≢false (sym there))
+      | Some held ↦ λ h there. h
+    ] h.0 there
 
 -- why a command was refused
 abbrev pub refusal_in : {T : Type 0} → Outcome T → Option Refusal

@@ -39,20 +39,24 @@ head_of-without x y group ne = ap (λ b. head_of (cond (not b) (y ∷ without x 
 
 -- the one member of a group of one
 only : (x q : ℕ) → is_member q (x ∷ []) ≡ true → x ≡ q
-only x q h = elim (eqb x q) as (λ b. eqb x q ≡ b → (b || false) ≡ true → x ≡ q) [ true ↦ λ t _. eqb-true x q t | false ↦ λ _ e. absurd (true≢false (sym e)) ] refl h
+only x q h =
+    elim (eqb x q) as (λ b. eqb x q ≡ b → (b || false) ≡ true
+    → x ≡ q) [ true ↦ λ t _. eqb-true x q t | false ↦ λ _ e. absurd (true≢false (sym e)) ] refl h
 
 pub or_true : (a : Bool) → (a || true) ≡ true
 or_true true = refl
 or_true false = refl
 
 -- what is still there once x is gone
-pub kept_by_remove : {T : Type 0} (names : Names T) (x q : ℕ) (k : Holding T) → finite.get (finite.remove names x) q ≡ Some k → (q ≢ x) × (finite.get names q ≡ Some k)
+pub kept_by_remove : {T : Type 0} (names : Names T) (x q : ℕ) (k : Holding T)
+    → finite.get (finite.remove names x) q ≡ Some k → (q ≢ x) × (finite.get names q ≡ Some k)
 kept_by_remove names x q k is = elim (eqb q x) as (λ b. eqb q x ≡ b → cond b None (finite.get names q) ≡ Some k → (q ≢ x) × (finite.get names q ≡ Some k)) [
   | true ↦ λ t e. absurd (none-some k e)
   | false ↦ λ t e. (eqb-false q x t, e)
 ] refl (sym (get-remove_nat names x q) ∙ is)
 
-module _ {T : Type 0} (names : Names T) (sharing : IsSharing names) (x : ℕ) (h : Holding T) (at : finite.get names x ≡ Some h) (f : ℕ → Option ℕ → List T → ℕ → ℕ) where
+module _ {T : Type 0} (names : Names T) (sharing : IsSharing names) (x : ℕ) (h : Holding T)
+    (at : finite.get names x ≡ Some h) (f : ℕ → Option ℕ → List T → ℕ → ℕ) where
   abbrev weight : ℕ → Holding T → ℕ
   weight q k = f q (head_of k.group) k.items k.capacity
 
@@ -64,7 +68,8 @@ module _ {T : Type 0} (names : Names T) (sharing : IsSharing names) (x : ℕ) (h
   held_with q k is m = same_Some h k (sym at ∙ sharing.common q x k is m)
 
   -- x is no head: the heads of the others stay
-  same_heads : ((group : List ℕ) → h.group ≡ x ∷ group → ⊥) → (q : ℕ) (k : Holding T) → finite.get names q ≡ Some k → head_of (without x k.group) ≡ head_of k.group
+  same_heads : ((group : List ℕ) → h.group ≡ x ∷ group → ⊥) → (q : ℕ) (k : Holding T)
+      → finite.get names q ≡ Some k → head_of (without x k.group) ≡ head_of k.group
   same_heads no_head q k is = elim k.group as (λ g. k.group ≡ g → head_of (without x g) ≡ head_of g) [
     | [] ↦ λ e. refl
     | y ∷ g ↦ λ e. ⊎_elim
@@ -76,8 +81,10 @@ module _ {T : Type 0} (names : Names T) (sharing : IsSharing names) (x : ℕ) (h
 
   pub total-forget_follower : ((group : List ℕ) → h.group ≡ x ∷ group → ⊥) → total weight names ≡ total weight (forget x names) + weight x h
   total-forget_follower no_head =
-      let others : total weight (forget x names) ≡ total (λ q k. weight q (leave x k)) (finite.remove names x) = total-map_values (leave x) weight (finite.remove names x) in
-      let same : total (λ q k. weight q (leave x k)) (finite.remove names x) ≡ total weight (finite.remove names x) = total_congr _ _ (finite.remove names x) (λ q k is. ap (λ o. f q o k.items k.capacity) (same_heads no_head q k (kept q k is).1)) in
+      let others : total weight (forget x names) ≡ total (λ q k. weight q (leave x k)) (finite.remove names x) =
+      total-map_values (leave x) weight (finite.remove names x) in
+      let same : total (λ q k. weight q (leave x k)) (finite.remove names x) ≡ total weight (finite.remove names x) =
+      total_congr _ _ (finite.remove names x) (λ q k is. ap (λ o. f q o k.items k.capacity) (same_heads no_head q k (kept q k is).1)) in
       let split : total weight names ≡ total weight (finite.remove names x) + weight x h = total-remove weight names x h at in
       omega (arith, others, same, split)
 
@@ -97,13 +104,17 @@ module _ {T : Type 0} (names : Names T) (sharing : IsSharing names) (x : ℕ) (h
 
   pub total-forget_alone : h.group ≡ x ∷ [] → total weight names ≡ total weight (forget x names) + weight x h
   total-forget_alone alone =
-      let others : total weight (forget x names) ≡ total (λ q k. weight q (leave x k)) (finite.remove names x) = total-map_values (leave x) weight (finite.remove names x) in
-      let same : total (λ q k. weight q (leave x k)) (finite.remove names x) ≡ total weight (finite.remove names x) = total_congr _ _ (finite.remove names x) (λ q k is. ap (λ g. f q (head_of g) k.items k.capacity) (without_absent x k.group (alone_others alone q k is))) in
+      let others : total weight (forget x names) ≡ total (λ q k. weight q (leave x k)) (finite.remove names x) =
+      total-map_values (leave x) weight (finite.remove names x) in
+      let same : total (λ q k. weight q (leave x k)) (finite.remove names x) ≡ total weight (finite.remove names x) =
+      total_congr _ _ (finite.remove names x)
+      (λ q k is. ap (λ g. f q (head_of g) k.items k.capacity) (without_absent x k.group (alone_others alone q k is))) in
       let split : total weight names ≡ total weight (finite.remove names x) + weight x h = total-remove weight names x h at in
       omega (arith, others, same, split)
 
   -- the next name becomes the head in x's place
-  module _ (y : ℕ) (rest : List ℕ) (group_is : h.group ≡ x ∷ y ∷ rest) (agree : (q p r : ℕ) (items : List T) (capacity : ℕ) → q ≢ p → q ≢ r → f q (Some p) items capacity ≡ f q (Some r) items capacity) where
+  module _ (y : ℕ) (rest : List ℕ) (group_is : h.group ≡ x ∷ y ∷ rest) (agree : (q p r : ℕ) (items : List T) (capacity : ℕ)
+      → q ≢ p → q ≢ r → f q (Some p) items capacity ≡ f q (Some r) items capacity) where
     rises : IsRising (x ∷ y ∷ rest)
     rises = subst IsRising group_is (sharing.rising x h at)
 
@@ -130,14 +141,22 @@ module _ {T : Type 0} (names : Names T) (sharing : IsSharing names) (x : ℕ) (h
           | false ↦ λ t. ap (λ g. f q (head_of g) k.items k.capacity) (without_absent x k.group t)
         ] refl
 
-    pub total-forget_head : total weight names + f y (Some y) h.items h.capacity ≡ total weight (forget x names) + f x (Some x) h.items h.capacity + f y (Some x) h.items h.capacity
+    pub total-forget_head : total weight names + f y (Some y) h.items h.capacity ≡ total weight (forget x names)
+        + f x (Some x) h.items h.capacity + f y (Some x) h.items h.capacity
     total-forget_head =
-        let others : total weight (forget x names) ≡ total (λ q k. weight q (leave x k)) (finite.remove names x) = total-map_values (leave x) weight (finite.remove names x) in
-        let next : total (λ q k. weight q (leave x k)) (finite.remove names x) ≡ total (λ q k. weight q (leave x k)) (finite.remove (finite.remove names x) y) + weight y (leave x h) = total-remove (λ q k. weight q (leave x k)) (finite.remove names x) y h at_next_kept in
-        let before : total weight (finite.remove names x) ≡ total weight (finite.remove (finite.remove names x) y) + weight y h = total-remove weight (finite.remove names x) y h at_next_kept in
-        let same : total (λ q k. weight q (leave x k)) (finite.remove (finite.remove names x) y) ≡ total weight (finite.remove (finite.remove names x) y) = total_congr _ _ (finite.remove (finite.remove names x) y) others_agree in
+        let others : total weight (forget x names) ≡ total (λ q k. weight q (leave x k)) (finite.remove names x) =
+        total-map_values (leave x) weight (finite.remove names x) in
+        let next : total (λ q k. weight q (leave x k)) (finite.remove names x) ≡ total (λ q k. weight q (leave x k))
+        (finite.remove (finite.remove names x) y) + weight y (leave x h) =
+        total-remove (λ q k. weight q (leave x k)) (finite.remove names x) y h at_next_kept in
+        let before : total weight (finite.remove names x) ≡ total weight (finite.remove (finite.remove names x) y) + weight y h =
+        total-remove weight (finite.remove names x) y h at_next_kept in
+        let same : total (λ q k. weight q (leave x k)) (finite.remove (finite.remove names x) y) ≡ total weight
+        (finite.remove (finite.remove names x) y) = total_congr _ _ (finite.remove (finite.remove names x) y) others_agree in
         let split : total weight names ≡ total weight (finite.remove names x) + weight x h = total-remove weight names x h at in
-        let new_head : weight y (leave x h) ≡ f y (Some y) h.items h.capacity = ap (λ g. f y (head_of (without x g)) h.items h.capacity) group_is ∙ ap (λ g. f y (head_of g) h.items h.capacity) (without_head x (y ∷ rest) rises) in
+        let new_head : weight y (leave x h) ≡ f y (Some y) h.items h.capacity =
+        ap (λ g. f y (head_of (without x g)) h.items h.capacity) group_is
+        ∙ ap (λ g. f y (head_of g) h.items h.capacity) (without_head x (y ∷ rest) rises) in
         let old_head : weight y h ≡ f y (Some x) h.items h.capacity = ap (λ g. f y (head_of g) h.items h.capacity) group_is in
         let x_head : weight x h ≡ f x (Some x) h.items h.capacity = ap (λ g. f x (head_of g) h.items h.capacity) group_is in
         omega (arith, others, next, before, same, split, new_head, old_head, x_head)
@@ -185,25 +204,31 @@ module _ {T : Type 0} (names : Names T) (sharing : IsSharing names) (x : ℕ) (h
   pub debt-forget : debt names ≡ debt (forget x names) + cond (is_shared h) (length h.items) 0
   debt-forget = group_cases _
       (λ none.
-      let left : debt names ≡ debt (forget x names) + debt_of x h = total-forget_follower names sharing x h at by_past_head (λ g is. absurd (none-some x (ap head_of (sym none ∙ is)))) in
+      let left : debt names ≡ debt (forget x names) + debt_of x h =
+      total-forget_follower names sharing x h at by_past_head (λ g is. absurd (none-some x (ap head_of (sym none ∙ is)))) in
       let mine : debt_of x h ≡ 0 = ap (λ g. cond (past_head x (head_of g)) (length h.items) 0) none in
       let paid : cond (is_shared h) (length h.items) 0 ≡ 0 = ap (λ (g : List ℕ). cond (ltb 1 (length g)) (length h.items) 0) none in
       omega (arith, left, mine, paid))
       (λ alone.
       let left : debt names ≡ debt (forget x names) + debt_of x h = total-forget_alone names sharing x h at by_past_head alone in
-      let mine : debt_of x h ≡ 0 = ap (λ g. cond (past_head x (head_of g)) (length h.items) 0) alone ∙ ap (λ b. cond (not b) (length h.items) 0) (eq-eqb x x refl) in
+      let mine : debt_of x h ≡ 0 =
+      ap (λ g. cond (past_head x (head_of g)) (length h.items) 0) alone ∙ ap (λ b. cond (not b) (length h.items) 0) (eq-eqb x x refl) in
       let paid : cond (is_shared h) (length h.items) 0 ≡ 0 = ap (λ (g : List ℕ). cond (ltb 1 (length g)) (length h.items) 0) alone in
       omega (arith, left, mine, paid))
       (λ y rest e.
-      let left : debt names + by_past_head y (Some y) h.items h.capacity ≡ debt (forget x names) + by_past_head x (Some x) h.items h.capacity + by_past_head y (Some x) h.items h.capacity = total-forget_head names sharing x h at by_past_head y rest e past_agree in
+      let left : debt names + by_past_head y (Some y) h.items h.capacity ≡ debt (forget x names)
+      + by_past_head x (Some x) h.items h.capacity + by_past_head y (Some x) h.items h.capacity =
+      total-forget_head names sharing x h at by_past_head y rest e past_agree in
       let head_x : by_past_head x (Some x) h.items h.capacity ≡ 0 = ap (λ b. cond (not b) (length h.items) 0) (eq-eqb x x refl) in
       let head_y : by_past_head y (Some y) h.items h.capacity ≡ 0 = ap (λ b. cond (not b) (length h.items) 0) (eq-eqb y y refl) in
-      let was : by_past_head y (Some x) h.items h.capacity ≡ length h.items = ap (λ b. cond (not b) (length h.items) 0) (ne_eqb x y (λ is. next_apart names sharing x h at by_past_head y rest e past_agree (sym is))) in
+      let was : by_past_head y (Some x) h.items h.capacity ≡ length h.items =
+      ap (λ b. cond (not b) (length h.items) 0) (ne_eqb x y (λ is. next_apart names sharing x h at by_past_head y rest e past_agree (sym is))) in
       let paid : cond (is_shared h) (length h.items) 0 ≡ length h.items = ap (λ b. cond b (length h.items) 0) (shared_at x y rest e) in
       omega (arith, left, head_x, head_y, was, paid))
       (λ z y rest ne e.
       let left : debt names ≡ debt (forget x names) + debt_of x h = total-forget_follower names sharing x h at by_past_head (no_head z (y ∷ rest) ne e) in
-      let mine : debt_of x h ≡ length h.items = ap (λ g. cond (past_head x (head_of g)) (length h.items) 0) e ∙ ap (λ b. cond (not b) (length h.items) 0) (ne_eqb z x ne) in
+      let mine : debt_of x h ≡ length h.items =
+      ap (λ g. cond (past_head x (head_of g)) (length h.items) 0) e ∙ ap (λ b. cond (not b) (length h.items) 0) (ne_eqb z x ne) in
       let paid : cond (is_shared h) (length h.items) 0 ≡ length h.items = ap (λ b. cond b (length h.items) 0) (shared_at z y rest e) in
       omega (arith, left, mine, paid))
 
@@ -218,24 +243,35 @@ module _ {T : Type 0} (names : Names T) (sharing : IsSharing names) (x : ℕ) (h
     pub blocks-forget : total (block_number number) names ≡ total (block_number number) (forget x names) + cond (is_sole_owner h) (number h.items h.capacity) 0
     blocks-forget = group_cases _
         (λ none.
-        let left : total (block_number number) names ≡ total (block_number number) (forget x names) + block_number number x h = total-forget_follower names sharing x h at by_head (λ g is. absurd (none-some x (ap head_of (sym none ∙ is)))) in
+        let left : total (block_number number) names ≡ total (block_number number) (forget x names) + block_number number x h =
+        total-forget_follower names sharing x h at by_head (λ g is. absurd (none-some x (ap head_of (sym none ∙ is)))) in
         let mine : block_number number x h ≡ 0 = ap (λ g. cond (at_head x (head_of g)) (number h.items h.capacity) 0) none in
         let gone : cond (is_sole_owner h) (number h.items h.capacity) 0 ≡ 0 = ap (λ (g : List ℕ). cond (eqb (length g) 1) (number h.items h.capacity) 0) none in
         omega (arith, left, mine, gone))
         (λ alone.
-        let left : total (block_number number) names ≡ total (block_number number) (forget x names) + block_number number x h = total-forget_alone names sharing x h at by_head alone in
-        let mine : block_number number x h ≡ number h.items h.capacity = ap (λ g. cond (at_head x (head_of g)) (number h.items h.capacity) 0) alone ∙ ap (λ b. cond b (number h.items h.capacity) 0) (eq-eqb x x refl) in
-        let gone : cond (is_sole_owner h) (number h.items h.capacity) 0 ≡ number h.items h.capacity = ap (λ (g : List ℕ). cond (eqb (length g) 1) (number h.items h.capacity) 0) alone in
+        let left : total (block_number number) names ≡ total (block_number number) (forget x names) + block_number number x h =
+        total-forget_alone names sharing x h at by_head alone in
+        let mine : block_number number x h ≡ number h.items h.capacity =
+        ap (λ g. cond (at_head x (head_of g)) (number h.items h.capacity) 0) alone
+        ∙ ap (λ b. cond b (number h.items h.capacity) 0) (eq-eqb x x refl) in
+        let gone : cond (is_sole_owner h) (number h.items h.capacity) 0 ≡ number h.items h.capacity =
+        ap (λ (g : List ℕ). cond (eqb (length g) 1) (number h.items h.capacity) 0) alone in
         omega (arith, left, mine, gone))
         (λ y rest e.
-        let left : total (block_number number) names + by_head y (Some y) h.items h.capacity ≡ total (block_number number) (forget x names) + by_head x (Some x) h.items h.capacity + by_head y (Some x) h.items h.capacity = total-forget_head names sharing x h at by_head y rest e head_agree in
+        let left : total (block_number number) names + by_head y (Some y) h.items h.capacity ≡ total (block_number number) (forget x names)
+        + by_head x (Some x) h.items h.capacity + by_head y (Some x) h.items h.capacity =
+        total-forget_head names sharing x h at by_head y rest e head_agree in
         let head_x : by_head x (Some x) h.items h.capacity ≡ number h.items h.capacity = ap (λ b. cond b (number h.items h.capacity) 0) (eq-eqb x x refl) in
         let head_y : by_head y (Some y) h.items h.capacity ≡ number h.items h.capacity = ap (λ b. cond b (number h.items h.capacity) 0) (eq-eqb y y refl) in
-        let was : by_head y (Some x) h.items h.capacity ≡ 0 = ap (λ b. cond b (number h.items h.capacity) 0) (ne_eqb x y (λ is. next_apart names sharing x h at by_head y rest e head_agree (sym is))) in
+        let was : by_head y (Some x) h.items h.capacity ≡ 0 =
+        ap (λ b. cond b (number h.items h.capacity) 0)
+        (ne_eqb x y (λ is. next_apart names sharing x h at by_head y rest e head_agree (sym is))) in
         let gone : cond (is_sole_owner h) (number h.items h.capacity) 0 ≡ 0 = ap (λ b. cond b (number h.items h.capacity) 0) (sole_at x y rest e) in
         omega (arith, left, head_x, head_y, was, gone))
         (λ z y rest ne e.
-        let left : total (block_number number) names ≡ total (block_number number) (forget x names) + block_number number x h = total-forget_follower names sharing x h at by_head (no_head z (y ∷ rest) ne e) in
-        let mine : block_number number x h ≡ 0 = ap (λ g. cond (at_head x (head_of g)) (number h.items h.capacity) 0) e ∙ ap (λ b. cond b (number h.items h.capacity) 0) (ne_eqb z x ne) in
+        let left : total (block_number number) names ≡ total (block_number number) (forget x names) + block_number number x h =
+        total-forget_follower names sharing x h at by_head (no_head z (y ∷ rest) ne e) in
+        let mine : block_number number x h ≡ 0 =
+        ap (λ g. cond (at_head x (head_of g)) (number h.items h.capacity) 0) e ∙ ap (λ b. cond b (number h.items h.capacity) 0) (ne_eqb z x ne) in
         let gone : cond (is_sole_owner h) (number h.items h.capacity) 0 ≡ 0 = ap (λ b. cond b (number h.items h.capacity) 0) (sole_at z y rest e) in
         omega (arith, left, mine, gone))

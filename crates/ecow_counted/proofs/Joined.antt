@@ -19,7 +19,8 @@ empty_at : (group : List ℕ) → length group ≡ 0 → group ≡ []
 empty_at [] e = refl
 empty_at (z ∷ group) e = absurd (omega arith)
 
-module _ {T : Type 0} (names : Names T) (sharing : IsSharing names) (x y : ℕ) (h : Holding T) (at : finite.get names x ≡ Some h) (free : finite.get names y ≡ None) where
+module _ {T : Type 0} (names : Names T) (sharing : IsSharing names) (x y : ℕ) (h : Holding T)
+    (at : finite.get names x ≡ Some h) (free : finite.get names y ≡ None) where
   pub get_join : (q : ℕ) → finite.get (join x y h names) q ≡ cond (eqb q y) (Some (enter x y h)) (option_map (enter x y) (finite.get names q))
   get_join q = get-insert_nat _ y (enter x y h) q ∙ ap (cond (eqb q y) (Some (enter x y h))) (get-map_values (enter x y) names q)
 
@@ -30,7 +31,9 @@ module _ {T : Type 0} (names : Names T) (sharing : IsSharing names) (x y : ℕ) 
   apart q k is e = none-some k (sym free ∙ ap (finite.get names) (sym e) ∙ is)
 
   pub get_join_other : (q : ℕ) (k : Holding T) → finite.get names q ≡ Some k → finite.get (join x y h names) q ≡ Some (enter x y k)
-  get_join_other q k is = get_join q ∙ ap (λ b. cond b (Some (enter x y h)) (option_map (enter x y) (finite.get names q))) (ne_eqb q y (apart q k is)) ∙ ap (option_map (enter x y)) is
+  get_join_other q k is =
+      get_join q ∙ ap (λ b. cond b (Some (enter x y h)) (option_map (enter x y) (finite.get names q))) (ne_eqb q y (apart q k is))
+      ∙ ap (option_map (enter x y)) is
 
   -- no group has the free name
   absent : (q : ℕ) (k : Holding T) → finite.get names q ≡ Some k → is_member y k.group ≡ false
@@ -41,11 +44,14 @@ module _ {T : Type 0} (names : Names T) (sharing : IsSharing names) (x y : ℕ) 
   held_with q k is m = same_Some h k (sym at ∙ sharing.common q x k is m)
 
   -- each entry after it is an entry that was there, entered; at y that of x
-  from_join : (q : ℕ) (k : Holding T) → finite.get (join x y h names) q ≡ Some k → (p : ℕ) × (v : Holding T) × (finite.get names p ≡ Some v) × (enter x y v ≡ k) × (((q ≡ y) × (p ≡ x) × (v ≡ h)) ⊎ (q ≡ p))
+  from_join : (q : ℕ) (k : Holding T) → finite.get (join x y h names) q ≡ Some k → (p : ℕ) × (v : Holding T)
+      × (finite.get names p ≡ Some v) × (enter x y v ≡ k) × (((q ≡ y) × (p ≡ x) × (v ≡ h)) ⊎ (q ≡ p))
   from_join q k is = ⊎_elim
       (λ (e : q ≡ y). (x, h, at, same_Some (enter x y h) k (sym get_join_new ∙ ap (finite.get (join x y h names)) (sym e) ∙ is), inl (e, refl, refl)))
       (λ (ne : q ≢ y).
-      let there : (v : Holding T) × (finite.get names q ≡ Some v) × (enter x y v ≡ k) = mapped (enter x y) (finite.get names q) k (sym (get_join q ∙ ap (λ b. cond b (Some (enter x y h)) (option_map (enter x y) (finite.get names q))) (ne_eqb q y ne)) ∙ is) in
+      let there : (v : Holding T) × (finite.get names q ≡ Some v) × (enter x y v ≡ k) =
+      mapped (enter x y) (finite.get names q) k
+      (sym (get_join q ∙ ap (λ b. cond b (Some (enter x y h)) (option_map (enter x y) (finite.get names q))) (ne_eqb q y ne)) ∙ is) in
       (q, there.0, there.1, there.2, inr refl))
       (cases_eq q y)
 
@@ -56,10 +62,14 @@ module _ {T : Type 0} (names : Names T) (sharing : IsSharing names) (x y : ℕ) 
   stayed v m = ap (λ b. cond b (record { items = v.items; group = with_name y v.group; capacity = v.capacity }) v) m
 
   -- a fact of the entered value, from the two cases
-  by_entry : (P : Holding T → Type 0) (v : Holding T) → (is_member x v.group ≡ true → P (record { items = v.items; group = with_name y v.group; capacity = v.capacity })) → (is_member x v.group ≡ false → P v) → P (enter x y v)
-  by_entry P v then_in none = ⊎_elim (λ m. subst P (sym (entered v m)) (then_in m)) (λ m. subst P (sym (stayed v m)) (none m)) (cases_Bool (is_member x v.group))
+  by_entry : (P : Holding T → Type 0) (v : Holding T)
+      → (is_member x v.group ≡ true → P (record { items = v.items; group = with_name y v.group; capacity = v.capacity }))
+      → (is_member x v.group ≡ false → P v) → P (enter x y v)
+  by_entry P v then_in none =
+      ⊎_elim (λ m. subst P (sym (entered v m)) (then_in m)) (λ m. subst P (sym (stayed v m)) (none m)) (cases_Bool (is_member x v.group))
 
-  common_entry : (q p z : ℕ) (v : Holding T) → finite.get names p ≡ Some v → (((q ≡ y) × (p ≡ x) × (v ≡ h)) ⊎ (q ≡ p)) → is_member z (enter x y v).group ≡ true → finite.get (join x y h names) z ≡ Some (enter x y v)
+  common_entry : (q p z : ℕ) (v : Holding T) → finite.get names p ≡ Some v → (((q ≡ y) × (p ≡ x) × (v ≡ h)) ⊎ (q ≡ p))
+      → is_member z (enter x y v).group ≡ true → finite.get (join x y h names) z ≡ Some (enter x y v)
   common_entry q p z v is place = by_entry (λ k. is_member z k.group ≡ true → finite.get (join x y h names) z ≡ Some (enter x y v)) v
       (λ has m. ⊎_elim
       (λ (e : eqb y z ≡ true). ap (finite.get (join x y h names)) (sym (eqb-true y z e)) ∙ get_join_new ∙ ap (λ k. Some (enter x y k)) (held_with p v is has))
@@ -92,15 +102,19 @@ module _ {T : Type 0} (names : Names T) (sharing : IsSharing names) (x y : ℕ) 
         there.4));
     rising = λ q k is.
         let there = from_join q k is in
-        subst (λ (k : Holding T). IsRising k.group) there.3 (by_entry (λ k. IsRising k.group) there.1 (λ has. rising-with_name y there.1.group (absent there.0 there.1 there.2) (sharing.rising there.0 there.1 there.2)) (λ hasnt. sharing.rising there.0 there.1 there.2));
+        subst (λ (k : Holding T). IsRising k.group) there.3 (by_entry (λ k. IsRising k.group) there.1
+        (λ has. rising-with_name y there.1.group (absent there.0 there.1 there.2) (sharing.rising there.0 there.1 there.2))
+        (λ hasnt. sharing.rising there.0 there.1 there.2));
     fits = λ q k is.
         let there = from_join q k is in
         let old = sharing.fits there.0 there.1 there.2 in
-        subst (λ (k : Holding T). (length k.items ≤ k.capacity) × (k.capacity ≤ MAX)) there.3 (by_entry (λ k. (length k.items ≤ k.capacity) × (k.capacity ≤ MAX)) there.1 (λ has. old) (λ hasnt. old));
+        subst (λ (k : Holding T). (length k.items ≤ k.capacity) × (k.capacity ≤ MAX)) there.3
+        (by_entry (λ k. (length k.items ≤ k.capacity) × (k.capacity ≤ MAX)) there.1 (λ has. old) (λ hasnt. old));
     bare = λ q k is.
         let there = from_join q k is in
         subst (λ (k : Holding T). k.group ≡ [] → k.capacity ≡ 0) there.3 (by_entry (λ k. k.group ≡ [] → k.capacity ≡ 0) there.1
-        (λ has e. absurd (let count : length (with_name y there.1.group) ≡ 0 = ap length e in let more : length (with_name y there.1.group) ≡ length there.1.group + 1 = length-with_name y there.1.group in omega arith))
+        (λ has e. absurd (let count : length (with_name y there.1.group) ≡ 0 = ap length e in
+        let more : length (with_name y there.1.group) ≡ length there.1.group + 1 = length-with_name y there.1.group in omega arith))
         (λ hasnt. sharing.bare there.0 there.1 there.2));
   }
 
@@ -114,7 +128,8 @@ module _ {T : Type 0} (names : Names T) (sharing : IsSharing names) (x y : ℕ) 
   forget-join = same_nat _ _ (λ q. ⊎_elim
       (λ (e : q ≡ y). ap (finite.get (forget y (join x y h names))) e ∙ get_forget_itself (join x y h names) y ∙ sym free ∙ ap (finite.get names) (sym e))
       (λ (ne : q ≢ y). elim (finite.get names q) as (λ o. finite.get names q ≡ o → finite.get (forget y (join x y h names)) q ≡ o) [
-        | None ↦ λ is. get_forget_none (join x y h names) y q (get_join q ∙ ap (λ b. cond b (Some (enter x y h)) (option_map (enter x y) (finite.get names q))) (ne_eqb q y ne) ∙ ap (option_map (enter x y)) is)
+        | None ↦ λ is. get_forget_none (join x y h names) y q (get_join q
+            ∙ ap (λ b. cond b (Some (enter x y h)) (option_map (enter x y) (finite.get names q))) (ne_eqb q y ne) ∙ ap (option_map (enter x y)) is)
         | Some v ↦ λ is. get_forget_other (join x y h names) y q (enter x y v) ne (get_join_other q v is) ∙ ap Some (left_again v (absent q v is))
       ] refl)
       (cases_eq q y))
@@ -132,15 +147,20 @@ module _ {T : Type 0} (names : Names T) (sharing : IsSharing names) (x y : ℕ) 
   -- a clone puts the length of its list into the debt
   pub debt-join : debt (join x y h names) ≤ debt names + length h.items
   debt-join =
-      let left : debt (join x y h names) ≡ debt (forget y (join x y h names)) + cond (is_shared (enter x y h)) (length (enter x y h).items) 0 = debt-forget (join x y h names) sharing-join y (enter x y h) get_join_new in
+      let left : debt (join x y h names) ≡ debt (forget y (join x y h names)) + cond (is_shared (enter x y h)) (length (enter x y h).items) 0 =
+      debt-forget (join x y h names) sharing-join y (enter x y h) get_join_new in
       let old : debt (forget y (join x y h names)) ≡ debt names = ap debt forget-join in
-      let mine : cond (is_shared (enter x y h)) (length (enter x y h).items) 0 ≤ length h.items = at_most (is_shared (enter x y h)) _ _ (by_entry (λ k. length k.items ≤ length h.items) h (λ _. omega arith) (λ _. omega arith)) in
+      let mine : cond (is_shared (enter x y h)) (length (enter x y h).items) 0 ≤ length h.items =
+      at_most (is_shared (enter x y h)) _ _ (by_entry (λ k. length k.items ≤ length h.items) h (λ _. omega arith) (λ _. omega arith)) in
       omega (arith, left, old, mine)
 
   -- and makes no block
   pub blocks-join : (number : List T → ℕ → ℕ) → total (block_number number) (join x y h names) ≡ total (block_number number) names
   blocks-join number =
-      let left : total (block_number number) (join x y h names) ≡ total (block_number number) (forget y (join x y h names)) + cond (is_sole_owner (enter x y h)) (number (enter x y h).items (enter x y h).capacity) 0 = blocks-forget (join x y h names) sharing-join y (enter x y h) get_join_new number in
+      let left : total (block_number number) (join x y h names) ≡ total (block_number number) (forget y (join x y h names))
+      + cond (is_sole_owner (enter x y h)) (number (enter x y h).items (enter x y h).capacity) 0 =
+      blocks-forget (join x y h names) sharing-join y (enter x y h) get_join_new number in
       let old : total (block_number number) (forget y (join x y h names)) ≡ total (block_number number) names = ap (total (block_number number)) forget-join in
-      let mine : cond (is_sole_owner (enter x y h)) (number (enter x y h).items (enter x y h).capacity) 0 ≡ 0 = ap (λ b. cond b (number (enter x y h).items (enter x y h).capacity) 0) never_sole in
+      let mine : cond (is_sole_owner (enter x y h)) (number (enter x y h).items (enter x y h).capacity) 0 ≡ 0 =
+      ap (λ b. cond b (number (enter x y h).items (enter x y h).capacity) 0) never_sole in
       omega (arith, left, old, mine)

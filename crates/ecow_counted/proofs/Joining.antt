@@ -17,10 +17,12 @@ use Rattle.ecow_counted.proofs.Placing.{found_at, member-names_at, rising-names_
 -- no place has more names than there are
 names_in_few : (p : ℕ) (es : List (ℕ × Option ℕ)) → length (names_in p es) ≤ length es
 names_in_few p [] = omega arith
-names_in_few p (e ∷ es) = elim (is_at p e.1) as (λ b. length (map (λ (e : ℕ × Option ℕ). e.0) (cond b (e ∷ filter (λ e. is_at p e.1) es) (filter (λ e. is_at p e.1) es))) ≤ length (e ∷ es)) [
-  | true ↦ let later : length (names_in p es) ≤ length es = names_in_few p es in omega arith
-  | false ↦ let later : length (names_in p es) ≤ length es = names_in_few p es in omega arith
-]
+names_in_few p (e ∷ es) =
+    elim (is_at p e.1) as (λ b.
+    length (map (λ (e : ℕ × Option ℕ). e.0) (cond b (e ∷ filter (λ e. is_at p e.1) es) (filter (λ e. is_at p e.1) es))) ≤ length (e ∷ es)) [
+      | true ↦ let later : length (names_in p es) ≤ length es = names_in_few p es in omega arith
+      | false ↦ let later : length (names_in p es) ≤ length es = names_in_few p es in omega arith
+    ]
 
 pub length-names_at : (p : ℕ) (places : Places) → length (names_at p places) ≤ finite.len places
 length-names_at p places = rw (finite.len-entries places) (names_in_few p (finite.entries places))
@@ -34,7 +36,8 @@ module _ {X : Type 0} (places after : Places) (table left : Slab (Entry X)) (is 
     (source : finite.get places x ≡ Some w) (free : finite.get places y ≡ None)
     (found : (q : ℕ) → finite.get after q ≡ cond (eqb q y) (Some w) (finite.get places q))
     (same_blocks : (other : ℕ) (group : List ℕ) → holding_together group (get left other) ≡ holding_together group (get table other))
-    (was : (other : ℕ) (e : Entry X) → get left other ≡ Some e → (old : Entry X) × (get table other ≡ Some old) × (e.block ≡ old.block) × (e.owners ≡ old.owners + cond (is_at other w) 1 0))
+    (was : (other : ℕ) (e : Entry X) → get left other ≡ Some e → (old : Entry X) × (get table other ≡ Some old)
+    × (e.block ≡ old.block) × (e.owners ≡ old.owners + cond (is_at other w) 1 0))
     (stays : (other : ℕ) → is_some (get left other) ≡ is_some (get table other))
     (len : slab_len left ≡ slab_len table) where
   abbrev h : Holding X
@@ -54,11 +57,14 @@ module _ {X : Type 0} (places after : Places) (table left : Slab (Entry X)) (is 
         | false ↦ rising-names_at other places
       ])
       (λ q. member-names_at other q after ∙ ⊎_elim
-      (λ (e : q ≡ y). ap (found_at other) (share_here q e) ∙ elim (is_at other w) as (λ b. b ≡ is_member q (cond b (with_name y (names_at other places)) (names_at other places))) [
+      (λ (e : q ≡ y). ap (found_at other) (share_here q e)
+      ∙ elim (is_at other w) as (λ b. b ≡ is_member q (cond b (with_name y (names_at other places)) (names_at other places))) [
         | true ↦ sym (is_member-with_name q y (names_at other places) ∙ ap (λ b. b || is_member q (names_at other places)) (eq-eqb y q (sym e)))
         | false ↦ sym (member-names_at other q places ∙ ap (found_at other) (ap (λ z. finite.get places z) e ∙ free))
       ])
-      (λ (ne : q ≢ y). ap (found_at other) (share_other q ne) ∙ sym (member-names_at other q places) ∙ elim (is_at other w) as (λ b. is_member q (names_at other places) ≡ is_member q (cond b (with_name y (names_at other places)) (names_at other places))) [
+      (λ (ne : q ≢ y). ap (found_at other) (share_other q ne) ∙ sym (member-names_at other q places)
+      ∙ elim (is_at other w) as (λ b. is_member q (names_at other places) ≡ is_member q
+      (cond b (with_name y (names_at other places)) (names_at other places))) [
         | true ↦ sym (is_member-with_name q y (names_at other places) ∙ ap (λ b. b || is_member q (names_at other places)) (ne_eqb y q (λ e. ne (sym e))))
         | false ↦ refl
       ])
@@ -69,12 +75,27 @@ module _ {X : Type 0} (places after : Places) (table left : Slab (Entry X)) (is 
   shows None = refl
   shows (Some p) =
       ap (λ g. holding_together g (get left p)) (joined_group p) ∙ same_blocks p _
-      ∙ elim (get table p) as (λ s. holding_together (cond (is_at p w) (with_name y (names_at p places)) (names_at p places)) s ≡ enter x y (holding_together (names_at p places) s)) [
+      ∙ elim (get table p) as (λ s. holding_together (cond (is_at p w) (with_name y (names_at p places)) (names_at p places)) s
+      ≡ enter x y (holding_together (names_at p places) s)) [
         | None ↦ refl
         | Some entry ↦
-            elim (is_at p w) as (λ b. is_at p w ≡ b → holding_together (cond b (with_name y (names_at p places)) (names_at p places)) (Some entry) ≡ enter x y (holding_together (names_at p places) (Some entry))) [
-              | true ↦ λ t. sym (ap (λ b. cond b (record { items = entry.block.items; group = with_name y (names_at p places); capacity = entry.block.capacity }) (holding_together (names_at p places) (Some entry))) (member-names_at p x places ∙ ap (found_at p) source ∙ t))
-              | false ↦ λ t. sym (ap (λ b. cond b (record { items = entry.block.items; group = with_name y (names_at p places); capacity = entry.block.capacity }) (holding_together (names_at p places) (Some entry))) (member-names_at p x places ∙ ap (found_at p) source ∙ t))
+            elim (is_at p w) as (λ b. is_at p w ≡ b
+            → holding_together (cond b (with_name y (names_at p places)) (names_at p places)) (Some entry)
+            ≡ enter x y (holding_together (names_at p places) (Some entry))) [
+              | true ↦ λ t. sym (ap (λ b.
+                  cond b (record {
+                    items = entry.block.items;
+                    group = with_name y (names_at p places);
+                    capacity = entry.block.capacity;
+                  }) (holding_together (names_at p places) (Some entry)))
+                  (member-names_at p x places ∙ ap (found_at p) source ∙ t))
+              | false ↦ λ t. sym (ap (λ b.
+                  cond b (record {
+                    items = entry.block.items;
+                    group = with_name y (names_at p places);
+                    capacity = entry.block.capacity;
+                  }) (holding_together (names_at p places) (Some entry)))
+                  (member-names_at p x places ∙ ap (found_at p) source ∙ t))
             ] refl
       ]
 
@@ -86,10 +107,15 @@ module _ {X : Type 0} (places after : Places) (table left : Slab (Entry X)) (is 
 
   pub shared_names : names_of after left ≡ join x y h (names_of places table)
   shared_names = same_nat _ _ (λ q. get_names_of after left q ∙ ⊎_elim
-      (λ (e : q ≡ y). ap (option_map (holding_in after left)) (share_here q e) ∙ ap Some (shows w) ∙ sym (get_join (names_of places table) (sharing-table places table is) x y h source_is target_free q ∙ ap (λ b. cond b (Some (enter x y h)) (option_map (enter x y) (finite.get (names_of places table) q))) (eq-eqb q y e)))
-      (λ (ne : q ≢ y). ap (option_map (holding_in after left)) (share_other q ne) ∙ elim (finite.get places q) as (λ o. option_map (holding_in after left) o ≡ option_map (enter x y) (option_map (holding_in places table) o)) [ None ↦ refl | Some v ↦ ap Some (shows v) ]
+      (λ (e : q ≡ y). ap (option_map (holding_in after left)) (share_here q e) ∙ ap Some (shows w)
+      ∙ sym (get_join (names_of places table) (sharing-table places table is) x y h source_is target_free q
+      ∙ ap (λ b. cond b (Some (enter x y h)) (option_map (enter x y) (finite.get (names_of places table) q))) (eq-eqb q y e)))
+      (λ (ne : q ≢ y). ap (option_map (holding_in after left)) (share_other q ne)
+      ∙ elim (finite.get places q) as (λ o. option_map (holding_in after left) o ≡ option_map (enter x y)
+      (option_map (holding_in places table) o)) [ None ↦ refl | Some v ↦ ap Some (shows v) ]
       ∙ ap (option_map (enter x y)) (sym (get_names_of places table q))
-      ∙ sym (get_join (names_of places table) (sharing-table places table is) x y h source_is target_free q ∙ ap (λ b. cond b (Some (enter x y h)) (option_map (enter x y) (finite.get (names_of places table) q))) (ne_eqb q y ne)))
+      ∙ sym (get_join (names_of places table) (sharing-table places table is) x y h source_is target_free q
+      ∙ ap (λ b. cond b (Some (enter x y h)) (option_map (enter x y) (finite.get (names_of places table) q))) (ne_eqb q y ne)))
       (cases_eq q y))
 
   pub shared_table : IsTable after left
@@ -102,19 +128,24 @@ module _ {X : Type 0} (places after : Places) (table left : Slab (Entry X)) (is 
         let old = was p e at in
         let own = is.owned p old.0 old.1 in
         record {
-          counted = old.3 ∙ sym (ap length (joined_group p) ∙ counted_with y (is_at p w) (names_at p places) ∙ ap (λ n. n + cond (is_at p w) 1 0) (sym own.counted));
+          counted =
+              old.3 ∙ sym (ap length (joined_group p) ∙ counted_with y (is_at p w) (names_at p places)
+              ∙ ap (λ n. n + cond (is_at p w) 1 0) (sym own.counted));
           some = rw old.3 (omega (arith, own.some));
           fits = rw old.2 own.fits;
           small = rw old.2 own.small;
           backed = rw old.2 own.backed;
         };
-    blocks_are = len ∙ is.blocks_are ∙ sym (ap blocks shared_names ∙ blocks-join (names_of places table) (sharing-table places table is) x y h source_is target_free (λ items capacity. 1));
+    blocks_are =
+        len ∙ is.blocks_are ∙ sym (ap blocks shared_names
+        ∙ blocks-join (names_of places table) (sharing-table places table is) x y h source_is target_free (λ items capacity. 1));
   }
 
 -- y joins x where x has no block, and where the entry at x's place counts one owner more
 module _ {X : Type 0} (places after : Places) (table : Slab (Entry X)) (is : IsTable places table) (x y : ℕ) (free : finite.get places y ≡ None) where
   module _ (source : finite.get places x ≡ Some None) (found : (q : ℕ) → finite.get after q ≡ cond (eqb q y) (Some None) (finite.get places q)) where
-    was_same : (other : ℕ) (e : Entry X) → get table other ≡ Some e → (old : Entry X) × (get table other ≡ Some old) × (e.block ≡ old.block) × (e.owners ≡ old.owners + cond (is_at other None) 1 0)
+    was_same : (other : ℕ) (e : Entry X) → get table other ≡ Some e → (old : Entry X) × (get table other ≡ Some old)
+        × (e.block ≡ old.block) × (e.owners ≡ old.owners + cond (is_at other None) 1 0)
     was_same other e at = (e, at, refl, sym (add-zero e.owners))
 
     pub bare_shared_names : names_of after table ≡ join x y (holding_in places table None) (names_of places table)
@@ -123,7 +154,8 @@ module _ {X : Type 0} (places after : Places) (table : Slab (Entry X)) (is : IsT
     pub bare_shared_table : IsTable after table
     bare_shared_table = shared_table places after table table is x y None source free found (λ other group. refl) was_same (λ other. refl) refl
 
-  module _ (left : Slab (Entry X)) (p : ℕ) (source : finite.get places x ≡ Some (Some p)) (found : (q : ℕ) → finite.get after q ≡ cond (eqb q y) (Some (Some p)) (finite.get places q))
+  module _ (left : Slab (Entry X)) (p : ℕ) (source : finite.get places x ≡ Some (Some p)) (found : (q : ℕ)
+      → finite.get after q ≡ cond (eqb q y) (Some (Some p)) (finite.get places q))
       (counted : (entry : Entry X) → get table p ≡ Some entry → get left p ≡ Some (record { block = entry.block; owners = entry.owners + 1 }))
       (others : (other : ℕ) → other ≢ p → get left other ≡ get table other) (len : slab_len left ≡ slab_len table) where
     entry_there : (entry : Entry X) × (get table p ≡ Some entry)
@@ -137,15 +169,28 @@ module _ {X : Type 0} (places after : Places) (table : Slab (Entry X)) (is : IsT
 
     same_block : (other : ℕ) (group : List ℕ) → holding_together group (get left other) ≡ holding_together group (get table other)
     same_block other group = ⊎_elim
-        (λ (e : other ≡ p). ap (λ o. holding_together group (get left o)) e ∙ ap (holding_together group) now_there ∙ sym (ap (λ o. holding_together group (get table o)) e ∙ ap (holding_together group) entry_there.1))
+        (λ (e : other ≡ p). ap (λ o. holding_together group (get left o)) e ∙ ap (holding_together group) now_there
+        ∙ sym (ap (λ o. holding_together group (get table o)) e ∙ ap (holding_together group) entry_there.1))
         (λ (ne : other ≢ p). ap (holding_together group) (others other ne)) (cases_eq other p)
 
-    was_one_less : (other : ℕ) (e : Entry X) → get left other ≡ Some e → (old : Entry X) × (get table other ≡ Some old) × (e.block ≡ old.block) × (e.owners ≡ old.owners + cond (is_at other (Some p)) 1 0)
+    was_one_less : (other : ℕ) (e : Entry X) → get left other ≡ Some e → (old : Entry X) × (get table other ≡ Some old)
+        × (e.block ≡ old.block) × (e.owners ≡ old.owners + cond (is_at other (Some p)) 1 0)
     was_one_less other e at = ⊎_elim
         (λ (same : other ≡ p).
-        let now : e ≡ record { block = entry_there.0.block; owners = entry_there.0.owners + 1 } = same_Some e _ (sym at ∙ ap (get left) same ∙ now_there) in
-        (entry_there.0, ap (get table) same ∙ entry_there.1, ap (λ (e : Entry X). e.block) now, ap (λ (e : Entry X). e.owners) now ∙ ap (λ b. entry_there.0.owners + cond b 1 0) (sym (eq-eqb p other (sym same)))))
-        (λ (ne : other ≢ p). (e, sym (others other ne) ∙ at, refl, sym (ap (λ b. e.owners + cond b 1 0) (ne_eqb p other (λ i. ne (sym i))) ∙ add-zero e.owners)))
+        let now : e ≡ record { block = entry_there.0.block; owners = entry_there.0.owners + 1 } = same_Some e _ (sym at ∙ ap (get left) same ∙ now_there) in (
+          entry_there.0,
+          ap (get table) same ∙ entry_there.1,
+          ap (λ (e : Entry X). e.block) now,
+          ap (λ (e : Entry X). e.owners) now
+              ∙ ap (λ b. entry_there.0.owners + cond b 1 0) (sym (eq-eqb p other (sym same))),
+        ))
+        (λ (ne : other ≢ p). (
+          e,
+          sym (others other ne)
+              ∙ at,
+          refl,
+          sym (ap (λ b. e.owners + cond b 1 0) (ne_eqb p other (λ i. ne (sym i))) ∙ add-zero e.owners),
+        ))
         (cases_eq other p)
 
     still_there : (other : ℕ) → is_some (get left other) ≡ is_some (get table other)

@@ -29,15 +29,18 @@ strictly z x y le apart is = omega arith
 pub is_member-without : (y x : ℕ) (group : List ℕ) → is_member y (without x group) ≡ cond (eqb y x) false (is_member y group)
 is_member-without y x [] = elim (eqb y x) as (λ b. false ≡ cond b false false) [ true ↦ refl | false ↦ refl ]
 is_member-without y x (z ∷ group) =
-    elim (eqb z x) as (λ b. eqb z x ≡ b → is_member y (cond (not b) (z ∷ without x group) (without x group)) ≡ cond (eqb y x) false (eqb z y || is_member y group)) [
-      | true ↦ λ t. is_member-without y x group ∙ elim (eqb y x) as (λ c. eqb y x ≡ c → cond c false (is_member y group) ≡ cond c false (eqb z y || is_member y group)) [
-        | true ↦ λ _. refl
-        | false ↦ λ c. ap (λ b. b || is_member y group) (sym (ne_eqb z y (λ e. eqb-false y x c (sym e ∙ eqb-true z x t))))
-      ] refl
-      | false ↦ λ t. ap (λ b. eqb z y || b) (is_member-without y x group) ∙ elim (eqb y x) as (λ c. eqb y x ≡ c → (eqb z y || cond c false (is_member y group)) ≡ cond c false (eqb z y || is_member y group)) [
-        | true ↦ λ c. ap (λ b. b || false) (ne_eqb z y (λ e. eqb-false z x t (e ∙ eqb-true y x c)))
-        | false ↦ λ _. refl
-      ] refl
+    elim (eqb z x) as (λ b. eqb z x ≡ b
+    → is_member y (cond (not b) (z ∷ without x group) (without x group)) ≡ cond (eqb y x) false (eqb z y || is_member y group)) [
+      | true ↦ λ t. is_member-without y x group
+          ∙ elim (eqb y x) as (λ c. eqb y x ≡ c → cond c false (is_member y group) ≡ cond c false (eqb z y || is_member y group)) [
+            | true ↦ λ _. refl
+            | false ↦ λ c. ap (λ b. b || is_member y group) (sym (ne_eqb z y (λ e. eqb-false y x c (sym e ∙ eqb-true z x t))))
+          ] refl
+      | false ↦ λ t. ap (λ b. eqb z y || b) (is_member-without y x group)
+          ∙ elim (eqb y x) as (λ c. eqb y x ≡ c → (eqb z y || cond c false (is_member y group)) ≡ cond c false (eqb z y || is_member y group)) [
+            | true ↦ λ c. ap (λ b. b || false) (ne_eqb z y (λ e. eqb-false z x t (e ∙ eqb-true y x c)))
+            | false ↦ λ _. refl
+          ] refl
     ] refl
 
 member_of_without : (y x : ℕ) (group : List ℕ) → is_member y (without x group) ≡ true → is_member y group ≡ true
@@ -66,12 +69,16 @@ rising-with_name x [] absent h = (λ y m. absurd (true≢false (sym m)), tt)
 rising-with_name x (z ∷ group) absent h =
     elim (ltb x z) as (λ b. ltb x z ≡ b → IsRising (cond b (x ∷ z ∷ group) (z ∷ with_name x group))) [
       | true ↦ λ t.
-          let lt : x < z = ltb-true x z t in
-          (λ y m. ⊎_elim (λ (e : eqb z y ≡ true). let is : z ≡ y = eqb-true z y e in omega arith) (λ (e : is_member y group ≡ true). let past : z < y = h.0 y e in omega arith) (or_cases (eqb z y) (is_member y group) m), h)
+          let lt : x < z = ltb-true x z t in (
+            λ y m. ⊎_elim (λ (e : eqb z y ≡ true). let is : z ≡ y = eqb-true z y e in omega arith)
+                (λ (e : is_member y group ≡ true). let past : z < y = h.0 y e in omega arith) (or_cases (eqb z y) (is_member y group) m),
+            h,
+          )
       | false ↦ λ t.
           let le : z ≤ x = ltb-false x z t in
           let apart : z ≢ x = eqb-false z x (or_first (eqb z x) (is_member x group) absent) in (
-            λ y m. ⊎_elim (λ (e : eqb x y ≡ true). let is : x ≡ y = eqb-true x y e in strictly z x y le apart is) (λ (e : is_member y group ≡ true). h.0 y e) (or_cases (eqb x y) (is_member y group) (sym (is_member-with_name y x group) ∙ m)),
+            λ y m. ⊎_elim (λ (e : eqb x y ≡ true). let is : x ≡ y = eqb-true x y e in strictly z x y le apart is)
+                (λ (e : is_member y group ≡ true). h.0 y e) (or_cases (eqb x y) (is_member y group) (sym (is_member-with_name y x group) ∙ m)),
             rising-with_name x group (or_second (eqb z x) (is_member x group) absent) h.1,
           )
     ] refl
@@ -81,7 +88,9 @@ without-with_name x [] absent = ap (λ b. cond (not b) (x ∷ []) []) (eq-eqb x 
 without-with_name x (z ∷ group) absent =
     elim (ltb x z) as (λ b. without x (cond b (x ∷ z ∷ group) (z ∷ with_name x group)) ≡ z ∷ group) [
       | true ↦ ap (λ b. cond (not b) (x ∷ without x (z ∷ group)) (without x (z ∷ group))) (eq-eqb x x refl) ∙ without_absent x (z ∷ group) absent
-      | false ↦ ap (λ b. cond (not b) (z ∷ without x (with_name x group)) (without x (with_name x group))) (or_first (eqb z x) (is_member x group) absent) ∙ ap (λ g. z ∷ g) (without-with_name x group (or_second (eqb z x) (is_member x group) absent))
+      | false ↦ ap (λ b. cond (not b) (z ∷ without x (with_name x group)) (without x (with_name x group)))
+          (or_first (eqb z x) (is_member x group) absent)
+          ∙ ap (λ g. z ∷ g) (without-with_name x group (or_second (eqb z x) (is_member x group) absent))
     ]
 
 pub length-with_name : (x : ℕ) (group : List ℕ) → length (with_name x group) ≡ length group + 1
@@ -100,17 +109,22 @@ module _ {T : Type 0} (names : Names T) (x : ℕ) where
   get_forget q = get-map_values (leave x) (finite.remove names x) q
 
   pub get_forget_other : (q : ℕ) (k : Holding T) → q ≢ x → finite.get names q ≡ Some k → finite.get (forget x names) q ≡ Some (leave x k)
-  get_forget_other q k ne is = get_forget q ∙ ap (option_map (leave x)) (get-remove_nat names x q ∙ ap (λ b. cond b None (finite.get names q)) (ne_eqb q x ne) ∙ is)
+  get_forget_other q k ne is =
+      get_forget q ∙ ap (option_map (leave x)) (get-remove_nat names x q ∙ ap (λ b. cond b None (finite.get names q)) (ne_eqb q x ne) ∙ is)
 
   pub get_forget_none : (q : ℕ) → finite.get names q ≡ None → finite.get (forget x names) q ≡ None
-  get_forget_none q is = get_forget q ∙ ap (option_map (leave x)) (get-remove_nat names x q ∙ elim (eqb q x) as (λ b. cond b None (finite.get names q) ≡ None) [ true ↦ refl | false ↦ is ])
+  get_forget_none q is =
+      get_forget q ∙ ap (option_map (leave x)) (get-remove_nat names x q
+      ∙ elim (eqb q x) as (λ b. cond b None (finite.get names q) ≡ None) [ true ↦ refl | false ↦ is ])
 
   pub get_forget_itself : finite.get (forget x names) x ≡ None
   get_forget_itself = get_forget x ∙ ap (option_map (leave x)) (get-remove_nat names x x ∙ ap (λ b. cond b None (finite.get names x)) (eq-eqb x x refl))
 
-  pub from_forget : (q : ℕ) (k : Holding T) → finite.get (forget x names) q ≡ Some k → (v : Holding T) × (q ≢ x) × (finite.get names q ≡ Some v) × (leave x v ≡ k)
+  pub from_forget : (q : ℕ) (k : Holding T) → finite.get (forget x names) q ≡ Some k
+      → (v : Holding T) × (q ≢ x) × (finite.get names q ≡ Some v) × (leave x v ≡ k)
   from_forget q k is =
-      let there : (v : Holding T) × (finite.get (finite.remove names x) q ≡ Some v) × (leave x v ≡ k) = mapped (leave x) (finite.get (finite.remove names x) q) k (sym (get_forget q) ∙ is) in
+      let there : (v : Holding T) × (finite.get (finite.remove names x) q ≡ Some v) × (leave x v ≡ k) =
+      mapped (leave x) (finite.get (finite.remove names x) q) k (sym (get_forget q) ∙ is) in
       let kept : (q ≢ x) × (finite.get names q ≡ Some (there.0)) = kept_by_remove names x q there.0 there.1 in
       (there.0, kept.0, kept.1, there.2)
 
@@ -123,7 +137,8 @@ module _ {T : Type 0} (names : Names T) (x : ℕ) where
       common = λ q y k is m.
           let there = from_forget q k is in
           let has : is_member y (without x there.0.group) ≡ true = ap (λ (h : Holding T). is_member y h.group) there.3 ∙ m in
-          let apart : y ≢ x = λ e. true≢false (sym has ∙ is_member-without y x there.0.group ∙ ap (λ b. cond b false (is_member y there.0.group)) (eq-eqb y x e)) in
+          let apart : y ≢ x =
+          λ e. true≢false (sym has ∙ is_member-without y x there.0.group ∙ ap (λ b. cond b false (is_member y there.0.group)) (eq-eqb y x e)) in
           get_forget_other y there.0 apart (sharing.common q y there.0 there.2 (member_of_without y x there.0.group has)) ∙ ap Some there.3;
       itself = λ q k is.
           let there = from_forget q k is in
@@ -158,7 +173,8 @@ module _ {T : Type 0} (names : Names T) (x : ℕ) where
       pub get_settle_other : (q : ℕ) → q ≢ x → finite.get (settle x items capacity names) q ≡ finite.get (forget x names) q
       get_settle_other q ne = get_settle q ∙ ap (λ b. cond b (Some own) (finite.get (forget x names) q)) (ne_eqb q x ne)
 
-      from_settle : (q : ℕ) (k : Holding T) → finite.get (settle x items capacity names) q ≡ Some k → ((q ≡ x) × (own ≡ k)) ⊎ ((q ≢ x) × (finite.get (forget x names) q ≡ Some k))
+      from_settle : (q : ℕ) (k : Holding T) → finite.get (settle x items capacity names) q ≡ Some k
+          → ((q ≡ x) × (own ≡ k)) ⊎ ((q ≢ x) × (finite.get (forget x names) q ≡ Some k))
       from_settle q k is = ⊎_elim
           (λ (e : q ≡ x). inl (e, same_Some own k (sym get_settle_itself ∙ ap (finite.get (settle x items capacity names)) (sym e) ∙ is)))
           (λ (ne : q ≢ x). inr (ne, sym (get_settle_other q ne) ∙ is))
@@ -188,7 +204,8 @@ module _ {T : Type 0} (names : Names T) (x : ℕ) where
             (from_settle q k is);
         itself = λ q k is. ⊎_elim
             (λ (w : (q ≡ x) × (own ≡ k)). subst (λ (h : Holding T). (h.group ≡ []) ⊎ (is_member q h.group ≡ true)) w.1
-            (elim (ltb 0 capacity) as (λ b. (cond b (x ∷ []) [] ≡ []) ⊎ (is_member q (cond b (x ∷ []) []) ≡ true)) [ true ↦ inr (ap (λ b. b || false) (eq-eqb x q (sym w.0))) | false ↦ inl refl ]))
+            (elim (ltb 0 capacity) as (λ b. (cond b (x ∷ []) [] ≡ [])
+            ⊎ (is_member q (cond b (x ∷ []) []) ≡ true)) [ true ↦ inr (ap (λ b. b || false) (eq-eqb x q (sym w.0))) | false ↦ inl refl ]))
             (λ (w : (q ≢ x) × (finite.get (forget x names) q ≡ Some k)). sharing-forget.itself q k w.1)
             (from_settle q k is);
         rising = λ q k is. ⊎_elim
@@ -209,12 +226,17 @@ module _ {T : Type 0} (names : Names T) (x : ℕ) where
       -- x owes nothing, and its block has its own number
       pub debt-settle : debt (settle x items capacity names) ≡ debt (forget x names)
       debt-settle =
-          let put : debt (settle x items capacity names) ≡ debt (forget x names) + debt_of x own = total-insert debt_of (forget x names) x own get_forget_itself in
-          let mine : debt_of x own ≡ 0 = elim (ltb 0 capacity) as (λ b. cond (past_head x (head_of (cond b (x ∷ []) []))) (length items) 0 ≡ 0) [ true ↦ ap (λ b. cond (not b) (length items) 0) (eq-eqb x x refl) | false ↦ refl ] in
+          let put : debt (settle x items capacity names) ≡ debt (forget x names) + debt_of x own =
+          total-insert debt_of (forget x names) x own get_forget_itself in
+          let mine : debt_of x own ≡ 0 =
+          elim (ltb 0 capacity) as (λ b. cond (past_head x (head_of (cond b (x ∷ []) []))) (length items) 0
+          ≡ 0) [ true ↦ ap (λ b. cond (not b) (length items) 0) (eq-eqb x x refl) | false ↦ refl ] in
           omega (arith, put, mine)
 
-      pub blocks-settle : (number : List T → ℕ → ℕ) → total (block_number number) (settle x items capacity names) ≡ total (block_number number) (forget x names) + cond (ltb 0 capacity) (number items capacity) 0
+      pub blocks-settle : (number : List T → ℕ → ℕ) → total (block_number number) (settle x items capacity names)
+          ≡ total (block_number number) (forget x names) + cond (ltb 0 capacity) (number items capacity) 0
       blocks-settle number =
           total-insert (block_number number) (forget x names) x own get_forget_itself
           ∙ ap (λ n. total (block_number number) (forget x names) + n)
-          (elim (ltb 0 capacity) as (λ b. cond (at_head x (head_of (cond b (x ∷ []) []))) (number items capacity) 0 ≡ cond b (number items capacity) 0) [ true ↦ ap (λ b. cond b (number items capacity) 0) (eq-eqb x x refl) | false ↦ refl ])
+          (elim (ltb 0 capacity) as (λ b. cond (at_head x (head_of (cond b (x ∷ []) []))) (number items capacity) 0
+          ≡ cond b (number items capacity) 0) [ true ↦ ap (λ b. cond b (number items capacity) 0) (eq-eqb x x refl) | false ↦ refl ])

@@ -17,13 +17,14 @@ use Rattle.ecow_counted.proofs.Changes.{shown_entry, left_blocks, settled_blocks
 -- a member that leaves makes a group one shorter
 pub length-without : (x : ℕ) (group : List ℕ) → IsRising group → is_member x group ≡ true → length (without x group) + 1 ≡ length group
 length-without x [] h m = absurd (true≢false (sym m))
-length-without x (y ∷ group) h m = elim (eqb y x) as (λ b. eqb y x ≡ b → length (cond (not b) (y ∷ without x group) (without x group)) + 1 ≡ length (y ∷ group)) [
-  | true ↦ λ t.
-      let gone : without x group ≡ group = without_absent x group (ap (λ z. is_member z group) (sym (eqb-true y x t)) ∙ above_absent y group h.0) in
-      let same : length (without x group) ≡ length group = ap length gone in omega arith
-  | false ↦ λ t.
-      let later : length (without x group) + 1 ≡ length group = length-without x group h.1 (ap (λ b. b || is_member x group) (sym t) ∙ m) in omega arith
-] refl
+length-without x (y ∷ group) h m =
+    elim (eqb y x) as (λ b. eqb y x ≡ b → length (cond (not b) (y ∷ without x group) (without x group)) + 1 ≡ length (y ∷ group)) [
+      | true ↦ λ t.
+          let gone : without x group ≡ group = without_absent x group (ap (λ z. is_member z group) (sym (eqb-true y x t)) ∙ above_absent y group h.0) in
+          let same : length (without x group) ≡ length group = ap length gone in omega arith
+      | false ↦ λ t.
+          let later : length (without x group) + 1 ≡ length group = length-without x group h.1 (ap (λ b. b || is_member x group) (sym t) ∙ m) in omega arith
+    ] refl
 
 one_at_least : (q : ℕ) (group : List ℕ) → is_member q group ≡ true → 1 ≤ length group
 one_at_least q [] m = absurd (true≢false (sym m))
@@ -47,13 +48,18 @@ module _ {X : Type 0} (places after : Places) (table left : Slab (Entry X)) (is 
   -- another name at the place: there are two at least
   two : (q : ℕ) → q ≢ x → finite.get places q ≡ Some (Some p) → 1 < entry.owners
   two q ne f =
-      let m : is_member q (without x (names_at p places)) ≡ true = is_member-without q x (names_at p places) ∙ ap (λ b. cond b false (is_member q (names_at p places))) (ne_eqb q x ne) ∙ member-names_at p q places ∙ ap (found_at p) f ∙ eq-eqb p p refl in
+      let m : is_member q (without x (names_at p places)) ≡ true =
+      is_member-without q x (names_at p places) ∙ ap (λ b. cond b false (is_member q (names_at p places))) (ne_eqb q x ne)
+      ∙ member-names_at p q places ∙ ap (found_at p) f ∙ eq-eqb p p refl in
       let some : 1 ≤ length (without x (names_at p places)) = one_at_least q (without x (names_at p places)) m in
       omega (arith, some, fewer, own.counted)
 
-  same_block : (q other : ℕ) → q ≢ x → finite.get places q ≡ Some (Some other) → (group : List ℕ) → holding_together group (get left other) ≡ holding_together group (get table other)
+  same_block : (q other : ℕ) → q ≢ x → finite.get places q ≡ Some (Some other) → (group : List ℕ)
+      → holding_together group (get left other) ≡ holding_together group (get table other)
   same_block q other ne f group = ⊎_elim
-      (λ (e : other ≡ p). ap (λ o. holding_together group (get left o)) e ∙ ap (holding_together group) (counted (two q ne (f ∙ ap (λ o. Some (Some o)) e))).0 ∙ sym (ap (λ o. holding_together group (get table o)) e ∙ ap (holding_together group) had))
+      (λ (e : other ≡ p). ap (λ o. holding_together group (get left o)) e
+      ∙ ap (holding_together group) (counted (two q ne (f ∙ ap (λ o. Some (Some o)) e))).0
+      ∙ sym (ap (λ o. holding_together group (get table o)) e ∙ ap (holding_together group) had))
       (λ (no_p : other ≢ p). ap (holding_together group) (others other no_p)) (cases_eq other p)
 
   pub left_names : names_of after left ≡ settle x [] 0 (names_of places table)
@@ -97,12 +103,16 @@ module _ {X : Type 0} (places after : Places) (table left : Slab (Entry X)) (is 
         (λ (ne : entry.owners ≢ 1).
         let more : 1 < entry.owners = omega (arith, own.some, ne) in
         let e_is : record { block = entry.block; owners = entry.owners - 1 } ≡ e = same_Some _ e (sym (counted more).0 ∙ ap (get left) (sym same) ∙ at) in
-        let left_over : length (names_at other after) + 1 ≡ entry.owners = ap (λ n. n + 1) (ap length (group_after other) ∙ ap (λ o. length (without x (names_at o places))) same) ∙ fewer ∙ sym own.counted in
-        subst (λ (e : Entry X). IsOwned e (names_at other after)) e_is (record { counted = omega (arith, left_over); some = omega (arith, more); fits = own.fits; small = own.small; backed = own.backed }))
+        let left_over : length (names_at other after) + 1 ≡ entry.owners =
+        ap (λ n. n + 1) (ap length (group_after other) ∙ ap (λ o. length (without x (names_at o places))) same) ∙ fewer ∙ sym own.counted in
+        subst (λ (e : Entry X). IsOwned e (names_at other after)) e_is
+        (record { counted = omega (arith, left_over); some = omega (arith, more); fits = own.fits; small = own.small; backed = own.backed }))
         (cases_eq entry.owners 1))
         (λ (no_p : other ≢ p).
         let old = is.owned other e (sym (others other no_p) ∙ at) in
-        subst (λ g. IsOwned e g) (sym (group_after other ∙ without_absent x (names_at other places) (member-names_at other x places ∙ ap (found_at other) source ∙ ne_eqb p other (λ e. no_p (sym e))))) old)
+        subst (λ g. IsOwned e g)
+        (sym (group_after other ∙ without_absent x (names_at other places) (member-names_at other x places
+        ∙ ap (found_at other) source ∙ ne_eqb p other (λ e. no_p (sym e))))) old)
         (cases_eq other p);
     blocks_are = block_count ∙ sym (ap blocks left_names);
   }

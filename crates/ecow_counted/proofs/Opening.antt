@@ -24,7 +24,9 @@ module _ {T : Type 0} (names : Names T) (x : ℕ) where
   same_opened some = record { there = some; settles = λ items capacity. refl }
 
   pub held_there : IsSome (finite.get names x) → finite.get names x ≡ Some (holding_at names x)
-  held_there some = elim (finite.get names x) as (λ o. IsSome o → o ≡ Some (unwrap_or o nothing)) [ None ↦ λ e. absurd (true≢false (sym e)) | Some h ↦ λ _. refl ] some
+  held_there some =
+      elim (finite.get names x) as (λ o. IsSome o
+      → o ≡ Some (unwrap_or o nothing)) [ None ↦ λ e. absurd (true≢false (sym e)) | Some h ↦ λ _. refl ] some
 
   module _ (there : IsSome (finite.get names x)) (sole : is_shared (holding_at names x) ≡ false) (groups : IsSharing names)
       (backed : 0 < length (holding_at names x).group → 0 < (holding_at names x).capacity) where
@@ -35,13 +37,17 @@ module _ {T : Type 0} (names : Names T) (x : ℕ) where
     again = settle_same names x groups (holding_at names x) (held_there there) few backed
 
     block_is : (block : Contents T) → Some block ≡ sole_block (finite.get names x) → contents (holding_at names x).items (holding_at names x).capacity ≡ block
-    block_is block e = elim (eqb (length (holding_at names x).group) 1) as (λ b. cond b (Some (contents (holding_at names x).items (holding_at names x).capacity)) None ≡ Some block → contents (holding_at names x).items (holding_at names x).capacity ≡ block) [
-      | true ↦ λ is. same_Some _ block is
-      | false ↦ λ is. absurd (none-some block is)
-    ] (sym (ap sole_block (held_there there)) ∙ sym e)
+    block_is block e =
+        elim (eqb (length (holding_at names x).group) 1) as (λ b.
+        cond b (Some (contents (holding_at names x).items (holding_at names x).capacity)) None ≡ Some block
+        → contents (holding_at names x).items (holding_at names x).capacity ≡ block) [
+          | true ↦ λ is. same_Some _ block is
+          | false ↦ λ is. absurd (none-some block is)
+        ] (sym (ap sole_block (held_there there)) ∙ sym e)
 
     -- the block that was taken is put back
-    pub put_back : (block : Contents T) → Some block ≡ sole_block (finite.get names x) → (mid after : Names T) → mid ≡ settle x [] 0 names → after ≡ settle x block.items block.capacity mid → after ≡ names
+    pub put_back : (block : Contents T) → Some block ≡ sole_block (finite.get names x) → (mid after : Names T)
+        → mid ≡ settle x [] 0 names → after ≡ settle x block.items block.capacity mid → after ≡ names
     put_back block is mid after taken put =
         let same = block_is block is in
         put ∙ ap (settle x block.items block.capacity) taken ∙ settle-settle names x [] block.items 0 block.capacity
@@ -50,7 +56,11 @@ module _ {T : Type 0} (names : Names T) (x : ℕ) where
     -- there was none to take
     pub none_taken : None ≡ sole_block (finite.get names x) → (mid : Names T) → mid ≡ settle x [] 0 names → mid ≡ names
     none_taken e mid taken =
-        let apart : length (holding_at names x).group ≢ 1 = λ one. none-some (contents (holding_at names x).items (holding_at names x).capacity) (e ∙ ap sole_block (held_there there) ∙ ap (λ b. cond b (Some (contents (holding_at names x).items (holding_at names x).capacity)) None) (eq-eqb (length (holding_at names x).group) 1 one)) in
+        let apart : length (holding_at names x).group ≢ 1 =
+        λ one. none-some (contents (holding_at names x).items (holding_at names x).capacity) (e
+        ∙ ap sole_block (held_there there)
+        ∙ ap (λ b. cond b (Some (contents (holding_at names x).items (holding_at names x).capacity)) None)
+        (eq-eqb (length (holding_at names x).group) 1 one)) in
         let bare : (holding_at names x).group ≡ [] = nil_from_length (holding_at names x).group (omega (arith, few, apart)) in
         let none : (holding_at names x).capacity ≡ 0 = groups.bare x (holding_at names x) (held_there there) bare in
         let fits = (groups.fits x (holding_at names x) (held_there there)).0 in

@@ -26,11 +26,14 @@ paired None end range h = absurd (none-some range h)
 paired (Some start) end range h = let same : (start, end) ≡ range = same_Some _ range h in (ap (λ p. Some p.0) same, ap (λ p. p.1) same)
 
 pub range_fits : (bounds : Bound ℕ × Bound ℕ) (n : ℕ) (range : ℕ × ℕ) → range_of bounds n ≡ Some range → (range.0 ≤ range.1) × (range.1 ≤ n)
-range_fits bounds n range h = elim (end_of bounds.1 n) as (λ o. end_of bounds.1 n ≡ o → option_and_then (λ end. option_and_then (λ start. Some (start, end)) (start_of bounds.0 end)) o ≡ Some range → (range.0 ≤ range.1) × (range.1 ≤ n)) [
-  | None ↦ λ _ h. absurd (none-some range h)
-  | Some end ↦ λ e h.
-      let p = paired (start_of bounds.0 end) end range h in
-      let at_end : end ≤ n = end_fits bounds.1 n end e in
-      let at_start : range.0 ≤ end = start_fits bounds.0 end range.0 p.0 in
-      (omega (arith, p.1), omega (arith, p.1))
-] refl h
+range_fits bounds n range h =
+    elim (end_of bounds.1 n) as (λ o. end_of bounds.1 n ≡ o
+    → option_and_then (λ end. option_and_then (λ start. Some (start, end)) (start_of bounds.0 end)) o ≡ Some range
+    → (range.0 ≤ range.1) × (range.1 ≤ n)) [
+      | None ↦ λ _ h. absurd (none-some range h)
+      | Some end ↦ λ e h.
+          let p = paired (start_of bounds.0 end) end range h in
+          let at_end : end ≤ n = end_fits bounds.1 n end e in
+          let at_start : range.0 ≤ end = start_fits bounds.0 end range.0 p.0 in
+          (omega (arith, p.1), omega (arith, p.1))
+    ] refl h

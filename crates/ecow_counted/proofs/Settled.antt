@@ -41,7 +41,8 @@ module _ {T : Type 0} (names : Names T) (x : ℕ) where
       (λ (e : q ≡ x). ap (finite.get (forget x after)) e ∙ get_forget_itself after x ∙ sym (ap (finite.get (forget x names)) e ∙ get_forget_itself names x))
       (λ (ne : q ≢ x). elim (finite.get names q) as (λ o. finite.get names q ≡ o → finite.get (forget x after) q ≡ finite.get (forget x names) q) [
         | None ↦ λ is. get_forget_none after x q (same q ne ∙ get_forget_none names x q is) ∙ sym (get_forget_none names x q is)
-        | Some k ↦ λ is. get_forget_other after x q (leave x k) ne (same q ne ∙ get_forget_other names x q k ne is) ∙ ap Some (left_twice k) ∙ sym (get_forget_other names x q k ne is)
+        | Some k ↦ λ is. get_forget_other after x q (leave x k) ne (same q ne ∙ get_forget_other names x q k ne is)
+            ∙ ap Some (left_twice k) ∙ sym (get_forget_other names x q k ne is)
       ] refl)
       (cases_eq q x))
 
@@ -49,14 +50,22 @@ module _ {T : Type 0} (names : Names T) (x : ℕ) where
   forget-forget = forget_from (forget x names) (λ q ne. refl)
 
   pub forget-settle : (items : List T) (capacity : ℕ) → forget x (settle x items capacity names) ≡ forget x names
-  forget-settle items capacity = forget_from (settle x items capacity names) (λ q ne. get-insert_nat (forget x names) x _ q ∙ ap (λ b. cond b (Some (record { items = items; group = cond (ltb 0 capacity) (x ∷ []) []; capacity = capacity })) (finite.get (forget x names) q)) (ne_eqb q x ne))
+  forget-settle items capacity =
+      forget_from (settle x items capacity names) (λ q ne. get-insert_nat (forget x names) x _ q
+      ∙ ap (λ b. cond b (Some (record { items = items; group = cond (ltb 0 capacity) (x ∷ []) []; capacity = capacity }))
+      (finite.get (forget x names) q)) (ne_eqb q x ne))
 
   -- what was settled last counts
   pub settle-settle : (items later : List T) (capacity room : ℕ) → settle x later room (settle x items capacity names) ≡ settle x later room names
-  settle-settle items later capacity room = ap (λ n. finite.insert n x (record { items = later; group = cond (ltb 0 room) (x ∷ []) []; capacity = room })) (forget-settle items capacity)
+  settle-settle items later capacity room =
+      ap (λ n. finite.insert n x (record { items = later; group = cond (ltb 0 room) (x ∷ []) []; capacity = room })) (forget-settle items capacity)
 
-  pub get-settle : (items : List T) (capacity : ℕ) → finite.get (settle x items capacity names) x ≡ Some (record { items = items; group = cond (ltb 0 capacity) (x ∷ []) []; capacity = capacity })
-  get-settle items capacity = get-insert_nat (forget x names) x _ x ∙ ap (λ b. cond b (Some (record { items = items; group = cond (ltb 0 capacity) (x ∷ []) []; capacity = capacity })) (finite.get (forget x names) x)) (eq-eqb x x refl)
+  pub get-settle : (items : List T) (capacity : ℕ) → finite.get (settle x items capacity names) x
+      ≡ Some (record { items = items; group = cond (ltb 0 capacity) (x ∷ []) []; capacity = capacity })
+  get-settle items capacity =
+      get-insert_nat (forget x names) x _ x
+      ∙ ap (λ b. cond b (Some (record { items = items; group = cond (ltb 0 capacity) (x ∷ []) []; capacity = capacity }))
+      (finite.get (forget x names) x)) (eq-eqb x x refl)
 
   module _ (groups : IsSharing names) where
     -- a name that isn't there is forgotten already
@@ -64,7 +73,8 @@ module _ {T : Type 0} (names : Names T) (x : ℕ) where
     forget_absent none = same_nat _ _ (λ q. elim (finite.get names q) as (λ o. finite.get names q ≡ o → finite.get (forget x names) q ≡ o) [
       | None ↦ λ is. get_forget_none names x q is
       | Some k ↦ λ is. get_forget_other names x q k (λ e. none-some k (sym none ∙ ap (finite.get names) (sym e) ∙ is)) is
-          ∙ ap (λ g. Some (record { items = k.items; group = g; capacity = k.capacity })) (without_absent x k.group (false_from_ne_true (is_member x k.group) (λ m. none-some k (sym none ∙ groups.common q x k is m))))
+          ∙ ap (λ g. Some (record { items = k.items; group = g; capacity = k.capacity }))
+          (without_absent x k.group (false_from_ne_true (is_member x k.group) (λ m. none-some k (sym none ∙ groups.common q x k is m))))
     ] refl)
 
     pub blocks_left : blocks names ≡ blocks (forget x names) + own_blocks (finite.get names x)
@@ -78,7 +88,8 @@ module _ {T : Type 0} (names : Names T) (x : ℕ) where
       group_is = ⊎_elim
           (λ (none : h.group ≡ []). none ∙ sym (ap (λ c. cond (ltb 0 c) (x ∷ []) []) (groups.bare x h at none)))
           (λ (has : is_member x h.group ≡ true).
-          let some : 0 < length h.group = elim h.group as (λ g. is_member x g ≡ true → 0 < length g) [ [] ↦ λ m. absurd (true≢false (sym m)) | y ∷ g ↦ λ m. omega arith ] has in
+          let some : 0 < length h.group =
+          elim h.group as (λ g. is_member x g ≡ true → 0 < length g) [ [] ↦ λ m. absurd (true≢false (sym m)) | y ∷ g ↦ λ m. omega arith ] has in
           let room : 0 < h.capacity = backed some in
           alone_of x h.group has (omega (arith, some, few)) ∙ sym (ap (λ b. cond b (x ∷ []) []) (lt-ltb 0 h.capacity room)))
           (groups.itself x h at)
@@ -86,7 +97,9 @@ module _ {T : Type 0} (names : Names T) (x : ℕ) where
       stays : (q : ℕ) (k : Holding T) → q ≢ x → finite.get names q ≡ Some k → is_member x k.group ≡ false
       stays q k ne is = false_from_ne_true (is_member x k.group) (λ m.
           let same : h ≡ k = same_Some h k (sym at ∙ groups.common q x k is m) in
-          let one : length k.group ≡ 1 = elim k.group as (λ g. is_member x g ≡ true → length g ≤ 1 → length g ≡ 1) [ [] ↦ λ m _. absurd (true≢false (sym m)) | y ∷ g ↦ λ m few. omega arith ] m (rw (sym same) few) in
+          let one : length k.group ≡ 1 =
+          elim k.group as (λ g. is_member x g ≡ true → length g ≤ 1
+          → length g ≡ 1) [ [] ↦ λ m _. absurd (true≢false (sym m)) | y ∷ g ↦ λ m few. omega arith ] m (rw (sym same) few) in
           ⊎_elim
           (λ (none : k.group ≡ []). absurd (true≢false (sym m ∙ ap (is_member x) none)))
           (λ (has : is_member q k.group ≡ true). let both : x ∷ [] ≡ q ∷ [] = sym (alone_of x k.group m one) ∙ alone_of q k.group has one in ne (cc))
@@ -95,12 +108,17 @@ module _ {T : Type 0} (names : Names T) (x : ℕ) where
       -- a sole name that settles with what it had
       pub settle_same : settle x h.items h.capacity names ≡ names
       settle_same = same_nat _ _ (λ q. get-insert_nat (forget x names) x _ q ∙ ⊎_elim
-          (λ (e : q ≡ x). ap (λ b. cond b (Some (record { items = h.items; group = cond (ltb 0 h.capacity) (x ∷ []) []; capacity = h.capacity })) (finite.get (forget x names) q)) (eq-eqb q x e)
+          (λ (e : q ≡ x). ap (λ b.
+          cond b (Some (record { items = h.items; group = cond (ltb 0 h.capacity) (x ∷ []) []; capacity = h.capacity }))
+          (finite.get (forget x names) q)) (eq-eqb q x e)
           ∙ ap (λ g. Some (record { items = h.items; group = g; capacity = h.capacity })) (sym group_is) ∙ sym at ∙ ap (finite.get names) (sym e))
-          (λ (ne : q ≢ x). ap (λ b. cond b (Some (record { items = h.items; group = cond (ltb 0 h.capacity) (x ∷ []) []; capacity = h.capacity })) (finite.get (forget x names) q)) (ne_eqb q x ne)
+          (λ (ne : q ≢ x). ap (λ b.
+          cond b (Some (record { items = h.items; group = cond (ltb 0 h.capacity) (x ∷ []) []; capacity = h.capacity }))
+          (finite.get (forget x names) q)) (ne_eqb q x ne)
           ∙ elim (finite.get names q) as (λ o. finite.get names q ≡ o → finite.get (forget x names) q ≡ o) [
             | None ↦ λ is. get_forget_none names x q is
-            | Some k ↦ λ is. get_forget_other names x q k ne is ∙ ap (λ g. Some (record { items = k.items; group = g; capacity = k.capacity })) (without_absent x k.group (stays q k ne is))
+            | Some k ↦ λ is. get_forget_other names x q k ne is
+                ∙ ap (λ g. Some (record { items = k.items; group = g; capacity = k.capacity })) (without_absent x k.group (stays q k ne is))
           ] refl)
           (cases_eq q x))
 

@@ -20,7 +20,8 @@ pub record IsPaidMade {T : Type 0} (how : VecMake T) (m : ℕ) : Type 0 where
 
 pub paid_made : {T : Type 0} (m : ℕ) (how : VecMake T) → LengthMade how m → IsPaidMade how m
 paid_made m New ok = record { fits = omega arith; small = omega arith; moved = (let bound : strain_at m 0 ≤ 2 * m - 0 = strain_le m 0 in omega arith) }
-paid_made m (WithCapacity asked) ok = record { fits = omega arith; small = ok.1; moved = (let bound : strain_at m asked ≤ 2 * m - asked = strain_le m asked in omega arith) }
+paid_made m (WithCapacity asked) ok =
+    record { fits = omega arith; small = ok.1; moved = (let bound : strain_at m asked ≤ 2 * m - asked = strain_le m asked in omega arith) }
 paid_made m (FromList items) ok =
     let wide : length items ≤ fresh (length items) = le-fresh (length items) in
     let bound : strain_at m (fresh (length items)) ≤ length items = strain_fresh m (length items) (omega arith) in
@@ -49,11 +50,14 @@ module _ {T : Type 0} (n m capacity : ℕ) (within : n ≤ capacity) (small : ca
       record { fits = omega arith; small = omega arith; moved = omega arith }
 
   -- a sole name into whose block k items go, where left of its own stay
-  goes_in : (edit : VecEdit T) (left : ℕ) → left ≤ n → left + edit_input edit ≤ MAX → m ≤ left + edit_input edit → capacity_after edit false n capacity ≡ room left (edit_input edit) capacity → moves edit n capacity ≡ cond (leb (left + edit_input edit) capacity) 0 left → IsPaidSole edit n m capacity
+  goes_in : (edit : VecEdit T) (left : ℕ) → left ≤ n → left + edit_input edit ≤ MAX → m ≤ left + edit_input edit
+      → capacity_after edit false n capacity ≡ room left (edit_input edit) capacity
+      → moves edit n capacity ≡ cond (leb (left + edit_input edit) capacity) 0 left → IsPaidSole edit n m capacity
   goes_in edit left part fit short same moved =
       let enough : left + edit_input edit ≤ room left (edit_input edit) capacity = le-room left (edit_input edit) capacity fit in
       let top : room left (edit_input edit) capacity ≤ MAX = room-le left (edit_input edit) capacity small in
-      let paid : cond (leb (left + edit_input edit) capacity) 0 left + strain_at m (room left (edit_input edit) capacity) ≤ strain_at n capacity + 2 * edit_input edit = paid_by_room n m left (edit_input edit) capacity part within small short fit in
+      let paid : cond (leb (left + edit_input edit) capacity) 0 left + strain_at m (room left (edit_input edit) capacity)
+      ≤ strain_at n capacity + 2 * edit_input edit = paid_by_room n m left (edit_input edit) capacity part within small short fit in
       record { fits = rw same (omega (arith, short, enough)); small = rw same top; moved = rw (moved, same) paid }
 
   pub paid_sole : (edit : VecEdit T) → LengthIs edit n m → IsPaidSole edit n m capacity
@@ -79,11 +83,14 @@ module _ {T : Type 0} (n m capacity : ℕ) (within : n ≤ capacity) (small : ca
       record { fits = rw same (omega (arith, short, wide)); small = rw same top; copied = omega arith; moved = rw (same, copied) (omega (arith, bound)) }
 
   -- a name that leaves its block for one with room for k items more
-  copied_in : (edit : VecEdit T) (left wide : ℕ) → copies edit n ≡ n → left ≤ n → n ≤ wide → wide ≤ MAX → left + edit_input edit ≤ MAX → m ≤ left + edit_input edit → capacity_after edit true n capacity ≡ room left (edit_input edit) wide → IsPaidShared edit n m capacity
+  copied_in : (edit : VecEdit T) (left wide : ℕ) → copies edit n ≡ n → left ≤ n → n ≤ wide → wide ≤ MAX
+      → left + edit_input edit ≤ MAX → m ≤ left + edit_input edit
+      → capacity_after edit true n capacity ≡ room left (edit_input edit) wide → IsPaidShared edit n m capacity
   copied_in edit left wide copied part enough top fit short same =
       let inside : left + edit_input edit ≤ room left (edit_input edit) wide = le-room left (edit_input edit) wide fit in
       let most : room left (edit_input edit) wide ≤ MAX = room-le left (edit_input edit) wide top in
-      let paid : strain_at m (room left (edit_input edit) wide) ≤ n + 2 * edit_input edit = paid_by_copy n m left (edit_input edit) wide part enough short fit in
+      let paid : strain_at m (room left (edit_input edit) wide) ≤ n + 2 * edit_input edit =
+      paid_by_copy n m left (edit_input edit) wide part enough short fit in
       record { fits = rw same (omega (arith, short, inside)); small = rw same most; copied = omega arith; moved = rw (same, copied) paid }
 
   pub paid_shared : (edit : VecEdit T) → LengthIs edit n m → unshares edit n ≡ true → IsPaidShared edit n m capacity
@@ -95,7 +102,9 @@ module _ {T : Type 0} (n m capacity : ℕ) (within : n ≤ capacity) (small : ca
   paid_shared Clear ok leaves = copied_out Clear 0 refl (omega arith) (omega arith) refl
   paid_shared (Retain marks) ok leaves = copied_out (Retain marks) n refl (omega arith) ok refl
   paid_shared (Drain bounds) ok leaves = copied_out (Drain bounds) n refl (omega arith) ok refl
-  paid_shared (Splice bounds v) ok leaves = copied_in (Splice bounds v) (n - items_in_range bounds n) (fresh n) refl (omega arith) (le-fresh n) (fresh-le n (omega arith)) (omega arith) (omega arith) refl
+  paid_shared (Splice bounds v) ok leaves =
+      copied_in (Splice bounds v) (n - items_in_range bounds n) (fresh n) refl (omega arith)
+      (le-fresh n) (fresh-le n (omega arith)) (omega arith) (omega arith) refl
   paid_shared (Extend v) ok leaves = copied_in (Extend v) n capacity refl (omega arith) within small (omega arith) (omega arith) refl
   paid_shared (Reserve k) ok leaves = copied_in (Reserve k) n capacity refl (omega arith) within small ok.1 (omega arith) refl
   paid_shared (Write i v) ok leaves = copied_out (Write i v) n refl (omega arith) ok refl

@@ -46,34 +46,43 @@ module _ {X : Type 0} where
         | false ↦ λ t. rw (ties q e.0, t) is
       ] refl
 
-  sum_congr : (w w' : ℕ → X → ℕ) (es : List (ℕ × X)) → T (is_sorted nat_cmp es) → ((q : ℕ) (v : X) → find nat_cmp q es ≡ Some v → w q v ≡ w' q v) → sum_by (λ e. w e.0 e.1) es ≡ sum_by (λ e. w' e.0 e.1) es
+  sum_congr : (w w' : ℕ → X → ℕ) (es : List (ℕ × X)) → T (is_sorted nat_cmp es)
+      → ((q : ℕ) (v : X) → find nat_cmp q es ≡ Some v → w q v ≡ w' q v) → sum_by (λ e. w e.0 e.1) es ≡ sum_by (λ e. w' e.0 e.1) es
   sum_congr w w' [] h agree = refl
   sum_congr w w' (e ∷ es) h agree =
       let here = agree e.0 e.1 (found_first e es) in
-      let later : sum_by (λ (e : ℕ × X). w e.0 e.1) es ≡ sum_by (λ (e : ℕ × X). w' e.0 e.1) es = sum_congr w w' es (second _ _ h) (λ q v is. agree q v (found_later q e es v h is)) in
+      let later : sum_by (λ (e : ℕ × X). w e.0 e.1) es ≡ sum_by (λ (e : ℕ × X). w' e.0 e.1) es =
+      sum_congr w w' es (second _ _ h) (λ q v is. agree q v (found_later q e es v h is)) in
       rw (sum_by-cons (λ (e : ℕ × X). w e.0 e.1) e es, sum_by-cons (λ (e : ℕ × X). w' e.0 e.1) e es) (omega (arith, here, later))
 
   sum_none : (f : ℕ × X → ℕ) (es : List (ℕ × X)) → length es ≡ 0 → sum_by f es ≡ 0
   sum_none f [] h = refl
   sum_none f (e ∷ es) h = absurd (omega arith)
 
-  sum_put : (w : ℕ → X → ℕ) (k : ℕ) (v : X) (es : List (ℕ × X)) → find nat_cmp k es ≡ None → sum_by (λ e. w e.0 e.1) (put nat_cmp k v es) ≡ sum_by (λ e. w e.0 e.1) es + w k v
+  sum_put : (w : ℕ → X → ℕ) (k : ℕ) (v : X) (es : List (ℕ × X)) → find nat_cmp k es ≡ None
+      → sum_by (λ e. w e.0 e.1) (put nat_cmp k v es) ≡ sum_by (λ e. w e.0 e.1) es + w k v
   sum_put w k v [] h = omega arith
   sum_put w k v (e ∷ es) h =
       let f : ℕ × X → ℕ = λ e. w e.0 e.1 in
-      elim (nat_cmp k e.0) as (λ r. nat_cmp k e.0 ≡ r → sum_by f (by_order r ((k, v) ∷ e ∷ es) ((e.0, v) ∷ es) (e ∷ put nat_cmp k v es)) ≡ sum_by f (e ∷ es) + w k v) [
+      elim (nat_cmp k e.0) as (λ r. nat_cmp k e.0 ≡ r
+      → sum_by f (by_order r ((k, v) ∷ e ∷ es) ((e.0, v) ∷ es) (e ∷ put nat_cmp k v es)) ≡ sum_by f (e ∷ es) + w k v) [
         | Less ↦ λ t. sum_by-cons f (k, v) (e ∷ es) ∙ add_comm (w k v) (sum_by f (e ∷ es))
         | Equal ↦ λ t. absurd (none-some e.1 (sym h ∙ ap (λ r. cond (is_eq r) (Some e.1) (find nat_cmp k es)) t))
         | Greater ↦ λ t.
-            let later : sum_by f (put nat_cmp k v es) ≡ sum_by f es + w k v = sum_put w k v es (sym (ap (λ r. cond (is_eq r) (Some e.1) (find nat_cmp k es)) t) ∙ h) in
+            let later : sum_by f (put nat_cmp k v es) ≡ sum_by f es + w k v =
+            sum_put w k v es (sym (ap (λ r. cond (is_eq r) (Some e.1) (find nat_cmp k es)) t) ∙ h) in
             rw (sum_by-cons f e (put nat_cmp k v es), sum_by-cons f e es) (omega (arith, later))
       ] refl
 
-  sum_map : (f : X → X) (w : ℕ → X → ℕ) (es : List (ℕ × X)) → sum_by (λ (e : ℕ × X). w e.0 e.1) (map (λ e. (e.0, f e.1)) es) ≡ sum_by (λ (e : ℕ × X). w e.0 (f e.1)) es
+  sum_map : (f : X → X) (w : ℕ → X → ℕ) (es : List (ℕ × X))
+      → sum_by (λ (e : ℕ × X). w e.0 e.1) (map (λ e. (e.0, f e.1)) es) ≡ sum_by (λ (e : ℕ × X). w e.0 (f e.1)) es
   sum_map f w [] = refl
   sum_map f w (e ∷ es) =
       let later : sum_by (λ (e : ℕ × X). w e.0 e.1) (map (λ e. (e.0, f e.1)) es) ≡ sum_by (λ (e : ℕ × X). w e.0 (f e.1)) es = sum_map f w es in
-      rw (sum_by-cons (λ (e : ℕ × X). w e.0 e.1) (e.0, f e.1) (map (λ e. (e.0, f e.1)) es), sum_by-cons (λ (e : ℕ × X). w e.0 (f e.1)) e es) (omega (arith, later))
+      rw (
+        sum_by-cons (λ (e : ℕ × X). w e.0 e.1) (e.0, f e.1) (map (λ e. (e.0, f e.1)) es),
+        sum_by-cons (λ (e : ℕ × X). w e.0 (f e.1)) e es,
+      ) (omega (arith, later))
 
   pub total-map_values : (f : X → X) (w : ℕ → X → ℕ) (m : finite.FinMap nat_cmp X) → total w (map_values f m) ≡ total (λ q v. w q (f v)) m
   total-map_values f w m = ap (sum_by (λ (e : ℕ × X). w e.0 e.1)) (entries-map_values f m) ∙ sum_map f w (finite.entries m)
@@ -83,7 +92,9 @@ module _ {X : Type 0} where
 
   -- at a name that isn't there
   pub total-insert : (w : ℕ → X → ℕ) (m : finite.FinMap nat_cmp X) (k : ℕ) (v : X) → finite.get m k ≡ None → total w (finite.insert m k v) ≡ total w m + w k v
-  total-insert w m k v none = ap (sum_by (λ (e : ℕ × X). w e.0 e.1)) (finite.entries-insert nat_cmp_total m k v) ∙ sum_put w k v (finite.entries m) (sym (finite.get-entries m k) ∙ none)
+  total-insert w m k v none =
+      ap (sum_by (λ (e : ℕ × X). w e.0 e.1)) (finite.entries-insert nat_cmp_total m k v)
+      ∙ sum_put w k v (finite.entries m) (sym (finite.get-entries m k) ∙ none)
 
   pub total-empty : (w : ℕ → X → ℕ) → total w (finite.empty {X = X} {R = nat_cmp}) ≡ 0
   total-empty w = sum_none (λ e. w e.0 e.1) (finite.entries finite.empty) (sym (finite.len-entries finite.empty) ∙ finite.len-empty nat_cmp X)
@@ -107,4 +118,6 @@ module _ {X : Type 0} where
 
   -- the name's number, and the others'
   pub total-remove : (w : ℕ → X → ℕ) (m : finite.FinMap nat_cmp X) (k : ℕ) (v : X) → finite.get m k ≡ Some v → total w m ≡ total w (finite.remove m k) + w k v
-  total-remove w m k v is = ap (total w) (sym (insert-remove m k v is)) ∙ total-insert w (finite.remove m k) k v (get-remove_nat m k k ∙ ap (λ b. cond b None (finite.get m k)) (eq-eqb k k refl))
+  total-remove w m k v is =
+      ap (total w) (sym (insert-remove m k v is))
+      ∙ total-insert w (finite.remove m k) k v (get-remove_nat m k k ∙ ap (λ b. cond b None (finite.get m k)) (eq-eqb k k refl))

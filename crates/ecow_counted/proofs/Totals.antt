@@ -19,22 +19,31 @@ saturating_none n h = omega arith
 pub saturating_small : (n a : ℕ) → saturating n a < 2 ^ 64
 saturating_small n a = omega arith
 
-module _ {T : Type 0} (cost : VecUsage T → Names T → ℕ) (before : ℕ) (c : VecCommand T) (old : Names T) (groups : IsSharing old) (outcome : Outcome T) (mid : Names T) (step : CountedStep old c outcome mid) where
+module _ {T : Type 0} (cost : VecUsage T → Names T → ℕ) (before : ℕ) (c : VecCommand T) (old : Names T)
+    (groups : IsSharing old) (outcome : Outcome T) (mid : Names T) (step : CountedStep old c outcome mid) where
   -- the first command's share of a total, and that of the others
-  pub total_goes_on : (after : ℕ) → after ≡ saturating before (if_accepted outcome (cost (vec_usage c) old)) → (cs : List (VecCommand T)) (outcomes : List (Outcome T))
+  pub total_goes_on : (after : ℕ) → after ≡ saturating before (if_accepted outcome (cost (vec_usage c) old))
+      → (cs : List (VecCommand T)) (outcomes : List (Outcome T))
       → saturating after (sum_in_run cost mid cs outcomes) ≡ saturating before (sum_in_run cost old (c ∷ cs) (outcome ∷ outcomes))
   total_goes_on after rises cs outcomes =
       ap (λ n. saturating n (sum_in_run cost mid cs outcomes)) rises
       ∙ saturating_twice before (if_accepted outcome (cost (vec_usage c) old)) (sum_in_run cost mid cs outcomes)
-      ∙ ap (λ names. saturating before (if_accepted outcome (cost (vec_usage c) old) + sum_in_run cost names cs outcomes)) (sym (step_paid (vec_usage c) old groups outcome mid step).after)
+      ∙ ap (λ names. saturating before (if_accepted outcome (cost (vec_usage c) old) + sum_in_run cost names cs outcomes))
+      (sym (step_paid (vec_usage c) old groups outcome mid step).after)
 
-module _ {T : Type 0} (old : CountedState T) (cs : List (VecCommand T)) (outcomes : List (Outcome T)) (new : CountedState T) (groups : IsSharing old.names) (run : CountedRun old.names cs outcomes new.names) (copies : CopiedIsSum old cs outcomes new) (moves : MovedIsSum old cs outcomes new) where
+module _ {T : Type 0} (old : CountedState T) (cs : List (VecCommand T)) (outcomes : List (Outcome T)) (new : CountedState T)
+    (groups : IsSharing old.names) (run : CountedRun old.names cs outcomes new.names)
+    (copies : CopiedIsSum old cs outcomes new) (moves : MovedIsSum old cs outcomes new) where
   pub copies_paid : CopiedIsPaid old cs outcomes new
-  copies_paid = let paid : copied_in_run old.names cs outcomes + debt new.names ≤ debt old.names + eager_in_run old.names cs outcomes = copies_at_most_eagerly cs outcomes old.names new.names groups run in
+  copies_paid =
+      let paid : copied_in_run old.names cs outcomes + debt new.names ≤ debt old.names + eager_in_run old.names cs outcomes =
+      copies_at_most_eagerly cs outcomes old.names new.names groups run in
       omega (arith, paid, copies)
 
   pub moves_paid : MovedIsPaid old cs outcomes new
-  moves_paid fits = let paid : moved_in_run old.names cs outcomes + strain new.names ≤ strain old.names + copied_in_run old.names cs outcomes + 2 * input_in_run old.names cs outcomes = moves_are_paid cs outcomes old.names new.names groups run in
+  moves_paid fits =
+      let paid : moved_in_run old.names cs outcomes + strain new.names ≤ strain old.names + copied_in_run old.names cs outcomes
+      + 2 * input_in_run old.names cs outcomes = moves_are_paid cs outcomes old.names new.names groups run in
       omega (arith, paid, copies, moves, fits)
 
   pub copies_from_new : CopiesFromNew old cs outcomes new
@@ -49,5 +58,6 @@ module _ {T : Type 0} (old : CountedState T) (cs : List (VecCommand T)) (outcome
       let ours : CountedRun finite.empty cs outcomes new.names = subst (λ names. CountedRun names cs outcomes new.names) is.0 run in
       let copied : new.copied ≡ saturating 0 (copied_in_run finite.empty cs outcomes) = rw (is.1, is.0) at copies in
       let moved : new.moved ≡ saturating 0 (moved_in_run finite.empty cs outcomes) = rw (is.2, is.0) at moves in
-      let most : moved_in_run finite.empty cs outcomes ≤ copied_in_run finite.empty cs outcomes + 2 * input_in_run finite.empty cs outcomes = moves_from_nothing cs outcomes new.names ours in
+      let most : moved_in_run finite.empty cs outcomes ≤ copied_in_run finite.empty cs outcomes + 2 * input_in_run finite.empty cs outcomes =
+      moves_from_nothing cs outcomes new.names ours in
       rw is.0 (omega (arith, copied, moved, most))

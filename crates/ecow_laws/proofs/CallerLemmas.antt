@@ -62,7 +62,8 @@ module _ {T V : Type 0} (old : Named V) (q : ℕ) where
   behind (Ok b) after stays = stays b
   behind (Err refusal) after stays = tt
 
-  stays_given : (given : Result (Outcome T × Named V) Refusal) (free : Bool) (outcome : Outcome T) (new : Named V) → Stays given → Gives given free old outcome new → get new q ≡ get old q
+  stays_given : (given : Result (Outcome T × Named V) Refusal) (free : Bool) (outcome : Outcome T) (new : Named V)
+      → Stays given → Gives given free old outcome new → get new q ≡ get old q
   stays_given (Ok answer) free outcome new stays (inl same) = ap (λ a. get a.1 q) same ∙ stays
   stays_given (Ok answer) free outcome new stays (inr refused) = ap (λ m. get m q) refused.1
   stays_given (Err refusal) free outcome new stays refused = ap (λ m. get m q) refused.1
@@ -75,13 +76,19 @@ module _ {T V A M D E Q : Type 0} (rules : Rules T V A M D E Q) (seen : Observat
 
   stays_used : (usage : Usage M D E Q) → LeavesName usage q → Stays {T = T} old q (carry_out rules seen old usage)
   stays_used (Make name how) differ = behind old q (unused old name) _ (λ _. behind old q (rules.make how) _ (λ made. stays_made name made differ))
-  stays_used (Derive from to how) differ = behind old q (there old from) _ (λ source. behind old q (unused old to) _ (λ _. behind old q (rules.derive how source) _ (λ value. past_insert old to (rules.wrap value) q differ)))
+  stays_used (Derive from to how) differ =
+      behind old q (there old from) _
+      (λ source. behind old q (unused old to) _
+      (λ _. behind old q (rules.derive how source) _ (λ value. past_insert old to (rules.wrap value) q differ)))
   stays_used (Drop name) differ = behind old q (value_at rules old name) _ (λ value. past_remove old name q differ)
-  stays_used (Edit name edit) differ = behind old q (value_at rules old name) _ (λ value. behind old q (rules.edit edit value) _ (λ after. past_insert old name (rules.wrap after.1) q differ))
+  stays_used (Edit name edit) differ =
+      behind old q (value_at rules old name) _
+      (λ value. behind old q (rules.edit edit value) _ (λ after. past_insert old name (rules.wrap after.1) q differ))
   stays_used (Ask name question) tt = behind old q (value_at rules old name) _ (λ value. behind old q (rules.ask seen question value) _ (λ answer. refl))
 
   -- what stands under every name that the command doesn't make, change or drop stays
-  pub name_stays : (usage : Usage M D E Q) (free : Bool) (outcome : Outcome T) (new : Named V) → LeavesName usage q → Gives (carry_out rules seen old usage) free old outcome new → get new q ≡ get old q
+  pub name_stays : (usage : Usage M D E Q) (free : Bool) (outcome : Outcome T) (new : Named V) → LeavesName usage q
+      → Gives (carry_out rules seen old usage) free old outcome new → get new q ≡ get old q
   name_stays usage free outcome new differ given = stays_given old q (carry_out rules seen old usage) free outcome new (stays_used usage differ) given
 
 module _ {T S : Type 0} where
@@ -114,7 +121,8 @@ module _ {T : Type 0} (old new : State T) where
   forked_from to (Some (TextValue t)) false e = cc
 
   fork_given : (free : Bool) (from to : ℕ) → Gives (carry_out vec_rules unread old (Derive from to Clone)) free old Done new → get new to ≡ get old from
-  fork_given free from to given = forked_from to (get old from) (contains_key old to) (done_is (carry_out vec_rules unread old (Derive from to Clone)) free old new given)
+  fork_given free from to given =
+      forked_from to (get old from) (contains_key old to) (done_is (carry_out vec_rules unread old (Derive from to Clone)) free old new given)
 
   -- a list of which one element was written
   abbrev set_in : ℕ → T → Option (List T) → Option (List T)
@@ -131,9 +139,12 @@ module _ {T : Type 0} (old new : State T) where
     xs ← ok_or o NoName >>= as_vec
     write_in name index value xs (slice_get xs index)
 
-  written_to : (name index : ℕ) (value : T) (xs : List T) (item : Option T) → write_in name index value xs item ≡ Ok (Done, new) → get new name ≡ Some (VecValue (slice_set xs index value))
+  written_to : (name index : ℕ) (value : T) (xs : List T) (item : Option T) → write_in name index value xs item ≡ Ok (Done, new)
+      → get new name ≡ Some (VecValue (slice_set xs index value))
   written_to name index value xs None e = cc
-  written_to name index value xs (Some x) e = let same : new ≡ insert old name (VecValue (slice_set xs index value)) = sym (ap left_by e) in rw same (at_insert old name (VecValue (slice_set xs index value)))
+  written_to name index value xs (Some x) e =
+      let same : new ≡ insert old name (VecValue (slice_set xs index value)) =
+      sym (ap left_by e) in rw same (at_insert old name (VecValue (slice_set xs index value)))
 
   written_at : (name index : ℕ) (value : T) (o : Option (Plain T)) → write_to name index value o ≡ Ok (Done, new)
       → result_ok (ok_or (get new name) NoName >>= as_vec) ≡ set_in index value (result_ok (ok_or o NoName >>= as_vec))
@@ -144,7 +155,8 @@ module _ {T : Type 0} (old new : State T) where
 
   write_given : (free : Bool) (name index : ℕ) (value : T) → Gives (carry_out vec_rules unread old (Edit name (Write index value))) free old Done new
       → result_ok (vec_at new name) ≡ set_in index value (result_ok (vec_at old name))
-  write_given free name index value given = written_at name index value (get old name) (done_is (carry_out vec_rules unread old (Edit name (Write index value))) free old new given)
+  write_given free name index value given =
+      written_at name index value (get old name) (done_is (carry_out vec_rules unread old (Edit name (Write index value))) free old new given)
 
 module _ {T : Type 0} (old new : State T) (outcome : Outcome T) where
   -- a fork reads as its source does
@@ -181,15 +193,21 @@ module _ {T : Type 0} (old new : Names T) (outcome : Outcome T) where
 
   -- in shared blocks: a fork reads as its source does
   pub share_reads : (from to : ℕ) → CountedStep old (command.Clone from to) outcome new → outcome ≡ Done → list_of new to ≡ list_of old from
-  share_reads from to step e = same_lists to from (fork_given (contents old) (contents new) _ from to (step_of_contents (command.Clone from to) old Done new (subst (λ o. CountedStep old (command.Clone from to) o new) e step)))
+  share_reads from to step e =
+      same_lists to from (fork_given (contents old) (contents new) _ from to
+      (step_of_contents (command.Clone from to) old Done new (subst (λ o. CountedStep old (command.Clone from to) o new) e step)))
 
   -- a write sets one element
-  pub shared_write_sets : (name index : ℕ) (value : T) → CountedStep old (command.Write name index value) outcome new → outcome ≡ Done → list_of new name ≡ option_map (λ xs. slice_set xs index value) (list_of old name)
+  pub shared_write_sets : (name index : ℕ) (value : T) → CountedStep old (command.Write name index value) outcome new
+      → outcome ≡ Done → list_of new name ≡ option_map (λ xs. slice_set xs index value) (list_of old name)
   shared_write_sets name index value step e =
       sym (list_of-contents new name)
-      ∙ write_given (contents old) (contents new) _ name index value (step_of_contents (command.Write name index value) old Done new (subst (λ o. CountedStep old (command.Write name index value) o new) e step))
+      ∙ write_given (contents old) (contents new) _ name index value
+      (step_of_contents (command.Write name index value) old Done new
+      (subst (λ o. CountedStep old (command.Write name index value) o new) e step))
       ∙ ap (option_map (λ xs. slice_set xs index value)) (list_of-contents old name)
 
   -- the lists of all other names stay, whoever shares their blocks
   pub other_lists_stay : (c : VecCommand T) (q : ℕ) → CountedStep old c outcome new → LeavesName (vec_usage c) q → list_of new q ≡ list_of old q
-  other_lists_stay c q step differ = same_lists q q (name_stays vec_rules _ (contents old) q (vec_usage c) _ outcome (contents new) differ (step_of_contents c old outcome new step))
+  other_lists_stay c q step differ =
+      same_lists q q (name_stays vec_rules _ (contents old) q (vec_usage c) _ outcome (contents new) differ (step_of_contents c old outcome new step))

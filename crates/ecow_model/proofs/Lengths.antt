@@ -17,6 +17,7 @@ pub spliced_in : {X : Type 0} (xs : List X) (i : ℕ) (ys : List X) → splice x
 spliced_in xs i ys = sym (append_assoc (take i xs) ys (drop i xs))
 
 pub length-inserted_slice : {X : Type 0} (xs : List X) (i : ℕ) (ys : List X) → i ≤ length xs → length (insert_slice xs i ys) ≡ length xs + length ys
-length-inserted_slice xs i ys h = omega (arith, length-append (take i xs ++ ys) (drop i xs), length-append (take i xs) ys, length-take-le i xs h, length-drop i xs)
+length-inserted_slice xs i ys h =
+    omega (arith, length-append (take i xs ++ ys) (drop i xs), length-append (take i xs) ys, length-take-le i xs h, length-drop i xs)
 
 pub ruleset edits = (length-append, length-inserted, length-spliced, spliced_in, length-inserted_slice, slice_get_past, slice_get_within)

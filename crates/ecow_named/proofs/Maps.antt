@@ -52,20 +52,23 @@ module _ {V : Type 0} where
 
   next-shifted : (es : List (ℕ × V)) (q : ℕ) → by_name (shifted es) (suc q) ≡ by_name es q
   next-shifted [] q = refl
-  next-shifted (e ∷ es) q = ap (λ b. cond b (Some e.1) (by_name (shifted es) (suc q))) (eqb-suc-suc q e.0) ∙ ap (cond (nat_eq q e.0) (Some e.1)) (next-shifted es q)
+  next-shifted (e ∷ es) q =
+      ap (λ b. cond b (Some e.1) (by_name (shifted es) (suc q))) (eqb-suc-suc q e.0) ∙ ap (cond (nat_eq q e.0) (Some e.1)) (next-shifted es q)
 
   in_slot : (slots : List (Option V)) (q : ℕ) → by_name (filled slots) q ≡ get_or slots q None
   in_slot [] q = refl
   in_slot (None ∷ slots) Prim.Native.Nat.zero = first-shifted (filled slots)
   in_slot (None ∷ slots) (suc q) = next-shifted (filled slots) q ∙ in_slot slots q
   in_slot (Some v ∷ slots) Prim.Native.Nat.zero = refl
-  in_slot (Some v ∷ slots) (suc q) = ap (λ b. cond b (Some v) (by_name (shifted (filled slots)) (suc q))) (eqb-suc-zero q) ∙ next-shifted (filled slots) q ∙ in_slot slots q
+  in_slot (Some v ∷ slots) (suc q) =
+      ap (λ b. cond b (Some v) (by_name (shifted (filled slots)) (suc q))) (eqb-suc-zero q) ∙ next-shifted (filled slots) q ∙ in_slot slots q
 
   find-append : (xs ys : List (ℕ × V)) (q : ℕ) → find nat_cmp q (xs ++ ys) ≡ option_or (find nat_cmp q xs) (find nat_cmp q ys)
   find-append [] ys q = refl
   find-append (x ∷ xs) ys q =
       ap (cond (eq_by_cmp nat_cmp q x.0) (Some x.1)) (find-append xs ys q)
-      ∙ elim (eq_by_cmp nat_cmp q x.0) as (λ b. cond b (Some x.1) (option_or (find nat_cmp q xs) (find nat_cmp q ys)) ≡ option_or (cond b (Some x.1) (find nat_cmp q xs)) (find nat_cmp q ys)) [ true ↦ refl | false ↦ refl ]
+      ∙ elim (eq_by_cmp nat_cmp q x.0) as (λ b. cond b (Some x.1) (option_or (find nat_cmp q xs) (find nat_cmp q ys))
+      ≡ option_or (cond b (Some x.1) (find nat_cmp q xs)) (find nat_cmp q ys)) [ true ↦ refl | false ↦ refl ]
 
   or_none : (o : Option V) → option_or o None ≡ o
   or_none None = refl
@@ -90,7 +93,8 @@ module _ {V : Type 0} where
       let near = take SLOTS slots in
       get-from_entries nat_cmp_total _ q
       ∙ find-append (filled near) (where_key nat_cmp (λ k. not (has_slot k)) es) q
-      ∙ (λ i. option_or ((find-at (filled near) q ∙ at-by_name (filled near) q ∙ in_slot near q ∙ in_taken slots SLOTS q) i) ((kept-where (λ k. not (has_slot k)) q es ∙ ap (λ o. cond (not (has_slot q)) o None) (find-at es q)) i))
+      ∙ (λ i. option_or ((find-at (filled near) q ∙ at-by_name (filled near) q ∙ in_slot near q ∙ in_taken slots SLOTS q) i)
+      ((kept-where (λ k. not (has_slot k)) q es ∙ ap (λ o. cond (not (has_slot q)) o None) (find-at es q)) i))
       ∙ either (has_slot q) (get_or slots q None) (at es q)
 
   length-shifted : (es : List (ℕ × V)) → length (shifted es) ≡ length es
@@ -105,7 +109,10 @@ module _ {V : Type 0} where
 
   length-where : (p : ℕ → Bool) (es : List (ℕ × V)) → length (where_key nat_cmp p es) ≤ length es
   length-where p [] = omega arith
-  length-where p (e ∷ es) = let rest = length-where p es in elim (p e.0) as (λ b. length (cond b (e ∷ where_key nat_cmp p es) (where_key nat_cmp p es)) ≤ suc (length es)) [ true ↦ omega (arith, rest) | false ↦ omega (arith, rest) ]
+  length-where p (e ∷ es) =
+      let rest =
+      length-where p es in elim (p e.0) as (λ b. length (cond b (e ∷ where_key nat_cmp p es) (where_key nat_cmp p es))
+      ≤ suc (length es)) [ true ↦ omega (arith, rest) | false ↦ omega (arith, rest) ]
 
   len-made : (es : List (ℕ × V)) → len (from_entries {R = nat_cmp} es) ≤ length es
   len-made [] = let none = len-empty nat_cmp V in omega (arith, none)
@@ -113,7 +120,8 @@ module _ {V : Type 0} where
       let m = from_entries {R = nat_cmp} es in
       let rest = len-made es in
       let one = len-insert nat_cmp_total m e.0 e.1 in
-      let more : cond (contains_key m e.0) (len m) (len m + 1) ≤ len m + 1 = elim (contains_key m e.0) as (λ b. cond b (len m) (len m + 1) ≤ len m + 1) [ true ↦ omega arith | false ↦ omega arith ] in
+      let more : cond (contains_key m e.0) (len m) (len m + 1) ≤ len m + 1 =
+      elim (contains_key m e.0) as (λ b. cond b (len m) (len m + 1) ≤ len m + 1) [ true ↦ omega arith | false ↦ omega arith ] in
       omega (arith, rest, one, more)
 
   pub len-values : (slots : List (Option V)) (es : List (ℕ × V)) → len (values_of slots es) ≤ SLOTS + length es
@@ -128,7 +136,8 @@ module _ {V : Type 0} where
       omega (arith, all, both, few, taken, others)
 
   -- a table whose tree has n names, fewer than 2^63, has countable ones
-  pub few-values : (slots : List (Option V)) (es : List (ℕ × V)) (m : FinMap nat_cmp V) (n : ℕ) → values_of slots es ≡ m → n ≡ length es → n < 2 ^ 63 → len m + 1 < 2 ^ 64
+  pub few-values : (slots : List (Option V)) (es : List (ℕ × V)) (m : FinMap nat_cmp V) (n : ℕ)
+      → values_of slots es ≡ m → n ≡ length es → n < 2 ^ 63 → len m + 1 < 2 ^ 64
   few-values slots es m n view size small = subst (λ x. len x + 1 < 2 ^ 64) view (let few = len-values slots es in omega (arith, few, size, small))
 
   -- and so has what it is where nothing changes, or where one is put in
@@ -138,7 +147,8 @@ module _ {V : Type 0} where
   pub few-inserted : (m n : FinMap nat_cmp V) (k : ℕ) (v : V) → len m + 1 < 2 ^ 64 → n ≡ insert m k v → len n < 2 ^ 64
   few-inserted m n k v few same =
       let one = len-insert nat_cmp_total m k v in
-      let more : cond (contains_key m k) (len m) (len m + 1) ≤ len m + 1 = elim (contains_key m k) as (λ b. cond b (len m) (len m + 1) ≤ len m + 1) [ true ↦ omega arith | false ↦ omega arith ] in
+      let more : cond (contains_key m k) (len m) (len m + 1) ≤ len m + 1 =
+      elim (contains_key m k) as (λ b. cond b (len m) (len m + 1) ≤ len m + 1) [ true ↦ omega arith | false ↦ omega arith ] in
       subst (λ x. len x < 2 ^ 64) (sym same) (omega (arith, few, one, more))
 
   -- an empty slot more holds nothing
@@ -167,15 +177,20 @@ module _ {V : Type 0} where
         → (q : ℕ) → get (values_of new es) q ≡ cond (is_at (nat_cmp q) k) o (get (values_of slots es) q)
     in_one_slot new o same others q =
         elim (is_at (nat_cmp q) k) as (λ b. is_at (nat_cmp q) k ≡ b → get (values_of new es) q ≡ cond b o (get (values_of slots es) q)) [
-          | true ↦ λ is. subst (λ x. get (values_of new es) x ≡ o) (sym (tied q k is)) (get-values new es k ∙ ap (λ b. cond b (get_or new k None) (at es k)) slotted ∙ same)
+          | true ↦ λ is. subst (λ x. get (values_of new es) x ≡ o) (sym (tied q k is)) (get-values new es k
+              ∙ ap (λ b. cond b (get_or new k None) (at es k)) slotted ∙ same)
           | false ↦ λ is. get-values new es q ∙ ap (λ v. cond (has_slot q) v (at es q)) (others q (apart q k is)) ∙ sym (get-values slots es q)
         ] refl
 
     pub put-slot : (v : V) → k < length slots → values_of (slice_set slots k (Some v)) es ≡ insert (values_of slots es) k v
-    put-slot v within = inserted _ _ k v (in_one_slot (slice_set slots k (Some v)) (Some v) (get_or-set_same slots k (Some v) None within) (λ q other. get_or-set_other slots k q (Some v) None other))
+    put-slot v within =
+        inserted _ _ k v (in_one_slot (slice_set slots k (Some v)) (Some v) (get_or-set_same slots k (Some v) None within)
+        (λ q other. get_or-set_other slots k q (Some v) None other))
 
     pub clear-slot : k < length slots → values_of (slice_set slots k None) es ≡ remove (values_of slots es) k
-    clear-slot within = removed _ _ k (in_one_slot (slice_set slots k None) None (get_or-set_same slots k None None within) (λ q other. get_or-set_other slots k q None None other))
+    clear-slot within =
+        removed _ _ k (in_one_slot (slice_set slots k None) None (get_or-set_same slots k None None within)
+        (λ q other. get_or-set_other slots k q None None other))
 
     pub no-slot : get_or slots k None ≡ None → values_of slots es ≡ remove (values_of slots es) k
     no-slot none = removed _ _ k (in_one_slot slots None none (λ q other. refl))
@@ -192,24 +207,32 @@ module _ {V : Type 0} where
         → (q : ℕ) → get (values_of slots new) q ≡ cond (is_at (nat_cmp q) k) o (get (values_of slots es) q)
     in_one_entry new o all q =
         get-values slots new q ∙ ap (cond (has_slot q) (get_or slots q None)) (all q)
-        ∙ elim (is_at (nat_cmp q) k) as (λ b. is_at (nat_cmp q) k ≡ b → cond (has_slot q) (get_or slots q None) (cond (is_at (nat_cmp k) q) o (at es q)) ≡ cond b o (get (values_of slots es) q)) [
+        ∙ elim (is_at (nat_cmp q) k) as (λ b. is_at (nat_cmp q) k ≡ b
+        → cond (has_slot q) (get_or slots q None) (cond (is_at (nat_cmp k) q) o (at es q)) ≡ cond b o (get (values_of slots es) q)) [
           | true ↦ λ is. ap (λ b. cond b (get_or slots q None) (cond (is_at (nat_cmp k) q) o (at es q))) (ap has_slot (tied q k is) ∙ unslotted)
               ∙ ap (λ b. cond b o (at es q)) ((eq_by_cmp_equiv nat_cmp_total).symm k q ∙ is)
-          | false ↦ λ is. ap (λ b. cond (has_slot q) (get_or slots q None) (cond b o (at es q))) ((eq_by_cmp_equiv nat_cmp_total).symm k q ∙ is) ∙ sym (get-values slots es q)
+          | false ↦ λ is. ap (λ b. cond (has_slot q) (get_or slots q None) (cond b o (at es q)))
+              ((eq_by_cmp_equiv nat_cmp_total).symm k q ∙ is) ∙ sym (get-values slots es q)
         ] refl
 
-    pub put-entry : (new : List (ℕ × V)) (v : V) → ((q : ℕ) → at new q ≡ cond (is_at (nat_cmp k) q) (Some v) (at es q)) → values_of slots new ≡ insert (values_of slots es) k v
+    pub put-entry : (new : List (ℕ × V)) (v : V) → ((q : ℕ) → at new q ≡ cond (is_at (nat_cmp k) q) (Some v) (at es q))
+        → values_of slots new ≡ insert (values_of slots es) k v
     put-entry new v all = inserted _ _ k v (in_one_entry new (Some v) all)
 
-    pub cut-entry : (new : List (ℕ × V)) → ((q : ℕ) → at new q ≡ cond (is_at (nat_cmp k) q) None (at es q)) → values_of slots new ≡ remove (values_of slots es) k
+    pub cut-entry : (new : List (ℕ × V)) → ((q : ℕ) → at new q ≡ cond (is_at (nat_cmp k) q) None (at es q))
+        → values_of slots new ≡ remove (values_of slots es) k
     cut-entry new all = removed _ _ k (in_one_entry new None all)
 
   -- slots that hold the same, however many are made
-  pub same-slots : (slots new : List (Option V)) (es : List (ℕ × V)) → ((q : ℕ) → get_or new q None ≡ get_or slots q None) → values_of new es ≡ values_of slots es
-  same-slots slots new es same = same_map nat_cmp_total nat_cmp-IsAntisymmetric _ _ (λ q. get-values new es q ∙ ap (λ o. cond (has_slot q) o (at es q)) (same q) ∙ sym (get-values slots es q))
+  pub same-slots : (slots new : List (Option V)) (es : List (ℕ × V))
+      → ((q : ℕ) → get_or new q None ≡ get_or slots q None) → values_of new es ≡ values_of slots es
+  same-slots slots new es same =
+      same_map nat_cmp_total nat_cmp-IsAntisymmetric _ _ (λ q. get-values new es q
+      ∙ ap (λ o. cond (has_slot q) o (at es q)) (same q) ∙ sym (get-values slots es q))
 
 -- what lends a value ends alike, where it does so at each value that is left
-pub same_loan : {E D : Type 0} (r : Option (MutBor E)) (F G : E → D) (u v : D) → (IsSome r → (w : E) → F w ≡ G w) → u ≡ v → read_of (ghost_name_of r) F u ≡ read_of (ghost_name_of r) G v
+pub same_loan : {E D : Type 0} (r : Option (MutBor E)) (F G : E → D) (u v : D) → (IsSome r → (w : E) → F w ≡ G w)
+    → u ≡ v → read_of (ghost_name_of r) F u ≡ read_of (ghost_name_of r) G v
 same_loan None F G u v some none = ap inr none
 same_loan (Some x) F G u v some none = let same = some refl in λ i. inl (x.ghost_name, λ w. same w i)
 

@@ -7,12 +7,14 @@ use Rattle.ecow_nested.specs.declared.value.Value.{Value, out-Value}
 use Rattle.ecow_nested.specs.declared.value.Value.TheOpen.{Value-F}
 use Rattle.ecow_nested.specs.declared.value.Value.TheFolds.{fold_out-Value}
 
-pub equal_items : (x y : Value) (xs ys : List Value) → out-Value x ≡ Value-F.List xs → out-Value y ≡ Value-F.List ys → value_eq x y ≡ each_holds (map value_eq xs) ys
+pub equal_items : (x y : Value) (xs ys : List Value) → out-Value x ≡ Value-F.List xs
+    → out-Value y ≡ Value-F.List ys → value_eq x y ≡ each_holds (map value_eq xs) ys
 equal_items x y xs ys a b =
     let h = fold_out-Value (Value → Bool) (Field → Bool) value_step field_step x in
     ap (λ (test : Value → Bool). test y) (rw a at h) ∙ ap (eq_in (Value-F.List (map value_eq xs))) b
 
-pub equal_fields : (x y : Value) (xs ys : List Field) → out-Value x ≡ Value-F.Fields xs → out-Value y ≡ Value-F.Fields ys → value_eq x y ≡ each_holds (map field_eq xs) ys
+pub equal_fields : (x y : Value) (xs ys : List Field) → out-Value x ≡ Value-F.Fields xs
+    → out-Value y ≡ Value-F.Fields ys → value_eq x y ≡ each_holds (map field_eq xs) ys
 equal_fields x y xs ys a b =
     let h = fold_out-Value (Value → Bool) (Field → Bool) value_step field_step x in
     ap (λ (test : Value → Bool). test y) (rw a at h) ∙ ap (eq_in (Value-F.Fields (map field_eq xs))) b

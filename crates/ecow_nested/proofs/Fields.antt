@@ -63,12 +63,16 @@ module _ (name : List ℕ) where
     set_first : (fs : List Field) (d : Field) → first fs < length fs → slice_set fs (first fs) (renewed (get_or fs (first fs) d)) ≡ with_field name value fs
     set_first [] d h = absurd (omega (arith, h))
     set_first (f ∷ fs) d h =
-        elim (has_name name f) as (λ b. cond (not b) (1 + first fs) 0 < suc (length fs) → slice_set (f ∷ fs) (cond (not b) (1 + first fs) 0) (renewed (get_or (f ∷ fs) (cond (not b) (1 + first fs) 0) d)) ≡ cond b (renewed f ∷ fs) (f ∷ with_field name value fs)) [
+        elim (has_name name f) as (λ b. cond (not b) (1 + first fs) 0 < suc (length fs)
+        → slice_set (f ∷ fs) (cond (not b) (1 + first fs) 0) (renewed (get_or (f ∷ fs) (cond (not b) (1 + first fs) 0) d))
+        ≡ cond b (renewed f ∷ fs) (f ∷ with_field name value fs)) [
           | true ↦ λ h. refl
-          | false ↦ λ h. ap (λ k. slice_set (f ∷ fs) k (renewed (get_or (f ∷ fs) k d))) (one_more (first fs)) ∙ ap (λ r. f ∷ r) (set_first fs d (omega (arith, h)))
+          | false ↦ λ h. ap (λ k. slice_set (f ∷ fs) k (renewed (get_or (f ∷ fs) k d))) (one_more (first fs))
+              ∙ ap (λ r. f ∷ r) (set_first fs d (omega (arith, h)))
         ] h
 
-    pub set_there : (fs : List Field) (at : ℕ) (d : Field) → Some at ≡ position (has_name name) fs → slice_set fs at (renewed (get_or fs at d)) ≡ with_field name value fs
+    pub set_there : (fs : List Field) (at : ℕ) (d : Field) → Some at ≡ position (has_name name) fs
+        → slice_set fs at (renewed (get_or fs at d)) ≡ with_field name value fs
     set_there fs at d e =
         let is = placed (first fs) (length fs) at e in
         ap (λ i. slice_set fs i (renewed (get_or fs i d))) is.0 ∙ set_first fs d (omega (arith, is.0, is.1))
@@ -76,7 +80,8 @@ module _ (name : List ℕ) where
     push_last : (fs : List Field) → length fs ≤ first fs → fs ++ added ∷ [] ≡ with_field name value fs
     push_last [] h = refl
     push_last (f ∷ fs) h =
-        elim (has_name name f) as (λ b. suc (length fs) ≤ cond (not b) (1 + first fs) 0 → f ∷ (fs ++ added ∷ []) ≡ cond b (renewed f ∷ fs) (f ∷ with_field name value fs)) [
+        elim (has_name name f) as (λ b. suc (length fs) ≤ cond (not b) (1 + first fs) 0
+        → f ∷ (fs ++ added ∷ []) ≡ cond b (renewed f ∷ fs) (f ∷ with_field name value fs)) [
           | true ↦ λ h. absurd (omega (arith, h))
           | false ↦ λ h. ap (λ r. f ∷ r) (push_last fs (omega (arith, h)))
         ] h
@@ -87,7 +92,8 @@ module _ (name : List ℕ) where
   remove_first : (fs : List Field) → first fs < length fs → remove fs (first fs) ≡ without_field name fs
   remove_first [] h = absurd (omega (arith, h))
   remove_first (f ∷ fs) h =
-      elim (has_name name f) as (λ b. cond (not b) (1 + first fs) 0 < suc (length fs) → remove (f ∷ fs) (cond (not b) (1 + first fs) 0) ≡ cond b fs (f ∷ without_field name fs)) [
+      elim (has_name name f) as (λ b. cond (not b) (1 + first fs) 0 < suc (length fs)
+      → remove (f ∷ fs) (cond (not b) (1 + first fs) 0) ≡ cond b fs (f ∷ without_field name fs)) [
         | true ↦ λ h. refl
         | false ↦ λ h. ap (remove (f ∷ fs)) (one_more (first fs)) ∙ ap (λ r. f ∷ r) (remove_first fs (omega (arith, h)))
       ] h

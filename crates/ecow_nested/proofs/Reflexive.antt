@@ -57,7 +57,9 @@ module _ {E E' : Type 0} (val : E → Value) (fld : E' → Field) (same : (e : E
   each_field_same [] = refl
   each_field_same (e ∷ es) = λ i. same' e i && each_field_same es i
 
-  all_same : (y : Value-F E E') → eq_in (map-Value Value Field (Value → Bool) (Field → Bool) value_eq field_eq (map-Value E E' Value Field val fld y)) (map-Value E E' Value Field val fld y) ≡ true
+  all_same : (y : Value-F E E')
+      → eq_in (map-Value Value Field (Value → Bool) (Field → Bool) value_eq field_eq (map-Value E E' Value Field val fld y))
+      (map-Value E E' Value Field val fld y) ≡ true
   all_same Value-F.Nothing = refl
   all_same (Value-F.Truth truth) = truth_same truth
   all_same (Value-F.Number number) = (Decides-int_eq number number).1 refl
@@ -75,8 +77,10 @@ value_eq_self = ind-Value IsSelfEqual IsSelfEqualField
     let h = fold-roll-Value (Value → Bool) (Field → Bool) value_step field_step x in
     ap (λ (test : Value → Bool). test (roll-Value x)) h
     ∙ ap (eq_in (map-Value Value Field (Value → Bool) (Field → Bool) value_eq field_eq x)) (out_of_roll x)
-    ∙ subst (λ z. eq_in (map-Value Value Field (Value → Bool) (Field → Bool) value_eq field_eq z) z ≡ true) is (all_same (λ e. e.0) (λ e. e.0) (λ e. e.1) (λ e. e.1) y))
+    ∙ subst (λ z. eq_in (map-Value Value Field (Value → Bool) (Field → Bool) value_eq field_eq z) z ≡ true) is
+    (all_same (λ e. e.0) (λ e. e.0) (λ e. e.1) (λ e. e.1) y))
     (λ x y is.
     let h = fold-roll-Field (Value → Bool) (Field → Bool) value_step field_step x in
     ap (λ (test : Field → Bool). test (roll-Field x)) h
-    ∙ subst (λ z. field_step (map-Field Value Field (Value → Bool) (Field → Bool) value_eq field_eq z) (roll-Field z) ≡ true) is (λ i. text_same (encode_utf8_all y.name.chars) i && y.value.1 i))
+    ∙ subst (λ z. field_step (map-Field Value Field (Value → Bool) (Field → Bool) value_eq field_eq z) (roll-Field z) ≡ true) is
+    (λ i. text_same (encode_utf8_all y.name.chars) i && y.value.1 i))

@@ -30,7 +30,8 @@ module _ (R : RattleType) (L : Laws R) (i : Inside R.Denot) where
         (rc.rc_new 64 k n one_weak P ftrue ftrue 𝓛 (lit< tt)) $ await ! tt $ pick ! (λ a. split3 ! $ fpick ! (λ e. fpick ! (λ one.
         move ! (0 ∷ 3 ∷ []) $ join ! $ move ! (2 ∷ 0 ∷ []) $
         use2 𝓛 (later (‵ (seen R i (a.0 ∷ [])) ⊛ ‵ (flft (a.0 ∷ []) e) ⊛ ‵ (flft μ q)))
-        (Lends-kept R L i 𝓛 l within (a.0 ∷ []) ((a.0 ∷ [], e) ∷ (μ, q) ∷ []) (Incl-trans (meet_⊑_right (a.0 ∷ []) μ) inc) (meet_⊑_left (a.0 ∷ []) μ)) $ await ! tt $ split3 ! $
+        (Lends-kept R L i 𝓛 l within (a.0 ∷ []) ((a.0 ∷ [], e) ∷ (μ, q) ∷ [])
+        (Incl-trans (meet_⊑_right (a.0 ∷ []) μ) inc) (meet_⊑_left (a.0 ∷ []) μ)) $ await ! tt $ split3 ! $
         move ! (1 ∷ []) $ use1 𝓛 (‵ (rc.part 64 a.0)) (rc.part_in 64 𝓛 a.0 e one) $ move ! (0 ∷ 3 ∷ 1 ∷ []) $ fjoin3 ! $
         fpack ! (ℕ × ℕ) (handles.handle 64 k n one_weak P ftrue ftrue (seen R i) (λ c. c.0)) a $ now ! $ done !)))
 

@@ -20,7 +20,8 @@ utf8_len-one c = let wide = width c [] in omega arith
 
 pub utf8_len-insert_slice : (cs : List ℕ) (k : ℕ) (ds : List ℕ) → utf8_len (insert_slice cs k ds) ≡ utf8_len cs + utf8_len ds
 utf8_len-insert_slice cs k ds =
-    let halves : utf8_len cs ≡ utf8_len (take k cs) + utf8_len (drop k cs) = ap utf8_len (sym (take-append-drop k cs)) ∙ utf8_len-append (take k cs) (drop k cs) in
+    let halves : utf8_len cs ≡ utf8_len (take k cs) + utf8_len (drop k cs) =
+    ap utf8_len (sym (take-append-drop k cs)) ∙ utf8_len-append (take k cs) (drop k cs) in
     let front = utf8_len-append (take k cs) ds in
     let all = utf8_len-append (take k cs ++ ds) (drop k cs) in
     omega arith

@@ -50,7 +50,9 @@ module _ (f : ℕ → ℕ) (low : (c : ℕ) → c < 128 → f c < 128) (high : (
 
   mapped_chars : (cs : List ℕ) → AreChars cs → AreChars (map f cs)
   mapped_chars [] are = refl
-  mapped_chars (c ∷ cs) are = let parts = both (scalar c) (all_scalars cs) are in joined (scalar (f c)) (all_scalars (map f cs)) (mapped_scalar c parts.0) (mapped_chars cs parts.1)
+  mapped_chars (c ∷ cs) are =
+      let parts =
+      both (scalar c) (all_scalars cs) are in joined (scalar (f c)) (all_scalars (map f cs)) (mapped_scalar c parts.0) (mapped_chars cs parts.1)
 
   mapped_bytes : (cs : List ℕ) → map f (encode_utf8_all cs) ≡ encode_utf8_all (map f cs)
   mapped_bytes [] = refl
@@ -86,7 +88,8 @@ str_in_case-IsAscii Lower = str_to_lowercase-IsAscii
 str_in_case-IsAscii Upper = str_to_uppercase-IsAscii
 
 -- and so the bytes of its characters, mapped
-pub encoded-in_case : (case : Case) (cs : List ℕ) → IsAscii (encode_utf8_all cs) → encode_utf8_all (map (in_case case) cs) ≡ str_in_case case (encode_utf8_all cs)
+pub encoded-in_case : (case : Case) (cs : List ℕ) → IsAscii (encode_utf8_all cs)
+    → encode_utf8_all (map (in_case case) cs) ≡ str_in_case case (encode_utf8_all cs)
 encoded-in_case case cs ascii = sym (str_in_case-IsAscii case _ ascii ∙ mapped_bytes (in_case case) (low case) (high case) cs)
 
 -- as many as before

@@ -25,7 +25,8 @@ fewer c p (x ∷ s) b e = by_test (c == x) e
     by_test true f = let rest = shorter_front p s b f in omega arith
     by_test false f = cc
 
-later : (c : ℕ) (p s : List ℕ) (x : ℕ) (a b : List ℕ) (o : Option (List ℕ × List ℕ)) → first_split (c ∷ p) s ≡ o → ((y z : List ℕ) → first_split (c ∷ p) s ≡ Some (y, z) → length z < length s)
+later : (c : ℕ) (p s : List ℕ) (x : ℕ) (a b : List ℕ) (o : Option (List ℕ × List ℕ)) → first_split (c ∷ p) s ≡ o
+    → ((y z : List ℕ) → first_split (c ∷ p) s ≡ Some (y, z) → length z < length s)
     → option_map {U = List ℕ × List ℕ} (λ (parts : List ℕ × List ℕ). (x ∷ parts.0, parts.1)) o ≡ Some (a, b) → length b < length (x ∷ s)
 later c p s x a b None f rest h = cc
 later c p s x a b (Some parts) f rest h =
@@ -55,8 +56,10 @@ enough (suc n) (suc k) [] t [] less more = refl
 enough (suc n) (suc k) [] t (x ∷ s) less more = ap (λ l. t ++ x ∷ l) (enough n k [] t s (omega arith) (omega arith))
 enough (suc n) (suc k) (c ∷ p) t s less more = by_split (first_split (c ∷ p) s) refl (λ b shorter_n shorter_k. enough n k (c ∷ p) t b shorter_n shorter_k)
   where
-    by_split : (o : Option (List ℕ × List ℕ)) → first_split (c ∷ p) s ≡ o → ((b : List ℕ) → length b < n → length b < k → replacen n (c ∷ p) t b ≡ replacen k (c ∷ p) t b)
-        → option_map_or (λ (parts : List ℕ × List ℕ). parts.0 ++ (t ++ replacen n (c ∷ p) t parts.1)) o s ≡ option_map_or (λ (parts : List ℕ × List ℕ). parts.0 ++ (t ++ replacen k (c ∷ p) t parts.1)) o s
+    by_split : (o : Option (List ℕ × List ℕ)) → first_split (c ∷ p) s ≡ o
+        → ((b : List ℕ) → length b < n → length b < k → replacen n (c ∷ p) t b ≡ replacen k (c ∷ p) t b)
+        → option_map_or (λ (parts : List ℕ × List ℕ). parts.0 ++ (t ++ replacen n (c ∷ p) t parts.1)) o s ≡ option_map_or
+        (λ (parts : List ℕ × List ℕ). parts.0 ++ (t ++ replacen k (c ∷ p) t parts.1)) o s
     by_split None e rest = refl
     by_split (Some parts) e rest =
         let fewer_left = shorter c p s parts.0 parts.1 e in

@@ -9,7 +9,8 @@ use Rattle.ecow_string.proofs.Occurrences.{encoded_len}
 use Rattle.ecow_string.proofs.Steps.{utf8_len-chars}
 
 -- one text more
-pub joined_by_more : {T : Type 0} (f : T → List ℕ) (old : List ℕ) (xs : List T) (x : T) (now : List ℕ) → now ≡ old ++ joined_by f xs → now ++ f x ≡ old ++ joined_by f (xs ++ x ∷ [])
+pub joined_by_more : {T : Type 0} (f : T → List ℕ) (old : List ℕ) (xs : List T) (x : T) (now : List ℕ)
+    → now ≡ old ++ joined_by f xs → now ++ f x ≡ old ++ joined_by f (xs ++ x ∷ [])
 joined_by_more f old xs x now e =
     let last : joined_by f (xs ++ x ∷ []) ≡ joined_by f xs ++ f x = flat_map-append f xs (x ∷ []) ∙ ap (λ l. joined_by f xs ++ l) (append-nil (f x)) in
     ap (λ l. l ++ f x) e ∙ append_assoc old (joined_by f xs) (f x) ∙ ap (λ l. old ++ l) (sym last)

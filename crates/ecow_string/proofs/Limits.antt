@@ -11,7 +11,8 @@ pub none_refused : (limit n : ℕ) (inline : Bool) (len k : ℕ) → inline ≡ 
 none_refused limit n inline len k target fits refused = search rules
 
 -- a text that was inline where it fits gets k bytes, and is inline where these fit too
-pub stays : (limit : ℕ) (inline now : Bool) (len k total : ℕ) → now ≡ inline_after limit inline len 0 → total ≡ len + k → inline_after limit now len k ≡ inline_after limit inline total 0
+pub stays : (limit : ℕ) (inline now : Bool) (len k total : ℕ) → now ≡ inline_after limit inline len 0
+    → total ≡ len + k → inline_after limit now len k ≡ inline_after limit inline total 0
 stays limit true now len k total e same = search rules
 stays limit false now len k total e same = search rules
 

@@ -9,4 +9,5 @@ pub cut_in_front : (d : List ℕ) (i j n : ℕ) → i ≤ j → j ≤ n → n �
 cut_in_front d i j n le fits e =
     let count : n - (j - i) ≡ i + (n - j) = omega arith in
     let all : length (drop j d) ≡ n - j = length-drop j d ∙ ap (λ k. k - j) (sym e) in
-    ap (λ k. take k (copy_within d j n i)) count ∙ take-paste d i (drop j d) (n - j) (omega (arith, e)) (omega (arith, all)) ∙ ap (λ l. take i d ++ l) (take_all (n - j) (drop j d) (omega (arith, all)))
+    ap (λ k. take k (copy_within d j n i)) count ∙ take-paste d i (drop j d) (n - j) (omega (arith, e)) (omega (arith, all))
+    ∙ ap (λ l. take i d ++ l) (take_all (n - j) (drop j d) (omega (arith, all)))

@@ -62,7 +62,12 @@ bytes_from_parts s p a b e =
     ap encode_utf8_all e ∙ encodes-append a (p ++ b) ∙ ap (λ l. encode_utf8_all a ++ l) (encodes-append p b) in
     let back = ap (drop (utf8_len a)) bytes ∙ drop_at (encode_utf8_all a) _ (utf8_len a) refl in
     record {
-      fits = omega (arith, ap length bytes, length-append (encode_utf8_all a) (encode_utf8_all p ++ encode_utf8_all b), length-append (encode_utf8_all p) (encode_utf8_all b));
+      fits = omega (
+        arith,
+        ap length bytes,
+        length-append (encode_utf8_all a) (encode_utf8_all p ++ encode_utf8_all b),
+        length-append (encode_utf8_all p) (encode_utf8_all b),
+      );
       reads = at_reads 0 (encode_utf8_all s) (encode_utf8_all p) (utf8_len a) (encode_utf8_all b) back;
     }
 
@@ -108,7 +113,8 @@ finds_split s p c None valid needle never = first_split-none c p s (λ a b e.
 finds_split s p c (Some k) valid needle found =
     let parts = parts_from_bytes s p c k valid needle found.1 in
     let none : NotWithin (c ∷ p) parts.front ((c ∷ p) ++ parts.rest) = λ a₁ a₂ x e b f.
-    let whole : s ≡ a₁ ++ ((c ∷ p) ++ b) = parts.whole ∙ ap (λ l. l ++ ((c ∷ p) ++ parts.rest)) e ∙ append_assoc a₁ (x ∷ a₂) ((c ∷ p) ++ parts.rest) ∙ ap (λ l. a₁ ++ l) f in
+    let whole : s ≡ a₁ ++ ((c ∷ p) ++ b) =
+    parts.whole ∙ ap (λ l. l ++ ((c ∷ p) ++ parts.rest)) e ∙ append_assoc a₁ (x ∷ a₂) ((c ∷ p) ++ parts.rest) ∙ ap (λ l. a₁ ++ l) f in
     let less : utf8_len a₁ < k = omega (arith, parts.before, ap utf8_len e, encoded_len a₁ (x ∷ a₂), width x a₂, len_utf8_bounds x) in
     found.0.before (utf8_len a₁) (omega arith) less (bytes_from_parts s (c ∷ p) a₁ b whole) in
     (parts, ap (first_split (c ∷ p)) parts.whole ∙ first_split-some c p parts.front parts.rest none)
@@ -123,7 +129,8 @@ pub record Found (text pattern : List ℕ) (k : ℕ) : Type 0 where
 chars_same : (cs bs : List ℕ) → AreChars cs → bs ≡ encode_utf8_all cs → chars bs ≡ cs
 chars_same cs bs valid e = ap chars e ∙ chars-encodes cs valid
 
-found_parts : (s p : List ℕ) (c k : ℕ) → AreChars s → (parts : PartsAt s (c ∷ p) k) → first_split (c ∷ p) s ≡ Some (parts.front, parts.rest) → AreChars (c ∷ p) → IsCharBoundary (encode_utf8_all s) k
+found_parts : (s p : List ℕ) (c k : ℕ) → AreChars s → (parts : PartsAt s (c ∷ p) k)
+    → first_split (c ∷ p) s ≡ Some (parts.front, parts.rest) → AreChars (c ∷ p) → IsCharBoundary (encode_utf8_all s) k
     → Found (encode_utf8_all s) (encode_utf8_all (c ∷ p)) k
 found_parts s p c k valid parts split needle start =
     let a = encode_utf8_all parts.front in

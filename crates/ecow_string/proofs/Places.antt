@@ -19,7 +19,8 @@ char_at_boundary cs index passes below =
     let place : chars_before cs index ≡ at.front = rw at.ends at (chars_before-front cs at.front at.fits) in
     elim (cases_lt at.front (length cs)) [
       | inl within ↦ rw place (get_or cs at.front 0, slice_get-get_or cs at.front 0 within)
-      | inr past ↦ (let whole : utf8_len (take at.front cs) ≡ utf8_len cs = ap utf8_len (take_all at.front cs (omega arith)) in absurd (omega (arith, whole, at.ends)))
+      | inr past ↦ (let whole : utf8_len (take at.front cs) ≡ utf8_len cs = ap utf8_len (take_all at.front cs (omega arith)) in
+          absurd (omega (arith, whole, at.ends)))
     ]
 
 -- what `truncate` asks, where a boundary was tested first and the end then

@@ -18,8 +18,11 @@ item_at (y ∷ xs) x ys = item_at xs x ys
 -- the item between two lists, and the two without it
 between : (xs ys zs : List ℕ) (y k : ℕ) → zs ≡ xs ++ y ∷ ys → length xs ≡ k → (slice_get zs k ≡ Some y) × (remove zs k ≡ xs ++ ys)
 between xs ys zs y k e size =
-    let rest : drop (suc k) zs ≡ ys = ap (drop (suc k)) (e ∙ sym (append_assoc xs (y ∷ []) ys)) ∙ drop_at (xs ++ y ∷ []) ys (suc k) (omega (arith, length-append xs (y ∷ []))) in
-    (ap (λ l. slice_get l k) e ∙ subst (λ (n : ℕ). slice_get (xs ++ y ∷ ys) n ≡ Some y) size (item_at xs y ys), (λ i. (ap (take k) e ∙ take_at xs (y ∷ ys) k size) i ++ rest i))
+    let rest : drop (suc k) zs ≡ ys =
+    ap (drop (suc k)) (e ∙ sym (append_assoc xs (y ∷ []) ys)) ∙ drop_at (xs ++ y ∷ []) ys (suc k) (omega (arith, length-append xs (y ∷ []))) in (
+      ap (λ l. slice_get l k) e ∙ subst (λ (n : ℕ). slice_get (xs ++ y ∷ ys) n ≡ Some y) size (item_at xs y ys),
+      (λ i. (ap (take k) e ∙ take_at xs (y ∷ ys) k size) i ++ rest i),
+    )
 
 -- what taking the character c out at a boundary leaves
 pub record Removed (bs : List ℕ) (index c : ℕ) : Type 0 where
@@ -45,7 +48,16 @@ removed bs tail index c text passes e =
     let all = AreChars-append front (c ∷ parts.0) (subst AreChars whole text.valid) in
     let valid = AreChars-joined front parts.0 all.0 (AreChars-append (c ∷ []) parts.0 all.1).1 in
     record {
-      fits = omega (arith, ap length (sym (take-append-drop index bs)), length-append (take index bs) (drop index bs), ap length e, length-append (encode_utf8 c) tail, length-encode c, ap length before, at.ends);
+      fits = omega (
+        arith,
+        ap length (sym (take-append-drop index bs)),
+        length-append (take index bs) (drop index bs),
+        ap length e,
+        length-append (encode_utf8 c) tail,
+        length-encode c,
+        ap length before,
+        at.ends,
+      );
       item = rw place items.0;
       left = ap chars bytes ∙ chars-encodes _ valid ∙ rw place (sym items.1);
       utf8 = rw bytes (AreUtf8-encoded _ valid);

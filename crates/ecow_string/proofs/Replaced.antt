@@ -11,7 +11,8 @@ use Rattle.ecow_vec.proofs.Ranges.{within}
 use Rattle.ecow_string.specs.Text.{AreUtf8}
 use Rattle.ecow_string.proofs.Texts.{AreUtf8-replace, chars-replace}
 
-module _ (bs ds new cs : List ℕ) (view : chars bs ≡ cs) (text : AreUtf8 bs) (put : IsUtf8 ds) (bounds : Bound ℕ × Bound ℕ) (len start end : ℕ) (size : len ≡ utf8_len cs)
+module _ (bs ds new cs : List ℕ) (view : chars bs ≡ cs) (text : AreUtf8 bs) (put : IsUtf8 ds)
+    (bounds : Bound ℕ × Bound ℕ) (len start end : ℕ) (size : len ≡ utf8_len cs)
     (found : range_of bounds len ≡ Some (start, end)) (order : (start ≤ end) × (end ≤ len))
     (cuts : AtRange bounds (utf8_len cs) (λ s e. (is_boundary cs s ≡ true) × (is_boundary cs e ≡ true)))
     (target : AtRange (Included start, Excluded end) (length bs) (λ s e. new ≡ replace_range bs s e ds)) where

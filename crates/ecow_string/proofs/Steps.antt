@@ -12,7 +12,8 @@ use Rattle.ecow_string.specs.Replace.{IsFirstSplit, IsCharSplit}
 use Rattle.ecow_string.proofs.Occurrences.{encoded_len}
 
 -- where the first p of s stands between `before` and `behind`, and where there is none
-pub replaced-first : (n : ℕ) (p t s before behind : List ℕ) → p ≢ [] → first_split p s ≡ Some (before, behind) → replacen (suc n) p t s ≡ before ++ (t ++ replacen n p t behind)
+pub replaced-first : (n : ℕ) (p t s before behind : List ℕ) → p ≢ [] → first_split p s ≡ Some (before, behind)
+    → replacen (suc n) p t s ≡ before ++ (t ++ replacen n p t behind)
 unfolding replacen
 replaced-first n [] t s before behind some e = absurd (some refl)
 replaced-first n (c ∷ p) t s before behind some e = ap (λ o. option_map_or (λ (parts : List ℕ × List ℕ). parts.0 ++ (t ++ replacen n (c ∷ p) t parts.1)) o s) e
@@ -88,15 +89,18 @@ interleaving_size (suc n) t [] =
 interleaving_size (suc n) t (x ∷ s) =
     let more : min (suc n) (length (x ∷ s) + 1) ≡ suc (min n (length s + 1)) = grind arith in
     let one = suc-mul (min n (length s + 1)) (utf8_len t) in
-    rw (interleaving_first n x t s, more) (omega (arith, encoded_len t (x ∷ replacen n [] t s), width x (replacen n [] t s), width x s, interleaving_size n t s, one))
+    rw (interleaving_first n x t s, more)
+    (omega (arith, encoded_len t (x ∷ replacen n [] t s), width x (replacen n [] t s), width x s, interleaving_size n t s, one))
 
 -- how many bytes a text has in which the empty pattern is replaced
-pub interleaving_total : (n places : ℕ) (t s : List ℕ) → IsUtf8 t → IsUtf8 s → places ≡ min n (length (chars s) + 1) → utf8_len (replacen n [] (chars t) (chars s)) ≡ length s + places * length t
+pub interleaving_total : (n places : ℕ) (t s : List ℕ) → IsUtf8 t → IsUtf8 s → places ≡ min n (length (chars s) + 1)
+    → utf8_len (replacen n [] (chars t) (chars s)) ≡ length s + places * length t
 interleaving_total n places t s to text e =
     interleaving_size n (chars t) (chars s) ∙ (λ i. utf8_len-chars s text i + sym e i * utf8_len-chars t to i)
 
 -- what fits once all is appended leaves room for a part of it
-pub part_fits : (target old rest whole after : List ℕ) (most n : ℕ) → target ++ rest ≡ old ++ whole → utf8_len old + utf8_len whole ≤ most → utf8_len rest ≡ n + utf8_len after → utf8_len target + n ≤ most
+pub part_fits : (target old rest whole after : List ℕ) (most n : ℕ) → target ++ rest ≡ old ++ whole
+    → utf8_len old + utf8_len whole ≤ most → utf8_len rest ≡ n + utf8_len after → utf8_len target + n ≤ most
 part_fits target old rest whole after most n joined fits size = omega (arith, ap utf8_len joined, encoded_len target rest, encoded_len old whole)
 
 -- the bytes of a text with one character more

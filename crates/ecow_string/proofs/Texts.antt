@@ -45,7 +45,8 @@ AreChars-append (c ∷ cs) ds h =
 
 pub AreChars-joined : (cs ds : List ℕ) → AreChars cs → AreChars ds → AreChars (cs ++ ds)
 AreChars-joined [] ds h i = i
-AreChars-joined (c ∷ cs) ds h i = let parts = both (scalar c) (all_scalars cs) h in joined (scalar c) (all_scalars (cs ++ ds)) parts.0 (AreChars-joined cs ds parts.1 i)
+AreChars-joined (c ∷ cs) ds h i =
+    let parts = both (scalar c) (all_scalars cs) h in joined (scalar c) (all_scalars (cs ++ ds)) parts.0 (AreChars-joined cs ds parts.1 i)
 
 -- a list of characters is what its bytes spell
 pub AreUtf8-encoded : (cs : List ℕ) → AreChars cs → AreUtf8 (encode_utf8_all cs)
@@ -64,7 +65,9 @@ take-encoded cs k = rw (split_encoded cs k) (take_at (encode_utf8_all (take k cs
 -- where a front ends, by the test of bytes and by characters
 pub boundary_of_front : (cs : List ℕ) (index : ℕ) → AreChars cs → IsBoundary cs index → IsCharBoundary (encode_utf8_all cs) index
 boundary_of_front cs index h at =
-    let seam = IsCharBoundary-at_seam (encode_utf8_all cs) (encode_utf8_all (take at.front cs)) (encode_utf8_all (drop at.front cs)) (split_encoded cs at.front) (drop at.front cs, ((split_valid cs at.front h).1, refl)) in
+    let seam =
+    IsCharBoundary-at_seam (encode_utf8_all cs) (encode_utf8_all (take at.front cs)) (encode_utf8_all (drop at.front cs))
+    (split_encoded cs at.front) (drop at.front cs, ((split_valid cs at.front h).1, refl)) in
     rw at.ends at seam
 
 pub front_of_boundary : (cs : List ℕ) (index : ℕ) → AreChars cs → IsCharBoundary (encode_utf8_all cs) index → IsBoundary cs index
@@ -160,7 +163,8 @@ replaced_bytes bs ds start end text put at to =
     let before = front_bytes bs start text at in
     let after : drop end bs ≡ encode_utf8_all back =
     ap (drop end) (sym text.spelling ∙ split_encoded (chars bs) to.front) ∙ drop_at (encode_utf8_all (take to.front (chars bs))) _ end to.ends in
-    rw (before, after) (sym (encodes-append (front ++ chars ds) back ∙ ap (λ l. l ++ encode_utf8_all back) (encodes-append front (chars ds) ∙ ap (λ l. encode_utf8_all front ++ l) put.spelling)))
+    rw (before, after) (sym (encodes-append (front ++ chars ds) back
+    ∙ ap (λ l. l ++ encode_utf8_all back) (encodes-append front (chars ds) ∙ ap (λ l. encode_utf8_all front ++ l) put.spelling)))
 
 replaced_valid : (bs ds : List ℕ) (j k : ℕ) → AreUtf8 bs → AreUtf8 ds → AreChars (replace_range (chars bs) j k (chars ds))
 replaced_valid bs ds j k text put =
@@ -194,7 +198,14 @@ insert_one cs k c = append_assoc (take k cs) (c ∷ []) (drop k cs)
 pub boundary_fits : (bs : List ℕ) (index : ℕ) → AreUtf8 bs → is_boundary (chars bs) index ≡ true → index ≤ length bs
 boundary_fits bs index text passes =
     let at = passes_boundary (chars bs) index passes in
-    omega (arith, ap length (front_bytes bs index text at), at.ends, ap length text.spelling, ap length (split_encoded (chars bs) at.front), length-append (encode_utf8_all (take at.front (chars bs))) (encode_utf8_all (drop at.front (chars bs))))
+    omega (
+      arith,
+      ap length (front_bytes bs index text at),
+      at.ends,
+      ap length text.spelling,
+      ap length (split_encoded (chars bs) at.front),
+      length-append (encode_utf8_all (take at.front (chars bs))) (encode_utf8_all (drop at.front (chars bs))),
+    )
 
 -- two tests that pass together are one
 pub same_test : (a b : Bool) → (a ≡ true → b ≡ true) → (b ≡ true → a ≡ true) → a ≡ b

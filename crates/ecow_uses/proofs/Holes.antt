@@ -25,4 +25,5 @@ module _ (values : BTreeMap PlainText PlainText) where
 -- and it ends in none
 pub no_open_end : (cs : List ℕ) → IsUnclosed cs → Lacks opening cs → ⊥
 no_open_end cs unclosed lacks =
-    All-head (λ x. x ≢ opening) opening unclosed.name (behind (λ x. x ≢ opening) (flat_map form_of unclosed.pieces) (opening ∷ unclosed.name) (subst (Lacks opening) (sym unclosed.ends) lacks)) refl
+    All-head (λ x. x ≢ opening) opening unclosed.name (behind (λ x. x ≢ opening) (flat_map form_of unclosed.pieces)
+    (opening ∷ unclosed.name) (subst (Lacks opening) (sym unclosed.ends) lacks)) refl

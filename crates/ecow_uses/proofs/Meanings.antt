@@ -7,11 +7,17 @@ use Rattle.ecow_uses.specs.Scopes.{meaning, same_name}
 use Rattle.ecow_uses.specs.declared.symbols.Binding.{Binding}
 
 -- one more binding
-one_more : (bindings : List Binding) (b : Binding) (name : List ℕ) → meaning (bindings ++ b ∷ []) name ≡ cond (same_name (encode_utf8_all b.name.chars) name) (Some b.value) (meaning bindings name)
-one_more bindings b name = fold-append (λ (value : Option ℕ) (b : Binding). cond (same_name (encode_utf8_all b.name.chars) name) (Some b.value) value) None bindings (b ∷ [])
+one_more : (bindings : List Binding) (b : Binding) (name : List ℕ)
+    → meaning (bindings ++ b ∷ []) name ≡ cond (same_name (encode_utf8_all b.name.chars) name) (Some b.value) (meaning bindings name)
+one_more bindings b name =
+    fold-append (λ (value : Option ℕ) (b : Binding). cond (same_name (encode_utf8_all b.name.chars) name) (Some b.value) value) None bindings (b ∷ [])
 
 pub bound : (bindings : List Binding) (b : Binding) → meaning (bindings ++ b ∷ []) (encode_utf8_all b.name.chars) ≡ Some b.value
-bound bindings b = one_more bindings b (encode_utf8_all b.name.chars) ∙ ap (λ test. cond test (Some b.value) (meaning bindings (encode_utf8_all b.name.chars))) (nat_list_eq_equiv.refl (encode_utf8_all b.name.chars))
+bound bindings b =
+    one_more bindings b (encode_utf8_all b.name.chars)
+    ∙ ap (λ test. cond test (Some b.value) (meaning bindings (encode_utf8_all b.name.chars)))
+    (nat_list_eq_equiv.refl (encode_utf8_all b.name.chars))
 
-pub others : (bindings : List Binding) (b : Binding) (name : List ℕ) → same_name (encode_utf8_all b.name.chars) name ≡ false → meaning (bindings ++ b ∷ []) name ≡ meaning bindings name
+pub others : (bindings : List Binding) (b : Binding) (name : List ℕ) → same_name (encode_utf8_all b.name.chars) name ≡ false
+    → meaning (bindings ++ b ∷ []) name ≡ meaning bindings name
 others bindings b name differ = one_more bindings b name ∙ ap (λ test. cond test (Some b.value) (meaning bindings name)) differ

@@ -24,16 +24,28 @@ module _ (pieces new : List Piece) (text : PlainText) (cs part : List ℕ) (c : 
   -- one more character of a name, and of a text
   pub longer_name : c ≢ closing → part ≡ text.chars ++ c ∷ [] → SoFar pieces true text.chars cs → SoFar pieces true part (cs ++ c ∷ [])
   longer_name other grown so_far =
-      rw grown (so_far.0, All-push (λ x. x ≢ closing) text.chars c so_far.1 other, sym (append_assoc (flat_map form_of pieces) (opening ∷ text.chars) (c ∷ [])) ∙ ap (λ xs. xs ++ c ∷ []) so_far.2)
+      rw grown (
+        so_far.0,
+        All-push (λ x. x ≢ closing) text.chars c so_far.1 other,
+        sym (append_assoc (flat_map form_of pieces) (opening ∷ text.chars) (c ∷ [])) ∙ ap (λ xs. xs ++ c ∷ []) so_far.2,
+      )
 
   pub longer_text : c ≢ opening → part ≡ text.chars ++ c ∷ [] → SoFar pieces false text.chars cs → SoFar pieces false part (cs ++ c ∷ [])
   longer_text other grown so_far =
-      rw grown (so_far.0, All-push (λ x. x ≢ opening) text.chars c so_far.1 other, sym (append_assoc (flat_map form_of pieces) text.chars (c ∷ [])) ∙ ap (λ xs. xs ++ c ∷ []) so_far.2)
+      rw grown (
+        so_far.0,
+        All-push (λ x. x ≢ opening) text.chars c so_far.1 other,
+        sym (append_assoc (flat_map form_of pieces) text.chars (c ∷ [])) ∙ ap (λ xs. xs ++ c ∷ []) so_far.2,
+      )
 
   -- a text ends where a hole opens
   pub opens : c ≡ opening → part ≡ [] → new ≡ pieces ++ Text text ∷ [] → SoFar pieces false text.chars cs → SoFar new true part (cs ++ c ∷ [])
   opens brace empty grown so_far =
-      rw (brace, empty, grown) (All-push IsPlain pieces (Text text) so_far.0 so_far.1, All-nil (λ x. x ≢ closing), ap (λ xs. xs ++ opening ∷ []) (one_more pieces (Text text) ∙ so_far.2))
+      rw (brace, empty, grown) (
+        All-push IsPlain pieces (Text text) so_far.0 so_far.1,
+        All-nil (λ x. x ≢ closing),
+        ap (λ xs. xs ++ opening ∷ []) (one_more pieces (Text text) ∙ so_far.2),
+      )
 
   -- a name ends where its hole is closed
   pub closes : c ≡ closing → part ≡ [] → new ≡ pieces ++ Hole text ∷ [] → SoFar pieces true text.chars cs → SoFar new false part (cs ++ c ∷ [])
@@ -41,7 +53,8 @@ module _ (pieces new : List Piece) (text : PlainText) (cs part : List ℕ) (c : 
       rw (brace, empty, grown) (
         All-push IsPlain pieces (Hole text) so_far.0 so_far.1,
         All-nil (λ x. x ≢ opening),
-        append-nil (flat_map form_of (pieces ++ Hole text ∷ [])) ∙ one_more pieces (Hole text) ∙ sym (append_assoc (flat_map form_of pieces) (opening ∷ text.chars) (closing ∷ [])) ∙ ap (λ xs. xs ++ closing ∷ []) so_far.2,
+        append-nil (flat_map form_of (pieces ++ Hole text ∷ [])) ∙ one_more pieces (Hole text)
+            ∙ sym (append_assoc (flat_map form_of pieces) (opening ∷ text.chars) (closing ∷ [])) ∙ ap (λ xs. xs ++ closing ∷ []) so_far.2,
       )
 
   -- the characters end in a text, or in a hole

@@ -13,7 +13,8 @@ module _ {Z : Type 0} where
   map-after [] x = refl
   map-after (y ∷ xs) x = ap (λ ts. string_bytes y ∷ ts) (map-after xs x)
 
-  pub pushed : (old new : List (String Z)) (x : String Z) → IsKeptIn says_same old (λ kept. kept ++ x ∷ []) new → map string_bytes new ≡ map string_bytes old ++ string_bytes x ∷ []
+  pub pushed : (old new : List (String Z)) (x : String Z) → IsKeptIn says_same old (λ kept. kept ++ x ∷ []) new
+      → map string_bytes new ≡ map string_bytes old ++ string_bytes x ∷ []
   pushed old new x h =
       let kept = kept_alike says_same string_bytes (λ s t same. same) old h.0 h.1 in
       let after = map-after h.0 x in

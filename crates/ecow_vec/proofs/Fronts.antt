@@ -6,7 +6,8 @@ use Rattle.ecow_vec.specs.Vectors.{ExtendsBy, GivesFirst, GivesItems}
 
 module _ {C I T : Type 0} (gives : C → I → Type 0) (steps : I → Option T → I → Type 0) (c : C) where
   -- one item more came
-  pub one_more : (it : I) (xs : List T) (t : I) (x : T) (u : I) → gives c it → Yields steps it xs t → steps t (Some x) u → GivesFirst gives steps c (xs ++ x ∷ [])
+  pub one_more : (it : I) (xs : List T) (t : I) (x : T) (u : I) → gives c it → Yields steps it xs t
+      → steps t (Some x) u → GivesFirst gives steps c (xs ++ x ∷ [])
   one_more it xs t x u g y s = (it, u, g, Yields-more steps it xs t x u y s)
 
   -- all items are the first ones

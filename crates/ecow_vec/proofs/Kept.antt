@@ -52,6 +52,7 @@ module _ {X : Type 0} (is_clone : X → X → Type 0) where
   zipped_at (x ∷ xs) (z ∷ zs) (suc i) y all found = zipped_at xs zs i y all.1 found
 
   -- what takes an element or a clone of it takes the element that stands in its place
-  pub takes_kept : {F R : Type 0} (g : Once F (MutBor X × Unit {0}) (R × (MutBor X × Unit {0}))) (f : F) (old new : List X) (i : ℕ) → TakesKeptAt g f is_clone old i → IsKept is_clone old new → TakesAt g f new i
+  pub takes_kept : {F R : Type 0} (g : Once F (MutBor X × Unit {0}) (R × (MutBor X × Unit {0}))) (f : F) (old new : List X) (i : ℕ)
+      → TakesKeptAt g f is_clone old i → IsKept is_clone old new → TakesAt g f new i
   takes_kept g f old new i takes (inl same) = λ x found. takes x x (ap (λ l. slice_get l i) (sym same) ∙ found) (inl refl)
   takes_kept g f old new i takes (inr clones) = λ y found. let at = zipped_at old new i y clones found in takes at.0 y at.1 (inr at.2)

@@ -10,7 +10,8 @@ use Rattle.ecow_vec.proofs.Views.{refilled}
 use borrow.Rule.Slice.PartMut.{put_mid}
 
 -- the first n elements of d are the list, and behind them is room
-module _ {X : Type 0} (d xs ys : List X) (s e n m : ℕ) (front : xs ≡ take n d) (within : n ≤ length d) (many : m ≡ length ys) (ordered : s ≤ e) (in_bounds : e ≤ n)
+module _ {X : Type 0} (d xs ys : List X) (s e n m : ℕ) (front : xs ≡ take n d)
+    (within : n ≤ length d) (many : m ≡ length ys) (ordered : s ≤ e) (in_bounds : e ≤ n)
     (room : n - (e - s) + m ≤ length d) where
   abbrev written : List X
   written = put_mid s (s + m - s) (copy_within d e n (s + m)) ys

@@ -28,24 +28,30 @@ module _ {T S : Type 0} where
   is_accepted (Err refusal) = false
 
   -- want of memory changes nothing, and isn't answered by a free command
-  lacking : (given : Result (Outcome T × S) Refusal) (free : Bool) (old new : S) → is_accepted given ≡ true → Gives given free old (Refused Memory) new → (new ≡ old) × (free ≡ false)
+  lacking : (given : Result (Outcome T × S) Refusal) (free : Bool) (old new : S) → is_accepted given ≡ true
+      → Gives given free old (Refused Memory) new → (new ≡ old) × (free ≡ false)
   lacking (Ok answer) free old new accepted (inl h) = let same = ap (λ a. is_done a.0) h in let no : false ≡ true = cc in cc
   lacking (Ok answer) free old new accepted (inr h) = (h.1, h.2)
   lacking (Err refusal) free old new accepted h = cc
 
   -- a command that isn't free may lack memory
-  lacked : (given : Result (Outcome T × S) Refusal) (free : Bool) (old : S) → is_accepted given ≡ true → free ≡ false → Gives given free old (Refused Memory) old
+  lacked : (given : Result (Outcome T × S) Refusal) (free : Bool) (old : S)
+      → is_accepted given ≡ true → free ≡ false → Gives given free old (Refused Memory) old
   lacked (Ok answer) free old accepted paid = inr (refl, refl, paid)
   lacked (Err refusal) free old accepted paid = cc
 
-vec_lacking : (old : State ℕ) (c : VecCommand ℕ) (new : State ℕ) → is_accepted (carry_out vec_rules unread old (vec_usage c)) ≡ true → IsVecStep old c (Refused Memory) new → (new ≡ old) × (use_is_free vec_rules old (vec_usage c) ≡ false)
+vec_lacking : (old : State ℕ) (c : VecCommand ℕ) (new : State ℕ) → is_accepted (carry_out vec_rules unread old (vec_usage c)) ≡ true
+    → IsVecStep old c (Refused Memory) new → (new ≡ old) × (use_is_free vec_rules old (vec_usage c) ≡ false)
 vec_lacking old c new = lacking (carry_out vec_rules unread old (vec_usage c)) (use_is_free vec_rules old (vec_usage c)) old new
 
-counted_lacking : (old : Names ℕ) (c : VecCommand ℕ) (new : Names ℕ) → is_accepted (counted_carry_out old (vec_usage c)) ≡ true → CountedStep old c (Refused Memory) new → (new ≡ old) × (counted_is_free old (vec_usage c) ≡ false)
+counted_lacking : (old : Names ℕ) (c : VecCommand ℕ) (new : Names ℕ) → is_accepted (counted_carry_out old (vec_usage c)) ≡ true
+    → CountedStep old c (Refused Memory) new → (new ≡ old) × (counted_is_free old (vec_usage c) ≡ false)
 counted_lacking old c new = lacking (counted_carry_out old (vec_usage c)) (counted_is_free old (vec_usage c)) old new
 
 pub a_push_may_lack_memory : IsVecStep one_list (Push 0 4) (Refused Memory) one_list
-a_push_may_lack_memory = lacked (carry_out vec_rules unread one_list (vec_usage (Push 0 4))) (use_is_free vec_rules one_list (vec_usage (Push 0 4))) one_list (simp rules refl) (simp rules refl)
+a_push_may_lack_memory =
+    lacked (carry_out vec_rules unread one_list (vec_usage (Push 0 4)))
+    (use_is_free vec_rules one_list (vec_usage (Push 0 4))) one_list (simp rules refl) (simp rules refl)
 
 pub a_push_without_memory_changes_nothing : (new : State ℕ) → IsVecStep one_list (Push 0 4) (Refused Memory) new → new ≡ one_list
 a_push_without_memory_changes_nothing new step = (vec_lacking one_list (Push 0 4) new (simp rules refl) step).0
@@ -56,19 +62,27 @@ a_clear_never_lacks_memory new step =
     let paid = (vec_lacking one_list (Clear 0) new (simp rules refl) step).1 in cc
 
 pub a_push_into_a_full_block_may_lack_memory : CountedStep four_of_four (Push 0 5) (Refused Memory) four_of_four
-a_push_into_a_full_block_may_lack_memory = lacked (counted_carry_out four_of_four (vec_usage (Push 0 5))) (counted_is_free four_of_four (vec_usage (Push 0 5))) four_of_four (simp table_rules refl) (simp table_rules refl)
+a_push_into_a_full_block_may_lack_memory =
+    lacked (counted_carry_out four_of_four (vec_usage (Push 0 5))) (counted_is_free four_of_four (vec_usage (Push 0 5))) four_of_four
+    (simp table_rules refl) (simp table_rules refl)
 
 pub a_push_into_a_full_block_then_changes_nothing : (new : Names ℕ) → CountedStep four_of_four (Push 0 5) (Refused Memory) new → new ≡ four_of_four
 a_push_into_a_full_block_then_changes_nothing new step = (counted_lacking four_of_four (Push 0 5) new (simp table_rules refl) step).0
 
 pub a_push_by_a_shared_name_may_lack_memory : CountedStep shared_block (Push 1 4) (Refused Memory) shared_block
-a_push_by_a_shared_name_may_lack_memory = lacked (counted_carry_out shared_block (vec_usage (Push 1 4))) (counted_is_free shared_block (vec_usage (Push 1 4))) shared_block (simp table_rules refl) (simp table_rules refl)
+a_push_by_a_shared_name_may_lack_memory =
+    lacked (counted_carry_out shared_block (vec_usage (Push 1 4))) (counted_is_free shared_block (vec_usage (Push 1 4))) shared_block
+    (simp table_rules refl) (simp table_rules refl)
 
 pub an_extend_past_the_capacity_may_lack_memory : CountedStep three_of_four (Extend 0 (4 ∷ 5 ∷ 6 ∷ [])) (Refused Memory) three_of_four
-an_extend_past_the_capacity_may_lack_memory = lacked (counted_carry_out three_of_four (vec_usage (Extend 0 (4 ∷ 5 ∷ 6 ∷ [])))) (counted_is_free three_of_four (vec_usage (Extend 0 (4 ∷ 5 ∷ 6 ∷ [])))) three_of_four (simp table_rules refl) (simp table_rules refl)
+an_extend_past_the_capacity_may_lack_memory =
+    lacked (counted_carry_out three_of_four (vec_usage (Extend 0 (4 ∷ 5 ∷ 6 ∷ []))))
+    (counted_is_free three_of_four (vec_usage (Extend 0 (4 ∷ 5 ∷ 6 ∷ [])))) three_of_four (simp table_rules refl) (simp table_rules refl)
 
 pub a_truncate_by_a_shared_name_may_lack_memory : CountedStep shared_block (Truncate 1 2) (Refused Memory) shared_block
-a_truncate_by_a_shared_name_may_lack_memory = lacked (counted_carry_out shared_block (vec_usage (Truncate 1 2))) (counted_is_free shared_block (vec_usage (Truncate 1 2))) shared_block (simp table_rules refl) (simp table_rules refl)
+a_truncate_by_a_shared_name_may_lack_memory =
+    lacked (counted_carry_out shared_block (vec_usage (Truncate 1 2)))
+    (counted_is_free shared_block (vec_usage (Truncate 1 2))) shared_block (simp table_rules refl) (simp table_rules refl)
 
 pub a_push_within_the_capacity_never_lacks_memory : (new : Names ℕ) → ¬ (CountedStep three_of_four (Push 0 4) (Refused Memory) new)
 a_push_within_the_capacity_never_lacks_memory new step =

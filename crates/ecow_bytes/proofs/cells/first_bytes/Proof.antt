@@ -99,10 +99,14 @@ module _ {M : Type 1} {𝓤 : Ura M} (𝓛 : Logic 𝓤) where
         feq_i ! ℕ (length (with_front m xs ws)) n (omega (arith, all, both, rest, e, count, within)) $ fjoin ! $ done !)
 
     abbrev Lent : GName → SProp 𝓤
-    Lent δ = sep 𝓤 (sem 𝓛 ((MutSlice (named 0) κ u8).own_val (record { ref_ptr = (b, o); ghost_name = δ; now = front }) (slice_val (b, o) k ∷ []))) (sep 𝓤 (A.lft κ q) (sem 𝓛 (follows (Array u8 0) (Array u8 0) γ δ (with_front m xs))))
+    Lent δ =
+        sep 𝓤 (sem 𝓛 ((MutSlice (named 0) κ u8).own_val (record { ref_ptr = (b, o); ghost_name = δ; now = front }) (slice_val (b, o) k ∷ [])))
+        (sep 𝓤 (A.lft κ q) (sem 𝓛 (follows (Array u8 0) (Array u8 0) γ δ (with_front m xs))))
 
     abbrev lent : GName → Item 𝓤
-    lent δ = ‵ ((MutSlice (named 0) κ u8).own_val (record { ref_ptr = (b, o); ghost_name = δ; now = front }) (slice_val (b, o) k ∷ [])) ⊛ ‵ (flft κ q) ⊛ ‵ (follows (Array u8 0) (Array u8 0) γ δ (with_front m xs))
+    lent δ =
+        ‵ ((MutSlice (named 0) κ u8).own_val (record { ref_ptr = (b, o); ghost_name = δ; now = front }) (slice_val (b, o) k ∷ []))
+        ⊛ ‵ (flft κ q) ⊛ ‵ (follows (Array u8 0) (Array u8 0) γ δ (with_front m xs))
 
     small : Room u8 k
     small = (omega (arith, count, roomy.0), omega (arith, count, roomy.1))
@@ -116,9 +120,11 @@ module _ {M : Type 1} {𝓤 : Ura M} (𝓛 : Logic 𝓤) where
         rewrite ! 0 (λ (l : List ℕ). ‵ (bytes l o)) (heres_id u8 xs ∙ sym (take-append-drop m xs)) refl $
         use1 𝓛 (‵ (bytes front o) ⊛ ‵ (bytes back (past k))) (cut_app 𝓛 (mem u8) front back b o) $ split ! $
         feq_i ! ℕ k k refl $ fjoin ! $ move ! (2 ∷ 3 ∷ 4 ∷ 0 ∷ 1 ∷ []) $ group ! 5 $
-        use1 𝓛 (later (some (λ (δ : GName). ‵ (fobs δ ((Arr (mem u8) k).coded.code front)) ⊛ ‵ (fbor κ (Body (Arr (mem u8) k) b o δ)) ⊛ ‵ (flft κ q) ⊛ ‵ (follows (Array u8 0) (Array u8 0) γ δ (with_front m xs)))))
+        use1 𝓛 (later (some (λ (δ : GName). ‵ (fobs δ ((Arr (mem u8) k).coded.code front)) ⊛ ‵ (fbor κ (Body (Arr (mem u8) k) b o δ))
+        ⊛ ‵ (flft κ q) ⊛ ‵ (follows (Array u8 0) (Array u8 0) γ δ (with_front m xs)))))
         (takes_part 𝓛 (Arr (mem u8) n) (Arr (mem u8) k) (with_front m xs) κ q b o b o γ Rest put _ _ front) $ await ! tt $ pick ! (λ δ. split3 ! $
-        use2 𝓛 (‵ ((MutSlice (named 0) κ u8).own_val (record { ref_ptr = (b, o); ghost_name = δ; now = front }) (slice_val (b, o) k ∷ []))) (slice_of 𝓛 u8 (named 0) κ b o δ front small) $
+        use2 𝓛 (‵ ((MutSlice (named 0) κ u8).own_val (record { ref_ptr = (b, o); ghost_name = δ; now = front }) (slice_val (b, o) k ∷ [])))
+        (slice_of 𝓛 u8 (named 0) κ b o δ front small) $
         now ! $ show ! Lent δ $ done !)
 
   module _ (at_mem : Memory → SProp 𝓤) (run : Routine → Fun 𝓤) where
@@ -134,7 +140,8 @@ module _ {M : Type 1} {𝓤 : Ura M} (𝓛 : Logic 𝓤) where
       bound = (((κ, tt), (q, tt), bd, (self, (m, tt)), (mut_slice_vals self, (vint w64 m ∷ [], tt))), tt)
 
       walk : Room u8 (length xs) → m < 2 ^ 64 → m ≤ length xs
-          → ent 𝓤 (on_entry 𝓛 F.ended.signature (κ, tt) (q, tt) (self, (m, tt)) (mut_slice_vals self, (vint w64 m ∷ [], tt))) (WpFn 𝓤 H C Λ code.function (slice_val (b, o) (length xs) ∷ vint w64 m ∷ []) ((walk_of 𝓛 F.ended stayed clauses).post bound))
+          → ent 𝓤 (on_entry 𝓛 F.ended.signature (κ, tt) (q, tt) (self, (m, tt)) (mut_slice_vals self, (vint w64 m ∷ [], tt)))
+          (WpFn 𝓤 H C Λ code.function (slice_val (b, o) (length xs) ∷ vint w64 m ∷ []) ((walk_of 𝓛 F.ended stayed clauses).post bound))
       walk roomy fm within =
           let count : length (take m xs) ≡ m = length-take-le m xs within in
           qed 𝓛 ((‵ (flft κ q) ⊛ ‵ ftrue) ∷ ‵ (owns (MutSlice (named 0) κ u8 ∷ usize ∷ []) (self, (m, tt)) (mut_slice_vals self, (vint w64 m ∷ [], tt))) ∷ []) ∵
@@ -153,8 +160,13 @@ module _ {M : Type 1} {𝓤 : Ura M} (𝓛 : Logic 𝓤) where
 
     meets : (𝓣 : Tables 𝓤 H) → Meets 𝓛 F.signature (WpFn 𝓤 H 𝓣.C 𝓣.Λ code.function) (closing 𝓛 F.ended clauses)
     meets 𝓣 =
-        walk_Meets 𝓛 F.ended stayed (Goes-spent_slice 𝓛 1 (0 ∷ []) tt (plain (λ _. u8)), (Goes-dropped 𝓛 1 (plain (λ _. usize)) yes (λ κs x f. refl), tt)) clauses (WpFn 𝓤 H 𝓣.C 𝓣.Λ code.function) (WpFn-mono 𝓤 H 𝓛.laws 𝓣 code.function)
-        (walked 𝓛 F.ended stayed clauses (WpFn 𝓤 H 𝓣.C 𝓣.Λ code.function) (λ κs. (mut_slice_vals, (uint_vals w64, tt))) (λ κs. (mut_slice_Tells (named 0) κs.0 u8, (uint_Tells w64, tt)))
+        walk_Meets 𝓛 F.ended stayed (
+          Goes-spent_slice 𝓛 1 (0 ∷ []) tt (plain (λ _. u8)),
+          (Goes-dropped 𝓛 1 (plain (λ _. usize)) yes (λ κs x f. refl), tt),
+        ) clauses
+        (WpFn 𝓤 H 𝓣.C 𝓣.Λ code.function) (WpFn-mono 𝓤 H 𝓛.laws 𝓣 code.function)
+        (walked 𝓛 F.ended stayed clauses (WpFn 𝓤 H 𝓣.C 𝓣.Λ code.function) (λ κs. (mut_slice_vals, (uint_vals w64, tt)))
+        (λ κs. (mut_slice_Tells (named 0) κs.0 u8, (uint_Tells w64, tt)))
         (λ κs qs bounds a g are.
         qed 𝓛 (raw (on_entry 𝓛 F.signature κs qs a (mut_slice_vals a.0, (vint w64 a.1.0 ∷ [], tt))) ∷ raw (fact 𝓤 (a.1.0 ≤ length a.0.now)) ∷ []) ∵
         move ! (1 ∷ []) $ heard ! _ (λ within.

@@ -6,4 +6,5 @@ pub returns-then-same-len : goal.returns-then-same-len
 returns-then-same-len c =
     let xs = c.args.left.now in
     let ys = c.args.right.now in
-    c.cmp.ensures ∙ order_by_lengths c.same_front-same.result xs ys c.same_front-same.ensures.same (shortest (length xs) (length ys) c.same_front-same.result (c.if-same-len.true ∙ c.requires.shorter))
+    c.cmp.ensures ∙ order_by_lengths c.same_front-same.result xs ys c.same_front-same.ensures.same
+    (shortest (length xs) (length ys) c.same_front-same.result (c.if-same-len.true ∙ c.requires.shorter))

@@ -9,6 +9,8 @@ returns g c =
     let ys = c.args.right.now in
     let front = c.same_at.ensures in
     let back = c.same_at-2.ensures in (
-      λ t. let h = both c.same_at.result c.same_at-2.result t in same_by_ends m xs ys c.requires.as_many c.requires.covered.0 c.requires.covered.1 (front.0 h.0) (back.0 h.1),
+      λ t. let h =
+          both c.same_at.result c.same_at-2.result t in
+          same_by_ends m xs ys c.requires.as_many c.requires.covered.0 c.requires.covered.1 (front.0 h.0) (back.0 h.1),
       λ e. and_both c.same_at.result c.same_at-2.result (front.1 (ap (λ zs. take m (drop 0 zs)) e)) (back.1 (ap (λ zs. take m (drop (length xs - m) zs)) e)),
     )

@@ -20,7 +20,8 @@ loop-at-preserved c =
 pub returns-then-both_same-clause-same : goal.returns-then-both_same-clause-same
 returns-then-both_same-clause-same c =
     let same = c.both_same-2.ensures.0 c.if-both_same.true in
-    joined c.loop-at.at 64 c.args.len c.min.result c.args.left.now c.args.right.now c.min.ensures (omega (arith, c.loop-at.invariant.0)) c.requires.many (omega (arith, c.loop-at-test.false)) c.requires.in_bounds.0 c.requires.in_bounds.1
+    joined c.loop-at.at 64 c.args.len c.min.result c.args.left.now c.args.right.now c.min.ensures
+    (omega (arith, c.loop-at.invariant.0)) c.requires.many (omega (arith, c.loop-at-test.false)) c.requires.in_bounds.0 c.requires.in_bounds.1
     c.loop-at.invariant.1 same.0 same.1
 
 pub returns-else-both_same-clause-differ : goal.returns-else-both_same-clause-differ

@@ -11,5 +11,6 @@ returns-in-Ok-splice-clause-texts c =
     let in_bounds : c.args.end ≤ length c.in-Some.value.now = search rules in
     let clones = c.in-Ok.ensures.items_if_clones_equal (λ x y same. same) in
     let left : c.splice.new.self ≡ splice c.in-Some.value.now c.args.start c.args.end c.in-Some-texts.value.now =
-    spliced _ c.in-Some.value.now c.splice.new.self c.in-Some-texts.value.now done.0 c.args.start c.args.end in_order in_bounds (given_items c.in-Ok.value done.0 done.1 ∙ clones ∙ c.as_slice.ensures) done.2 in
+    spliced _ c.in-Some.value.now c.splice.new.self c.in-Some-texts.value.now done.0 c.args.start c.args.end in_order in_bounds
+    (given_items c.in-Ok.value done.0 done.1 ∙ clones ∙ c.as_slice.ensures) done.2 in
     search rules

@@ -10,5 +10,9 @@ use Rattle.ecow_uses.proofs.writing.sort.Goals as goal
 pub returns-in-Ok-clause-ok : goal.returns-in-Ok-clause-ok
 returns-in-Ok-clause-ok c =
     let P : List ℕ → Type 0 = λ xs. IsNonDecreasing xs in
-    let same : c.own_mut.follows.lender (record { items = refill (length c.in-Ok.block.now.items) c.in-Ok.block.now.items c.sort_unstable.new.self; capacity = c.in-Ok.block.now.capacity }) ≡ c.sort_unstable.new.self = grind (arith, common_steps, refilled) in
+    let same : c.own_mut.follows.lender
+    (record {
+      items = refill (length c.in-Ok.block.now.items) c.in-Ok.block.now.items c.sort_unstable.new.self;
+      capacity = c.in-Ok.block.now.capacity;
+    }) ≡ c.sort_unstable.new.self = grind (arith, common_steps, refilled) in
     subst P (sym same) (IsNonDecreasingBy-from_sort (λ n. n) _ c.sort_unstable.ensures.sorted)

@@ -90,14 +90,18 @@ module _ (E : El) {M : Type 1} {𝓤 : Ura M} (𝓛 : Logic 𝓤) (𝓜 : Model 
   abbrev held : Clauses 𝓤 (ended E)
   held = F.clauses E.row 𝓛 𝓜.mem 𝓡.returns
 
-  walk : (z : (walk_of 𝓛 (ended E) stayed held).Ghost) → ent 𝓤 ((walk_of 𝓛 (ended E) stayed held).pre z) (WpFn 𝓤 H 𝓣.C 𝓣.Λ here ((walk_of 𝓛 (ended E) stayed held).args z) ((walk_of 𝓛 (ended E) stayed held).post z))
+  walk : (z : (walk_of 𝓛 (ended E) stayed held).Ghost)
+      → ent 𝓤 ((walk_of 𝓛 (ended E) stayed held).pre z)
+      (WpFn 𝓤 H 𝓣.C 𝓣.Λ here ((walk_of 𝓛 (ended E) stayed held).args z) ((walk_of 𝓛 (ended E) stayed held).post z))
   walk z =
       let κ = z.0.0.0 in let κ₁ = z.0.0.1.0 in let q = z.0.1.0 in let q₁ = z.0.1.1.0 in let args = z.0.3 in let vss = z.0.4 in
       let b = args.0.ref_ptr.0 in let o = args.0.ref_ptr.1 in
       let Post : Val → SProp 𝓤 = (walk_of 𝓛 (ended E) stayed held).post z in
-      qed 𝓛 (((‵ (flft κ q) ⊛ ‵ (flft κ₁ q₁) ⊛ ‵ ftrue) ⊛ ‵ (owns (types_at (ended E).signature.params z.0.0) args vss)) ∷ raw ((held z.0.0 args).requires z.1) ∷ []) ∵
+      qed 𝓛 (((‵ (flft κ q) ⊛ ‵ (flft κ₁ q₁) ⊛ ‵ ftrue) ⊛ ‵ (owns (types_at (ended E).signature.params z.0.0) args vss))
+      ∷ raw ((held z.0.0 args).requires z.1) ∷ []) ∵
       move ! (1 ∷ []) $ drop ! $ split ! $ split ! $ move ! (2 ∷ []) $ fsplit ! $ fsplit ! $ feq_l ! (λ e₀. keep ! (0 ∷ 2 ∷ 3 ∷ []) $
-      unhide ! $ fpick ! (λ x. let s : (Si E).Denot = x.0 in let i : (Bi E).Denot = s.inside in let owner = x.1.1 in let facts = owner.is_block in let same = x.1.0 in let c = s.top.ptr in
+      unhide ! $ fpick ! (λ x. let s : (Si E).Denot = x.0 in let i : (Bi E).Denot = s.inside in
+      let owner = x.1.1 in let facts = owner.is_block in let same = x.1.0 in let c = s.top.ptr in
       let cb = block_of i.top.ptr in let co = count_of i.top.ptr in let at : Ptr = block_ptr cb (co + 0) in
       fsplit ! $ move ! (1 ∷ []) $ drop ! $ fsplit ! $ hide ! $ move ! (1 ∷ []) $ hide ! $
       -- [what the owner lends; its fields; the token; the other token]
@@ -112,29 +116,36 @@ module _ (E : El) {M : Type 1} {𝓤 : Ura M} (𝓛 : Logic 𝓤) (𝓜 : Model 
       sets ! (of_opd ! (load ! (through ! refl (fld ! refl (stop !))) (look_in ! 0 (sub ! 0 refl (whole !))))) refl (word-Good [] c) $
       sets ! (of_opd ! (load ! (through ! refl (fld ! refl (stop !))) (look_in ! 0 (sub ! 4 refl (whole !))))) refl (tt, ((tt, tt), tt)) $
       sets ! (of_opd ! (get ! refl)) refl (word-Good [] c) $ sets ! (of_opd ! (get ! refl)) refl (tt, ((tt, tt), tt)) $
-      sets ! (is ! (of_opd ! (get_in ! (fld ! refl (stop !)) (sub ! 0 refl (whole !)))) (ap ptr_val none)) refl (tt, record { fits = lit< tt }) $ sets ! (bin ! (get ! refl) (lit ! tt) tt) refl (tt, tt) $
+      sets ! (is ! (of_opd ! (get_in ! (fld ! refl (stop !)) (sub ! 0 refl (whole !)))) (ap ptr_val none)) refl
+      (tt, record { fits = lit< tt }) $ sets ! (bin ! (get ! refl) (lit ! tt) tt) refl (tt, tt) $
       sets ! (un ! (get ! refl) tt) refl (tt, tt) $ first ! $ branches ! (get ! refl)
       (λ some. absurd some)
       (λ null. skips ! $ exec ! 𝓣.C 𝓣.Λ En (after 8 here.body) (at_ret En Post) $
       sets ! (agg ! (no_more !)) refl (tt, tt) $ sets ! (agg ! (and_then ! (get ! refl) (no_more !))) refl (tt, (tt, tt)) $
       sets ! (agg ! (no_more !)) refl (tt, tt) $ sets ! (agg ! (and_then ! (get ! refl) (no_more !))) refl (tt, (tt, tt)) $
       sets ! (agg ! (no_more !)) refl (tt, tt) $ sets ! (agg ! (and_then ! (get ! refl) (no_more !))) refl (tt, (tt, tt)) $
-      sets ! (agg ! (and_then ! (get ! refl) (and_then ! (get ! refl) (and_then ! (get ! refl) (and_then ! (get ! refl) (and_then ! (get ! refl) (no_more !))))))) refl (laid-Good E c) $
+      sets ! (agg ! (and_then ! (get ! refl)
+      (and_then ! (get ! refl) (and_then ! (get ! refl) (and_then ! (get ! refl) (and_then ! (get ! refl) (no_more !))))))) refl
+      (laid-Good E c) $
       sets ! (agg ! (and_then ! (lit ! tt) (and_then ! (get ! refl) (no_more !)))) refl (some_Good (lone (Sh E).mir) (laid c) (laid-Good E c)) $
       read E s ! tt b o q' $
       nothing ! $ rewrite ! 0 (λ (p : Ptr). ‵ (unless_null p (shared_owns (R E) i))) (sym e) refl $ owner_made E ! s owner $
-      use1 𝓛 (‵ ((Opt.the_row (Sh E)).own_val (Some (contents i.room.items i.room.capacity)) (live 1 (vcons (laid c) vnil) ∷ []))) (Some-of 𝓛 (Sh E) (contents i.room.items i.room.capacity) (laid c)) $
+      use1 𝓛 (‵ ((Opt.the_row (Sh E)).own_val (Some (contents i.room.items i.room.capacity)) (live 1 (vcons (laid c) vnil) ∷ [])))
+      (Some-of 𝓛 (Sh E) (contents i.room.items i.room.capacity) (laid c)) $
       returns ! (look_at ! 0 refl) $ free_all ! refl $
-      suffices ! _ (ends_at 𝓛 (ended E) stayed held z (live 1 (vcons (laid c) vnil)) (Some (contents i.room.items i.room.capacity)) (tt, tt) (tt, tt)) $ nothing ! $ nothing ! $ fjoin ! $ join ! $ move ! (1 ∷ 2 ∷ []) $ join ! $ join ! $ says ! same $ done !)))
+      suffices ! _ (ends_at 𝓛 (ended E) stayed held z (live 1 (vcons (laid c) vnil)) (Some (contents i.room.items i.room.capacity))
+      (tt, tt) (tt, tt)) $ nothing ! $ nothing ! $ fjoin ! $ join ! $ move ! (1 ∷ 2 ∷ []) $ join ! $ join ! $ says ! same $ done !)))
       (λ e. let there : c ≡ block_ptr cb co = sym owner.top_is ∙ e in let V : Fml = kept (R E) i in
       move ! (1 ∷ 0 ∷ []) $ lent_out E s κ q b o ! tt (λ a r q'.
       -- [the invariant; the share; the owner's value; the way back; the invariant; what is seen; the other token]
       sets ! (of_opd ! (load ! (through ! refl (fld ! refl (stop !))) (look_in ! 2 (sub ! 0 refl (whole !))))) refl (word-Good [] c) $
       sets ! (of_opd ! (load ! (through ! refl (fld ! refl (stop !))) (look_in ! 2 (sub ! 4 refl (whole !))))) refl (tt, ((tt, tt), tt)) $
       sets ! (of_opd ! (get ! refl)) refl (word-Good [] c) $ sets ! (of_opd ! (get ! refl)) refl (tt, ((tt, tt), tt)) $
-      sets ! (is ! (of_opd ! (get_in ! (fld ! refl (stop !)) (sub ! 0 refl (whole !)))) (ap ptr_val there)) refl (tt, tt) $ sets ! (bin ! (get ! refl) (lit ! tt) (tests_null (block_ptr cb co) facts.head.testable)) refl (tt, tt) $
+      sets ! (is ! (of_opd ! (get_in ! (fld ! refl (stop !)) (sub ! 0 refl (whole !)))) (ap ptr_val there)) refl (tt, tt) $
+      sets ! (bin ! (get ! refl) (lit ! tt) (tests_null (block_ptr cb co) facts.head.testable)) refl (tt, tt) $
       sets ! (un ! (get ! refl) tt) refl (tt, tt) $ first ! $ branches ! (get ! refl)
-      (λ some. let step_on : Body = then_of (head (after 7 here.body)) in let Next = any_q (after_seq 𝓤 H (Wp 𝓤 H 𝓣.C 𝓣.Λ En (after 8 here.body) (at_return 𝓤 H En Post)) (at_return 𝓤 H En Post)) in
+      (λ some. let step_on : Body = then_of (head (after 7 here.body)) in
+      let Next = any_q (after_seq 𝓤 H (Wp 𝓤 H 𝓣.C 𝓣.Λ En (after 8 here.body) (at_return 𝓤 H En Post)) (at_return 𝓤 H En Post)) in
       first ! $ blocks ! $ sets_last ! (addr ! (through ! refl (fld ! refl (stop !)))) refl (tt, tt) $ exec ! 𝓣.C 𝓣.Λ En (after 1 step_on) Next $
       sets ! (of_opd ! (get ! refl)) refl (tt, tt) $ first ! $ blocks ! $
       let more = after_increment a r in
@@ -147,23 +158,33 @@ module _ (E : El) {M : Type 1} {𝓤 : Ura M} (𝓛 : Logic 𝓤) (𝓜 : Model 
       move ! (0 ∷ 2 ∷ 3 ∷ []) $ lent_back E s κ q b o ! tt a r q' $
       -- [the token; a part if there was room; the invariant; what is seen; the other token]
       sets ! (of_opd ! (get ! refl)) refl (tt, record { fits = fits }) $
-      sets ! (bin ! (record { go = λ Kt g. via 𝓤 (Kt (vint w64 9223372036854775807)) g (guard_i 𝓤 (Fits w64 9223372036854775807) (Kt (vint w64 9223372036854775807)) (record { fits = lit< tt })) }) (get ! refl) tt) refl (tt, tt) $
+      sets ! (bin ! (record {
+        go = λ Kt g. via 𝓤 (Kt (vint w64 9223372036854775807)) g
+            (guard_i 𝓤 (Fits w64 9223372036854775807) (Kt (vint w64 9223372036854775807)) (record { fits = lit< tt }));
+      })
+      (get ! refl) tt) refl (tt, tt) $
       branches ! (get ! refl)
       (λ full. sets ! (agg ! (and_then ! (lit ! tt) (no_more !))) refl (tt, (record { fits = lit< tt }, tt)) $
-      use0 𝓛 (‵ ((Opt.the_row (Sh E)).own_val None (live 0 vnil ∷ []))) (none_of 𝓛 (Sh E)) $ returns_within ! Post refl (look_at ! 0 refl) $ free_all ! refl $ keep ! (0 ∷ 1 ∷ 5 ∷ []) $
-      suffices ! _ (ends_at 𝓛 (ended E) stayed held z (live 0 vnil) None (tt, tt) (tt, tt)) $ nothing ! $ nothing ! $ fjoin ! $ join ! $ move ! (1 ∷ 2 ∷ []) $ join ! $ join ! $ says ! tt $ done !)
+      use0 𝓛 (‵ ((Opt.the_row (Sh E)).own_val None (live 0 vnil ∷ []))) (none_of 𝓛 (Sh E)) $
+      returns_within ! Post refl (look_at ! 0 refl) $ free_all ! refl $ keep ! (0 ∷ 1 ∷ 5 ∷ []) $
+      suffices ! _ (ends_at 𝓛 (ended E) stayed held z (live 0 vnil) None (tt, tt) (tt, tt)) $ nothing ! $
+      nothing ! $ fjoin ! $ join ! $ move ! (1 ∷ 2 ∷ []) $ join ! $ join ! $ says ! tt $ done !)
       (λ room. let small : n < 9223372036854775807 = nleb→lt 9223372036854775807 n room in let grows : n + 1 < 2 ^ 63 = omega arith in
       skips ! $ exec ! 𝓣.C 𝓣.Λ En (after 8 here.body) (at_ret En Post) $
       sets ! (agg ! (no_more !)) refl (tt, tt) $ sets ! (agg ! (and_then ! (get ! refl) (no_more !))) refl (tt, (tt, tt)) $
       sets ! (agg ! (no_more !)) refl (tt, tt) $ sets ! (agg ! (and_then ! (get ! refl) (no_more !))) refl (tt, (tt, tt)) $
       sets ! (agg ! (no_more !)) refl (tt, tt) $ sets ! (agg ! (and_then ! (get ! refl) (no_more !))) refl (tt, (tt, tt)) $
-      sets ! (agg ! (and_then ! (get ! refl) (and_then ! (get ! refl) (and_then ! (get ! refl) (and_then ! (get ! refl) (and_then ! (get ! refl) (no_more !))))))) refl (laid-Good E c) $
+      sets ! (agg ! (and_then ! (get ! refl)
+      (and_then ! (get ! refl) (and_then ! (get ! refl) (and_then ! (get ! refl) (and_then ! (get ! refl) (no_more !))))))) refl
+      (laid-Good E c) $
       sets ! (agg ! (and_then ! (lit ! tt) (and_then ! (get ! refl) (no_more !)))) refl (some_Good (lone (Sh E).mir) (laid c) (laid-Good E c)) $
       move ! (1 ∷ []) $ use1 𝓛 (‵ (part 63 a)) (all_e 𝓤 (λ (_ : n + 1 < 2 ^ 63). sem 𝓛 (part 63 a)) grows) $ move ! (0 ∷ 2 ∷ 3 ∷ []) $ counted_made E i ! a $
       rewrite ! 0 (λ (p : Ptr). ‵ (unless_null p (shared_owns (R E) i))) (sym e) refl $ owner_made E ! s owner $
-      use1 𝓛 (‵ ((Opt.the_row (Sh E)).own_val (Some (contents i.room.items i.room.capacity)) (live 1 (vcons (laid c) vnil) ∷ []))) (Some-of 𝓛 (Sh E) (contents i.room.items i.room.capacity) (laid c)) $
+      use1 𝓛 (‵ ((Opt.the_row (Sh E)).own_val (Some (contents i.room.items i.room.capacity)) (live 1 (vcons (laid c) vnil) ∷ [])))
+      (Some-of 𝓛 (Sh E) (contents i.room.items i.room.capacity) (laid c)) $
       returns ! (look_at ! 0 refl) $ free_all ! refl $
-      suffices ! _ (ends_at 𝓛 (ended E) stayed held z (live 1 (vcons (laid c) vnil)) (Some (contents i.room.items i.room.capacity)) (tt, tt) (tt, tt)) $ nothing ! $ nothing ! $ fjoin ! $ join ! $ move ! (1 ∷ 2 ∷ []) $ join ! $ join ! $ says ! same $ done !))))
+      suffices ! _ (ends_at 𝓛 (ended E) stayed held z (live 1 (vcons (laid c) vnil)) (Some (contents i.room.items i.room.capacity))
+      (tt, tt) (tt, tt)) $ nothing ! $ nothing ! $ fjoin ! $ join ! $ move ! (1 ∷ 2 ∷ []) $ join ! $ join ! $ says ! same $ done !))))
       (λ null. absurd null))))))
 
   meets : Meets 𝓛 (ended E).signature (WpFn 𝓤 H 𝓣.C 𝓣.Λ here) (closing 𝓛 (ended E) held)

@@ -64,7 +64,13 @@ module _ (E : El) where
   Deed = deed_type.the_row (R E) heap.the_row ghosts
 
   abbrev stayed : Stays ended.signature.params ended.kept
-  stayed = (stay_dropped (plain (λ _. Tp E)) no, (stay_dropped (plain (λ _. Rm E)) no, (stay_dropped (plain (λ _. Title)) no, (stay_dropped (plain (λ _. Deed)) no, (stay_dropped (plain (λ _. heap.the_row)) yes, tt)))))
+  stayed = (
+    stay_dropped (plain (λ _. Tp E)) no,
+    (
+      stay_dropped (plain (λ _. Rm E)) no,
+      (stay_dropped (plain (λ _. Title)) no, (stay_dropped (plain (λ _. Deed)) no, (stay_dropped (plain (λ _. heap.the_row)) yes, tt))),
+    ),
+  )
 
   module _ {M : Type 1} {𝓤 : Ura M} (𝓛 : Logic 𝓤) (at_mem : Memory → SProp 𝓤) (run : Routine → Fun 𝓤) (𝓣 : Tables 𝓤 𝓛.H) where
     open 𝓛 use {H}
@@ -72,14 +78,19 @@ module _ (E : El) where
     abbrev held : Clauses 𝓤 ended
     held = F.clauses E.row 𝓛 at_mem run
 
-    exits : (z : (walk_of 𝓛 ended stayed held).Ghost) (s : (Si E).Denot) → IsOwner s.top s.alloc s.inside → contents s.inside.room.items s.inside.room.capacity ≡ contents z.0.3.1.0.items z.0.3.1.0.capacity
+    exits : (z : (walk_of 𝓛 ended stayed held).Ghost) (s : (Si E).Denot) → IsOwner s.top s.alloc s.inside
+        → contents s.inside.room.items s.inside.room.capacity ≡ contents z.0.3.1.0.items z.0.3.1.0.capacity
         → ent 𝓤 (⋆ 𝓛 (‵ (owner_owns (R E) s.inside) ∷ (‵ (flft z.0.0.0 z.0.1.0) ⊛ ‵ ftrue) ∷ [])) ((walk_of 𝓛 ended stayed held).post z (laid s.top.ptr))
     exits z s owner is =
         qed 𝓛 (‵ (owner_owns (R E) s.inside) ∷ (‵ (flft z.0.0.0 z.0.1.0) ⊛ ‵ ftrue) ∷ []) ∵ owner_made E ! s owner $
-        suffices ! _ (ends_at 𝓛 ended stayed held z (laid s.top.ptr) (contents s.inside.room.items s.inside.room.capacity) (tt, (tt, (tt, (tt, (tt, tt))))) (tt, (tt, (tt, (tt, (tt, tt)))))) $ says ! is $
-        nothing ! $ nothing ! $ fjoin ! $ nothing ! $ fjoin ! $ nothing ! $ fjoin ! $ nothing ! $ fjoin ! $ nothing ! $ fjoin ! $ join ! $ move ! (1 ∷ 0 ∷ []) $ join ! $ done !
+        suffices ! _ (ends_at 𝓛 ended stayed held z (laid s.top.ptr) (contents s.inside.room.items s.inside.room.capacity)
+        (tt, (tt, (tt, (tt, (tt, tt))))) (tt, (tt, (tt, (tt, (tt, tt)))))) $ says ! is $
+        nothing ! $ nothing ! $ fjoin ! $ nothing ! $ fjoin ! $ nothing ! $ fjoin ! $ nothing ! $
+        fjoin ! $ nothing ! $ fjoin ! $ join ! $ move ! (1 ∷ 0 ∷ []) $ join ! $ done !
 
-    walk : (z : (walk_of 𝓛 ended stayed held).Ghost) → ent 𝓤 ((walk_of 𝓛 ended stayed held).pre z) (WpFn 𝓤 H 𝓣.C 𝓣.Λ here ((walk_of 𝓛 ended stayed held).args z) ((walk_of 𝓛 ended stayed held).post z))
+    walk : (z : (walk_of 𝓛 ended stayed held).Ghost)
+        → ent 𝓤 ((walk_of 𝓛 ended stayed held).pre z)
+        (WpFn 𝓤 H 𝓣.C 𝓣.Λ here ((walk_of 𝓛 ended stayed held).args z) ((walk_of 𝓛 ended stayed held).post z))
     walk z =
         let κ = z.0.0.0 in let q = z.0.1.0 in let a = z.0.3 in let vss = z.0.4 in
         let top = a.0 in let room = a.1.0 in let title = a.1.1.0 in let deed = a.1.1.1.0 in let alloc = a.1.1.1.1.0 in
@@ -88,18 +99,32 @@ module _ (E : El) where
         let Ok : Type 0 = IsParts top room title deed alloc in
         qed 𝓛 (((‵ (flft κ q) ⊛ ‵ ftrue) ⊛ ‵ (owns (types_at ended.signature.params z.0.0) a vss)) ∷ (raw (fact 𝓤 (κ ⊑ E.row.lives)) ⊛ raw (fact 𝓤 Ok)) ∷ []) ∵
         move ! (1 ∷ []) $ split ! $ drop ! $ heard ! Ok (λ ok.
-        split ! $ move ! (1 ∷ []) $ fsplit ! $ top_had E ! top vss.0 (λ e₀. fsplit ! $ fsplit ! $ mark_had E ! vss.1.0 (λ e₁. move ! (1 ∷ []) $ fsplit ! $ fsplit ! $ mark_had E ! vss.1.1.0 (λ e₂. move ! (1 ∷ []) $
+        split ! $ move ! (1 ∷ []) $ fsplit ! $ top_had E ! top vss.0 (λ e₀. fsplit ! $ fsplit ! $
+        mark_had E ! vss.1.0 (λ e₁. move ! (1 ∷ []) $ fsplit ! $ fsplit ! $ mark_had E ! vss.1.1.0 (λ e₂. move ! (1 ∷ []) $
         fsplit ! $ fsplit ! $ mark_had E ! vss.1.1.1.0 (λ e₃. move ! (1 ∷ []) $ fsplit ! $ heap_had ! alloc vss.1.1.1.1.0 (λ e₄. drop ! $
         -- [the deed's right; the title's; the room's; the tokens]
-        let s : (Si E).Denot = record { top = top; room = record { mark = record {} }; title = record { mark = record {} }; deed = record { mark = record {} }; alloc = alloc; inside = i } in let is : IsOwner top alloc i = record { top_is = refl; alloc_is = refl; is_block = ok } in
+        let s : (Si E).Denot =
+        record {
+          top = top;
+          room = record { mark = record {} };
+          title = record { mark = record {} };
+          deed = record { mark = record {} };
+          alloc =
+              alloc;
+          inside = i;
+        } in let is : IsOwner top alloc i = record { top_is = refl; alloc_is = refl; is_block = ok } in
         let us : List Val = word top.ptr ∷ mark ∷ mark ∷ mark ∷ heap_val ∷ [] in
         let Run : List Val → SProp 𝓤 = λ ws. WpFn 𝓤 H 𝓣.C 𝓣.Λ here ws Post in
-        suffices ! (Run us) (subst (λ (ws : List Val). ent 𝓤 (Run us) (Run ws)) (sym (λ k. e₀ k ++ (e₁ k ++ (e₂ k ++ (e₃ k ++ (e₄ k ++ [])))))) (id⊢ 𝓤 (Run us))) $
-        enter ! 𝓣.C 𝓣.Λ here us Post $ alloc_all ! (λ l. pass_all ! refl (word-Good [] top.ptr, ((tt, (tt, tt)), ((tt, (tt, tt)), ((tt, (tt, tt)), ((tt, ((tt, tt), tt)), tt))))) $
+        suffices ! (Run us) (subst (λ (ws : List Val). ent 𝓤 (Run us) (Run ws))
+        (sym (λ k. e₀ k ++ (e₁ k ++ (e₂ k ++ (e₃ k ++ (e₄ k ++ [])))))) (id⊢ 𝓤 (Run us))) $
+        enter ! 𝓣.C 𝓣.Λ here us Post $
+        alloc_all ! (λ l. pass_all ! refl (word-Good [] top.ptr, ((tt, (tt, tt)), ((tt, (tt, tt)), ((tt, (tt, tt)), ((tt, ((tt, tt), tt)), tt))))) $
         sets ! (agg ! (no_more !)) refl (tt, tt) $ sets ! (agg ! (and_then ! (get ! refl) (no_more !))) refl (tt, (tt, tt)) $
         sets ! (agg ! (no_more !)) refl (tt, tt) $ sets ! (agg ! (and_then ! (get ! refl) (no_more !))) refl (tt, (tt, tt)) $
         sets ! (agg ! (no_more !)) refl (tt, tt) $ sets ! (agg ! (and_then ! (get ! refl) (no_more !))) refl (tt, (tt, tt)) $
-        sets ! (agg ! (and_then ! (get ! refl) (and_then ! (get ! refl) (and_then ! (get ! refl) (and_then ! (get ! refl) (and_then ! (get ! refl) (no_more !))))))) refl (laid-Good E top.ptr) $
+        sets ! (agg ! (and_then ! (get ! refl)
+        (and_then ! (get ! refl) (and_then ! (get ! refl) (and_then ! (get ! refl) (and_then ! (get ! refl) (no_more !))))))) refl
+        (laid-Good E top.ptr) $
         returns ! (look_at ! 0 refl) $ free_all ! refl $
         in_case ! top.ptr
         (λ e. nothing ! $ rewrite ! 0 (λ (p : Ptr). ‵ (unless_null p (shared_owns (R E) i))) (sym e) refl $ keep ! (0 ∷ 4 ∷ []) $ by ! (exits z s is refl))

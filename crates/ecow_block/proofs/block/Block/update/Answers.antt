@@ -16,5 +16,12 @@ returns-clause-updates g c =
     let x = get_or lent c.args.index c.index-as_mut_slice-index.result in
     let y = c.f.new.arg2 in
     let same : lent ≡ items = c.as_mut_slice.ensures.value in
-    let found : slice_get items c.args.index ≡ Some x = ap (λ l. slice_get l c.args.index) (sym same) ∙ slice_get-get_or lent c.args.index c.index-as_mut_slice-index.result (omega (arith, ap length same, c.requires.in_bounds)) in
-    (x, y, found, record { shown = _; shows = refl; left = _; met = c.f.ensures; leaves = refl }, ap (λ l. refill (length items) items (slice_set l c.args.index y)) same ∙ written items c.args.index y)
+    let found : slice_get items c.args.index ≡ Some x =
+    ap (λ l. slice_get l c.args.index) (sym same)
+    ∙ slice_get-get_or lent c.args.index c.index-as_mut_slice-index.result (omega (arith, ap length same, c.requires.in_bounds)) in (
+      x,
+      y,
+      found,
+      record { shown = _; shows = refl; left = _; met = c.f.ensures; leaves = refl },
+      ap (λ l. refill (length items) items (slice_set l c.args.index y)) same ∙ written items c.args.index y,
+    )

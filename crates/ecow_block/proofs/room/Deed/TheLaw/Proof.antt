@@ -12,6 +12,8 @@ use Rattle.ecow_block.specs.contracts.room.Deed as D
 use Rattle.ecow_block.proofs.room.Deed.TheLaw.Statement.{statement}
 
 pub shares : (R A : RattleType) (g : Ghosts A.Denot) (L : Laws R) (K : Laws A) → statement R A g L K
-shares R A g L K = of_Lends (D.struct R A g) (D.the_codes R.Denot A.Denot R.coded A.coded (marker.the_row RawPtr).coded) (D.the_heap R A g) (D.the_lent R A g) (λ d p. nothing_shr_laws)
+shares R A g L K =
+    of_Lends (D.struct R A g) (D.the_codes R.Denot A.Denot R.coded A.coded (marker.the_row RawPtr).coded)
+    (D.the_heap R A g) (D.the_lent R A g) (λ d p. nothing_shr_laws)
     (copy_shared (marker.the_field RawPtr) (field_copy (marker.the_type RawPtr) tt), tt)
     (λ M 𝓤 𝓛 d p. Lends-nothing 𝓛 (D.the_heap R A g d) (D.the_row R A g).lives)

@@ -58,16 +58,21 @@ module _ (E : El) where
     abbrev held : Clauses 𝓤 ended
     held = F.clauses E.row 𝓛 at_mem run
 
-    walk : (z : (walk_of 𝓛 ended stayed held).Ghost) → ent 𝓤 ((walk_of 𝓛 ended stayed held).pre z) (WpFn 𝓤 H 𝓣.C 𝓣.Λ here ((walk_of 𝓛 ended stayed held).args z) ((walk_of 𝓛 ended stayed held).post z))
+    walk : (z : (walk_of 𝓛 ended stayed held).Ghost)
+        → ent 𝓤 ((walk_of 𝓛 ended stayed held).pre z)
+        (WpFn 𝓤 H 𝓣.C 𝓣.Λ here ((walk_of 𝓛 ended stayed held).args z) ((walk_of 𝓛 ended stayed held).post z))
     walk z =
         let κ = z.0.0.0 in let κ₁ = z.0.0.1.0 in let q = z.0.1.0 in let q₁ = z.0.1.1.0 in let a = z.0.3 in let vss = z.0.4 in
         let rb = a.0.ref_ptr.0 in let ro = a.0.ref_ptr.1 in let d : room_d E = a.0.now in
         let Post : Val → SProp 𝓤 = (walk_of 𝓛 ended stayed held).post z in
-        let r : room_d E = a.1.0 in let xs = d.items in let ys = r.items in let n = length xs in let m = length ys in let s = sz E in let c = d.capacity in let rc = r.capacity in
+        let r : room_d E = a.1.0 in let xs = d.items in let ys = r.items in let n = length xs in
+        let m = length ys in let s = sz E in let c = d.capacity in let rc = r.capacity in
         let Ok : Type 0 = Follows d r × (n ≡ c) in
-        qed 𝓛 (((‵ (flft κ q) ⊛ ‵ (flft κ₁ q₁) ⊛ ‵ ftrue) ⊛ ‵ (owns (types_at ended.signature.params z.0.0) a vss)) ∷ (raw (fact 𝓤 (κ₁ ⊑ E.row.lives)) ⊛ raw (fact 𝓤 Ok)) ∷ []) ∵
+        qed 𝓛 (((‵ (flft κ q) ⊛ ‵ (flft κ₁ q₁) ⊛ ‵ ftrue) ⊛ ‵ (owns (types_at ended.signature.params z.0.0) a vss))
+        ∷ (raw (fact 𝓤 (κ₁ ⊑ E.row.lives)) ⊛ raw (fact 𝓤 Ok)) ∷ []) ∵
         move ! (1 ∷ []) $ split ! $ drop ! $ heard ! Ok (λ ok.
-        split ! $ split ! $ move ! (2 ∷ []) $ fsplit ! $ fsplit3 ! $ feq_l ! (λ e₀. move ! (2 ∷ []) $ fsplit ! $ room_had E ! r vss.1.0 (λ b₂ o₂ at_r e₁ far. keep ! (3 ∷ 4 ∷ 5 ∷ 0 ∷ 1 ∷ 6 ∷ []) $
+        split ! $ split ! $ move ! (2 ∷ []) $ fsplit ! $ fsplit3 ! $
+        feq_l ! (λ e₀. move ! (2 ∷ []) $ fsplit ! $ room_had E ! r vss.1.0 (λ b₂ o₂ at_r e₁ far. keep ! (3 ∷ 4 ∷ 5 ∷ 0 ∷ 1 ∷ 6 ∷ []) $
         let us : List Val = vptr rb ro ∷ mark ∷ [] in
         let Run : List Val → SProp 𝓤 = λ ws. WpFn 𝓤 H 𝓣.C 𝓣.Λ here ws Post in
         suffices ! (Run us) (subst (λ (ws : List Val). ent 𝓤 (Run us) (Run ws)) (sym (λ j. e₀ j ++ (e₁ j ++ []))) (id⊢ 𝓤 (Run us))) $

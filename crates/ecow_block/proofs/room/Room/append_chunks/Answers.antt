@@ -10,5 +10,7 @@ loop-chunk-preserved g c =
     let within : done + 128 ≤ length xs = grind (arith, common_steps) in
     let next : take done xs ++ c.in-Some.chunk.now ≡ take (done + 128) xs = search (rules, take-add done 128 xs) in
     let left : c.in-Some.others.now ≡ drop (done + 128) xs = search (rules, drop-drop 128 done xs) in
-    let grown = some_more g.T.Clone.is_clone old (take done xs) c.in-Some.chunk.now c.loop-chunk.self.items c.append_chunk.new.self.items c.loop-chunk.invariant.5 (search rules) in
+    let grown =
+    some_more g.T.Clone.is_clone old (take done xs) c.in-Some.chunk.now c.loop-chunk.self.items
+    c.append_chunk.new.self.items c.loop-chunk.invariant.5 (search rules) in
     (within, left, search rules, grind (arith, common_steps), grind (arith, common_steps), rw next at grown)

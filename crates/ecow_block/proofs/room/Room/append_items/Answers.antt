@@ -18,5 +18,6 @@ loop-done-preserved g c =
       record { at = places.at ∙ kept.2.at; start = places.start ∙ kept.2.start; capacity = places.capacity ∙ kept.2.capacity },
       goes.0,
       goes.1,
-      (λ first led. subst (λ (xs : List g.row.T.Denot). Yields steps first xs c.next.new.self) (sym c.put.ensures.items) (Yields-more steps first c.loop-done.self.items c.loop-done.iter x c.next.new.self (kept.5 first led) c.in-Some.ensures.steps)),
+      (λ first led. subst (λ (xs : List g.row.T.Denot). Yields steps first xs c.next.new.self) (sym c.put.ensures.items)
+          (Yields-more steps first c.loop-done.self.items c.loop-done.iter x c.next.new.self (kept.5 first led) c.in-Some.ensures.steps)),
     )

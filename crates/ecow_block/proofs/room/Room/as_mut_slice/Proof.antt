@@ -66,14 +66,19 @@ module _ (E : El) where
   ended = F.ended E.row
 
   abbrev stayed : Stays ended.signature.params ended.kept
-  stayed = (stay_dropped (mut_ref_to (0 ∷ []) tt (plain (λ _. Rm E))) no, (stay_dropped (plain (λ _. Bs E)) no, (stay_dropped (plain (λ _. usize)) yes, (stay_dropped (plain (λ _. usize)) yes, tt))))
+  stayed = (
+    stay_dropped (mut_ref_to (0 ∷ []) tt (plain (λ _. Rm E))) no,
+    (stay_dropped (plain (λ _. Bs E)) no, (stay_dropped (plain (λ _. usize)) yes, (stay_dropped (plain (λ _. usize)) yes, tt))),
+  )
 
   -- all but the items
   abbrev Others : room_d E → ℕ → ℕ → ℕ → ℕ → Fml
   Others d b at rb ro = fsep (Spare E b (at + length d.items * sz E) (d.capacity - length d.items)) (cell_at full_share (Rm E).mir (mark ∷ []) rb ro)
 
-  back : {M : Type 1} {𝓤 : Ura M} (𝓛 : Logic 𝓤) (d : room_d E) (b o rb ro : ℕ) → d.at ≡ block_ptr b o → Small E d → (ws : List (el_x E)) → length ws ≡ length d.items
-      → ent 𝓤 (sep 𝓤 (sem 𝓛 (cells (mem (R E)) ws b (o + d.start * sz E))) (sem 𝓛 (Others d b (o + d.start * sz E) rb ro))) (sem 𝓛 ((mem (Rm E)).own_at (with_items d ws) rb ro))
+  back : {M : Type 1} {𝓤 : Ura M} (𝓛 : Logic 𝓤) (d : room_d E) (b o rb ro : ℕ) → d.at ≡ block_ptr b o
+      → Small E d → (ws : List (el_x E)) → length ws ≡ length d.items
+      → ent 𝓤 (sep 𝓤 (sem 𝓛 (cells (mem (R E)) ws b (o + d.start * sz E))) (sem 𝓛 (Others d b (o + d.start * sz E) rb ro)))
+      (sem 𝓛 ((mem (Rm E)).own_at (with_items d ws) rb ro))
   unfolding part_of
   back 𝓛 d b o rb ro at_b small ws same =
       let at = o + d.start * sz E in let xs = d.items in let n = length xs in let s = sz E in let zs = refill n xs ws in
@@ -90,21 +95,28 @@ module _ (E : El) where
     abbrev held : Clauses 𝓤 ended
     held = F.clauses E.row 𝓛 at_mem run
 
-    walk : (z : (walk_of 𝓛 ended stayed held).Ghost) → ent 𝓤 ((walk_of 𝓛 ended stayed held).pre z) (WpFn 𝓤 H 𝓣.C 𝓣.Λ here ((walk_of 𝓛 ended stayed held).args z) ((walk_of 𝓛 ended stayed held).post z))
+    walk : (z : (walk_of 𝓛 ended stayed held).Ghost)
+        → ent 𝓤 ((walk_of 𝓛 ended stayed held).pre z)
+        (WpFn 𝓤 H 𝓣.C 𝓣.Λ here ((walk_of 𝓛 ended stayed held).args z) ((walk_of 𝓛 ended stayed held).post z))
     walk z =
         let κ = z.0.0.0 in let κ₁ = z.0.0.1.0 in let q = z.0.1.0 in let q₁ = z.0.1.1.0 in let a = z.0.3 in let vss = z.0.4 in
-        let rb = a.0.ref_ptr.0 in let ro = a.0.ref_ptr.1 in let γ = a.0.ghost_name in let d : room_d E = a.0.now in let base = a.1.0 in let start = a.1.1.0 in let len = a.1.1.1.0 in
+        let rb = a.0.ref_ptr.0 in let ro = a.0.ref_ptr.1 in let γ = a.0.ghost_name in let d : room_d E = a.0.now in
+        let base = a.1.0 in let start = a.1.1.0 in let len = a.1.1.1.0 in
         let Post : Val → SProp 𝓤 = (walk_of 𝓛 ended stayed held).post z in
         let xs = d.items in let n = length xs in let s = sz E in let c = d.capacity in
         let Ok : Type 0 = (base.ptr ≡ d.at) × (start ≡ d.start) × (len ≡ n) in
-        qed 𝓛 (((‵ (flft κ q) ⊛ ‵ (flft κ₁ q₁) ⊛ ‵ ftrue) ⊛ ‵ (owns (types_at ended.signature.params z.0.0) a vss)) ∷ (raw (fact 𝓤 (κ₁ ⊑ E.row.lives)) ⊛ raw (fact 𝓤 Ok)) ∷ []) ∵
+        qed 𝓛 (((‵ (flft κ q) ⊛ ‵ (flft κ₁ q₁) ⊛ ‵ ftrue) ⊛ ‵ (owns (types_at ended.signature.params z.0.0) a vss))
+        ∷ (raw (fact 𝓤 (κ₁ ⊑ E.row.lives)) ⊛ raw (fact 𝓤 Ok)) ∷ []) ∵
         move ! (1 ∷ []) $ split ! $ drop ! $ heard ! Ok (λ ok. let begins = ok.1 in let long = ok.2 in let fits_in : n ≤ c = d.within in
-        split ! $ split ! $ move ! (2 ∷ []) $ fsplit ! $ fsplit3 ! $ feq_l ! (λ e₀. move ! (2 ∷ []) $ fsplit ! $ base_had E ! base vss.1.0 (λ e₁. fsplit ! $ fsplit ! $ feq_l ! (λ e₂. flt_l ! (λ fits_start.
+        split ! $ split ! $ move ! (2 ∷ []) $ fsplit ! $ fsplit3 ! $
+        feq_l ! (λ e₀. move ! (2 ∷ []) $ fsplit ! $ base_had E ! base vss.1.0 (λ e₁. fsplit ! $ fsplit ! $ feq_l ! (λ e₂. flt_l ! (λ fits_start.
         fsplit ! $ fsplit ! $ feq_l ! (λ e₃. flt_l ! (λ fits_len. keep ! (1 ∷ 2 ∷ 3 ∷ 4 ∷ []) $
         let us : List Val = vptr rb ro ∷ word base.ptr ∷ vint w64 start ∷ vint w64 len ∷ [] in
         let Run : List Val → SProp 𝓤 = λ ws. WpFn 𝓤 H 𝓣.C 𝓣.Λ here ws Post in
         suffices ! (Run us) (subst (λ (ws : List Val). ent 𝓤 (Run us) (Run ws)) (sym (λ k. e₀ k ++ (e₁ k ++ (e₂ k ++ (e₃ k ++ []))))) (id⊢ 𝓤 (Run us))) $
-        enter ! 𝓣.C 𝓣.Λ here us Post $ alloc_all ! (λ l. pass_all ! refl ((tt, tt), (word-Good [] base.ptr, ((tt, record { fits = fits_start }), ((tt, record { fits = fits_len }), tt)))) $
+        enter ! 𝓣.C 𝓣.Λ here us Post $
+        alloc_all ! (λ l. pass_all ! refl
+        ((tt, tt), (word-Good [] base.ptr, ((tt, record { fits = fits_start }), ((tt, record { fits = fits_len }), tt)))) $
         let En : Env 𝓤 H = env here.locals l in
         room_opens E ! tt d rb ro (λ b o at_b small.
         let at = o + d.start * s in
@@ -114,7 +126,8 @@ module _ (E : El) where
         let way = back 𝓛 d b o rb ro at_b small in let Rest = sem 𝓛 (Others d b at rb ro) in let code_d = (Rm E).coded.code d in
         take_at ! 2 $ rewrite ! 0 (λ (p : Ptr). ‵ (fat full_share (layout (Bs E)) (l 2) 0 (word p))) (ok.0 ∙ at_b) refl $ give_at ! 2 $
         first ! $ blocks ! $
-        sets ! (is ! (bin ! (get ! refl) (size_word !) (record { fits = subst (λ (k : ℕ). k < 2 ^ 64) (sym (uncapped start s far)) far })) (ap (vint w64) (uncapped start s far))) refl (tt, record { fits = far }) $
+        sets ! (is ! (bin ! (get ! refl) (size_word !) (record { fits = subst (λ (k : ℕ). k < 2 ^ 64) (sym (uncapped start s far)) far }))
+        (ap (vint w64) (uncapped start s far))) refl (tt, record { fits = far }) $
         sets ! (is ! (bin ! (get_in ! (fld ! refl (stop !)) (sub ! 0 refl (whole !))) (get ! refl) tt) (ap (vptr b) there)) refl (tt, tt) $
         sets_last ! (agg ! (and_then ! (get ! refl) (and_then ! (get ! refl) (no_more !)))) refl (tt, (tt, (record { fits = fits_len }, tt))) $
         exec ! 𝓣.C 𝓣.Λ En (after 1 here.body) (at_ret En Post) $ sets ! (of_opd ! (get ! refl)) refl (tt, (tt, (record { fits = fits_len }, tt))) $
@@ -124,15 +137,26 @@ module _ (E : El) where
         (lends_Elements 𝓛 (Rm E) (R E) (with_items d) (named 0) κ q rb ro b at γ xs (roomy, fitting) Rest way code_d code_d) $ await ! tt $ pick ! (λ δ.
         let r : MutBor (List (el_x E)) = record { ref_ptr = (b, at); ghost_name = δ; now = xs } in
         returns ! (look_at ! 0 refl) $ free_all ! refl $
-        use1 𝓛 (‵ ((MutSlice (named 0) κ (R E)).own_val r (slice_val (b, at) n ∷ [])) ⊛ ‵ (flft κ q) ⊛ ‵ (follows (Rm E) (Array (R E) 0) γ δ (with_items d))) (id⊢ 𝓤 _) $ split3 ! $
+        use1 𝓛 (‵ ((MutSlice (named 0) κ (R E)).own_val r (slice_val (b, at) n ∷ [])) ⊛ ‵ (flft κ q)
+        ⊛ ‵ (follows (Rm E) (Array (R E) 0) γ δ (with_items d))) (id⊢ 𝓤 _) $ split3 ! $
         rewrite ! 0 (λ (k : ℕ). ‵ ((MutSlice (named 0) κ (R E)).own_val r (slice_val (b, at) k ∷ []))) (sym long) refl $
         -- [the slice; the token; what follows; the other token]
         suffices ! _ (ends_at 𝓛 ended stayed held z (slice_val (b, at) len) r (tt, (tt, (tt, (tt, tt)))) (tt, (tt, (tt, (tt, tt))))) $
-        nothing ! $ nothing ! $ fjoin ! $ nothing ! $ fjoin ! $ nothing ! $ fjoin ! $ nothing ! $ fjoin ! $ move ! (2 ∷ 4 ∷ []) $ join ! $ group ! 3 $ frame ! $ says ! refl $ done !))))))))))
+        nothing ! $ nothing ! $ fjoin ! $ nothing ! $ fjoin ! $ nothing ! $ fjoin ! $ nothing ! $ fjoin ! $
+        move ! (2 ∷ 4 ∷ []) $ join ! $ group ! 3 $ frame ! $ says ! refl $ done !))))))))))
 
     meets : Meets 𝓛 ended.signature (WpFn 𝓤 H 𝓣.C 𝓣.Λ here) (closing 𝓛 ended held)
     meets =
-        walk_Meets 𝓛 ended stayed (Goes-spent_ref 𝓛 2 (0 ∷ []) tt (plain (λ _. Rm E)), (Goes-dropped 𝓛 2 (plain (λ _. Bs E)) no (λ κs x f. refl), (Goes-dropped 𝓛 2 (plain (λ _. usize)) yes (λ κs x f. refl), (Goes-dropped 𝓛 2 (plain (λ _. usize)) yes (λ κs x f. refl), tt)))) held
+        walk_Meets 𝓛 ended stayed (
+          Goes-spent_ref 𝓛 2 (0 ∷ []) tt (plain (λ _. Rm E)),
+          (
+            Goes-dropped 𝓛 2 (plain (λ _. Bs E)) no (λ κs x f. refl),
+            (
+              Goes-dropped 𝓛 2 (plain (λ _. usize)) yes (λ κs x f. refl),
+              (Goes-dropped 𝓛 2 (plain (λ _. usize)) yes (λ κs x f. refl), tt),
+            ),
+          ),
+        ) held
         (WpFn 𝓤 H 𝓣.C 𝓣.Λ here) (WpFn-mono 𝓤 H 𝓛.laws 𝓣 here) walk
 
 pub as_mut_slice_spec : {M : Type 1} → statement M

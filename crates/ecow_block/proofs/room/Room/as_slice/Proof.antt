@@ -60,7 +60,10 @@ module _ (E : El) where
   ended = F.ended E.row
 
   abbrev stayed : Stays ended.signature.params ended.kept
-  stayed = (stay_dropped (RefOf (0 ∷ []) tt (plain (λ _. Rm E)) (λ _. tt)) yes, (stay_dropped (plain (λ _. Bs E)) no, (stay_dropped (plain (λ _. usize)) yes, (stay_dropped (plain (λ _. usize)) yes, tt))))
+  stayed = (
+    stay_dropped (RefOf (0 ∷ []) tt (plain (λ _. Rm E)) (λ _. tt)) yes,
+    (stay_dropped (plain (λ _. Bs E)) no, (stay_dropped (plain (λ _. usize)) yes, (stay_dropped (plain (λ _. usize)) yes, tt))),
+  )
 
   module _ {M : Type 1} {𝓤 : Ura M} (𝓛 : Logic 𝓤) (at_mem : Memory → SProp 𝓤) (run : Routine → Fun 𝓤) (𝓣 : Tables 𝓤 𝓛.H) where
     open 𝓛 use {H}
@@ -68,16 +71,20 @@ module _ (E : El) where
     abbrev held : Clauses 𝓤 ended
     held = F.clauses E.row 𝓛 at_mem run
 
-    walk : (z : (walk_of 𝓛 ended stayed held).Ghost) → ent 𝓤 ((walk_of 𝓛 ended stayed held).pre z) (WpFn 𝓤 H 𝓣.C 𝓣.Λ here ((walk_of 𝓛 ended stayed held).args z) ((walk_of 𝓛 ended stayed held).post z))
+    walk : (z : (walk_of 𝓛 ended stayed held).Ghost)
+        → ent 𝓤 ((walk_of 𝓛 ended stayed held).pre z)
+        (WpFn 𝓤 H 𝓣.C 𝓣.Λ here ((walk_of 𝓛 ended stayed held).args z) ((walk_of 𝓛 ended stayed held).post z))
     walk z =
         let κ = z.0.0.0 in let κ₁ = z.0.0.1.0 in let q = z.0.1.0 in let q₁ = z.0.1.1.0 in let a = z.0.3 in let vss = z.0.4 in
         let rb = a.0.ref_ptr.0 in let ro = a.0.ref_ptr.1 in let d : room_d E = a.0.now in let base = a.1.0 in let start = a.1.1.0 in let len = a.1.1.1.0 in
         let Post : Val → SProp 𝓤 = (walk_of 𝓛 ended stayed held).post z in
         let xs = d.items in let n = length xs in let s = sz E in let c = d.capacity in
         let Ok : Type 0 = (base.ptr ≡ d.at) × (start ≡ d.start) × (len ≡ n) in
-        qed 𝓛 (((‵ (flft κ q) ⊛ ‵ (flft κ₁ q₁) ⊛ ‵ ftrue) ⊛ ‵ (owns (types_at ended.signature.params z.0.0) a vss)) ∷ (raw (fact 𝓤 (κ₁ ⊑ E.row.lives)) ⊛ raw (fact 𝓤 Ok)) ∷ []) ∵
+        qed 𝓛 (((‵ (flft κ q) ⊛ ‵ (flft κ₁ q₁) ⊛ ‵ ftrue) ⊛ ‵ (owns (types_at ended.signature.params z.0.0) a vss))
+        ∷ (raw (fact 𝓤 (κ₁ ⊑ E.row.lives)) ⊛ raw (fact 𝓤 Ok)) ∷ []) ∵
         move ! (1 ∷ []) $ split ! $ drop ! $ heard ! Ok (λ ok. let begins = ok.1 in let long = ok.2 in let fits_in : n ≤ c = d.within in
-        split ! $ split ! $ move ! (2 ∷ []) $ fsplit ! $ fsplit ! $ feq_l ! (λ e₀. move ! (1 ∷ []) $ fsplit ! $ base_had E ! base vss.1.0 (λ e₁. fsplit ! $ fsplit ! $ feq_l ! (λ e₂. flt_l ! (λ fits_start.
+        split ! $ split ! $ move ! (2 ∷ []) $ fsplit ! $ fsplit ! $
+        feq_l ! (λ e₀. move ! (1 ∷ []) $ fsplit ! $ base_had E ! base vss.1.0 (λ e₁. fsplit ! $ fsplit ! $ feq_l ! (λ e₂. flt_l ! (λ fits_start.
         fsplit ! $ fsplit ! $ feq_l ! (λ e₃. flt_l ! (λ fits_len. keep ! (1 ∷ 2 ∷ 3 ∷ []) $
         -- [what the `&` holds; its token; the other token]
         unhide ! $ fsplit ! $ drop ! $ fsplit ! $ flt_l ! (λ small.
@@ -89,23 +96,37 @@ module _ (E : El) where
         let us : List Val = vptr rb ro ∷ word base.ptr ∷ vint w64 start ∷ vint w64 len ∷ [] in
         let Run : List Val → SProp 𝓤 = λ ws. WpFn 𝓤 H 𝓣.C 𝓣.Λ here ws Post in
         suffices ! (Run us) (subst (λ (ws : List Val). ent 𝓤 (Run us) (Run ws)) (sym (λ k. e₀ k ++ (e₁ k ++ (e₂ k ++ (e₃ k ++ []))))) (id⊢ 𝓤 (Run us))) $
-        enter ! 𝓣.C 𝓣.Λ here us Post $ alloc_all ! (λ l. pass_all ! refl ((tt, tt), (word-Good [] base.ptr, ((tt, record { fits = fits_start }), ((tt, record { fits = fits_len }), tt)))) $
+        enter ! 𝓣.C 𝓣.Λ here us Post $
+        alloc_all ! (λ l. pass_all ! refl
+        ((tt, tt), (word-Good [] base.ptr, ((tt, record { fits = fits_start }), ((tt, record { fits = fits_len }), tt)))) $
         let En : Env 𝓤 H = env here.locals l in
         take_at ! 2 $ rewrite ! 0 (λ (p : Ptr). ‵ (fat full_share (layout (Bs E)) (l 2) 0 (word p))) (ok.0 ∙ at_b) refl $ give_at ! 2 $
         first ! $ blocks ! $
-        sets ! (is ! (bin ! (get ! refl) (size_word !) (record { fits = subst (λ (k : ℕ). k < 2 ^ 64) (sym (uncapped start s far)) far })) (ap (vint w64) (uncapped start s far))) refl (tt, record { fits = far }) $
+        sets ! (is ! (bin ! (get ! refl) (size_word !) (record { fits = subst (λ (k : ℕ). k < 2 ^ 64) (sym (uncapped start s far)) far }))
+        (ap (vint w64) (uncapped start s far))) refl (tt, record { fits = far }) $
         sets ! (is ! (bin ! (get_in ! (fld ! refl (stop !)) (sub ! 0 refl (whole !))) (get ! refl) tt) (ap (vptr b) there)) refl (tt, tt) $
         sets_last ! (agg ! (and_then ! (get ! refl) (and_then ! (get ! refl) (no_more !)))) refl (tt, (tt, (record { fits = fits_len }, tt))) $
         exec ! 𝓣.C 𝓣.Λ En (after 1 here.body) (at_ret En Post) $ sets ! (of_opd ! (get ! refl)) refl (tt, (tt, (record { fits = fits_len }, tt))) $
         returns ! (look_at ! 0 refl) $ free_all ! refl $
-        suffices ! _ (ends_at 𝓛 ended stayed held z (slice_val at len) (record { ref_ptr = at; now = xs }) (tt, (tt, (tt, (tt, tt)))) (tt, (tt, (tt, (tt, tt))))) $ says ! refl $
+        suffices ! _ (ends_at 𝓛 ended stayed held z (slice_val at len) (record { ref_ptr = at; now = xs })
+        (tt, (tt, (tt, (tt, tt)))) (tt, (tt, (tt, (tt, tt))))) $ says ! refl $
         flt_i ! (n * s) (2 ^ 63) (times_below n (d.start + c) s (2 ^ 63) (omega arith) small) $ flt_i ! n (2 ^ 64) (omega arith) $ fjoin ! $
         feq_i ! (List Val) (slice_val at len ∷ []) (slice_val at n ∷ []) (ap (λ k. slice_val at k ∷ []) long) $ fjoin ! $ fjoin ! $
-        move ! (1 ∷ 2 ∷ []) $ join ! $ nothing ! $ nothing ! $ fjoin ! $ nothing ! $ fjoin ! $ nothing ! $ fjoin ! $ nothing ! $ fjoin ! $ keep ! (1 ∷ 0 ∷ 2 ∷ []) $ done !))))))))))
+        move ! (1 ∷ 2 ∷ []) $ join ! $ nothing ! $ nothing ! $ fjoin ! $ nothing ! $ fjoin ! $ nothing ! $
+        fjoin ! $ nothing ! $ fjoin ! $ keep ! (1 ∷ 0 ∷ 2 ∷ []) $ done !))))))))))
 
     meets : Meets 𝓛 ended.signature (WpFn 𝓤 H 𝓣.C 𝓣.Λ here) (closing 𝓛 ended held)
     meets =
-        walk_Meets 𝓛 ended stayed (Goes-dropped 𝓛 2 (RefOf (0 ∷ []) tt (plain (λ _. Rm E)) (λ _. tt)) yes (λ κs x f. refl), (Goes-dropped 𝓛 2 (plain (λ _. Bs E)) no (λ κs x f. refl), (Goes-dropped 𝓛 2 (plain (λ _. usize)) yes (λ κs x f. refl), (Goes-dropped 𝓛 2 (plain (λ _. usize)) yes (λ κs x f. refl), tt)))) held
+        walk_Meets 𝓛 ended stayed (
+          Goes-dropped 𝓛 2 (RefOf (0 ∷ []) tt (plain (λ _. Rm E)) (λ _. tt)) yes (λ κs x f. refl),
+          (
+            Goes-dropped 𝓛 2 (plain (λ _. Bs E)) no (λ κs x f. refl),
+            (
+              Goes-dropped 𝓛 2 (plain (λ _. usize)) yes (λ κs x f. refl),
+              (Goes-dropped 𝓛 2 (plain (λ _. usize)) yes (λ κs x f. refl), tt),
+            ),
+          ),
+        ) held
         (WpFn 𝓤 H 𝓣.C 𝓣.Λ here) (WpFn-mono 𝓤 H 𝓛.laws 𝓣 here) walk
 
 pub as_slice_spec : {M : Type 1} → statement M

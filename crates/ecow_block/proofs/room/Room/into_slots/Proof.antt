@@ -67,7 +67,13 @@ module _ (E : El) where
   ended = F.ended E.row
 
   abbrev stayed : Stays ended.signature.params ended.kept
-  stayed = (stay_dropped (plain (λ _. Rm E)) no, (stay_dropped (plain (λ _. Bs E)) no, (stay_dropped (plain (λ _. usize)) yes, (stay_dropped (SliceRefOf (0 ∷ []) tt (plain (λ _. R E)) (λ _. tt)) yes, tt))))
+  stayed = (
+    stay_dropped (plain (λ _. Rm E)) no,
+    (
+      stay_dropped (plain (λ _. Bs E)) no,
+      (stay_dropped (plain (λ _. usize)) yes, (stay_dropped (SliceRefOf (0 ∷ []) tt (plain (λ _. R E)) (λ _. tt)) yes, tt)),
+    ),
+  )
 
   module _ {M : Type 1} {𝓤 : Ura M} (𝓛 : Logic 𝓤) (at_mem : Memory → SProp 𝓤) (run : Routine → Fun 𝓤) (𝓣 : Tables 𝓤 𝓛.H)
       (callee : Triple 𝓤 (𝓣.C (from_key (in_vec E))) (From (in_vec E) 𝓛 at_mem run)) where
@@ -76,21 +82,29 @@ module _ (E : El) where
     abbrev held : Clauses 𝓤 ended
     held = F.clauses E.row 𝓛 at_mem run
 
-    walk : (z : (walk_of 𝓛 ended stayed held).Ghost) → ent 𝓤 ((walk_of 𝓛 ended stayed held).pre z) (WpFn 𝓤 H 𝓣.C 𝓣.Λ here ((walk_of 𝓛 ended stayed held).args z) ((walk_of 𝓛 ended stayed held).post z))
+    walk : (z : (walk_of 𝓛 ended stayed held).Ghost)
+        → ent 𝓤 ((walk_of 𝓛 ended stayed held).pre z)
+        (WpFn 𝓤 H 𝓣.C 𝓣.Λ here ((walk_of 𝓛 ended stayed held).args z) ((walk_of 𝓛 ended stayed held).post z))
     walk z =
         let κ₀ = z.0.0.0 in let κ₁ = z.0.0.1.0 in let q₀ = z.0.1.0 in let q₁ = z.0.1.1.0 in let a = z.0.3 in let vss = z.0.4 in
         let d : room_d E = a.0 in let base = a.1.0 in let at : ℕ = a.1.1.0 in let xs : List (el_x E) = a.1.1.1.0.now in let p : ℕ × ℕ = a.1.1.1.0.ref_ptr in
         let Post : Val → SProp 𝓤 = (walk_of 𝓛 ended stayed held).post z in
         let n = length xs in let s = sz E in let c = d.capacity in let m = length d.items in let V = in_vec E in
         let Ok : Type 0 = (base.ptr ≡ d.at) × (at ≡ d.start) × (d.items ≡ []) × (c ≡ n) in
-        qed 𝓛 (((‵ (flft κ₀ q₀) ⊛ ‵ (flft κ₁ q₁) ⊛ ‵ ftrue) ⊛ ‵ (owns (types_at ended.signature.params z.0.0) a vss)) ∷ (raw (fact 𝓤 (κ₁ ⊑ E.row.lives)) ⊛ raw (fact 𝓤 Ok)) ∷ []) ∵
+        qed 𝓛 (((‵ (flft κ₀ q₀) ⊛ ‵ (flft κ₁ q₁) ⊛ ‵ ftrue) ⊛ ‵ (owns (types_at ended.signature.params z.0.0) a vss))
+        ∷ (raw (fact 𝓤 (κ₁ ⊑ E.row.lives)) ⊛ raw (fact 𝓤 Ok)) ∷ []) ∵
         move ! (1 ∷ []) $ split ! $ heard ! (κ₁ ⊑ E.row.lives) (λ lives. heard ! Ok (λ ok.
-        split ! $ split ! $ move ! (2 ∷ []) $ fsplit ! $ room_had E ! d vss.0 (λ b o at_b e₀ small. move ! (2 ∷ []) $ fsplit ! $ base_had E ! base vss.1.0 (λ e₁. fsplit ! $ fsplit ! $ feq_l ! (λ e₂. flt_l ! (λ fits.
+        split ! $ split ! $ move ! (2 ∷ []) $ fsplit ! $ room_had E ! d vss.0 (λ b o at_b e₀ small. move ! (2 ∷ []) $
+        fsplit ! $ base_had E ! base vss.1.0 (λ e₁. fsplit ! $ fsplit ! $ feq_l ! (λ e₂. flt_l ! (λ fits.
         fsplit ! $ fsplit ! $ fsplit ! $ feq_l ! (λ e₃. fsplit ! $ flt_l ! (λ fn. keep ! (4 ∷ 5 ∷ 6 ∷ []) $
         let us : List Val = mark ∷ word base.ptr ∷ vint w64 at ∷ slice_val p n ∷ [] in
         let Run : List Val → SProp 𝓤 = λ ws. WpFn 𝓤 H 𝓣.C 𝓣.Λ here ws Post in
         suffices ! (Run us) (subst (λ (ws : List Val). ent 𝓤 (Run us) (Run ws)) (sym (λ k. e₀ k ++ (e₁ k ++ (e₂ k ++ (e₃ k ++ []))))) (id⊢ 𝓤 (Run us))) $
-        enter ! 𝓣.C 𝓣.Λ here us Post $ alloc_all ! (λ l. pass_all ! refl ((tt, (tt, tt)), (word-Good [] base.ptr, ((tt, record { fits = fits }), ((tt, (tt, (record { fits = fn }, tt))), tt)))) $
+        enter ! 𝓣.C 𝓣.Λ here us Post $
+        alloc_all ! (λ l. pass_all ! refl (
+          (tt, (tt, tt)),
+          (word-Good [] base.ptr, ((tt, record { fits = fits }), ((tt, (tt, (record { fits = fn }, tt))), tt))),
+        ) $
         let En : Env 𝓤 H = env here.locals l in
         let none : m ≡ 0 = ap length ok.2 in let begins = ok.1 in let roomy : c ≡ n = ok.3 in
         let dst = at * s + o in let fs : List Bool = replicate n false in
@@ -101,23 +115,27 @@ module _ (E : El) where
         let words : WT (row_val b dst n) = (tt, (record { fits = fn }, tt)) in
         take_at ! 2 $ rewrite ! 0 (λ (r : Ptr). ‵ (fat full_share (layout (Bs E)) (l 2) 0 (word r))) (ok.0 ∙ at_b) refl $ give_at ! 2 $
         -- [the empty places; the slice's token; the other token]
-        rewrite ! 0 (λ (k : ℕ). ‵ (Spare E b k (c - m))) there refl $ rewrite ! 0 (λ (k : ℕ). ‵ (Spare E b dst k)) many refl $ as_written ! (ty_array (elτ E) n) b dst $
+        rewrite ! 0 (λ (k : ℕ). ‵ (Spare E b k (c - m))) there refl $
+        rewrite ! 0 (λ (k : ℕ). ‵ (Spare E b dst k)) many refl $ as_written ! (ty_array (elτ E) n) b dst $
         use1 𝓛 (‵ (all V b dst xs fs)) (of_space E 𝓛 b dst n xs refl) $
         first ! $ blocks ! $
-        sets ! (is ! (bin ! (get ! refl) (size_word !) (record { fits = subst (λ (k : ℕ). k < 2 ^ 64) (sym (uncapped at s far)) far })) (ap (vint w64) (uncapped at s far))) refl (tt, record { fits = far }) $
+        sets ! (is ! (bin ! (get ! refl) (size_word !) (record { fits = subst (λ (k : ℕ). k < 2 ^ 64) (sym (uncapped at s far)) far }))
+        (ap (vint w64) (uncapped at s far))) refl (tt, record { fits = far }) $
         sets ! (bin ! (get_in ! (fld ! refl (stop !)) (sub ! 0 refl (whole !))) (get ! refl) tt) refl (tt, tt) $
         sets ! (of_opd ! (get_in ! (fld ! refl (stop !)) (sub ! 1 refl (whole !)))) refl (tt, record { fits = fn }) $
         move ! (2 ∷ []) $ split ! $ move ! (2 ∷ 0 ∷ []) $
         let y : (From V 𝓛 at_mem run).Ghost = at_from V 𝓛 at_mem run κ₁ q₁ b dst n xs fs in
         use2 𝓛 (raw ((From V 𝓛 at_mem run).pre y)) (from_goes V 𝓛 at_mem run κ₁ q₁ b dst n xs fs lives refl (sym (length-replicate n false)) fn fit) $
         calls_at_last ! (fm_of 𝓤 H 𝓛.laws 𝓣) (From V 𝓛 at_mem run) callee y (and_then ! (get ! refl) (and_then ! (get ! refl) (no_more !))) (λ v.
-        use1 𝓛 (later (some (λ (r : (Row V).Denot). given ((v ≡ row_val b dst n) × Made V 𝓛 at_mem run κ₁ q₁ b dst n xs fs r) (‵ ((Row V).own_val r (row_val b dst n ∷ [])) ⊛ ‵ (flft κ₁ q₁)))))
+        use1 𝓛 (later (some (λ (r : (Row V).Denot). given ((v ≡ row_val b dst n) × Made V 𝓛 at_mem run κ₁ q₁ b dst n xs fs r)
+        (‵ ((Row V).own_val r (row_val b dst n ∷ [])) ⊛ ‵ (flft κ₁ q₁)))))
         (from_gives V 𝓛 at_mem run κ₁ q₁ b dst n xs fs v) $ await ! tt $ pick ! (λ r. learn ! (λ got. split ! $
         lands_last ! refl (row_Typed V v b dst n got.0 fn) $ exec ! 𝓣.C 𝓣.Λ En (after 1 here.body) (at_ret En Post) $
         sets ! (is ! (of_opd ! (get ! refl)) got.0) refl (tt, words) $ returns ! (look_at ! 0 refl) $ free_all ! refl $
         -- [the slots; a token; nothing; the slice's token]
         let of = got.1 in let long : r.len ≡ n = of.1 in
-        let begin : r.ptr ≡ place (R E) base.ptr at = of.0 ∙ ap (block_ptr b) (let eq : dst ≡ o + at * s = omega arith in eq) ∙ ap (λ (k : Ptr). place (R E) k at) (sym (ok.0 ∙ at_b)) in
+        let begin : r.ptr ≡ place (R E) base.ptr at =
+        of.0 ∙ ap (block_ptr b) (let eq : dst ≡ o + at * s = omega arith in eq) ∙ ap (λ (k : Ptr). place (R E) k at) (sym (ok.0 ∙ at_b)) in
         suffices ! _ (ends_at 𝓛 ended stayed held z (row_val b dst n) r (tt, (tt, (tt, (tt, tt)))) (tt, (tt, (tt, (tt, tt))))) $
         says_two ! ((of.2, long), (begin, times_below (at + r.len) (d.start + c) s (2 ^ 63) (omega arith) small)) $
         move ! (1 ∷ 2 ∷ []) $ join ! $ move ! (2 ∷ 0 ∷ []) $ join ! $
@@ -129,7 +147,10 @@ module _ (E : El) where
           Goes-dropped 𝓛 2 (plain (λ _. Rm E)) no (λ κs x f. refl),
           (
             Goes-dropped 𝓛 2 (plain (λ _. Bs E)) no (λ κs x f. refl),
-            (Goes-dropped 𝓛 2 (plain (λ _. usize)) yes (λ κs x f. refl), (Goes-dropped 𝓛 2 (SliceRefOf (0 ∷ []) tt (plain (λ _. R E)) (λ _. tt)) yes (λ κs x f. refl), tt)),
+            (
+              Goes-dropped 𝓛 2 (plain (λ _. usize)) yes (λ κs x f. refl),
+              (Goes-dropped 𝓛 2 (SliceRefOf (0 ∷ []) tt (plain (λ _. R E)) (λ _. tt)) yes (λ κs x f. refl), tt),
+            ),
           ),
         ) held (WpFn 𝓤 H 𝓣.C 𝓣.Λ here) (WpFn-mono 𝓤 H 𝓛.laws 𝓣 here) walk
 

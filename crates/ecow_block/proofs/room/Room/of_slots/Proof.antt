@@ -74,7 +74,9 @@ module _ (E : El) where
     abbrev held : Clauses 𝓤 ended
     held = F.clauses E.row 𝓛 at_mem run
 
-    walk : (z : (walk_of 𝓛 ended stayed held).Ghost) → ent 𝓤 ((walk_of 𝓛 ended stayed held).pre z) (WpFn 𝓤 H 𝓣.C 𝓣.Λ here ((walk_of 𝓛 ended stayed held).args z) ((walk_of 𝓛 ended stayed held).post z))
+    walk : (z : (walk_of 𝓛 ended stayed held).Ghost)
+        → ent 𝓤 ((walk_of 𝓛 ended stayed held).pre z)
+        (WpFn 𝓤 H 𝓣.C 𝓣.Λ here ((walk_of 𝓛 ended stayed held).args z) ((walk_of 𝓛 ended stayed held).post z))
     walk z =
         let κ = z.0.0.0 in let q = z.0.1.0 in let a = z.0.3 in let vss = z.0.4 in let V = in_vec E in
         let r : (Row V).Denot = a.0 in let base = a.1.0 in let at : ℕ = a.1.1.0 in
@@ -83,7 +85,8 @@ module _ (E : El) where
         let Ok : Type 0 = (slots_ptr r ≡ place (R E) base.ptr at) × ((at + k) * s < 2 ^ 63) × IsFull r in
         qed 𝓛 (((‵ (flft κ q) ⊛ ‵ ftrue) ⊛ ‵ (owns (types_at ended.signature.params z.0.0) a vss)) ∷ (raw (fact 𝓤 (κ ⊑ E.row.lives)) ⊛ raw (fact 𝓤 Ok)) ∷ []) ∵
         move ! (1 ∷ []) $ split ! $ heard ! (κ ⊑ E.row.lives) (λ lives. heard ! Ok (λ ok.
-        split ! $ split ! $ move ! (2 ∷ []) $ fsplit ! $ Row-seen V ! r vss.0 (λ b o at_r e₀ fk. move ! (1 ∷ []) $ fsplit ! $ base_had E ! base vss.1.0 (λ e₁. fsplit ! $ fsplit ! $ feq_l ! (λ e₂. flt_l ! (λ fits.
+        split ! $ split ! $ move ! (2 ∷ []) $ fsplit ! $ Row-seen V ! r vss.0 (λ b o at_r e₀ fk. move ! (1 ∷ []) $
+        fsplit ! $ base_had E ! base vss.1.0 (λ e₁. fsplit ! $ fsplit ! $ feq_l ! (λ e₂. flt_l ! (λ fits.
         keep ! (1 ∷ 2 ∷ 3 ∷ []) $
         let us : List Val = row_val b o k ∷ word base.ptr ∷ vint w64 at ∷ [] in
         let Run : List Val → SProp 𝓤 = λ ws. WpFn 𝓤 H 𝓣.C 𝓣.Λ here ws Post in
@@ -99,13 +102,15 @@ module _ (E : El) where
         let y : (Into V 𝓛 at_mem run).Ghost = at_into V 𝓛 at_mem run κ q r b o in
         use2 𝓛 (raw ((Into V 𝓛 at_mem run).pre y)) (Into-goes V 𝓛 at_mem run κ q r b o lives) $
         calls_at_last ! (fm_of 𝓤 H 𝓛.laws 𝓣) (Into V 𝓛 at_mem run) callee y (and_then ! (get ! refl) (no_more !)) (λ v.
-        use1 𝓛 (later (given (v ≡ row_val b o k) (‵ (all V b o xs fs) ⊛ ‵ (flft κ q)))) (Into-gives V 𝓛 at_mem run κ q r b o v at_r) $ await ! tt $ learn ! (λ e. split ! $
+        use1 𝓛 (later (given (v ≡ row_val b o k) (‵ (all V b o xs fs) ⊛ ‵ (flft κ q)))) (Into-gives V 𝓛 at_mem run κ q r b o v at_r) $
+        await ! tt $ learn ! (λ e. split ! $
         lands_last ! refl (parts_typed v b o k e fk) $ exec ! 𝓣.C 𝓣.Λ En (after 1 here.body) (at_ret En Post) $
         sets ! (of_opd ! (get ! refl)) refl (parts_typed v b o k e fk) $
         sets ! (agg ! (no_more !)) refl (tt, tt) $ sets ! (agg ! (and_then ! (get ! refl) (no_more !))) refl (tt, (tt, tt)) $
         returns ! (look_at ! 0 refl) $ free_all ! refl $
         use1 𝓛 (‵ (part_at (Array (R E) k) full_share xs b o)) (to_values E 𝓛 b o k xs (sym lx) fs (sym lf) ok.2) $
-        rewrite ! 0 (λ (j : ℕ). ‵ (part_at (Array (R E) j) full_share xs b o)) lx refl $ rewrite ! 0 (λ (j : ℕ). ‵ (part_at (Array (R E) n) full_share xs b j)) (sym low.1) refl $
+        rewrite ! 0 (λ (j : ℕ). ‵ (part_at (Array (R E) j) full_share xs b o)) lx refl $
+        rewrite ! 0 (λ (j : ℕ). ‵ (part_at (Array (R E) n) full_share xs b j)) (sym low.1) refl $
         use0 𝓛 (‵ (Spare E b (begin + n * s) (k - n))) (no_spare E 𝓛 b (begin + n * s) (k - n) (omega arith)) $ move ! (1 ∷ 0 ∷ []) $
         room_made E ! new b o' low.0 ok.1 $
         -- [the room; the token; nothing]
@@ -114,7 +119,10 @@ module _ (E : El) where
 
     meets : Meets 𝓛 ended.signature (WpFn 𝓤 H 𝓣.C 𝓣.Λ here) (closing 𝓛 ended held)
     meets =
-        walk_Meets 𝓛 ended stayed (Goes-dropped 𝓛 1 (plain (λ _. Row (in_vec E))) no (λ κs x f. refl), (Goes-dropped 𝓛 1 (plain (λ _. Bs E)) no (λ κs x f. refl), (Goes-dropped 𝓛 1 (plain (λ _. usize)) yes (λ κs x f. refl), tt))) held
+        walk_Meets 𝓛 ended stayed (
+          Goes-dropped 𝓛 1 (plain (λ _. Row (in_vec E))) no (λ κs x f. refl),
+          (Goes-dropped 𝓛 1 (plain (λ _. Bs E)) no (λ κs x f. refl), (Goes-dropped 𝓛 1 (plain (λ _. usize)) yes (λ κs x f. refl), tt)),
+        ) held
         (WpFn 𝓤 H 𝓣.C 𝓣.Λ here) (WpFn-mono 𝓤 H 𝓛.laws 𝓣 here) walk
 
 pub of_slots_spec : {M : Type 1} → statement M

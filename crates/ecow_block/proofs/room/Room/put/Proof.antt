@@ -56,7 +56,10 @@ module _ (E : El) where
   ended = F.ended E.row
 
   abbrev stayed : Stays ended.signature.params ended.kept
-  stayed = (stay_ref (0 ∷ []) tt (plain (λ _. Rm E)), (stay_dropped (plain (λ _. Bs E)) no, (stay_dropped (plain (λ _. usize)) yes, (stay_dropped (plain (λ _. R E)) no, tt))))
+  stayed = (
+    stay_ref (0 ∷ []) tt (plain (λ _. Rm E)),
+    (stay_dropped (plain (λ _. Bs E)) no, (stay_dropped (plain (λ _. usize)) yes, (stay_dropped (plain (λ _. R E)) no, tt))),
+  )
 
   module _ {M : Type 1} {𝓤 : Ura M} (𝓛 : Logic 𝓤) (at_mem : Memory → SProp 𝓤) (run : Routine → Fun 𝓤) (𝓣 : Tables 𝓤 𝓛.H) where
     open 𝓛 use {H}
@@ -64,16 +67,20 @@ module _ (E : El) where
     abbrev held : Clauses 𝓤 ended
     held = F.clauses E.row 𝓛 at_mem run
 
-    walk : (z : (walk_of 𝓛 ended stayed held).Ghost) → ent 𝓤 ((walk_of 𝓛 ended stayed held).pre z) (WpFn 𝓤 H 𝓣.C 𝓣.Λ here ((walk_of 𝓛 ended stayed held).args z) ((walk_of 𝓛 ended stayed held).post z))
+    walk : (z : (walk_of 𝓛 ended stayed held).Ghost)
+        → ent 𝓤 ((walk_of 𝓛 ended stayed held).pre z)
+        (WpFn 𝓤 H 𝓣.C 𝓣.Λ here ((walk_of 𝓛 ended stayed held).args z) ((walk_of 𝓛 ended stayed held).post z))
     walk z =
         let κ = z.0.0.0 in let κ₁ = z.0.0.1.0 in let q = z.0.1.0 in let q₁ = z.0.1.1.0 in let a = z.0.3 in let vss = z.0.4 in
         let rb = a.0.ref_ptr.0 in let ro = a.0.ref_ptr.1 in let d : room_d E = a.0.now in let base = a.1.0 in let at = a.1.1.0 in let x = a.1.1.1.0 in
         let Post : Val → SProp 𝓤 = (walk_of 𝓛 ended stayed held).post z in
         let n = length d.items in let s = sz E in
         let Ok : Type 0 = (base.ptr ≡ d.at) × (at ≡ d.start + n) × (n < d.capacity) in
-        qed 𝓛 (((‵ (flft κ q) ⊛ ‵ (flft κ₁ q₁) ⊛ ‵ ftrue) ⊛ ‵ (owns (types_at ended.signature.params z.0.0) a vss)) ∷ (raw (fact 𝓤 (κ₁ ⊑ E.row.lives)) ⊛ raw (fact 𝓤 Ok)) ∷ []) ∵
+        qed 𝓛 (((‵ (flft κ q) ⊛ ‵ (flft κ₁ q₁) ⊛ ‵ ftrue) ⊛ ‵ (owns (types_at ended.signature.params z.0.0) a vss))
+        ∷ (raw (fact 𝓤 (κ₁ ⊑ E.row.lives)) ⊛ raw (fact 𝓤 Ok)) ∷ []) ∵
         move ! (1 ∷ []) $ split ! $ drop ! $ heard ! Ok (λ ok. let roomy : n < d.capacity = ok.2 in
-        split ! $ split ! $ move ! (2 ∷ []) $ fsplit ! $ fsplit3 ! $ feq_l ! (λ e₀. move ! (2 ∷ []) $ fsplit ! $ base_had E ! base vss.1.0 (λ e₁. fsplit ! $ fsplit ! $ feq_l ! (λ e₂. flt_l ! (λ fits.
+        split ! $ split ! $ move ! (2 ∷ []) $ fsplit ! $ fsplit3 ! $
+        feq_l ! (λ e₀. move ! (2 ∷ []) $ fsplit ! $ base_had E ! base vss.1.0 (λ e₁. fsplit ! $ fsplit ! $ feq_l ! (λ e₂. flt_l ! (λ fits.
         fsplit ! $ item_had E ! x vss.1.1.1.0 (λ v e₃ good. keep ! (2 ∷ 3 ∷ 4 ∷ 0 ∷ 5 ∷ []) $
         let us : List Val = vptr rb ro ∷ word base.ptr ∷ vint w64 at ∷ v ∷ [] in
         let Run : List Val → SProp 𝓤 = λ ws. WpFn 𝓤 H 𝓣.C 𝓣.Λ here ws Post in
@@ -86,9 +93,18 @@ module _ (E : El) where
         let tiny : s < 2 ^ 64 = let one = one_below (d.start + d.capacity) s (2 ^ 63) many.0 small in omega arith in
         let far : at * s < 2 ^ 64 = let below = times_below at (d.start + d.capacity) s (2 ^ 63) many.1 small in omega arith in
         let there : n * s + o' ≡ at * s + o = let eq = ap (λ k. k * s) ok.1 ∙ add_times d.start n s in omega arith in
-        let new : room_d E = record { mark = d.mark; at = d.at; start = d.start; items = d.items ++ x ∷ []; capacity = d.capacity; within = omega (arith, length-append d.items (x ∷ [])) } in
+        let new : room_d E =
+        record {
+          mark = d.mark;
+          at = d.at;
+          start = d.start;
+          items = d.items ++ x ∷ [];
+          capacity = d.capacity;
+          within = omega (arith, length-append d.items (x ∷ []));
+        } in
         take_at ! 2 $ rewrite ! 0 (λ (p : Ptr). ‵ (fat full_share (layout (Bs E)) (l 2) 0 (word p))) (ok.0 ∙ at_b) refl $ give_at ! 2 $
-        move ! (1 ∷ []) $ use1 𝓛 (‵ (froom (elτ E) b (n * s + o')) ⊛ ‵ (Spare E b (o' + (n + 1) * s) (d.capacity - (n + 1)))) (spare_out E 𝓛 b o' n d.capacity roomy) $ split ! $
+        move ! (1 ∷ []) $ use1 𝓛 (‵ (froom (elτ E) b (n * s + o')) ⊛ ‵ (Spare E b (o' + (n + 1) * s) (d.capacity - (n + 1))))
+        (spare_out E 𝓛 b o' n d.capacity roomy) $ split ! $
         rewrite ! 0 (λ (k : ℕ). ‵ (froom (elτ E) b k)) there refl $
         -- [the room; the other empty places; the items; the mark's cell; the open borrow; obs; auth; what the item owns; the other token]
         first ! $ blocks ! $
@@ -101,13 +117,21 @@ module _ (E : El) where
         use2 𝓛 (‵ (Held E b o' (d.items ++ x ∷ []))) (item_in E 𝓛 b o' d.items x) $
         rewrite ! 1 (λ (k : ℕ). ‵ (Spare E b (o' + k * s) (d.capacity - k))) (sym (length-append d.items (x ∷ []))) refl $
         room_closes E ! tt new b o rb ro at_b small $ returns ! (look_at ! 0 refl) $ free_all ! refl $
-        suffices ! _ (ends_at 𝓛 ended stayed held z vunit tt (new, (tt, (tt, (tt, tt)))) (tt, (tt, (tt, (tt, tt))))) $ says_two ! (refl, record { at = refl; start = refl; capacity = refl }) $
-        feq_i ! (List Val) vss.0 (vptr rb ro ∷ []) e₀ $ fjoin3 ! $ nothing ! $ nothing ! $ fjoin ! $ nothing ! $ fjoin ! $ nothing ! $ fjoin ! $ move ! (1 ∷ 0 ∷ []) $ fjoin ! $
+        suffices ! _ (ends_at 𝓛 ended stayed held z vunit tt (new, (tt, (tt, (tt, tt)))) (tt, (tt, (tt, (tt, tt))))) $
+        says_two ! (refl, record { at = refl; start = refl; capacity = refl }) $
+        feq_i ! (List Val) vss.0 (vptr rb ro ∷ []) e₀ $ fjoin3 ! $ nothing ! $ nothing ! $ fjoin ! $
+        nothing ! $ fjoin ! $ nothing ! $ fjoin ! $ move ! (1 ∷ 0 ∷ []) $ fjoin ! $
         move ! (1 ∷ 2 ∷ []) $ join ! $ feq_i ! (List Val) (vunit ∷ []) (vunit ∷ []) refl $ keep ! (1 ∷ 2 ∷ 0 ∷ []) $ done !))))))))
 
     meets : Meets 𝓛 ended.signature (WpFn 𝓤 H 𝓣.C 𝓣.Λ here) (closing 𝓛 ended held)
     meets =
-        walk_Meets 𝓛 ended stayed (Goes-ref 𝓛 2 0 tt (plain (λ _. Rm E)), (Goes-dropped 𝓛 2 (plain (λ _. Bs E)) no (λ κs x f. refl), (Goes-dropped 𝓛 2 (plain (λ _. usize)) yes (λ κs x f. refl), (Goes-dropped 𝓛 2 (plain (λ _. R E)) no (λ κs x f. refl), tt)))) held
+        walk_Meets 𝓛 ended stayed (
+          Goes-ref 𝓛 2 0 tt (plain (λ _. Rm E)),
+          (
+            Goes-dropped 𝓛 2 (plain (λ _. Bs E)) no (λ κs x f. refl),
+            (Goes-dropped 𝓛 2 (plain (λ _. usize)) yes (λ κs x f. refl), (Goes-dropped 𝓛 2 (plain (λ _. R E)) no (λ κs x f. refl), tt)),
+          ),
+        ) held
         (WpFn 𝓤 H 𝓣.C 𝓣.Λ here) (WpFn-mono 𝓤 H 𝓛.laws 𝓣 here) walk
 
 pub put_spec : {M : Type 1} → statement M

@@ -58,20 +58,24 @@ module _ (E : El) where
     abbrev held : Clauses 𝓤 ended
     held = F.clauses E.row 𝓛 at_mem run
 
-    walk : (z : (walk_of 𝓛 ended stayed held).Ghost) → ent 𝓤 ((walk_of 𝓛 ended stayed held).pre z) (WpFn 𝓤 H 𝓣.C 𝓣.Λ here ((walk_of 𝓛 ended stayed held).args z) ((walk_of 𝓛 ended stayed held).post z))
+    walk : (z : (walk_of 𝓛 ended stayed held).Ghost)
+        → ent 𝓤 ((walk_of 𝓛 ended stayed held).pre z)
+        (WpFn 𝓤 H 𝓣.C 𝓣.Λ here ((walk_of 𝓛 ended stayed held).args z) ((walk_of 𝓛 ended stayed held).post z))
     walk z =
         let κ = z.0.0.0 in let κ₁ = z.0.0.1.0 in let q = z.0.1.0 in let q₁ = z.0.1.1.0 in let a = z.0.3 in let vss = z.0.4 in
         let rb = a.0.ref_ptr.0 in let ro = a.0.ref_ptr.1 in let d : room_d E = a.0.now in
         let Post : Val → SProp 𝓤 = (walk_of 𝓛 ended stayed held).post z in
         let k = a.1.0 in let xs = d.items in let n = length xs in let s = sz E in let c = d.capacity in
         let Ok : Type 0 = k ≤ c in
-        qed 𝓛 (((‵ (flft κ q) ⊛ ‵ (flft κ₁ q₁) ⊛ ‵ ftrue) ⊛ ‵ (owns (types_at ended.signature.params z.0.0) a vss)) ∷ (raw (fact 𝓤 (κ₁ ⊑ E.row.lives)) ⊛ raw (fact 𝓤 Ok)) ∷ []) ∵
+        qed 𝓛 (((‵ (flft κ q) ⊛ ‵ (flft κ₁ q₁) ⊛ ‵ ftrue) ⊛ ‵ (owns (types_at ended.signature.params z.0.0) a vss))
+        ∷ (raw (fact 𝓤 (κ₁ ⊑ E.row.lives)) ⊛ raw (fact 𝓤 Ok)) ∷ []) ∵
         move ! (1 ∷ []) $ split ! $ drop ! $ heard ! Ok (λ ok.
         let left = take k xs in let right = drop_l k xs in
         let on_left = length-take k xs in let on_right : length right ≡ n - k = length-drop k xs in let fits_in : n ≤ c = d.within in
         let kept : room_d E = record { mark = d.mark; at = d.at; start = d.start; items = left; capacity = k; within = omega arith } in
         let rest : room_d E = record { mark = d.mark; at = d.at; start = d.start + k; items = right; capacity = c - k; within = omega arith } in
-        split ! $ split ! $ move ! (2 ∷ []) $ fsplit ! $ fsplit3 ! $ feq_l ! (λ e₀. move ! (2 ∷ []) $ fsplit ! $ fsplit ! $ feq_l ! (λ e₁. flt_l ! (λ fits. keep ! (1 ∷ 2 ∷ 3 ∷ 4 ∷ []) $
+        split ! $ split ! $ move ! (2 ∷ []) $ fsplit ! $ fsplit3 ! $
+        feq_l ! (λ e₀. move ! (2 ∷ []) $ fsplit ! $ fsplit ! $ feq_l ! (λ e₁. flt_l ! (λ fits. keep ! (1 ∷ 2 ∷ 3 ∷ 4 ∷ []) $
         let us : List Val = vptr rb ro ∷ vint w64 k ∷ [] in
         let Run : List Val → SProp 𝓤 = λ ws. WpFn 𝓤 H 𝓣.C 𝓣.Λ here ws Post in
         suffices ! (Run us) (subst (λ (ws : List Val). ent 𝓤 (Run us) (Run ws)) (sym (λ j. e₀ j ++ (e₁ j ++ []))) (id⊢ 𝓤 (Run us))) $
@@ -81,14 +85,17 @@ module _ (E : El) where
         let begins : at ≡ o' + k * s = let eq = add_times d.start k s in omega arith in
         let small_left : Small E kept = times_below (d.start + k) (d.start + c) s (2 ^ 63) (omega arith) small in
         let small_right : Small E rest = let all : d.start + k + (c - k) ≡ d.start + c = omega arith in subst (λ j. j * s < 2 ^ 63) (sym all) small in
-        use2 𝓛 ((‵ (Held E b o' left) ⊛ ‵ (Spare E b (o' + length left * s) (k - length left))) ⊛ (‵ (Held E b at right) ⊛ ‵ (Spare E b (at + length right * s) (c - k - length right)))) (cut_room E 𝓛 b o' at k c xs begins fits_in ok) $
+        use2 𝓛 ((‵ (Held E b o' left) ⊛ ‵ (Spare E b (o' + length left * s) (k - length left)))
+        ⊛ (‵ (Held E b at right) ⊛ ‵ (Spare E b (at + length right * s) (c - k - length right))))
+        (cut_room E 𝓛 b o' at k c xs begins fits_in ok) $
         split ! $ move ! (1 ∷ []) $ split ! $ room_made E ! rest b o at_b small_right $ move ! (1 ∷ []) $ split ! $
         -- [the items kept; the empty places kept; the rest; the mark's cell; the open borrow; obs; auth; the other token]
         move ! (0 ∷ 1 ∷ 3 ∷ 4 ∷ 5 ∷ 6 ∷ []) $ room_closes E ! tt kept b o rb ro at_b small_left $
         sets ! (agg ! (no_more !)) refl (tt, tt) $ sets ! (agg ! (and_then ! (get ! refl) (no_more !))) refl (tt, (tt, tt)) $
         returns ! (look_at ! 0 refl) $ free_all ! refl $
         -- [obs; the borrow; the token; the rest; the other token]
-        suffices ! _ (ends_at 𝓛 ended stayed held z mark rest (kept, (tt, tt)) (tt, (tt, tt))) $ says_four ! ((refl, refl, refl), refl, (refl, refl, omega arith), refl) $
+        suffices ! _ (ends_at 𝓛 ended stayed held z mark rest (kept, (tt, tt)) (tt, (tt, tt))) $
+        says_four ! ((refl, refl, refl), refl, (refl, refl, omega arith), refl) $
         feq_i ! (List Val) vss.0 (vptr rb ro ∷ []) e₀ $ fjoin3 ! $ nothing ! $ nothing ! $ fjoin ! $ move ! (1 ∷ 0 ∷ []) $ fjoin ! $
         move ! (1 ∷ 3 ∷ []) $ join ! $ keep ! (0 ∷ 1 ∷ 2 ∷ []) $ done !))))))
 

@@ -75,18 +75,22 @@ module _ (E : El) where
     abbrev held : Clauses 𝓤 ended
     held = F.clauses E.row 𝓛 at_mem run
 
-    walk : (z : (walk_of 𝓛 ended stayed held).Ghost) → ent 𝓤 ((walk_of 𝓛 ended stayed held).pre z) (WpFn 𝓤 H 𝓣.C 𝓣.Λ here ((walk_of 𝓛 ended stayed held).args z) ((walk_of 𝓛 ended stayed held).post z))
+    walk : (z : (walk_of 𝓛 ended stayed held).Ghost)
+        → ent 𝓤 ((walk_of 𝓛 ended stayed held).pre z)
+        (WpFn 𝓤 H 𝓣.C 𝓣.Λ here ((walk_of 𝓛 ended stayed held).args z) ((walk_of 𝓛 ended stayed held).post z))
     walk z =
         let κ = z.0.0.0 in let κ₁ = z.0.0.1.0 in let q = z.0.1.0 in let q₁ = z.0.1.1.0 in let a = z.0.3 in let vss = z.0.4 in
         let rb = a.0.ref_ptr.0 in let ro = a.0.ref_ptr.1 in let d : room_d E = a.0.now in let base = a.1.0 in let at = a.1.1.0 in
         let Post : Val → SProp 𝓤 = (walk_of 𝓛 ended stayed held).post z in
         let n = length d.items in let s = sz E in let c = d.capacity in
         let Ok : Type 0 = (base.ptr ≡ d.at) × (at + 1 ≡ d.start + n) × (0 < n) in
-        qed 𝓛 (((‵ (flft κ q) ⊛ ‵ (flft κ₁ q₁) ⊛ ‵ ftrue) ⊛ ‵ (owns (types_at ended.signature.params z.0.0) a vss)) ∷ (raw (fact 𝓤 (κ₁ ⊑ E.row.lives)) ⊛ raw (fact 𝓤 (1 * s < 2 ^ 63)) ⊛ raw (fact 𝓤 Ok)) ∷ []) ∵
+        qed 𝓛 (((‵ (flft κ q) ⊛ ‵ (flft κ₁ q₁) ⊛ ‵ ftrue) ⊛ ‵ (owns (types_at ended.signature.params z.0.0) a vss))
+        ∷ (raw (fact 𝓤 (κ₁ ⊑ E.row.lives)) ⊛ raw (fact 𝓤 (1 * s < 2 ^ 63)) ⊛ raw (fact 𝓤 Ok)) ∷ []) ∵
         move ! (1 ∷ []) $ split3 ! $ drop ! $ drop ! $ heard ! Ok (λ ok.
         let got = last_of d.items ok.2 in let ys = got.0.0 in let x = got.0.1 in let m = length ys in
         let count : n ≡ m + 1 = ap length got.1 ∙ length-append ys (x ∷ []) in let fits_in : n ≤ c = d.within in
-        split ! $ split ! $ move ! (2 ∷ []) $ fsplit ! $ fsplit3 ! $ feq_l ! (λ e₀. move ! (2 ∷ []) $ fsplit ! $ base_had E ! base vss.1.0 (λ e₁. fsplit ! $ fsplit ! $ feq_l ! (λ e₂. flt_l ! (λ fits.
+        split ! $ split ! $ move ! (2 ∷ []) $ fsplit ! $ fsplit3 ! $
+        feq_l ! (λ e₀. move ! (2 ∷ []) $ fsplit ! $ base_had E ! base vss.1.0 (λ e₁. fsplit ! $ fsplit ! $ feq_l ! (λ e₂. flt_l ! (λ fits.
         keep ! (1 ∷ 2 ∷ 3 ∷ 4 ∷ []) $
         let us : List Val = vptr rb ro ∷ word base.ptr ∷ vint w64 at ∷ [] in
         let Run : List Val → SProp 𝓤 = λ ws. WpFn 𝓤 H 𝓣.C 𝓣.Λ here ws Post in
@@ -105,8 +109,11 @@ module _ (E : El) where
         take_at ! 2 $ rewrite ! 0 (λ (p : Ptr). ‵ (fat full_share (layout (Bs E)) (l 2) 0 (word p))) (ok.0 ∙ at_b) refl $ give_at ! 2 $
         rewrite ! 0 (λ (zs : List (el_x E)). ‵ (Held E b o' zs)) got.1 refl $ rewrite ! 1 (λ (k : ℕ). ‵ (Spare E b (o' + k * s) (c - k))) count refl $
         use1 𝓛 (‵ (Held E b o' ys) ⊛ ‵ (Held E b (at * s + o) (x ∷ []))) (cut E 𝓛 b o' (at * s + o) ys (x ∷ []) (sym there)) $ split ! $ move ! (1 ∷ []) $
-        use1 𝓛 (some (λ (v : Val). ‵ (fat full_share arr b (at * s + o) v) ⊛ ‵ (Arr.own_val (x ∷ []) (v ∷ [])))) (part_out 𝓛 Arr refl full_share (x ∷ []) b (at * s + o)) $ pick ! (λ v. split ! $ move ! (1 ∷ []) $
-        peeks ! Arr (Is Arr) (shows 𝓛 Arr) (x ∷ []) (v ∷ []) (λ is. let good : T (has_ty arr v) × WT v = (((array_laws (R E) (param_laws 0 E.row E.laws) 1).lawful 𝓛).typed (x ∷ []) (v ∷ []) is).0 in move ! (1 ∷ 0 ∷ []) $
+        use1 𝓛 (some (λ (v : Val). ‵ (fat full_share arr b (at * s + o) v) ⊛ ‵ (Arr.own_val (x ∷ []) (v ∷ []))))
+        (part_out 𝓛 Arr refl full_share (x ∷ []) b (at * s + o)) $ pick ! (λ v. split ! $ move ! (1 ∷ []) $
+        peeks ! Arr (Is Arr) (shows 𝓛 Arr) (x ∷ []) (v ∷ [])
+        (λ is. let good : T (has_ty arr v)
+        × WT v = (((array_laws (R E) (param_laws 0 E.row E.laws) 1).lawful 𝓛).typed (x ∷ []) (v ∷ []) is).0 in move ! (1 ∷ 0 ∷ []) $
         -- [the item's cell; what it owns; the others; the empty places; the mark's cell; the open borrow; obs; auth; the other token]
         first ! $ blocks ! $
         sets ! (bin ! (get ! refl) (size_lit ! (record { fits = tiny })) (record { fits = far })) refl (tt, record { fits = far }) $
@@ -118,13 +125,17 @@ module _ (E : El) where
         rewrite ! 0 (λ (k : ℕ). ‵ (Spare E b (o' + m * s) k)) more refl $ move ! (2 ∷ 0 ∷ 3 ∷ 4 ∷ 5 ∷ 6 ∷ []) $
         room_closes E ! tt new b o rb ro at_b small $ returns ! (look_at ! 0 refl) $ free_all ! refl $
         -- [obs; the borrow; the token; what the item owns; the other token]
-        suffices ! _ (ends_at 𝓛 ended stayed held z v (x ∷ []) (new, (tt, (tt, tt))) (tt, (tt, (tt, tt)))) $ says_three ! (got.1, refl, record { at = refl; start = refl; capacity = refl }) $
+        suffices ! _ (ends_at 𝓛 ended stayed held z v (x ∷ []) (new, (tt, (tt, tt))) (tt, (tt, (tt, tt)))) $
+        says_three ! (got.1, refl, record { at = refl; start = refl; capacity = refl }) $
         feq_i ! (List Val) vss.0 (vptr rb ro ∷ []) e₀ $ fjoin3 ! $ nothing ! $ nothing ! $ fjoin ! $ nothing ! $ fjoin ! $ move ! (1 ∷ 0 ∷ []) $ fjoin ! $
         move ! (1 ∷ 3 ∷ []) $ join ! $ keep ! (0 ∷ 1 ∷ 2 ∷ []) $ done !)))))))))
 
     meets : Meets 𝓛 ended.signature (WpFn 𝓤 H 𝓣.C 𝓣.Λ here) (closing 𝓛 ended held)
     meets =
-        walk_Meets 𝓛 ended stayed (Goes-ref 𝓛 2 0 tt (plain (λ _. Rm E)), (Goes-dropped 𝓛 2 (plain (λ _. Bs E)) no (λ κs x f. refl), (Goes-dropped 𝓛 2 (plain (λ _. usize)) yes (λ κs x f. refl), tt))) held
+        walk_Meets 𝓛 ended stayed (
+          Goes-ref 𝓛 2 0 tt (plain (λ _. Rm E)),
+          (Goes-dropped 𝓛 2 (plain (λ _. Bs E)) no (λ κs x f. refl), (Goes-dropped 𝓛 2 (plain (λ _. usize)) yes (λ κs x f. refl), tt)),
+        ) held
         (WpFn 𝓤 H 𝓣.C 𝓣.Λ here) (WpFn-mono 𝓤 H 𝓛.laws 𝓣 here) walk
 
 pub take_last_one_spec : {M : Type 1} → statement M

@@ -59,16 +59,21 @@ module _ (E : El) where
     abbrev held : Clauses 𝓤 ended
     held = F.clauses E.row 𝓛 at_mem run
 
-    walk : (z : (walk_of 𝓛 ended stayed held).Ghost) → ent 𝓤 ((walk_of 𝓛 ended stayed held).pre z) (WpFn 𝓤 H 𝓣.C 𝓣.Λ here ((walk_of 𝓛 ended stayed held).args z) ((walk_of 𝓛 ended stayed held).post z))
+    walk : (z : (walk_of 𝓛 ended stayed held).Ghost)
+        → ent 𝓤 ((walk_of 𝓛 ended stayed held).pre z)
+        (WpFn 𝓤 H 𝓣.C 𝓣.Λ here ((walk_of 𝓛 ended stayed held).args z) ((walk_of 𝓛 ended stayed held).post z))
     walk z =
         let κ = z.0.0.0 in let κ₁ = z.0.0.1.0 in let q = z.0.1.0 in let q₁ = z.0.1.1.0 in let a = z.0.3 in let vss = z.0.4 in
         let rb = a.0.ref_ptr.0 in let ro = a.0.ref_ptr.1 in let d : room_d E = a.0.now in
         let Post : Val → SProp 𝓤 = (walk_of 𝓛 ended stayed held).post z in
-        let r : room_d E = a.1.0 in let xs = d.items in let ys = r.items in let n = length xs in let m = length ys in let s = sz E in let c = d.capacity in let rc = r.capacity in
+        let r : room_d E = a.1.0 in let xs = d.items in let ys = r.items in let n = length xs in
+        let m = length ys in let s = sz E in let c = d.capacity in let rc = r.capacity in
         let Ok : Type 0 = Follows d r × (ys ≡ []) in
-        qed 𝓛 (((‵ (flft κ q) ⊛ ‵ (flft κ₁ q₁) ⊛ ‵ ftrue) ⊛ ‵ (owns (types_at ended.signature.params z.0.0) a vss)) ∷ (raw (fact 𝓤 (κ₁ ⊑ E.row.lives)) ⊛ raw (fact 𝓤 Ok)) ∷ []) ∵
+        qed 𝓛 (((‵ (flft κ q) ⊛ ‵ (flft κ₁ q₁) ⊛ ‵ ftrue) ⊛ ‵ (owns (types_at ended.signature.params z.0.0) a vss))
+        ∷ (raw (fact 𝓤 (κ₁ ⊑ E.row.lives)) ⊛ raw (fact 𝓤 Ok)) ∷ []) ∵
         move ! (1 ∷ []) $ split ! $ drop ! $ heard ! Ok (λ ok.
-        split ! $ split ! $ move ! (2 ∷ []) $ fsplit ! $ fsplit3 ! $ feq_l ! (λ e₀. move ! (2 ∷ []) $ fsplit ! $ room_had E ! r vss.1.0 (λ b₂ o₂ at_r e₁ far. keep ! (3 ∷ 4 ∷ 5 ∷ 0 ∷ 1 ∷ 6 ∷ []) $
+        split ! $ split ! $ move ! (2 ∷ []) $ fsplit ! $ fsplit3 ! $
+        feq_l ! (λ e₀. move ! (2 ∷ []) $ fsplit ! $ room_had E ! r vss.1.0 (λ b₂ o₂ at_r e₁ far. keep ! (3 ∷ 4 ∷ 5 ∷ 0 ∷ 1 ∷ 6 ∷ []) $
         let us : List Val = vptr rb ro ∷ mark ∷ [] in
         let Run : List Val → SProp 𝓤 = λ ws. WpFn 𝓤 H 𝓣.C 𝓣.Λ here ws Post in
         suffices ! (Run us) (subst (λ (ws : List Val). ent 𝓤 (Run us) (Run ws)) (sym (λ j. e₀ j ++ (e₁ j ++ []))) (id⊢ 𝓤 (Run us))) $
@@ -85,10 +90,12 @@ module _ (E : El) where
         let small_new : Small E new = let all : r.start + rc ≡ d.start + (c + rc) = let eq = ok.0.start in omega arith in subst (λ j. j * s < 2 ^ 63) all far in
         let end = o' + n * s in
         let there : at + m * s ≡ at = let eq = ap (λ j. j * s) none ∙ zero-mul s in omega arith in
-        let next : at ≡ end + (c - n) * s = let whole : c ≡ n + (c - n) = omega arith in let eq = ap (λ j. j * s) whole ∙ add_times n (c - n) s in omega arith in
+        let next : at ≡ end + (c - n) * s = let whole : c ≡ n + (c - n) = omega arith in
+        let eq = ap (λ j. j * s) whole ∙ add_times n (c - n) s in omega arith in
         let many : rc - m ≡ rc = omega arith in let all : c - n + rc ≡ c + rc - n = omega arith in
         rewrite ! 7 (λ (j : ℕ). ‵ (Spare E b j (rc - m))) there refl $ rewrite ! 7 (λ (j : ℕ). ‵ (Spare E b at j)) many refl $
-        move ! (1 ∷ 7 ∷ []) $ use2 𝓛 (‵ (Spare E b end (c - n + rc))) (spare_glue E 𝓛 b end at (c - n) rc next) $ rewrite ! 0 (λ (j : ℕ). ‵ (Spare E b end j)) all refl $
+        move ! (1 ∷ 7 ∷ []) $ use2 𝓛 (‵ (Spare E b end (c - n + rc))) (spare_glue E 𝓛 b end at (c - n) rc next) $
+        rewrite ! 0 (λ (j : ℕ). ‵ (Spare E b end j)) all refl $
         move ! (1 ∷ 0 ∷ 2 ∷ 3 ∷ 4 ∷ 5 ∷ []) $ room_closes E ! tt new b o rb ro at_b small_new $ move ! (0 ∷ 1 ∷ 2 ∷ 4 ∷ []) $
         sets ! (of_opd ! (unit_lit !)) refl (tt, tt) $ returns ! (look_at ! 0 refl) $ free_all ! refl $
         suffices ! _ (ends_at 𝓛 ended stayed held z vunit tt (new, (tt, tt)) (tt, (tt, tt))) $ says_two ! (refl, (refl, refl, refl)) $

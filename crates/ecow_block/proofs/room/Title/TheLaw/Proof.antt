@@ -18,4 +18,6 @@ pub shares : (R A : RattleType) (g : Ghosts A.Denot) (L : Laws R) (K : Laws A) �
 shares R A g L K = of_Lends (D.struct R A g) (D.the_codes R.Denot A.Denot R.coded A.coded (marker.the_row RawPtr).coded) (D.the_heap R A g) (D.the_lent R A g)
     (λ d p. title_shr_laws R L d.at d.fields)
     (copy_shared (marker.the_field RawPtr) (field_copy (marker.the_type RawPtr) tt), tt)
-    (λ M 𝓤 𝓛 d p. let l = (D.the_row R A g).lives in Lends-title R L 𝓛 l (Incl-trans (meet_⊑_left (R.lives ++ (A.lives ++ [])) []) (meet_⊑_left R.lives (A.lives ++ []))) (g.dealloc_token d.alloc) d.at d.fields d.places)
+    (λ M 𝓤 𝓛 d p. let l = (D.the_row R A g).lives in
+    Lends-title R L 𝓛 l (Incl-trans (meet_⊑_left (R.lives ++ (A.lives ++ [])) []) (meet_⊑_left R.lives (A.lives ++ [])))
+    (g.dealloc_token d.alloc) d.at d.fields d.places)

@@ -61,15 +61,20 @@ module _ (E : El) (Z : Al) where
     abbrev held : Clauses 𝓤 ended
     held = F.clauses E.row Z.row Z.g Z.d Z.drops 𝓛 at_mem run
 
-    walk : (z : (walk_of 𝓛 ended stayed held).Ghost) → ent 𝓤 ((walk_of 𝓛 ended stayed held).pre z) (WpFn 𝓤 H 𝓣.C 𝓣.Λ here ((walk_of 𝓛 ended stayed held).args z) ((walk_of 𝓛 ended stayed held).post z))
+    walk : (z : (walk_of 𝓛 ended stayed held).Ghost)
+        → ent 𝓤 ((walk_of 𝓛 ended stayed held).pre z)
+        (WpFn 𝓤 H 𝓣.C 𝓣.Λ here ((walk_of 𝓛 ended stayed held).args z) ((walk_of 𝓛 ended stayed held).post z))
     walk z =
-        let κ = z.0.0.0 in let κ₁ = z.0.0.1.0 in let κ₂ = z.0.0.1.1.0 in let q = z.0.1.0 in let q₁ = z.0.1.1.0 in let q₂ = z.0.1.1.1.0 in let a = z.0.3 in let vss = z.0.4 in
+        let κ = z.0.0.0 in let κ₁ = z.0.0.1.0 in let κ₂ = z.0.0.1.1.0 in let q = z.0.1.0 in
+        let q₁ = z.0.1.1.0 in let q₂ = z.0.1.1.1.0 in let a = z.0.3 in let vss = z.0.4 in
         let rb = a.0.ref_ptr.0 in let ro = a.0.ref_ptr.1 in let d : (Tt E Z).Denot = a.0.now in let top = a.1.0 in
         let Post : Val → SProp 𝓤 = (walk_of 𝓛 ended stayed held).post z in
         let Ok : Type 0 = (top.ptr ≡ d.at) × InBlock top.ptr in
-        qed 𝓛 (((‵ (flft κ q) ⊛ ‵ (flft κ₁ q₁) ⊛ ‵ (flft κ₂ q₂) ⊛ ‵ ftrue) ⊛ ‵ (owns (types_at ended.signature.params z.0.0) a vss)) ∷ (raw (fact 𝓤 (κ₁ ⊑ E.row.lives)) ⊛ raw (fact 𝓤 (κ₂ ⊑ Z.row.lives)) ⊛ raw (fact 𝓤 Ok)) ∷ []) ∵
+        qed 𝓛 (((‵ (flft κ q) ⊛ ‵ (flft κ₁ q₁) ⊛ ‵ (flft κ₂ q₂) ⊛ ‵ ftrue) ⊛ ‵ (owns (types_at ended.signature.params z.0.0) a vss))
+        ∷ (raw (fact 𝓤 (κ₁ ⊑ E.row.lives)) ⊛ raw (fact 𝓤 (κ₂ ⊑ Z.row.lives)) ⊛ raw (fact 𝓤 Ok)) ∷ []) ∵
         move ! (1 ∷ []) $ split3 ! $ drop ! $ drop ! $ heard ! Ok (λ ok.
-        split ! $ split ! $ move ! (2 ∷ []) $ fsplit ! $ fsplit ! $ feq_l ! (λ e₀. move ! (1 ∷ []) $ fsplit ! $ top_had E ! top vss.1.0 (λ e₁. keep ! (1 ∷ 2 ∷ 3 ∷ []) $
+        split ! $ split ! $ move ! (2 ∷ []) $ fsplit ! $ fsplit ! $
+        feq_l ! (λ e₀. move ! (1 ∷ []) $ fsplit ! $ top_had E ! top vss.1.0 (λ e₁. keep ! (1 ∷ 2 ∷ 3 ∷ []) $
         let b = block_of d.at in let o = count_of d.at in let at_b = at_block d.at (subst InBlock ok.0 ok.1) in
         -- [what the `&` holds; its token; the other tokens]
         unhide ! $ fsplit ! $ drop ! $ rewrite ! 0 (λ (p : Ptr). ‵ (title_shares (R E) p d.fields κ)) at_b refl $ fsplit ! $ drop ! $ hide ! $
@@ -89,7 +94,11 @@ module _ (E : El) (Z : Al) where
 
     meets : Meets 𝓛 ended.signature (WpFn 𝓤 H 𝓣.C 𝓣.Λ here) (closing 𝓛 ended held)
     meets =
-        walk_Meets 𝓛 ended stayed (Goes-dropped 𝓛 3 (RefOf (0 ∷ []) tt (plain (λ _. Tt E Z)) (λ _. tt)) yes (λ κs x f. refl), (Goes-dropped 𝓛 3 (plain (λ _. Tp E)) no (λ κs x f. refl), tt)) held
+        walk_Meets 𝓛 ended stayed (
+          Goes-dropped 𝓛 3 (RefOf (0 ∷ []) tt (plain (λ _. Tt E Z)) (λ _. tt)) yes
+              (λ κs x f. refl),
+          (Goes-dropped 𝓛 3 (plain (λ _. Tp E)) no (λ κs x f. refl), tt),
+        ) held
         (WpFn 𝓤 H 𝓣.C 𝓣.Λ here) (WpFn-mono 𝓤 H 𝓛.laws 𝓣 here) walk
 
 pub fields_spec : {M : Type 1} → statement M
@@ -97,5 +106,6 @@ unfolding tables_of
 fields_spec 𝓤 𝓛 𝓜 𝓡 wired X Y LX LY g d dd met md =
     let E : El = record { row = X; laws = LX } in let Z : Al = record { row = Y; laws = LY; g = g; d = d; drops = dd } in
     let 𝓣 : Tables 𝓤 𝓛.H = tables_of 𝓤 𝓛.H 𝓜 (tables 𝓤 𝓛.H 𝓜 𝓡 𝓡.env) in
-    entered 𝓤 𝓛.H (triple_of 𝓛 (ended E Z).signature (F.spec X Y g d dd 𝓛 𝓜.mem 𝓡.returns)) 𝓣.C 𝓣.Λ (#self (args E Z)) (here E Z) (code.unfolded 𝓤 𝓛.H 𝓜 𝓡 wired (X, (Y, tt)) d dd)
+    entered 𝓤 𝓛.H (triple_of 𝓛 (ended E Z).signature (F.spec X Y g d dd 𝓛 𝓜.mem 𝓡.returns)) 𝓣.C 𝓣.Λ
+    (#self (args E Z)) (here E Z) (code.unfolded 𝓤 𝓛.H 𝓜 𝓡 wired (X, (Y, tt)) d dd)
     (meets E Z 𝓛 𝓜.mem 𝓡.returns 𝓣)

@@ -65,7 +65,9 @@ module _ (E : El) (Z : Al) where
 
     -- all but the fields, and the cell of the title itself
     abbrev Rest : (Tt E Z).Denot → ℕ → ℕ → ℕ → ℕ → Fml
-    Rest d b o rb ro = fsep (cell b (o + 0) 1) (fsep (token Z d.alloc (whole_ty E d.places) (block_ptr b o)) (fsep (Rejoins E 𝓛 b o d.places) (cell_at full_share (Tt E Z).mir (mark ∷ []) rb ro)))
+    Rest d b o rb ro =
+        fsep (cell b (o + 0) 1) (fsep (token Z d.alloc (whole_ty E d.places) (block_ptr b o))
+        (fsep (Rejoins E 𝓛 b o d.places) (cell_at full_share (Tt E Z).mir (mark ∷ []) rb ro)))
 
     back : (d : (Tt E Z).Denot) (b o rb ro : ℕ) → d.at ≡ block_ptr b o → (w : (Fl E).Denot)
         → ent 𝓤 (sep 𝓤 (sem 𝓛 (Shown E b o w)) (sem 𝓛 (Rest d b o rb ro))) (sem 𝓛 ((mem (Tt E Z)).own_at (with_fields d w) rb ro))
@@ -75,16 +77,21 @@ module _ (E : El) (Z : Al) where
         title_made E Z ! (with_fields d w) b o at_b $ move ! (1 ∷ 0 ∷ []) $ fjoin ! $
         fpack ! (List Val) (λ us. fsep (cell_at full_share (Tt E Z).mir us rb ro) ((Tt E Z).own_val (with_fields d w) us)) (mark ∷ []) $ done !
 
-    walk : (z : (walk_of 𝓛 ended stayed held).Ghost) → ent 𝓤 ((walk_of 𝓛 ended stayed held).pre z) (WpFn 𝓤 H 𝓣.C 𝓣.Λ here ((walk_of 𝓛 ended stayed held).args z) ((walk_of 𝓛 ended stayed held).post z))
+    walk : (z : (walk_of 𝓛 ended stayed held).Ghost)
+        → ent 𝓤 ((walk_of 𝓛 ended stayed held).pre z)
+        (WpFn 𝓤 H 𝓣.C 𝓣.Λ here ((walk_of 𝓛 ended stayed held).args z) ((walk_of 𝓛 ended stayed held).post z))
     unfolding follows_by part_of
     walk z =
-        let κ = z.0.0.0 in let κ₁ = z.0.0.1.0 in let κ₂ = z.0.0.1.1.0 in let q = z.0.1.0 in let q₁ = z.0.1.1.0 in let q₂ = z.0.1.1.1.0 in let a = z.0.3 in let vss = z.0.4 in
+        let κ = z.0.0.0 in let κ₁ = z.0.0.1.0 in let κ₂ = z.0.0.1.1.0 in let q = z.0.1.0 in
+        let q₁ = z.0.1.1.0 in let q₂ = z.0.1.1.1.0 in let a = z.0.3 in let vss = z.0.4 in
         let rb = a.0.ref_ptr.0 in let ro = a.0.ref_ptr.1 in let γ = a.0.ghost_name in let d : (Tt E Z).Denot = a.0.now in let top = a.1.0 in
         let Post : Val → SProp 𝓤 = (walk_of 𝓛 ended stayed held).post z in
         let Ok : Type 0 = (top.ptr ≡ d.at) × InBlock top.ptr in
-        qed 𝓛 (((‵ (flft κ q) ⊛ ‵ (flft κ₁ q₁) ⊛ ‵ (flft κ₂ q₂) ⊛ ‵ ftrue) ⊛ ‵ (owns (types_at ended.signature.params z.0.0) a vss)) ∷ (raw (fact 𝓤 (κ₁ ⊑ E.row.lives)) ⊛ raw (fact 𝓤 (κ₂ ⊑ Z.row.lives)) ⊛ raw (fact 𝓤 Ok)) ∷ []) ∵
+        qed 𝓛 (((‵ (flft κ q) ⊛ ‵ (flft κ₁ q₁) ⊛ ‵ (flft κ₂ q₂) ⊛ ‵ ftrue) ⊛ ‵ (owns (types_at ended.signature.params z.0.0) a vss))
+        ∷ (raw (fact 𝓤 (κ₁ ⊑ E.row.lives)) ⊛ raw (fact 𝓤 (κ₂ ⊑ Z.row.lives)) ⊛ raw (fact 𝓤 Ok)) ∷ []) ∵
         move ! (1 ∷ []) $ split3 ! $ drop ! $ drop ! $ heard ! Ok (λ ok.
-        split ! $ split ! $ move ! (2 ∷ []) $ fsplit ! $ fsplit3 ! $ feq_l ! (λ e₀. move ! (2 ∷ []) $ fsplit ! $ top_had E ! top vss.1.0 (λ e₁. keep ! (1 ∷ 2 ∷ 3 ∷ 4 ∷ []) $
+        split ! $ split ! $ move ! (2 ∷ []) $ fsplit ! $ fsplit3 ! $
+        feq_l ! (λ e₀. move ! (2 ∷ []) $ fsplit ! $ top_had E ! top vss.1.0 (λ e₁. keep ! (1 ∷ 2 ∷ 3 ∷ 4 ∷ []) $
         let us : List Val = vptr rb ro ∷ word top.ptr ∷ [] in
         let Run : List Val → SProp 𝓤 = λ ws. WpFn 𝓤 H 𝓣.C 𝓣.Λ here ws Post in
         suffices ! (Run us) (subst (λ (ws : List Val). ent 𝓤 (Run us) (Run ws)) (sym (λ k. e₀ k ++ (e₁ k ++ []))) (id⊢ 𝓤 (Run us))) $
@@ -99,8 +106,11 @@ module _ (E : El) (Z : Al) where
         sets_last ! (addr ! (through ! refl (fld ! refl (stop !)))) refl (tt, tt) $
         exec ! 𝓣.C 𝓣.Λ En (after 2 here.body) (at_ret En Post) $ sets ! (of_opd ! (get ! refl)) refl (tt, tt) $
         move ! (3 ∷ 4 ∷ []) $ fjoin ! $ move ! (3 ∷ 0 ∷ []) $ fjoin ! $ move ! (1 ∷ 0 ∷ []) $ fjoin ! $ move ! (2 ∷ 3 ∷ 4 ∷ 1 ∷ 0 ∷ []) $ group ! 5 $
-        use1 𝓛 (later (some (λ (δ : GName). ‵ ((MutRef (named 0) κ (Fl E)).own_val (record { ref_ptr = (b, o + 8); ghost_name = δ; now = d.fields }) (at ∷ [])) ⊛ ‵ (flft κ q) ⊛ ‵ (follows (Tt E Z) (Fl E) γ δ (with_fields d)))))
-        (lends_Part 𝓛 (Tt E Z) (Fl E) (with_fields d) (named 0) κ q rb ro b (o + 8) γ (sem 𝓛 (Rest d b o rb ro)) (back d b o rb ro at_b) code_d code_d d.fields) $ await ! tt $ pick ! (λ δ.
+        use1 𝓛 (later (some (λ (δ : GName). ‵ ((MutRef (named 0) κ (Fl E)).own_val
+        (record { ref_ptr = (b, o + 8); ghost_name = δ; now = d.fields }) (at ∷ []))
+        ⊛ ‵ (flft κ q) ⊛ ‵ (follows (Tt E Z) (Fl E) γ δ (with_fields d)))))
+        (lends_Part 𝓛 (Tt E Z) (Fl E) (with_fields d) (named 0) κ q rb ro b (o + 8) γ (sem 𝓛 (Rest d b o rb ro))
+        (back d b o rb ro at_b) code_d code_d d.fields) $ await ! tt $ pick ! (λ δ.
         let r : MutBor (Fl E).Denot = record { ref_ptr = (b, o + 8); ghost_name = δ; now = d.fields } in
         returns ! (look_at ! 0 refl) $ free_all ! refl $ split3 ! $
         -- [the reference; the token; what follows; the other tokens]
@@ -117,5 +127,6 @@ unfolding tables_of
 fields_mut_spec 𝓤 𝓛 𝓜 𝓡 wired X Y LX LY g d dd met md =
     let E : El = record { row = X; laws = LX } in let Z : Al = record { row = Y; laws = LY; g = g; d = d; drops = dd } in
     let 𝓣 : Tables 𝓤 𝓛.H = tables_of 𝓤 𝓛.H 𝓜 (tables 𝓤 𝓛.H 𝓜 𝓡 𝓡.env) in
-    entered 𝓤 𝓛.H (triple_of 𝓛 (ended E Z).signature (F.spec X Y g d dd 𝓛 𝓜.mem 𝓡.returns)) 𝓣.C 𝓣.Λ (#self (args E Z)) (here E Z) (code.unfolded 𝓤 𝓛.H 𝓜 𝓡 wired (X, (Y, tt)) d dd)
+    entered 𝓤 𝓛.H (triple_of 𝓛 (ended E Z).signature (F.spec X Y g d dd 𝓛 𝓜.mem 𝓡.returns)) 𝓣.C 𝓣.Λ
+    (#self (args E Z)) (here E Z) (code.unfolded 𝓤 𝓛.H 𝓜 𝓡 wired (X, (Y, tt)) d dd)
     (meets E Z 𝓛 𝓜.mem 𝓡.returns 𝓣)

@@ -73,13 +73,23 @@ module _ (E : El) (Z : Al) where
   ended = F.ended E.row Z.row Z.g Z.d Z.drops
 
   abbrev stayed : Stays ended.signature.params ended.kept
-  stayed = (stay_dropped (RefOf (0 ∷ []) tt (plain (λ _. P E Z)) (λ _. tt)) yes, (stay_dropped (plain (λ _. usize)) yes, (stay_dropped (plain (λ _. usize)) yes, (stay_dropped (plain (λ _. usize)) yes, tt))))
+  stayed = (
+    stay_dropped (RefOf (0 ∷ []) tt (plain (λ _. P E Z)) (λ _. tt)) yes,
+    (stay_dropped (plain (λ _. usize)) yes, (stay_dropped (plain (λ _. usize)) yes, (stay_dropped (plain (λ _. usize)) yes, tt))),
+  )
 
   abbrev Three : RattleType
   Three = Tuple (Tp E ∷ Rm E ∷ Tt E Z ∷ [])
 
   abbrev title_at : Z.row.Denot → ℕ → ℕ → ℕ → (Tt E Z).Denot
-  title_at a b o c = record { mark = record {}; at = block_ptr b o; fields = record { base = record { ptr = block_ptr b (o + 32) }; len = 0; capacity = c }; places = c; alloc = a }
+  title_at a b o c =
+      record {
+        mark = record {};
+        at = block_ptr b o;
+        fields = record { base = record { ptr = block_ptr b (o + 32) }; len = 0; capacity = c };
+        places = c;
+        alloc = a;
+      }
 
   abbrev block : Z.row.Denot → ℕ → ℕ → ℕ → Three.Denot
   block a b o c = (record { ptr = block_ptr b o }, fresh E b (o + 32) c, title_at a b o c)
@@ -94,35 +104,49 @@ module _ (E : El) (Z : Al) where
     abbrev held : Clauses 𝓤 ended
     held = F.clauses E.row Z.row Z.g Z.d Z.drops 𝓛 at_mem run
 
-    exits : (z : (walk_of 𝓛 ended stayed held).Ghost) (r : Out.Denot) (v : Val) → IfOk r (λ t. IsTopOf t.0 t.2 z.0.3.0.now × IsBehind t.1 t.2 × (t.1.items ≡ []) × (t.2.places ≡ z.0.3.1.0) × (t.2.fields.base.ptr ≡ t.1.at) × (t.2.fields.len ≡ 0) × (t.2.fields.capacity ≡ z.0.3.1.0))
-        → ent 𝓤 (⋆ 𝓛 (‵ (Out.own_val r (v ∷ [])) ∷ ‵ (flft z.0.0.0 z.0.1.0) ∷ (‵ (flft z.0.0.1.0 z.0.1.1.0) ⊛ ‵ (flft z.0.0.1.1.0 z.0.1.1.1.0) ⊛ ‵ ftrue) ∷ [])) ((walk_of 𝓛 ended stayed held).post z v)
+    exits : (z : (walk_of 𝓛 ended stayed held).Ghost) (r : Out.Denot) (v : Val)
+        → IfOk r (λ t. IsTopOf t.0 t.2 z.0.3.0.now × IsBehind t.1 t.2 × (t.1.items ≡ []) × (t.2.places ≡ z.0.3.1.0)
+        × (t.2.fields.base.ptr ≡ t.1.at) × (t.2.fields.len ≡ 0) × (t.2.fields.capacity ≡ z.0.3.1.0))
+        → ent 𝓤 (⋆ 𝓛 (‵ (Out.own_val r (v ∷ [])) ∷ ‵ (flft z.0.0.0 z.0.1.0) ∷ (‵ (flft z.0.0.1.0 z.0.1.1.0)
+        ⊛ ‵ (flft z.0.0.1.1.0 z.0.1.1.1.0) ⊛ ‵ ftrue) ∷ [])) ((walk_of 𝓛 ended stayed held).post z v)
     exits z r v said =
         qed 𝓛 (‵ (Out.own_val r (v ∷ [])) ∷ ‵ (flft z.0.0.0 z.0.1.0) ∷ (‵ (flft z.0.0.1.0 z.0.1.1.0) ⊛ ‵ (flft z.0.0.1.1.0 z.0.1.1.1.0) ⊛ ‵ ftrue) ∷ []) ∵
         suffices ! _ (ends_at 𝓛 ended stayed held z v r (tt, (tt, (tt, (tt, tt)))) (tt, (tt, (tt, (tt, tt))))) $ says ! said $
-        move ! (1 ∷ 2 ∷ []) $ join ! $ nothing ! $ nothing ! $ fjoin ! $ nothing ! $ fjoin ! $ nothing ! $ fjoin ! $ nothing ! $ fjoin ! $ keep ! (1 ∷ 0 ∷ 2 ∷ []) $ done !
+        move ! (1 ∷ 2 ∷ []) $ join ! $ nothing ! $ nothing ! $ fjoin ! $ nothing ! $ fjoin ! $
+        nothing ! $ fjoin ! $ nothing ! $ fjoin ! $ keep ! (1 ∷ 0 ∷ 2 ∷ []) $ done !
 
-    walk : (z : (walk_of 𝓛 ended stayed held).Ghost) → ent 𝓤 ((walk_of 𝓛 ended stayed held).pre z) (WpFn 𝓤 H 𝓣.C 𝓣.Λ here ((walk_of 𝓛 ended stayed held).args z) ((walk_of 𝓛 ended stayed held).post z))
+    walk : (z : (walk_of 𝓛 ended stayed held).Ghost)
+        → ent 𝓤 ((walk_of 𝓛 ended stayed held).pre z)
+        (WpFn 𝓤 H 𝓣.C 𝓣.Λ here ((walk_of 𝓛 ended stayed held).args z) ((walk_of 𝓛 ended stayed held).post z))
     walk z =
-        let κ = z.0.0.0 in let κ₁ = z.0.0.1.0 in let κ₂ = z.0.0.1.1.0 in let q = z.0.1.0 in let q₁ = z.0.1.1.0 in let q₂ = z.0.1.1.1.0 in let args = z.0.3 in let vss = z.0.4 in
+        let κ = z.0.0.0 in let κ₁ = z.0.0.1.0 in let κ₂ = z.0.0.1.1.0 in let q = z.0.1.0 in
+        let q₁ = z.0.1.1.0 in let q₂ = z.0.1.1.1.0 in let args = z.0.3 in let vss = z.0.4 in
         let hp = args.0.ref_ptr in let a = args.0.now in let c = args.1.0 in let sz₀ = args.1.1.0 in let al = args.1.1.1.0 in
         let Post : Val → SProp 𝓤 = (walk_of 𝓛 ended stayed held).post z in
         let Asked : Type 0 = (sz₀ ≡ whole_size (R E) c) × (al ≡ whole_align (R E)) × (c * sz E < 2 ^ 63) in
-        qed 𝓛 (((‵ (flft κ q) ⊛ ‵ (flft κ₁ q₁) ⊛ ‵ (flft κ₂ q₂) ⊛ ‵ ftrue) ⊛ ‵ (owns (types_at ended.signature.params z.0.0) args vss)) ∷ (raw (fact 𝓤 (κ₁ ⊑ E.row.lives)) ⊛ raw (fact 𝓤 (κ₂ ⊑ Z.row.lives)) ⊛ raw (fact 𝓤 Asked)) ∷ []) ∵
+        qed 𝓛 (((‵ (flft κ q) ⊛ ‵ (flft κ₁ q₁) ⊛ ‵ (flft κ₂ q₂) ⊛ ‵ ftrue) ⊛ ‵ (owns (types_at ended.signature.params z.0.0) args vss))
+        ∷ (raw (fact 𝓤 (κ₁ ⊑ E.row.lives)) ⊛ raw (fact 𝓤 (κ₂ ⊑ Z.row.lives)) ⊛ raw (fact 𝓤 Asked)) ∷ []) ∵
         move ! (1 ∷ []) $ split ! $ drop ! $ split ! $ heard ! (κ₂ ⊑ Z.row.lives) (λ within. heard ! Asked (λ ok.
         let small : c * sz E < 2 ^ 63 = ok.2 in
-        split ! $ split ! $ move ! (2 ∷ []) $ fsplit ! $ fsplit ! $ feq_l ! (λ e₀. move ! (1 ∷ []) $ fsplit ! $ fsplit ! $ feq_l ! (λ e₁. flt_l ! (λ fits. fsplit ! $ fsplit ! $ feq_l ! (λ e₂. flt_l ! (λ fits₂.
+        split ! $ split ! $ move ! (2 ∷ []) $ fsplit ! $ fsplit ! $
+        feq_l ! (λ e₀. move ! (1 ∷ []) $ fsplit ! $ fsplit ! $ feq_l ! (λ e₁. flt_l ! (λ fits. fsplit ! $ fsplit ! $ feq_l ! (λ e₂. flt_l ! (λ fits₂.
         fsplit ! $ fsplit ! $ feq_l ! (λ e₃. flt_l ! (λ fits₃. keep ! (1 ∷ 2 ∷ 3 ∷ []) $
         let us : List Val = vptr hp.0 hp.1 ∷ vint w64 c ∷ vint w64 sz₀ ∷ vint w64 al ∷ [] in
         let Run : List Val → SProp 𝓤 = λ ws. WpFn 𝓤 H 𝓣.C 𝓣.Λ here ws Post in
         suffices ! (Run us) (subst (λ (ws : List Val). ent 𝓤 (Run us) (Run ws)) (sym (λ k. e₀ k ++ (e₁ k ++ (e₂ k ++ (e₃ k ++ []))))) (id⊢ 𝓤 (Run us))) $
-        enter ! 𝓣.C 𝓣.Λ here us Post $ alloc_all ! (λ l. pass_all ! refl ((tt, tt), ((tt, record { fits = fits }), ((tt, record { fits = fits₂ }), ((tt, record { fits = fits₃ }), tt)))) $
+        enter ! 𝓣.C 𝓣.Λ here us Post $
+        alloc_all ! (λ l. pass_all ! refl
+        ((tt, tt), ((tt, record { fits = fits }), ((tt, record { fits = fits₂ }), ((tt, record { fits = fits₃ }), tt)))) $
         let En : Env 𝓤 H = env here.locals l in let laid = has_layout E c sz₀ al ok.0 ok.1 fits₂ fits₃ in
         let both : Body = head (after 1 here.body) in
         let Then : After 𝓤 H = any_q (after_seq 𝓤 H (Wp 𝓤 H 𝓣.C 𝓣.Λ En (after 2 here.body) (at_return 𝓤 H En Post)) (at_return 𝓤 H En Post)) in
         let y : (Takes Z 𝓛 at_mem run).Ghost = at_takes Z 𝓛 at_mem run κ q hp a sz₀ al (whole_ty E c) in
-        use2 𝓛 (raw ((Takes Z 𝓛 at_mem run).pre y)) (Takes-goes Z 𝓛 at_mem run κ q hp a (Incl-trans z.0.2.0 within) sz₀ al (whole_ty E c) laid.0 laid.1 fits₂ fits₃) $
-        calls_at ! (fm_of 𝓤 H 𝓛.laws 𝓣) (Takes Z 𝓛 at_mem run) callee y (and_then ! (get ! refl) (and_then ! (get ! refl) (and_then ! (get ! refl) (no_more !)))) (λ v.
-        use1 𝓛 (later (raw (Answered Z 𝓛 at_mem run a (whole_ty E c) v) ⊛ ‵ (flft κ q))) (Takes-gives Z 𝓛 at_mem run κ q hp a sz₀ al (whole_ty E c) v) $ await ! tt $ split ! $
+        use2 𝓛 (raw ((Takes Z 𝓛 at_mem run).pre y))
+        (Takes-goes Z 𝓛 at_mem run κ q hp a (Incl-trans z.0.2.0 within) sz₀ al (whole_ty E c) laid.0 laid.1 fits₂ fits₃) $
+        calls_at ! (fm_of 𝓤 H 𝓛.laws 𝓣) (Takes Z 𝓛 at_mem run) callee y
+        (and_then ! (get ! refl) (and_then ! (get ! refl) (and_then ! (get ! refl) (no_more !)))) (λ v.
+        use1 𝓛 (later (raw (Answered Z 𝓛 at_mem run a (whole_ty E c) v) ⊛ ‵ (flft κ q)))
+        (Takes-gives Z 𝓛 at_mem run κ q hp a sz₀ al (whole_ty E c) v) $ await ! tt $ split ! $
         -- [the answer; the token; the other tokens]
         answers Z ! at_mem run a (whole_ty E c) v
         (λ b o e.
@@ -133,8 +157,10 @@ module _ (E : El) (Z : Al) where
         let held_typed : Good' (written E) (fields_val E begins 0 c) = (tt, ((tt, tt), (record { fits = lit< tt }, (record { fits = fits }, tt)))) in
         whole_out E b o c ! $ move ! (1 ∷ []) $ as_written ! (written E) b (o + 8) $
         -- [the fields; the count; the places; the way back; the right to give back; the token; the other tokens]
-        lands_as ! e refl (Answer-typed true b o) $ first ! $ switches_on ! (get_tag ! (vrt ! refl (fld ! refl (stop !))) (whole !)) $ exec ! 𝓣.C 𝓣.Λ En (arm_body 0 both) Then $
-        sets ! (of_opd ! (get_in ! (vrt ! refl (fld ! refl (stop !))) (in_variant ! 0 0 refl refl (whole !)))) refl (tt, tt) $ sets ! (of_opd ! (get ! refl)) refl (tt, tt) $
+        lands_as ! e refl (Answer-typed true b o) $ first ! $ switches_on ! (get_tag ! (vrt ! refl (fld ! refl (stop !))) (whole !)) $
+        exec ! 𝓣.C 𝓣.Λ En (arm_body 0 both) Then $
+        sets ! (of_opd ! (get_in ! (vrt ! refl (fld ! refl (stop !))) (in_variant ! 0 0 refl refl (whole !)))) refl (tt, tt) $
+        sets ! (of_opd ! (get ! refl)) refl (tt, tt) $
         first ! $ blocks ! $
         sets ! (is ! (bin ! (get ! refl) (lit ! tt) tt) (ap (vptr b) there)) refl (tt, tt) $ sets ! (of_opd ! (get ! refl)) refl (tt, tt) $
         sets ! (agg ! (and_then ! (get ! refl) (no_more !))) refl (word-Good [] begins) $
@@ -150,13 +176,23 @@ module _ (E : El) (Z : Al) where
         exec ! 𝓣.C 𝓣.Λ En (after 2 here.body) (at_ret En Post) $ sets ! (of_opd ! (get ! refl)) refl ok_typed $
         fields_made E ! begins 0 c b o (lit< tt) fits $ move ! (1 ∷ 0 ∷ 4 ∷ 3 ∷ []) $ title_made E Z ! (title_at a b o c) b o refl $ move ! (1 ∷ []) $
         all_fresh E b (o + 32) c ! $ room_made E ! (fresh E b (o + 32) c) b (o + 32) refl (fresh_small E b (o + 32) c small) $ top_made E ! p $
-        use3 𝓛 (‵ (Three.own_val (block a b o c) (made ∷ []))) (three_of 𝓛 (Tp E) (Rm E) (Tt E Z) (record { ptr = p }) (fresh E b (o + 32) c) (title_at a b o c) (word p) mark mark) $
+        use3 𝓛 (‵ (Three.own_val (block a b o c) (made ∷ [])))
+        (three_of 𝓛 (Tp E) (Rm E) (Tt E Z) (record { ptr = p }) (fresh E b (o + 32) c) (title_at a b o c) (word p) mark mark) $
         use1 𝓛 (‵ (Out.own_val (Ok (block a b o c)) (live 0 (vcons made vnil) ∷ []))) (ok_of 𝓛 Three AE.the_row (block a b o c) made) $
         returns ! (look_at ! 0 refl) $ free_all ! refl $
-        by ! (exits z (Ok (block a b o c)) (live 0 (vcons made vnil)) (record { within = tt; at = refl; alloc_same = refl }, record { at = refl; start = refl; capacity = refl }, refl, refl, refl, refl, refl)))
+        by ! (exits z (Ok (block a b o c)) (live 0 (vcons made vnil)) (
+          record { within = tt; at = refl; alloc_same = refl },
+          record { at = refl; start = refl; capacity = refl },
+          refl,
+          refl,
+          refl,
+          refl,
+          refl,
+        )))
         (λ e.
         let Refusal : RattleType = Struct (Declared.shape AE.the_type) in let none : Val = live 1 (vcons (vstruct vnil) vnil) in
-        lands_as ! e refl (Answer-typed false 0 0) $ first ! $ switches_on ! (get_tag ! (vrt ! refl (fld ! refl (stop !))) (whole !)) $ exec ! 𝓣.C 𝓣.Λ En (arm_body 1 both) Then $
+        lands_as ! e refl (Answer-typed false 0 0) $ first ! $ switches_on ! (get_tag ! (vrt ! refl (fld ! refl (stop !))) (whole !)) $
+        exec ! 𝓣.C 𝓣.Λ En (arm_body 1 both) Then $
         sets ! (of_opd ! (get_in ! (vrt ! refl (fld ! refl (stop !))) (in_variant ! 1 0 refl refl (whole !)))) refl (tt, tt) $
         sets_last ! (agg ! (and_then ! (lit ! tt) (and_then ! (get ! refl) (no_more !)))) refl (tt, (record { fits = lit< tt }, (tt, tt))) $
         exec ! 𝓣.C 𝓣.Λ En (after 2 here.body) (at_ret En Post) $ sets ! (of_opd ! (get ! refl)) refl (tt, (record { fits = lit< tt }, (tt, tt))) $
@@ -166,7 +202,16 @@ module _ (E : El) (Z : Al) where
 
     meets : Meets 𝓛 ended.signature (WpFn 𝓤 H 𝓣.C 𝓣.Λ here) (closing 𝓛 ended held)
     meets =
-        walk_Meets 𝓛 ended stayed (Goes-dropped 𝓛 3 (RefOf (0 ∷ []) tt (plain (λ _. P E Z)) (λ _. tt)) yes (λ κs x f. refl), (Goes-dropped 𝓛 3 (plain (λ _. usize)) yes (λ κs x f. refl), (Goes-dropped 𝓛 3 (plain (λ _. usize)) yes (λ κs x f. refl), (Goes-dropped 𝓛 3 (plain (λ _. usize)) yes (λ κs x f. refl), tt)))) held
+        walk_Meets 𝓛 ended stayed (
+          Goes-dropped 𝓛 3 (RefOf (0 ∷ []) tt (plain (λ _. P E Z)) (λ _. tt)) yes (λ κs x f. refl),
+          (
+            Goes-dropped 𝓛 3 (plain (λ _. usize)) yes (λ κs x f. refl),
+            (
+              Goes-dropped 𝓛 3 (plain (λ _. usize)) yes (λ κs x f. refl),
+              (Goes-dropped 𝓛 3 (plain (λ _. usize)) yes (λ κs x f. refl), tt),
+            ),
+          ),
+        ) held
         (WpFn 𝓤 H 𝓣.C 𝓣.Λ here) (WpFn-mono 𝓤 H 𝓛.laws 𝓣 here) walk
 
 pub make_head_spec : {M : Type 1} → statement M
@@ -174,5 +219,6 @@ unfolding tables_of
 make_head_spec 𝓤 𝓛 𝓜 𝓡 wired X Y LX LY g d dd met md =
     let E : El = record { row = X; laws = LX } in let Z : Al = record { row = Y; laws = LY; g = g; d = d; drops = dd } in
     let 𝓣 : Tables 𝓤 𝓛.H = tables_of 𝓤 𝓛.H 𝓜 (tables 𝓤 𝓛.H 𝓜 𝓡 𝓡.env) in
-    entered 𝓤 𝓛.H (triple_of 𝓛 (ended E Z).signature (F.spec X Y g d dd 𝓛 𝓜.mem 𝓡.returns)) 𝓣.C 𝓣.Λ (#self (args E Z)) (here E Z) (code.unfolded 𝓤 𝓛.H 𝓜 𝓡 wired (X, (Y, tt)) d dd)
+    entered 𝓤 𝓛.H (triple_of 𝓛 (ended E Z).signature (F.spec X Y g d dd 𝓛 𝓜.mem 𝓡.returns)) 𝓣.C 𝓣.Λ
+    (#self (args E Z)) (here E Z) (code.unfolded 𝓤 𝓛.H 𝓜 𝓡 wired (X, (Y, tt)) d dd)
     (meets E Z 𝓛 𝓜.mem 𝓡.returns 𝓣 (met.allocate dd))

@@ -57,7 +57,16 @@ module _ (E : El) (Z : Al) where
 
   -- its fields stand for nothing
   abbrev none : Z.row.Denot → (Bs E).Denot → Two.Denot
-  none a base = (record { ptr = null_ptr }, record { mark = record {}; at = null_ptr; fields = record { base = base; len = 0; capacity = 0 }; places = 0; alloc = a })
+  none a base = (
+    record { ptr = null_ptr },
+    record {
+      mark = record {};
+      at = null_ptr;
+      fields = record { base = base; len = 0; capacity = 0 };
+      places = 0;
+      alloc = a;
+    },
+  )
 
   module _ {M : Type 1} {𝓤 : Ura M} (𝓛 : Logic 𝓤) (at_mem : Memory → SProp 𝓤) (run : Routine → Fun 𝓤) (𝓣 : Tables 𝓤 𝓛.H) where
     open 𝓛 use {H}
@@ -65,13 +74,18 @@ module _ (E : El) (Z : Al) where
     abbrev held : Clauses 𝓤 ended
     held = F.clauses E.row Z.row Z.g Z.d Z.drops 𝓛 at_mem run
 
-    walk : (z : (walk_of 𝓛 ended stayed held).Ghost) → ent 𝓤 ((walk_of 𝓛 ended stayed held).pre z) (WpFn 𝓤 H 𝓣.C 𝓣.Λ here ((walk_of 𝓛 ended stayed held).args z) ((walk_of 𝓛 ended stayed held).post z))
+    walk : (z : (walk_of 𝓛 ended stayed held).Ghost)
+        → ent 𝓤 ((walk_of 𝓛 ended stayed held).pre z)
+        (WpFn 𝓤 H 𝓣.C 𝓣.Λ here ((walk_of 𝓛 ended stayed held).args z) ((walk_of 𝓛 ended stayed held).post z))
     walk z =
-        let κ = z.0.0.0 in let κ₁ = z.0.0.1.0 in let κ₂ = z.0.0.1.1.0 in let q = z.0.1.0 in let q₁ = z.0.1.1.0 in let q₂ = z.0.1.1.1.0 in let args = z.0.3 in let vss = z.0.4 in
+        let κ = z.0.0.0 in let κ₁ = z.0.0.1.0 in let κ₂ = z.0.0.1.1.0 in let q = z.0.1.0 in
+        let q₁ = z.0.1.1.0 in let q₂ = z.0.1.1.1.0 in let args = z.0.3 in let vss = z.0.4 in
         let hp = args.0.ref_ptr in let a = args.0.now in let base = args.1.0 in let made : Val = pair_val (word null_ptr) mark in
         let Post : Val → SProp 𝓤 = (walk_of 𝓛 ended stayed held).post z in
-        qed 𝓛 (((‵ (flft κ q) ⊛ ‵ (flft κ₁ q₁) ⊛ ‵ (flft κ₂ q₂) ⊛ ‵ ftrue) ⊛ ‵ (owns (types_at ended.signature.params z.0.0) args vss)) ∷ raw ((held z.0.0 args).requires z.1) ∷ []) ∵
-        move ! (1 ∷ []) $ drop ! $ split ! $ split ! $ move ! (2 ∷ []) $ fsplit ! $ fsplit ! $ feq_l ! (λ e₀. move ! (1 ∷ []) $ fsplit ! $ base_had E ! base vss.1.0 (λ e₁. keep ! (2 ∷ 3 ∷ []) $
+        qed 𝓛 (((‵ (flft κ q) ⊛ ‵ (flft κ₁ q₁) ⊛ ‵ (flft κ₂ q₂) ⊛ ‵ ftrue) ⊛ ‵ (owns (types_at ended.signature.params z.0.0) args vss))
+        ∷ raw ((held z.0.0 args).requires z.1) ∷ []) ∵
+        move ! (1 ∷ []) $ drop ! $ split ! $ split ! $ move ! (2 ∷ []) $ fsplit ! $ fsplit ! $
+        feq_l ! (λ e₀. move ! (1 ∷ []) $ fsplit ! $ base_had E ! base vss.1.0 (λ e₁. keep ! (2 ∷ 3 ∷ []) $
         let us : List Val = vptr hp.0 hp.1 ∷ word base.ptr ∷ [] in
         let Run : List Val → SProp 𝓤 = λ ws. WpFn 𝓤 H 𝓣.C 𝓣.Λ here ws Post in
         suffices ! (Run us) (subst (λ (ws : List Val). ent 𝓤 (Run us) (Run ws)) (sym (λ k. e₀ k ++ (e₁ k ++ []))) (id⊢ 𝓤 (Run us))) $
@@ -88,7 +102,11 @@ module _ (E : El) (Z : Al) where
 
     meets : Meets 𝓛 ended.signature (WpFn 𝓤 H 𝓣.C 𝓣.Λ here) (closing 𝓛 ended held)
     meets =
-        walk_Meets 𝓛 ended stayed (Goes-dropped 𝓛 3 (RefOf (0 ∷ []) tt (plain (λ _. P E Z)) (λ _. tt)) yes (λ κs x f. refl), (Goes-dropped 𝓛 3 (plain (λ _. Bs E)) no (λ κs x f. refl), tt)) held
+        walk_Meets 𝓛 ended stayed (
+          Goes-dropped 𝓛 3 (RefOf (0 ∷ []) tt (plain (λ _. P E Z)) (λ _. tt)) yes
+              (λ κs x f. refl),
+          (Goes-dropped 𝓛 3 (plain (λ _. Bs E)) no (λ κs x f. refl), tt),
+        ) held
         (WpFn 𝓤 H 𝓣.C 𝓣.Λ here) (WpFn-mono 𝓤 H 𝓛.laws 𝓣 here) walk
 
 pub no_head_spec : {M : Type 1} → statement M
@@ -96,5 +114,6 @@ unfolding tables_of
 no_head_spec 𝓤 𝓛 𝓜 𝓡 wired X Y LX LY g d dd met md =
     let E : El = record { row = X; laws = LX } in let Z : Al = record { row = Y; laws = LY; g = g; d = d; drops = dd } in
     let 𝓣 : Tables 𝓤 𝓛.H = tables_of 𝓤 𝓛.H 𝓜 (tables 𝓤 𝓛.H 𝓜 𝓡 𝓡.env) in
-    entered 𝓤 𝓛.H (triple_of 𝓛 (ended E Z).signature (F.spec X Y g d dd 𝓛 𝓜.mem 𝓡.returns)) 𝓣.C 𝓣.Λ (#self (args E Z)) (here E Z) (code.unfolded 𝓤 𝓛.H 𝓜 𝓡 wired (X, (Y, tt)) d dd)
+    entered 𝓤 𝓛.H (triple_of 𝓛 (ended E Z).signature (F.spec X Y g d dd 𝓛 𝓜.mem 𝓡.returns)) 𝓣.C 𝓣.Λ
+    (#self (args E Z)) (here E Z) (code.unfolded 𝓤 𝓛.H 𝓜 𝓡 wired (X, (Y, tt)) d dd)
     (meets E Z 𝓛 𝓜.mem 𝓡.returns 𝓣)

@@ -67,13 +67,16 @@ module _ (E : El) where
     abbrev held : Clauses 𝓤 ended
     held = F.clauses E.row 𝓛 at_mem run
 
-    walk : (z : (walk_of 𝓛 ended stayed held).Ghost) → ent 𝓤 ((walk_of 𝓛 ended stayed held).pre z) (WpFn 𝓤 H 𝓣.C 𝓣.Λ here ((walk_of 𝓛 ended stayed held).args z) ((walk_of 𝓛 ended stayed held).post z))
+    walk : (z : (walk_of 𝓛 ended stayed held).Ghost)
+        → ent 𝓤 ((walk_of 𝓛 ended stayed held).pre z)
+        (WpFn 𝓤 H 𝓣.C 𝓣.Λ here ((walk_of 𝓛 ended stayed held).args z) ((walk_of 𝓛 ended stayed held).post z))
     walk z =
         let κ = z.0.0.0 in let q = z.0.1.0 in let a = z.0.3 in let vss = z.0.4 in let d : Title.Denot = a.0 in
         let Post : Val → SProp 𝓤 = (walk_of 𝓛 ended stayed held).post z in
         qed 𝓛 (((‵ (flft κ q) ⊛ ‵ ftrue) ⊛ ‵ (owns (types_at ended.signature.params z.0.0) a vss)) ∷ raw ((held z.0.0 a).requires z.1) ∷ []) ∵
         move ! (1 ∷ []) $ drop ! $ split ! $ move ! (1 ∷ []) $ fsplit ! $ move ! (1 ∷ []) $ drop ! $
-        use1 𝓛 (given (Testable d.at) (‵ (Title.own_val d vss.0))) (fact_use 𝓤 (Testable d.at) (low 𝓛 d vss.0) (guard_i 𝓤 (Testable d.at) (sem 𝓛 (Title.own_val d vss.0)))) $ learn ! (λ testable.
+        use1 𝓛 (given (Testable d.at) (‵ (Title.own_val d vss.0)))
+        (fact_use 𝓤 (Testable d.at) (low 𝓛 d vss.0) (guard_i 𝓤 (Testable d.at) (sem 𝓛 (Title.own_val d vss.0)))) $ learn ! (λ testable.
         fsplit ! $ mark_had E ! vss.0 (λ e₀.
         let us : List Val = mark ∷ [] in
         let Run : List Val → SProp 𝓤 = λ ws. WpFn 𝓤 H 𝓣.C 𝓣.Λ here ws Post in

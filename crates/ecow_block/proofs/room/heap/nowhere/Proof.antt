@@ -70,37 +70,50 @@ module _ (E : El) (Z : Al) where
     abbrev held : Clauses 𝓤 ended
     held = F.clauses E.row Z.row Z.g Z.d Z.drops 𝓛 at_mem run
 
-    walk : (z : (walk_of 𝓛 ended stayed held).Ghost) → ent 𝓤 ((walk_of 𝓛 ended stayed held).pre z) (WpFn 𝓤 H 𝓣.C 𝓣.Λ here ((walk_of 𝓛 ended stayed held).args z) ((walk_of 𝓛 ended stayed held).post z))
+    walk : (z : (walk_of 𝓛 ended stayed held).Ghost)
+        → ent 𝓤 ((walk_of 𝓛 ended stayed held).pre z)
+        (WpFn 𝓤 H 𝓣.C 𝓣.Λ here ((walk_of 𝓛 ended stayed held).args z) ((walk_of 𝓛 ended stayed held).post z))
     walk z =
-        let κ = z.0.0.0 in let κ₁ = z.0.0.1.0 in let κ₂ = z.0.0.1.1.0 in let q = z.0.1.0 in let q₁ = z.0.1.1.0 in let q₂ = z.0.1.1.1.0 in let args = z.0.3 in let vss = z.0.4 in
+        let κ = z.0.0.0 in let κ₁ = z.0.0.1.0 in let κ₂ = z.0.0.1.1.0 in let q = z.0.1.0 in
+        let q₁ = z.0.1.1.0 in let q₂ = z.0.1.1.1.0 in let args = z.0.3 in let vss = z.0.4 in
         let hp = args.0.ref_ptr in let a = args.0.now in let c = args.1.0 in let s = sz E in
         let Post : Val → SProp 𝓤 = (walk_of 𝓛 ended stayed held).post z in
         let Asked : Type 0 = FitsInBlock (R E) c × (has_bytes (R E) c ≡ false) in
-        qed 𝓛 (((‵ (flft κ q) ⊛ ‵ (flft κ₁ q₁) ⊛ ‵ (flft κ₂ q₂) ⊛ ‵ ftrue) ⊛ ‵ (owns (types_at ended.signature.params z.0.0) args vss)) ∷ (raw (fact 𝓤 (κ₁ ⊑ E.row.lives)) ⊛ raw (fact 𝓤 (κ₂ ⊑ Z.row.lives)) ⊛ raw (fact 𝓤 Asked)) ∷ []) ∵
+        qed 𝓛 (((‵ (flft κ q) ⊛ ‵ (flft κ₁ q₁) ⊛ ‵ (flft κ₂ q₂) ⊛ ‵ ftrue) ⊛ ‵ (owns (types_at ended.signature.params z.0.0) args vss))
+        ∷ (raw (fact 𝓤 (κ₁ ⊑ E.row.lives)) ⊛ raw (fact 𝓤 (κ₂ ⊑ Z.row.lives)) ⊛ raw (fact 𝓤 Asked)) ∷ []) ∵
         move ! (1 ∷ []) $ split ! $ drop ! $ split ! $ drop ! $ heard ! Asked (λ ok.
         let small : c * s < 2 ^ 63 = ok.0.0 in
-        split ! $ split ! $ move ! (2 ∷ []) $ fsplit ! $ fsplit ! $ feq_l ! (λ e₀. move ! (1 ∷ []) $ fsplit ! $ fsplit ! $ feq_l ! (λ e₁. flt_l ! (λ fits. keep ! (2 ∷ 3 ∷ []) $
+        split ! $ split ! $ move ! (2 ∷ []) $ fsplit ! $ fsplit ! $
+        feq_l ! (λ e₀. move ! (1 ∷ []) $ fsplit ! $ fsplit ! $ feq_l ! (λ e₁. flt_l ! (λ fits. keep ! (2 ∷ 3 ∷ []) $
         let us : List Val = vptr hp.0 hp.1 ∷ vint w64 c ∷ [] in
         let Run : List Val → SProp 𝓤 = λ ws. WpFn 𝓤 H 𝓣.C 𝓣.Λ here ws Post in
         suffices ! (Run us) (subst (λ (ws : List Val). ent 𝓤 (Run us) (Run ws)) (sym (λ k. e₀ k ++ (e₁ k ++ []))) (id⊢ 𝓤 (Run us))) $
         enter ! 𝓣.C 𝓣.Λ here us Post $ alloc_all ! (λ l. pass_all ! refl ((tt, tt), ((tt, record { fits = fits }), tt)) $
         let b = l 3 in let p : Ptr = block_ptr b 0 in let made : Val = three_val (word p) mark mark in let Mine = fresh E b 0 c in
-        sets ! (agg ! (no_more !)) refl (tt, tt) $ sets ! (addr ! (from ! (stop !))) refl (tt, tt) $ sets ! (agg ! (and_then ! (get ! refl) (no_more !))) refl (word-Good [] p) $
+        sets ! (agg ! (no_more !)) refl (tt, tt) $ sets ! (addr ! (from ! (stop !))) refl (tt, tt) $
+        sets ! (agg ! (and_then ! (get ! refl) (no_more !))) refl (word-Good [] p) $
         sets ! (agg ! (no_more !)) refl (tt, tt) $ sets ! (agg ! (and_then ! (get ! refl) (no_more !))) refl (tt, (tt, tt)) $
         sets ! (agg ! (no_more !)) refl (tt, tt) $ sets ! (agg ! (and_then ! (get ! refl) (no_more !))) refl (tt, (tt, tt)) $
-        sets ! (agg ! (and_then ! (get ! refl) (and_then ! (get ! refl) (and_then ! (get ! refl) (no_more !))))) refl (tt, ((tt, tt), ((tt, tt), ((tt, tt), tt)))) $
+        sets ! (agg ! (and_then ! (get ! refl) (and_then ! (get ! refl) (and_then ! (get ! refl) (no_more !))))) refl
+        (tt, ((tt, tt), ((tt, tt), ((tt, tt), tt)))) $
         returns ! (look_at ! 0 refl) $ free_all ! refl $
         -- [the token; the other tokens]
         nothing ! $ rewrite ! 0 (λ (w : Bool). ‵ (owns_if w (token Z a (block_ty E c) p))) (sym ok.1) refl $ deed_made E Z ! (deed_at a b 0 c) $
-        use0 𝓛 (‵ (Spare E b 0 c)) (no_bytes_room E 𝓛 b 0 c (no_bytes (c * s) ok.1)) $ all_fresh E b 0 c ! $ room_made E ! Mine b 0 refl (fresh_small E b 0 c small) $ base_made E ! p $
-        use3 𝓛 (‵ (Three.own_val (block a b 0 c) (made ∷ []))) (three_of 𝓛 (Bs E) (Rm E) (Dd E Z) (record { ptr = p }) Mine (deed_at a b 0 c) (word p) mark mark) $
+        use0 𝓛 (‵ (Spare E b 0 c)) (no_bytes_room E 𝓛 b 0 c (no_bytes (c * s) ok.1)) $ all_fresh E b 0 c ! $
+        room_made E ! Mine b 0 refl (fresh_small E b 0 c small) $ base_made E ! p $
+        use3 𝓛 (‵ (Three.own_val (block a b 0 c) (made ∷ [])))
+        (three_of 𝓛 (Bs E) (Rm E) (Dd E Z) (record { ptr = p }) Mine (deed_at a b 0 c) (word p) mark mark) $
         suffices ! _ (ends_at 𝓛 ended stayed held z made (block a b 0 c) (tt, (tt, tt)) (tt, (tt, tt))) $
         says ! (record { at = refl; start = refl; deed_at = refl; deed_capacity = refl; deed_alloc = refl }, refl, refl) $
         move ! (1 ∷ 2 ∷ []) $ join ! $ nothing ! $ nothing ! $ fjoin ! $ nothing ! $ fjoin ! $ keep ! (1 ∷ 0 ∷ 2 ∷ []) $ done !)))))
 
     meets : Meets 𝓛 ended.signature (WpFn 𝓤 H 𝓣.C 𝓣.Λ here) (closing 𝓛 ended held)
     meets =
-        walk_Meets 𝓛 ended stayed (Goes-dropped 𝓛 3 (RefOf (0 ∷ []) tt (plain (λ _. P E Z)) (λ _. tt)) yes (λ κs x f. refl), (Goes-dropped 𝓛 3 (plain (λ _. usize)) yes (λ κs x f. refl), tt)) held
+        walk_Meets 𝓛 ended stayed (
+          Goes-dropped 𝓛 3 (RefOf (0 ∷ []) tt (plain (λ _. P E Z)) (λ _. tt)) yes
+              (λ κs x f. refl),
+          (Goes-dropped 𝓛 3 (plain (λ _. usize)) yes (λ κs x f. refl), tt),
+        ) held
         (WpFn 𝓤 H 𝓣.C 𝓣.Λ here) (WpFn-mono 𝓤 H 𝓛.laws 𝓣 here) walk
 
 pub nowhere_spec : {M : Type 1} → statement M
@@ -108,5 +121,6 @@ unfolding tables_of
 nowhere_spec 𝓤 𝓛 𝓜 𝓡 wired X Y LX LY g d dd met md =
     let E : El = record { row = X; laws = LX } in let Z : Al = record { row = Y; laws = LY; g = g; d = d; drops = dd } in
     let 𝓣 : Tables 𝓤 𝓛.H = tables_of 𝓤 𝓛.H 𝓜 (tables 𝓤 𝓛.H 𝓜 𝓡 𝓡.env) in
-    entered 𝓤 𝓛.H (triple_of 𝓛 (ended E Z).signature (F.spec X Y g d dd 𝓛 𝓜.mem 𝓡.returns)) 𝓣.C 𝓣.Λ (#self (args E Z)) (here E Z) (code.unfolded 𝓤 𝓛.H 𝓜 𝓡 wired (X, (Y, tt)) d dd)
+    entered 𝓤 𝓛.H (triple_of 𝓛 (ended E Z).signature (F.spec X Y g d dd 𝓛 𝓜.mem 𝓡.returns)) 𝓣.C 𝓣.Λ
+    (#self (args E Z)) (here E Z) (code.unfolded 𝓤 𝓛.H 𝓜 𝓡 wired (X, (Y, tt)) d dd)
     (meets E Z 𝓛 𝓜.mem 𝓡.returns 𝓣)

@@ -57,15 +57,18 @@ module _ (X : RattleType) where
     abbrev clauses : Clauses 𝓤 (F.ended X)
     clauses = F.clauses X 𝓛 at_mem run
 
-    walk : (κ : Lft) (q : Share) → ent 𝓤 (on_entry 𝓛 (F.signature X) (κ, tt) (q, tt) tt tt) (WpFn 𝓤 H 𝓣.C 𝓣.Λ function [] ((walk_of 𝓛 (F.ended X) tt clauses).post (((κ, tt), (q, tt), tt, tt, tt), tt)))
+    walk : (κ : Lft) (q : Share) → ent 𝓤 (on_entry 𝓛 (F.signature X) (κ, tt) (q, tt) tt tt)
+        (WpFn 𝓤 H 𝓣.C 𝓣.Λ function [] ((walk_of 𝓛 (F.ended X) tt clauses).post (((κ, tt), (q, tt), tt, tt, tt), tt)))
     walk κ q =
         let a : ℕ = align (layout X) in let s : ℕ = capped a in let le : a ≤ 16 = below (layout X) in let is : s ≡ a = capped_is a (omega (arith, le)) in
         qed 𝓛 ((‵ (flft κ q) ⊛ ‵ ftrue) ∷ ‵ ftrue ∷ []) ∵ enter ! 𝓣.C 𝓣.Λ function [] _ $
         alloc_all ! (λ l. pass_all ! refl tt $
         sets ! (of_opd ! (align_word !)) refl (tt, record { fits = capped_fits (align (layout X)) }) $
         returns ! (look_at ! 0 refl) $ free_all ! refl $
-        suffices ! _ (ends_at 𝓛 (F.ended X) tt clauses (((κ, tt), (q, tt), tt, tt, tt), tt) (vint w64 s) s tt tt) $ says ! (is, subst (λ (k : ℕ). 0 < k) (sym is) (align_pos (layout X)), subst (λ (k : ℕ). k ≤ 16) (sym is) le) $
-        flt_i ! s (2 ^ 64) (capped_fits (align (layout X))) $ feq_i ! (List Val) (vint w64 s ∷ []) (vint w64 s ∷ []) refl $ fjoin ! $ nothing ! $ join ! $ move ! (1 ∷ 0 ∷ []) $ join ! $ keep ! (0 ∷ []) $ done !)
+        suffices ! _ (ends_at 𝓛 (F.ended X) tt clauses (((κ, tt), (q, tt), tt, tt, tt), tt) (vint w64 s) s tt tt) $
+        says ! (is, subst (λ (k : ℕ). 0 < k) (sym is) (align_pos (layout X)), subst (λ (k : ℕ). k ≤ 16) (sym is) le) $
+        flt_i ! s (2 ^ 64) (capped_fits (align (layout X))) $ feq_i ! (List Val) (vint w64 s ∷ []) (vint w64 s ∷ []) refl $
+        fjoin ! $ nothing ! $ join ! $ move ! (1 ∷ 0 ∷ []) $ join ! $ keep ! (0 ∷ []) $ done !)
 
     meets : Meets 𝓛 (F.signature X) (WpFn 𝓤 H 𝓣.C 𝓣.Λ function) (closing 𝓛 (F.ended X) clauses)
     meets =

@@ -7,5 +7,7 @@ pub returns-in_err-extend-clause-refused : goal.returns-in_err-extend-clause-ref
 returns-in_err-extend-clause-refused g c =
     let given = c.in_err-extend.ensures in
     let len : length given.refused.0 ≡ length c.extend.new.self.bytes + 1 = search rules in
-    let past : g.row.N < length c.extend.new.self.bytes + 1 = past_by_one g.row.N c.new-target.result.inline c.extend.new.self.inline (length c.extend.new.self.bytes) c.new-target.ensures.mode given.mode given.free in
+    let past : g.row.N < length c.extend.new.self.bytes + 1 =
+    past_by_one g.row.N c.new-target.result.inline c.extend.new.self.inline
+    (length c.extend.new.self.bytes) c.new-target.ensures.mode given.mode given.free in
     on_err c.from_residual.result (given.refused.0, given.refused.1, omega arith, ((λ is. search rules), (λ more. search rules)))

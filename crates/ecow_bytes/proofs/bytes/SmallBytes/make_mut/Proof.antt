@@ -143,18 +143,23 @@ module _ (n : ℕ) where
       Facts y r = IfOk r (λ s. s.now ≡ y.bytes) × (IfErr r (λ e. e ≡ NoMemory) × (OnErr r (y.inline ≡ false) × (y.bytes ≡ [] → IsOk r)))
 
       exits : (x : MutBor (Form n)) → plain_of x.now ≡ d → (r : Answer) (v : Val) → Facts d r
-          → ent 𝓤 (sep 𝓤 (sem 𝓛 ((result_row Items error_row).own_val r (v ∷ []))) (sep 𝓤 (A.lft κ q) (sep 𝓤 (A.lft κN qN) (sep 𝓤 (sem 𝓛 (follows B P γ x.ghost_name plain_of))
+          → ent 𝓤 (sep 𝓤 (sem 𝓛 ((result_row Items error_row).own_val r (v ∷ [])))
+          (sep 𝓤 (A.lft κ q) (sep 𝓤 (A.lft κN qN) (sep 𝓤 (sem 𝓛 (follows B P γ x.ghost_name plain_of))
           (sem 𝓛 (follows_so P (Array u8 0) x.ghost_name (name_given (plain_of x.now).inline r) (FormIs x.now r) (FormStays x.now r))))))) (Ends v)
       exits x same r v facts =
           let len : length (plain_of x.now).bytes ≡ length d.bytes = ap (λ (y : PlainBytes). length y.bytes) same in
-          qed 𝓛 (‵ ((result_row Items error_row).own_val r (v ∷ [])) ∷ ‵ (flft κ q) ∷ ‵ (flft κN qN) ∷ ‵ (follows B P γ x.ghost_name plain_of) ∷ ‵ (follows_so P (Array u8 0) x.ghost_name (name_given (plain_of x.now).inline r) (FormIs x.now r) (FormStays x.now r)) ∷ []) ∵
+          qed 𝓛 (‵ ((result_row Items error_row).own_val r (v ∷ [])) ∷ ‵ (flft κ q) ∷ ‵ (flft κN qN)
+          ∷ ‵ (follows B P γ x.ghost_name plain_of)
+          ∷ ‵ (follows_so P (Array u8 0) x.ghost_name (name_given (plain_of x.now).inline r) (FormIs x.now r) (FormStays x.now r)) ∷ []) ∵
           move ! (3 ∷ 4 ∷ []) $ use2 𝓛 (‵ (follows_so B (Array u8 0) γ (name_given (plain_of x.now).inline r) (BytesAre r) (BytesStay r)))
-          (then_so 𝓛 B P (Array u8 0) γ x.ghost_name (name_given (plain_of x.now).inline r) plain_of (FormIs x.now r) (FormStays x.now r) (BytesAre r) (BytesStay r)
+          (then_so 𝓛 B P (Array u8 0) γ x.ghost_name (name_given (plain_of x.now).inline r) plain_of
+          (FormIs x.now r) (FormStays x.now r) (BytesAre r) (BytesStay r)
           (λ w m is ok long. ap plain_of (is ok (long ∙ sym len)) ∙ plain_with x.now w (long ∙ sym len) ∙ ap (λ (y : PlainBytes). plain_bytes w y.inline) same)
           (λ m. stays r m x.now same)) $
           rewrite ! 0 (λ (y : PlainBytes). ‵ (follows_so B (Array u8 0) γ (name_given y.inline r) (BytesAre r) (BytesStay r))) same refl $
           suffices ! _ (ends_at 𝓛 ended stayed held bound v r (tt, tt) (tt, tt)) $
-          nothing ! $ nothing ! $ fjoin ! $ move ! (0 ∷ 2 ∷ []) $ join ! $ nothing ! $ move ! (4 ∷ 0 ∷ []) $ join ! $ move ! (3 ∷ 0 ∷ []) $ join ! $ join ! $ frame ! $
+          nothing ! $ nothing ! $ fjoin ! $ move ! (0 ∷ 2 ∷ []) $ join ! $ nothing ! $
+          move ! (4 ∷ 0 ∷ []) $ join ! $ move ! (3 ∷ 0 ∷ []) $ join ! $ join ! $ frame ! $
           use0 𝓛 (raw (fact 𝓤 (d.bytes ≡ [] → IsOk r))) (fact_i 𝓤 (d.bytes ≡ [] → IsOk r) (emp 𝓤) facts.1.1.1) $
           use0 𝓛 (raw (fact 𝓤 (OnErr r (d.inline ≡ false)))) (fact_i 𝓤 (OnErr r (d.inline ≡ false)) (emp 𝓤) facts.1.1.0) $
           use0 𝓛 (raw (fact 𝓤 (IfErr r (λ e. e ≡ NoMemory)))) (fact_i 𝓤 (IfErr r (λ e. e ≡ NoMemory)) (emp 𝓤) facts.1.0) $
@@ -162,37 +167,50 @@ module _ (n : ℕ) where
           move ! (4 ∷ 0 ∷ 1 ∷ 2 ∷ 3 ∷ []) $ done !
 
       module _ (𝓣 : Tables 𝓤 H) (whole : Triple 𝓤 (𝓣.C (#whole args)) Whole) (formed : Triple 𝓤 (𝓣.C (#form args)) Formed) where
-        walk : ent 𝓤 (sep 𝓤 (on_entry 𝓛 ended.signature (κ, (κN, tt)) (q, (qN, tt)) (self, tt) (mut_vals self, tt)) ((held (κ, (κN, tt)) (self, tt)).requires tt)) (WpFn 𝓤 H 𝓣.C 𝓣.Λ function (vptr b o ∷ []) Ends)
+        walk : ent 𝓤 (sep 𝓤 (on_entry 𝓛 ended.signature (κ, (κN, tt)) (q, (qN, tt)) (self, tt) (mut_vals self, tt))
+            ((held (κ, (κN, tt)) (self, tt)).requires tt)) (WpFn 𝓤 H 𝓣.C 𝓣.Λ function (vptr b o ∷ []) Ends)
         walk =
             let z : Whole.Ghost = (((κ, (κN, tt)), (q, (qN, tt)), bd, (self, tt), (mut_vals self, tt)), tt) in
-            qed 𝓛 (raw (on_entry 𝓛 ended.signature (κ, (κN, tt)) (q, (qN, tt)) (self, tt) (mut_vals self, tt)) ∷ raw (fact 𝓤 (κN ⊑ [])) ∷ raw (fact 𝓤 (size (layout B) < 2 ^ 63)) ∷ ‵ ftrue ∷ []) ∵
+            qed 𝓛 (raw (on_entry 𝓛 ended.signature (κ, (κN, tt)) (q, (qN, tt)) (self, tt) (mut_vals self, tt))
+            ∷ raw (fact 𝓤 (κN ⊑ [])) ∷ raw (fact 𝓤 (size (layout B) < 2 ^ 63)) ∷ ‵ ftrue ∷ []) ∵
             move ! (1 ∷ []) $ heard ! _ (λ within. move ! (1 ∷ []) $ heard ! _ (λ small.
-            use0 𝓛 (raw (fact 𝓤 (size (layout P) < 2 ^ 63))) (fact_i 𝓤 (size (layout P) < 2 ^ 63) (emp 𝓤) (form_small small)) $ use0 𝓛 (raw (fact 𝓤 (size (layout B) < 2 ^ 63))) (fact_i 𝓤 (size (layout B) < 2 ^ 63) (emp 𝓤) small) $ use0 𝓛 (raw (fact 𝓤 (κN ⊑ []))) (fact_i 𝓤 (κN ⊑ []) (emp 𝓤) within) $
+            use0 𝓛 (raw (fact 𝓤 (size (layout P) < 2 ^ 63))) (fact_i 𝓤 (size (layout P) < 2 ^ 63) (emp 𝓤) (form_small small)) $
+            use0 𝓛 (raw (fact 𝓤 (size (layout B) < 2 ^ 63))) (fact_i 𝓤 (size (layout B) < 2 ^ 63) (emp 𝓤) small) $
+            use0 𝓛 (raw (fact 𝓤 (κN ⊑ []))) (fact_i 𝓤 (κN ⊑ []) (emp 𝓤) within) $
             move ! (3 ∷ 0 ∷ 1 ∷ 2 ∷ 4 ∷ []) $ group ! 5 $ use1 𝓛 (raw (Whole.pre z)) (id⊢ 𝓤 _) $
             enter ! _ _ _ _ _ $ alloc_all ! (λ l. pass_all ! refl ((tt, tt), tt) $
             sets ! (addr ! (through ! refl (stop !))) refl (tt, tt) $
             calls_at ! (fm_of 𝓤 H 𝓛.laws 𝓣) Whole whole z (and_then ! (get ! refl) (no_more !)) (λ v.
             use1 𝓛 (later (some' (λ (x : MutBor (Form n)). ((‵ (flft κ q) ⊛ ‵ (flft κN qN) ⊛ ‵ ftrue) ⊛ ‵ ((MutRef (named 0) κ P).own_val x (v ∷ []))) ⊛
-            some' (λ (ws : Unit {0} × Unit {0}). ‵ (lasts (W.ended (number n)) z.0.0 z.0.3 ws) ⊛ ‵ (follows B P γ x.ghost_name plain_of) ⊛ raw (fact 𝓤 (plain_of x.now ≡ d)))))) (id⊢ 𝓤 _) $
+            some' (λ (ws : Unit {0} × Unit {0}). ‵ (lasts (W.ended (number n)) z.0.0 z.0.3 ws)
+            ⊛ ‵ (follows B P γ x.ghost_name plain_of) ⊛ raw (fact 𝓤 (plain_of x.now ≡ d)))))) (id⊢ 𝓤 _) $
             await ! tt $ pick ! (λ x. split ! $ split ! $ split3 ! $ move ! (4 ∷ []) $ pick ! (λ ws. split3 ! $ drop ! $ move ! (1 ∷ []) $ heard ! _ (λ same.
             -- [the clause of `form_mut`; both tokens; nothing; the form's reference]
             move ! (4 ∷ []) $ fsplit3 ! $ feq_l ! (λ e. lands_as ! (ap only e) refl (tt, tt) $
             let p : Val = vptr x.ref_ptr.0 x.ref_ptr.1 in
             let z' : Formed.Ghost = (((κ, (κN, tt)), (q, (qN, tt)), bd, (x, tt), (mut_vals x, tt)), tt) in
-            feq_i ! (List Val) (p ∷ []) (p ∷ []) refl $ fjoin3 ! $ nothing ! $ move ! (1 ∷ 0 ∷ []) $ fjoin ! $ move ! (3 ∷ 4 ∷ []) $ join ! $ move ! (3 ∷ 0 ∷ []) $ join ! $ join ! $
-            nothing ! $ use0 𝓛 (raw (fact 𝓤 (size (layout P) < 2 ^ 63))) (fact_i 𝓤 (size (layout P) < 2 ^ 63) (emp 𝓤) (form_small small)) $ use0 𝓛 (raw (fact 𝓤 (κN ⊑ []))) (fact_i 𝓤 (κN ⊑ []) (emp 𝓤) within) $
+            feq_i ! (List Val) (p ∷ []) (p ∷ []) refl $ fjoin3 ! $ nothing ! $ move ! (1 ∷ 0 ∷ []) $
+            fjoin ! $ move ! (3 ∷ 4 ∷ []) $ join ! $ move ! (3 ∷ 0 ∷ []) $ join ! $ join ! $
+            nothing ! $ use0 𝓛 (raw (fact 𝓤 (size (layout P) < 2 ^ 63))) (fact_i 𝓤 (size (layout P) < 2 ^ 63) (emp 𝓤) (form_small small)) $
+            use0 𝓛 (raw (fact 𝓤 (κN ⊑ []))) (fact_i 𝓤 (κN ⊑ []) (emp 𝓤) within) $
             move ! (3 ∷ 0 ∷ 1 ∷ 2 ∷ []) $ group ! 4 $ use1 𝓛 (raw (Formed.pre z')) (id⊢ 𝓤 _) $
             calls_at ! (fm_of 𝓤 H 𝓛.laws 𝓣) Formed formed z' (and_then ! (get ! refl) (no_more !)) (λ w.
             use1 𝓛 (later (some' (λ (r : Answer). ((‵ (flft κ q) ⊛ ‵ (flft κN qN) ⊛ ‵ ftrue) ⊛ ‵ ((result_row Items error_row).own_val r (w ∷ []))) ⊛
-            some' (λ (ws : Unit {0} × Unit {0}). ‵ (lasts (G.ended (number n)) z'.0.0 z'.0.3 ws) ⊛ ‵ (follows_so P (Array u8 0) x.ghost_name (name_given (plain_of x.now).inline r) (FormIs x.now r) (FormStays x.now r)) ⊛
-            (raw (fact 𝓤 (IfOk r (λ s. s.now ≡ (plain_of x.now).bytes))) ⊛ raw (fact 𝓤 (IfErr r (λ e. e ≡ NoMemory))) ⊛ raw (fact 𝓤 (OnErr r ((plain_of x.now).inline ≡ false))) ⊛ raw (fact 𝓤 ((plain_of x.now).bytes ≡ [] → IsOk r))))))) (id⊢ 𝓤 _) $
-            await ! tt $ pick ! (λ r. split ! $ split ! $ split3 ! $ move ! (4 ∷ []) $ pick ! (λ ws. split3 ! $ drop ! $ move ! (1 ∷ []) $ split3 ! $ heard ! _ (λ value. heard ! _ (λ err. split ! $ heard ! _ (λ free. heard ! _ (λ empty.
+            some' (λ (ws : Unit {0} × Unit {0}). ‵ (lasts (G.ended (number n)) z'.0.0 z'.0.3 ws)
+            ⊛ ‵ (follows_so P (Array u8 0) x.ghost_name (name_given (plain_of x.now).inline r) (FormIs x.now r) (FormStays x.now r)) ⊛
+            (raw (fact 𝓤 (IfOk r (λ s. s.now ≡ (plain_of x.now).bytes))) ⊛ raw (fact 𝓤 (IfErr r (λ e. e ≡ NoMemory)))
+            ⊛ raw (fact 𝓤 (OnErr r ((plain_of x.now).inline ≡ false))) ⊛ raw (fact 𝓤 ((plain_of x.now).bytes ≡ [] → IsOk r))))))) (id⊢ 𝓤 _) $
+            await ! tt $ pick ! (λ r. split ! $ split ! $ split3 ! $ move ! (4 ∷ []) $
+            pick ! (λ ws. split3 ! $ drop ! $ move ! (1 ∷ []) $ split3 ! $
+            heard ! _ (λ value. heard ! _ (λ err. split ! $ heard ! _ (λ free. heard ! _ (λ empty.
             -- [the clause of the form's `make_mut`; both tokens; nothing; the result; the clause of `form_mut`]
             move ! (4 ∷ []) $ peeks ! (result_row Items error_row) _ (shows 𝓛 (result_row Items error_row)) r (w ∷ []) (λ is.
             lands_as ! refl refl (result_typed κ u8 r w is) $
-            returns ! (look_at ! 0 refl) $ free_all ! refl $ keep ! (0 ∷ 2 ∷ 3 ∷ 5 ∷ 1 ∷ []) $ by ! (exits x same r w (subst (λ (y : PlainBytes). Facts y r) same (value, (err, (free, empty)))))))))))))))))))))
+            returns ! (look_at ! 0 refl) $ free_all ! refl $ keep ! (0 ∷ 2 ∷ 3 ∷ 5 ∷ 1 ∷ []) $
+            by ! (exits x same r w (subst (λ (y : PlainBytes). Facts y r) same (value, (err, (free, empty)))))))))))))))))))))
 
-    meets : (𝓣 : Tables 𝓤 H) → Triple 𝓤 (𝓣.C (#whole args)) Whole → Triple 𝓤 (𝓣.C (#form args)) Formed → Meets 𝓛 ended.signature (WpFn 𝓤 H 𝓣.C 𝓣.Λ function) (closing 𝓛 ended held)
+    meets : (𝓣 : Tables 𝓤 H) → Triple 𝓤 (𝓣.C (#whole args)) Whole → Triple 𝓤 (𝓣.C (#form args)) Formed
+        → Meets 𝓛 ended.signature (WpFn 𝓤 H 𝓣.C 𝓣.Λ function) (closing 𝓛 ended held)
     meets 𝓣 whole formed =
         walk_Meets 𝓛 ended stayed (Goes-spent_ref 𝓛 2 (0 ∷ []) tt (plain (λ _. B)), tt) held (WpFn 𝓤 H 𝓣.C 𝓣.Λ function) (WpFn-mono 𝓤 H 𝓛.laws 𝓣 function)
         (walked 𝓛 ended stayed held (WpFn 𝓤 H 𝓣.C 𝓣.Λ function) (λ κs. (mut_vals, tt)) (λ κs. (mut_Tells (named 0) κs.0 B, tt))

@@ -27,9 +27,12 @@ returns-in_err-append_front g c = record {
       let less : more ≤ k = search rules in
       let within : k + more ≤ c.args.count = search rules in
       let all = places len c.args.count k more (length c.loop-copies.target.bytes) c.loop-copies.invariant.long less within in
-      let past = none_refused g.row.N (len * c.args.count) c.loop-copies.target.inline (length c.loop-copies.target.bytes) (more * len) c.loop-copies.invariant.mode all.1
+      let past =
+      none_refused g.row.N (len * c.args.count) c.loop-copies.target.inline
+      (length c.loop-copies.target.bytes) (more * len) c.loop-copies.invariant.mode all.1
       c.in_err-append_front.ensures.mode.free in
-      λ fits. let same : len * c.args.count ≡ length c.args.self.now.bytes * c.args.count = ap (λ n. n * c.args.count) c.len-len.ensures.len in absurd (omega arith);
+      λ fits. let same : len * c.args.count ≡ length c.args.self.now.bytes * c.args.count =
+      ap (λ n. n * c.args.count) c.len-len.ensures.len in absurd (omega arith);
   capacity = search rules;
 }
 
@@ -37,8 +40,10 @@ pub returns-then-len-eq0 : goal.returns-then-len-eq0
 returns-then-len-eq0 g c = record {
   bytes =
       elim c.then-len-eq0.branch [
-        | then-len-eq0-via-then-len-eq0 w ↦ (let none : length c.args.self.now.bytes ≡ 0 = search rules in c.new.ensures.bytes ∙ repeat-nil c.args.count c.args.self.now.bytes none)
-        | then-len-eq0-via-else-len-eq0+then-count-eq0 w ↦ (let never : 0 ≡ c.args.count = search rules in c.new.ensures.bytes ∙ ap (λ k. repeat k c.args.self.now.bytes) never)
+        | then-len-eq0-via-then-len-eq0 w ↦ (let none : length c.args.self.now.bytes ≡ 0 = search rules in c.new.ensures.bytes
+            ∙ repeat-nil c.args.count c.args.self.now.bytes none)
+        | then-len-eq0-via-else-len-eq0+then-count-eq0 w ↦ (let never : 0 ≡ c.args.count = search rules in c.new.ensures.bytes
+            ∙ ap (λ k. repeat k c.args.self.now.bytes) never)
       ];
   mode = search rules;
   free = search rules;
@@ -65,11 +70,14 @@ loop-copies-preserved g c =
     let within : k + more ≤ c.args.count = search rules in
     let given = c.in_ok-append_front.ensures in
     let all = places len c.args.count k more (length c.loop-copies.target.bytes) c.loop-copies.invariant.long less within in
-    let joined = more_copies c.args.self.now.bytes k more len c.loop-copies.target.bytes c.append_front.new.self.bytes c.len-len.ensures.len c.loop-copies.invariant.joined less given.bytes in
+    let joined =
+    more_copies c.args.self.now.bytes k more len c.loop-copies.target.bytes c.append_front.new.self.bytes
+    c.len-len.ensures.len c.loop-copies.invariant.joined less given.bytes in
     record {
       some = omega (arith, c.loop-copies.invariant.some);
       within = within;
       joined = joined;
       long = ap length joined ∙ (length-repeat (k + more) c.args.self.now.bytes ∙ ap (λ n. (k + more) * n) (sym c.len-len.ensures.len));
-      mode = given.mode.mode ∙ keeps_mode g.row.N (len * c.args.count) c.loop-copies.target.inline (length c.loop-copies.target.bytes) (more * len) c.loop-copies.invariant.mode all.1;
+      mode = given.mode.mode ∙ keeps_mode g.row.N (len * c.args.count) c.loop-copies.target.inline
+          (length c.loop-copies.target.bytes) (more * len) c.loop-copies.invariant.mode all.1;
     }

@@ -13,11 +13,13 @@ returns-after-own_mut-clause-bytes g c =
           let own : w.in-Ok.block.now.items ≡ c.in-Spilled.vec = w.in-Ok.ensures.value (λ x y same. same) in
           let ok : IsOk c.own_mut.result = search rules in
           let written = c.own_mut.follows.holds w.truncate.new.self ok ∙ (λ i. (w.truncate.ensures i).items) in
-          rw (w.result-is, w.self-inside-is) (rewritten g.F.FnOnce c.args.f _ _ _ w.as_mut_slice.result _ w.f-len.result (own ∙ same) w.as_mut_slice.ensures.value w.f-len.auto.arg2 w.f-len.ensures written)
+          rw (w.result-is, w.self-inside-is) (rewritten g.F.FnOnce c.args.f _ _ _ w.as_mut_slice.result _ w.f-len.result
+          (own ∙ same) w.as_mut_slice.ensures.value w.f-len.auto.arg2 w.f-len.ensures written)
       | in-Err-None w ↦
           let none : c.in-Spilled.vec ≡ [] = search rules in
           let kept = rw w.in-Err-None.is at c.own_mut.follows.holds-at-none in
-          rw (w.result-is, w.self-inside-is) (none_rewritten g.F.FnOnce c.args.f _ _ _ _ w.f.result (sym same ∙ none) (none_kept _ _ _ none kept) refl w.f.auto.arg2 w.f.ensures)
+          rw (w.result-is, w.self-inside-is) (none_rewritten g.F.FnOnce c.args.f _ _ _ _ w.f.result
+          (sym same ∙ none) (none_kept _ _ _ none kept) refl w.f.auto.arg2 w.f.ensures)
       | in-Err-Some w ↦ search rules
     ]
 

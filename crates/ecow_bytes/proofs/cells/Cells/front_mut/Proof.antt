@@ -103,22 +103,30 @@ module _ (n : ℕ) where
       with_written w = record { bytes = with_front m d.bytes w }
 
       module _ (𝓣 : Tables 𝓤 H) (all : Triple 𝓤 (𝓣.C (#all args)) All) (first : Triple 𝓤 (𝓣.C #first) First) where
-        walk : m < 2 ^ 64 → ent 𝓤 (sep 𝓤 (on_entry 𝓛 ended.signature (κ, (κN, tt)) (q, (qN, tt)) (self, (m, tt)) (mut_vals self, (vint w64 m ∷ [], tt))) ((held (κ, (κN, tt)) (self, (m, tt))).requires tt)) (WpFn 𝓤 H 𝓣.C 𝓣.Λ function (vptr b o ∷ vint w64 m ∷ []) Ends)
+        walk : m < 2 ^ 64 → ent 𝓤
+            (sep 𝓤 (on_entry 𝓛 ended.signature (κ, (κN, tt)) (q, (qN, tt)) (self, (m, tt)) (mut_vals self, (vint w64 m ∷ [], tt)))
+            ((held (κ, (κN, tt)) (self, (m, tt))).requires tt)) (WpFn 𝓤 H 𝓣.C 𝓣.Λ function (vptr b o ∷ vint w64 m ∷ []) Ends)
         walk fm =
             let z : All.Ghost = (((κ, (κN, tt)), (q, (qN, tt)), bd, (self, tt), (mut_vals self, tt)), tt) in
-            qed 𝓛 (((‵ (flft κ q) ⊛ ‵ (flft κN qN) ⊛ ‵ ftrue) ⊛ ‵ (owns (MutRef (named 0) κ S ∷ usize ∷ []) (self, (m, tt)) (mut_vals self, (vint w64 m ∷ [], tt)))) ∷ raw (fact 𝓤 (κN ⊑ [])) ∷ raw (fact 𝓤 (size (layout S) < 2 ^ 63)) ∷ raw (fact 𝓤 (m ≤ n)) ∷ []) ∵
+            qed 𝓛 (((‵ (flft κ q) ⊛ ‵ (flft κN qN) ⊛ ‵ ftrue)
+            ⊛ ‵ (owns (MutRef (named 0) κ S ∷ usize ∷ []) (self, (m, tt)) (mut_vals self, (vint w64 m ∷ [], tt))))
+            ∷ raw (fact 𝓤 (κN ⊑ [])) ∷ raw (fact 𝓤 (size (layout S) < 2 ^ 63)) ∷ raw (fact 𝓤 (m ≤ n)) ∷ []) ∵
             move ! (1 ∷ []) $ heard ! _ (λ outlived. move ! (1 ∷ []) $ heard ! _ (λ small. move ! (1 ∷ []) $ heard ! _ (λ within.
             split ! $ split3 ! $ move ! (3 ∷ []) $ fsplit ! $ keep ! (0 ∷ 1 ∷ 2 ∷ 3 ∷ []) $
             -- [the reference; the length; both tokens]
             enter ! 𝓣.C 𝓣.Λ function (vptr b o ∷ vint w64 m ∷ []) _ $ alloc_all ! (λ l. pass_all ! refl ((tt, tt), ((tt, record { fits = fm }), tt)) $
             sets ! (addr ! (through ! refl (stop !))) refl (tt, tt) $
             nothing ! $ move ! (1 ∷ 0 ∷ []) $ fjoin ! $ nothing ! $ move ! (4 ∷ 0 ∷ []) $ join ! $ move ! (3 ∷ 0 ∷ 1 ∷ []) $ join ! $ join ! $
-            nothing ! $ use0 𝓛 (raw (fact 𝓤 (size (layout S) < 2 ^ 63))) (fact_i 𝓤 (size (layout S) < 2 ^ 63) (emp 𝓤) small) $ use0 𝓛 (raw (fact 𝓤 (κN ⊑ []))) (fact_i 𝓤 (κN ⊑ []) (emp 𝓤) outlived) $
+            nothing ! $ use0 𝓛 (raw (fact 𝓤 (size (layout S) < 2 ^ 63))) (fact_i 𝓤 (size (layout S) < 2 ^ 63) (emp 𝓤) small) $
+            use0 𝓛 (raw (fact 𝓤 (κN ⊑ []))) (fact_i 𝓤 (κN ⊑ []) (emp 𝓤) outlived) $
             move ! (3 ∷ 0 ∷ 1 ∷ 2 ∷ []) $ group ! 4 $ use1 𝓛 (raw (All.pre z)) (id⊢ 𝓤 _) $
             calls_at ! (fm_of 𝓤 H 𝓛.laws 𝓣) All all z (and_then ! (get ! refl) (no_more !)) (λ v.
             use1 𝓛 (later (some (λ (x : MutBor (List ℕ)). ((‵ (flft κ q) ⊛ ‵ (flft κN qN) ⊛ ‵ ftrue) ⊛ ‵ (Items.own_val x (v ∷ []))) ⊛
-            some (λ (ws : Unit {0} × Unit {0}). ‵ (lasts (W.ended (number n)) z.0.0 z.0.3 ws) ⊛ ‵ (follows S (Array u8 0) γ x.ghost_name with_all) ⊛ (raw (fact 𝓤 (x.now ≡ d.bytes)) ⊛ raw (fact 𝓤 (length x.now ≡ n))))))) (id⊢ 𝓤 _) $
-            await ! tt $ pick ! (λ x. split ! $ split ! $ split3 ! $ move ! (4 ∷ []) $ pick ! (λ ws. split3 ! $ drop ! $ move ! (1 ∷ []) $ split ! $ heard ! _ (λ same. heard ! _ (λ long.
+            some (λ (ws : Unit {0} × Unit {0}). ‵ (lasts (W.ended (number n)) z.0.0 z.0.3 ws)
+            ⊛ ‵ (follows S (Array u8 0) γ x.ghost_name with_all) ⊛ (raw (fact 𝓤 (x.now ≡ d.bytes)) ⊛ raw (fact 𝓤 (length x.now ≡ n)))))))
+            (id⊢ 𝓤 _) $
+            await ! tt $ pick ! (λ x. split ! $ split ! $ split3 ! $ move ! (4 ∷ []) $
+            pick ! (λ ws. split3 ! $ drop ! $ move ! (1 ∷ []) $ split ! $ heard ! _ (λ same. heard ! _ (λ long.
             -- [the clause of `all_mut`; both tokens; nothing; the slice; the length]
             move ! (4 ∷ []) $ peeks ! Items _ (shows 𝓛 Items) x (v ∷ []) (λ fits.
             rewrite ! 0 (λ (us : List Val). ‵ (Items.own_val x us)) fits.0.0 refl $
@@ -126,25 +134,36 @@ module _ (n : ℕ) where
             let z' : First.Ghost = (((κ, tt), (q, tt), tt, (x, (m, tt)), (mut_slice_vals x, (vint w64 m ∷ [], tt))), tt) in
             let enough : m ≤ length x.now = subst (λ (k : ℕ). m ≤ k) (sym long) within in
             move ! (0 ∷ 5 ∷ []) $ fjoin ! $ nothing ! $ move ! (3 ∷ 0 ∷ []) $ join ! $ join ! $
-            use0 𝓛 (raw (fact 𝓤 (m ≤ length x.now))) (fact_i 𝓤 (m ≤ length x.now) (emp 𝓤) enough) $ move ! (1 ∷ 0 ∷ []) $ use2 𝓛 (raw (First.pre z')) (id⊢ 𝓤 _) $
+            use0 𝓛 (raw (fact 𝓤 (m ≤ length x.now))) (fact_i 𝓤 (m ≤ length x.now) (emp 𝓤) enough) $
+            move ! (1 ∷ 0 ∷ []) $ use2 𝓛 (raw (First.pre z')) (id⊢ 𝓤 _) $
             calls_at ! (fm_of 𝓤 H 𝓛.laws 𝓣) First first z' (and_then ! (get ! refl) (and_then ! (get ! refl) (no_more !))) (λ w.
             use1 𝓛 (later (some (λ (s : MutBor (List ℕ)). ((‵ (flft κ q) ⊛ ‵ ftrue) ⊛ ‵ (Items.own_val s (w ∷ []))) ⊛
-            some (λ (ws : Unit {0} × (Unit {0} × Unit {0})). ‵ (lasts P.ended z'.0.0 z'.0.3 ws) ⊛ ‵ (follows (Array u8 0) (Array u8 0) x.ghost_name s.ghost_name (with_front m x.now)) ⊛ raw (fact 𝓤 (s.now ≡ take m x.now)))))) (id⊢ 𝓤 _) $
+            some (λ (ws : Unit {0} × (Unit {0} × Unit {0})). ‵ (lasts P.ended z'.0.0 z'.0.3 ws)
+            ⊛ ‵ (follows (Array u8 0) (Array u8 0) x.ghost_name s.ghost_name (with_front m x.now))
+            ⊛ raw (fact 𝓤 (s.now ≡ take m x.now)))))) (id⊢ 𝓤 _) $
             await ! tt $ pick ! (λ s. split ! $ split ! $ split ! $ move ! (3 ∷ []) $ pick ! (λ us. split3 ! $ drop ! $ move ! (1 ∷ []) $ heard ! _ (λ front.
             -- [the clause of `first_bytes`; κ's token; nothing; the slice; the clause of `all_mut`; the other token]
             move ! (3 ∷ []) $ peeks ! Items _ (shows 𝓛 Items) s (w ∷ []) (λ fits'.
             rewrite ! 0 (λ (us : List Val). ‵ (Items.own_val s us)) fits'.0.0 refl $
             lands_as ! (ap only fits'.0.0) refl (tt, (tt, (record { fits = fits'.0.1.0 }, tt))) $
             returns ! (look_at ! 0 refl) $ free_all ! refl $ move ! (4 ∷ 1 ∷ []) $
-            use2 𝓛 (‵ (follows S (Array u8 0) γ s.ghost_name (λ ys. with_all (with_front m x.now ys)))) (follows_then 𝓛 S (Array u8 0) (Array u8 0) with_all (with_front m x.now) γ x.ghost_name s.ghost_name) $
-            rewrite ! 0 (λ (l : List ℕ). ‵ (follows S (Array u8 0) γ s.ghost_name (λ ys. with_all (with_front m l ys)))) same refl $ keep ! (0 ∷ 1 ∷ 2 ∷ 4 ∷ []) $
+            use2 𝓛 (‵ (follows S (Array u8 0) γ s.ghost_name (λ ys. with_all (with_front m x.now ys))))
+            (follows_then 𝓛 S (Array u8 0) (Array u8 0) with_all (with_front m x.now) γ x.ghost_name s.ghost_name) $
+            rewrite ! 0 (λ (l : List ℕ). ‵ (follows S (Array u8 0) γ s.ghost_name (λ ys. with_all (with_front m l ys)))) same refl $
+            keep ! (0 ∷ 1 ∷ 2 ∷ 4 ∷ []) $
             suffices ! _ (ends_at 𝓛 ended stayed held bound (slice_val s.ref_ptr (length s.now)) s (tt, (tt, tt)) (tt, (tt, tt))) $
-            nothing ! $ nothing ! $ fjoin ! $ nothing ! $ fjoin ! $ move ! (0 ∷ 2 ∷ []) $ join ! $ nothing ! $ move ! (4 ∷ 0 ∷ []) $ join ! $ move ! (3 ∷ 0 ∷ []) $ join ! $ join ! $ frame ! $ says ! (front ∙ ap (take m) same) $ done !)))))))))))))))
+            nothing ! $ nothing ! $ fjoin ! $ nothing ! $ fjoin ! $ move ! (0 ∷ 2 ∷ []) $ join ! $ nothing ! $
+            move ! (4 ∷ 0 ∷ []) $ join ! $ move ! (3 ∷ 0 ∷ []) $ join ! $ join ! $ frame ! $ says ! (front ∙ ap (take m) same) $ done !)))))))))))))))
 
-    meets : (𝓣 : Tables 𝓤 H) → Triple 𝓤 (𝓣.C (#all args)) All → Triple 𝓤 (𝓣.C #first) First → Meets 𝓛 ended.signature (WpFn 𝓤 H 𝓣.C 𝓣.Λ function) (closing 𝓛 ended held)
+    meets : (𝓣 : Tables 𝓤 H) → Triple 𝓤 (𝓣.C (#all args)) All → Triple 𝓤 (𝓣.C #first) First
+        → Meets 𝓛 ended.signature (WpFn 𝓤 H 𝓣.C 𝓣.Λ function) (closing 𝓛 ended held)
     meets 𝓣 all first =
-        walk_Meets 𝓛 ended stayed (Goes-spent_ref 𝓛 2 (0 ∷ []) tt (plain (λ _. S)), (Goes-dropped 𝓛 2 (plain (λ _. usize)) yes (λ κs x f. refl), tt)) held (WpFn 𝓤 H 𝓣.C 𝓣.Λ function) (WpFn-mono 𝓤 H 𝓛.laws 𝓣 function)
-        (walked 𝓛 ended stayed held (WpFn 𝓤 H 𝓣.C 𝓣.Λ function) (λ κs. (mut_vals, (uint_vals w64, tt))) (λ κs. (mut_Tells (named 0) κs.0 S, (uint_Tells w64, tt)))
+        walk_Meets 𝓛 ended stayed (
+          Goes-spent_ref 𝓛 2 (0 ∷ []) tt (plain (λ _. S)),
+          (Goes-dropped 𝓛 2 (plain (λ _. usize)) yes (λ κs x f. refl), tt),
+        ) held (WpFn 𝓤 H 𝓣.C 𝓣.Λ function) (WpFn-mono 𝓤 H 𝓛.laws 𝓣 function)
+        (walked 𝓛 ended stayed held (WpFn 𝓤 H 𝓣.C 𝓣.Λ function) (λ κs. (mut_vals, (uint_vals w64, tt)))
+        (λ κs. (mut_Tells (named 0) κs.0 S, (uint_Tells w64, tt)))
         (λ κs qs bounds a _ are. walk κs.0 κs.1.0 qs.0 qs.1.0 bounds a.0.ref_ptr.0 a.0.ref_ptr.1 a.0.ghost_name a.0.now a.1.0 𝓣 all first are.1.0.1))
 
 pub front_mut_spec : {M : Type 1} → stated.statement M

@@ -201,15 +201,19 @@ module _ (n : ℕ) where
 
       -- the facts of a result
       abbrev Facts : Form n → Answer → Type 0
-      Facts d r = IfOk r (λ s. s.now ≡ (plain_of d).bytes) × (IfErr r (λ e. e ≡ NoMemory) × (OnErr r ((plain_of d).inline ≡ false) × ((plain_of d).bytes ≡ [] → IsOk r)))
+      Facts d r =
+          IfOk r (λ s. s.now ≡ (plain_of d).bytes)
+          × (IfErr r (λ e. e ≡ NoMemory) × (OnErr r ((plain_of d).inline ≡ false) × ((plain_of d).bytes ≡ [] → IsOk r)))
 
       abbrev name_of : Form n → Answer → Option' GName
       name_of d r = name_given (plain_of d).inline r
 
       exits : (d : Form n) (r : Answer) (v : Val) → Facts d r
-          → ent 𝓤 (sep 𝓤 (sem 𝓛 ((result_row Items error_row).own_val r (v ∷ []))) (sep 𝓤 (A.lft κ q) (sep 𝓤 (A.lft κN qN) (sem 𝓛 (follows_so G (Array u8 0) γ (name_of d r) (FormIs d r) (FormStays d r)))))) (Ends d v)
+          → ent 𝓤 (sep 𝓤 (sem 𝓛 ((result_row Items error_row).own_val r (v ∷ [])))
+          (sep 𝓤 (A.lft κ q) (sep 𝓤 (A.lft κN qN) (sem 𝓛 (follows_so G (Array u8 0) γ (name_of d r) (FormIs d r) (FormStays d r)))))) (Ends d v)
       exits d r v facts =
-          qed 𝓛 (‵ ((result_row Items error_row).own_val r (v ∷ [])) ∷ ‵ (flft κ q) ∷ ‵ (flft κN qN) ∷ ‵ (follows_so G (Array u8 0) γ (name_of d r) (FormIs d r) (FormStays d r)) ∷ []) ∵
+          qed 𝓛 (‵ ((result_row Items error_row).own_val r (v ∷ [])) ∷ ‵ (flft κ q) ∷ ‵ (flft κN qN)
+          ∷ ‵ (follows_so G (Array u8 0) γ (name_of d r) (FormIs d r) (FormStays d r)) ∷ []) ∵
           move ! (3 ∷ []) $ suffices ! _ (ends_at 𝓛 ended stayed held (bound d) v r (tt, tt) (tt, tt)) $
           nothing ! $ nothing ! $ fjoin ! $ move ! (0 ∷ 2 ∷ []) $ join ! $ nothing ! $ move ! (4 ∷ 0 ∷ []) $ join ! $
           move ! (3 ∷ 0 ∷ []) $ join ! $ join ! $ frame ! $
@@ -245,7 +249,8 @@ module _ (n : ℕ) where
           (sem 𝓛 (follows F (Array u8 0) δ s.ghost_name written)))))) (Ends d (live 0 (of_list (v ∷ []))))
       inline_exits d F make written δ s v same name is =
           let r : Answer = Ok s in
-          qed 𝓛 (‵ (Items.own_val s (v ∷ [])) ∷ ‵ (flft κ q) ∷ ‵ (flft κN qN) ∷ ‵ (follows G F γ δ make) ∷ ‵ (follows F (Array u8 0) δ s.ghost_name written) ∷ []) ∵
+          qed 𝓛 (‵ (Items.own_val s (v ∷ [])) ∷ ‵ (flft κ q) ∷ ‵ (flft κN qN) ∷ ‵ (follows G F γ δ make)
+          ∷ ‵ (follows F (Array u8 0) δ s.ghost_name written) ∷ []) ∵
           use1 𝓛 (‵ ((result_row Items error_row).own_val r (live 0 (of_list (v ∷ [])) ∷ []))) (ok_of 𝓛 Items error_row s v) $
           move ! (3 ∷ 4 ∷ []) $
           use2 𝓛 (‵ (follows G (Array u8 0) γ s.ghost_name (λ ys. make (written ys)))) (follows_then 𝓛 G F (Array u8 0) make written γ δ s.ghost_name) $
@@ -257,10 +262,14 @@ module _ (n : ℕ) where
       module _ (𝓣 : Tables 𝓤 H) (vec : Triple 𝓤 (𝓣.C vec_key) InVec)
           (cells : Triple 𝓤 (𝓣.C (#cells args)) InCells) (few : Triple 𝓤 (𝓣.C (#few args)) InFew) where
         abbrev Goes : Form n → Type 1
-        Goes d = ent 𝓤 (sep 𝓤 (on_entry 𝓛 ended.signature (κ, (κN, tt)) (q, (qN, tt)) (self d, tt) (mut_vals (self d), tt)) ((held (κ, (κN, tt)) (self d, tt)).requires tt)) (WpFn 𝓤 H 𝓣.C 𝓣.Λ function (vptr b o ∷ []) (Ends d))
+        Goes d =
+            ent 𝓤 (sep 𝓤 (on_entry 𝓛 ended.signature (κ, (κN, tt)) (q, (qN, tt)) (self d, tt) (mut_vals (self d), tt))
+            ((held (κ, (κN, tt)) (self d, tt)).requires tt)) (WpFn 𝓤 H 𝓣.C 𝓣.Λ function (vptr b o ∷ []) (Ends d))
 
         abbrev entry : Form n → List (Item 𝓤)
-        entry d = ((‵ (flft κ q) ⊛ ‵ (flft κN qN) ⊛ ‵ ftrue) ⊛ ‵ (owns (MutRef (named 0) κ G ∷ []) (self d, tt) (mut_vals (self d), tt))) ∷ raw (fact 𝓤 (κN ⊑ [])) ∷ raw (fact 𝓤 (size (layout G) < 2 ^ 63)) ∷ ‵ ftrue ∷ []
+        entry d =
+            ((‵ (flft κ q) ⊛ ‵ (flft κN qN) ⊛ ‵ ftrue) ⊛ ‵ (owns (MutRef (named 0) κ G ∷ []) (self d, tt) (mut_vals (self d), tt)))
+            ∷ raw (fact 𝓤 (κN ⊑ [])) ∷ raw (fact 𝓤 (size (layout G) < 2 ^ 63)) ∷ ‵ ftrue ∷ []
 
         walk : (d : Form n) → Goes d
         walk (Short xs) =
@@ -392,7 +401,8 @@ module _ (n : ℕ) where
             ⊛ ‵ (follows_so V (Array u8 0) δ (name_if_lent r) (VecIs xs r) (VecStays xs r)) ⊛
             (raw (fact 𝓤 (ClonesAreEqual is_clone → IfOk r (λ s. s.now ≡ xs)))
             ⊛ raw (fact 𝓤 (IfOk r (λ s. length s.now ≡ length xs)))
-            ⊛ raw (fact 𝓤 (IfErr r (λ e. e ≡ NoMemory))) ⊛ raw (fact 𝓤 (xs ≡ [] → IsOk r)) ⊛ raw (fact 𝓤 (IfOk r (λ s. IsKept is_clone xs s.now)))))))) (id⊢ 𝓤 _) $
+            ⊛ raw (fact 𝓤 (IfErr r (λ e. e ≡ NoMemory))) ⊛ raw (fact 𝓤 (xs ≡ [] → IsOk r))
+            ⊛ raw (fact 𝓤 (IfOk r (λ s. IsKept is_clone xs s.now)))))))) (id⊢ 𝓤 _) $
             await ! tt $ pick ! (λ r. split ! $ split ! $ split3 ! $ move ! (4 ∷ []) $ pick ! (λ ws. split3 ! $ drop ! $
             move ! (1 ∷ []) $ split3 ! $ heard ! _ (λ value. heard ! _ (λ len. split3 ! $
             heard ! _ (λ err. heard ! _ (λ empty. heard ! _ (λ kept.

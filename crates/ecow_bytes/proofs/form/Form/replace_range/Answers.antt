@@ -31,7 +31,8 @@ returns g c =
     let front : take len longer ≡ old =
     ap (λ n. take n longer) long ∙ c.set_len.ensures.kept ∙ take_all c.max.result old (omega (arith, long, c.max.ensures)) in
     c.truncate.ensures
-    ∙ ap (λ (p : PlainBytes). plain_bytes (take (len - (end - start) + added) p.bytes) true) (inline_with c.set_len.new.self written c.set_len.ensures.mode size)
+    ∙ ap (λ (p : PlainBytes). plain_bytes (take (len - (end - start) + added) p.bytes) true)
+    (inline_with c.set_len.new.self written c.set_len.ensures.mode size)
     ∙ ap (λ xs. plain_bytes xs true)
     (rw (moves, c.copy_from_slice.ensures.after)
     (replaced longer old c.args.bytes.now start end len added (sym front) (omega (arith, room, c.max.ensures)) refl ordered (omega (arith, long, within))

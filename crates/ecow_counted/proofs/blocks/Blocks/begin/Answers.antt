@@ -4,10 +4,14 @@ use Rattle.ecow_counted.proofs.Placing.{sharing-table}
 use Rattle.ecow_counted.proofs.blocks.Blocks.begin.Goals as goal
 
 pub invariant_of-self-2 : goal.invariant_of-self-2
-invariant_of-self-2 g c = begun_table c.self.inside.places c.self.inside.table c.self.invariant c.args.self.now.names (ap (λ s. s.names) c.self.view_is) c.args.name c.insert.new.self c.in_ok-insert.ensures.ok c.requires.free
+invariant_of-self-2 g c =
+    begun_table c.self.inside.places c.self.inside.table c.self.invariant c.args.self.now.names
+    (ap (λ s. s.names) c.self.view_is) c.args.name c.insert.new.self c.in_ok-insert.ensures.ok c.requires.free
 
 pub returns-clause-ok : goal.returns-clause-ok
-returns-clause-ok g c = begun_names c.self.inside.places c.self.inside.table c.self.invariant c.args.self.now.names (ap (λ s. s.names) c.self.view_is) c.args.name c.insert.new.self c.in_ok-insert.ensures.ok c.requires.free
+returns-clause-ok g c =
+    begun_names c.self.inside.places c.self.inside.table c.self.invariant c.args.self.now.names
+    (ap (λ s. s.names) c.self.view_is) c.args.name c.insert.new.self c.in_ok-insert.ensures.ok c.requires.free
 
 pub returns-in_err-insert-clause-sharing : goal.returns-in_err-insert-clause-sharing
 returns-in_err-insert-clause-sharing g c = rw c.in_err-insert.ensures.unchanged (sharing-table c.self.inside.places c.self.inside.table c.self.invariant)

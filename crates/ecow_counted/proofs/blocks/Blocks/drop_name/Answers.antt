@@ -8,4 +8,9 @@ pub remove-requires : goal.remove-requires
 remove-requires g c = record { bare = ap (λ n. finite.get n c.args.name) c.take-last.ensures.names ∙ get-settle c.args.self.now.names c.args.name [] 0 }
 
 pub returns : goal.returns
-returns g c = record { names = c.remove.ensures.names ∙ ap (forget c.args.name) c.take-last.ensures.names ∙ forget-settle c.args.self.now.names c.args.name [] 0; sharing = c.remove.ensures.sharing }
+returns g c =
+    record {
+      names = c.remove.ensures.names ∙ ap (forget c.args.name) c.take-last.ensures.names
+          ∙ forget-settle c.args.self.now.names c.args.name [] 0;
+      sharing = c.remove.ensures.sharing;
+    }

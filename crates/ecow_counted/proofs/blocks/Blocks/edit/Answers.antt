@@ -29,8 +29,10 @@ returns-in_default-new-clause-carried g c =
     let h = holding_at names c.args.name in
     let found = found_size names c.args.name c.in-Some.size (sym c.in-Some.is ∙ c.size.ensures.size) in
     let asked = sym (c.check.ensures h.items (sym (ap (λ s. s.len) found.1))) ∙ c.in_default-check.is in
-    rw c.still-in_default-new.ensures (edit_memory (ClonesAreEqual g.T.Clone.is_clone) names c.args.name c.args.edit h found.0 asked (spare_not_free h (found_fits h found.1 c.in-Some.ensures.bounds.0) c.args.edit
-    (⊎_elim (λ t. t) (λ f. absurd (refused_is c.new.result c.in_default-new.field-0 c.in_default-new.is (c.new.ensures.free f))) (cases_Bool (takes_spare c.args.edit)))))
+    rw c.still-in_default-new.ensures (edit_memory (ClonesAreEqual g.T.Clone.is_clone) names c.args.name c.args.edit h found.0 asked
+    (spare_not_free h (found_fits h found.1 c.in-Some.ensures.bounds.0) c.args.edit
+    (⊎_elim (λ t. t) (λ f. absurd (refused_is c.new.result c.in_default-new.field-0 c.in_default-new.is (c.new.ensures.free f)))
+    (cases_Bool (takes_spare c.args.edit)))))
 
 -- copies that there are, or no smaller a block
 pub own-requires-clause-wanted : goal.own-requires-clause-wanted
@@ -50,9 +52,12 @@ returns-in_default-own-clause-carried g c =
       | else-size-gt1-via-then-size-gt1+else-not-unshares w ↦ ap (unshares c.args.edit) (sym len) ∙ sym w.unshares.ensures ∙ w.if-not-unshares.false
       | else-size-gt1-via-else-size-gt1 w ↦ absurd (true≢false (sym shared ∙ ap (nat_lt 1) (sym owners) ∙ le-ltb 1 c.in-Some.size.owners w.if-size-gt1.false))
     ] in
-    rw c.still-in_default-own.ensures (same_carried (ClonesAreEqual g.T.Clone.is_clone) names (Edit c.args.name c.args.edit) _ _ c.in_default-own.ensures.unchanged
+    rw c.still-in_default-own.ensures (same_carried (ClonesAreEqual g.T.Clone.is_clone) names
+    (Edit c.args.name c.args.edit) _ _ c.in_default-own.ensures.unchanged
     (edit_memory (ClonesAreEqual g.T.Clone.is_clone) names c.args.name c.args.edit h found.0 asked
-    (⊎_elim (λ t. absurd (refused_is c.own.result c.in_default-own.field-0 c.in_default-own.is (c.own.ensures.free (wanted ∙ free_keeps h (found_fits h found.1 c.in-Some.ensures.bounds.0) c.args.edit leaves t)))) (λ f. f) (cases_Bool (holding_is_free c.args.edit h)))))
+    (⊎_elim (λ t. absurd (refused_is c.own.result c.in_default-own.field-0 c.in_default-own.is
+    (c.own.ensures.free (wanted ∙ free_keeps h (found_fits h found.1 c.in-Some.ensures.bounds.0) c.args.edit leaves t))))
+    (λ f. f) (cases_Bool (holding_is_free c.args.edit h)))))
 
 pub apply-outcome-requires-clause-asked : goal.apply-outcome-requires-clause-asked
 apply-outcome-requires-clause-asked g c =
@@ -61,7 +66,8 @@ apply-outcome-requires-clause-asked g c =
     let found = found_size names c.args.name c.in-Some.size (sym c.in-Some.is ∙ c.size.ensures.size) in
     let len = ap (λ s. s.len) found.1 in
     let copied = c.copies.ensures.copies ∙ ap (copies c.args.edit) len in
-    may_be_copied (length h.items) c.args.edit (is_shared h) (λ xs is. sym (c.check.ensures xs (is ∙ sym len)) ∙ c.in_default-check.is) c.in-Ok-own.own.block.items (c.in-Ok-own.ensures.len ∙ (λ i. cond (is_shared h) (copied i) (length h.items)))
+    may_be_copied (length h.items) c.args.edit (is_shared h) (λ xs is. sym (c.check.ensures xs (is ∙ sym len))
+    ∙ c.in_default-check.is) c.in-Ok-own.own.block.items (c.in-Ok-own.ensures.len ∙ (λ i. cond (is_shared h) (copied i) (length h.items)))
 
 pub apply-outcome-requires-clause-places : goal.apply-outcome-requires-clause-places
 apply-outcome-requires-clause-places g c =
@@ -70,7 +76,9 @@ apply-outcome-requires-clause-places g c =
     let found = found_size names c.args.name c.in-Some.size (sym c.in-Some.is ∙ c.size.ensures.size) in
     let len = ap (λ s. s.len) found.1 in
     let copied = c.copies.ensures.copies ∙ ap (copies c.args.edit) len in
-    let same = ap (spare_room c.args.edit) (c.in-Ok-own.ensures.len ∙ (λ i. cond (is_shared h) (copied i) (length h.items))) ∙ (taken_same (length h.items) c.args.edit (is_shared h)).1 ∙ ap (spare_room c.args.edit) (sym len) in
+    let same =
+    ap (spare_room c.args.edit) (c.in-Ok-own.ensures.len ∙ (λ i. cond (is_shared h) (copied i) (length h.items)))
+    ∙ (taken_same (length h.items) c.args.edit (is_shared h)).1 ∙ ap (spare_room c.args.edit) (sym len) in
     subst (λ n. n ≤ c.in-Ok.spare.block.capacity) (sym same) c.in-Ok.ensures.room
 
 pub apply-outcome-requires-clause-answer : goal.apply-outcome-requires-clause-answer
@@ -80,7 +88,9 @@ apply-outcome-requires-clause-answer g c =
     let found = found_size names c.args.name c.in-Some.size (sym c.in-Some.is ∙ c.size.ensures.size) in
     let len = ap (λ s. s.len) found.1 in
     let copied = c.copies.ensures.copies ∙ ap (copies c.args.edit) len in
-    let same = ap (taken_out c.args.edit) (c.in-Ok-own.ensures.len ∙ (λ i. cond (is_shared h) (copied i) (length h.items))) ∙ (taken_same (length h.items) c.args.edit (is_shared h)).0 ∙ ap (taken_out c.args.edit) (sym len) in
+    let same =
+    ap (taken_out c.args.edit) (c.in-Ok-own.ensures.len ∙ (λ i. cond (is_shared h) (copied i) (length h.items)))
+    ∙ (taken_same (length h.items) c.args.edit (is_shared h)).0 ∙ ap (taken_out c.args.edit) (sym len) in
     subst (λ n. n ≤ vec_capacity c.in-Ok.spare.answer) (sym same) c.in-Ok.ensures.answer
 
 pub returns-clause-carried : goal.returns-clause-carried
@@ -101,11 +111,13 @@ returns-clause-carried g c =
     ] in
     let end = c.apply-outcome.new.block in
     let at_end = c.apply-outcome.ensures.capacity ∙ c.in-Ok-own.ensures.cost.capacity in
-    edit_done (ClonesAreEqual g.T.Clone.is_clone) names c.args.name c.args.edit h found.0 asked leaves fits c.in-Ok-own.own.block.items end.items end.capacity _ _
+    edit_done (ClonesAreEqual g.T.Clone.is_clone) names c.args.name c.args.edit h found.0
+    asked leaves fits c.in-Ok-own.own.block.items end.items end.capacity _ _
     (λ ok. c.in-Ok-own.ensures.items ok ∙ (λ i. cond (is_shared h) (take (copied i) h.items) h.items))
     (λ ok. c.apply-outcome.ensures.change (c.in-Ok.ensures.items ok))
     c.apply-outcome.ensures.accepted
     (at_end ∙ wanted)
     (c.settle.ensures.names ∙ c.in-Ok-own.ensures.opened.settles end.items end.capacity)
     (c.in-Ok-own.ensures.cost.copied ∙ (λ i. cond (is_shared h) (copied i) 0))
-    (c.in-Ok-own.ensures.cost.moved ∙ (λ i. cond (is_shared h) 0 (cond (nat_le (sym at_end i) h.capacity) 0 ((c.staying.ensures.staying ∙ ap (staying c.args.edit) len) i))))
+    (c.in-Ok-own.ensures.cost.moved
+    ∙ (λ i. cond (is_shared h) 0 (cond (nat_le (sym at_end i) h.capacity) 0 ((c.staying.ensures.staying ∙ ap (staying c.args.edit) len) i))))

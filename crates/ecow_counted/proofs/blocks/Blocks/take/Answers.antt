@@ -13,21 +13,28 @@ pub invariant_of-self : goal.invariant_of-self
 invariant_of-self g c =
     let source = (c.place_of.ensures ∙ ap Some c.in-Some.is) in
     let there = entry_at c.self.inside.places c.self.inside.table c.args.name c.self.invariant c.in-Some.place source in
-    taken_table c.self.inside.places c.self.inside.table c.self.invariant c.args.self.now.names (ap (λ s. s.names) c.self.view_is) c.args.name c.in-Some.place source c.set_place.new.places c.drop_owner.new.table c.set_place.ensures there.0 there.1
-    (λ one. let h = c.drop_owner.ensures.last there.0 there.1 one in (h.1, h.2)) (λ more. let h = c.drop_owner.ensures.counted there.0 there.1 more in (h.1, h.2)) c.drop_owner.ensures.others
+    taken_table c.self.inside.places c.self.inside.table c.self.invariant c.args.self.now.names
+    (ap (λ s. s.names) c.self.view_is) c.args.name c.in-Some.place source c.set_place.new.places
+    c.drop_owner.new.table c.set_place.ensures there.0 there.1
+    (λ one. let h = c.drop_owner.ensures.last there.0 there.1 one in (h.1, h.2))
+    (λ more. let h = c.drop_owner.ensures.counted there.0 there.1 more in (h.1, h.2)) c.drop_owner.ensures.others
 
 pub returns-in-Some-clause-names : goal.returns-in-Some-clause-names
 returns-in-Some-clause-names g c =
     let source = (c.place_of.ensures ∙ ap Some c.in-Some.is) in
     let there = entry_at c.self.inside.places c.self.inside.table c.args.name c.self.invariant c.in-Some.place source in
-    taken_names c.self.inside.places c.self.inside.table c.self.invariant c.args.self.now.names (ap (λ s. s.names) c.self.view_is) c.args.name c.in-Some.place source c.set_place.new.places c.drop_owner.new.table c.set_place.ensures there.0 there.1
-    (λ one. let h = c.drop_owner.ensures.last there.0 there.1 one in (h.1, h.2)) (λ more. let h = c.drop_owner.ensures.counted there.0 there.1 more in (h.1, h.2)) c.drop_owner.ensures.others
+    taken_names c.self.inside.places c.self.inside.table c.self.invariant c.args.self.now.names
+    (ap (λ s. s.names) c.self.view_is) c.args.name c.in-Some.place source c.set_place.new.places
+    c.drop_owner.new.table c.set_place.ensures there.0 there.1
+    (λ one. let h = c.drop_owner.ensures.last there.0 there.1 one in (h.1, h.2))
+    (λ more. let h = c.drop_owner.ensures.counted there.0 there.1 more in (h.1, h.2)) c.drop_owner.ensures.others
 
 pub returns-in-Some-clause-block : goal.returns-in-Some-clause-block
 returns-in-Some-clause-block g c =
     let source = (c.place_of.ensures ∙ ap Some c.in-Some.is) in
     let there = entry_at c.self.inside.places c.self.inside.table c.args.name c.self.invariant c.in-Some.place source in
-    taken_block c.self.inside.places c.self.inside.table c.self.invariant c.args.self.now.names (ap (λ s. s.names) c.self.view_is) c.args.name there.0 (ap (entry_in c.self.inside.table) source ∙ there.1) c.drop_owner.result
+    taken_block c.self.inside.places c.self.inside.table c.self.invariant c.args.self.now.names
+    (ap (λ s. s.names) c.self.view_is) c.args.name there.0 (ap (entry_in c.self.inside.table) source ∙ there.1) c.drop_owner.result
     (λ one. (c.drop_owner.ensures.last there.0 there.1 one).0) (λ more. (c.drop_owner.ensures.counted there.0 there.1 more).0)
 
 pub returns-in-Some-clause-room : goal.returns-in-Some-clause-room
@@ -38,16 +45,25 @@ returns-in-Some-clause-room g c = λ some.
     (λ one. (c.drop_owner.ensures.last there.0 there.1 one).3) (λ more. (c.drop_owner.ensures.counted there.0 there.1 more).0))
 
 pub returns-in-None-clause-names : goal.returns-in-None-clause-names
-returns-in-None-clause-names g c = (bare_taken c.self.inside.places c.self.inside.table c.self.invariant c.args.self.now.names (ap (λ s. s.names) c.self.view_is) c.args.name (ap (entry_in c.self.inside.table) (c.place_of.ensures ∙ ap Some c.in-None.is)) c.requires.there).0
+returns-in-None-clause-names g c =
+    (bare_taken c.self.inside.places c.self.inside.table c.self.invariant c.args.self.now.names
+    (ap (λ s. s.names) c.self.view_is) c.args.name
+    (ap (entry_in c.self.inside.table) (c.place_of.ensures ∙ ap Some c.in-None.is)) c.requires.there).0
 
 pub returns-in-None-clause-block : goal.returns-in-None-clause-block
-returns-in-None-clause-block g c = (bare_taken c.self.inside.places c.self.inside.table c.self.invariant c.args.self.now.names (ap (λ s. s.names) c.self.view_is) c.args.name (ap (entry_in c.self.inside.table) (c.place_of.ensures ∙ ap Some c.in-None.is)) c.requires.there).1
+returns-in-None-clause-block g c =
+    (bare_taken c.self.inside.places c.self.inside.table c.self.invariant c.args.self.now.names
+    (ap (λ s. s.names) c.self.view_is) c.args.name
+    (ap (entry_in c.self.inside.table) (c.place_of.ensures ∙ ap Some c.in-None.is)) c.requires.there).1
 
 pub returns-in-Some-clause-sharing : goal.returns-in-Some-clause-sharing
 returns-in-Some-clause-sharing g c = sharing-table c.set_place.new.places c.drop_owner.new.table (invariant_of-self g c)
 
 pub returns-in-None-clause-sharing : goal.returns-in-None-clause-sharing
-returns-in-None-clause-sharing g c = shared_names_are c.self.inside.places c.self.inside.table c.self.invariant c.args.self.now.names (ap (λ s. s.names) c.self.view_is)
+returns-in-None-clause-sharing g c =
+    shared_names_are c.self.inside.places c.self.inside.table c.self.invariant c.args.self.now.names (ap (λ s. s.names) c.self.view_is)
 
 pub place_of-requires : goal.place_of-requires
-place_of-requires g c = has_place c.self.inside.places c.self.inside.table c.self.invariant c.args.self.now.names (ap (λ s. s.names) c.self.view_is) c.args.name c.requires.there
+place_of-requires g c =
+    has_place c.self.inside.places c.self.inside.table c.self.invariant c.args.self.now.names
+    (ap (λ s. s.names) c.self.view_is) c.args.name c.requires.there

@@ -19,7 +19,8 @@ loop-command-preserved g c =
     record {
       room = omega (arith, c.in-Some.ensures.len, c.push_reserved.ensures.len, c.push_reserved.ensures.capacity, so_far.room);
       valid = record { sharing = is.sharing; copied = rw is.copied (saturating_small _ _); moved = rw is.moved (saturating_small _ _) };
-      steps = λ clones. rw c.push_reserved.ensures.items (goes_further CountedStep _ _ _ _ _ _ _ _ (rw c.in-Some.ensures.items at so_far.steps clones) (is.step clones));
+      steps = λ clones. rw c.push_reserved.ensures.items
+          (goes_further CountedStep _ _ _ _ _ _ _ _ (rw c.in-Some.ensures.items at so_far.steps clones) (is.step clones));
       verdicts = rw c.push_reserved.ensures.items (goes_further CountedVerdict _ _ _ _ _ _ _ _ (rw c.in-Some.ensures.items at so_far.verdicts) is.verdict);
       copied = λ clones more. rw (c.push_reserved.ensures.items, append_assoc)
           (total_goes_on copied_in old.copied command old.names so_far.valid.sharing outcome mid (is.step clones) _ is.copied _ more
@@ -44,7 +45,9 @@ returns-clause-verdicts g c =
     gone_through CountedVerdict _ _ _ _ (rw ended at c.loop-command.invariant.verdicts)
 
 pub returns-clause-contents : goal.returns-clause-contents
-returns-clause-contents g c = λ clones. run_of_contents c.args.commands.items c.loop-command.outcomes.items c.args.self.now.names c.loop-command.self.names (returns-clause-run g c clones)
+returns-clause-contents g c =
+    λ clones. run_of_contents c.args.commands.items c.loop-command.outcomes.items c.args.self.now.names c.loop-command.self.names
+    (returns-clause-run g c clones)
 
 -- what the whole run adds to the totals, and what pays for it
 pub returns-clause-totals : goal.returns-clause-totals

@@ -14,8 +14,12 @@ invariant-loop-command g l = record {
   valid : IsValid l.self;
   steps : ClonesAreEqual g.T.Clone.is_clone → GoesOn CountedStep l.fn.self.names l.fn.commands.items l.outcomes.items (into_iter_items l.rest) l.self.names;
   verdicts : GoesOn CountedVerdict l.fn.self.names l.fn.commands.items l.outcomes.items (into_iter_items l.rest) l.self.names;
-  copied : ClonesAreEqual g.T.Clone.is_clone → (more : List (Outcome g.row.T.Denot)) → saturating l.self.copied (copied_in_run l.self.names (into_iter_items l.rest) more) ≡ saturating l.fn.self.copied (copied_in_run l.fn.self.names l.fn.commands.items (l.outcomes.items ++ more));
-  moved : ClonesAreEqual g.T.Clone.is_clone → (more : List (Outcome g.row.T.Denot)) → saturating l.self.moved (moved_in_run l.self.names (into_iter_items l.rest) more) ≡ saturating l.fn.self.moved (moved_in_run l.fn.self.names l.fn.commands.items (l.outcomes.items ++ more));
+  copied : ClonesAreEqual g.T.Clone.is_clone → (more : List (Outcome g.row.T.Denot))
+      → saturating l.self.copied (copied_in_run l.self.names (into_iter_items l.rest) more) ≡ saturating l.fn.self.copied
+      (copied_in_run l.fn.self.names l.fn.commands.items (l.outcomes.items ++ more));
+  moved : ClonesAreEqual g.T.Clone.is_clone → (more : List (Outcome g.row.T.Denot))
+      → saturating l.self.moved (moved_in_run l.self.names (into_iter_items l.rest) more) ≡ saturating l.fn.self.moved
+      (moved_in_run l.fn.self.names l.fn.commands.items (l.outcomes.items ++ more));
 }
 
 abbrev pub decreases-loop-command : goal.decreases-loop-command

@@ -17,4 +17,5 @@ returns-in-None g c =
 pub returns-else-name-lt-SLOTS : goal.returns-else-name-lt-SLOTS
 returns-else-name-lt-SLOTS g c =
     c.get-else-name-lt-SLOTS.ensures.value
-    ∙ sym (get-entry c.self.inside.slots.items c.self.inside.others.entries c.args.name c.if-name-lt-SLOTS.false) ∙ ap (λ m. map.get m c.args.name) c.self.view_is
+    ∙ sym (get-entry c.self.inside.slots.items c.self.inside.others.entries c.args.name c.if-name-lt-SLOTS.false)
+    ∙ ap (λ m. map.get m c.args.name) c.self.view_is

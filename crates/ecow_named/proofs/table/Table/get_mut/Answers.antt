@@ -26,7 +26,11 @@ returns-in-None g c =
     let k = c.args.name in
     let past = c.in-None.ensures.item.3 in (
       ap inr c.self.view_is,
-      record { writes_back = tt; value = sym (get_or_past slots k None past) ∙ sym (get-slot slots c.self.inside.others.entries k c.if-name-lt-SLOTS.true) ∙ ap (λ m. map.get m k) c.self.view_is },
+      record {
+        writes_back = tt;
+        value = sym (get_or_past slots k None past)
+            ∙ sym (get-slot slots c.self.inside.others.entries k c.if-name-lt-SLOTS.true) ∙ ap (λ m. map.get m k) c.self.view_is;
+      },
     )
 
 pub returns-else-name-lt-SLOTS : goal.returns-else-name-lt-SLOTS
@@ -37,7 +41,8 @@ returns-else-name-lt-SLOTS g c =
     let large = c.if-name-lt-SLOTS.false in
     let lent = c.get_mut-else-name-lt-SLOTS in (
       same_loan lent.result _ _ _ _
-          (λ some w. put-entry slots es k large _ w ((lent.follows.holds w).3 (found lent.result _ lent.ensures.value some)).0 ∙ ap (λ m. map.insert m k w) c.self.view_is)
+          (λ some w. put-entry slots es k large _ w ((lent.follows.holds w).3 (found lent.result _ lent.ensures.value some)).0
+          ∙ ap (λ m. map.insert m k w) c.self.view_is)
           (ap (λ m. values_of slots m.entries) lent.follows.holds-at-none ∙ c.self.view_is),
       record { writes_back = tt; value = lent.ensures.value ∙ sym (get-entry slots es k large) ∙ ap (λ m. map.get m k) c.self.view_is },
     )

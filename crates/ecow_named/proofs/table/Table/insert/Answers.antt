@@ -6,7 +6,9 @@ use Rattle.ecow_named.proofs.table.Table.insert.Goals as goal
 use Rattle.ecow_named.proofs.table.Table.insert.Goals.{in-Some-1, in-None-1, in-Some-2, in-None-2}
 
 pub returns-in_err-reach-clause-unchanged : goal.returns-in_err-reach-clause-unchanged
-returns-in_err-reach-clause-unchanged g c = on_err c.from_residual.result (same-slots c.self.inside.slots.items c.reach.new.slots.items c.self.inside.others.entries c.reach.ensures.kept ∙ c.self.view_is)
+returns-in_err-reach-clause-unchanged g c =
+    on_err c.from_residual.result
+    (same-slots c.self.inside.slots.items c.reach.new.slots.items c.self.inside.others.entries c.reach.ensures.kept ∙ c.self.view_is)
 
 pub returns-in_err-reach-clause-countable : goal.returns-in_err-reach-clause-countable
 returns-in_err-reach-clause-countable g c =
@@ -34,18 +36,22 @@ returns-in_ok-reach-clause-ok g c =
 pub returns-in_ok-reach-clause-countable : goal.returns-in_ok-reach-clause-countable
 returns-in_ok-reach-clause-countable g c =
     few-inserted c.args.self.now c.match-index_mut.self c.args.name c.args.value
-    (few-values c.self.inside.slots.items c.self.inside.others.entries c.args.self.now c.len-others.result c.self.view_is c.len-others.ensures.len c.len-others.ensures.small)
+    (few-values c.self.inside.slots.items c.self.inside.others.entries c.args.self.now c.len-others.result
+    c.self.view_is c.len-others.ensures.len c.len-others.ensures.small)
     (returns-in_ok-reach-clause-ok g c)
 
 pub returns-in_ok-insert-clause-ok : goal.returns-in_ok-insert-clause-ok
 returns-in_ok-insert-clause-ok g c =
     let k = c.args.name in
-    let put = put-entry c.self.inside.slots.items c.self.inside.others.entries k c.if-name-lt-SLOTS.false c.insert.new.self.entries c.args.value c.in_ok-insert.ensures.updates.0
+    let put =
+    put-entry c.self.inside.slots.items c.self.inside.others.entries k c.if-name-lt-SLOTS.false
+    c.insert.new.self.entries c.args.value c.in_ok-insert.ensures.updates.0
     ∙ ap (λ m. map.insert m k c.args.value) c.self.view_is in
     elim c.match-branch-3.branch [ in-Some-2 w ↦ w.self-is ∙ put | in-None-2 w ↦ w.self-is ∙ put ]
 
 pub returns-in_ok-insert-clause-countable : goal.returns-in_ok-insert-clause-countable
 returns-in_ok-insert-clause-countable g c =
     few-inserted c.args.self.now c.match-branch-3.self c.args.name c.args.value
-    (few-values c.self.inside.slots.items c.self.inside.others.entries c.args.self.now c.len-others.result c.self.view_is c.len-others.ensures.len c.len-others.ensures.small)
+    (few-values c.self.inside.slots.items c.self.inside.others.entries c.args.self.now c.len-others.result
+    c.self.view_is c.len-others.ensures.len c.len-others.ensures.small)
     (returns-in_ok-insert-clause-ok g c)

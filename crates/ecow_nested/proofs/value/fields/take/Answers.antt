@@ -13,7 +13,8 @@ returns-in-Ok-clause-ok c =
 
 pub returns-in-Ok-clause-value : goal.returns-in-Ok-clause-value
 returns-in-Ok-clause-value c =
-    taken c.args.name.now c.args.fields.now c.in-Some.at c.in-Ok.field (rw c.as_slice.ensures at c.in-Some.ensures) (c.in-Ok.ensures.change.ok (λ x y same. same)).0
+    taken c.args.name.now c.args.fields.now c.in-Some.at c.in-Ok.field
+    (rw c.as_slice.ensures at c.in-Some.ensures) (c.in-Ok.ensures.change.ok (λ x y same. same)).0
 
 pub returns-in-Ok-clause-index : goal.returns-in-Ok-clause-index
 returns-in-Ok-clause-index c =

@@ -10,8 +10,11 @@ loop-command-preserved g c =
     let so_far = c.loop-command.invariant in
     record {
       room = omega (arith, c.in-Some.ensures.len, c.push_reserved.ensures.len, c.push_reserved.ensures.capacity, so_far.room);
-      steps = λ clones. rw c.push_reserved.ensures.items (goes_further IsVecStep _ _ _ _ _ _ _ _ (rw c.in-Some.ensures.items at so_far.steps clones) (c.step-outcome.ensures.step clones));
-      verdicts = rw c.push_reserved.ensures.items (goes_further IsVecVerdict _ _ _ _ _ _ _ _ (rw c.in-Some.ensures.items at so_far.verdicts) c.step-outcome.ensures.verdict);
+      steps = λ clones. rw c.push_reserved.ensures.items
+          (goes_further IsVecStep _ _ _ _ _ _ _ _ (rw c.in-Some.ensures.items at so_far.steps clones) (c.step-outcome.ensures.step clones));
+      verdicts =
+          rw c.push_reserved.ensures.items
+          (goes_further IsVecVerdict _ _ _ _ _ _ _ _ (rw c.in-Some.ensures.items at so_far.verdicts) c.step-outcome.ensures.verdict);
     }
 
 pub returns-clause-run : goal.returns-clause-run

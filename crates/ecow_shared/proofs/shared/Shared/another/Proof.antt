@@ -87,14 +87,18 @@ module _ (E : El) where
     abbrev held : Clauses 𝓤 ended
     held = holding 𝓤 ended (A.tok every) (F.clauses E.row 𝓛 at_mem run)
 
-    walk : (z : (walk_of 𝓛 ended stayed held).Ghost) → ent 𝓤 ((walk_of 𝓛 ended stayed held).pre z) (WpFn 𝓤 H 𝓣.C 𝓣.Λ here ((walk_of 𝓛 ended stayed held).args z) ((walk_of 𝓛 ended stayed held).post z))
+    walk : (z : (walk_of 𝓛 ended stayed held).Ghost)
+        → ent 𝓤 ((walk_of 𝓛 ended stayed held).pre z)
+        (WpFn 𝓤 H 𝓣.C 𝓣.Λ here ((walk_of 𝓛 ended stayed held).args z) ((walk_of 𝓛 ended stayed held).post z))
     walk z =
         let κ = z.0.0.0 in let κ₁ = z.0.0.1.0 in let q = z.0.1.0 in let q₁ = z.0.1.1.0 in let a = z.0.3 in let vss = z.0.4 in
         let b = a.0.ref_ptr.0 in let o = a.0.ref_ptr.1 in
         let Post : Val → SProp 𝓤 = (walk_of 𝓛 ended stayed held).post z in
-        qed 𝓛 (((‵ (flft κ q) ⊛ ‵ (flft κ₁ q₁) ⊛ ‵ ftrue) ⊛ ‵ (owns (types_at ended.signature.params z.0.0) a vss)) ∷ (‵ (ftok every) ⊛ raw ((F.clauses E.row 𝓛 at_mem run z.0.0 a).requires z.1)) ∷ []) ∵
+        qed 𝓛 (((‵ (flft κ q) ⊛ ‵ (flft κ₁ q₁) ⊛ ‵ ftrue) ⊛ ‵ (owns (types_at ended.signature.params z.0.0) a vss))
+        ∷ (‵ (ftok every) ⊛ raw ((F.clauses E.row 𝓛 at_mem run z.0.0 a).requires z.1)) ∷ []) ∵
         split ! $ split ! $ move ! (3 ∷ []) $ split ! $ move ! (4 ∷ []) $ fsplit ! $ fsplit ! $ feq_l ! (λ e₀. keep ! (0 ∷ 4 ∷ 2 ∷ 5 ∷ []) $
-        unhide ! $ fpick ! (λ x. let s : (Si E).Denot = x.0 in let i : (Bi E).Denot = s.inside in let owner = x.1.1 in let facts = owner.is_block in let same = x.1.0 in let c = s.top.ptr in
+        unhide ! $ fpick ! (λ x. let s : (Si E).Denot = x.0 in let i : (Bi E).Denot = s.inside in
+        let owner = x.1.1 in let facts = owner.is_block in let same = x.1.0 in let c = s.top.ptr in
         fsplit ! $ move ! (1 ∷ []) $ drop ! $ fsplit ! $ hide ! $ move ! (1 ∷ []) $ hide ! $
         -- [what the owner lends; its fields; the token; the thread's token; the other token]
         let us : List Val = vptr b o ∷ [] in
@@ -108,50 +112,66 @@ module _ (E : El) where
         sets ! (of_opd ! (load ! (through ! refl (fld ! refl (stop !))) (look_in ! 0 (sub ! 0 refl (whole !))))) refl (word-Good [] c) $
         sets ! (of_opd ! (load ! (through ! refl (fld ! refl (stop !))) (look_in ! 0 (sub ! 4 refl (whole !))))) refl (tt, ((tt, tt), tt)) $
         sets ! (of_opd ! (get ! refl)) refl (word-Good [] c) $ sets ! (of_opd ! (get ! refl)) refl (tt, ((tt, tt), tt)) $
-        sets ! (is ! (of_opd ! (get_in ! (fld ! refl (stop !)) (sub ! 0 refl (whole !)))) (ap ptr_val none)) refl (tt, record { fits = lit< tt }) $ sets ! (bin ! (get ! refl) (lit ! tt) tt) refl (tt, tt) $
+        sets ! (is ! (of_opd ! (get_in ! (fld ! refl (stop !)) (sub ! 0 refl (whole !)))) (ap ptr_val none)) refl
+        (tt, record { fits = lit< tt }) $ sets ! (bin ! (get ! refl) (lit ! tt) tt) refl (tt, tt) $
         sets ! (un ! (get ! refl) tt) refl (tt, tt) $ first ! $ branches ! (get ! refl)
         (λ some. absurd some)
         (λ null. skips ! $ exec ! 𝓣.C 𝓣.Λ En (after 8 here.body) (at_ret En Post) $
         sets ! (agg ! (no_more !)) refl (tt, tt) $ sets ! (agg ! (and_then ! (get ! refl) (no_more !))) refl (tt, (tt, tt)) $
         sets ! (agg ! (no_more !)) refl (tt, tt) $ sets ! (agg ! (and_then ! (get ! refl) (no_more !))) refl (tt, (tt, tt)) $
         sets ! (agg ! (no_more !)) refl (tt, tt) $ sets ! (agg ! (and_then ! (get ! refl) (no_more !))) refl (tt, (tt, tt)) $
-        sets ! (agg ! (and_then ! (get ! refl) (and_then ! (get ! refl) (and_then ! (get ! refl) (and_then ! (get ! refl) (and_then ! (get ! refl) (no_more !))))))) refl (laid-Good E c) $
+        sets ! (agg ! (and_then ! (get ! refl)
+        (and_then ! (get ! refl) (and_then ! (get ! refl) (and_then ! (get ! refl) (and_then ! (get ! refl) (no_more !))))))) refl
+        (laid-Good E c) $
         sets ! (agg ! (and_then ! (lit ! tt) (and_then ! (get ! refl) (no_more !)))) refl (some_Good (lone (Sh E).mir) (laid c) (laid-Good E c)) $
         read E s ! tt b o q' $
         nothing ! $ rewrite ! 0 (λ (p : Ptr). ‵ (unless_null p (shared_owns (R E) i))) (sym e) refl $ owner_made E ! s owner $
-        use1 𝓛 (‵ ((Opt.the_row (Sh E)).own_val (Some (contents i.room.items i.room.capacity)) (live 1 (vcons (laid c) vnil) ∷ []))) (Some-of 𝓛 (Sh E) (contents i.room.items i.room.capacity) (laid c)) $
+        use1 𝓛 (‵ ((Opt.the_row (Sh E)).own_val (Some (contents i.room.items i.room.capacity)) (live 1 (vcons (laid c) vnil) ∷ [])))
+        (Some-of 𝓛 (Sh E) (contents i.room.items i.room.capacity) (laid c)) $
         returns ! (look_at ! 0 refl) $ free_all ! refl $ keep ! (0 ∷ 1 ∷ 3 ∷ 2 ∷ []) $
-        suffices ! _ (ends_at 𝓛 ended stayed held z (live 1 (vcons (laid c) vnil)) (Some (contents i.room.items i.room.capacity)) (tt, tt) (tt, tt)) $ nothing ! $ nothing ! $ fjoin ! $ join ! $ move ! (1 ∷ 2 ∷ []) $ join ! $ join ! $ frame ! $ says ! same $ done !)))
+        suffices ! _ (ends_at 𝓛 ended stayed held z (live 1 (vcons (laid c) vnil)) (Some (contents i.room.items i.room.capacity))
+        (tt, tt) (tt, tt)) $ nothing ! $ nothing ! $ fjoin ! $ join ! $ move ! (1 ∷ 2 ∷ []) $
+        join ! $ join ! $ frame ! $ says ! same $ done !)))
         (λ _ _ _. move ! (1 ∷ 0 ∷ []) $ lent_out E s κ q b o ! tt (λ a r q'. move ! (1 ∷ 0 ∷ 6 ∷ []) $ opens E i a ! tt r (λ n cb co e fits some_n.
-        let there : c ≡ block_ptr cb co = sym owner.top_is ∙ e in let low : count_of (block_ptr cb co) < 2 ^ 63 = subst (λ (p : Ptr). count_of p < 2 ^ 63) e facts.head.testable in
+        let there : c ≡ block_ptr cb co = sym owner.top_is ∙ e in
+        let low : count_of (block_ptr cb co) < 2 ^ 63 = subst (λ (p : Ptr). count_of p < 2 ^ 63) e facts.head.testable in
         -- [the count; the value; the weak part; what shuts; the share; the owner's value; the way back; the invariant; what is seen; the other token]
         sets ! (of_opd ! (load ! (through ! refl (fld ! refl (stop !))) (look_in ! 5 (sub ! 0 refl (whole !))))) refl (word-Good [] c) $
         sets ! (of_opd ! (load ! (through ! refl (fld ! refl (stop !))) (look_in ! 5 (sub ! 4 refl (whole !))))) refl (tt, ((tt, tt), tt)) $
         sets ! (of_opd ! (get ! refl)) refl (word-Good [] c) $ sets ! (of_opd ! (get ! refl)) refl (tt, ((tt, tt), tt)) $
-        sets ! (is ! (of_opd ! (get_in ! (fld ! refl (stop !)) (sub ! 0 refl (whole !)))) (ap ptr_val there)) refl (tt, tt) $ sets ! (bin ! (get ! refl) (lit ! tt) (tests_null (block_ptr cb co) low)) refl (tt, tt) $
+        sets ! (is ! (of_opd ! (get_in ! (fld ! refl (stop !)) (sub ! 0 refl (whole !)))) (ap ptr_val there)) refl (tt, tt) $
+        sets ! (bin ! (get ! refl) (lit ! tt) (tests_null (block_ptr cb co) low)) refl (tt, tt) $
         sets ! (un ! (get ! refl) tt) refl (tt, tt) $ first ! $ branches ! (get ! refl)
         (λ some. blocks ! $
         sets ! (of_opd ! (load ! (through ! refl (fld ! refl (stop !))) (look ! 0 refl))) refl (tt, record { fits = fits }) $
         sets ! (bin ! (get ! refl) (neg_lit ! tt) tt) refl (tt, tt) $ first ! $ branches ! (get ! refl)
         (λ full. sets ! (agg ! (and_then ! (lit ! tt) (no_more !))) refl (tt, (record { fits = lit< tt }, tt)) $
         shut E i a ! tt n cb co e fits $ move ! (1 ∷ 2 ∷ 3 ∷ []) $ lent_back E s κ q b o ! tt a.0 r q' $
-        use0 𝓛 (‵ ((Opt.the_row (Sh E)).own_val None (live 0 vnil ∷ []))) (none_of 𝓛 (Sh E)) $ returns_within ! Post refl (look_at ! 0 refl) $ free_all ! refl $ keep ! (0 ∷ 1 ∷ 5 ∷ 2 ∷ []) $
-        suffices ! _ (ends_at 𝓛 ended stayed held z (live 0 vnil) None (tt, tt) (tt, tt)) $ nothing ! $ nothing ! $ fjoin ! $ join ! $ move ! (1 ∷ 2 ∷ []) $ join ! $ join ! $ frame ! $ says ! tt $ done !)
+        use0 𝓛 (‵ ((Opt.the_row (Sh E)).own_val None (live 0 vnil ∷ []))) (none_of 𝓛 (Sh E)) $
+        returns_within ! Post refl (look_at ! 0 refl) $ free_all ! refl $ keep ! (0 ∷ 1 ∷ 5 ∷ 2 ∷ []) $
+        suffices ! _ (ends_at 𝓛 ended stayed held z (live 0 vnil) None (tt, tt) (tt, tt)) $ nothing ! $ nothing ! $
+        fjoin ! $ join ! $ move ! (1 ∷ 2 ∷ []) $ join ! $ join ! $ frame ! $ says ! tt $ done !)
         (λ room. let grows : n + 1 < 2 ^ 64 = omega (arith, is_not n (2 ^ 64 - 1) room) in
-        skips ! $ exec ! 𝓣.C 𝓣.Λ En (after 3 (inside (then_of (head (after 7 here.body))))) (any_q (after_block 𝓤 H (after_seq 𝓤 H (Wp 𝓤 H 𝓣.C 𝓣.Λ En (after 8 here.body) (at_return 𝓤 H En Post)) (at_return 𝓤 H En Post)))) $
-        sets ! (bin ! (get ! refl) (lit ! tt) (record { fits = grows })) refl (tt, record { fits = grows }) $ assigns_last ! (of_opd ! (get ! refl)) (through ! refl (fld ! refl (stop !))) (store ! 0 refl (tt, record { fits = grows })) $
+        skips ! $ exec ! 𝓣.C 𝓣.Λ En (after 3 (inside (then_of (head (after 7 here.body)))))
+        (any_q (after_block 𝓤 H (after_seq 𝓤 H (Wp 𝓤 H 𝓣.C 𝓣.Λ En (after 8 here.body) (at_return 𝓤 H En Post)) (at_return 𝓤 H En Post)))) $
+        sets ! (bin ! (get ! refl) (lit ! tt) (record { fits = grows })) refl (tt, record { fits = grows }) $
+        assigns_last ! (of_opd ! (get ! refl)) (through ! refl (fld ! refl (stop !))) (store ! 0 refl (tt, record { fits = grows })) $
         exec ! 𝓣.C 𝓣.Λ En (after 8 here.body) (at_ret En Post) $
         sets ! (agg ! (no_more !)) refl (tt, tt) $ sets ! (agg ! (and_then ! (get ! refl) (no_more !))) refl (tt, (tt, tt)) $
         sets ! (agg ! (no_more !)) refl (tt, tt) $ sets ! (agg ! (and_then ! (get ! refl) (no_more !))) refl (tt, (tt, tt)) $
         sets ! (agg ! (no_more !)) refl (tt, tt) $ sets ! (agg ! (and_then ! (get ! refl) (no_more !))) refl (tt, (tt, tt)) $
-        sets ! (agg ! (and_then ! (get ! refl) (and_then ! (get ! refl) (and_then ! (get ! refl) (and_then ! (get ! refl) (and_then ! (get ! refl) (no_more !))))))) refl (laid-Good E c) $
+        sets ! (agg ! (and_then ! (get ! refl)
+        (and_then ! (get ! refl) (and_then ! (get ! refl) (and_then ! (get ! refl) (and_then ! (get ! refl) (no_more !))))))) refl
+        (laid-Good E c) $
         sets ! (agg ! (and_then ! (lit ! tt) (and_then ! (get ! refl) (no_more !)))) refl (some_Good (lone (Sh E).mir) (laid c) (laid-Good E c)) $
         move ! (1 ∷ []) $ more E i a ! n grows $ move ! (2 ∷ 0 ∷ 3 ∷ 4 ∷ []) $ shut E i a ! tt (n + 1) cb co e grows $
         move ! (2 ∷ 3 ∷ 4 ∷ []) $ lent_back E s κ q b o ! tt a.0 r q' $ move ! (2 ∷ 3 ∷ 4 ∷ []) $ counted_made E i ! a $
         rewrite ! 0 (λ (p : Ptr). ‵ (unless_null p (shared_owns (R E) i))) (sym e) refl $ owner_made E ! s owner $
-        use1 𝓛 (‵ ((Opt.the_row (Sh E)).own_val (Some (contents i.room.items i.room.capacity)) (live 1 (vcons (laid c) vnil) ∷ []))) (Some-of 𝓛 (Sh E) (contents i.room.items i.room.capacity) (laid c)) $
+        use1 𝓛 (‵ ((Opt.the_row (Sh E)).own_val (Some (contents i.room.items i.room.capacity)) (live 1 (vcons (laid c) vnil) ∷ [])))
+        (Some-of 𝓛 (Sh E) (contents i.room.items i.room.capacity) (laid c)) $
         returns ! (look_at ! 0 refl) $ free_all ! refl $ keep ! (0 ∷ 1 ∷ 3 ∷ 2 ∷ []) $
-        suffices ! _ (ends_at 𝓛 ended stayed held z (live 1 (vcons (laid c) vnil)) (Some (contents i.room.items i.room.capacity)) (tt, tt) (tt, tt)) $ nothing ! $ nothing ! $ fjoin ! $ join ! $ move ! (1 ∷ 2 ∷ []) $ join ! $ join ! $ frame ! $ says ! same $ done !))
+        suffices ! _ (ends_at 𝓛 ended stayed held z (live 1 (vcons (laid c) vnil)) (Some (contents i.room.items i.room.capacity))
+        (tt, tt) (tt, tt)) $ nothing ! $ nothing ! $ fjoin ! $ join ! $ move ! (1 ∷ 2 ∷ []) $ join ! $ join ! $ frame ! $ says ! same $ done !))
         (λ null. absurd null)))))))
 
     meets : Meets 𝓛 ended.signature (WpFn 𝓤 H 𝓣.C 𝓣.Λ here) (closing 𝓛 ended held)

@@ -70,14 +70,17 @@ module _ (E : El) where
     abbrev held : Clauses 𝓤 ended
     held = F.clauses E.row 𝓛 at_mem run
 
-    walk : (z : (walk_of 𝓛 ended stayed held).Ghost) → ent 𝓤 ((walk_of 𝓛 ended stayed held).pre z) (WpFn 𝓤 H 𝓣.C 𝓣.Λ here ((walk_of 𝓛 ended stayed held).args z) ((walk_of 𝓛 ended stayed held).post z))
+    walk : (z : (walk_of 𝓛 ended stayed held).Ghost)
+        → ent 𝓤 ((walk_of 𝓛 ended stayed held).pre z)
+        (WpFn 𝓤 H 𝓣.C 𝓣.Λ here ((walk_of 𝓛 ended stayed held).args z) ((walk_of 𝓛 ended stayed held).post z))
     walk z =
         let κ = z.0.0.0 in let κ₁ = z.0.0.1.0 in let q = z.0.1.0 in let q₁ = z.0.1.1.0 in let a = z.0.3 in let vss = z.0.4 in
         let b = a.0.ref_ptr.0 in let o = a.0.ref_ptr.1 in
         let Post : Val → SProp 𝓤 = (walk_of 𝓛 ended stayed held).post z in
         qed 𝓛 (((‵ (flft κ q) ⊛ ‵ (flft κ₁ q₁) ⊛ ‵ ftrue) ⊛ ‵ (owns (types_at ended.signature.params z.0.0) a vss)) ∷ raw ((held z.0.0 a).requires z.1) ∷ []) ∵
         move ! (1 ∷ []) $ drop ! $ split ! $ split ! $ move ! (2 ∷ []) $ fsplit ! $ fsplit ! $ feq_l ! (λ e₀. keep ! (0 ∷ 2 ∷ 3 ∷ []) $
-        unhide ! $ fpick ! (λ x. let s : (Si E).Denot = x.0 in let i : (Bi E).Denot = s.inside in let owner = x.1.1 in let facts = owner.is_block in let same = x.1.0 in
+        unhide ! $ fpick ! (λ x. let s : (Si E).Denot = x.0 in let i : (Bi E).Denot = s.inside in
+        let owner = x.1.1 in let facts = owner.is_block in let same = x.1.0 in
         fsplit ! $ move ! (1 ∷ []) $ drop ! $ fsplit ! $ hide ! $ move ! (1 ∷ []) $ hide ! $
         -- [what the owner lends; its fields; the token; the other token]
         let us : List Val = vptr b o ∷ [] in let at : Val = vptr b o in
@@ -88,18 +91,23 @@ module _ (E : El) where
         move ! (1 ∷ 2 ∷ []) $ reads E s ! tt b o (λ q'. move ! (3 ∷ []) $ lent_cases E i ! κ i.top.ptr
         -- [the value; what shuts; the fields; the other token]
         (λ e. let null : s.top.ptr ≡ null_ptr = sym owner.top_is ∙ e in
-        sets ! (is ! (of_opd ! (load ! (through ! refl (fld ! refl (fld ! refl (stop !)))) (look_in ! 0 (sub ! 0 refl (sub ! 0 refl (whole !)))))) (ap ptr_val null)) refl (tt, record { fits = lit< tt }) $
+        sets ! (is ! (of_opd ! (load ! (through ! refl (fld ! refl (fld ! refl (stop !)))) (look_in ! 0 (sub ! 0 refl (sub ! 0 refl (whole !))))))
+        (ap ptr_val null)) refl (tt, record { fits = lit< tt }) $
         sets ! (bin ! (get ! refl) (lit ! tt) tt) refl (tt, tt) $ first ! $ branches ! (get ! refl)
         (λ yes. sets ! (agg ! (and_then ! (lit ! tt) (no_more !))) refl (tt, (record { fits = lit< tt }, tt)) $ read E s ! tt b o q' $
-        use0 𝓛 (‵ ((Opt.the_row (Lent κ)).own_val None (live 0 vnil ∷ []))) (none_of 𝓛 (Lent κ)) $ returns_within ! Post refl (look_at ! 0 refl) $ free_all ! refl $ keep ! (0 ∷ 1 ∷ 3 ∷ []) $
-        suffices ! _ (ends_at 𝓛 ended stayed held z (live 0 vnil) None (tt, tt) (tt, tt)) $ says ! (sym same ∙ no_contents E i facts e) $ nothing ! $ nothing ! $ fjoin ! $ join ! $ move ! (1 ∷ 2 ∷ []) $ join ! $ join ! $ done !)
+        use0 𝓛 (‵ ((Opt.the_row (Lent κ)).own_val None (live 0 vnil ∷ []))) (none_of 𝓛 (Lent κ)) $
+        returns_within ! Post refl (look_at ! 0 refl) $ free_all ! refl $ keep ! (0 ∷ 1 ∷ 3 ∷ []) $
+        suffices ! _ (ends_at 𝓛 ended stayed held z (live 0 vnil) None (tt, tt) (tt, tt)) $ says ! (sym same ∙ no_contents E i facts e) $
+        nothing ! $ nothing ! $ fjoin ! $ join ! $ move ! (1 ∷ 2 ∷ []) $ join ! $ join ! $ done !)
         (λ no. absurd no))
         (λ cb co e. let there : s.top.ptr ≡ block_ptr cb co = sym owner.top_is ∙ e in let low = facts.head.testable in
-        unhide ! $ use1 𝓛 (‵ (seen (R E) i κ)) (rc_sees 64 (key (R E) i) (counts (R E) i) one_weak (kept (R E) i) ftrue ftrue (seen (R E) i) 𝓛 (seen_shr_laws (R E) (param_laws 0 E.row E.laws) i) κ) $
+        unhide ! $ use1 𝓛 (‵ (seen (R E) i κ)) (rc_sees 64 (key (R E) i) (counts (R E) i) one_weak (kept (R E) i) ftrue ftrue
+        (seen (R E) i) 𝓛 (seen_shr_laws (R E) (param_laws 0 E.row E.laws) i) κ) $
         -- [what is seen; the value; what shuts; the fields; the other token]
         move ! (1 ∷ []) $ rewrite ! 0 (λ (p : Ptr). ‵ (fat q' (data_ty E) b o (laid p))) there refl $
         sets ! (of_opd ! (load ! (through ! refl (fld ! refl (fld ! refl (stop !)))) (look_in ! 0 (sub ! 0 refl (sub ! 0 refl (whole !)))))) refl (tt, tt) $
-        sets ! (bin ! (get ! refl) (lit ! tt) (tests_null (block_ptr cb co) (subst (λ (p : Ptr). count_of p < 2 ^ 63) e low))) refl (tt, tt) $ first ! $ branches ! (get ! refl)
+        sets ! (bin ! (get ! refl) (lit ! tt) (tests_null (block_ptr cb co) (subst (λ (p : Ptr). count_of p < 2 ^ 63) e low))) refl
+        (tt, tt) $ first ! $ branches ! (get ! refl)
         (λ yes. absurd yes)
         (λ no. skips ! $ exec ! 𝓣.C 𝓣.Λ En (after 3 here.body) (at_ret En Post) $ first ! $ blocks ! $
         sets ! (addr ! (through ! refl (stop !))) refl (tt, tt) $ sets_last ! (addr ! (through ! refl (stop !))) refl (tt, tt) $

@@ -71,12 +71,16 @@ module _ (E : El) where
     abbrev held : Clauses 𝓤 ended
     held = holding 𝓤 ended (A.tok every) (F.clauses E.row 𝓛 at_mem run)
 
-    walk : (z : (walk_of 𝓛 ended stayed held).Ghost) → ent 𝓤 ((walk_of 𝓛 ended stayed held).pre z) (WpFn 𝓤 H 𝓣.C 𝓣.Λ here ((walk_of 𝓛 ended stayed held).args z) ((walk_of 𝓛 ended stayed held).post z))
+    walk : (z : (walk_of 𝓛 ended stayed held).Ghost)
+        → ent 𝓤 ((walk_of 𝓛 ended stayed held).pre z)
+        (WpFn 𝓤 H 𝓣.C 𝓣.Λ here ((walk_of 𝓛 ended stayed held).args z) ((walk_of 𝓛 ended stayed held).post z))
     walk z =
         let κ = z.0.0.0 in let q = z.0.1.0 in let a = z.0.3 in let vss = z.0.4 in
         let Post : Val → SProp 𝓤 = (walk_of 𝓛 ended stayed held).post z in
-        qed 𝓛 (((‵ (flft κ q) ⊛ ‵ ftrue) ⊛ ‵ (owns (types_at ended.signature.params z.0.0) a vss)) ∷ (‵ (ftok every) ⊛ raw (fact 𝓤 (κ ⊑ E.row.lives)) ⊛ ‵ ftrue) ∷ []) ∵
-        move ! (1 ∷ []) $ split3 ! $ move ! (1 ∷ []) $ heard ! (κ ⊑ E.row.lives) (λ within. move ! (1 ∷ []) $ drop ! $ move ! (1 ∷ []) $ split ! $ move ! (1 ∷ []) $
+        qed 𝓛 (((‵ (flft κ q) ⊛ ‵ ftrue) ⊛ ‵ (owns (types_at ended.signature.params z.0.0) a vss))
+        ∷ (‵ (ftok every) ⊛ raw (fact 𝓤 (κ ⊑ E.row.lives)) ⊛ ‵ ftrue) ∷ []) ∵
+        move ! (1 ∷ []) $ split3 ! $ move ! (1 ∷ []) $
+        heard ! (κ ⊑ E.row.lives) (λ within. move ! (1 ∷ []) $ drop ! $ move ! (1 ∷ []) $ split ! $ move ! (1 ∷ []) $
         fsplit ! $ owner_had E ! a.0 vss.0 (λ s same owner e₀. keep ! (0 ∷ 2 ∷ 3 ∷ []) $ move ! (1 ∷ []) $ split ! $ move ! (2 ∷ 0 ∷ []) $
         let i : (Bi E).Denot = s.inside in let c = s.top.ptr in let facts = owner.is_block in
         let us : List Val = laid c ∷ [] in
@@ -84,23 +88,30 @@ module _ (E : El) where
         suffices ! (Run us) (subst (λ (ws : List Val). ent 𝓤 (Run us) (Run ws)) (sym (λ k. e₀ k ++ [])) (id⊢ 𝓤 (Run us))) $
         enter ! 𝓣.C 𝓣.Λ here us Post $ alloc_all ! (λ l. pass_all ! refl (laid-Good E c, tt) $
         let En : Env 𝓤 H = env here.locals l in
-        sets ! (of_opd ! (get_in ! (fld ! refl (stop !)) (sub ! 0 refl (whole !)))) refl (word-Good [] c) $ sets ! (of_opd ! (get_in ! (fld ! refl (stop !)) (sub ! 4 refl (whole !)))) refl (tt, ((tt, tt), tt)) $
+        sets ! (of_opd ! (get_in ! (fld ! refl (stop !)) (sub ! 0 refl (whole !)))) refl (word-Good [] c) $
+        sets ! (of_opd ! (get_in ! (fld ! refl (stop !)) (sub ! 4 refl (whole !)))) refl (tt, ((tt, tt), tt)) $
         cases E i ! i.top.ptr
         -- [the token; the other tokens; the thread's token]
         (λ e. let none : c ≡ null_ptr = sym owner.top_is ∙ e in
-        sets ! (is ! (of_opd ! (get_in ! (fld ! refl (stop !)) (sub ! 0 refl (whole !)))) (ap ptr_val none)) refl (tt, record { fits = lit< tt }) $ sets ! (bin ! (get ! refl) (lit ! tt) tt) refl (tt, tt) $ first ! $ branches ! (get ! refl)
-        (λ null. sets ! (agg ! (and_then ! (lit ! tt) (no_more !))) refl (tt, (record { fits = lit< tt }, tt)) $ use0 𝓛 (‵ ((Opt.the_row (Bk E)).own_val None (live 0 vnil ∷ []))) (none_of 𝓛 (Bk E)) $
+        sets ! (is ! (of_opd ! (get_in ! (fld ! refl (stop !)) (sub ! 0 refl (whole !)))) (ap ptr_val none)) refl
+        (tt, record { fits = lit< tt }) $ sets ! (bin ! (get ! refl) (lit ! tt) tt) refl (tt, tt) $ first ! $ branches ! (get ! refl)
+        (λ null. sets ! (agg ! (and_then ! (lit ! tt) (no_more !))) refl (tt, (record { fits = lit< tt }, tt)) $
+        use0 𝓛 (‵ ((Opt.the_row (Bk E)).own_val None (live 0 vnil ∷ []))) (none_of 𝓛 (Bk E)) $
         returns_within ! Post refl (look_at ! 0 refl) $ free_all ! refl $ move ! (1 ∷ 2 ∷ []) $ join ! $ move ! (1 ∷ 0 ∷ 2 ∷ []) $
-        suffices ! _ (ends_at 𝓛 ended stayed held z (live 0 vnil) None (tt, tt) (tt, tt)) $ nothing ! $ nothing ! $ fjoin ! $ join ! $ move ! (1 ∷ 0 ∷ []) $ join ! $ frame ! $ says ! tt $ done !)
+        suffices ! _ (ends_at 𝓛 ended stayed held z (live 0 vnil) None (tt, tt) (tt, tt)) $ nothing ! $ nothing ! $
+        fjoin ! $ join ! $ move ! (1 ∷ 0 ∷ []) $ join ! $ frame ! $ says ! tt $ done !)
         (λ null. absurd null))
         (λ _ _ _. is_counted E i ! tt κ q within $ counted_had E i ! (λ a r one. move ! (1 ∷ 0 ∷ 6 ∷ []) $ opens E i a ! tt r (λ n cb co e fits some_n.
-        let there : c ≡ block_ptr cb co = sym owner.top_is ∙ e in let low : count_of (block_ptr cb co) < 2 ^ 63 = subst (λ (p : Ptr). count_of p < 2 ^ 63) e facts.head.testable in
+        let there : c ≡ block_ptr cb co = sym owner.top_is ∙ e in
+        let low : count_of (block_ptr cb co) < 2 ^ 63 = subst (λ (p : Ptr). count_of p < 2 ^ 63) e facts.head.testable in
         move ! (4 ∷ []) $ use1 𝓛 (‵ (part 64 a.0)) (part_in 64 𝓛 a.0 r one) $ move ! (1 ∷ 2 ∷ 3 ∷ 4 ∷ []) $
         -- [the count; the value; the weak part; what shuts; the part; the invariant; what is seen; the token; the other tokens]
-        sets ! (is ! (of_opd ! (get_in ! (fld ! refl (stop !)) (sub ! 0 refl (whole !)))) (ap ptr_val there)) refl (tt, tt) $ sets ! (bin ! (get ! refl) (lit ! tt) (tests_null (block_ptr cb co) low)) refl (tt, tt) $ first ! $ branches ! (get ! refl)
+        sets ! (is ! (of_opd ! (get_in ! (fld ! refl (stop !)) (sub ! 0 refl (whole !)))) (ap ptr_val there)) refl (tt, tt) $
+        sets ! (bin ! (get ! refl) (lit ! tt) (tests_null (block_ptr cb co) low)) refl (tt, tt) $ first ! $ branches ! (get ! refl)
         (λ null. absurd null)
         (λ null. skips ! $ exec ! 𝓣.C 𝓣.Λ En (after 5 here.body) (at_ret En Post) $ first ! $ blocks ! $
-        sets ! (of_opd ! (load ! (through ! refl (fld ! refl (stop !))) (look ! 0 refl))) refl (tt, record { fits = fits }) $ sets ! (bin ! (get ! refl) (lit ! tt) tt) refl (tt, tt) $ branches ! (get ! refl)
+        sets ! (of_opd ! (load ! (through ! refl (fld ! refl (stop !))) (look ! 0 refl))) refl (tt, record { fits = fits }) $
+        sets ! (bin ! (get ! refl) (lit ! tt) tt) refl (tt, tt) $ branches ! (get ! refl)
         (λ many. let fewer : n - 1 < 2 ^ 64 = omega arith in let more : 1 < n = omega (arith, is_not n 1 many, some_n) in let least : 1 ≤ n = omega arith in
         sets ! (bin ! (get ! refl) (lit ! tt) least) refl (tt, record { fits = fewer }) $
         assigns ! (of_opd ! (get ! refl)) (through ! refl (fld ! refl (stop !))) (store ! 0 refl (tt, record { fits = fewer })) $
@@ -108,21 +119,27 @@ module _ (E : El) where
         move ! (1 ∷ 4 ∷ []) $ less E i a ! n more $ move ! (1 ∷ 0 ∷ 2 ∷ 3 ∷ []) $ shut E i a ! tt (n - 1) cb co e fewer $
         use0 𝓛 (‵ ((Opt.the_row (Bk E)).own_val None (live 0 vnil ∷ []))) (none_of 𝓛 (Bk E)) $
         returns_within ! Post refl (look_at ! 0 refl) $ free_all ! refl $ keep ! (4 ∷ 5 ∷ 0 ∷ 1 ∷ []) $ join ! $ move ! (1 ∷ 0 ∷ 2 ∷ []) $
-        suffices ! _ (ends_at 𝓛 ended stayed held z (live 0 vnil) None (tt, tt) (tt, tt)) $ nothing ! $ nothing ! $ fjoin ! $ join ! $ move ! (1 ∷ 0 ∷ []) $ join ! $ frame ! $ says ! tt $ done !)
+        suffices ! _ (ends_at 𝓛 ended stayed held z (live 0 vnil) None (tt, tt) (tt, tt)) $ nothing ! $ nothing ! $
+        fjoin ! $ join ! $ move ! (1 ∷ 0 ∷ []) $ join ! $ frame ! $ says ! tt $ done !)
         (λ last. let one_n : n ≡ 1 = is_so n 1 last in skips ! $ exec ! 𝓣.C 𝓣.Λ En (after 6 here.body) (at_ret En Post) $
         sets ! (agg ! (no_more !)) refl (tt, tt) $ sets ! (agg ! (and_then ! (get ! refl) (no_more !))) refl (tt, (tt, tt)) $
         sets ! (agg ! (no_more !)) refl (tt, tt) $ sets ! (agg ! (and_then ! (get ! refl) (no_more !))) refl (tt, (tt, tt)) $
         sets ! (agg ! (no_more !)) refl (tt, tt) $ sets ! (agg ! (and_then ! (get ! refl) (no_more !))) refl (tt, (tt, tt)) $
-        sets ! (agg ! (and_then ! (get ! refl) (and_then ! (get ! refl) (and_then ! (get ! refl) (and_then ! (get ! refl) (and_then ! (get ! refl) (no_more !))))))) refl (laid-Good E c) $
+        sets ! (agg ! (and_then ! (get ! refl)
+        (and_then ! (get ! refl) (and_then ! (get ! refl) (and_then ! (get ! refl) (and_then ! (get ! refl) (no_more !))))))) refl
+        (laid-Good E c) $
         sets ! (agg ! (and_then ! (lit ! tt) (and_then ! (get ! refl) (no_more !)))) refl (some_Good (lone (Bk E).mir) (laid c) (laid-Good E c)) $
         rewrite ! 0 (λ (j : ℕ). ‵ (cell cb (co + 0) j)) one_n refl $ rewrite ! 1 (λ (j : ℕ). ‵ (value E i a j)) one_n refl $
         move ! (1 ∷ 4 ∷ 2 ∷ 3 ∷ []) $ alone E i a ! tt $
         -- [the thread's token; what is kept; the count; the invariant; what is seen; the token; the other tokens]
         move ! (2 ∷ 1 ∷ []) $ flt_i ! 1 (2 ^ 64) (lit< tt) $ fjoin ! $ rewrite ! 0 (λ (p : Ptr). ‵ (counter_at p 0 1)) (sym e) refl $ fjoin ! $
-        of_sole E i facts cb co e ! $ block_made E ! i facts $ rewrite ! 0 (λ (p : Ptr). ‵ ((Bk E).own_val (contents i.room.items i.room.capacity) (laid p ∷ []))) owner.top_is refl $
-        use1 𝓛 (‵ ((Opt.the_row (Bk E)).own_val (Some (contents i.room.items i.room.capacity)) (live 1 (vcons (laid c) vnil) ∷ []))) (Some-of 𝓛 (Bk E) (contents i.room.items i.room.capacity) (laid c)) $
+        of_sole E i facts cb co e ! $ block_made E ! i facts $
+        rewrite ! 0 (λ (p : Ptr). ‵ ((Bk E).own_val (contents i.room.items i.room.capacity) (laid p ∷ []))) owner.top_is refl $
+        use1 𝓛 (‵ ((Opt.the_row (Bk E)).own_val (Some (contents i.room.items i.room.capacity)) (live 1 (vcons (laid c) vnil) ∷ [])))
+        (Some-of 𝓛 (Bk E) (contents i.room.items i.room.capacity) (laid c)) $
         returns ! (look_at ! 0 refl) $ free_all ! refl $ keep ! (4 ∷ 5 ∷ 0 ∷ 1 ∷ []) $ join ! $ move ! (1 ∷ 0 ∷ 2 ∷ []) $
-        suffices ! _ (ends_at 𝓛 ended stayed held z (live 1 (vcons (laid c) vnil)) (Some (contents i.room.items i.room.capacity)) (tt, tt) (tt, tt)) $ nothing ! $ nothing ! $ fjoin ! $ join ! $ move ! (1 ∷ 0 ∷ []) $ join ! $ frame ! $ says ! same $ done !))))))))
+        suffices ! _ (ends_at 𝓛 ended stayed held z (live 1 (vcons (laid c) vnil)) (Some (contents i.room.items i.room.capacity))
+        (tt, tt) (tt, tt)) $ nothing ! $ nothing ! $ fjoin ! $ join ! $ move ! (1 ∷ 0 ∷ []) $ join ! $ frame ! $ says ! same $ done !))))))))
 
     meets : Meets 𝓛 ended.signature (WpFn 𝓤 H 𝓣.C 𝓣.Λ here) (closing 𝓛 ended held)
     meets =

@@ -10,7 +10,8 @@ abbrev pub invariant-loop-command : goal.invariant-loop-command
 invariant-loop-command g l = record {
   room : vec_len l.outcomes + into_iter_len l.rest ≤ vec_capacity l.outcomes;
   steps : ClonesAreEqual g.T.Clone.is_clone → GoesOn (Step g.row.N) l.fn.self l.fn.commands.items l.outcomes.items (into_iter_items l.rest) l.self;
-  bytes_and_texts : GoesOn (StepWhere g.row.N (ClonesAreEqual g.T.Clone.is_clone)) l.fn.self l.fn.commands.items l.outcomes.items (into_iter_items l.rest) l.self;
+  bytes_and_texts : GoesOn (StepWhere g.row.N (ClonesAreEqual g.T.Clone.is_clone)) l.fn.self
+      l.fn.commands.items l.outcomes.items (into_iter_items l.rest) l.self;
   verdicts : GoesOn (StepVerdict g.row.N) l.fn.self l.fn.commands.items l.outcomes.items (into_iter_items l.rest) l.self;
 }
 

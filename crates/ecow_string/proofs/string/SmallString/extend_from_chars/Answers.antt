@@ -15,7 +15,8 @@ loop-c-preserved g c =
     let given = c.in_ok-push.ensures in
     let goes = c.in-Some.ensures.goes.on c.loop-c.invariant.3 in (
       given.chars ∙ ap (λ l. l ++ x ∷ []) c.loop-c.invariant.0 ∙ append_assoc c.args.self.now.chars c.loop-c.yielded (x ∷ []),
-      given.mode.mode ∙ stays g.row.N c.args.self.now.inline now.inline (utf8_len now.chars) (len_utf8 x) _ c.loop-c.invariant.1 (ap utf8_len given.chars ∙ one_char_more now.chars x),
+      given.mode.mode ∙ stays g.row.N c.args.self.now.inline now.inline (utf8_len now.chars)
+          (len_utf8 x) _ c.loop-c.invariant.1 (ap utf8_len given.chars ∙ one_char_more now.chars x),
       goes.0,
       goes.1,
     )

@@ -16,7 +16,8 @@ returns-in_err-push_next-clause-refused g c =
     let x = c.in-Some.text in
     let given = c.in_err-push_next.ensures in
     let whole : utf8_len (old.chars ++ joined_by g.T.Joined.text_of (xs ++ x ∷ [])) ≡ utf8_len now.chars + length c.text.result.now =
-    ap utf8_len (sym (joined_by_more g.T.Joined.text_of old.chars xs x now.chars c.loop-text.invariant.0)) ∙ ap (λ l. utf8_len (now.chars ++ l)) (sym c.text.ensures) ∙ given.len in
+    ap utf8_len (sym (joined_by_more g.T.Joined.text_of old.chars xs x now.chars c.loop-text.invariant.0))
+    ∙ ap (λ l. utf8_len (now.chars ++ l)) (sym c.text.ensures) ∙ given.len in
     let p = err_from_is_err_and c.from_residual.result c.from_residual.ensures.1 in
     on_err c.from_residual.result (
       xs ++ x ∷ [],

@@ -13,4 +13,5 @@ invariant_of-self-2 g c =
 pub returns-clause-chars : goal.returns-clause-chars
 returns-clause-chars g c =
     let cut = rw (← c.self.view_is) at c.requires in
-    rw (← c.self.view_is, c.in_ok-insert_slice.ensures.bytes, c.as_bytes.ensures.value) (chars-replace _ _ c.args.index c.args.index c.self.invariant c.utf8.text cut cut)
+    rw (← c.self.view_is, c.in_ok-insert_slice.ensures.bytes, c.as_bytes.ensures.value)
+    (chars-replace _ _ c.args.index c.args.index c.self.invariant c.utf8.text cut cut)

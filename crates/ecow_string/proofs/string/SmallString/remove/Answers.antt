@@ -11,7 +11,8 @@ use Rattle.ecow_string.proofs.string.SmallString.remove.Given.{Over}
 use Rattle.ecow_string.proofs.string.SmallString.remove.Goals as goal
 
 pub range_from-requires : goal.range_from-requires
-range_from-requires g c = λ _. rw c.as_str.ensures.bytes (boundary_of_front _ c.args.index c.as_str.ensures.valid (passes_boundary _ c.args.index c.requires.boundary))
+range_from-requires g c =
+    λ _. rw c.as_str.ensures.bytes (boundary_of_front _ c.args.index c.as_str.ensures.valid (passes_boundary _ c.args.index c.requires.boundary))
 
 taken : (g : Over) (c : goal.In_ok-rewrite g) → Removed c.self.inside.bytes.bytes c.args.index c.unwrap-c.result
 taken g c =
@@ -23,7 +24,8 @@ taken g c =
     (ap (drop c.args.index) same ∙ sym c.range_from.ensures.value ∙ sym c.chars.ensures.rest ∙ read)
 
 -- what the closure moved down and cut off
-cut : (g : Over) (c : goal.In_ok-rewrite g) → c.rewrite.new.self.bytes ≡ remove_range c.self.inside.bytes.bytes c.args.index (c.args.index + len_utf8 c.unwrap-c.result)
+cut : (g : Over) (c : goal.In_ok-rewrite g)
+    → c.rewrite.new.self.bytes ≡ remove_range c.self.inside.bytes.bytes c.args.index (c.args.index + len_utf8 c.unwrap-c.result)
 cut g c =
     let wrote = c.in_ok-rewrite.ensures.bytes in
     let d = c.self.inside.bytes.bytes in

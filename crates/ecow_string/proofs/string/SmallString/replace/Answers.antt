@@ -9,6 +9,7 @@ use Rattle.ecow_string.proofs.string.SmallString.replace.Goals as goal
 pub returns : goal.returns
 returns g c =
     let cs = c.args.self.now.chars in
-    let all : replacen (c.len.result + 1) (chars c.args.pattern.now) (chars c.args.replacement.now) cs ≡ replace_all (chars c.args.pattern.now) (chars c.args.replacement.now) cs =
+    let all : replacen (c.len.result + 1) (chars c.args.pattern.now) (chars c.args.replacement.now) cs
+    ≡ replace_all (chars c.args.pattern.now) (chars c.args.replacement.now) cs =
     enough (c.len.result + 1) (length cs + 1) _ _ cs (omega (arith, c.len.ensures.len, length-le-encodes cs)) (omega arith) in
     rw (← all) c.replacen.ensures

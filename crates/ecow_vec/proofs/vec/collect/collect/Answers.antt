@@ -48,11 +48,13 @@ loop-iter-preserved g c =
     let goes = c.in-Some.ensures.goes.on (c.loop-iter-test.ensures.callable refl).1 in
     let same = c.len-len.ensures.len in
     let below = c.if-len-most.false in
-    let items : c.push_within_capacity.new.self.items ≡ xs ++ x ∷ [] = ap (λ b. b.items) c.push_within_capacity.ensures ∙ ap (λ b. b.items ++ x ∷ []) c.grow.ensures.block in
+    let items : c.push_within_capacity.new.self.items ≡ xs ++ x ∷ [] =
+    ap (λ b. b.items) c.push_within_capacity.ensures ∙ ap (λ b. b.items ++ x ∷ []) c.grow.ensures.block in
     let len : length c.push_within_capacity.new.self.items ≡ length xs + 1 = ap length items ∙ length-append xs (x ∷ []) in
     let kept = c.loop-iter.invariant.2 in
     let room : c.args.least ≤ c.push_within_capacity.new.self.capacity = search rules in (
-      subst (λ (ys : List g.row.T.Denot). Yields steps first ys c.next.new.self) (sym items) (Yields-more steps first xs c.fill_from.new.iter x c.next.new.self led c.in-Some.ensures.steps),
+      subst (λ (ys : List g.row.T.Denot). Yields steps first ys c.next.new.self) (sym items)
+          (Yields-more steps first xs c.fill_from.new.iter x c.next.new.self led c.in-Some.ensures.steps),
       omega arith,
       room,
       goes.0,

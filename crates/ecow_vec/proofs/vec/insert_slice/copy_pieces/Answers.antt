@@ -19,5 +19,6 @@ returns g c =
     let last : c.copy_from_slice-2.new.self ≡ drop (n - k) (take n s) =
     c.copy_from_slice-2.ensures.after ∙ cases'.1.same ∙ ap (λ l. drop (l - k) (take n s)) count in
     let few : k ≤ n = omega (arith, cases.enough, count) in
-    pieces_put all c.args.to s k n c.copy_from_slice.new.self c.copy_from_slice-2.new.self (c.args.to + n - k) (c.args.to + k - c.args.to) (c.args.to + n - (c.args.to + n - k))
+    pieces_put all c.args.to s k n c.copy_from_slice.new.self c.copy_from_slice-2.new.self
+    (c.args.to + n - k) (c.args.to + k - c.args.to) (c.args.to + n - (c.args.to + n - k))
     few c.requires.covered (omega (arith, c.requires.room)) long first last (omega (arith, few)) (omega arith) (omega (arith, few))

@@ -21,5 +21,6 @@ returns g c =
     record {
       block = c.truncate.ensures ∙ rw (c.copy_from_slice.ensures.after, c.copy_within.ensures, c.as_mut_slice-all.ensures.value, c.extend_copies.ensures)
           (ap (λ l. contents l c.args.block.now.capacity) (replaced_again (items ++ behind) items elements start end c.len-len.result (length elements)
-          (sym (take_at items behind c.len-len.result (sym long))) (omega (arith, long, size)) refl ordered (omega (arith, long, within)) (omega (arith, long, size, more, ordered, within))));
+          (sym (take_at items behind c.len-len.result (sym long))) (omega (arith, long, size)) refl ordered
+          (omega (arith, long, within)) (omega (arith, long, size, more, ordered, within))));
     }

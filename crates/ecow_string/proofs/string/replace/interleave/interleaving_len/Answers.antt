@@ -19,5 +19,6 @@ returns c =
     let places : c.min-places.result ≡ min c.args.count (length (chars c.args.text.now) + 1) = search rules in
     let total = interleaving_total c.args.count c.min-places.result c.args.replacement.now c.args.text.now c.utf8.replacement c.utf8.text places in
     let product = c.in_ok-added.ensures.1 in
-    let same : length c.args.text.now + c.in_ok-added.added ≡ utf8_len (replacen c.args.count [] (chars c.args.replacement.now) (chars c.args.text.now)) = omega (arith, total, product) in
+    let same : length c.args.text.now + c.in_ok-added.added ≡ utf8_len
+    (replacen c.args.count [] (chars c.args.replacement.now) (chars c.args.text.now)) = omega (arith, total, product) in
     rw same at c.total_with.ensures

@@ -7,7 +7,9 @@ use Rattle.ecow_string.proofs.string.replace.pattern.push_replacement.Goals as g
 
 pub loop-left-preserved-in-None : goal.loop-left-preserved-in-None
 loop-left-preserved-in-None g c =
-    let last = replaced-none c.loop-left.left (chars c.args.pattern.now) (chars c.args.replacement.now) (chars c.loop-left.rest.now) (chars_some _ c.utf8.pattern c.requires.some) c.in-None.ensures in
+    let last =
+    replaced-none c.loop-left.left (chars c.args.pattern.now) (chars c.args.replacement.now)
+    (chars c.loop-left.rest.now) (chars_some _ c.utf8.pattern c.requires.some) c.in-None.ensures in
     record {
       text = c.loop-left.invariant.text;
       joined = ap (λ l. c.loop-left.target.chars ++ l) (replaced-zero _ _ _ ∙ sym last) ∙ c.loop-left.invariant.joined;
@@ -17,16 +19,24 @@ loop-left-preserved-in-None g c =
 pub push_both-requires : goal.push_both-requires
 push_both-requires g c =
     let rest = replacen (c.loop-left.left - 1) (chars c.args.pattern.now) (chars c.args.replacement.now) (chars c.in-Some.behind.now) in
-    let step = replaced_len-step c.loop-left.left c.args.pattern.now c.args.replacement.now c.loop-left.rest.now c.in-Some.before.now c.in-Some.behind.now (omega arith) c.utf8.pattern c.requires.some c.utf8.replacement c.in-Some.ensures in
-    let room = part_fits c.loop-left.target.chars c.args.target.now.chars _ _ rest c.args.most (length c.in-Some.before.now + length c.args.replacement.now) c.loop-left.invariant.joined c.requires.fits step in
+    let step =
+    replaced_len-step c.loop-left.left c.args.pattern.now c.args.replacement.now c.loop-left.rest.now c.in-Some.before.now
+    c.in-Some.behind.now (omega arith) c.utf8.pattern c.requires.some c.utf8.replacement c.in-Some.ensures in
+    let room =
+    part_fits c.loop-left.target.chars c.args.target.now.chars _ _ rest c.args.most (length c.in-Some.before.now
+    + length c.args.replacement.now) c.loop-left.invariant.joined c.requires.fits step in
     (search rules, (c.requires.bounded, (omega (arith, room), c.loop-left.invariant.mode)))
 
 pub loop-left-preserved : goal.loop-left-preserved
 loop-left-preserved g c =
-    let step = replaced-step c.loop-left.left c.args.pattern.now c.args.replacement.now c.loop-left.rest.now c.in-Some.before.now c.in-Some.behind.now (omega arith) c.utf8.pattern c.requires.some c.in-Some.ensures in
+    let step =
+    replaced-step c.loop-left.left c.args.pattern.now c.args.replacement.now c.loop-left.rest.now c.in-Some.before.now
+    c.in-Some.behind.now (omega arith) c.utf8.pattern c.requires.some c.in-Some.ensures in
     record {
       text = c.in-Some.ensures.behind_utf8;
-      joined = ap (λ l. l ++ replacen (c.loop-left.left - 1) (chars c.args.pattern.now) (chars c.args.replacement.now) (chars c.in-Some.behind.now)) c.in_ok-push_both-in-Some.ensures.chars
+      joined =
+          ap (λ l. l ++ replacen (c.loop-left.left - 1) (chars c.args.pattern.now) (chars c.args.replacement.now)
+          (chars c.in-Some.behind.now)) c.in_ok-push_both-in-Some.ensures.chars
           ∙ simp append_assoc (ap (λ l. c.loop-left.target.chars ++ l) (sym step)) ∙ c.loop-left.invariant.joined;
       mode = c.in_ok-push_both-in-Some.ensures.mode;
     }
@@ -36,12 +46,16 @@ push_part-requires g c =
     let none : c.loop-left.left ≡ 0 = omega arith in
     let end = rw none at c.loop-left.invariant.joined in
     let size = ap utf8_len (replaced-zero (chars c.args.pattern.now) (chars c.args.replacement.now) (chars c.loop-left.rest.now)) in
-    let room = part_fits c.loop-left.target.chars c.args.target.now.chars _ _ [] c.args.most (length c.loop-left.rest.now) end c.requires.fits (omega (arith, size, utf8_len-chars c.loop-left.rest.now c.loop-left.invariant.text)) in
+    let room =
+    part_fits c.loop-left.target.chars c.args.target.now.chars _ _ [] c.args.most (length c.loop-left.rest.now) end c.requires.fits
+    (omega (arith, size, utf8_len-chars c.loop-left.rest.now c.loop-left.invariant.text)) in
     (search rules, (c.requires.bounded, (room, c.loop-left.invariant.mode)))
 
 pub returns-clause-chars : goal.returns-clause-chars
 returns-clause-chars g c =
     let none : c.loop-left.left ≡ 0 = omega arith in
     let end = rw none at c.loop-left.invariant.joined in
-    let whole = ap (λ l. c.loop-left.target.chars ++ l) (sym (replaced-zero (chars c.args.pattern.now) (chars c.args.replacement.now) (chars c.loop-left.rest.now))) ∙ end in
+    let whole =
+    ap (λ l. c.loop-left.target.chars ++ l)
+    (sym (replaced-zero (chars c.args.pattern.now) (chars c.args.replacement.now) (chars c.loop-left.rest.now))) ∙ end in
     rw (← whole) c.push_part.ensures.chars

@@ -9,7 +9,8 @@ use Rattle.ecow_string.proofs.string.replace.pattern.push_replacement.Given as g
 abbrev pub invariant-loop-left : goal.invariant-loop-left
 invariant-loop-left g l = record {
   text : shadow (Utf8 l.rest);
-  joined : l.target.chars ++ replacen l.left (chars l.pattern) (chars l.replacement) (chars l.rest) ≡ l.fn.target.chars ++ replacen l.fn.count (chars l.pattern) (chars l.replacement) (chars l.text);
+  joined : l.target.chars ++ replacen l.left (chars l.pattern) (chars l.replacement) (chars l.rest)
+      ≡ l.fn.target.chars ++ replacen l.fn.count (chars l.pattern) (chars l.replacement) (chars l.text);
   mode : l.target.inline ≡ inline_for g.row.N l.most;
 }
 

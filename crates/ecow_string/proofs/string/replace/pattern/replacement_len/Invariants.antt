@@ -11,7 +11,8 @@ abbrev pub invariant-loop-left : goal.invariant-loop-left
 invariant-loop-left l = record {
   text : shadow (Utf8 l.rest);
   bounded : l.total ≤ MAX_LEN;
-  counted : l.total + utf8_len (replacen l.left (chars l.pattern) (chars l.replacement) (chars l.rest)) ≡ utf8_len (replacen l.fn.count (chars l.pattern) (chars l.replacement) (chars l.text));
+  counted : l.total + utf8_len (replacen l.left (chars l.pattern) (chars l.replacement) (chars l.rest))
+      ≡ utf8_len (replacen l.fn.count (chars l.pattern) (chars l.replacement) (chars l.text));
 }
 
 abbrev pub decreases-loop-left : goal.decreases-loop-left

@@ -5,7 +5,8 @@ use Rattle.ecow_vec.proofs.Kept.{zip_same}
 use Rattle.ecow_vec.proofs.vec.own.CopiesCopying.block.Goals as goal
 
 -- a block of these very elements has a copy of each
-all_same : {X E : Type 0} (xs : List X) (n : _) (r : Result (Contents X) E) → IfOk r (λ b. b ≡ contents xs n) → IfOk r (λ b. AllZip (λ (x y : X). y ≡ x) xs b.items)
+all_same : {X E : Type 0} (xs : List X) (n : _) (r : Result (Contents X) E)
+    → IfOk r (λ b. b ≡ contents xs n) → IfOk r (λ b. AllZip (λ (x y : X). y ≡ x) xs b.items)
 all_same xs n (Ok b) same = subst (λ (b : Contents _). AllZip (λ x y. y ≡ x) xs b.items) (sym same) (zip_same (λ x y. y ≡ x) xs)
 all_same xs n (Err e) same = tt
 
