@@ -1,8 +1,8 @@
 //! The calls of bytes.
 use crate::marks::Meter;
-use crate::rows::{Kind, Rows, USUAL};
+use crate::rows::{Role, Rows, USUAL};
 use crate::small;
-use crate::small::{Call, Gift, Row, add_calls, add_few, add_growth, add_makers, given};
+use crate::small::{Gift, Row, SmallCall, add_calls, add_few, add_growth, add_makers, given};
 use crate::states::error_of;
 use ecow_bytes::SmallBytes;
 use ecow_vec::EcoError;
@@ -57,11 +57,11 @@ pub(crate) enum Maker {
 }
 
 fn row_of(call: Bytes, name: &'static str, brings: usize, needs: usize) -> Row {
-    small::row_of(Call::Bytes(call), name, brings, needs)
+    small::row_of(SmallCall::Bytes(call), name, brings, needs)
 }
 
 fn repeated(call: Bytes, name: &'static str, brings: usize, times: usize) -> Row {
-    small::repeated(Call::Bytes(call), name, brings, times)
+    small::repeated(SmallCall::Bytes(call), name, brings, times)
 }
 
 fn changes() -> [Row; 31] {
@@ -410,9 +410,9 @@ pub(crate) fn call_on<const N: usize>(
 /// `none` names the type of the values.
 pub(crate) fn add_rows<const N: usize>(meter: Meter, rows: &mut Rows, none: &SmallBytes<N>) {
     let shrink = [row_of(Bytes::Shrink, "b.shrink_to_fit()", 0, 0)];
-    add_calls(Kind::Change, meter, rows, &changes(), none);
+    add_calls(Role::Change, meter, rows, &changes(), none);
     add_few(meter, rows, &shrink, none);
-    add_calls(Kind::Derive, meter, rows, &derivations(), none);
+    add_calls(Role::Derive, meter, rows, &derivations(), none);
     if N == USUAL {
         add_makers(meter, rows, &makers(), none);
         add_growth(meter, rows, &growing(), none);

@@ -1,15 +1,15 @@
 //! The calls of vectors that take elements of a slice as memory, and those that compare, over
 //! bytes.
 use crate::marks::Meter;
-use crate::rows::{Cost, Form, Kind, Rows, Standing, USUAL};
-use crate::states::{State, form_of, kept_pair, vectors};
+use crate::rows::{Cost, Form, Role, Rows, USUAL};
+use crate::states::{VecState, form_of, kept_pair, vectors};
 use ecow_vec::{EcoError, EcoVec, range_in};
 use std::hash::{DefaultHasher, Hash};
 use std::io::Write;
 
 /// A call, with the number of elements that it adds.
 #[derive(Clone, Copy)]
-enum Call {
+enum CopyCall {
     Extend(usize),
     ExtendWithin(usize),
     Insert(usize),
@@ -20,25 +20,29 @@ enum Call {
 }
 
 /// A call, how it is written, and how many elements there must be.
-type Row = (Call, &'static str, usize);
+type Row = (CopyCall, &'static str, usize);
 
 fn rows_once() -> [Row; 15] {
     [
-        (Call::Extend(2), "extend_from_copied(2)", 0),
-        (Call::Extend(0), "extend_from_copied(none)", 0),
-        (Call::ExtendWithin(2), "extend_from_within(..2)", 2),
-        (Call::ExtendWithin(0), "extend_from_within(..0)", 0),
-        (Call::Insert(2), "insert_slice(0, 2)", 0),
-        (Call::Insert(0), "insert_slice(0, none)", 0),
-        (Call::Replace(4), "replace_range(..2, 4)", 0),
-        (Call::Replace(0), "replace_range(..2, none)", 0),
-        (Call::Write(2), "write(2)", 0),
-        (Call::Write(0), "write(none)", 0),
-        (Call::Compare, "==, cmp, hash", 0),
-        (Call::Extend(1000), "extend_from_copied(1000)", 1000),
-        (Call::ExtendWithin(1000), "extend_from_within(..1000)", 1000),
-        (Call::Insert(1000), "insert_slice(0, 1000)", 1000),
-        (Call::Write(1000), "write(1000)", 1000),
+        (CopyCall::Extend(2), "extend_from_copied(2)", 0),
+        (CopyCall::Extend(0), "extend_from_copied(none)", 0),
+        (CopyCall::ExtendWithin(2), "extend_from_within(..2)", 2),
+        (CopyCall::ExtendWithin(0), "extend_from_within(..0)", 0),
+        (CopyCall::Insert(2), "insert_slice(0, 2)", 0),
+        (CopyCall::Insert(0), "insert_slice(0, none)", 0),
+        (CopyCall::Replace(4), "replace_range(..2, 4)", 0),
+        (CopyCall::Replace(0), "replace_range(..2, none)", 0),
+        (CopyCall::Write(2), "write(2)", 0),
+        (CopyCall::Write(0), "write(none)", 0),
+        (CopyCall::Compare, "==, cmp, hash", 0),
+        (CopyCall::Extend(1000), "extend_from_copied(1000)", 1000),
+        (
+            CopyCall::ExtendWithin(1000),
+            "extend_from_within(..1000)",
+            1000,
+        ),
+        (CopyCall::Insert(1000), "insert_slice(0, 1000)", 1000),
+        (CopyCall::Write(1000), "write(1000)", 1000),
     ]
 }
 
@@ -48,11 +52,15 @@ const TIMES: usize = 14286;
 /// Calls that are made so often.
 fn rows_again() -> [Row; 4] {
     [
-        (Call::Extend(7), "extend_from_copied(7), 14286 times", 0),
-        (Call::InsertLast(7), "insert_slice(len, 7), 14286 times", 0),
-        (Call::Write(7), "write(7), 14286 times", 0),
+        (CopyCall::Extend(7), "extend_from_copied(7), 14286 times", 0),
         (
-            Call::ExtendWithin(7),
+            CopyCall::InsertLast(7),
+            "insert_slice(len, 7), 14286 times",
+            0,
+        ),
+        (CopyCall::Write(7), "write(7), 14286 times", 0),
+        (
+            CopyCall::ExtendWithin(7),
             "extend_from_within(..7), 14286 times",
             1000,
         ),
@@ -91,22 +99,22 @@ fn compare(list: &EcoVec<u8>, other: &EcoVec<u8>) {
     list.hash(&mut hasher);
 }
 
-fn make(call: Call, list: &mut EcoVec<u8>, other: &EcoVec<u8>) -> Result<(), EcoError> {
+fn make(call: CopyCall, list: &mut EcoVec<u8>, other: &EcoVec<u8>) -> Result<(), EcoError> {
     match call {
-        Call::Extend(len) => list.extend_from_copied(front(len)),
-        Call::ExtendWithin(len) => extend_within_capacity(list, len),
-        Call::Insert(len) => list.insert_slice(0, front(len)),
-        Call::InsertLast(len) => list.insert_slice(list.len(), front(len)),
-        Call::Replace(len) => replace(list, front(len)),
-        Call::Write(len) => write(list, front(len)),
-        Call::Compare => {
+        CopyCall::Extend(len) => list.extend_from_copied(front(len)),
+        CopyCall::ExtendWithin(len) => extend_within_capacity(list, len),
+        CopyCall::Insert(len) => list.insert_slice(0, front(len)),
+        CopyCall::InsertLast(len) => list.insert_slice(list.len(), front(len)),
+        CopyCall::Replace(len) => replace(list, front(len)),
+        CopyCall::Write(len) => write(list, front(len)),
+        CopyCall::Compare => {
             compare(list, other);
             Ok(())
         }
     }
 }
 
-fn cost(meter: Meter, row: Row, times: usize, state: State) -> Result<Cost, EcoError> {
+fn cost(meter: Meter, row: Row, times: usize, state: VecState) -> Result<Cost, EcoError> {
     let other = EcoVec::from_slice(meter.alloc, front(state.len))?;
     let elements = Vec::from_clones(meter.alloc, front(state.len))?;
     let mut kept = kept_pair(meter.alloc, state, elements)?;
@@ -117,7 +125,7 @@ fn cost(meter: Meter, row: Row, times: usize, state: State) -> Result<Cost, EcoE
     }
     let _ended = meter.end();
     Ok(Cost {
-        kind: Kind::Change,
+        role: Role::Change,
         limit: USUAL,
         call: row.1,
         state: state.name,
@@ -132,19 +140,12 @@ fn cost_of_making(meter: Meter, name: &'static str, len: usize) -> Result<Cost, 
     let _begun = meter.begin();
     let mut list = EcoVec::from_copied(meter.alloc, front(len))?;
     let _ended = meter.end();
-    Ok(Cost {
-        kind: Kind::Make,
-        limit: USUAL,
-        call: name,
-        state: "",
-        counts: None,
-        before: Standing::none(),
-        after: Kind::Make.after(form_of(&mut list), Form::Absent, list.capacity()),
-    })
+    let made = Role::Make.after(form_of(&mut list), Form::Absent, list.capacity());
+    Ok(Cost::of_making(name, made))
 }
 
 /// Adds a row of each call, made so often, in each of the states.
-fn add_each(meter: Meter, rows: &mut Rows, calls: &[Row], times: usize, states: &[State]) {
+fn add_each(meter: Meter, rows: &mut Rows, calls: &[Row], times: usize, states: &[VecState]) {
     for row in calls {
         for state in states {
             if row.2 <= state.len {

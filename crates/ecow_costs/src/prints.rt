@@ -1,6 +1,6 @@
 //! Texts that are printed. What `eco_format!` and `to_eco_string` make is an `EcoString`.
 use crate::marks::Meter;
-use crate::rows::{Cost, Form, Kind, Rows, Standing, USUAL};
+use crate::rows::{Cost, Rows};
 use crate::small::{letters, standing_alone};
 use crate::texts::PIECES;
 use ecow_bytes::EcoBytes;
@@ -64,15 +64,7 @@ fn cost(meter: Meter, call: Print, name: &'static str) -> Result<Cost, EcoError>
     let _begun = meter.begin();
     let text = printed(call, letters.as_str(), meter.alloc)?;
     let _ended = meter.end();
-    Ok(Cost {
-        kind: Kind::Make,
-        limit: USUAL,
-        call: name,
-        state: "",
-        counts: None,
-        before: Standing::none(),
-        after: standing_alone(EcoBytes::from(text)),
-    })
+    Ok(Cost::of_making(name, standing_alone(EcoBytes::from(text))))
 }
 
 pub(crate) fn add_rows(meter: Meter, rows: &mut Rows) {

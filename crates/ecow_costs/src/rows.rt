@@ -52,7 +52,7 @@ impl Standing {
 
 /// What a call does with the value.
 #[derive(Clone, Copy, PartialEq)]
-pub(crate) enum Kind {
+pub(crate) enum Role {
     /// It changes it, reads it or gives it away.
     Change,
     /// It makes another of it.
@@ -61,13 +61,13 @@ pub(crate) enum Kind {
     Make,
 }
 
-impl Kind {
+impl Role {
     /// What stands before the call where the value stands so: what is to be made, isn't there.
     pub(crate) fn before(self, value: Standing) -> Standing {
         let twin = match self {
-            Kind::Change => return value,
-            Kind::Derive => value.form,
-            Kind::Make => Form::Absent,
+            Role::Change => return value,
+            Role::Derive => value.form,
+            Role::Make => Form::Absent,
         };
         Standing {
             form: Form::Absent,
@@ -80,7 +80,7 @@ impl Kind {
     pub(crate) fn after(self, made: Form, source: Form, capacity: usize) -> Standing {
         Standing {
             form: made,
-            twin: if self == Kind::Make {
+            twin: if self == Role::Make {
                 Form::Absent
             } else {
                 source
@@ -97,7 +97,7 @@ pub(crate) const USUAL: usize = 15;
 /// `limit` is the inline limit of bytes and texts; vectors have the usual one here.
 #[derive(Clone, Copy)]
 pub(crate) struct Cost {
-    pub(crate) kind: Kind,
+    pub(crate) role: Role,
     pub(crate) limit: usize,
     pub(crate) call: &'static str,
     pub(crate) state: &'static str,
@@ -107,6 +107,19 @@ pub(crate) struct Cost {
 }
 
 impl Cost {
+    /// What it costs to make a value that then stands so.
+    pub(crate) fn of_making(call: &'static str, made: Standing) -> Self {
+        Cost {
+            role: Role::Make,
+            limit: USUAL,
+            call,
+            state: "",
+            counts: None,
+            before: Standing::none(),
+            after: made,
+        }
+    }
+
     /// Whether the value stands as before, and has as much room.
     fn keeps_room(&self) -> bool {
         let keeps = self.after.form == self.before.form || self.after.form == Form::Shared;
@@ -120,7 +133,7 @@ impl Cost {
 
     /// The state in which the value was; a call that makes one needs none.
     fn state(&self, alloc: Global) -> Result<String, AllocError> {
-        let state = if self.kind != Kind::Make {
+        let state = if self.role != Role::Make {
             self.state
         } else if self.limit == USUAL {
             "–"
@@ -134,7 +147,7 @@ impl Cost {
     }
 
     fn twin(&self) -> &'static str {
-        if self.kind == Kind::Make {
+        if self.role == Role::Make {
             return "–";
         }
         self.after.twin.now(self.before.twin)

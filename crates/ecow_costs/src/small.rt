@@ -2,7 +2,7 @@
 //! by its bytes.
 use crate::bytes::Bytes;
 use crate::marks::Meter;
-use crate::rows::{Cost, Form, Kind, Rows, Standing, USUAL};
+use crate::rows::{Cost, Form, Role, Rows, Standing, USUAL};
 use crate::states::{error_of, form_of};
 use crate::texts::Text;
 use crate::{bytes, texts};
@@ -13,15 +13,15 @@ use std::alloc::{AllocError, Global};
 
 /// A state of bytes and texts: so many, inline or in a block with so much room, shared or not.
 #[derive(Clone, Copy)]
-pub(crate) struct State {
+pub(crate) struct SmallState {
     name: &'static str,
     len: usize,
     capacity: Option<usize>,
     shared: bool,
 }
 
-fn state_of(name: &'static str, len: usize, capacity: Option<usize>, shared: bool) -> State {
-    State {
+fn state_of(name: &'static str, len: usize, capacity: Option<usize>, shared: bool) -> SmallState {
+    SmallState {
         name,
         len,
         capacity,
@@ -30,7 +30,7 @@ fn state_of(name: &'static str, len: usize, capacity: Option<usize>, shared: boo
 }
 
 /// The states of few bytes that tell, at the usual limit.
-fn usual() -> [State; 7] {
+fn usual() -> [SmallState; 7] {
     [
         state_of("inline", 5, None, false),
         state_of("inline full", 15, None, false),
@@ -43,7 +43,7 @@ fn usual() -> [State; 7] {
 }
 
 /// The states at any other limit in which that tells.
-fn edge(limit: usize) -> [State; 2] {
+fn edge(limit: usize) -> [SmallState; 2] {
     [
         state_of("inline full", limit, None, false),
         state_of("one left", limit.saturating_sub(1), None, false),
@@ -51,12 +51,12 @@ fn edge(limit: usize) -> [State; 2] {
 }
 
 /// No byte at all.
-fn nothing() -> [State; 1] {
+fn nothing() -> [SmallState; 1] {
     [state_of("empty", 0, None, false)]
 }
 
 /// States of many bytes.
-fn many() -> [State; 4] {
+fn many() -> [SmallState; 4] {
     [
         state_of("room of 1000", 1000, Some(1600), false),
         state_of("full of 1000", 1000, Some(1000), false),
@@ -66,7 +66,7 @@ fn many() -> [State; 4] {
 }
 
 /// States of spilled bytes that would stand inline, and of one more.
-fn few(limit: usize) -> [State; 3] {
+fn few(limit: usize) -> [SmallState; 3] {
     let (more, room) = (limit.saturating_add(1), limit.saturating_add(17));
     [
         state_of("few", limit, Some(room), false),
@@ -86,12 +86,12 @@ pub(crate) struct Gift<const N: usize> {
 
 /// A call of either type.
 #[derive(Clone, Copy)]
-pub(crate) enum Call {
+pub(crate) enum SmallCall {
     Bytes(Bytes),
     Text(Text),
 }
 
-impl Call {
+impl SmallCall {
     /// Makes the call on a value, so often, of what it is given. Answers the bytes that it makes.
     fn make<const N: usize>(
         self,
@@ -101,8 +101,8 @@ impl Call {
         alloc: Global,
     ) -> Result<Option<SmallBytes<N>>, EcoError> {
         match self {
-            Call::Bytes(call) => bytes::call_on(call, value, gift, times, alloc),
-            Call::Text(call) => texts::call_on(call, value, gift, times, alloc),
+            SmallCall::Bytes(call) => bytes::call_on(call, value, gift, times, alloc),
+            SmallCall::Text(call) => texts::call_on(call, value, gift, times, alloc),
         }
     }
 }
@@ -111,14 +111,14 @@ impl Call {
 /// is made.
 #[derive(Clone, Copy)]
 pub(crate) struct Row {
-    call: Call,
+    call: SmallCall,
     name: &'static str,
     brings: usize,
     needs: usize,
     times: usize,
 }
 
-pub(crate) fn row_of(call: Call, name: &'static str, brings: usize, needs: usize) -> Row {
+pub(crate) fn row_of(call: SmallCall, name: &'static str, brings: usize, needs: usize) -> Row {
     Row {
         call,
         name,
@@ -129,7 +129,7 @@ pub(crate) fn row_of(call: Call, name: &'static str, brings: usize, needs: usize
 }
 
 /// A call that is made again and again.
-pub(crate) fn repeated(call: Call, name: &'static str, brings: usize, times: usize) -> Row {
+pub(crate) fn repeated(call: SmallCall, name: &'static str, brings: usize, times: usize) -> Row {
     Row {
         times,
         ..row_of(call, name, brings, 0)
@@ -167,7 +167,7 @@ fn gift_of<const N: usize>(
 /// A value in a state.
 fn value_of<const N: usize>(
     alloc: Global,
-    state: State,
+    state: SmallState,
     _none: &SmallBytes<N>,
 ) -> Result<SmallBytes<N>, EcoError> {
     let letters = letters(alloc, state.len)?;
@@ -182,7 +182,7 @@ fn value_of<const N: usize>(
 /// A clone of a value that is to be shared.
 fn twin_of<const N: usize>(
     value: &SmallBytes<N>,
-    state: State,
+    state: SmallState,
 ) -> Result<Option<SmallBytes<N>>, EcoError> {
     if !state.shared {
         return Ok(None);
@@ -238,19 +238,19 @@ fn standing<const N: usize>(value: SmallBytes<N>, twin: Option<SmallBytes<N>>) -
 
 /// What stands before a call.
 fn before<const N: usize>(
-    kind: Kind,
+    role: Role,
     alloc: Global,
-    state: State,
+    state: SmallState,
     none: &SmallBytes<N>,
 ) -> Result<Standing, EcoError> {
     let value = value_of(alloc, state, none)?;
     let twin = twin_of(&value, state)?;
-    Ok(kind.before(standing(value, twin)))
+    Ok(role.before(standing(value, twin)))
 }
 
 /// What stands after a call that made bytes, or another thing, or none.
 fn after<const N: usize>(
-    kind: Kind,
+    role: Role,
     value: SmallBytes<N>,
     twin: Option<SmallBytes<N>>,
     made: Option<SmallBytes<N>>,
@@ -259,25 +259,25 @@ fn after<const N: usize>(
         Some(made) => {
             let both = standing_of(made, value);
             drop(twin);
-            kind.after(both.form, both.twin, both.capacity)
+            role.after(both.form, both.twin, both.capacity)
         }
-        None if kind == Kind::Derive => {
+        None if role == Role::Derive => {
             let source = standing_alone(value);
             drop(twin);
-            kind.after(Form::Absent, source.form, 0)
+            role.after(Form::Absent, source.form, 0)
         }
         None => standing(value, twin),
     }
 }
 
 fn cost<const N: usize>(
-    kind: Kind,
+    role: Role,
     meter: Meter,
     row: Row,
-    state: State,
+    state: SmallState,
     none: &SmallBytes<N>,
 ) -> Result<Cost, EcoError> {
-    let before = before(kind, meter.alloc, state, none)?;
+    let before = before(role, meter.alloc, state, none)?;
     let mut value = value_of(meter.alloc, state, none)?;
     let twin = twin_of(&value, state)?;
     let gift = gift_of(meter.alloc, row.brings, none)?;
@@ -285,29 +285,29 @@ fn cost<const N: usize>(
     let made = row.call.make(&mut value, gift, row.times, meter.alloc)?;
     let _ended = meter.end();
     Ok(Cost {
-        kind,
+        role,
         limit: N,
         call: row.name,
         state: state.name,
         counts: None,
         before,
-        after: after(kind, value, twin, made),
+        after: after(role, value, twin, made),
     })
 }
 
 /// Adds a row of each call in each of the states. `none` names the type of the values.
 fn add_each<const N: usize>(
-    kind: Kind,
+    role: Role,
     meter: Meter,
     rows: &mut Rows,
     calls: &[Row],
-    states: &[State],
+    states: &[SmallState],
     none: &SmallBytes<N>,
 ) {
     for row in calls {
         for state in states {
             if row.needs <= state.len {
-                rows.add(cost(kind, meter, *row, *state, none));
+                rows.add(cost(role, meter, *row, *state, none));
             }
         }
     }
@@ -315,19 +315,19 @@ fn add_each<const N: usize>(
 
 /// Adds a row of each call in each state.
 pub(crate) fn add_calls<const N: usize>(
-    kind: Kind,
+    role: Role,
     meter: Meter,
     rows: &mut Rows,
     calls: &[Row],
     none: &SmallBytes<N>,
 ) {
     if N == USUAL {
-        add_each(kind, meter, rows, calls, &usual(), none);
+        add_each(role, meter, rows, calls, &usual(), none);
     } else {
         let states = if N == 0 { 1 } else { 2 };
-        add_each(kind, meter, rows, calls, &edge(N)[..states], none);
+        add_each(role, meter, rows, calls, &edge(N)[..states], none);
     }
-    add_each(kind, meter, rows, calls, &many(), none);
+    add_each(role, meter, rows, calls, &many(), none);
 }
 
 /// Adds a row of each call that makes a value.
@@ -337,7 +337,7 @@ pub(crate) fn add_makers<const N: usize>(
     calls: &[Row],
     none: &SmallBytes<N>,
 ) {
-    add_each(Kind::Make, meter, rows, calls, &edge(N)[..1], none);
+    add_each(Role::Make, meter, rows, calls, &edge(N)[..1], none);
 }
 
 /// Adds a row of each call by which a value grows that is empty.
@@ -347,7 +347,7 @@ pub(crate) fn add_growth<const N: usize>(
     calls: &[Row],
     none: &SmallBytes<N>,
 ) {
-    add_each(Kind::Change, meter, rows, calls, &nothing(), none);
+    add_each(Role::Change, meter, rows, calls, &nothing(), none);
 }
 
 /// Adds rows of few spilled bytes.
@@ -357,7 +357,7 @@ pub(crate) fn add_few<const N: usize>(
     calls: &[Row],
     none: &SmallBytes<N>,
 ) {
-    add_each(Kind::Change, meter, rows, calls, &few(N), none);
+    add_each(Role::Change, meter, rows, calls, &few(N), none);
 }
 
 /// The bytes of a vector that comes of a value.

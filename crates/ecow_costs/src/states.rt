@@ -5,15 +5,15 @@ use std::alloc::Global;
 
 /// A state: so many elements in a block with so much room, shared or not.
 #[derive(Clone, Copy)]
-pub(crate) struct State {
+pub(crate) struct VecState {
     pub(crate) name: &'static str,
     pub(crate) len: usize,
     pub(crate) capacity: usize,
     pub(crate) shared: bool,
 }
 
-fn state_of(name: &'static str, len: usize, capacity: usize, shared: bool) -> State {
-    State {
+fn state_of(name: &'static str, len: usize, capacity: usize, shared: bool) -> VecState {
+    VecState {
         name,
         len,
         capacity,
@@ -22,7 +22,7 @@ fn state_of(name: &'static str, len: usize, capacity: usize, shared: bool) -> St
 }
 
 /// The states of a vector.
-pub(crate) fn vectors() -> [State; 11] {
+pub(crate) fn vectors() -> [VecState; 11] {
     [
         state_of("no block", 0, 0, false),
         state_of("empty", 0, 8, false),
@@ -48,7 +48,7 @@ pub(crate) struct Pair<T: Drop> {
 /// A vector of the elements in a state.
 pub(crate) fn kept_pair<T: Clone>(
     alloc: Global,
-    state: State,
+    state: VecState,
     elements: Vec<T>,
 ) -> Result<Pair<T>, EcoError> {
     let mut list = EcoVec::with_capacity(alloc, state.capacity)?;

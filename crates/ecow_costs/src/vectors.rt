@@ -1,7 +1,7 @@
 //! The calls of vectors, over elements that count their clones and drops.
 use crate::marks::Meter;
-use crate::rows::{Cost, Form, Kind, Rows, Standing, USUAL};
-use crate::states::{Pair, State, error_of, form_of, kept_pair, vectors};
+use crate::rows::{Cost, Form, Role, Rows, Standing, USUAL};
+use crate::states::{Pair, VecState, error_of, form_of, kept_pair, vectors};
 use ecow_testing::elements::{Counting, Tally};
 use ecow_vec::{Drain, EcoError, EcoVec, IntoArray, IntoIter, Splice, range_in};
 use std::alloc::{AllocError, Global};
@@ -9,7 +9,7 @@ use std::mem;
 
 /// A call, with the numbers that it is given.
 #[derive(Clone, Copy)]
-enum Call {
+enum VecCall {
     Read,
     Push,
     PushReserved,
@@ -49,14 +49,14 @@ enum Call {
 /// is made.
 #[derive(Clone, Copy)]
 struct Row {
-    call: Call,
+    call: VecCall,
     name: &'static str,
     brings: usize,
     needs: usize,
     times: usize,
 }
 
-fn row_of(call: Call, name: &'static str, brings: usize, needs: usize) -> Row {
+fn row_of(call: VecCall, name: &'static str, brings: usize, needs: usize) -> Row {
     Row {
         call,
         name,
@@ -67,7 +67,7 @@ fn row_of(call: Call, name: &'static str, brings: usize, needs: usize) -> Row {
 }
 
 /// A call that is made again and again.
-fn repeated(call: Call, name: &'static str, brings: usize, times: usize) -> Row {
+fn repeated(call: VecCall, name: &'static str, brings: usize, times: usize) -> Row {
     Row {
         times,
         ..row_of(call, name, brings, 0)
@@ -77,133 +77,148 @@ fn repeated(call: Call, name: &'static str, brings: usize, times: usize) -> Row 
 fn first_rows() -> [Row; 14] {
     [
         row_of(
-            Call::Read,
+            VecCall::Read,
             "as_slice, iter, len, is_empty, capacity, is_unique",
             0,
             0,
         ),
-        row_of(Call::Push, "push(x)", 1, 0),
-        row_of(Call::Insert, "insert(0, x)", 1, 0),
-        row_of(Call::Set, "set(0, x)", 1, 1),
-        row_of(Call::Update, "update(0, f)", 0, 1),
-        row_of(Call::Pop, "pop()", 0, 0),
-        row_of(Call::Remove, "remove(0)", 0, 1),
-        row_of(Call::Truncate(3), "truncate(3)", 0, 3),
-        row_of(Call::Truncate(0), "truncate(0)", 0, 0),
-        row_of(Call::Truncate(1001), "truncate(1001)", 0, 0),
-        row_of(Call::Clear, "clear()", 0, 0),
-        row_of(Call::Retain, "retain(all but 2)", 0, 0),
-        row_of(Call::MakeMut, "make_mut()", 0, 0),
-        row_of(Call::OwnMut, "own_mut()", 0, 0),
+        row_of(VecCall::Push, "push(x)", 1, 0),
+        row_of(VecCall::Insert, "insert(0, x)", 1, 0),
+        row_of(VecCall::Set, "set(0, x)", 1, 1),
+        row_of(VecCall::Update, "update(0, f)", 0, 1),
+        row_of(VecCall::Pop, "pop()", 0, 0),
+        row_of(VecCall::Remove, "remove(0)", 0, 1),
+        row_of(VecCall::Truncate(3), "truncate(3)", 0, 3),
+        row_of(VecCall::Truncate(0), "truncate(0)", 0, 0),
+        row_of(VecCall::Truncate(1001), "truncate(1001)", 0, 0),
+        row_of(VecCall::Clear, "clear()", 0, 0),
+        row_of(VecCall::Retain, "retain(all but 2)", 0, 0),
+        row_of(VecCall::MakeMut, "make_mut()", 0, 0),
+        row_of(VecCall::OwnMut, "own_mut()", 0, 0),
     ]
 }
 
 fn last_rows() -> [Row; 17] {
     [
-        row_of(Call::Reserve(0), "reserve(0)", 0, 0),
-        row_of(Call::Reserve(1), "reserve(1)", 0, 0),
-        row_of(Call::Reserve(20), "reserve(20)", 0, 0),
-        row_of(Call::ExtendFromSlice, "extend_from_slice(2)", 2, 0),
-        row_of(Call::ExtendFromSlice, "extend_from_slice(none)", 0, 0),
-        row_of(Call::Extend, "extend(2)", 2, 0),
-        row_of(Call::Extend, "extend(none)", 0, 0),
-        row_of(Call::Drain(1, 3), "drain(1..3)", 0, 3),
-        row_of(Call::Drain(0, 0), "drain(0..0)", 0, 0),
-        row_of(Call::Splice(1, 3), "splice(1..3, 2)", 2, 3),
-        row_of(Call::Splice(1, 3), "splice(1..3, 4)", 4, 3),
-        row_of(Call::Splice(0, 0), "splice(0..0, none)", 0, 0),
-        row_of(Call::Splice(0, 0), "splice(0..0, 2)", 2, 0),
-        row_of(Call::IntoVec, "into_vec()", 0, 0),
-        row_of(Call::IntoIter, "into_iter()", 0, 0),
-        row_of(Call::IntoArray, "into_array()", 0, 5),
-        row_of(Call::Drop, "drop(v)", 0, 0),
+        row_of(VecCall::Reserve(0), "reserve(0)", 0, 0),
+        row_of(VecCall::Reserve(1), "reserve(1)", 0, 0),
+        row_of(VecCall::Reserve(20), "reserve(20)", 0, 0),
+        row_of(VecCall::ExtendFromSlice, "extend_from_slice(2)", 2, 0),
+        row_of(VecCall::ExtendFromSlice, "extend_from_slice(none)", 0, 0),
+        row_of(VecCall::Extend, "extend(2)", 2, 0),
+        row_of(VecCall::Extend, "extend(none)", 0, 0),
+        row_of(VecCall::Drain(1, 3), "drain(1..3)", 0, 3),
+        row_of(VecCall::Drain(0, 0), "drain(0..0)", 0, 0),
+        row_of(VecCall::Splice(1, 3), "splice(1..3, 2)", 2, 3),
+        row_of(VecCall::Splice(1, 3), "splice(1..3, 4)", 4, 3),
+        row_of(VecCall::Splice(0, 0), "splice(0..0, none)", 0, 0),
+        row_of(VecCall::Splice(0, 0), "splice(0..0, 2)", 2, 0),
+        row_of(VecCall::IntoVec, "into_vec()", 0, 0),
+        row_of(VecCall::IntoIter, "into_iter()", 0, 0),
+        row_of(VecCall::IntoArray, "into_array()", 0, 5),
+        row_of(VecCall::Drop, "drop(v)", 0, 0),
     ]
 }
 
 /// Calls on vectors of 1000.
 fn long_rows() -> [Row; 6] {
     [
-        row_of(Call::Truncate(900), "truncate(900)", 0, 1000),
-        row_of(Call::Reserve(1000), "reserve(1000)", 0, 1000),
-        row_of(Call::ExtendFromSlice, "extend_from_slice(1000)", 1000, 1000),
-        row_of(Call::Extend, "extend(1000)", 1000, 1000),
-        row_of(Call::Drain(100, 900), "drain(100..900)", 0, 1000),
-        row_of(Call::Splice(100, 900), "splice(100..900, 1000)", 1000, 1000),
+        row_of(VecCall::Truncate(900), "truncate(900)", 0, 1000),
+        row_of(VecCall::Reserve(1000), "reserve(1000)", 0, 1000),
+        row_of(
+            VecCall::ExtendFromSlice,
+            "extend_from_slice(1000)",
+            1000,
+            1000,
+        ),
+        row_of(VecCall::Extend, "extend(1000)", 1000, 1000),
+        row_of(VecCall::Drain(100, 900), "drain(100..900)", 0, 1000),
+        row_of(
+            VecCall::Splice(100, 900),
+            "splice(100..900, 1000)",
+            1000,
+            1000,
+        ),
     ]
 }
 
 /// Calls by which a vector without a block grows.
 fn growing_rows() -> [Row; 7] {
     [
-        repeated(Call::Push, "push(x), 100000 times", 100000, 100000),
+        repeated(VecCall::Push, "push(x), 100000 times", 100000, 100000),
         repeated(
-            Call::PushReserved,
+            VecCall::PushReserved,
             "reserve(1), push(x), 100000 times",
             100000,
             100000,
         ),
         repeated(
-            Call::InsertLast,
+            VecCall::InsertLast,
             "insert(len, x), 100000 times",
             100000,
             100000,
         ),
-        repeated(Call::ExtendByOne, "extend(1), 100000 times", 100000, 100000),
         repeated(
-            Call::ExtendFromSlice,
+            VecCall::ExtendByOne,
+            "extend(1), 100000 times",
+            100000,
+            100000,
+        ),
+        repeated(
+            VecCall::ExtendFromSlice,
             "extend_from_slice(7), 14286 times",
             7,
             14286,
         ),
-        row_of(Call::Extend, "extend(100000)", 100000, 0),
-        row_of(Call::Splice(0, 0), "splice(0..0, 100000)", 100000, 0),
+        row_of(VecCall::Extend, "extend(100000)", 100000, 0),
+        row_of(VecCall::Splice(0, 0), "splice(0..0, 100000)", 100000, 0),
     ]
 }
 
 fn makers() -> [Row; 27] {
     [
-        row_of(Call::FromVec, "EcoVec::from_vec(none)", 0, 0),
-        row_of(Call::FromVec, "EcoVec::from_vec(5)", 5, 0),
-        row_of(Call::WithCapacity(0), "EcoVec::with_capacity(0)", 0, 0),
-        row_of(Call::WithCapacity(3), "EcoVec::with_capacity(3)", 0, 0),
-        row_of(Call::FromNoArray, "EcoVec::from_array(none)", 0, 0),
-        row_of(Call::FromArray, "EcoVec::from_array(5)", 5, 0),
-        row_of(Call::FromSlice, "EcoVec::from_slice(none)", 0, 0),
-        row_of(Call::FromSlice, "EcoVec::from_slice(2)", 2, 0),
-        row_of(Call::FromSlice, "EcoVec::from_slice(5)", 5, 0),
-        row_of(Call::FromElem(0), "EcoVec::from_elem(x, 0)", 1, 0),
-        row_of(Call::FromElem(2), "EcoVec::from_elem(x, 2)", 1, 0),
-        row_of(Call::FromElem(5), "EcoVec::from_elem(x, 5)", 1, 0),
-        row_of(Call::FromIter, "EcoVec::from_iter(none)", 0, 0),
-        row_of(Call::FromIter, "EcoVec::from_iter(5)", 5, 0),
-        row_of(Call::Collect, "collect(5)", 5, 0),
-        row_of(Call::Read, "EcoVec::new()", 0, 0),
-        row_of(Call::FromVec, "EcoVec::from_vec(1000)", 1000, 0),
+        row_of(VecCall::FromVec, "EcoVec::from_vec(none)", 0, 0),
+        row_of(VecCall::FromVec, "EcoVec::from_vec(5)", 5, 0),
+        row_of(VecCall::WithCapacity(0), "EcoVec::with_capacity(0)", 0, 0),
+        row_of(VecCall::WithCapacity(3), "EcoVec::with_capacity(3)", 0, 0),
+        row_of(VecCall::FromNoArray, "EcoVec::from_array(none)", 0, 0),
+        row_of(VecCall::FromArray, "EcoVec::from_array(5)", 5, 0),
+        row_of(VecCall::FromSlice, "EcoVec::from_slice(none)", 0, 0),
+        row_of(VecCall::FromSlice, "EcoVec::from_slice(2)", 2, 0),
+        row_of(VecCall::FromSlice, "EcoVec::from_slice(5)", 5, 0),
+        row_of(VecCall::FromElem(0), "EcoVec::from_elem(x, 0)", 1, 0),
+        row_of(VecCall::FromElem(2), "EcoVec::from_elem(x, 2)", 1, 0),
+        row_of(VecCall::FromElem(5), "EcoVec::from_elem(x, 5)", 1, 0),
+        row_of(VecCall::FromIter, "EcoVec::from_iter(none)", 0, 0),
+        row_of(VecCall::FromIter, "EcoVec::from_iter(5)", 5, 0),
+        row_of(VecCall::Collect, "collect(5)", 5, 0),
+        row_of(VecCall::Read, "EcoVec::new()", 0, 0),
+        row_of(VecCall::FromVec, "EcoVec::from_vec(1000)", 1000, 0),
         row_of(
-            Call::WithCapacity(1000),
+            VecCall::WithCapacity(1000),
             "EcoVec::with_capacity(1000)",
             0,
             0,
         ),
         row_of(
-            Call::WithCapacity(1024),
+            VecCall::WithCapacity(1024),
             "EcoVec::with_capacity(1024)",
             0,
             0,
         ),
         row_of(
-            Call::WithCapacity(1025),
+            VecCall::WithCapacity(1025),
             "EcoVec::with_capacity(1025)",
             0,
             0,
         ),
-        row_of(Call::FromArray, "EcoVec::from_array(1000)", 1000, 0),
-        row_of(Call::FromSlice, "EcoVec::from_slice(1000)", 1000, 0),
-        row_of(Call::FromElem(1000), "EcoVec::from_elem(x, 1000)", 1, 0),
-        row_of(Call::FromIter, "EcoVec::from_iter(1000)", 1000, 0),
-        row_of(Call::Collect, "collect(1000)", 1000, 0),
-        row_of(Call::FromIter, "EcoVec::from_iter(100000)", 100000, 0),
-        row_of(Call::Collect, "collect(100000)", 100000, 0),
+        row_of(VecCall::FromArray, "EcoVec::from_array(1000)", 1000, 0),
+        row_of(VecCall::FromSlice, "EcoVec::from_slice(1000)", 1000, 0),
+        row_of(VecCall::FromElem(1000), "EcoVec::from_elem(x, 1000)", 1, 0),
+        row_of(VecCall::FromIter, "EcoVec::from_iter(1000)", 1000, 0),
+        row_of(VecCall::Collect, "collect(1000)", 1000, 0),
+        row_of(VecCall::FromIter, "EcoVec::from_iter(100000)", 100000, 0),
+        row_of(VecCall::Collect, "collect(100000)", 100000, 0),
     ]
 }
 
@@ -334,26 +349,26 @@ fn taken(gift: &mut Vec<Counting>, alloc: Global) -> Vec<Counting> {
 }
 
 /// Makes a call that is given an element.
-fn put(call: Call, list: &mut EcoVec<Counting>, value: Counting) -> Outcome {
+fn put(call: VecCall, list: &mut EcoVec<Counting>, value: Counting) -> Outcome {
     nothing(match call {
-        Call::Insert => insert(list, value),
-        Call::InsertLast => insert_last(list, value),
-        Call::PushReserved => push_reserved(list, value),
-        Call::ExtendByOne => list.extend(Some(value)),
-        Call::Set => set(list, value),
+        VecCall::Insert => insert(list, value),
+        VecCall::InsertLast => insert_last(list, value),
+        VecCall::PushReserved => push_reserved(list, value),
+        VecCall::ExtendByOne => list.extend(Some(value)),
+        VecCall::Set => set(list, value),
         _ => list.push(value).map_err(error_of),
     })
 }
 
 /// Makes a call that changes a vector and is given none.
-fn change(call: Call, list: &mut EcoVec<Counting>) -> Result<(), EcoError> {
+fn change(call: VecCall, list: &mut EcoVec<Counting>) -> Result<(), EcoError> {
     match call {
-        Call::Truncate(len) => list.truncate(len),
-        Call::Update => update(list),
-        Call::Retain => retain(list),
-        Call::Reserve(more) => list.reserve(more),
-        Call::MakeMut => loan(list),
-        Call::OwnMut => own_loan(list),
+        VecCall::Truncate(len) => list.truncate(len),
+        VecCall::Update => update(list),
+        VecCall::Retain => retain(list),
+        VecCall::Reserve(more) => list.reserve(more),
+        VecCall::MakeMut => loan(list),
+        VecCall::OwnMut => own_loan(list),
         _ => {
             list.clear();
             Ok(())
@@ -363,41 +378,41 @@ fn change(call: Call, list: &mut EcoVec<Counting>) -> Result<(), EcoError> {
 
 /// Makes a call on a vector.
 fn call_on(
-    call: Call,
+    call: VecCall,
     list: &mut EcoVec<Counting>,
     gift: &mut Vec<Counting>,
     alloc: Global,
 ) -> Outcome {
     match call {
-        Call::Read => Ok(read(list)),
-        Call::Push
-        | Call::PushReserved
-        | Call::Insert
-        | Call::InsertLast
-        | Call::ExtendByOne
-        | Call::Set => match gift.pop() {
+        VecCall::Read => Ok(read(list)),
+        VecCall::Push
+        | VecCall::PushReserved
+        | VecCall::Insert
+        | VecCall::InsertLast
+        | VecCall::ExtendByOne
+        | VecCall::Set => match gift.pop() {
             Some(value) => put(call, list, value),
             None => Ok(Out::Nothing),
         },
-        Call::Pop => list.pop().map(of_one),
-        Call::Remove => remove(list),
-        Call::Drain(start, end) => drain(list, start, end),
-        Call::Splice(start, end) => splice(list, start, end, taken(gift, alloc)),
-        Call::ExtendFromSlice => nothing(list.extend_from_slice(gift.as_slice())),
-        Call::Extend => nothing(list.extend(taken(gift, alloc))),
+        VecCall::Pop => list.pop().map(of_one),
+        VecCall::Remove => remove(list),
+        VecCall::Drain(start, end) => drain(list, start, end),
+        VecCall::Splice(start, end) => splice(list, start, end, taken(gift, alloc)),
+        VecCall::ExtendFromSlice => nothing(list.extend_from_slice(gift.as_slice())),
+        VecCall::Extend => nothing(list.extend(taken(gift, alloc))),
         _ => nothing(change(call, list)),
     }
 }
 
 /// Gives a vector away. One that has another length than the array is dropped.
-fn give(call: Call, list: EcoVec<Counting>) -> Result<Given, EcoError> {
+fn give(call: VecCall, list: EcoVec<Counting>) -> Result<Given, EcoError> {
     match call {
-        Call::IntoVec => list.into_vec().map(|all| Given::Vec(all)).map_err(error_of),
-        Call::IntoIter => list
+        VecCall::IntoVec => list.into_vec().map(|all| Given::Vec(all)).map_err(error_of),
+        VecCall::IntoIter => list
             .into_iter()
             .map(|rest| Given::Iter(rest))
             .map_err(error_of),
-        Call::IntoArray => array_of(list),
+        VecCall::IntoArray => array_of(list),
         _ => {
             drop(list);
             Ok(Given::Nothing)
@@ -467,33 +482,37 @@ fn collected(alloc: Global, gift: Vec<Counting>) -> Result<EcoVec<Counting>, Eco
 }
 
 /// Makes a vector of what is given.
-fn make(call: Call, gift: &mut Vec<Counting>, alloc: Global) -> Result<EcoVec<Counting>, EcoError> {
+fn make(
+    call: VecCall,
+    gift: &mut Vec<Counting>,
+    alloc: Global,
+) -> Result<EcoVec<Counting>, EcoError> {
     match call {
-        Call::WithCapacity(n) => EcoVec::with_capacity(alloc, n),
-        Call::FromVec => EcoVec::from_vec(alloc, taken(gift, alloc)).map_err(error_of),
-        Call::FromArray if gift.len() == 5 => from_array::<5>(alloc, taken(gift, alloc)),
-        Call::FromArray => from_array::<1000>(alloc, taken(gift, alloc)),
-        Call::FromNoArray => from_no_array(alloc),
-        Call::FromSlice => EcoVec::from_slice(alloc, gift.as_slice()),
-        Call::FromElem(n) => from_elem(alloc, gift, n),
-        Call::FromIter => EcoVec::from_iter(alloc, taken(gift, alloc)),
-        Call::Collect => collected(alloc, taken(gift, alloc)),
+        VecCall::WithCapacity(n) => EcoVec::with_capacity(alloc, n),
+        VecCall::FromVec => EcoVec::from_vec(alloc, taken(gift, alloc)).map_err(error_of),
+        VecCall::FromArray if gift.len() == 5 => from_array::<5>(alloc, taken(gift, alloc)),
+        VecCall::FromArray => from_array::<1000>(alloc, taken(gift, alloc)),
+        VecCall::FromNoArray => from_no_array(alloc),
+        VecCall::FromSlice => EcoVec::from_slice(alloc, gift.as_slice()),
+        VecCall::FromElem(n) => from_elem(alloc, gift, n),
+        VecCall::FromIter => EcoVec::from_iter(alloc, taken(gift, alloc)),
+        VecCall::Collect => collected(alloc, taken(gift, alloc)),
         _ => Ok(EcoVec::new(alloc)),
     }
 }
 
 /// Makes any call.
 fn call_any(
-    kind: Kind,
-    call: Call,
+    role: Role,
+    call: VecCall,
     kept: &mut Pair<Counting>,
     gift: &mut Vec<Counting>,
     alloc: Global,
 ) -> Outcome {
-    match (kind, call) {
-        (Kind::Derive, _) => made(clone(&kept.list)),
-        (Kind::Make, _) => made(make(call, gift, alloc)),
-        (_, Call::IntoVec | Call::IntoIter | Call::IntoArray | Call::Drop) => {
+    match (role, call) {
+        (Role::Derive, _) => made(clone(&kept.list)),
+        (Role::Make, _) => made(make(call, gift, alloc)),
+        (_, VecCall::IntoVec | VecCall::IntoIter | VecCall::IntoArray | VecCall::Drop) => {
             let list = mem::replace(&mut kept.list, EcoVec::new(alloc));
             give(call, list).map(|given| Out::Given(given))
         }
@@ -502,10 +521,10 @@ fn call_any(
 }
 
 /// What stands after a call.
-fn after(kind: Kind, kept: &mut Pair<Counting>, out: &mut Out) -> Standing {
+fn after(role: Role, kept: &mut Pair<Counting>, out: &mut Out) -> Standing {
     match out {
-        Out::NewValue(list) => kind.after(form_of(list), form_of(&mut kept.list), list.capacity()),
-        Out::Given(_) => kind.after(Form::Absent, kept.form_of_twin(), 0),
+        Out::NewValue(list) => role.after(form_of(list), form_of(&mut kept.list), list.capacity()),
+        Out::Given(_) => role.after(Form::Absent, kept.form_of_twin(), 0),
         _ => kept.standing(),
     }
 }
@@ -521,40 +540,40 @@ fn since(tally: &Tally, before: (u64, u64)) -> Option<(u64, u64)> {
 }
 
 /// A vector in a state, of elements that count.
-fn counted(alloc: Global, tally: &Tally, state: State) -> Result<Pair<Counting>, EcoError> {
+fn counted(alloc: Global, tally: &Tally, state: VecState) -> Result<Pair<Counting>, EcoError> {
     let elements = tally.elements(alloc, state.len)?;
     kept_pair(alloc, state, elements)
 }
 
-fn cost(kind: Kind, meter: Meter, row: Row, state: State) -> Result<Cost, EcoError> {
+fn cost(role: Role, meter: Meter, row: Row, state: VecState) -> Result<Cost, EcoError> {
     let tally = Tally::new(meter.alloc)?;
     let mut kept = counted(meter.alloc, &tally, state)?;
     let mut gift = tally.elements(meter.alloc, row.brings)?;
-    let before = kind.before(kept.standing());
+    let before = role.before(kept.standing());
     let counted = counts(&tally);
     let _begun = meter.begin();
     let mut out = Out::Nothing;
     for _ in 0..row.times {
-        out = call_any(kind, row.call, &mut kept, &mut gift, meter.alloc)?;
+        out = call_any(role, row.call, &mut kept, &mut gift, meter.alloc)?;
     }
     let _ended = meter.end();
     Ok(Cost {
-        kind,
+        role,
         limit: USUAL,
         call: row.name,
         state: state.name,
         counts: since(&tally, counted),
         before,
-        after: after(kind, &mut kept, &mut out),
+        after: after(role, &mut kept, &mut out),
     })
 }
 
 /// Adds a row of each call in each of the states.
-fn add_each(kind: Kind, meter: Meter, rows: &mut Rows, calls: &[Row], states: &[State]) {
+fn add_each(role: Role, meter: Meter, rows: &mut Rows, calls: &[Row], states: &[VecState]) {
     for row in calls {
         for state in states {
             if row.needs <= state.len {
-                rows.add(cost(kind, meter, *row, *state));
+                rows.add(cost(role, meter, *row, *state));
             }
         }
     }
@@ -562,16 +581,16 @@ fn add_each(kind: Kind, meter: Meter, rows: &mut Rows, calls: &[Row], states: &[
 
 pub(crate) fn add_rows(meter: Meter, rows: &mut Rows) {
     let states = vectors();
-    add_each(Kind::Change, meter, rows, &first_rows(), &states);
-    add_each(Kind::Change, meter, rows, &last_rows(), &states);
-    add_each(Kind::Change, meter, rows, &long_rows(), &states);
+    add_each(Role::Change, meter, rows, &first_rows(), &states);
+    add_each(Role::Change, meter, rows, &last_rows(), &states);
+    add_each(Role::Change, meter, rows, &long_rows(), &states);
     add_each(
-        Kind::Derive,
+        Role::Derive,
         meter,
         rows,
-        &[row_of(Call::Clone, "clone()", 0, 0)],
+        &[row_of(VecCall::Clone, "clone()", 0, 0)],
         &states,
     );
-    add_each(Kind::Change, meter, rows, &growing_rows(), &states[..1]);
-    add_each(Kind::Make, meter, rows, &makers(), &states[..1]);
+    add_each(Role::Change, meter, rows, &growing_rows(), &states[..1]);
+    add_each(Role::Make, meter, rows, &makers(), &states[..1]);
 }
