@@ -1,5 +1,5 @@
 //! A finite map from names to values.
-ghost use Rattle.std.specs.Prelude.{◌≡◌, ◌<◌, ◌^◌, ℕ, None, OnOk, OnErr, get_or, length};
+ghost use Rattle.std.specs.Prelude.{◌≡◌, ◌<◌, ◌^◌, ℕ, List, OnOk, OnErr, length};
 ghost use Rattle.std.specs.Borrow.{sem};
 ghost use Rattle.std.specs.FinMap as map;
 ghost use Rattle.std.specs.Option.{option_copied, option_copied_mut};
@@ -132,8 +132,8 @@ impl<V: Drop> Table<V> {
 #[inline]
 fn reach<V: Drop>(slots: &mut Vec<Option<V>>, place: usize) -> Result<(), AllocError>
     ensures there { OnOk result (place < length slots.new.items) }
-    ensures kept { (name : ℕ)
-        → get_or slots.new.items name None ≡ get_or slots.old.items name None }
+    ensures kept { (others : List (ℕ × V))
+        → values_of slots.new.items others ≡ values_of slots.old.items others }
 {
     while slots.len() <= place {
         slots.push(None)?;

@@ -1,8 +1,10 @@
-use Rattle.std.proofs.Common.{◌≡◌, ℕ, None, get_or, ◌+◌, ◌-◌, length}
+use Rattle.std.proofs.Common.{◌≡◌, ℕ, List, ◌+◌, ◌-◌, length}
+use Rattle.ecow_named.specs.Tables.{values_of}
 use Rattle.ecow_named.proofs.table.reach.Given as goal
 
 abbrev pub invariant-loop-slots : goal.invariant-loop-slots
-invariant-loop-slots g l = (name : ℕ) → get_or l.slots.items name None ≡ get_or l.fn.slots.items name None
+invariant-loop-slots g l =
+    (others : List (ℕ × _)) → values_of l.slots.items others ≡ values_of l.fn.slots.items others
 
 abbrev pub decreases-loop-slots : goal.decreases-loop-slots
 decreases-loop-slots g l = (l.place + 1) - length l.slots.items
