@@ -1,20 +1,38 @@
 # Prints a row for each call and each state of the rows of docs/COSTS.md: a row of several says the same of each.
 # A cell of several parts, "5; 1000", says another thing of each: of few elements and of 1000, or of the limits
 # that the state names. What bytes and texts cost of 1000 they cost at each limit. A row without calls is of those
-# in the row above.
+# in the row above. A table without states has calls that make something of nothing.
 BEGIN { FS = " [|] "; others = split("0 1 3 23 255", other, " ") }
 
-function print_rows(state, part,    i, rest, cell) {
-    for (i = 3; i <= NF; i++) rest = rest " | " (split($i, cell, "; ") == 1 ? $i : cell[part])
-    for (i = 1; i <= calls; i++) print "| `" call[i] "` | " state rest " |"
+# Where the clone of a value stands that stands so afterwards, or the source of one that is made.
+function twin(name, state, after) {
+    if (state ~ /^(–|limit)/) return "–"
+    if (is_made) return name ~ /clone/ && after == "shared" && state !~ /^shared/ ? "shared" : "same"
+    return state ~ /^shared/ && after != "same" ? "sole" : "same"
+}
+
+function print_rows(state, part,    i, j, cell, value, front, after, back) {
+    for (j = states_at + 1; j <= NF; j++) {
+        value = split($j, cell, "; ") == 1 ? $j : cell[part]
+        if (j <= after_at) front = front " | " value
+        else back = back " | " value
+        if (j == after_at) after = value
+    }
+    for (i = 1; i <= calls; i++) print "| `" call[i] "` | " state front " | " twin(call[i], state, after) back " |"
 }
 
 /^## / { is_small = /Bytes|Texts/ }
 
+/^[|] Call/ {
+    states_at = /Before|Source|Limit/ ? 2 : 1
+    is_made = /Made/
+    for (i = 1; i <= NF; i++) if ($i ~ /^(After|Made)$/) after_at = i
+}
+
 /^[|] [`|]/ {
     sub(/ [|]$/, "")
     if ($1 != "|") calls = split(substr($1, 4, length($1) - 4), call, "`, `")
-    states = split($2, state, ", ")
+    states = states_at == 1 ? split("–", state) : split($2, state, ", ")
     for (j = 1; j <= states; j++) {
         limits = 0
         if (split(state[j], named, ": ") == 2) limits = split(named[2], limit, "; ")
