@@ -1,24 +1,62 @@
 #!/bin/sh
-# Runs PROGRAM on each command line of docs/SCRIPT.md, in a folder with the files that stand there, and says
-# which status, output or message is another one.
+# Runs PROGRAM on the command lines below, in a folder with the files that they name, and says which status,
+# output or message is another one.
 # usage: tools/ends.sh PROGRAM
 set -eu
 program=$(realpath "$1")
-cd "$(dirname "$0")/.."
 work=$(mktemp -d)
 trap 'rm -r "$work"' EXIT
 export LC_ALL=C
 
-# Four lines for each row of the table: its words, status, output and message. Tabs part a cell's lines.
-awk -F '|' '
-    function plain(cell) {
-        gsub(/^ *`?|`? *$/, "", cell)
-        gsub(/`, `/, "\t", cell)
-        return cell
-    }
-    /^## / { inside = /^## Command lines$/ }
-    inside && NF == 6 && $3 ~ /[0-9]/ { for (i = 2; i <= 5; i++) print plain($i) }
-' docs/SCRIPT.md > "$work/rows"
+# The words behind `ecow-run`, the status, the lines of standard output, and that of standard error.
+cat > "$work/table" <<'END'
+                                 | 2 |                                                        | usage: ecow-run [--counted] FILE
+''                               | 3 |                                                        | ecow-run: file
+shared.eco                       | 0 | ok, ok, ok, [1,2,3,4], true                            |
+--counted shared.eco             | 0 | ok, ok, ok, [1,2,3,4], true, blocks 2 copied 3 moved 0 |
+--counted                        | 2 |                                                        | usage: ecow-run [--counted] FILE
+shared.eco --counted             | 2 |                                                        | usage: ecow-run [--counted] FILE
+shared.eco shared.eco            | 2 |                                                        | usage: ecow-run [--counted] FILE
+--counted shared.eco shared.eco  | 2 |                                                        | usage: ecow-run [--counted] FILE
+--counted --counted              | 3 |                                                        | ecow-run: file
+--count shared.eco               | 2 |                                                        | usage: ecow-run [--counted] FILE
+--counted-blocks shared.eco      | 2 |                                                        | usage: ecow-run [--counted] FILE
+--help                           | 3 |                                                        | ecow-run: file
+missing.eco                      | 3 |                                                        | ecow-run: file
+--counted missing.eco            | 3 |                                                        | ecow-run: file
+.                                | 3 |                                                        | ecow-run: file
+"$path_of_300"                   | 0 | ok, ok, ok, [1,2,3,4], true                            |
+--counted "$path_of_4095"        | 0 | ok, ok, ok, [1,2,3,4], true, blocks 2 copied 3 moved 0 |
+"$path_of_4096"                  | 3 |                                                        | ecow-run: file
+"$path_of_4097"                  | 3 |                                                        | ecow-run: file
+"$path_of_4097" shared.eco       | 2 |                                                        | usage: ecow-run [--counted] FILE
+"$not_utf8"                      | 3 |                                                        | ecow-run: file
+--counted "$not_utf8"            | 3 |                                                        | ecow-run: file
+empty.eco                        | 0 |                                                        |
+--counted empty.eco              | 0 | blocks 0 copied 0 moved 0                              |
+text.eco                         | 0 | ok, "x"                                                |
+--counted text.eco               | 1 |                                                        | ecow-run: line 1: kind
+latin.eco                        | 1 |                                                        | ecow-run: not UTF-8
+--counted latin.eco              | 1 |                                                        | ecow-run: not UTF-8
+wrong.eco                        | 1 |                                                        | ecow-run: line 1: command
+--counted wrong.eco              | 1 |                                                        | ecow-run: line 1: command
+late.eco                         | 1 |                                                        | ecow-run: line 3001: arguments
+--counted late.eco               | 1 |                                                        | ecow-run: line 3001: arguments
+largest.eco                      | 0 |                                                        |
+larger.eco                       | 3 |                                                        | ecow-run: too large
+--counted larger.eco             | 3 |                                                        | ecow-run: too large
+shared.eco > /dev/full           | 3 |                                                        | ecow-run: output
+--counted shared.eco > /dev/full | 3 |                                                        | ecow-run: output
+--counted empty.eco > /dev/full  | 3 |                                                        | ecow-run: output
+empty.eco > /dev/full            | 0 |                                                        |
+shared.eco >&-                   | 3 |                                                        | ecow-run: output
+wrong.eco > /dev/full            | 1 |                                                        | ecow-run: line 1: command
+wrong.eco 2> /dev/full           | 1 |                                                        |
+missing.eco 2>&-                 | 3 |                                                        |
+END
+
+# Four lines for each row. Tabs part the lines of a cell.
+awk -F ' *[|] ?' '{ gsub(/, /, "\t", $3); print $1; print $2; print $3; print $4 }' "$work/table" > "$work/rows"
 
 mkdir "$work/files"
 cd "$work/files"
