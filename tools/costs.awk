@@ -1,8 +1,8 @@
 # Prints a row for each call and each state of the rows of docs/COSTS.md: a row of several says the same of each.
 # A cell of several parts, "5; 1000", says another thing of each: of few elements and of 1000, or of the limits
 # that the state names. What bytes and texts cost of 1000 they cost at each limit. A row without calls is of those
-# in the row above. A table without states has calls that make something of nothing.
-BEGIN { FS = " [|] "; others = split("0 1 3 23 255", other, " ") }
+# in the row above. A table without states has calls that make something of nothing. An empty cell is 0.
+BEGIN { FS = " *[|] *"; others = split("0 1 3 23 255", other, " ") }
 
 # Where the clone of a value stands that stands so afterwards, or the source of one that is made.
 function twin(name, state, after) {
@@ -13,7 +13,8 @@ function twin(name, state, after) {
 
 function print_rows(state, part,    i, j, cell, value, front, after, back) {
     for (j = states_at + 1; j <= NF; j++) {
-        value = split($j, cell, "; ") == 1 ? $j : cell[part]
+        value = split($j, cell, "; ") < 2 ? $j : cell[part]
+        if (value == "") value = 0
         if (j <= after_at) front = front " | " value
         else back = back " | " value
         if (j == after_at) after = value
@@ -23,15 +24,16 @@ function print_rows(state, part,    i, j, cell, value, front, after, back) {
 
 /^## / { is_small = /Bytes|Texts/ }
 
-/^[|] Call/ {
-    states_at = /Before|Source|Limit/ ? 2 : 1
+/^[|]/ { gsub(/^[|] *| *[|]$/, "") }
+
+$1 == "Call" {
+    states_at = $2 ~ /Before|Source|Limit/ ? 2 : 1
     is_made = /Made/
     for (i = 1; i <= NF; i++) if ($i ~ /^(After|Made)$/) after_at = i
 }
 
-/^[|] [`|]/ {
-    sub(/ [|]$/, "")
-    if ($1 != "|") calls = split(substr($1, 4, length($1) - 4), call, "`, `")
+/^(`|[|] [a-z])/ && NF > 3 {
+    if ($1) calls = split(substr($1, 2, length($1) - 2), call, "`, `")
     states = states_at == 1 ? split("–", state) : split($2, state, ", ")
     for (j = 1; j <= states; j++) {
         limits = 0
