@@ -622,9 +622,9 @@ impl<T: Drop> Block<T> {
             &self.alloc,
         );
         let len = self.len();
-        let kept = self.room.retain(base, 0, len, f);
+        let count = self.room.retain(base, 0, len, f);
         if len > 0 {
-            put_len(&mut self.title, self.top, kept);
+            put_len(&mut self.title, self.top, count);
         }
     }
 }

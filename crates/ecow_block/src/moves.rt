@@ -490,9 +490,9 @@ impl<T> Room<T> {
         ensures places { SamePlaces self.old self.new }
         ensures unchanged { OnErr result (self.new.items ≡ self.old.items) }
     {
-        let done = self.append_chunks(base, at, elements)?;
-        if let Err(error) = self.append_each(base, at + done, &elements[done..]) {
-            self.drop_last(base, at, done);
+        let count = self.append_chunks(base, at, elements)?;
+        if let Err(error) = self.append_each(base, at + count, &elements[count..]) {
+            self.drop_last(base, at, count);
             return Err(error);
         }
         Ok(())
@@ -512,27 +512,27 @@ impl<T> Room<T> {
             × (length self.old.items + length elements.now ≤ self.old.capacity)
             × (at + length elements.now < 2 ^ 64) }
         ensures clones { IfOk result
-            (λ done. AppendsClones T.is_clone self.old.items
-            (take done elements.now) self.new.items) }
-        ensures len { IfOk result (λ done. (done ≤ length elements.now)
-            × (length self.new.items ≡ length self.old.items + done)) }
+            (λ count. AppendsClones T.is_clone self.old.items
+            (take count elements.now) self.new.items) }
+        ensures len { IfOk result (λ count. (count ≤ length elements.now)
+            × (length self.new.items ≡ length self.old.items + count)) }
         ensures places { SamePlaces self.old self.new }
         ensures unchanged { OnErr result (self.new.items ≡ self.old.items) }
     {
         let mut rest = elements;
-        let mut done = 0;
+        let mut count = 0;
         if !are_small(elements) {
-            return Ok(done);
+            return Ok(count);
         }
         while let Some((chunk, others)) = rest.split_first_chunk::<CHUNK>() {
-            if let Err(error) = self.append_chunk(base, at + done, chunk) {
-                self.drop_last(base, at, done);
+            if let Err(error) = self.append_chunk(base, at + count, chunk) {
+                self.drop_last(base, at, count);
                 return Err(error);
             }
             rest = others;
-            done += CHUNK;
+            count += CHUNK;
         }
-        Ok(done)
+        Ok(count)
     }
 
     /// Appends clones of `CHUNK` elements, the first of them in the place numbered `at`.
@@ -571,16 +571,16 @@ impl<T> Room<T> {
         ensures places { SamePlaces self.old self.new }
         ensures unchanged { OnErr result (self.new.items ≡ self.old.items) }
     {
-        let mut done = 0;
-        while done < elements.len() {
-            match elements[done].clone() {
-                Ok(copy) => self.put(base, at + done, copy),
+        let mut count = 0;
+        while count < elements.len() {
+            match elements[count].clone() {
+                Ok(copy) => self.put(base, at + count, copy),
                 Err(error) => {
-                    self.drop_last(base, at, done);
+                    self.drop_last(base, at, count);
                     return Err(error);
                 }
             }
-            done += 1;
+            count += 1;
         }
         Ok(())
     }
@@ -610,15 +610,15 @@ impl<T> Room<T> {
             × IsFinite (I.remaining iter.new) }
         ensures places { SamePlaces self.old self.new }
     {
-        let mut done = 0;
-        while done < most {
+        let mut count = 0;
+        while count < most {
             match iter.next() {
-                Some(item) => self.put(base, at + done, item),
-                None => return (done, true),
+                Some(item) => self.put(base, at + count, item),
+                None => return (count, true),
             }
-            done += 1;
+            count += 1;
         }
-        (done, false)
+        (count, false)
     }
 
     /// Keeps the items, as `f` leaves them, at which it answers `true`, and returns how many these
@@ -641,18 +641,18 @@ impl<T> Room<T> {
         ensures places { SamePlaces self.old self.new }
     {
         let mut rest = self.split_off(0);
-        let mut seen = 0;
-        let mut kept = 0;
-        while seen < len {
-            let (mut item, place) = rest.take_first(base, start + seen);
+        let mut index = 0;
+        let mut count = 0;
+        while index < len {
+            let (mut item, place) = rest.take_first(base, start + index);
             self.widen(place);
-            seen += 1;
+            index += 1;
             if f(&mut item) {
-                self.put(base, start + kept, item);
-                kept += 1;
+                self.put(base, start + count, item);
+                count += 1;
             }
         }
         self.widen(rest);
-        kept
+        count
     }
 }

@@ -38,8 +38,8 @@ impl<T: Clone> EcoVec<T> {
             block.truncate(len);
             return Ok(());
         }
-        let kept = self.copy(Clones, &self.as_slice()[..len], fresh_capacity(len))?;
-        self.block = Shared::new(kept);
+        let block = self.copy(Clones, &self.as_slice()[..len], fresh_capacity(len))?;
+        self.block = Shared::new(block);
         Ok(())
     }
 
