@@ -80,14 +80,14 @@ impl<const N: usize> fmt::Debug for SmallString<N> {
 /// Bytes are tried for a text exactly where they are UTF-8, and the text has these bytes in their
 /// mode. The bytes of a text pass, and are tried for that text in the same mode.
 pub fn texts_are_their_bytes()
-    ensures passes { (held : PlainBytes) → IsUtf8 held.bytes → is_utf8 held.bytes ≡ true }
-    ensures is { (held : PlainBytes) → is_utf8 held.bytes ≡ true → IsUtf8 held.bytes }
+    ensures passes { (bytes : PlainBytes) → IsUtf8 bytes.bytes → is_utf8 bytes.bytes ≡ true }
+    ensures is { (bytes : PlainBytes) → is_utf8 bytes.bytes ≡ true → IsUtf8 bytes.bytes }
 
     // Bytes that pass come back from their text.
-    ensures kept { (held : PlainBytes) → is_utf8 held.bytes ≡ true
-        → bytes_of (text_of held) ≡ held }
-    ensures valid { (held : PlainBytes) → is_utf8 held.bytes ≡ true
-        → AreChars (text_of held).chars }
+    ensures kept { (bytes : PlainBytes) → is_utf8 bytes.bytes ≡ true
+        → bytes_of (text_of bytes) ≡ bytes }
+    ensures valid { (bytes : PlainBytes) → is_utf8 bytes.bytes ≡ true
+        → AreChars (text_of bytes).chars }
 
     // A text comes back from its bytes.
     ensures again_passes { (text : PlainText) → AreChars text.chars

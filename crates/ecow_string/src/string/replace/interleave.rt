@@ -1,10 +1,10 @@
 //! The occurrences of the empty pattern: before each character, and at the end.
-ghost use Rattle.std.specs.Prelude.{◌≡◌, ◌+◌, ◌<◌, ◌≤◌, [], ◌++◌, length, IfErr, OnOk, OnErr, SomeIff};
+ghost use Rattle.std.specs.Prelude.{◌≡◌, ◌+◌, ◌≤◌, [], length, SomeIff};
 ghost use Rattle.std.specs.Str.{chars};
 ghost use Rattle.ecow_values.specs.Inline.{inline_for};
 ghost use Rattle.ecow_values.specs.Replaced.{replacen};
 ghost use Rattle.ecow_values.specs.Utf8.{utf8_len};
-ghost use Rattle.ecow_string.specs.Replace.{SplitsChar};
+ghost use Rattle.ecow_string.specs.Replace.{AppendsWithin, SplitsChar};
 
 use crate::string::SmallString;
 use crate::string::replace::parts::{push_both, push_part, total_with};
@@ -43,14 +43,8 @@ pub(super) fn push_interleaving<const N: usize>(
     requires fits { utf8_len target.old.chars
         + utf8_len (replacen count [] (chars replacement.now) (chars text.now)) ≤ most }
     requires mode { target.old.inline ≡ inline_for N most }
-
-    // The text is appended, in the mode for `most` bytes; it is refused only where these spill.
-    ensures chars { OnOk result
-        (target.new.chars ≡ target.old.chars ++ replacen count [] (chars replacement.now)
-        (chars text.now)) }
-    ensures mode { OnOk result (target.new.inline ≡ inline_for N most) }
-    ensures memory { IfErr result (λ error. error ≡ EcoError.Memory) }
-    ensures free { OnErr result (N < most) }
+    ensures { AppendsWithin N most target.old
+        (replacen count [] (chars replacement.now) (chars text.now)) result target.new }
 {
     let mut rest = text;
     let mut left = count;

@@ -1,8 +1,9 @@
 //! Appending to a text that was made for so many bytes, and keeps its mode while it gets no more.
-ghost use Rattle.std.specs.Prelude.{◌≡◌, ◌+◌, ◌<◌, ◌≤◌, ◌++◌, length, IfErr, OnOk, OnErr, SomeIff};
+ghost use Rattle.std.specs.Prelude.{◌≡◌, ◌+◌, ◌≤◌, ◌++◌, length, SomeIff};
 ghost use Rattle.std.specs.Str.{chars};
 ghost use Rattle.ecow_values.specs.Inline.{inline_for};
 ghost use Rattle.ecow_values.specs.Utf8.{utf8_len};
+ghost use Rattle.ecow_string.specs.Replace.{AppendsWithin};
 
 use crate::string::SmallString;
 use ecow_base::MAX_LEN;
@@ -30,11 +31,7 @@ pub(super) fn push_part<const N: usize>(
     requires fits { utf8_len target.old.chars + length text.now ≤ most }
     requires mode { target.old.inline ≡ inline_for N most }
 
-    // It is appended, in the mode for `most` bytes; it is refused only where these spill.
-    ensures chars { OnOk result (target.new.chars ≡ target.old.chars ++ chars text.now) }
-    ensures mode { OnOk result (target.new.inline ≡ inline_for N most) }
-    ensures memory { IfErr result (λ error. error ≡ EcoError.Memory) }
-    ensures free { OnErr result (N < most) }
+    ensures { AppendsWithin N most target.old (chars text.now) result target.new }
 {
     target.push_str(text)?;
     Ok(())
@@ -51,12 +48,8 @@ pub(super) fn push_both<const N: usize>(
     requires fits { utf8_len target.old.chars + length first.now + length second.now ≤ most }
     requires mode { target.old.inline ≡ inline_for N most }
 
-    // It is appended, in the mode for `most` bytes; it is refused only where these spill.
-    ensures chars { OnOk result (target.new.chars ≡ (target.old.chars ++ chars first.now)
-        ++ chars second.now) }
-    ensures mode { OnOk result (target.new.inline ≡ inline_for N most) }
-    ensures memory { IfErr result (λ error. error ≡ EcoError.Memory) }
-    ensures free { OnErr result (N < most) }
+    ensures { AppendsWithin N most target.old (chars first.now ++ chars second.now)
+        result target.new }
 {
     push_part(target, first, most)?;
     push_part(target, second, most)?;

@@ -51,11 +51,17 @@ push_part-requires g c =
     (omega (arith, size, utf8_len-chars c.loop-left.rest.now c.loop-left.invariant.text)) in
     (search rules, (c.requires.bounded, (room, c.loop-left.invariant.mode)))
 
-pub returns-clause-chars : goal.returns-clause-chars
-returns-clause-chars g c =
+pub returns : goal.returns
+returns g c =
     let none : c.loop-left.left ≡ 0 = omega arith in
     let end = rw none at c.loop-left.invariant.joined in
     let whole =
     ap (λ l. c.loop-left.target.chars ++ l)
     (sym (replaced-zero (chars c.args.pattern.now) (chars c.args.replacement.now) (chars c.loop-left.rest.now))) ∙ end in
-    rw (← whole) c.push_part.ensures.chars
+    let last = c.push_part.ensures in
+    record {
+      chars = rw (← whole) last.chars;
+      mode = last.mode;
+      memory = last.memory;
+      free = last.free;
+    }
