@@ -27,7 +27,7 @@ impl<T: Clone> Spare<T> {
     /// All that a change of a list of `len` elements takes.
     pub fn new(alloc: Global, edit: &VecEdit<T>, len: usize) -> Result<Self, AllocError>
         requires bounded { len ≤ MAX_LEN }
-        requires asked { asked_length edit.now len ≤ MAX_LEN }
+        requires length { asked_length edit.now len ≤ MAX_LEN }
 
         // The clones that the change appends, and room for what changes places.
         ensures items { ClonesAreEqual T.is_clone
@@ -132,7 +132,7 @@ fn append<T: Drop>(block: &mut Block<T>, other: Block<T>)
 
 /// Makes a change in a block with room for it.
 pub(crate) fn apply<T: Drop>(block: &mut Block<T>, edit: VecEdit<T>, spare: Spare<T>) -> Outcome<T>
-    requires asked { verdict (edit_vec edit block.old.items) ≡ Ok tt }
+    requires allowed { verdict (edit_vec edit block.old.items) ≡ Ok tt }
     requires room { length_after edit (length block.old.items) ≤ block.old.capacity }
     requires brought { length spare.block.items ≡ length (new_items edit) }
     requires places { spare_room edit (length block.old.items) ≤ spare.block.capacity }

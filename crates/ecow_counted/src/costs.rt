@@ -50,7 +50,7 @@ pub(crate) fn staying<T>(edit: &VecEdit<T>, len: usize) -> usize
 pub(crate) fn capacity<T>(edit: &VecEdit<T>, size: Size) -> usize
     requires fits { size.len ≤ size.capacity }
     requires bounded { size.capacity ≤ MAX_LEN }
-    requires asked { asked_length edit.now size.len ≤ MAX_LEN }
+    requires length { asked_length edit.now size.len ≤ MAX_LEN }
     requires leaves { nat_lt 1 size.owners ≡ true → is_unshared edit.now size.len ≡ true }
     ensures capacity { result
         ≡ capacity_after edit.now (nat_lt 1 size.owners) size.len size.capacity }
@@ -69,12 +69,12 @@ pub(crate) fn capacity<T>(edit: &VecEdit<T>, size: Size) -> usize
         VecEdit::Extend(items) => room_for(size.len, items.len(), size.capacity),
         VecEdit::Reserve(additional) => room_for(size.len, *additional, size.capacity),
         VecEdit::Splice(_, items) => {
-            let held = if shared {
+            let least = if shared {
                 fresh_capacity(size.len)
             } else {
                 size.capacity
             };
-            room_for(staying(edit, size.len), items.len(), held)
+            room_for(staying(edit, size.len), items.len(), least)
         }
         VecEdit::Clear => if shared { 0 } else { size.capacity },
         VecEdit::Truncate(target) => if shared {

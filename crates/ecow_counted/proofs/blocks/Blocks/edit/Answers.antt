@@ -13,8 +13,8 @@ use Rattle.ecow_counted.proofs.Carrying.{edit_memory, edit_done, same_carried, f
 use Rattle.ecow_counted.proofs.blocks.Blocks.edit.Goals as goal
 use Rattle.ecow_counted.proofs.blocks.Blocks.edit.Goals.{else-size-gt1-via-then-size-gt1+else-not-unshares, else-size-gt1-via-else-size-gt1}
 
-pub capacity-requires-clause-asked : goal.capacity-requires-clause-asked
-capacity-requires-clause-asked g c =
+pub capacity-requires-clause-length : goal.capacity-requires-clause-length
+capacity-requires-clause-length g c =
     let names = c.args.self.now.names in
     let h = holding_at names c.args.name in
     let found = found_size names c.args.name c.in-Some.size (sym c.in-Some.is ∙ c.size.ensures.size) in
@@ -59,8 +59,8 @@ returns-in_default-own-clause-carried g c =
     (c.own.ensures.free (wanted ∙ free_keeps h (found_fits h found.1 c.in-Some.ensures.bounds.0) c.args.edit leaves t))))
     (λ f. f) (cases_Bool (holding_is_free c.args.edit h)))))
 
-pub apply-outcome-requires-clause-asked : goal.apply-outcome-requires-clause-asked
-apply-outcome-requires-clause-asked g c =
+pub apply-outcome-requires-clause-allowed : goal.apply-outcome-requires-clause-allowed
+apply-outcome-requires-clause-allowed g c =
     let names = c.args.self.now.names in
     let h = holding_at names c.args.name in
     let found = found_size names c.args.name c.in-Some.size (sym c.in-Some.is ∙ c.size.ensures.size) in
