@@ -27,12 +27,12 @@ impl Value {
         ensures codes { IsErrAmong (Refusal.Kind ∷ Refusal.Index ∷ []) result }
     {
         match self {
-            Value::List(items) => match item_at(items.as_slice(), index) {
+            Value::List(items) => match at(items.as_slice(), index) {
                 Some(item) => Ok(item),
                 None => Err(Refusal::Index),
             },
-            Value::Fields(fields) => match value_at(fields.as_slice(), index) {
-                Some(value) => Ok(value),
+            Value::Fields(fields) => match at(fields.as_slice(), index) {
+                Some(field) => Ok(&field.value),
                 None => Err(Refusal::Index),
             },
             _ => Err(Refusal::Kind),
@@ -51,41 +51,17 @@ impl Value {
         let Value::Fields(fields) = self else {
             return Err(Refusal::Kind);
         };
-        match name_at(fields.as_slice(), index) {
-            Some(name) => Ok(name),
+        match at(fields.as_slice(), index) {
+            Some(field) => Ok(&field.name),
             None => Err(Refusal::Index),
         }
     }
 }
 
-/// The item at `index`.
-fn item_at(items: &[Value], index: usize) -> Option<&Value>
+/// The item, or the field, at `index`.
+fn at<T>(items: &[T], index: usize) -> Option<&T>
     ensures { MatchOption result (length items.now ≤ index) (λ item. (index < length items.now)
         × (slice_get items.now index ≡ Some item.now)) }
 {
     items.get(index)
-}
-
-/// The value of the field at `index`.
-fn value_at(fields: &[Field], index: usize) -> Option<&Value>
-    ensures { MatchOption result (length fields.now ≤ index)
-        (λ value. (index < length fields.now)
-        × (value_in (slice_get fields.now index) ≡ Some value.now)) }
-{
-    match fields.get(index) {
-        Some(field) => Some(&field.value),
-        None => None,
-    }
-}
-
-/// The name of the field at `index`.
-fn name_at(fields: &[Field], index: usize) -> Option<&EcoString>
-    ensures { MatchOption result (length fields.now ≤ index)
-        (λ name. (index < length fields.now)
-        × (name_in (slice_get fields.now index) ≡ Some name.now)) }
-{
-    match fields.get(index) {
-        Some(field) => Some(&field.name),
-        None => None,
-    }
 }
