@@ -58,8 +58,8 @@ pub fn stores_agree<T>()
 
 /// In shared blocks Capacity answers exactly the capacity of the name's block.
 pub fn capacities_are_exact<T>()
-    ensures { (names : Names T) (name : ℕ) (held : Holding T) → IsSharing names
-        → finite.get names name ≡ Some held
+    ensures { (names : Names T) (name : ℕ) (holding : Holding T) → IsSharing names
+        → finite.get names name ≡ Some holding
         → counted_carry_out names (Usage.Ask name VecAsk.Capacity)
-        ≡ Ok (Outcome.Count held.capacity, names) }
+        ≡ Ok (Outcome.Count holding.capacity, names) }
 {}

@@ -30,12 +30,12 @@ pub(crate) fn answer_change<T: Drop, E: Drop>(change: Result<(), E>) -> Outcome<
     }
 }
 
-/// A value that was made, or why it was not.
-pub(crate) fn answer_make<V>(made: Result<V, EcoError>) -> Result<NewValue<V>, Refusal>
-    ensures { MatchResult made (λ value. result ≡ Ok (NewValue.Always value))
+/// A new value, or why there is none.
+pub(crate) fn answer_make<V>(value: Result<V, EcoError>) -> Result<NewValue<V>, Refusal>
+    ensures { MatchResult value (λ value. result ≡ Ok (NewValue.Always value))
         (λ error. result ≡ Err (refusal_for error)) }
 {
-    match made {
+    match value {
         Ok(value) => Ok(NewValue::Always(value)),
         Err(error) => Err(refusal_of(error)),
     }

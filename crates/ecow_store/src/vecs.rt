@@ -12,7 +12,7 @@ ghost use Rattle.ecow_model.specs.declared.command.Refusal.{Refusal};
 ghost use Rattle.ecow_model.specs.declared.vecs.VecEdit.{VecEdit};
 ghost use Rattle.ecow_named.proofs.Uses.{vec_wraps};
 
-use crate::answers::{answer_change, refusal_of};
+use crate::answers::{answer_change, answer_make};
 use crate::store::Stored;
 use ecow_base::resolve;
 use ecow_model::usage::NewValue;
@@ -57,7 +57,7 @@ impl<T: Clone, const N: usize> ValueKind<T, Stored<T, N>> for VecKind {
     ghost premise = { ClonesAreEqual T.is_clone };
 
     fn make(alloc: Global, how: VecMake<T>) -> Result<NewValue<EcoVec<T>>, Refusal> {
-        let made = match how {
+        answer_make(match how {
             VecMake::New => Ok(EcoVec::new(alloc)),
             VecMake::WithCapacity(capacity) => EcoVec::with_capacity(alloc, capacity),
             VecMake::FromList(items) => match EcoVec::from_vec(alloc, items.into_vec()) {
@@ -68,11 +68,7 @@ impl<T: Clone, const N: usize> ValueKind<T, Stored<T, N>> for VecKind {
                 Ok(list) => Ok(list),
                 Err(rejected) => Err(rejected.error),
             },
-        };
-        match made {
-            Ok(list) => Ok(NewValue::Always(list)),
-            Err(error) => Err(refusal_of(error)),
-        }
+        })
     }
 
     fn derive(_alloc: Global, how: VecDerive, source: &Stored<T, N>) -> Result<EcoVec<T>, Refusal> {
