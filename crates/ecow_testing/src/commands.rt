@@ -132,11 +132,8 @@ impl Numbers {
         alloc: Global,
         n: usize,
     ) -> Result<Vec<Command<i64>>, AllocError> {
-        let mut commands = Vec::new(alloc);
-        for command in self.commands(alloc, n)? {
-            commands.push(Command::Vec(command))?;
-        }
-        Ok(commands)
+        let commands = self.commands(alloc, n)?.into_iter();
+        commands.map(|command| Command::Vec(command)).collect(alloc)
     }
 }
 

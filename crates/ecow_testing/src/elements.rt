@@ -49,6 +49,12 @@ impl Tally {
         self.clones() == clones && self.drops() == drops
     }
 
+    /// How many clones were made, and how many elements dropped, once the value is dropped.
+    pub fn counts_without<V: Drop>(&self, value: V) -> (u64, u64) {
+        drop(value);
+        (self.clones(), self.drops())
+    }
+
     /// An element that counts here.
     pub fn element(&self) -> Result<Counting, AllocError> {
         Ok(Counting {

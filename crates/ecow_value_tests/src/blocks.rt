@@ -28,8 +28,7 @@ fn each_element_is_dropped_once(rt: HostRuntime) -> Result<(), AllocError> {
     let mut block = thousand(rt.alloc(), &tally)?;
     block.truncate(600);
     assert!(rt; tally.has(0, 400));
-    drop(block);
-    assert!(rt; tally.has(0, 1000));
+    assert_eq!(rt; tally.counts_without(block), (0, 1000));
     Ok(())
 }
 
@@ -42,8 +41,7 @@ fn what_is_left_is_dropped_with_the_rest(rt: HostRuntime) -> Result<(), AllocErr
         drop(rest.next_back());
     }
     assert!(rt; rest.len() == 600 && rest.as_slice().len() == 600 && tally.has(0, 400));
-    drop(rest);
-    assert!(rt; tally.has(0, 1000));
+    assert_eq!(rt; tally.counts_without(rest), (0, 1000));
     Ok(())
 }
 
@@ -55,9 +53,8 @@ fn moves_clone_nothing(rt: HostRuntime) -> Result<(), AllocError> {
     let mut block = Block::with_capacity(rt.alloc(), capacity)?;
     block.fill_within_capacity(elements);
     let elements = block.take_vec()?;
-    let moved = elements.len() == 10 && block.len() == 0;
-    drop(elements);
-    assert!(rt; moved && tally.has(0, 10));
+    assert!(rt; elements.len() == 10 && block.len() == 0);
+    assert_eq!(rt; tally.counts_without(elements), (0, 10));
     Ok(())
 }
 
@@ -213,10 +210,8 @@ fn each_element_of_a_large_block_is_dropped_once(rt: HostRuntime) -> Result<(), 
     block.truncate(600);
     assert!(rt; tally.has(0, 400));
     let mut rest = block.into_rest();
-    drop(rest.next());
-    assert!(rt; tally.has(0, 401));
-    drop(rest);
-    assert!(rt; tally.has(0, 1000));
+    assert_eq!(rt; tally.counts_without(rest.next()), (0, 401));
+    assert_eq!(rt; tally.counts_without(rest), (0, 1000));
     Ok(())
 }
 

@@ -9,25 +9,16 @@ use std::str;
 use std::str::Utf8Error;
 use std::test::Fail;
 
+/// Whether so many bytes at most stand inline, in bytes and in texts whose types say `N`.
+fn is_limit<const N: usize>(limit: usize) -> bool {
+    SmallBytes::<N>::INLINE_LIMIT == limit && SmallString::<N>::INLINE_LIMIT == limit
+}
+
 #[test]
 fn limits_are_those_of_the_type(rt: HostRuntime) {
-    let bytes = [
-        SmallBytes::<0>::INLINE_LIMIT,
-        SmallBytes::<1>::INLINE_LIMIT,
-        SmallBytes::<3>::INLINE_LIMIT,
-        EcoBytes::INLINE_LIMIT,
-        SmallBytes::<23>::INLINE_LIMIT,
-        SmallBytes::<255>::INLINE_LIMIT,
-    ];
-    let texts = [
-        SmallString::<0>::INLINE_LIMIT,
-        SmallString::<1>::INLINE_LIMIT,
-        SmallString::<3>::INLINE_LIMIT,
-        EcoString::INLINE_LIMIT,
-        SmallString::<23>::INLINE_LIMIT,
-        SmallString::<255>::INLINE_LIMIT,
-    ];
-    assert!(rt; bytes == [0, 1, 3, 15, 23, 255] && texts == bytes);
+    assert!(rt; is_limit::<0>(0) && is_limit::<1>(1) && is_limit::<3>(3));
+    assert!(rt; EcoBytes::INLINE_LIMIT == 15 && EcoString::INLINE_LIMIT == 15);
+    assert!(rt; is_limit::<23>(23) && is_limit::<255>(255));
 }
 
 fn debugged<T: Debug + Drop>(alloc: Global, value: T) -> Result<String, AllocError> {
@@ -172,12 +163,23 @@ fn texts_are_padded_by_characters(rt: HostRuntime) -> Result<(), Fail> {
     Ok(())
 }
 
+/// Errors, what they say, and how they are debugged with the value that was refused.
+const ERRORS: [(EcoError, &str, &str); 2] = [
+    (
+        EcoError::Memory,
+        "out of memory",
+        "Rejected { error: Memory, value: 7 }",
+    ),
+    (
+        EcoError::Capacity,
+        "capacity overflow",
+        "Rejected { error: Capacity, value: 7 }",
+    ),
+];
+
 #[test]
 fn errors_say_what_is_wanting(rt: HostRuntime) -> Result<(), Fail> {
-    for (error, said) in [
-        (EcoError::Memory, "out of memory"),
-        (EcoError::Capacity, "capacity overflow"),
-    ] {
+    for (error, said, _) in ERRORS {
         let rejected = Rejected { error, value: 7 };
         let both = format!(in rt.alloc(); "{error}|{rejected}|")?;
         let wanted = format!(in rt.alloc(); "{said}|{said}|")?;
@@ -188,12 +190,9 @@ fn errors_say_what_is_wanting(rt: HostRuntime) -> Result<(), Fail> {
 
 #[test]
 fn errors_are_debugged_with_their_values(rt: HostRuntime) -> Result<(), Fail> {
-    for (error, said) in [
-        (EcoError::Memory, "Rejected { error: Memory, value: 7 }"),
-        (EcoError::Capacity, "Rejected { error: Capacity, value: 7 }"),
-    ] {
+    for (error, _, debug) in ERRORS {
         let rejected = Rejected { error, value: 7 };
-        assert_eq!(rt; debugged(rt.alloc(), rejected)?.as_str(), said);
+        assert_eq!(rt; debugged(rt.alloc(), rejected)?.as_str(), debug);
     }
     Ok(())
 }

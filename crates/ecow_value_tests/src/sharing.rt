@@ -105,10 +105,8 @@ fn drops_come_at_once_and_once(rt: HostRuntime) -> Result<(), Fail> {
     let mut first = tally.list(rt.alloc(), 1000)?;
     first.truncate(900)?;
     let second = shared(&first)?;
-    drop(first);
-    assert!(rt; tally.has(0, 100));
-    drop(second);
-    assert!(rt; tally.has(0, 1000));
+    assert_eq!(rt; tally.counts_without(first), (0, 100));
+    assert_eq!(rt; tally.counts_without(second), (0, 1000));
     Ok(())
 }
 

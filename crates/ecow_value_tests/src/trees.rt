@@ -191,10 +191,8 @@ fn a_change_copies_the_vectors_along_its_path(rt: HostRuntime) -> Result<(), Fai
     replace_below(&mut changed, leaf(&tally, rt.alloc())?)?;
     // Four nodes, and the three below one of them, of which one made way.
     assert!(rt; tally.has(7, 1));
-    drop(changed);
-    assert!(rt; tally.has(7, 8));
-    drop(tree);
-    assert!(rt; tally.has(7, 24));
+    assert_eq!(rt; tally.counts_without(changed), (7, 8));
+    assert_eq!(rt; tally.counts_without(tree), (7, 24));
     Ok(())
 }
 
@@ -202,8 +200,7 @@ fn a_change_copies_the_vectors_along_its_path(rt: HostRuntime) -> Result<(), Fai
 fn a_million_nodes_are_dropped(rt: HostRuntime) -> Result<(), Fail> {
     let tally = Tally::new(rt.alloc())?;
     let tree = nodes(&tally, rt.alloc(), 1000, 999)?;
-    drop(tree);
-    assert!(rt; tally.has(0, 1000000));
+    assert_eq!(rt; tally.counts_without(tree), (0, 1000000));
     Ok(())
 }
 
@@ -221,7 +218,7 @@ fn chain(tally: &Tally, alloc: Global, n: usize) -> Result<EcoVec<Node>, EcoErro
 #[test]
 fn a_chain_of_ten_thousand_nodes_is_dropped(rt: HostRuntime) -> Result<(), Fail> {
     let tally = Tally::new(rt.alloc())?;
-    drop(chain(&tally, rt.alloc(), 10000)?);
-    assert!(rt; tally.has(0, 10000));
+    let chain = chain(&tally, rt.alloc(), 10000)?;
+    assert_eq!(rt; tally.counts_without(chain), (0, 10000));
     Ok(())
 }
