@@ -10,6 +10,7 @@ mod prints;
 mod rows;
 mod small;
 mod states;
+mod tables;
 mod texts;
 mod vectors;
 

@@ -90,6 +90,64 @@ impl Role {
     }
 }
 
+/// A call, its name, the number that it is given, how many elements there must be, and how often it
+/// is made.
+#[derive(Clone, Copy)]
+pub(crate) struct Row<C> {
+    pub(crate) call: C,
+    pub(crate) name: &'static str,
+    pub(crate) number: usize,
+    pub(crate) needs: usize,
+    pub(crate) times: usize,
+}
+
+pub(crate) fn row_of<C>(call: C, name: &'static str, number: usize, needs: usize) -> Row<C> {
+    Row {
+        call,
+        name,
+        number,
+        needs,
+        times: 1,
+    }
+}
+
+/// A call that is made again and again.
+pub(crate) fn repeated<C>(call: C, name: &'static str, number: usize, times: usize) -> Row<C> {
+    Row {
+        times,
+        ..row_of(call, name, number, 0)
+    }
+}
+
+impl<C> Row<C> {
+    /// How the call is written of what stands before its name.
+    pub(crate) fn written(&self, owner: &'static str) -> Written {
+        Written {
+            owner,
+            name: self.name,
+            times: self.times,
+        }
+    }
+}
+
+/// How a call is written: whose it is, its name, and how often it is made.
+#[derive(Clone, Copy)]
+pub(crate) struct Written {
+    pub(crate) owner: &'static str,
+    pub(crate) name: &'static str,
+    pub(crate) times: usize,
+}
+
+impl Written {
+    fn text(self, alloc: Global) -> Result<String, AllocError> {
+        let Written { owner, name, times } = self;
+        if times == 1 {
+            return format!(in alloc; "{owner}{name}");
+        }
+        format!(in alloc; "{owner}{name}, {times} times")
+    }
+}
+
 /// The inline limit of `EcoBytes` and `EcoString`. A state of theirs is named without it.
 pub(crate) const USUAL: usize = 15;
 
@@ -99,7 +157,7 @@ pub(crate) const USUAL: usize = 15;
 pub(crate) struct Cost {
     pub(crate) role: Role,
     pub(crate) limit: usize,
-    pub(crate) call: &'static str,
+    pub(crate) call: Written,
     pub(crate) state: &'static str,
     pub(crate) counts: Option<(u64, u64)>,
     pub(crate) before: Standing,
@@ -108,11 +166,15 @@ pub(crate) struct Cost {
 
 impl Cost {
     /// What it costs to make a value that then stands so.
-    pub(crate) fn of_making(call: &'static str, made: Standing) -> Self {
+    pub(crate) fn of_making(name: &'static str, made: Standing) -> Self {
         Cost {
             role: Role::Make,
             limit: USUAL,
-            call,
+            call: Written {
+                owner: "",
+                name,
+                times: 1,
+            },
             state: "",
             counts: None,
             before: Standing::none(),
@@ -175,7 +237,8 @@ impl Cost {
 
     fn line(&self, alloc: Global) -> Result<String, AllocError> {
         let (room, counted) = (self.room(alloc)?, self.counted(alloc)?);
-        let (call, state, twin) = (self.call, self.state(alloc)?, self.twin());
+        let (call, state) = (self.call.text(alloc)?, self.state(alloc)?);
+        let twin = self.twin();
         let form = if self.after.form == Form::Absent {
             "–"
         } else {

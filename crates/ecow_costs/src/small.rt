@@ -1,10 +1,9 @@
 //! What calls of bytes and texts cost, of which at most `N` bytes stand inline. A text is measured
 //! by its bytes.
-use crate::bytes::Bytes;
 use crate::marks::Meter;
-use crate::rows::{Cost, Form, Role, Rows, Standing, USUAL};
-use crate::states::{error_of, form_of};
-use crate::texts::Text;
+use crate::rows::{Cost, Form, Role, Row, Rows, Standing, USUAL};
+use crate::states::{error_of, form_of, or_memory};
+use crate::tables::{Call, Kind, first_makers, first_makers_at, last_changes};
 use crate::{bytes, texts};
 use ecow_bytes::SmallBytes;
 use ecow_string::SmallString;
@@ -78,62 +77,11 @@ fn few(limit: usize) -> [SmallState; 3] {
 /// What a call is given, made before it: so many letters in each form, and two texts.
 #[derive(Drop)]
 pub(crate) struct Gift<const N: usize> {
+    pub(crate) alloc: Global,
     pub(crate) bytes: Vec<u8>,
     pub(crate) string: String,
     pub(crate) list: EcoVec<u8>,
     pub(crate) texts: Vec<SmallString<N>>,
-}
-
-/// A call of either type.
-#[derive(Clone, Copy)]
-pub(crate) enum SmallCall {
-    Bytes(Bytes),
-    Text(Text),
-}
-
-impl SmallCall {
-    /// Makes the call on a value, so often, of what it is given. Answers the bytes that it makes.
-    fn make<const N: usize>(
-        self,
-        value: &mut SmallBytes<N>,
-        gift: Gift<N>,
-        times: usize,
-        alloc: Global,
-    ) -> Result<Option<SmallBytes<N>>, EcoError> {
-        match self {
-            SmallCall::Bytes(call) => bytes::call_on(call, value, gift, times, alloc),
-            SmallCall::Text(call) => texts::call_on(call, value, gift, times, alloc),
-        }
-    }
-}
-
-/// How a call is written, how many letters it is given, how many there must be, and how often it
-/// is made.
-#[derive(Clone, Copy)]
-pub(crate) struct Row {
-    call: SmallCall,
-    name: &'static str,
-    brings: usize,
-    needs: usize,
-    times: usize,
-}
-
-pub(crate) fn row_of(call: SmallCall, name: &'static str, brings: usize, needs: usize) -> Row {
-    Row {
-        call,
-        name,
-        brings,
-        needs,
-        times: 1,
-    }
-}
-
-/// A call that is made again and again.
-pub(crate) fn repeated(call: SmallCall, name: &'static str, brings: usize, times: usize) -> Row {
-    Row {
-        times,
-        ..row_of(call, name, brings, 0)
-    }
 }
 
 /// So many letters: the first is an A.
@@ -157,6 +105,7 @@ fn gift_of<const N: usize>(
     texts.push(SmallString::from_str(alloc, letters)?)?;
     texts.push(SmallString::from_str(alloc, "12345678")?)?;
     Ok(Gift {
+        alloc,
         bytes: Vec::from_clones(alloc, letters.as_bytes())?,
         list: EcoVec::from_slice(alloc, letters.as_bytes())?,
         texts,
@@ -187,10 +136,7 @@ fn twin_of<const N: usize>(
     if !state.shared {
         return Ok(None);
     }
-    match value.clone() {
-        Ok(twin) => Ok(Some(twin)),
-        Err(error) => Err(error.into()),
-    }
+    or_memory(value.clone()).map(|twin| Some(twin))
 }
 
 /// The block of spilled bytes; none of inline ones.
@@ -270,24 +216,45 @@ fn after<const N: usize>(
     }
 }
 
+/// Makes a call on a value, of what it is given. Answers the bytes that it makes.
+fn call_on<const N: usize>(
+    (kind, role): (Kind, Role),
+    row: Row<Call>,
+    value: &mut SmallBytes<N>,
+    gift: Gift<N>,
+) -> Result<Option<SmallBytes<N>>, EcoError> {
+    match (kind, role) {
+        (Kind::Bytes, Role::Change) => bytes::change(row, value, gift)?,
+        (Kind::Text, Role::Change) => texts::change(row, value, gift)?,
+        (Kind::Bytes, Role::Derive) => return bytes::derive(row, value),
+        (Kind::Text, Role::Derive) => return texts::derive(row, value, gift.alloc),
+        (Kind::Bytes, Role::Make) => {
+            let new = SmallBytes::new(gift.alloc);
+            return Ok(Some(bytes::make(row, gift, new)?));
+        }
+        (Kind::Text, Role::Make) => return Ok(Some(texts::make(row, gift, value)?)),
+    }
+    Ok(None)
+}
+
 fn cost<const N: usize>(
-    role: Role,
+    (kind, role): (Kind, Role),
     meter: Meter,
-    row: Row,
+    row: Row<Call>,
     state: SmallState,
     none: &SmallBytes<N>,
 ) -> Result<Cost, EcoError> {
     let before = before(role, meter.alloc, state, none)?;
     let mut value = value_of(meter.alloc, state, none)?;
     let twin = twin_of(&value, state)?;
-    let gift = gift_of(meter.alloc, row.brings, none)?;
+    let gift = gift_of(meter.alloc, row.number, none)?;
     let _begun = meter.begin();
-    let made = row.call.make(&mut value, gift, row.times, meter.alloc)?;
+    let made = call_on((kind, role), row, &mut value, gift)?;
     let _ended = meter.end();
     Ok(Cost {
         role,
         limit: N,
-        call: row.name,
+        call: row.written(kind.owner(role, row.call, N)),
         state: state.name,
         counts: None,
         before,
@@ -295,69 +262,98 @@ fn cost<const N: usize>(
     })
 }
 
-/// Adds a row of each call in each of the states. `none` names the type of the values.
-fn add_each<const N: usize>(
-    role: Role,
+/// Adds a row of each call of a table in each of the states. `none` names the type of the values.
+fn add_table<const N: usize>(
+    by: (Kind, Role),
     meter: Meter,
     rows: &mut Rows,
-    calls: &[Row],
+    calls: &[Row<Call>],
     states: &[SmallState],
     none: &SmallBytes<N>,
 ) {
     for row in calls {
         for state in states {
             if row.needs <= state.len {
-                rows.add(cost(role, meter, *row, *state, none));
+                rows.add(cost(by, meter, *row, *state, none));
             }
         }
     }
 }
 
-/// Adds a row of each call in each state.
-pub(crate) fn add_calls<const N: usize>(
-    role: Role,
+/// Adds a row of each call of a table in each state of few bytes.
+fn add_few_bytes<const N: usize>(
+    by: (Kind, Role),
     meter: Meter,
     rows: &mut Rows,
-    calls: &[Row],
+    calls: &[Row<Call>],
     none: &SmallBytes<N>,
 ) {
     if N == USUAL {
-        add_each(role, meter, rows, calls, &usual(), none);
+        add_table(by, meter, rows, calls, &usual(), none);
     } else {
         let states = if N == 0 { 1 } else { 2 };
-        add_each(role, meter, rows, calls, &edge(N)[..states], none);
+        add_table(by, meter, rows, calls, &edge(N)[..states], none);
     }
-    add_each(role, meter, rows, calls, &many(), none);
 }
 
-/// Adds a row of each call that makes a value.
-pub(crate) fn add_makers<const N: usize>(
+/// Adds a row of each call of the tables in each state.
+pub(crate) fn add_calls<const N: usize>(
+    by: (Kind, Role),
     meter: Meter,
     rows: &mut Rows,
-    calls: &[Row],
+    tables: &[&[Row<Call>]],
     none: &SmallBytes<N>,
 ) {
-    add_each(Role::Make, meter, rows, calls, &edge(N)[..1], none);
+    for calls in tables {
+        add_few_bytes(by, meter, rows, calls, none);
+    }
+    for calls in tables {
+        add_table(by, meter, rows, calls, &many(), none);
+    }
 }
 
-/// Adds a row of each call by which a value grows that is empty.
-pub(crate) fn add_growth<const N: usize>(
-    meter: Meter,
-    rows: &mut Rows,
-    calls: &[Row],
-    none: &SmallBytes<N>,
-) {
-    add_each(Role::Change, meter, rows, calls, &nothing(), none);
-}
-
-/// Adds rows of few spilled bytes.
+/// Adds rows of `shrink_to_fit` on few spilled bytes.
 pub(crate) fn add_few<const N: usize>(
+    kind: Kind,
     meter: Meter,
     rows: &mut Rows,
-    calls: &[Row],
     none: &SmallBytes<N>,
 ) {
-    add_each(Role::Change, meter, rows, calls, &few(N), none);
+    let by = (kind, Role::Change);
+    add_table(by, meter, rows, &last_changes()[..1], &few(N), none);
+}
+
+/// Adds a row of each call that makes a value, of those at the usual limit or at any other.
+pub(crate) fn add_makers<const N: usize>(
+    kind: Kind,
+    meter: Meter,
+    rows: &mut Rows,
+    usual: &[Row<Call>],
+    other: &[Row<Call>],
+    none: &SmallBytes<N>,
+) {
+    let (by, states) = ((kind, Role::Make), &edge(N)[..1]);
+    if N == USUAL {
+        add_table(by, meter, rows, &first_makers(), states, none);
+        add_table(by, meter, rows, usual, states, none);
+    } else {
+        add_table(by, meter, rows, &first_makers_at(N), states, none);
+        add_table(by, meter, rows, other, states, none);
+    }
+}
+
+/// Adds a row of each call by which an empty value grows, at the usual limit alone.
+pub(crate) fn add_growth<const N: usize>(
+    kind: Kind,
+    meter: Meter,
+    rows: &mut Rows,
+    calls: &[Row<Call>],
+    none: &SmallBytes<N>,
+) {
+    if N == USUAL {
+        let by = (kind, Role::Change);
+        add_table(by, meter, rows, calls, &nothing(), none);
+    }
 }
 
 /// The bytes of a vector that comes of a value.

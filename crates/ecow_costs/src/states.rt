@@ -1,7 +1,8 @@
 //! The states of a vector that tell, and vectors in them.
 use crate::rows::{Form, Standing};
 use ecow_vec::{EcoError, EcoVec, Rejected};
-use std::alloc::Global;
+use std::alloc::{AllocError, Global};
+use std::hash::{DefaultHasher, Hash};
 
 /// A state: so many elements in a block with so much room, shared or not.
 #[derive(Clone, Copy)]
@@ -89,4 +90,20 @@ impl<T: Drop> Pair<T> {
 /// What a refusal says, without the value.
 pub(crate) fn error_of<V: Drop>(rejected: Rejected<V>) -> EcoError {
     rejected.error
+}
+
+/// What a call made that only memory refuses.
+pub(crate) fn or_memory<V>(made: Result<V, AllocError>) -> Result<V, EcoError> {
+    match made {
+        Ok(made) => Ok(made),
+        Err(error) => Err(error.into()),
+    }
+}
+
+/// Compares a value, and hashes it.
+pub(crate) fn compare<V: Ord + Hash>(value: &V, other: &V) {
+    let _equal = value == other;
+    let _order = value.cmp(other);
+    let mut hasher = DefaultHasher::new();
+    value.hash(&mut hasher);
 }

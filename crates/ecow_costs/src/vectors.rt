@@ -1,226 +1,13 @@
 //! The calls of vectors, over elements that count their clones and drops.
 use crate::marks::Meter;
-use crate::rows::{Cost, Form, Role, Rows, Standing, USUAL};
-use crate::states::{Pair, VecState, error_of, form_of, kept_pair, vectors};
+use crate::rows::{Cost, Form, Role, Row, Rows, Standing, USUAL, row_of};
+use crate::states::{Pair, VecState, error_of, form_of, kept_pair, or_memory, vectors};
+use crate::tables::{VecCall, vector_changes, vector_growth, vector_makers, vector_reads};
 use ecow_testing::elements::{Counting, Tally};
 use ecow_vec::{Drain, EcoError, EcoVec, IntoArray, IntoIter, Splice, range_in};
-use std::alloc::{AllocError, Global};
+use std::alloc::Global;
 use std::mem;
-
-/// A call, with the numbers that it is given.
-#[derive(Clone, Copy)]
-enum VecCall {
-    Read,
-    Push,
-    PushReserved,
-    Insert,
-    InsertLast,
-    Set,
-    Update,
-    Pop,
-    Remove,
-    Truncate(usize),
-    Clear,
-    Retain,
-    Reserve(usize),
-    ExtendFromSlice,
-    Extend,
-    ExtendByOne,
-    Drain(usize, usize),
-    Splice(usize, usize),
-    MakeMut,
-    OwnMut,
-    IntoVec,
-    IntoIter,
-    IntoArray,
-    Drop,
-    Clone,
-    WithCapacity(usize),
-    FromVec,
-    FromArray,
-    FromNoArray,
-    FromSlice,
-    FromElem(usize),
-    FromIter,
-    Collect,
-}
-
-/// How a call is written, how many elements it is given, how many there must be, and how often it
-/// is made.
-#[derive(Clone, Copy)]
-struct Row {
-    call: VecCall,
-    name: &'static str,
-    brings: usize,
-    needs: usize,
-    times: usize,
-}
-
-fn row_of(call: VecCall, name: &'static str, brings: usize, needs: usize) -> Row {
-    Row {
-        call,
-        name,
-        brings,
-        needs,
-        times: 1,
-    }
-}
-
-/// A call that is made again and again.
-fn repeated(call: VecCall, name: &'static str, brings: usize, times: usize) -> Row {
-    Row {
-        times,
-        ..row_of(call, name, brings, 0)
-    }
-}
-
-fn first_rows() -> [Row; 14] {
-    [
-        row_of(
-            VecCall::Read,
-            "as_slice, iter, len, is_empty, capacity, is_unique",
-            0,
-            0,
-        ),
-        row_of(VecCall::Push, "push(x)", 1, 0),
-        row_of(VecCall::Insert, "insert(0, x)", 1, 0),
-        row_of(VecCall::Set, "set(0, x)", 1, 1),
-        row_of(VecCall::Update, "update(0, f)", 0, 1),
-        row_of(VecCall::Pop, "pop()", 0, 0),
-        row_of(VecCall::Remove, "remove(0)", 0, 1),
-        row_of(VecCall::Truncate(3), "truncate(3)", 0, 3),
-        row_of(VecCall::Truncate(0), "truncate(0)", 0, 0),
-        row_of(VecCall::Truncate(1001), "truncate(1001)", 0, 0),
-        row_of(VecCall::Clear, "clear()", 0, 0),
-        row_of(VecCall::Retain, "retain(all but 2)", 0, 0),
-        row_of(VecCall::MakeMut, "make_mut()", 0, 0),
-        row_of(VecCall::OwnMut, "own_mut()", 0, 0),
-    ]
-}
-
-fn last_rows() -> [Row; 17] {
-    [
-        row_of(VecCall::Reserve(0), "reserve(0)", 0, 0),
-        row_of(VecCall::Reserve(1), "reserve(1)", 0, 0),
-        row_of(VecCall::Reserve(20), "reserve(20)", 0, 0),
-        row_of(VecCall::ExtendFromSlice, "extend_from_slice(2)", 2, 0),
-        row_of(VecCall::ExtendFromSlice, "extend_from_slice(none)", 0, 0),
-        row_of(VecCall::Extend, "extend(2)", 2, 0),
-        row_of(VecCall::Extend, "extend(none)", 0, 0),
-        row_of(VecCall::Drain(1, 3), "drain(1..3)", 0, 3),
-        row_of(VecCall::Drain(0, 0), "drain(0..0)", 0, 0),
-        row_of(VecCall::Splice(1, 3), "splice(1..3, 2)", 2, 3),
-        row_of(VecCall::Splice(1, 3), "splice(1..3, 4)", 4, 3),
-        row_of(VecCall::Splice(0, 0), "splice(0..0, none)", 0, 0),
-        row_of(VecCall::Splice(0, 0), "splice(0..0, 2)", 2, 0),
-        row_of(VecCall::IntoVec, "into_vec()", 0, 0),
-        row_of(VecCall::IntoIter, "into_iter()", 0, 0),
-        row_of(VecCall::IntoArray, "into_array()", 0, 5),
-        row_of(VecCall::Drop, "drop(v)", 0, 0),
-    ]
-}
-
-/// Calls on vectors of 1000.
-fn long_rows() -> [Row; 6] {
-    [
-        row_of(VecCall::Truncate(900), "truncate(900)", 0, 1000),
-        row_of(VecCall::Reserve(1000), "reserve(1000)", 0, 1000),
-        row_of(
-            VecCall::ExtendFromSlice,
-            "extend_from_slice(1000)",
-            1000,
-            1000,
-        ),
-        row_of(VecCall::Extend, "extend(1000)", 1000, 1000),
-        row_of(VecCall::Drain(100, 900), "drain(100..900)", 0, 1000),
-        row_of(
-            VecCall::Splice(100, 900),
-            "splice(100..900, 1000)",
-            1000,
-            1000,
-        ),
-    ]
-}
-
-/// Calls by which a vector without a block grows.
-fn growing_rows() -> [Row; 7] {
-    [
-        repeated(VecCall::Push, "push(x), 100000 times", 100000, 100000),
-        repeated(
-            VecCall::PushReserved,
-            "reserve(1), push(x), 100000 times",
-            100000,
-            100000,
-        ),
-        repeated(
-            VecCall::InsertLast,
-            "insert(len, x), 100000 times",
-            100000,
-            100000,
-        ),
-        repeated(
-            VecCall::ExtendByOne,
-            "extend(1), 100000 times",
-            100000,
-            100000,
-        ),
-        repeated(
-            VecCall::ExtendFromSlice,
-            "extend_from_slice(7), 14286 times",
-            7,
-            14286,
-        ),
-        row_of(VecCall::Extend, "extend(100000)", 100000, 0),
-        row_of(VecCall::Splice(0, 0), "splice(0..0, 100000)", 100000, 0),
-    ]
-}
-
-fn makers() -> [Row; 27] {
-    [
-        row_of(VecCall::FromVec, "EcoVec::from_vec(none)", 0, 0),
-        row_of(VecCall::FromVec, "EcoVec::from_vec(5)", 5, 0),
-        row_of(VecCall::WithCapacity(0), "EcoVec::with_capacity(0)", 0, 0),
-        row_of(VecCall::WithCapacity(3), "EcoVec::with_capacity(3)", 0, 0),
-        row_of(VecCall::FromNoArray, "EcoVec::from_array(none)", 0, 0),
-        row_of(VecCall::FromArray, "EcoVec::from_array(5)", 5, 0),
-        row_of(VecCall::FromSlice, "EcoVec::from_slice(none)", 0, 0),
-        row_of(VecCall::FromSlice, "EcoVec::from_slice(2)", 2, 0),
-        row_of(VecCall::FromSlice, "EcoVec::from_slice(5)", 5, 0),
-        row_of(VecCall::FromElem(0), "EcoVec::from_elem(x, 0)", 1, 0),
-        row_of(VecCall::FromElem(2), "EcoVec::from_elem(x, 2)", 1, 0),
-        row_of(VecCall::FromElem(5), "EcoVec::from_elem(x, 5)", 1, 0),
-        row_of(VecCall::FromIter, "EcoVec::from_iter(none)", 0, 0),
-        row_of(VecCall::FromIter, "EcoVec::from_iter(5)", 5, 0),
-        row_of(VecCall::Collect, "collect(5)", 5, 0),
-        row_of(VecCall::Read, "EcoVec::new()", 0, 0),
-        row_of(VecCall::FromVec, "EcoVec::from_vec(1000)", 1000, 0),
-        row_of(
-            VecCall::WithCapacity(1000),
-            "EcoVec::with_capacity(1000)",
-            0,
-            0,
-        ),
-        row_of(
-            VecCall::WithCapacity(1024),
-            "EcoVec::with_capacity(1024)",
-            0,
-            0,
-        ),
-        row_of(
-            VecCall::WithCapacity(1025),
-            "EcoVec::with_capacity(1025)",
-            0,
-            0,
-        ),
-        row_of(VecCall::FromArray, "EcoVec::from_array(1000)", 1000, 0),
-        row_of(VecCall::FromSlice, "EcoVec::from_slice(1000)", 1000, 0),
-        row_of(VecCall::FromElem(1000), "EcoVec::from_elem(x, 1000)", 1, 0),
-        row_of(VecCall::FromIter, "EcoVec::from_iter(1000)", 1000, 0),
-        row_of(VecCall::Collect, "collect(1000)", 1000, 0),
-        row_of(VecCall::FromIter, "EcoVec::from_iter(100000)", 100000, 0),
-        row_of(VecCall::Collect, "collect(100000)", 100000, 0),
-    ]
-}
+use std::ops::Range;
 
 /// What a call hands out.
 #[derive(Drop)]
@@ -328,18 +115,27 @@ fn own_loan(list: &mut EcoVec<Counting>) -> Result<(), EcoError> {
     }
 }
 
-fn drain(list: &mut EcoVec<Counting>, start: usize, end: usize) -> Outcome {
-    if !range_in(&(start..end), list.len()) {
-        return Ok(Out::Nothing);
+/// Where the elements begin and end that are taken out of so many: none, a few, or most of 1000.
+fn places(needs: usize) -> Range<usize> {
+    match needs {
+        0 => 0..0,
+        3 => 1..3,
+        _ => 100..900,
     }
-    list.drain(start..end).map(|drained| Out::Drained(drained))
 }
 
-fn splice(list: &mut EcoVec<Counting>, start: usize, end: usize, items: Vec<Counting>) -> Outcome {
-    if !range_in(&(start..end), list.len()) {
+fn drain(list: &mut EcoVec<Counting>, places: Range<usize>) -> Outcome {
+    if !range_in(&places, list.len()) {
         return Ok(Out::Nothing);
     }
-    list.splice(start..end, items)
+    list.drain(places).map(|drained| Out::Drained(drained))
+}
+
+fn splice(list: &mut EcoVec<Counting>, places: Range<usize>, items: Vec<Counting>) -> Outcome {
+    if !range_in(&places, list.len()) {
+        return Ok(Out::Nothing);
+    }
+    list.splice(places, items)
         .map(|spliced| Out::Spliced(spliced))
 }
 
@@ -361,12 +157,12 @@ fn put(call: VecCall, list: &mut EcoVec<Counting>, value: Counting) -> Outcome {
 }
 
 /// Makes a call that changes a vector and is given none.
-fn change(call: VecCall, list: &mut EcoVec<Counting>) -> Result<(), EcoError> {
-    match call {
-        VecCall::Truncate(len) => list.truncate(len),
+fn change(row: Row<VecCall>, list: &mut EcoVec<Counting>) -> Result<(), EcoError> {
+    match row.call {
+        VecCall::Truncate => list.truncate(row.number),
         VecCall::Update => update(list),
         VecCall::Retain => retain(list),
-        VecCall::Reserve(more) => list.reserve(more),
+        VecCall::Reserve => list.reserve(row.number),
         VecCall::MakeMut => loan(list),
         VecCall::OwnMut => own_loan(list),
         _ => {
@@ -378,12 +174,12 @@ fn change(call: VecCall, list: &mut EcoVec<Counting>) -> Result<(), EcoError> {
 
 /// Makes a call on a vector.
 fn call_on(
-    call: VecCall,
+    row: Row<VecCall>,
     list: &mut EcoVec<Counting>,
     gift: &mut Vec<Counting>,
     alloc: Global,
 ) -> Outcome {
-    match call {
+    match row.call {
         VecCall::Read => Ok(read(list)),
         VecCall::Push
         | VecCall::PushReserved
@@ -391,16 +187,16 @@ fn call_on(
         | VecCall::InsertLast
         | VecCall::ExtendByOne
         | VecCall::Set => match gift.pop() {
-            Some(value) => put(call, list, value),
+            Some(value) => put(row.call, list, value),
             None => Ok(Out::Nothing),
         },
         VecCall::Pop => list.pop().map(of_one),
         VecCall::Remove => remove(list),
-        VecCall::Drain(start, end) => drain(list, start, end),
-        VecCall::Splice(start, end) => splice(list, start, end, taken(gift, alloc)),
-        VecCall::ExtendFromSlice => nothing(list.extend_from_slice(gift.as_slice())),
+        VecCall::Drain => drain(list, places(row.needs)),
+        VecCall::Splice => splice(list, places(row.needs), taken(gift, alloc)),
+        VecCall::Append => nothing(list.extend_from_slice(gift.as_slice())),
         VecCall::Extend => nothing(list.extend(taken(gift, alloc))),
-        _ => nothing(change(call, list)),
+        _ => nothing(change(row, list)),
     }
 }
 
@@ -440,13 +236,6 @@ fn error_of_array(error: IntoArray<Counting>) -> EcoError {
     }
 }
 
-fn clone(list: &EcoVec<Counting>) -> Result<EcoVec<Counting>, EcoError> {
-    match list.clone() {
-        Ok(clone) => Ok(clone),
-        Err(error) => Err(error.into()),
-    }
-}
-
 fn from_array<const N: usize>(
     alloc: Global,
     gift: Vec<Counting>,
@@ -474,21 +263,14 @@ fn from_elem(
     }
 }
 
-fn collected(alloc: Global, gift: Vec<Counting>) -> Result<EcoVec<Counting>, EcoError> {
-    match gift.into_iter().collect(alloc) {
-        Ok(list) => Ok(list),
-        Err(error) => Err(error.into()),
-    }
-}
-
 /// Makes a vector of what is given.
 fn make(
-    call: VecCall,
+    row: Row<VecCall>,
     gift: &mut Vec<Counting>,
     alloc: Global,
 ) -> Result<EcoVec<Counting>, EcoError> {
-    match call {
-        VecCall::WithCapacity(n) => EcoVec::with_capacity(alloc, n),
+    match row.call {
+        VecCall::WithCapacity => EcoVec::with_capacity(alloc, row.number),
         VecCall::FromVec => EcoVec::from_vec(alloc, taken(gift, alloc)).map_err(error_of),
         VecCall::FromArray if gift.len() == 5 => from_array::<5>(alloc, taken(gift, alloc)),
         VecCall::FromArray => from_array::<1000>(alloc, taken(gift, alloc)),
@@ -496,7 +278,7 @@ fn make(
         VecCall::FromSlice => EcoVec::from_slice(alloc, gift.as_slice()),
         VecCall::FromElem(n) => from_elem(alloc, gift, n),
         VecCall::FromIter => EcoVec::from_iter(alloc, taken(gift, alloc)),
-        VecCall::Collect => collected(alloc, taken(gift, alloc)),
+        VecCall::Collect => or_memory(taken(gift, alloc).into_iter().collect(alloc)),
         _ => Ok(EcoVec::new(alloc)),
     }
 }
@@ -504,19 +286,19 @@ fn make(
 /// Makes any call.
 fn call_any(
     role: Role,
-    call: VecCall,
+    row: Row<VecCall>,
     kept: &mut Pair<Counting>,
     gift: &mut Vec<Counting>,
     alloc: Global,
 ) -> Outcome {
-    match (role, call) {
-        (Role::Derive, _) => made(clone(&kept.list)),
-        (Role::Make, _) => made(make(call, gift, alloc)),
+    match (role, row.call) {
+        (Role::Derive, _) => made(or_memory(kept.list.clone())),
+        (Role::Make, _) => made(make(row, gift, alloc)),
         (_, VecCall::IntoVec | VecCall::IntoIter | VecCall::IntoArray | VecCall::Drop) => {
             let list = mem::replace(&mut kept.list, EcoVec::new(alloc));
-            give(call, list).map(|given| Out::Given(given))
+            give(row.call, list).map(|given| Out::Given(given))
         }
-        _ => call_on(call, &mut kept.list, gift, alloc),
+        _ => call_on(row, &mut kept.list, gift, alloc),
     }
 }
 
@@ -545,22 +327,31 @@ fn counted(alloc: Global, tally: &Tally, state: VecState) -> Result<Pair<Countin
     kept_pair(alloc, state, elements)
 }
 
-fn cost(role: Role, meter: Meter, row: Row, state: VecState) -> Result<Cost, EcoError> {
+/// What stands before the name of a call that makes a vector.
+fn owner(role: Role, call: VecCall) -> &'static str {
+    match (role, call) {
+        (Role::Make, VecCall::Collect) => "",
+        (Role::Make, _) => "EcoVec",
+        _ => "",
+    }
+}
+
+fn cost(role: Role, meter: Meter, row: Row<VecCall>, state: VecState) -> Result<Cost, EcoError> {
     let tally = Tally::new(meter.alloc)?;
     let mut kept = counted(meter.alloc, &tally, state)?;
-    let mut gift = tally.elements(meter.alloc, row.brings)?;
+    let mut gift = tally.elements(meter.alloc, row.number)?;
     let before = role.before(kept.standing());
     let counted = counts(&tally);
     let _begun = meter.begin();
     let mut out = Out::Nothing;
     for _ in 0..row.times {
-        out = call_any(role, row.call, &mut kept, &mut gift, meter.alloc)?;
+        out = call_any(role, row, &mut kept, &mut gift, meter.alloc)?;
     }
     let _ended = meter.end();
     Ok(Cost {
         role,
         limit: USUAL,
-        call: row.name,
+        call: row.written(owner(role, row.call)),
         state: state.name,
         counts: since(&tally, counted),
         before,
@@ -569,7 +360,13 @@ fn cost(role: Role, meter: Meter, row: Row, state: VecState) -> Result<Cost, Eco
 }
 
 /// Adds a row of each call in each of the states.
-fn add_each(role: Role, meter: Meter, rows: &mut Rows, calls: &[Row], states: &[VecState]) {
+fn add_each(
+    role: Role,
+    meter: Meter,
+    rows: &mut Rows,
+    calls: &[Row<VecCall>],
+    states: &[VecState],
+) {
     for row in calls {
         for state in states {
             if row.needs <= state.len {
@@ -581,9 +378,8 @@ fn add_each(role: Role, meter: Meter, rows: &mut Rows, calls: &[Row], states: &[
 
 pub(crate) fn add_rows(meter: Meter, rows: &mut Rows) {
     let states = vectors();
-    add_each(Role::Change, meter, rows, &first_rows(), &states);
-    add_each(Role::Change, meter, rows, &last_rows(), &states);
-    add_each(Role::Change, meter, rows, &long_rows(), &states);
+    add_each(Role::Change, meter, rows, &[vector_reads()], &states);
+    add_each(Role::Change, meter, rows, &vector_changes(), &states);
     add_each(
         Role::Derive,
         meter,
@@ -591,6 +387,6 @@ pub(crate) fn add_rows(meter: Meter, rows: &mut Rows) {
         &[row_of(VecCall::Clone, "clone()", 0, 0)],
         &states,
     );
-    add_each(Role::Change, meter, rows, &growing_rows(), &states[..1]);
-    add_each(Role::Make, meter, rows, &makers(), &states[..1]);
+    add_each(Role::Change, meter, rows, &vector_growth(), &states[..1]);
+    add_each(Role::Make, meter, rows, &vector_makers(), &states[..1]);
 }
