@@ -2,6 +2,8 @@
 //! value is made of.
 
 use crate::pairs;
+use crate::pairs::Seen;
+use crate::rounds::sum_of;
 use ecow_bytes::EcoBytes;
 use std::alloc::Global;
 
@@ -13,29 +15,17 @@ fn bytes_of(alloc: Global, bytes: &[u8]) -> EcoBytes {
     }
 }
 
-/// The length and the last byte of a value that stands in memory.
-#[inline(never)]
-fn seen(bytes: &EcoBytes) -> u64 {
-    let all = bytes.as_slice();
-    match all.last() {
-        Some(byte) => (all.len() as u64).wrapping_add(*byte as u64),
-        None => 0,
-    }
-}
-
 /// Makes a value from one slice or another that equals it, by turns, and drops it.
 pub(crate) fn from_slice(alloc: Global, bytes: &[u8], count: u64) -> u64 {
     let odd = bytes_of(alloc, bytes);
-    let mut sum = 0u64;
-    for round in 0..count {
+    sum_of(count, |round| {
         let bytes = if round % 2 == 0 {
             bytes
         } else {
             odd.as_slice()
         };
-        sum = sum.wrapping_add(seen(&bytes_of(alloc, bytes)));
-    }
-    sum
+        bytes_of(alloc, bytes).seen()
+    })
 }
 
 #[inline(never)]
@@ -49,24 +39,12 @@ fn pushed(alloc: Global, bytes: &[u8]) -> EcoBytes {
 
 /// Fills a new value by pushes.
 pub(crate) fn push(alloc: Global, bytes: &[u8], count: u64) -> u64 {
-    let mut sum = 0u64;
-    for _ in 0..count {
-        sum = sum.wrapping_add(pushed(alloc, bytes).len() as u64);
-    }
-    sum
+    sum_of(count, |_| pushed(alloc, bytes).len() as u64)
 }
 
 /// Makes a clone of one value or another, by turns, and drops it.
 pub(crate) fn clone(alloc: Global, bytes: &[u8], count: u64) -> u64 {
-    let (even, odd) = (bytes_of(alloc, bytes), bytes_of(alloc, bytes));
-    let mut sum = 0u64;
-    for round in 0..count {
-        let made = if round % 2 == 0 { &even } else { &odd };
-        if let Ok(copy) = made.clone() {
-            sum = sum.wrapping_add(seen(&copy));
-        }
-    }
-    sum
+    pairs::clone(&bytes_of(alloc, bytes), &bytes_of(alloc, bytes), count)
 }
 
 #[inline(never)]
@@ -80,45 +58,28 @@ fn extended(alloc: Global, bytes: &[u8]) -> EcoBytes {
 
 /// Appends the slice ten times to a new value.
 pub(crate) fn extend(alloc: Global, bytes: &[u8], count: u64) -> u64 {
-    let mut sum = 0u64;
-    for _ in 0..count {
-        sum = sum.wrapping_add(extended(alloc, bytes).len() as u64);
-    }
-    sum
+    sum_of(count, |_| extended(alloc, bytes).len() as u64)
 }
 
 /// Compares a value with one and with another that equals it, by turns.
 pub(crate) fn eq(alloc: Global, bytes: &[u8], count: u64) -> u64 {
-    let made = bytes_of(alloc, bytes);
-    pairs::eq(
-        &made,
-        &bytes_of(alloc, bytes),
-        &bytes_of(alloc, bytes),
-        count,
-    )
+    let (even, odd) = (bytes_of(alloc, bytes), bytes_of(alloc, bytes));
+    pairs::eq(&bytes_of(alloc, bytes), &even, &odd, count)
 }
 
 /// Orders a value and one or another that equals it, by turns.
 pub(crate) fn cmp(alloc: Global, bytes: &[u8], count: u64) -> u64 {
-    let made = bytes_of(alloc, bytes);
-    pairs::cmp(
-        &made,
-        &bytes_of(alloc, bytes),
-        &bytes_of(alloc, bytes),
-        count,
-    )
+    let (even, odd) = (bytes_of(alloc, bytes), bytes_of(alloc, bytes));
+    pairs::cmp(&bytes_of(alloc, bytes), &even, &odd, count)
 }
 
 /// Makes a value of a thousand copies.
 pub(crate) fn repeat(alloc: Global, bytes: &[u8], count: u64) -> u64 {
     let made = bytes_of(alloc, bytes);
-    let mut sum = 0u64;
-    for _ in 0..count {
-        if let Ok(copies) = made.repeat(1000) {
-            sum = sum.wrapping_add(copies.len() as u64);
-        }
-    }
-    sum
+    sum_of(
+        count,
+        |_| made.repeat(1000).map_or(0, |copies| copies.len() as u64),
+    )
 }
 
 #[inline(never)]

@@ -43,56 +43,45 @@ fn few_lines(alloc: Global, random: &mut Random, prose: &str) -> Result<Lines, E
     Ok(few)
 }
 
-/// Puts a letter into some line.
-fn edit(random: &mut Random, document: &mut Document) -> Result<(), EcoError> {
-    let pages = document.make_mut()?;
-    let at = random.below(pages.len());
-    match pages.get_mut(at) {
-        Some(page) => edit_page(random, page),
-        None => Ok(()),
+/// What stands in a document, at each of its levels.
+trait Part {
+    /// Puts a letter into some line.
+    fn edit(&mut self, random: &mut Random) -> Result<(), EcoError>;
+
+    /// The length of some line; 0 where there is none.
+    fn looked_at(&self, random: &mut Random) -> u64;
+}
+
+impl Part for EcoString {
+    fn edit(&mut self, random: &mut Random) -> Result<(), EcoError> {
+        let at = random.below(self.len().saturating_add(1));
+        if self.is_char_boundary(at) {
+            self.insert_str(at, "x")?;
+        }
+        Ok(())
+    }
+
+    fn looked_at(&self, _random: &mut Random) -> u64 {
+        self.len() as u64
     }
 }
 
-fn edit_page(random: &mut Random, page: &mut Page) -> Result<(), EcoError> {
-    let parts = page.make_mut()?;
-    let at = random.below(parts.len());
-    match parts.get_mut(at) {
-        Some(part) => edit_part(random, part),
-        None => Ok(()),
+impl<T: Part + Clone> Part for EcoVec<T> {
+    fn edit(&mut self, random: &mut Random) -> Result<(), EcoError> {
+        let parts = self.make_mut()?;
+        let at = random.below(parts.len());
+        match parts.get_mut(at) {
+            Some(part) => part.edit(random),
+            None => Ok(()),
+        }
     }
-}
 
-fn edit_part(random: &mut Random, part: &mut Lines) -> Result<(), EcoError> {
-    let lines = part.make_mut()?;
-    let at = random.below(lines.len());
-    match lines.get_mut(at) {
-        Some(line) => edit_line(random, line),
-        None => Ok(()),
-    }
-}
-
-fn edit_line(random: &mut Random, line: &mut EcoString) -> Result<(), EcoError> {
-    let at = random.below(line.len().saturating_add(1));
-    if line.is_char_boundary(at) {
-        line.insert_str(at, "x")?;
-    }
-    Ok(())
-}
-
-/// The length of some line.
-fn looked_at(random: &mut Random, document: &Document) -> u64 {
-    let pages = document.as_slice();
-    let Some(page) = pages.get(random.below(pages.len())) else {
-        return 0;
-    };
-    let parts = page.as_slice();
-    let Some(part) = parts.get(random.below(parts.len())) else {
-        return 0;
-    };
-    let lines = part.as_slice();
-    match lines.get(random.below(lines.len())) {
-        Some(line) => line.len() as u64,
-        None => 0,
+    fn looked_at(&self, random: &mut Random) -> u64 {
+        let parts = self.as_slice();
+        match parts.get(random.below(parts.len())) {
+            Some(part) => part.looked_at(random),
+            None => 0,
+        }
     }
 }
 
@@ -104,13 +93,13 @@ pub(crate) fn history(alloc: Global, lines: usize, edits: u64) -> Result<u64, Ec
     let mut kept = Vec::new(alloc);
     for _ in 0..edits {
         kept.push(document.clone()?)?;
-        edit(&mut random, &mut document)?;
+        document.edit(&mut random)?;
     }
-    let mut sum = looked_at(&mut random, &document);
+    let mut sum = document.looked_at(&mut random);
     for _ in 0..edits {
         if let Some(before) = kept.pop() {
             document = before;
-            sum = sum.wrapping_add(looked_at(&mut random, &document));
+            sum = sum.wrapping_add(document.looked_at(&mut random));
         }
     }
     Ok(sum)

@@ -10,6 +10,7 @@ mod history;
 mod loops;
 mod pairs;
 mod random;
+mod rounds;
 mod symbols;
 mod templates;
 mod texts;

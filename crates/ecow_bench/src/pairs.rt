@@ -1,6 +1,8 @@
-//! Loops of calls that vectors, bytes and texts have alike, and that only read: two values, `even`
-//! and `odd`, take turns.
+//! Loops of calls that vectors, bytes and texts have alike, and that leave their values as they
+//! are: two of them, `even` and `odd`, take turns.
 
+use ecow_bytes::EcoBytes;
+use ecow_string::EcoString;
 use std::cmp::Ordering;
 use std::hash::{DefaultHasher, Hash, Hasher};
 
@@ -51,6 +53,45 @@ pub(crate) fn hash<V: Hash>(even: &V, odd: &V, count: u64) -> u64 {
     for round in 0..count {
         let value = if round % 2 == 0 { even } else { odd };
         sum = sum.wrapping_add(hashed(value));
+    }
+    sum
+}
+
+/// A value of which something is seen that stands in memory.
+pub(crate) trait Seen {
+    /// Its length and its last byte.
+    fn seen(&self) -> u64;
+}
+
+fn length_and_last(bytes: &[u8]) -> u64 {
+    match bytes.last() {
+        Some(byte) => (bytes.len() as u64).wrapping_add(*byte as u64),
+        None => 0,
+    }
+}
+
+impl Seen for EcoBytes {
+    #[inline(never)]
+    fn seen(&self) -> u64 {
+        length_and_last(self.as_slice())
+    }
+}
+
+impl Seen for EcoString {
+    #[inline(never)]
+    fn seen(&self) -> u64 {
+        length_and_last(self.as_str().as_bytes())
+    }
+}
+
+/// Makes a clone of one value or another, by turns, and drops it.
+pub(crate) fn clone<V: Clone + Drop + Seen>(even: &V, odd: &V, count: u64) -> u64 {
+    let mut sum = 0u64;
+    for round in 0..count {
+        let made = if round % 2 == 0 { even } else { odd };
+        if let Ok(copy) = made.clone() {
+            sum = sum.wrapping_add(copy.seen());
+        }
     }
     sum
 }

@@ -2,7 +2,10 @@
 //! value is made of.
 
 use crate::pairs;
+use crate::pairs::Seen;
+use crate::rounds::sum_of;
 use ecow_string::{EcoString, ToEcoString, eco_format};
+use ecow_vec::EcoError;
 use std::alloc::Global;
 
 #[inline(never)]
@@ -13,38 +16,23 @@ fn text_of(alloc: Global, text: &str) -> EcoString {
     }
 }
 
-/// The length and the last byte of a value that stands in memory.
-#[inline(never)]
-fn seen(text: &EcoString) -> u64 {
-    let all = text.as_str().as_bytes();
-    match all.last() {
-        Some(byte) => (all.len() as u64).wrapping_add(*byte as u64),
-        None => 0,
-    }
+/// The length of what a call made.
+fn len_of(made: Result<EcoString, EcoError>) -> u64 {
+    made.map_or(0, |made| made.len() as u64)
 }
 
 /// Makes a value from one text or another that equals it, by turns, and drops it.
 pub(crate) fn from_str(alloc: Global, text: &str, count: u64) -> u64 {
     let odd = text_of(alloc, text);
-    let mut sum = 0u64;
-    for round in 0..count {
+    sum_of(count, |round| {
         let text = if round % 2 == 0 { text } else { odd.as_str() };
-        sum = sum.wrapping_add(seen(&text_of(alloc, text)));
-    }
-    sum
+        text_of(alloc, text).seen()
+    })
 }
 
 /// Makes a clone of one value or another, by turns, and drops it.
 pub(crate) fn clone(alloc: Global, text: &str, count: u64) -> u64 {
-    let (even, odd) = (text_of(alloc, text), text_of(alloc, text));
-    let mut sum = 0u64;
-    for round in 0..count {
-        let made = if round % 2 == 0 { &even } else { &odd };
-        if let Ok(copy) = made.clone() {
-            sum = sum.wrapping_add(seen(&copy));
-        }
-    }
-    sum
+    pairs::clone(&text_of(alloc, text), &text_of(alloc, text), count)
 }
 
 #[inline(never)]
@@ -58,11 +46,7 @@ fn pushed(alloc: Global, c: char, times: usize) -> EcoString {
 
 /// Fills a new value by pushes of one character.
 pub(crate) fn push(alloc: Global, c: char, text: &str, count: u64) -> u64 {
-    let mut sum = 0u64;
-    for _ in 0..count {
-        sum = sum.wrapping_add(pushed(alloc, c, text.len()).len() as u64);
-    }
-    sum
+    sum_of(count, |_| pushed(alloc, c, text.len()).len() as u64)
 }
 
 #[inline(never)]
@@ -76,11 +60,7 @@ fn extended(alloc: Global, text: &str) -> EcoString {
 
 /// Appends the text ten times to a new value.
 pub(crate) fn push_str(alloc: Global, text: &str, count: u64) -> u64 {
-    let mut sum = 0u64;
-    for _ in 0..count {
-        sum = sum.wrapping_add(extended(alloc, text).len() as u64);
-    }
-    sum
+    sum_of(count, |_| extended(alloc, text).len() as u64)
 }
 
 #[inline(never)]
@@ -143,37 +123,19 @@ pub(crate) fn hash(alloc: Global, text: &str, count: u64) -> u64 {
 /// Puts three characters in place of each `pattern`.
 pub(crate) fn replace(alloc: Global, pattern: &str, text: &str, count: u64) -> u64 {
     let made = text_of(alloc, text);
-    let mut sum = 0u64;
-    for _ in 0..count {
-        if let Ok(replaced) = made.replace(pattern, "...") {
-            sum = sum.wrapping_add(replaced.len() as u64);
-        }
-    }
-    sum
+    sum_of(count, |_| len_of(made.replace(pattern, "...")))
 }
 
 /// Makes a value in upper case.
 pub(crate) fn to_uppercase(alloc: Global, text: &str, count: u64) -> u64 {
     let made = text_of(alloc, text);
-    let mut sum = 0u64;
-    for _ in 0..count {
-        if let Ok(upper) = made.to_uppercase() {
-            sum = sum.wrapping_add(upper.len() as u64);
-        }
-    }
-    sum
+    sum_of(count, |_| len_of(made.to_uppercase()))
 }
 
 /// Makes a value of a thousand copies.
 pub(crate) fn repeat(alloc: Global, text: &str, count: u64) -> u64 {
     let made = text_of(alloc, text);
-    let mut sum = 0u64;
-    for _ in 0..count {
-        if let Ok(copies) = made.repeat(1000) {
-            sum = sum.wrapping_add(copies.len() as u64);
-        }
-    }
-    sum
+    sum_of(count, |_| len_of(made.repeat(1000)))
 }
 
 #[inline(never)]
@@ -186,11 +148,7 @@ fn formatted(alloc: Global, text: &str, number: u64) -> usize {
 
 /// Prints the text twice, and a number.
 pub(crate) fn format(alloc: Global, text: &str, count: u64) -> u64 {
-    let mut sum = 0u64;
-    for round in 0..count {
-        sum = sum.wrapping_add(formatted(alloc, text, round % 1000) as u64);
-    }
-    sum
+    sum_of(count, |round| formatted(alloc, text, round % 1000) as u64)
 }
 
 #[inline(never)]
@@ -203,9 +161,5 @@ fn printed(alloc: Global, number: u64) -> usize {
 
 /// Prints a number.
 pub(crate) fn to_eco_string(alloc: Global, count: u64) -> u64 {
-    let mut sum = 0u64;
-    for round in 0..count {
-        sum = sum.wrapping_add(printed(alloc, round % 1000000) as u64);
-    }
-    sum
+    sum_of(count, |round| printed(alloc, round % 1000000) as u64)
 }

@@ -1,0 +1,12 @@
+//! Rounds of a loop, of which each sees a number.
+
+/// The sum of what so many rounds see. Each is told how many came before it.
+pub(crate) fn sum_of<F: FnMut(u64) -> u64>(count: u64, mut seen: F) -> u64
+    requires { F.IsAlwaysCallable seen }
+{
+    let mut sum = 0u64;
+    for round in 0..count {
+        sum = sum.wrapping_add(seen(round));
+    }
+    sum
+}
