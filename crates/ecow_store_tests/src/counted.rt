@@ -1,7 +1,7 @@
 //! Lists in counted blocks: commands succeed with ample memory, each copied element is one clone,
 //! and elements are dropped with the last name of their block.
 use crate::calls::{done, held, step, totals};
-use crate::scripts::is_plain_run;
+use crate::scripts::{COMMANDS, compare};
 use ecow_counted::{Counted, Filled};
 use ecow_model::{Items, Outcome, Refusal, VecCommand};
 use ecow_testing::elements::{Counting, Single, Tally};
@@ -172,23 +172,10 @@ fn elements_without_a_clone_are_shared(rt: HostRuntime) -> Result<(), Fail> {
     Ok(())
 }
 
-/// Runs the same commands in counted blocks and on plain lists.
-fn compared(rt: &impl Abort, alloc: Global, seed: u64, n: usize) -> Result<(), Fail> {
-    let commands = Numbers::new(seed).commands(alloc, n)?;
-    let Ok(outcomes) = Counted::new(alloc).run(commands) else {
-        return Err("no room for the outcomes".into());
-    };
-    assert!(rt;
-        is_plain_run(alloc, seed, n, outcomes.as_slice())?,
-        "{seed}"
-    );
-    Ok(())
-}
-
 #[test]
 fn counted_lists_answer_as_plain_lists_do(rt: HostRuntime) -> Result<(), Fail> {
-    for seed in 100..120 {
-        compared(&rt, rt.alloc(), seed, 400)?;
-    }
-    Ok(())
+    compare(&rt, 100..120, |seed| {
+        let commands = Numbers::new(seed).commands(rt.alloc(), COMMANDS).ok()?;
+        Counted::new(rt.alloc()).run(commands).ok()
+    })
 }

@@ -59,37 +59,42 @@ struct Delivery {
     command: VecCommand<Counting>,
 }
 
-/// A command that brings one element, or, from the fourth on, several.
+/// A command that brings one element, or, from the fourth on, two.
 fn bringing(
     alloc: Global,
     tally: &Tally,
     (name, index): (u32, usize),
     number: usize,
 ) -> Result<Delivery, AllocError> {
-    if number > 2 {
-        return bringing_several(alloc, tally, (name, index), number);
+    if number < 3 {
+        return Ok(Delivery {
+            elements: 1,
+            command: bringing_one(name, index, tally.element()?, number),
+        });
     }
-    let value = tally.element()?;
-    let command = match number {
-        0 => VecCommand::Push { name, value },
-        1 => VecCommand::Insert { name, index, value },
-        _ => VecCommand::Write { name, index, value },
-    };
+    let items = Items::new(tally.elements(alloc, 2)?);
     Ok(Delivery {
-        elements: 1,
-        command,
+        elements: 2,
+        command: bringing_two(name, index, items, number),
     })
 }
 
-fn bringing_several(
-    alloc: Global,
-    tally: &Tally,
-    (name, index): (u32, usize),
+fn bringing_one(name: u32, index: usize, value: Counting, number: usize) -> VecCommand<Counting> {
+    match number {
+        0 => VecCommand::Push { name, value },
+        1 => VecCommand::Insert { name, index, value },
+        _ => VecCommand::Write { name, index, value },
+    }
+}
+
+fn bringing_two(
+    name: u32,
+    end: usize,
+    items: Items<Counting>,
     number: usize,
-) -> Result<Delivery, AllocError> {
-    let items = Items::new(tally.elements(alloc, 2)?);
-    let bounds = (Bound::Unbounded, Bound::Excluded(index));
-    let command = match number {
+) -> VecCommand<Counting> {
+    let bounds = (Bound::Unbounded, Bound::Excluded(end));
+    match number {
         3 => VecCommand::Extend { name, items },
         4 => VecCommand::Splice {
             name,
@@ -97,11 +102,7 @@ fn bringing_several(
             items,
         },
         _ => VecCommand::FromList { name, items },
-    };
-    Ok(Delivery {
-        elements: 2,
-        command,
-    })
+    }
 }
 
 /// A maker of three equal elements.

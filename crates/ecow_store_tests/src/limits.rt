@@ -106,40 +106,25 @@ fn texts_at<const N: usize>(
 
 #[test]
 fn bytes_are_inline_up_to_the_limit(rt: HostRuntime) -> Result<(), Fail> {
-    let (yes, no) = (Some(true), Some(false));
+    let (alloc, yes, no) = (rt.alloc(), Some(true), Some(false));
+    let at = [
+        bytes_at::<0>(alloc, SmallStore::new(alloc))?,
+        bytes_at::<3>(alloc, SmallStore::new(alloc))?,
+        bytes_at::<23>(alloc, SmallStore::new(alloc))?,
+    ];
     assert_eq!(rt;
-        bytes_at::<0>(rt.alloc(), SmallStore::new(rt.alloc()))?,
-        [no, no, no, no]
-    );
-    assert_eq!(rt;
-        bytes_at::<3>(rt.alloc(), SmallStore::new(rt.alloc()))?,
-        [yes, no, no, yes]
-    );
-    assert_eq!(rt;
-        bytes_at::<23>(rt.alloc(), SmallStore::new(rt.alloc()))?,
-        [yes, yes, yes, yes]
+        at,
+        [[no, no, no, no], [yes, no, no, yes], [yes, yes, yes, yes]]
     );
     Ok(())
 }
 
 #[test]
 fn texts_are_inline_up_to_the_limit(rt: HostRuntime) -> Result<(), Fail> {
-    let (yes, no) = (Some(true), Some(false));
-    assert_eq!(rt;
-        texts_at::<0>(rt.alloc(), SmallStore::new(rt.alloc()))?,
-        [no, no]
-    );
-    assert_eq!(rt;
-        texts_at::<3>(rt.alloc(), SmallStore::new(rt.alloc()))?,
-        [no, no]
-    );
-    assert_eq!(rt;
-        texts_at::<4>(rt.alloc(), SmallStore::new(rt.alloc()))?,
-        [yes, no]
-    );
-    assert_eq!(rt;
-        texts_at::<23>(rt.alloc(), SmallStore::new(rt.alloc()))?,
-        [yes, yes]
-    );
+    let (alloc, yes, no) = (rt.alloc(), Some(true), Some(false));
+    assert_eq!(rt; texts_at::<0>(alloc, SmallStore::new(alloc))?, [no, no]);
+    assert_eq!(rt; texts_at::<3>(alloc, SmallStore::new(alloc))?, [no, no]);
+    assert_eq!(rt; texts_at::<4>(alloc, SmallStore::new(alloc))?, [yes, no]);
+    assert_eq!(rt; texts_at::<23>(alloc, SmallStore::new(alloc))?, [yes, yes]);
     Ok(())
 }
