@@ -10,7 +10,7 @@ use std::alloc::Global;
 #[inline(never)]
 fn bytes_of(alloc: Global, bytes: &[u8]) -> EcoBytes {
     match EcoBytes::from_slice(alloc, bytes) {
-        Ok(made) => made,
+        Ok(value) => value,
         Err(_) => EcoBytes::new(alloc),
     }
 }
@@ -30,11 +30,11 @@ pub(crate) fn from_slice(alloc: Global, bytes: &[u8], count: u64) -> u64 {
 
 #[inline(never)]
 fn pushed(alloc: Global, bytes: &[u8]) -> EcoBytes {
-    let mut made = EcoBytes::new(alloc);
+    let mut value = EcoBytes::new(alloc);
     for byte in bytes {
-        let _done = made.push(*byte);
+        let _done = value.push(*byte);
     }
-    made
+    value
 }
 
 /// Fills a new value by pushes.
@@ -49,11 +49,11 @@ pub(crate) fn clone(alloc: Global, bytes: &[u8], count: u64) -> u64 {
 
 #[inline(never)]
 fn extended(alloc: Global, bytes: &[u8]) -> EcoBytes {
-    let mut made = EcoBytes::new(alloc);
+    let mut value = EcoBytes::new(alloc);
     for _ in 0..10 {
-        let _done = made.extend_from_slice(bytes);
+        let _done = value.extend_from_slice(bytes);
     }
-    made
+    value
 }
 
 /// Appends the slice ten times to a new value.
@@ -75,27 +75,27 @@ pub(crate) fn cmp(alloc: Global, bytes: &[u8], count: u64) -> u64 {
 
 /// Makes a value of a thousand copies.
 pub(crate) fn repeat(alloc: Global, bytes: &[u8], count: u64) -> u64 {
-    let made = bytes_of(alloc, bytes);
+    let value = bytes_of(alloc, bytes);
     sum_of(
         count,
-        |_| made.repeat(1000).map_or(0, |copies| copies.len() as u64),
+        |_| value.repeat(1000).map_or(0, |copies| copies.len() as u64),
     )
 }
 
 #[inline(never)]
-fn inserted(made: &mut EcoBytes, bytes: &[u8]) {
-    let middle = made.len() / 2;
-    let _done = made.insert_slice(middle, bytes);
+fn inserted(value: &mut EcoBytes, bytes: &[u8]) {
+    let middle = value.len() / 2;
+    let _done = value.insert_slice(middle, bytes);
 }
 
 /// Puts the slice into the middle of a value made from it, and keeps as many bytes as there were.
 pub(crate) fn insert_slice(alloc: Global, bytes: &[u8], count: u64) -> u64 {
-    let mut made = bytes_of(alloc, bytes);
+    let mut value = bytes_of(alloc, bytes);
     let mut sum = 0u64;
     for _ in 0..count {
-        inserted(&mut made, bytes);
-        sum = sum.wrapping_add(made.len() as u64);
-        let _done = made.truncate(bytes.len());
+        inserted(&mut value, bytes);
+        sum = sum.wrapping_add(value.len() as u64);
+        let _done = value.truncate(bytes.len());
     }
     sum
 }

@@ -6,13 +6,13 @@ use std::hash::Hash;
 
 /// An element that is made of a number, and of which a number is seen.
 pub(crate) trait Element: Clone + Drop + Ord + Hash {
-    fn made(alloc: Global, number: u64) -> Result<Self, AllocError>;
+    fn from_number(alloc: Global, number: u64) -> Result<Self, AllocError>;
 
     fn seen(&self) -> u64;
 }
 
 impl Element for u8 {
-    fn made(_alloc: Global, number: u64) -> Result<Self, AllocError> {
+    fn from_number(_alloc: Global, number: u64) -> Result<Self, AllocError> {
         Ok((number % 256) as u8)
     }
 
@@ -22,7 +22,7 @@ impl Element for u8 {
 }
 
 impl Element for u64 {
-    fn made(_alloc: Global, number: u64) -> Result<Self, AllocError> {
+    fn from_number(_alloc: Global, number: u64) -> Result<Self, AllocError> {
         Ok(number)
     }
 
@@ -32,7 +32,7 @@ impl Element for u64 {
 }
 
 impl Element for [u64; 3] {
-    fn made(_alloc: Global, number: u64) -> Result<Self, AllocError> {
+    fn from_number(_alloc: Global, number: u64) -> Result<Self, AllocError> {
         Ok([number; 3])
     }
 
@@ -42,7 +42,7 @@ impl Element for [u64; 3] {
 }
 
 impl Element for [u64; 8] {
-    fn made(_alloc: Global, number: u64) -> Result<Self, AllocError> {
+    fn from_number(_alloc: Global, number: u64) -> Result<Self, AllocError> {
         Ok([number; 8])
     }
 
@@ -52,7 +52,7 @@ impl Element for [u64; 8] {
 }
 
 impl Element for EcoVec<u64> {
-    fn made(alloc: Global, number: u64) -> Result<Self, AllocError> {
+    fn from_number(alloc: Global, number: u64) -> Result<Self, AllocError> {
         match EcoVec::from_slice(alloc, &[number]) {
             Ok(list) => Ok(list),
             Err(_) => Err(AllocError),
@@ -65,7 +65,7 @@ impl Element for EcoVec<u64> {
 }
 
 impl Element for String {
-    fn made(alloc: Global, number: u64) -> Result<Self, AllocError> {
+    fn from_number(alloc: Global, number: u64) -> Result<Self, AllocError> {
         let mut text = String::with_capacity(alloc, 20)?;
         for place in 0..20u64 {
             text.push(char::from(b'a' + (number / (place + 1) % 26) as u8))?;

@@ -18,7 +18,7 @@ type Page = EcoVec<Lines>;
 type Document = EcoVec<Page>;
 
 /// A document of so many lines.
-fn made(
+fn document_of(
     alloc: Global,
     random: &mut Random,
     prose: &str,
@@ -89,15 +89,15 @@ impl<T: Part + Clone> Part for EcoVec<T> {
 pub(crate) fn history(alloc: Global, lines: usize, edits: u64) -> Result<u64, EcoError> {
     let mut random = Random::new();
     let prose = prose(alloc, &mut random)?;
-    let mut document = made(alloc, &mut random, prose.as_str(), lines)?;
-    let mut kept = Vec::new(alloc);
+    let mut document = document_of(alloc, &mut random, prose.as_str(), lines)?;
+    let mut snapshots = Vec::new(alloc);
     for _ in 0..edits {
-        kept.push(document.clone()?)?;
+        snapshots.push(document.clone()?)?;
         document.edit(&mut random)?;
     }
     let mut sum = document.looked_at(&mut random);
     for _ in 0..edits {
-        if let Some(before) = kept.pop() {
+        if let Some(before) = snapshots.pop() {
             document = before;
             sum = sum.wrapping_add(document.looked_at(&mut random));
         }

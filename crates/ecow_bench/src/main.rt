@@ -231,10 +231,10 @@ fn sum_of_bytes(alloc: Global, call: &str, bytes: &[u8], count: u64) -> u64 {
 }
 
 /// The list's elements, made of the numbers.
-fn made<T: Element>(alloc: Global, numbers: &[u64]) -> Result<Vec<T>, AllocError> {
+fn elements_of<T: Element>(alloc: Global, numbers: &[u64]) -> Result<Vec<T>, AllocError> {
     let mut items = Vec::with_capacity(alloc, numbers.len())?;
     for number in numbers {
-        items.push(T::made(alloc, *number)?)?;
+        items.push(T::from_number(alloc, *number)?)?;
     }
     Ok(items)
 }
@@ -249,27 +249,32 @@ fn sum_of_lists(
     count: u64,
 ) -> Result<u64, AllocError> {
     Ok(match element {
-        "u8" => sum_of_copies::<u8>(alloc, call, made(alloc, numbers)?.as_slice(), count),
+        "u8" => sum_of_copies::<u8>(alloc, call, elements_of(alloc, numbers)?.as_slice(), count),
         "u64" => sum_of_numbers(alloc, call, numbers, count),
         "[u64;3]" => sum_of_copies::<[u64; 3]>(
             alloc,
             call,
-            made(alloc, numbers)?.as_slice(),
+            elements_of(alloc, numbers)?.as_slice(),
             count,
         ),
         "[u64;8]" => sum_of_copies::<[u64; 8]>(
             alloc,
             call,
-            made(alloc, numbers)?.as_slice(),
+            elements_of(alloc, numbers)?.as_slice(),
             count,
         ),
         "vector" => sum_of_items::<EcoVec<u64>>(
             alloc,
             call,
-            made(alloc, numbers)?.as_slice(),
+            elements_of(alloc, numbers)?.as_slice(),
             count,
         ),
-        "String" => sum_of_items::<String>(alloc, call, made(alloc, numbers)?.as_slice(), count),
+        "String" => sum_of_items::<String>(
+            alloc,
+            call,
+            elements_of(alloc, numbers)?.as_slice(),
+            count,
+        ),
         _ => 0,
     })
 }

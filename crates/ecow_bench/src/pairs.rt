@@ -12,11 +12,11 @@ fn same<V: PartialEq>(left: &V, right: &V) -> bool {
 }
 
 /// Compares a value with one and with another that equals it, by turns.
-pub(crate) fn eq<V: PartialEq>(made: &V, even: &V, odd: &V, count: u64) -> u64 {
+pub(crate) fn eq<V: PartialEq>(one: &V, even: &V, odd: &V, count: u64) -> u64 {
     let mut sum = 0u64;
     for round in 0..count {
         let other = if round % 2 == 0 { even } else { odd };
-        if same(made, other) {
+        if same(one, other) {
             sum = sum.wrapping_add(round);
         }
     }
@@ -29,11 +29,11 @@ fn compared<V: Ord>(left: &V, right: &V) -> Ordering {
 }
 
 /// Orders a value and one or another that equals it, by turns.
-pub(crate) fn cmp<V: Ord>(made: &V, even: &V, odd: &V, count: u64) -> u64 {
+pub(crate) fn cmp<V: Ord>(one: &V, even: &V, odd: &V, count: u64) -> u64 {
     let mut sum = 0u64;
     for round in 0..count {
         let other = if round % 2 == 0 { even } else { odd };
-        if compared(made, other).is_eq() {
+        if compared(one, other).is_eq() {
             sum = sum.wrapping_add(round);
         }
     }
@@ -88,8 +88,8 @@ impl Seen for EcoString {
 pub(crate) fn clone<V: Clone + Drop + Seen>(even: &V, odd: &V, count: u64) -> u64 {
     let mut sum = 0u64;
     for round in 0..count {
-        let made = if round % 2 == 0 { even } else { odd };
-        if let Ok(copy) = made.clone() {
+        let one = if round % 2 == 0 { even } else { odd };
+        if let Ok(copy) = one.clone() {
             sum = sum.wrapping_add(copy.seen());
         }
     }

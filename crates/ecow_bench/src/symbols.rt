@@ -72,8 +72,8 @@ impl Interner {
 
     /// Writes a number into a place.
     fn set(&mut self, place: usize, number: u32) {
-        if let Some(kept) = self.table.get_mut(place) {
-            *kept = number;
+        if let Some(slot) = self.table.get_mut(place) {
+            *slot = number;
         }
     }
 

@@ -11,14 +11,14 @@ use std::alloc::Global;
 #[inline(never)]
 fn text_of(alloc: Global, text: &str) -> EcoString {
     match EcoString::from_str(alloc, text) {
-        Ok(made) => made,
+        Ok(value) => value,
         Err(_) => EcoString::new(alloc),
     }
 }
 
 /// The length of what a call made.
-fn len_of(made: Result<EcoString, EcoError>) -> u64 {
-    made.map_or(0, |made| made.len() as u64)
+fn len_of(value: Result<EcoString, EcoError>) -> u64 {
+    value.map_or(0, |value| value.len() as u64)
 }
 
 /// Makes a value from one text or another that equals it, by turns, and drops it.
@@ -37,11 +37,11 @@ pub(crate) fn clone(alloc: Global, text: &str, count: u64) -> u64 {
 
 #[inline(never)]
 fn pushed(alloc: Global, c: char, times: usize) -> EcoString {
-    let mut made = EcoString::new(alloc);
+    let mut value = EcoString::new(alloc);
     for _ in 0..times {
-        let _done = made.push(c);
+        let _done = value.push(c);
     }
-    made
+    value
 }
 
 /// Fills a new value by pushes of one character.
@@ -51,11 +51,11 @@ pub(crate) fn push(alloc: Global, c: char, text: &str, count: u64) -> u64 {
 
 #[inline(never)]
 fn extended(alloc: Global, text: &str) -> EcoString {
-    let mut made = EcoString::new(alloc);
+    let mut value = EcoString::new(alloc);
     for _ in 0..10 {
-        let _done = made.push_str(text);
+        let _done = value.push_str(text);
     }
-    made
+    value
 }
 
 /// Appends the text ten times to a new value.
@@ -64,40 +64,40 @@ pub(crate) fn push_str(alloc: Global, text: &str, count: u64) -> u64 {
 }
 
 #[inline(never)]
-fn popped(made: &mut EcoString) -> Option<char> {
-    made.pop().unwrap_or(None)
+fn popped(value: &mut EcoString) -> Option<char> {
+    value.pop().unwrap_or(None)
 }
 
 /// Takes the last character and puts it back.
 pub(crate) fn pop(alloc: Global, text: &str, count: u64) -> u64 {
-    let mut made = text_of(alloc, text);
+    let mut value = text_of(alloc, text);
     let mut sum = 0u64;
     for _ in 0..count {
-        if let Some(c) = popped(&mut made) {
+        if let Some(c) = popped(&mut value) {
             sum = sum.wrapping_add(u32::from(c) as u64);
-            let _done = made.push(c);
+            let _done = value.push(c);
         }
     }
     sum
 }
 
 #[inline(never)]
-fn inserted(made: &mut EcoString) {
-    let middle = made.len() / 2;
-    if made.is_char_boundary(middle) {
-        let _done = made.insert_str(middle, "..");
+fn inserted(value: &mut EcoString) {
+    let middle = value.len() / 2;
+    if value.is_char_boundary(middle) {
+        let _done = value.insert_str(middle, "..");
     }
 }
 
 /// Puts two characters into the middle, and keeps as many bytes as there were.
 pub(crate) fn insert_str(alloc: Global, text: &str, count: u64) -> u64 {
-    let mut made = text_of(alloc, text);
+    let mut value = text_of(alloc, text);
     let mut sum = 0u64;
     for _ in 0..count {
-        inserted(&mut made);
-        sum = sum.wrapping_add(made.len() as u64);
-        if made.is_char_boundary(text.len()) {
-            let _done = made.truncate(text.len());
+        inserted(&mut value);
+        sum = sum.wrapping_add(value.len() as u64);
+        if value.is_char_boundary(text.len()) {
+            let _done = value.truncate(text.len());
         }
     }
     sum
@@ -105,14 +105,14 @@ pub(crate) fn insert_str(alloc: Global, text: &str, count: u64) -> u64 {
 
 /// Compares a value with one and with another that equals it, by turns.
 pub(crate) fn eq(alloc: Global, text: &str, count: u64) -> u64 {
-    let made = text_of(alloc, text);
-    pairs::eq(&made, &text_of(alloc, text), &text_of(alloc, text), count)
+    let value = text_of(alloc, text);
+    pairs::eq(&value, &text_of(alloc, text), &text_of(alloc, text), count)
 }
 
 /// Orders a value and one or another that equals it, by turns.
 pub(crate) fn cmp(alloc: Global, text: &str, count: u64) -> u64 {
-    let made = text_of(alloc, text);
-    pairs::cmp(&made, &text_of(alloc, text), &text_of(alloc, text), count)
+    let value = text_of(alloc, text);
+    pairs::cmp(&value, &text_of(alloc, text), &text_of(alloc, text), count)
 }
 
 /// Hashes one value and another that equals it, by turns.
@@ -122,26 +122,26 @@ pub(crate) fn hash(alloc: Global, text: &str, count: u64) -> u64 {
 
 /// Puts three characters in place of each `pattern`.
 pub(crate) fn replace(alloc: Global, pattern: &str, text: &str, count: u64) -> u64 {
-    let made = text_of(alloc, text);
-    sum_of(count, |_| len_of(made.replace(pattern, "...")))
+    let value = text_of(alloc, text);
+    sum_of(count, |_| len_of(value.replace(pattern, "...")))
 }
 
 /// Makes a value in upper case.
 pub(crate) fn to_uppercase(alloc: Global, text: &str, count: u64) -> u64 {
-    let made = text_of(alloc, text);
-    sum_of(count, |_| len_of(made.to_uppercase()))
+    let value = text_of(alloc, text);
+    sum_of(count, |_| len_of(value.to_uppercase()))
 }
 
 /// Makes a value of a thousand copies.
 pub(crate) fn repeat(alloc: Global, text: &str, count: u64) -> u64 {
-    let made = text_of(alloc, text);
-    sum_of(count, |_| len_of(made.repeat(1000)))
+    let value = text_of(alloc, text);
+    sum_of(count, |_| len_of(value.repeat(1000)))
 }
 
 #[inline(never)]
 fn formatted(alloc: Global, text: &str, number: u64) -> usize {
     match eco_format!(in alloc; "{text} {text} {number}") {
-        Ok(made) => made.len(),
+        Ok(value) => value.len(),
         Err(_) => 0,
     }
 }
@@ -154,7 +154,7 @@ pub(crate) fn format(alloc: Global, text: &str, count: u64) -> u64 {
 #[inline(never)]
 fn printed(alloc: Global, number: u64) -> usize {
     match number.to_eco_string(alloc) {
-        Ok(made) => made.len(),
+        Ok(value) => value.len(),
         Err(_) => 0,
     }
 }

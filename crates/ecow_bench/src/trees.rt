@@ -108,15 +108,15 @@ pub(crate) fn trees(alloc: Global, levels: usize, edits: u64) -> Result<u64, Eco
     let kinds = kinds(alloc, levels)?;
     let mut root = tree(alloc, &mut random, prose.as_str(), kinds.as_slice())?;
     let first = root.clone()?;
-    let mut kept = Vec::new(alloc);
+    let mut roots = Vec::new(alloc);
     for _ in 0..edits {
-        kept.push(root.clone()?)?;
+        roots.push(root.clone()?)?;
         let path = path(alloc, &mut random, levels)?;
         let text = EcoString::from_str(alloc, part(&mut random, prose.as_str(), LONGEST))?;
         replace(&mut root, path.as_slice(), text)?;
     }
     let mut sum = weight(&first).wrapping_add(weight(&root));
-    for before in kept.as_slice() {
+    for before in roots.as_slice() {
         sum = sum.wrapping_add(u64::from(before.kind));
     }
     Ok(sum)
