@@ -1,5 +1,5 @@
 -- How names are kept: short ones as numbers, long ones by their bytes, and further ones in a tree.
-use Rattle.std.specs.Prelude.{ℕ, ◌+◌, ◌*◌, ◌<◌, if◌then◌else◌, nat_eq, nat_le, List, [], ◌∷◌, length, Option, Some, None, slice_index}
+use Rattle.std.specs.Prelude.{◌≡◌, ℕ, ◌+◌, ◌*◌, ◌<◌, if◌then◌else◌, nat_eq, nat_le, List, [], ◌∷◌, length, Option, Some, None, slice_index}
 use Rattle.std.specs.Str.{bytes_eq}
 use Rattle.std.specs.Ordering.{nat_cmp}
 use Rattle.std.specs.Cmp.Lexicographic.{slice_cmp}
@@ -54,3 +54,8 @@ further_at m word = tree.get_by (λ k. slice_cmp nat_cmp word k.now) m
 -- the number of a name
 abbrev pub number_at : Maps → List ℕ → Option ℕ
 number_at maps = number_under (short_at maps.short) (long_at maps.long) (further_at maps.further)
+
+-- a word gets a number, and the others keep theirs
+abbrev pub Puts : (List ℕ → Option ℕ) → (List ℕ → Option ℕ) → List ℕ → ℕ → Type 0
+Puts old new word number =
+    (q : List ℕ) → new q ≡ (if bytes_eq word q then Some number else old q)

@@ -1,4 +1,17 @@
 //! The commands of a script.
+
+/// Reads the arguments of a command. A row says which: the fields of a command that has the name of
+/// its word, in the order in which they stand on the line, each with its form.
+macro_rules! read_command {
+    ($reader:ident, $word:expr, $words:ident => $command:ident {
+        $($name:ident { $($field:ident: $form:ident),* })*
+    }) => {
+        match $word {
+            $($words::$name => Ok($command::$name { $($field: $reader.$form()?),* }),)*
+        }
+    };
+}
+
 mod bytes;
 mod texts;
 mod vecs;

@@ -2,7 +2,7 @@
 ghost use Rattle.std.specs.Prelude.{◌≡◌, ◌∷◌, [], ◌++◌, length, IfOk, OnOk, OnErr, map, None, List, ℕ, Some, if◌then◌else◌, nat_eq};
 ghost use Rattle.std.specs.Str.{bytes_eq};
 ghost use Rattle.ecow_script.specs.Words.{number_of};
-ghost use Rattle.ecow_script.specs.Naming.{packed, number_at, by_key, short_at, long_at, further_at, IsBytes};
+ghost use Rattle.ecow_script.specs.Naming.{packed, number_at, by_key, short_at, long_at, further_at, IsBytes, Puts};
 ghost use Rattle.ecow_script.specs.Numbering.{Numbering, Numbering-prop};
 
 use ecow_model::Name;
@@ -28,15 +28,21 @@ pub(crate) struct Names<'a> {
     ghost listed: { Numbering (number_at maps) count } by { Numbering-prop (number_at maps) count },
 }
 
+/// The numbers of names by their text, found by a hash.
+type Long<'a> = HashMap<&'a str, Name>;
+
+/// The numbers of names by their text, in a tree.
+type Further<'a> = BTreeMap<&'a str, Name>;
+
 /// The numbers of names.
 #[derive(Drop)]
 pub(crate) struct Maps<'a> {
     /// Names of seven bytes or fewer, each as one number.
     short: HashMap<u64, Name>,
     /// Longer ones among the first names.
-    long: HashMap<&'a str, Name>,
+    long: Long<'a>,
     /// All that came after the first names.
-    further: BTreeMap<&'a str, Name>,
+    further: Further<'a>,
 }
 
 impl<'a> Maps<'a> {
@@ -98,27 +104,16 @@ fn put_short(map: &mut HashMap<u64, Name>, key: u64, number: Name) -> Result<(),
     Ok(())
 }
 
-fn put_long<'a>(
-    map: &mut HashMap<&'a str, Name>,
-    word: &'a str,
-    number: Name,
-) -> Result<(), AllocError>
-    ensures ok { OnOk result ((q : List ℕ)
-        → long_at map.new q ≡ (if bytes_eq word.now q then Some number else long_at map.old q)) }
+fn put_long<'a>(map: &mut Long<'a>, word: &'a str, number: Name) -> Result<(), AllocError>
+    ensures ok { OnOk result (Puts (long_at map.old) (long_at map.new) word.now number) }
     ensures unchanged { OnErr result ((q : List ℕ) → long_at map.new q ≡ long_at map.old q) }
 {
     map.insert(word, number)?;
     Ok(())
 }
 
-fn put_further<'a>(
-    map: &mut BTreeMap<&'a str, Name>,
-    word: &'a str,
-    number: Name,
-) -> Result<(), AllocError>
-    ensures ok { OnOk result ((q : List ℕ)
-        → further_at map.new q
-        ≡ (if bytes_eq word.now q then Some number else further_at map.old q)) }
+fn put_further<'a>(map: &mut Further<'a>, word: &'a str, number: Name) -> Result<(), AllocError>
+    ensures ok { OnOk result (Puts (further_at map.old) (further_at map.new) word.now number) }
     ensures unchanged { OnErr result ((q : List ℕ) → further_at map.new q ≡ further_at map.old q) }
 {
     map.insert(word, number)?;

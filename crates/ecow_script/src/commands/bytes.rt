@@ -74,85 +74,33 @@ impl<'a> Reader<'a> {
     pub(crate) fn bytes_form(&mut self, word: BytesWord) -> Result<BytesCommand, Misfit>
         ensures { Reads (bytes_form word) self.old result self.new }
     {
-        match word {
-            BytesWord::New => Ok(BytesCommand::New { name: self.name()? }),
-            BytesWord::TryInline => Ok(BytesCommand::TryInline {
-                name: self.name()?,
-                bytes: self.bytes()?,
-            }),
-            BytesWord::WithCapacity => Ok(BytesCommand::WithCapacity {
-                name: self.name()?,
-                capacity: self.count()?,
-            }),
-            BytesWord::FromList => Ok(BytesCommand::FromList {
-                name: self.name()?,
-                bytes: self.bytes()?,
-            }),
-            BytesWord::FromEcoVec => Ok(BytesCommand::FromEcoVec {
-                name: self.name()?,
-                bytes: self.bytes()?,
-            }),
-            BytesWord::FromText => Ok(BytesCommand::FromText {
-                from: self.name()?,
-                to: self.name()?,
-            }),
-            BytesWord::Clone => Ok(BytesCommand::Clone {
-                from: self.name()?,
-                to: self.name()?,
-            }),
-            BytesWord::Drop => Ok(BytesCommand::Drop { name: self.name()? }),
-            BytesWord::Push => Ok(BytesCommand::Push {
-                name: self.name()?,
-                byte: self.byte()?,
-            }),
-            BytesWord::Pop => Ok(BytesCommand::Pop { name: self.name()? }),
-            BytesWord::Insert => Ok(BytesCommand::Insert {
-                name: self.name()?,
-                index: self.count()?,
-                byte: self.byte()?,
-            }),
-            BytesWord::Remove => Ok(BytesCommand::Remove {
-                name: self.name()?,
-                index: self.count()?,
-            }),
-            BytesWord::Extend => Ok(BytesCommand::Extend {
-                name: self.name()?,
-                bytes: self.bytes()?,
-            }),
-            BytesWord::InsertSlice => Ok(BytesCommand::InsertSlice {
-                name: self.name()?,
-                index: self.count()?,
-                bytes: self.bytes()?,
-            }),
-            BytesWord::Truncate => Ok(BytesCommand::Truncate {
-                name: self.name()?,
-                target: self.count()?,
-            }),
-            BytesWord::Clear => Ok(BytesCommand::Clear { name: self.name()? }),
-            BytesWord::Reserve => Ok(BytesCommand::Reserve {
-                name: self.name()?,
-                additional: self.count()?,
-            }),
-            BytesWord::Write => Ok(BytesCommand::Write {
-                name: self.name()?,
-                index: self.count()?,
-                byte: self.byte()?,
-            }),
-            BytesWord::Read => Ok(BytesCommand::Read {
-                name: self.name()?,
-                index: self.count()?,
-            }),
-            BytesWord::Repeat => Ok(BytesCommand::Repeat {
-                from: self.name()?,
-                to: self.name()?,
-                n: self.count()?,
-            }),
-            BytesWord::ShrinkToFit => Ok(BytesCommand::ShrinkToFit { name: self.name()? }),
-            BytesWord::Len => Ok(BytesCommand::Len { name: self.name()? }),
-            BytesWord::Capacity => Ok(BytesCommand::Capacity { name: self.name()? }),
-            BytesWord::Contents => Ok(BytesCommand::Contents { name: self.name()? }),
-            BytesWord::IsInline => Ok(BytesCommand::IsInline { name: self.name()? }),
-        }
+        read_command!(self, word, BytesWord => BytesCommand {
+            New { name: name }
+            TryInline { name: name, bytes: bytes }
+            WithCapacity { name: name, capacity: count }
+            FromList { name: name, bytes: bytes }
+            FromEcoVec { name: name, bytes: bytes }
+            FromText { from: name, to: name }
+            Clone { from: name, to: name }
+            Drop { name: name }
+            Push { name: name, byte: byte }
+            Pop { name: name }
+            Insert { name: name, index: count, byte: byte }
+            Remove { name: name, index: count }
+            Extend { name: name, bytes: bytes }
+            InsertSlice { name: name, index: count, bytes: bytes }
+            Truncate { name: name, target: count }
+            Clear { name: name }
+            Reserve { name: name, additional: count }
+            Write { name: name, index: count, byte: byte }
+            Read { name: name, index: count }
+            Repeat { from: name, to: name, n: count }
+            ShrinkToFit { name: name }
+            Len { name: name }
+            Capacity { name: name }
+            Contents { name: name }
+            IsInline { name: name }
+        })
     }
 
     pub(crate) fn bytes_command(&mut self) -> Result<BytesCommand, Misfit>

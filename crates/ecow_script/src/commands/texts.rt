@@ -80,93 +80,36 @@ impl<'a> Reader<'a> {
     pub(crate) fn text_form(&mut self, word: TextWord) -> Result<TextCommand, Misfit>
         ensures { Reads (text_form word) self.old result self.new }
     {
-        match word {
-            TextWord::New => Ok(TextCommand::New { name: self.name()? }),
-            TextWord::TryInline => Ok(TextCommand::TryInline {
-                name: self.name()?,
-                text: self.text()?,
-            }),
-            TextWord::WithCapacity => Ok(TextCommand::WithCapacity {
-                name: self.name()?,
-                capacity: self.count()?,
-            }),
-            TextWord::FromStr => Ok(TextCommand::FromStr {
-                name: self.name()?,
-                text: self.text()?,
-            }),
-            TextWord::FromChar => Ok(TextCommand::FromChar {
-                name: self.name()?,
-                c: self.character()?,
-            }),
-            TextWord::FromBytes => Ok(TextCommand::FromBytes {
-                from: self.name()?,
-                to: self.name()?,
-            }),
-            TextWord::Clone => Ok(TextCommand::Clone {
-                from: self.name()?,
-                to: self.name()?,
-            }),
-            TextWord::Drop => Ok(TextCommand::Drop { name: self.name()? }),
-            TextWord::Push => Ok(TextCommand::Push {
-                name: self.name()?,
-                c: self.character()?,
-            }),
-            TextWord::Pop => Ok(TextCommand::Pop { name: self.name()? }),
-            TextWord::PushStr => Ok(TextCommand::PushStr {
-                name: self.name()?,
-                text: self.text()?,
-            }),
-            TextWord::Insert => Ok(TextCommand::Insert {
-                name: self.name()?,
-                index: self.count()?,
-                c: self.character()?,
-            }),
-            TextWord::InsertStr => Ok(TextCommand::InsertStr {
-                name: self.name()?,
-                index: self.count()?,
-                text: self.text()?,
-            }),
-            TextWord::Remove => Ok(TextCommand::Remove {
-                name: self.name()?,
-                index: self.count()?,
-            }),
-            TextWord::Truncate => Ok(TextCommand::Truncate {
-                name: self.name()?,
-                target: self.count()?,
-            }),
-            TextWord::Clear => Ok(TextCommand::Clear { name: self.name()? }),
-            TextWord::Reserve => Ok(TextCommand::Reserve {
-                name: self.name()?,
-                additional: self.count()?,
-            }),
-            TextWord::Replace => Ok(TextCommand::Replace {
-                from: self.name()?,
-                to: self.name()?,
-                pattern: self.text()?,
-                replacement: self.text()?,
-                count: self.count()?,
-            }),
-            TextWord::Repeat => Ok(TextCommand::Repeat {
-                from: self.name()?,
-                to: self.name()?,
-                n: self.count()?,
-            }),
-            TextWord::AsciiLower => Ok(TextCommand::AsciiLower { name: self.name()? }),
-            TextWord::AsciiUpper => Ok(TextCommand::AsciiUpper { name: self.name()? }),
-            TextWord::ToAsciiLower => Ok(TextCommand::ToAsciiLower {
-                from: self.name()?,
-                to: self.name()?,
-            }),
-            TextWord::ToAsciiUpper => Ok(TextCommand::ToAsciiUpper {
-                from: self.name()?,
-                to: self.name()?,
-            }),
-            TextWord::ShrinkToFit => Ok(TextCommand::ShrinkToFit { name: self.name()? }),
-            TextWord::Len => Ok(TextCommand::Len { name: self.name()? }),
-            TextWord::Capacity => Ok(TextCommand::Capacity { name: self.name()? }),
-            TextWord::Contents => Ok(TextCommand::Contents { name: self.name()? }),
-            TextWord::IsInline => Ok(TextCommand::IsInline { name: self.name()? }),
-        }
+        read_command!(self, word, TextWord => TextCommand {
+            New { name: name }
+            TryInline { name: name, text: text }
+            WithCapacity { name: name, capacity: count }
+            FromStr { name: name, text: text }
+            FromChar { name: name, c: character }
+            FromBytes { from: name, to: name }
+            Clone { from: name, to: name }
+            Drop { name: name }
+            Push { name: name, c: character }
+            Pop { name: name }
+            PushStr { name: name, text: text }
+            Insert { name: name, index: count, c: character }
+            InsertStr { name: name, index: count, text: text }
+            Remove { name: name, index: count }
+            Truncate { name: name, target: count }
+            Clear { name: name }
+            Reserve { name: name, additional: count }
+            Replace { from: name, to: name, pattern: text, replacement: text, count: count }
+            Repeat { from: name, to: name, n: count }
+            AsciiLower { name: name }
+            AsciiUpper { name: name }
+            ToAsciiLower { from: name, to: name }
+            ToAsciiUpper { from: name, to: name }
+            ShrinkToFit { name: name }
+            Len { name: name }
+            Capacity { name: name }
+            Contents { name: name }
+            IsInline { name: name }
+        })
     }
 
     pub(crate) fn text_command(&mut self) -> Result<TextCommand, Misfit>

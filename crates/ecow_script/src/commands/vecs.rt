@@ -70,80 +70,31 @@ impl<'a> Reader<'a> {
     pub(crate) fn vec_form(&mut self, word: VecWord) -> Result<VecCommand<i64>, Misfit>
         ensures { Reads (vec_form word) self.old result self.new }
     {
-        match word {
-            VecWord::New => Ok(VecCommand::New { name: self.name()? }),
-            VecWord::WithCapacity => Ok(VecCommand::WithCapacity {
-                name: self.name()?,
-                capacity: self.count()?,
-            }),
-            VecWord::FromList => Ok(VecCommand::FromList {
-                name: self.name()?,
-                items: self.integers()?,
-            }),
-            VecWord::FromElem => Ok(VecCommand::FromElem {
-                name: self.name()?,
-                value: self.integer()?,
-                n: self.count()?,
-            }),
-            VecWord::Clone => Ok(VecCommand::Clone {
-                from: self.name()?,
-                to: self.name()?,
-            }),
-            VecWord::Drop => Ok(VecCommand::Drop { name: self.name()? }),
-            VecWord::Push => Ok(VecCommand::Push {
-                name: self.name()?,
-                value: self.integer()?,
-            }),
-            VecWord::Pop => Ok(VecCommand::Pop { name: self.name()? }),
-            VecWord::Insert => Ok(VecCommand::Insert {
-                name: self.name()?,
-                index: self.count()?,
-                value: self.integer()?,
-            }),
-            VecWord::Remove => Ok(VecCommand::Remove {
-                name: self.name()?,
-                index: self.count()?,
-            }),
-            VecWord::Write => Ok(VecCommand::Write {
-                name: self.name()?,
-                index: self.count()?,
-                value: self.integer()?,
-            }),
-            VecWord::Truncate => Ok(VecCommand::Truncate {
-                name: self.name()?,
-                target: self.count()?,
-            }),
-            VecWord::Clear => Ok(VecCommand::Clear { name: self.name()? }),
-            VecWord::Retain => Ok(VecCommand::Retain {
-                name: self.name()?,
-                marks: self.marks()?,
-            }),
-            VecWord::Drain => Ok(VecCommand::Drain {
-                name: self.name()?,
-                bounds: self.bounds()?,
-            }),
-            VecWord::Splice => Ok(VecCommand::Splice {
-                name: self.name()?,
-                bounds: self.bounds()?,
-                items: self.integers()?,
-            }),
-            VecWord::Extend => Ok(VecCommand::Extend {
-                name: self.name()?,
-                items: self.integers()?,
-            }),
-            VecWord::Reserve => Ok(VecCommand::Reserve {
-                name: self.name()?,
-                additional: self.count()?,
-            }),
-            VecWord::Read => Ok(VecCommand::Read {
-                name: self.name()?,
-                index: self.count()?,
-            }),
-            VecWord::Len => Ok(VecCommand::Len { name: self.name()? }),
-            VecWord::Contents => Ok(VecCommand::Contents { name: self.name()? }),
-            VecWord::Capacity => Ok(VecCommand::Capacity { name: self.name()? }),
-            VecWord::Unique => Ok(VecCommand::Unique { name: self.name()? }),
-        }
+        read_command!(self, word, VecWord => VecCommand {
+            New { name: name }
+            WithCapacity { name: name, capacity: count }
+            FromList { name: name, items: integers }
+            FromElem { name: name, value: integer, n: count }
+            Clone { from: name, to: name }
+            Drop { name: name }
+            Push { name: name, value: integer }
+            Pop { name: name }
+            Insert { name: name, index: count, value: integer }
+            Remove { name: name, index: count }
+            Write { name: name, index: count, value: integer }
+            Truncate { name: name, target: count }
+            Clear { name: name }
+            Retain { name: name, marks: marks }
+            Drain { name: name, bounds: bounds }
+            Splice { name: name, bounds: bounds, items: integers }
+            Extend { name: name, items: integers }
+            Reserve { name: name, additional: count }
+            Read { name: name, index: count }
+            Len { name: name }
+            Contents { name: name }
+            Capacity { name: name }
+            Unique { name: name }
+        })
     }
 
     pub(crate) fn vec_command(&mut self) -> Result<VecCommand<i64>, Misfit>
