@@ -1,6 +1,8 @@
 //! The calls of `SmallBytes`.
 use crate::short::Long;
-use crate::small::{Small, SmallCall, SmallState, into_holds, is_made, repeated_hold, states};
+use crate::small::{
+    Small, SmallCall, SmallState, Snapshot, into_holds, is_made, repeated_hold, states,
+};
 use crate::steps::{Row, Word};
 use crate::watch::Watch;
 use ecow_bytes::SmallBytes;
@@ -19,44 +21,31 @@ const LETTERS: [u8; 280] = *b"abcdefghijklmnopqrstuvwxyz{|}~ABCDEFGHIJ\
     abcdefghijklmnopqrstuvwxyz{|}~ABCDEFGHIJ\
     abcdefghijklmnopqrstuvwxyz{|}~ABCDEFGHIJ";
 
-pub const STEPS: [Row; 37] = [
-    (Word::Push, 0, 0, 1),
-    (Word::Insert, 0, 0, 1),
-    (Word::Insert, 2, 2, 1),
-    (Word::Write, 0, 1, 1),
-    (Word::Write, 2, 3, 1),
-    (Word::MakeMut, 0, 0, 0),
-    (Word::Rewrite, 0, 0, 0),
-    (Word::Rewrite, 2, 0, 0),
-    (Word::Rewrite, 100, 0, 0),
-    (Word::Pop, 0, 0, 0),
-    (Word::Remove, 0, 1, 0),
-    (Word::Remove, 2, 3, 0),
-    (Word::Truncate, 0, 0, 0),
-    (Word::Truncate, 2, 0, 0),
-    (Word::Truncate, 100, 0, 0),
-    (Word::Clear, 0, 0, 0),
-    (Word::Shrink, 0, 0, 0),
-    (Word::Reserve, 0, 0, 0),
-    (Word::Reserve, 0, 0, 1),
-    (Word::Reserve, 0, 0, 2),
-    (Word::Reserve, 0, 0, 20),
-    (Word::Extend, 0, 0, 0),
-    (Word::Extend, 0, 0, 1),
-    (Word::Extend, 0, 0, 2),
-    (Word::Extend, 0, 0, 12),
-    (Word::ExtendEach, 0, 0, 0),
-    (Word::ExtendEach, 0, 0, 1),
-    (Word::ExtendEach, 0, 0, 2),
-    (Word::ExtendEach, 0, 0, 12),
-    (Word::Put, 0, 0, 0),
-    (Word::Put, 0, 0, 1),
-    (Word::Put, 0, 0, 12),
-    (Word::InsertSlice, 0, 0, 0),
-    (Word::InsertSlice, 0, 0, 1),
-    (Word::InsertSlice, 2, 2, 1),
-    (Word::InsertSlice, 2, 2, 2),
-    (Word::InsertSlice, 0, 0, 12),
+pub const STEPS: [Row; 15] = [
+    (Word::Push, &[(0, 0, 1)]),
+    (Word::Insert, &[(0, 0, 1), (2, 2, 1)]),
+    (Word::Write, &[(0, 1, 1), (2, 3, 1)]),
+    (Word::MakeMut, &[(0, 0, 0)]),
+    (Word::Rewrite, &[(0, 0, 0), (2, 0, 0), (100, 0, 0)]),
+    (Word::Pop, &[(0, 0, 0)]),
+    (Word::Remove, &[(0, 1, 0), (2, 3, 0)]),
+    (Word::Truncate, &[(0, 0, 0), (2, 0, 0), (100, 0, 0)]),
+    (Word::Clear, &[(0, 0, 0)]),
+    (Word::Shrink, &[(0, 0, 0)]),
+    (
+        Word::Reserve,
+        &[(0, 0, 0), (0, 0, 1), (0, 0, 2), (0, 0, 20)],
+    ),
+    (Word::Extend, &[(0, 0, 0), (0, 0, 1), (0, 0, 2), (0, 0, 12)]),
+    (
+        Word::ExtendEach,
+        &[(0, 0, 0), (0, 0, 1), (0, 0, 2), (0, 0, 12)],
+    ),
+    (Word::Put, &[(0, 0, 0), (0, 0, 1), (0, 0, 12)]),
+    (
+        Word::InsertSlice,
+        &[(0, 0, 0), (0, 0, 1), (2, 2, 1), (2, 2, 2), (0, 0, 12)],
+    ),
 ];
 
 pub fn first(bytes: &[u8], count: usize) -> &[u8] {
@@ -98,16 +87,8 @@ impl<const N: usize> Small for SmallBytes<N> {
         }
     }
 
-    fn bytes(&self) -> Long {
-        Long::of_bytes(self.as_slice())
-    }
-
-    fn is_inline(&self) -> bool {
-        self.is_inline()
-    }
-
-    fn capacity(&self) -> usize {
-        self.capacity()
+    fn snapshot(&self) -> Snapshot {
+        Snapshot::of(self.as_slice(), self.is_inline(), self.capacity())
     }
 
     fn into_vector(self) -> Result<EcoVec<u8>, Rejected<Self>> {
@@ -202,74 +183,47 @@ pub fn makers_hold<const N: usize>(alloc: Global, watch: &Watch, none: &SmallByt
     let mut hold = arrays_hold(alloc, watch, none);
     for len in [0, 1, N, N.saturating_add(1), N.saturating_add(9)] {
         let (want, inline) = (first(&LETTERS, len), len <= N);
-        hold = are_made(
-            watch,
-            SmallBytes::<N>::from_slice(alloc, want),
-            want,
-            inline,
-        ) && hold;
-        let bytes = want.iter().copied();
-        hold = are_made(
-            watch,
-            SmallBytes::<N>::from_iter(alloc, bytes),
-            want,
-            inline,
-        ) && hold;
-        hold = are_made(
-            watch,
-            SmallBytes::<N>::with_capacity(alloc, len),
-            &[],
-            inline,
-        ) && hold;
-        hold = collected_holds(alloc, watch, none, want)
-            && vec_holds(alloc, watch, none, want)
+        let copied = SmallBytes::<N>::from_slice(alloc, want);
+        let iterated = SmallBytes::<N>::from_iter(alloc, want.iter().copied());
+        let empty = SmallBytes::<N>::with_capacity(alloc, len);
+        hold = are_made(watch, copied, want, inline)
+            && are_made(watch, iterated, want, inline)
+            && are_made(watch, empty, &[], inline)
+            && handed_hold(alloc, watch, none, want)
             && hold;
     }
     hold
 }
 
 fn arrays_hold<const N: usize>(alloc: Global, watch: &Watch, _none: &SmallBytes<N>) -> bool {
-    let long = b"abcdefghijklmnopqrstuvwxyz";
-    are_made(
-        watch,
-        SmallBytes::<N>::from_array(alloc, *b"ab"),
-        b"ab",
-        N >= 2,
-    ) && are_made(
-        watch,
-        SmallBytes::<N>::from_array(alloc, *long),
-        long,
-        N >= 26,
-    )
+    let letters = b"abcdefghijklmnopqrstuvwxyz";
+    let few = SmallBytes::<N>::from_array(alloc, *b"ab");
+    let many = SmallBytes::<N>::from_array(alloc, *letters);
+    are_made(watch, few, b"ab", N >= 2) && are_made(watch, many, letters, N >= 26)
 }
 
-fn collected_holds<const N: usize>(
+/// Of bytes that are handed over, of which those of a `Vec` come back where it is refused.
+fn handed_hold<const N: usize>(
     alloc: Global,
     watch: &Watch,
     _none: &SmallBytes<N>,
     want: &[u8],
 ) -> bool {
-    match want.iter().copied().collect::<SmallBytes<N>>(alloc) {
-        Ok(bytes) => are_made(watch, Ok(bytes), want, want.len() <= N),
-        Err(_) => are_made::<N>(watch, Err(EcoError::Memory), want, want.len() <= N),
-    }
-}
-
-/// Bytes of a `Vec`, which comes back where it is refused.
-fn vec_holds<const N: usize>(
-    alloc: Global,
-    watch: &Watch,
-    _none: &SmallBytes<N>,
-    want: &[u8],
-) -> bool {
-    let Ok(bytes) = Vec::from_clones(alloc, want) else {
-        return watch.may_refuse();
+    let inline = want.len() <= N;
+    let collected = match want.iter().copied().collect::<SmallBytes<N>>(alloc) {
+        Ok(bytes) => Ok(bytes),
+        Err(_) => Err(EcoError::Memory),
     };
-    match SmallBytes::<N>::from_vec(alloc, bytes) {
-        Ok(bytes) => are_made(watch, Ok(bytes), want, want.len() <= N),
+    let hold = are_made(watch, collected, want, inline);
+    let Ok(vec) = Vec::from_clones(alloc, want) else {
+        return watch.may_refuse() && hold;
+    };
+    match SmallBytes::<N>::from_vec(alloc, vec) {
+        Ok(bytes) => are_made(watch, Ok(bytes), want, inline) && hold,
         Err(rejected) => {
             rejected.value.as_slice() == want
-                && are_made::<N>(watch, Err(rejected.error), want, want.len() <= N)
+                && are_made::<N>(watch, Err(rejected.error), want, inline)
+                && hold
         }
     }
 }

@@ -8,9 +8,6 @@ use std::{env, io};
 
 /// The parts of a program.
 pub trait Parts {
-    /// What each part is about.
-    fn names() -> &'static [&'static str];
-
     /// Whether the part with this number, counted from 0, holds.
     fn holds(part: usize, alloc: Global, watch: &Watch) -> bool;
 }
@@ -44,11 +41,12 @@ fn wanted_part(rt: &HostRuntime) -> usize {
     number
 }
 
-/// Runs the part that is wanted, or all, and prints a line for each.
-pub fn run<P: Parts>(rt: &HostRuntime) -> io::Result<()> {
+/// Runs the part that is wanted, or all, and prints a line for each. The names say what each part
+/// is about.
+pub fn run<P: Parts>(rt: &HostRuntime, names: &[&str]) -> io::Result<()> {
     let strict = is_strict(rt);
     let wanted = wanted_part(rt);
-    for (part, name) in P::names().iter().enumerate() {
+    for (part, name) in names.iter().enumerate() {
         if wanted > 0 && part.wrapping_add(1) != wanted {
             continue;
         }

@@ -89,13 +89,23 @@ impl<const M: usize> List<M> {
 
     /// The list with each ASCII letter in upper case.
     pub fn ascii_uppercase(&self) -> Self {
-        let mut upper = *self;
-        for item in &mut upper.items {
-            if *item >= 97 && *item <= 122 {
-                *item = item.wrapping_sub(32);
+        self.with_shifted(97, 122, -32)
+    }
+
+    /// The list with each ASCII letter in lower case.
+    pub fn ascii_lowercase(&self) -> Self {
+        self.with_shifted(65, 90, 32)
+    }
+
+    /// The list with so much added to each item from `first` to `last`.
+    fn with_shifted(&self, first: i64, last: i64, shift: i64) -> Self {
+        let mut list = *self;
+        for item in &mut list.items {
+            if *item >= first && *item <= last {
+                *item = item.wrapping_add(shift);
             }
         }
-        upper
+        list
     }
 
     pub fn is(&self, items: &[i64]) -> bool {

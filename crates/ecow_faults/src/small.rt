@@ -94,6 +94,24 @@ impl SmallCall {
     }
 }
 
+/// What a value shows.
+#[derive(Clone, Copy)]
+pub struct Snapshot {
+    pub bytes: Long,
+    pub inline: bool,
+    pub capacity: usize,
+}
+
+impl Snapshot {
+    pub fn of(bytes: &[u8], inline: bool, capacity: usize) -> Self {
+        Snapshot {
+            bytes: Long::of_bytes(bytes),
+            inline,
+            capacity,
+        }
+    }
+}
+
 /// Bytes or a text.
 pub trait Small: Clone + Drop {
     /// How many bytes stand inline.
@@ -111,11 +129,7 @@ pub trait Small: Clone + Drop {
     /// Makes a call. Answers whether what it gave is right.
     fn call(&mut self, call: &SmallCall) -> Result<bool, EcoError>;
 
-    fn bytes(&self) -> Long;
-
-    fn is_inline(&self) -> bool;
-
-    fn capacity(&self) -> usize;
+    fn snapshot(&self) -> Snapshot;
 
     /// The vector of the bytes; of spilled ones it takes no memory.
     fn into_vector(self) -> Result<EcoVec<u8>, Rejected<Self>>;
@@ -126,8 +140,11 @@ pub trait Small: Clone + Drop {
 pub fn calls_hold<S: Small>(alloc: Global, watch: &Watch, rows: &[Row]) -> bool {
     let mut hold = true;
     for state in states(S::limit()) {
-        for row in rows {
-            hold = call_holds::<S>(alloc, watch, state, step_of(row)) && hold;
+        for (word, calls) in rows {
+            for arguments in *calls {
+                let step = step_of(*word, arguments);
+                hold = call_holds::<S>(alloc, watch, state, step) && hold;
+            }
         }
     }
     hold
@@ -152,7 +169,7 @@ fn call_holds<S: Small>(alloc: Global, watch: &Watch, state: SmallState, step: S
         step,
         change,
         limit: S::limit(),
-        capacity: value.capacity(),
+        capacity: value.snapshot().capacity,
     };
     let mut value = value;
     let answer = value.call(&call);
@@ -210,21 +227,22 @@ fn is_right<S: Small>(
     answer: Result<bool, EcoError>,
     value: &S,
 ) -> (bool, bool) {
-    let bytes = value.bytes();
-    let Some((after, inline, left)) = wanted::<S>(watch, call, answer, bytes.len()) else {
+    let shown = value.snapshot();
+    let Some((after, inline, left)) = wanted::<S>(watch, call, answer, shown.bytes.len()) else {
         return (false, false);
     };
-    let hold = bytes.is(after.as_slice())
-        && value.is_inline() == inline
-        && has_room(call, answer, inline, left, value.capacity());
+    let hold = shown.bytes.is(after.as_slice())
+        && shown.inline == inline
+        && has_room(call, answer, inline, left, shown.capacity);
     (hold, left)
 }
 
 /// Whether the twin is as it was, and its block its own where the value has left it.
 fn twin_holds<S: Small>(call: &SmallCall, left: bool, twin: S) -> bool {
-    let is_kept = twin.bytes().is(S::letters(call.state.len).as_slice())
-        && !twin.is_inline()
-        && twin.capacity() == call.capacity;
+    let shown = twin.snapshot();
+    let is_kept = shown.bytes.is(S::letters(call.state.len).as_slice())
+        && !shown.inline
+        && shown.capacity == call.capacity;
     match twin.into_vector() {
         Ok(vector) => {
             let mut vector = vector;
@@ -262,9 +280,10 @@ pub fn is_made<S: Small>(
 ) -> bool {
     match made {
         Ok(value) => {
-            value.bytes().is(want)
-                && value.is_inline() == inline
-                && (!inline || value.capacity() == S::limit())
+            let shown = value.snapshot();
+            shown.bytes.is(want)
+                && shown.inline == inline
+                && (!inline || shown.capacity == S::limit())
         }
         Err(error) => error == EcoError::Memory && !inline && watch.may_refuse(),
     }
@@ -276,7 +295,7 @@ pub fn repeated_hold<S: Small>(watch: &Watch, value: &S) -> bool {
     for count in 0..3 {
         let inline = want.len() <= S::limit();
         hold = is_made(watch, value.repeated(count), want.as_slice(), inline) && hold;
-        want.append(value.bytes().as_slice());
+        want.append(value.snapshot().bytes.as_slice());
     }
     hold
 }

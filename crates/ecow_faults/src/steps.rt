@@ -52,11 +52,14 @@ pub struct Edit {
     pub count: usize,
 }
 
-/// A call as a row of a table: what is called, start, end and count.
-pub type Row = (Word, usize, usize, usize);
+/// Start, end and count of a call.
+pub type Arguments = (usize, usize, usize);
 
-pub fn step_of(row: &Row) -> Step {
-    let (word, start, end, count) = *row;
+/// A row of a table: what is called, and with what each time.
+pub type Row = (Word, &'static [Arguments]);
+
+pub fn step_of(word: Word, arguments: &Arguments) -> Step {
+    let (start, end, count) = *arguments;
     Step {
         word,
         start,

@@ -1,6 +1,8 @@
 //! The calls of `SmallString`.
 use crate::short::Long;
-use crate::small::{Small, SmallCall, SmallState, into_holds, is_made, repeated_hold, states};
+use crate::small::{
+    Small, SmallCall, SmallState, Snapshot, into_holds, is_made, repeated_hold, states,
+};
 use crate::steps::{Edit, Row, Word};
 use crate::watch::Watch;
 use ecow_string::SmallString;
@@ -20,46 +22,38 @@ const FEW: &str = "abcd";
 
 const DOTS: &str = "............";
 
-pub const STEPS: [Row; 39] = [
-    (Word::Push, 0, 0, 1),
-    (Word::Push, 0, 0, 4),
-    (Word::Insert, 0, 0, 1),
-    (Word::Insert, 2, 2, 1),
-    (Word::Insert, 2, 2, 4),
-    (Word::Pop, 0, 0, 0),
-    (Word::Remove, 0, 1, 0),
-    (Word::Remove, 2, 4, 0),
-    (Word::Truncate, 0, 0, 0),
-    (Word::Truncate, 2, 0, 0),
-    (Word::Truncate, 4, 0, 0),
-    (Word::Truncate, 100, 0, 0),
-    (Word::Clear, 0, 0, 0),
-    (Word::Shrink, 0, 0, 0),
-    (Word::Upper, 0, 0, 0),
-    (Word::Lower, 0, 0, 0),
-    (Word::Reserve, 0, 0, 0),
-    (Word::Reserve, 0, 0, 1),
-    (Word::Reserve, 0, 0, 2),
-    (Word::Reserve, 0, 0, 20),
-    (Word::Extend, 0, 0, 0),
-    (Word::Extend, 0, 0, 1),
-    (Word::Extend, 0, 0, 4),
-    (Word::Extend, 0, 0, 12),
-    (Word::ExtendEach, 0, 0, 0),
-    (Word::ExtendEach, 0, 0, 1),
-    (Word::ExtendEach, 0, 0, 12),
-    (Word::ExtendPieces, 0, 0, 0),
-    (Word::ExtendPieces, 0, 0, 2),
-    (Word::ExtendPieces, 0, 0, 12),
-    (Word::Put, 0, 0, 0),
-    (Word::Put, 0, 0, 1),
-    (Word::Put, 0, 0, 12),
-    (Word::InsertSlice, 0, 0, 0),
-    (Word::InsertSlice, 0, 0, 1),
-    (Word::InsertSlice, 2, 2, 1),
-    (Word::InsertSlice, 2, 2, 4),
-    (Word::InsertSlice, 0, 0, 12),
-    (Word::InsertSlice, 2, 2, 12),
+pub const STEPS: [Row; 15] = [
+    (Word::Push, &[(0, 0, 1), (0, 0, 4)]),
+    (Word::Insert, &[(0, 0, 1), (2, 2, 1), (2, 2, 4)]),
+    (Word::Pop, &[(0, 0, 0)]),
+    (Word::Remove, &[(0, 1, 0), (2, 4, 0)]),
+    (
+        Word::Truncate,
+        &[(0, 0, 0), (2, 0, 0), (4, 0, 0), (100, 0, 0)],
+    ),
+    (Word::Clear, &[(0, 0, 0)]),
+    (Word::Shrink, &[(0, 0, 0)]),
+    (Word::Upper, &[(0, 0, 0)]),
+    (Word::Lower, &[(0, 0, 0)]),
+    (
+        Word::Reserve,
+        &[(0, 0, 0), (0, 0, 1), (0, 0, 2), (0, 0, 20)],
+    ),
+    (Word::Extend, &[(0, 0, 0), (0, 0, 1), (0, 0, 4), (0, 0, 12)]),
+    (Word::ExtendEach, &[(0, 0, 0), (0, 0, 1), (0, 0, 12)]),
+    (Word::ExtendPieces, &[(0, 0, 0), (0, 0, 2), (0, 0, 12)]),
+    (Word::Put, &[(0, 0, 0), (0, 0, 1), (0, 0, 12)]),
+    (
+        Word::InsertSlice,
+        &[
+            (0, 0, 0),
+            (0, 0, 1),
+            (2, 2, 1),
+            (2, 2, 4),
+            (0, 0, 12),
+            (2, 2, 12),
+        ],
+    ),
 ];
 
 /// So many bytes of letters; from five on one letter has two.
@@ -80,6 +74,11 @@ pub fn added(count: usize) -> &'static str {
         Some(text) => text,
         None => "",
     }
+}
+
+/// The character that `added` gives for so many bytes.
+pub fn character(count: usize) -> char {
+    if count == 4 { '😀' } else { '.' }
 }
 
 impl<const N: usize> Small for SmallString<N> {
@@ -118,16 +117,8 @@ impl<const N: usize> Small for SmallString<N> {
         }
     }
 
-    fn bytes(&self) -> Long {
-        Long::of_bytes(self.as_str().as_bytes())
-    }
-
-    fn is_inline(&self) -> bool {
-        self.is_inline()
-    }
-
-    fn capacity(&self) -> usize {
-        self.capacity()
+    fn snapshot(&self) -> Snapshot {
+        Snapshot::of(self.as_str().as_bytes(), self.is_inline(), self.capacity())
     }
 
     fn into_vector(self) -> Result<EcoVec<u8>, Rejected<Self>> {
@@ -141,8 +132,7 @@ impl<const N: usize> Small for SmallString<N> {
 
 /// A call that is handed a character.
 fn one<const N: usize>(text: &mut SmallString<N>, call: &SmallCall) -> Result<bool, EcoError> {
-    let start = call.step.start;
-    let c = if call.change.count == 4 { '😀' } else { '.' };
+    let (start, c) = (call.step.start, character(call.change.count));
     match call.step.word {
         Word::Push => text.push(c)?,
         Word::Insert if text.is_char_boundary(start) => text.insert(start, c)?,
@@ -226,23 +216,24 @@ pub fn makers_hold<const N: usize>(alloc: Global, watch: &Watch, none: &SmallStr
         let (text, inline) = (letters(len), text_fits(len, N));
         let bytes = SmallString::<N>::letters(len);
         let want = bytes.as_slice();
-        hold = is_made(watch, SmallString::<N>::from_str(alloc, text), want, inline) && hold;
-        hold = is_made(
-            watch,
-            SmallString::<N>::from_chars(alloc, text.chars()),
-            want,
-            inline,
-        ) && hold;
-        hold = is_made(
-            watch,
-            SmallString::<N>::with_capacity(alloc, len),
-            &[],
-            len <= N,
-        ) && hold;
-        hold = strs_hold(alloc, watch, none, text)
-            && string_holds(alloc, watch, none, text)
+        let copied = SmallString::<N>::from_str(alloc, text);
+        let iterated = SmallString::<N>::from_chars(alloc, text.chars());
+        let collected = collected::<N>(alloc, text);
+        let joined = SmallString::<N>::from_strs(alloc, ["", text]);
+        let empty = SmallString::<N>::with_capacity(alloc, len);
+        hold = is_made(watch, copied, want, inline)
+            && is_made(watch, iterated, want, inline)
+            && is_made(watch, collected, want, inline)
+            && is_made(watch, joined, want, inline)
+            && is_made(watch, empty, &[], len <= N)
+            && joined_holds(alloc, watch, none, text)
             && hold;
-        hold = joined_holds(alloc, watch, none, text) && hold;
+        hold = match String::from_str(alloc, text) {
+            Ok(string) => {
+                string_holds(watch, SmallString::<N>::from_string(alloc, string), text)
+            }
+            Err(_) => watch.may_refuse(),
+        } && hold;
     }
     hold
 }
@@ -253,54 +244,34 @@ fn text_fits(len: usize, limit: usize) -> bool {
 
 fn chars_hold<const N: usize>(alloc: Global, watch: &Watch, _none: &SmallString<N>) -> bool {
     let four = SmallString::<N>::added(4);
-    is_made(watch, SmallString::<N>::from_char(alloc, 'a'), &[97], N > 0)
-        && is_made(
-            watch,
-            SmallString::<N>::from_char(alloc, 'é'),
-            &[195, 169],
-            N > 1,
-        )
-        && is_made(
-            watch,
-            SmallString::<N>::from_char(alloc, '😀'),
-            four.as_slice(),
-            N > 3,
-        )
+    let of_one = SmallString::<N>::from_char(alloc, 'a');
+    let of_two = SmallString::<N>::from_char(alloc, 'é');
+    let of_four = SmallString::<N>::from_char(alloc, '😀');
+    is_made(watch, of_one, &[97], N > 0)
+        && is_made(watch, of_two, &[195, 169], N > 1)
+        && is_made(watch, of_four, four.as_slice(), N > 3)
 }
 
-fn strs_hold<const N: usize>(
-    alloc: Global,
-    watch: &Watch,
-    _none: &SmallString<N>,
-    text: &str,
-) -> bool {
-    let bytes = Long::of_bytes(text.as_bytes());
-    let (want, inline) = (bytes.as_slice(), text.len() <= N);
-    let made = SmallString::<N>::from_strs(alloc, ["", text]);
-    let collected = match text.chars().collect::<SmallString<N>>(alloc) {
+fn collected<const N: usize>(alloc: Global, text: &str) -> Result<SmallString<N>, EcoError> {
+    match text.chars().collect::<SmallString<N>>(alloc) {
         Ok(text) => Ok(text),
         Err(_) => Err(EcoError::Memory),
-    };
-    is_made(watch, made, want, inline) && is_made(watch, collected, want, inline)
+    }
 }
 
 /// A text of a `String`, which comes back where it is refused.
 fn string_holds<const N: usize>(
-    alloc: Global,
     watch: &Watch,
-    _none: &SmallString<N>,
-    want: &str,
+    made: Result<SmallString<N>, Rejected<String>>,
+    string: &str,
 ) -> bool {
-    let Ok(string) = String::from_str(alloc, want) else {
-        return watch.may_refuse();
-    };
-    let bytes = Long::of_bytes(want.as_bytes());
-    let inline = want.len() <= N;
-    match SmallString::<N>::from_string(alloc, string) {
-        Ok(text) => is_made(watch, Ok(text), bytes.as_slice(), inline),
+    let bytes = Long::of_bytes(string.as_bytes());
+    let (want, inline) = (bytes.as_slice(), string.len() <= N);
+    match made {
+        Ok(text) => is_made(watch, Ok(text), want, inline),
         Err(rejected) => {
-            rejected.value.as_str() == want
-                && is_made::<SmallString<N>>(watch, Err(rejected.error), bytes.as_slice(), inline)
+            rejected.value.as_str() == string
+                && is_made::<SmallString<N>>(watch, Err(rejected.error), want, inline)
         }
     }
 }
@@ -338,10 +309,8 @@ pub fn derived_hold<const N: usize>(alloc: Global, watch: &Watch, none: &SmallSt
         hold = cased_hold(watch, &text, state.spilled)
             && printed_holds(alloc, watch, &text)
             && hold;
-        hold = text
-            .bytes()
-            .is(SmallString::<N>::letters(state.len).as_slice())
-            && hold;
+        let letters = SmallString::<N>::letters(state.len);
+        hold = text.snapshot().bytes.is(letters.as_slice()) && hold;
         hold = text.is_inline() != state.spilled && into_holds(watch, state, text) && hold;
         hold = sums_hold(alloc, watch, none, state) && hold;
     }
@@ -350,7 +319,7 @@ pub fn derived_hold<const N: usize>(alloc: Global, watch: &Watch, none: &SmallSt
 
 /// The text with other bytes where the letter `a` stands, which it does first.
 fn with_other<const N: usize>(text: &SmallString<N>, other: &str) -> Long {
-    let bytes = text.bytes();
+    let bytes = text.snapshot().bytes;
     let first = Edit {
         start: 0,
         end: bytes.len().min(1),
@@ -374,7 +343,7 @@ fn replaced_hold<const N: usize>(watch: &Watch, text: &SmallString<N>) -> bool {
         let want = if pattern == "a" && count > 0 {
             with_other(text, replacement)
         } else {
-            text.bytes()
+            text.snapshot().bytes
         };
         let made = text.replacen(pattern, replacement, count);
         hold = is_made(watch, made, want.as_slice(), want.len() <= N) && hold;
@@ -387,7 +356,7 @@ fn replaced_hold<const N: usize>(watch: &Watch, text: &SmallString<N>) -> bool {
 /// Nothing is found before the first letter.
 fn spread_holds<const N: usize>(watch: &Watch, text: &SmallString<N>) -> bool {
     let mut want = Long::of_bytes(b"..");
-    want.append(text.bytes().as_slice());
+    want.append(text.snapshot().bytes.as_slice());
     is_made(
         watch,
         text.replacen("", "..", 1),
@@ -408,7 +377,7 @@ fn upper(letters: &Long) -> Long {
 /// In ASCII case a text keeps its mode. In Unicode case it is inline where it fits; past ASCII
 /// memory for std's text may be refused.
 fn cased_hold<const N: usize>(watch: &Watch, text: &SmallString<N>, spilled: bool) -> bool {
-    let lower = text.bytes();
+    let lower = text.snapshot().bytes;
     let ascii = lower.ascii_uppercase();
     is_made(watch, text.to_ascii_lowercase(), lower.as_slice(), !spilled)
         && is_made(watch, text.to_ascii_uppercase(), ascii.as_slice(), !spilled)
@@ -464,18 +433,18 @@ fn sum_holds<const N: usize>(
     text: SmallString<N>,
     count: usize,
 ) -> bool {
-    let (letters, capacity) = (text.bytes(), text.capacity());
+    let (letters, capacity) = (text.snapshot().bytes, text.capacity());
     let mut want = letters;
     want.append(SmallString::<N>::added(count).as_slice());
     let inline = !state.spilled && want.len() <= N;
     match text.add(added(count)) {
-        Ok(sum) => sum.bytes().is(want.as_slice()) && sum.is_inline() == inline,
+        Ok(sum) => sum.snapshot().bytes.is(want.as_slice()) && sum.is_inline() == inline,
         Err(rejected) => {
             rejected.error == EcoError::Memory
                 && !inline
                 && (!state.spilled || want.len() > state.room)
                 && watch.may_refuse()
-                && rejected.value.bytes().is(letters.as_slice())
+                && rejected.value.snapshot().bytes.is(letters.as_slice())
                 && rejected.value.is_inline() != state.spilled
                 && rejected.value.capacity() == capacity
         }

@@ -32,54 +32,29 @@ pub fn states() -> [VecState; 7] {
     ]
 }
 
-pub const STEPS: [Row; 34] = [
-    (Word::Push, 0, 0, 1),
-    (Word::Insert, 0, 0, 1),
-    (Word::Insert, 3, 3, 1),
-    (Word::Write, 0, 1, 1),
-    (Word::Write, 3, 4, 1),
-    (Word::Update, 0, 1, 1),
-    (Word::Update, 3, 4, 1),
-    (Word::MakeMut, 0, 0, 0),
-    (Word::Pop, 0, 0, 0),
-    (Word::Remove, 0, 1, 0),
-    (Word::Remove, 3, 4, 0),
-    (Word::Truncate, 0, 0, 0),
-    (Word::Truncate, 2, 0, 0),
-    (Word::Truncate, 4, 0, 0),
-    (Word::Clear, 0, 0, 0),
-    (Word::Retain, 0, 0, 0),
-    (Word::Retain, 1, 3, 0),
-    (Word::Retain, 0, 4, 0),
-    (Word::Reserve, 0, 0, 0),
-    (Word::Reserve, 0, 0, 2),
-    (Word::Reserve, 0, 0, 20),
-    (Word::Drain, 0, 0, 0),
-    (Word::Drain, 1, 3, 0),
-    (Word::Drain, 0, 4, 0),
-    (Word::Splice, 0, 0, 0),
-    (Word::Splice, 1, 2, 3),
-    (Word::Splice, 1, 3, 1),
-    (Word::Splice, 0, 0, 9),
-    (Word::Extend, 0, 0, 0),
-    (Word::Extend, 0, 0, 2),
-    (Word::Extend, 0, 0, 6),
-    (Word::ExtendEach, 0, 0, 0),
-    (Word::ExtendEach, 0, 0, 3),
-    (Word::ExtendEach, 0, 0, 9),
+pub const STEPS: [Row; 15] = [
+    (Word::Push, &[(0, 0, 1)]),
+    (Word::Insert, &[(0, 0, 1), (3, 3, 1)]),
+    (Word::Write, &[(0, 1, 1), (3, 4, 1)]),
+    (Word::Update, &[(0, 1, 1), (3, 4, 1)]),
+    (Word::MakeMut, &[(0, 0, 0)]),
+    (Word::Pop, &[(0, 0, 0)]),
+    (Word::Remove, &[(0, 1, 0), (3, 4, 0)]),
+    (Word::Truncate, &[(0, 0, 0), (2, 0, 0), (4, 0, 0)]),
+    (Word::Clear, &[(0, 0, 0)]),
+    (Word::Retain, &[(0, 0, 0), (1, 3, 0), (0, 4, 0)]),
+    (Word::Reserve, &[(0, 0, 0), (0, 0, 2), (0, 0, 20)]),
+    (Word::Drain, &[(0, 0, 0), (1, 3, 0), (0, 4, 0)]),
+    (Word::Splice, &[(0, 0, 0), (1, 2, 3), (1, 3, 1), (0, 0, 9)]),
+    (Word::Extend, &[(0, 0, 0), (0, 0, 2), (0, 0, 6)]),
+    (Word::ExtendEach, &[(0, 0, 0), (0, 0, 3), (0, 0, 9)]),
 ];
 
 /// The calls that copy elements as memory.
-const COPIES: [Row; 9] = [
-    (Word::ExtendCopied, 0, 0, 0),
-    (Word::ExtendCopied, 0, 0, 2),
-    (Word::ExtendCopied, 0, 0, 6),
-    (Word::ExtendWithin, 0, 0, 0),
-    (Word::ExtendWithin, 0, 2, 0),
-    (Word::ExtendWithin, 0, 4, 0),
-    (Word::InsertSlice, 0, 0, 0),
-    (Word::InsertSlice, 1, 1, 2),
-    (Word::InsertSlice, 0, 0, 6),
+const COPIES: [Row; 3] = [
+    (Word::ExtendCopied, &[(0, 0, 0), (0, 0, 2), (0, 0, 6)]),
+    (Word::ExtendWithin, &[(0, 0, 0), (0, 2, 0), (0, 4, 0)]),
+    (Word::InsertSlice, &[(0, 0, 0), (1, 1, 2), (0, 0, 6)]),
 ];
 
 pub fn calls_hold<T: Element>(alloc: Global, watch: &Watch) -> bool {
@@ -93,8 +68,11 @@ pub fn calls_hold<T: Element>(alloc: Global, watch: &Watch) -> bool {
 fn rows_hold<T: Element>(alloc: Global, watch: &Watch, rows: &[Row]) -> bool {
     let mut hold = true;
     for state in states() {
-        for row in rows {
-            hold = call_holds::<T>(alloc, watch, state, step_of(row)) && hold;
+        for (word, calls) in rows {
+            for arguments in *calls {
+                let step = step_of(*word, arguments);
+                hold = call_holds::<T>(alloc, watch, state, step) && hold;
+            }
         }
     }
     hold

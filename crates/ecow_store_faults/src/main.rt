@@ -47,10 +47,6 @@ const NAMES: [&str; 12] = [
 struct Both;
 
 impl Parts for Both {
-    fn names() -> &'static [&'static str] {
-        &NAMES
-    }
-
     fn holds(part: usize, alloc: Global, watch: &Watch) -> bool {
         match part {
             0 => lists_hold::<SmallStore<i64, 15>>(alloc, watch),
@@ -73,5 +69,5 @@ impl Parts for Both {
 }
 
 fn main(rt: HostRuntime) -> io::Result<()> {
-    run::<Both>(&rt)
+    run::<Both>(&rt, &NAMES)
 }

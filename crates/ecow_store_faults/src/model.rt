@@ -155,8 +155,8 @@ impl Entry {
     /// The list behind an edit.
     fn edited(&self, order: &Order, word: Word) -> Short {
         match word {
-            Word::Upper => uppercase(&self.items),
-            Word::Lower => lowercase(&self.items),
+            Word::Upper => self.items.ascii_uppercase(),
+            Word::Lower => self.items.ascii_lowercase(),
             Word::Write
             | Word::Push
             | Word::Insert
@@ -200,32 +200,6 @@ fn number_of(bytes: &Short) -> i64 {
         number = number.wrapping_mul(64).wrapping_add(low);
     }
     number
-}
-
-fn uppercase(bytes: &Short) -> Short {
-    let mut upper = Short::new();
-    for byte in bytes.as_slice() {
-        let is_letter = *byte >= 97 && *byte <= 122;
-        upper.push(if is_letter {
-            byte.wrapping_sub(32)
-        } else {
-            *byte
-        });
-    }
-    upper
-}
-
-fn lowercase(bytes: &Short) -> Short {
-    let mut lower = Short::new();
-    for byte in bytes.as_slice() {
-        let is_letter = *byte >= 65 && *byte <= 90;
-        lower.push(if is_letter {
-            byte.wrapping_add(32)
-        } else {
-            *byte
-        });
-    }
-    lower
 }
 
 /// The letter `é` in place of the first so many letters `a`.
@@ -436,8 +410,8 @@ impl Model {
                 held.items = with_accents(&held.items, order.count);
                 held.inline = held.items.len() <= self.limit;
             }
-            Verb::ToUpper => held.items = uppercase(&held.items),
-            Verb::ToLower => held.items = lowercase(&held.items),
+            Verb::ToUpper => held.items = held.items.ascii_uppercase(),
+            Verb::ToLower => held.items = held.items.ascii_lowercase(),
             _ => {}
         }
         if held.items.len() > LONGEST {

@@ -39,6 +39,76 @@ pub(crate) enum Verb {
     IsInline,
 }
 
+/// The commands that make a value, at several lengths.
+pub(crate) const MAKERS: [Verb; 7] = [
+    Verb::New,
+    Verb::TryInline,
+    Verb::WithCapacity,
+    Verb::FromItems,
+    Verb::FromElem,
+    Verb::FromEcoVec,
+    Verb::FromChar,
+];
+
+/// The commands that don't change a value, and those that make another of it: each with its
+/// counts.
+pub(crate) const OTHERS: [(Verb, &[usize]); 14] = [
+    (Verb::Read, &[0]),
+    (Verb::Len, &[0]),
+    (Verb::Contents, &[0]),
+    (Verb::Capacity, &[0]),
+    (Verb::Unique, &[0]),
+    (Verb::IsInline, &[0]),
+    (Verb::Clone, &[0, 1]),
+    (Verb::Drop, &[0]),
+    (Verb::New, &[0]),
+    (Verb::Repeat, &[0, 1, 2]),
+    (Verb::Replace, &[9]),
+    (Verb::ToUpper, &[0]),
+    (Verb::ToLower, &[0]),
+    (Verb::FromOther, &[0]),
+];
+
+/// The commands that a seed chooses from, some of them more often.
+pub(crate) const SEEDED: [Verb; 36] = [
+    Verb::New,
+    Verb::WithCapacity,
+    Verb::FromItems,
+    Verb::FromItems,
+    Verb::FromElem,
+    Verb::FromEcoVec,
+    Verb::FromOther,
+    Verb::Clone,
+    Verb::Clone,
+    Verb::Clone,
+    Verb::Drop,
+    Verb::Drop,
+    Verb::Repeat,
+    Verb::Replace,
+    Verb::ToUpper,
+    Verb::Read,
+    Verb::Len,
+    Verb::Contents,
+    Verb::Capacity,
+    Verb::Unique,
+    Verb::Edit(Word::Push),
+    Verb::Edit(Word::Push),
+    Verb::Edit(Word::Insert),
+    Verb::Edit(Word::Write),
+    Verb::Edit(Word::Pop),
+    Verb::Edit(Word::Remove),
+    Verb::Edit(Word::Truncate),
+    Verb::Edit(Word::Clear),
+    Verb::Edit(Word::Retain),
+    Verb::Edit(Word::Reserve),
+    Verb::Edit(Word::Drain),
+    Verb::Edit(Word::Splice),
+    Verb::Edit(Word::Extend),
+    Verb::Edit(Word::InsertSlice),
+    Verb::Edit(Word::Shrink),
+    Verb::Edit(Word::Upper),
+];
+
 /// A command: the name that it uses, the one that it makes of another, and what an edit is about.
 #[derive(Clone, Copy)]
 pub(crate) struct Order {
@@ -118,301 +188,206 @@ impl Order {
         };
         Ok(Text::new(String::from_str(alloc, text)?))
     }
-
-    fn character(&self) -> char {
-        if self.count == 4 { '😀' } else { '.' }
-    }
 }
 
-/// The command, where there is one.
-pub(crate) fn command(alloc: Global, order: &Order) -> Result<Option<Command<i64>>, AllocError> {
-    Ok(match order.kind {
-        Kind::List => match vec_command(alloc, order)? {
-            Some(command) => Some(Command::Vec(command)),
-            None => None,
-        },
-        Kind::Bytes => match bytes_command(alloc, order)? {
-            Some(command) => Some(Command::Bytes(command)),
-            None => None,
-        },
-        Kind::Text => match text_command(alloc, order)? {
-            Some(command) => Some(Command::Text(command)),
-            None => None,
-        },
-    })
+/// A command that an order may stand for.
+pub(crate) trait FromOrder: Drop + Sized {
+    /// The command, where there is one.
+    fn from_order(alloc: Global, order: &Order) -> Result<Option<Self>, AllocError>;
 }
 
-pub(crate) fn vec_command(
-    alloc: Global,
-    order: &Order,
-) -> Result<Option<VecCommand<i64>>, AllocError> {
-    let Order {
-        name,
-        to,
-        start,
-        count,
-        ..
-    } = *order;
-    if let Verb::Edit(word) = order.verb {
-        return list_edit(alloc, order, word);
-    }
-    Ok(Some(match order.verb {
-        Verb::New => VecCommand::New { name },
-        Verb::WithCapacity => VecCommand::WithCapacity {
-            name,
-            capacity: count,
-        },
-        Verb::FromElem => VecCommand::FromElem {
-            name,
-            value: 91,
-            n: count,
-        },
-        Verb::FromItems => VecCommand::FromList {
-            name,
-            items: order.items(alloc)?,
-        },
-        Verb::Clone => VecCommand::Clone { from: name, to },
-        Verb::Drop => VecCommand::Drop { name },
-        Verb::Read => VecCommand::Read { name, index: start },
-        Verb::Len => VecCommand::Len { name },
-        Verb::Contents => VecCommand::Contents { name },
-        Verb::Capacity => VecCommand::Capacity { name },
-        Verb::Unique => VecCommand::Unique { name },
-        _ => return Ok(None),
-    }))
-}
-
-fn list_edit(
-    alloc: Global,
-    order: &Order,
-    word: Word,
-) -> Result<Option<VecCommand<i64>>, AllocError> {
-    let (name, index) = (order.name, order.start);
-    Ok(Some(match word {
-        Word::Push => VecCommand::Push { name, value: 91 },
-        Word::Pop => VecCommand::Pop { name },
-        Word::Insert => VecCommand::Insert {
-            name,
-            index,
-            value: 91,
-        },
-        Word::Write => VecCommand::Write {
-            name,
-            index,
-            value: 91,
-        },
-        Word::Remove => VecCommand::Remove { name, index },
-        Word::Truncate => VecCommand::Truncate {
-            name,
-            target: index,
-        },
-        Word::Clear => VecCommand::Clear { name },
-        Word::Reserve => VecCommand::Reserve {
-            name,
-            additional: order.count,
-        },
-        _ => return list_part_edit(alloc, order, word),
-    }))
-}
-
-fn list_part_edit(
-    alloc: Global,
-    order: &Order,
-    word: Word,
-) -> Result<Option<VecCommand<i64>>, AllocError> {
-    let name = order.name;
-    Ok(Some(match word {
-        Word::Retain => VecCommand::Retain {
-            name,
-            marks: order.marks(alloc)?,
-        },
-        Word::Drain => VecCommand::Drain {
-            name,
-            bounds: order.bounds(),
-        },
-        Word::Splice => VecCommand::Splice {
-            name,
-            bounds: order.bounds(),
-            items: order.items(alloc)?,
-        },
-        Word::Extend => VecCommand::Extend {
-            name,
-            items: order.items(alloc)?,
-        },
-        _ => return Ok(None),
-    }))
-}
-
-fn bytes_command(alloc: Global, order: &Order) -> Result<Option<BytesCommand>, AllocError> {
-    let Order {
-        name,
-        to,
-        start,
-        count,
-        ..
-    } = *order;
-    if let Verb::Edit(word) = order.verb {
-        return bytes_edit(alloc, order, word);
-    }
-    Ok(Some(match order.verb {
-        Verb::New => BytesCommand::New { name },
-        Verb::WithCapacity => BytesCommand::WithCapacity {
-            name,
-            capacity: count,
-        },
-        Verb::TryInline | Verb::FromItems | Verb::FromEcoVec => {
-            let bytes = order.byte_items(alloc)?;
-            match order.verb {
-                Verb::TryInline => BytesCommand::TryInline { name, bytes },
-                Verb::FromItems => BytesCommand::FromList { name, bytes },
-                _ => BytesCommand::FromEcoVec { name, bytes },
-            }
+/// The command of an order that lists, bytes and texts have in common.
+macro_rules! common_command {
+    ($command:ident, $order:expr) => {{
+        let (name, index, count) = ($order.name, $order.start, $order.count);
+        match $order.verb {
+            Verb::New => Some($command::New { name }),
+            Verb::WithCapacity => Some($command::WithCapacity {
+                name,
+                capacity: count,
+            }),
+            Verb::Clone => Some($command::Clone {
+                from: name,
+                to: $order.to,
+            }),
+            Verb::Drop => Some($command::Drop { name }),
+            Verb::Len => Some($command::Len { name }),
+            Verb::Contents => Some($command::Contents { name }),
+            Verb::Capacity => Some($command::Capacity { name }),
+            Verb::Edit(Word::Pop) => Some($command::Pop { name }),
+            Verb::Edit(Word::Remove) => Some($command::Remove { name, index }),
+            Verb::Edit(Word::Truncate) => Some($command::Truncate {
+                name,
+                target: index,
+            }),
+            Verb::Edit(Word::Clear) => Some($command::Clear { name }),
+            Verb::Edit(Word::Reserve) => Some($command::Reserve {
+                name,
+                additional: count,
+            }),
+            _ => None,
         }
-        Verb::FromOther => BytesCommand::FromText { from: name, to },
-        Verb::Clone => BytesCommand::Clone { from: name, to },
-        Verb::Repeat => BytesCommand::Repeat {
-            from: name,
-            to,
-            n: count,
-        },
-        Verb::Drop => BytesCommand::Drop { name },
-        Verb::Read => BytesCommand::Read { name, index: start },
-        Verb::Len => BytesCommand::Len { name },
-        Verb::Contents => BytesCommand::Contents { name },
-        Verb::Capacity => BytesCommand::Capacity { name },
-        Verb::IsInline => BytesCommand::IsInline { name },
-        _ => return Ok(None),
-    }))
+    }};
 }
 
-fn bytes_edit(
-    alloc: Global,
-    order: &Order,
-    word: Word,
-) -> Result<Option<BytesCommand>, AllocError> {
-    let (name, index, byte) = (order.name, order.start, 91);
-    Ok(Some(match word {
-        Word::Push => BytesCommand::Push { name, byte },
-        Word::Pop => BytesCommand::Pop { name },
-        Word::Insert => BytesCommand::Insert { name, index, byte },
-        Word::Write => BytesCommand::Write { name, index, byte },
-        Word::Remove => BytesCommand::Remove { name, index },
-        Word::Truncate => BytesCommand::Truncate {
-            name,
-            target: index,
-        },
-        Word::Clear => BytesCommand::Clear { name },
-        Word::Shrink => BytesCommand::ShrinkToFit { name },
-        Word::Reserve => BytesCommand::Reserve {
-            name,
-            additional: order.count,
-        },
-        Word::Extend => BytesCommand::Extend {
-            name,
-            bytes: order.byte_items(alloc)?,
-        },
-        Word::InsertSlice => BytesCommand::InsertSlice {
-            name,
-            index,
-            bytes: order.byte_items(alloc)?,
-        },
-        _ => return Ok(None),
-    }))
+/// The command of an order that bytes and texts have in common.
+macro_rules! small_command {
+    ($command:ident, $order:expr) => {{
+        let (name, n) = ($order.name, $order.count);
+        match $order.verb {
+            Verb::Repeat => Some($command::Repeat {
+                from: name,
+                to: $order.to,
+                n,
+            }),
+            Verb::IsInline => Some($command::IsInline { name }),
+            Verb::Edit(Word::Shrink) => Some($command::ShrinkToFit { name }),
+            _ => common_command!($command, $order),
+        }
+    }};
 }
 
-fn text_command(alloc: Global, order: &Order) -> Result<Option<TextCommand>, AllocError> {
-    let Order {
-        name,
-        to,
-        count,
-        ..
-    } = *order;
-    if let Verb::Edit(word) = order.verb {
-        return text_edit(alloc, order, word);
+impl FromOrder for Command<i64> {
+    fn from_order(alloc: Global, order: &Order) -> Result<Option<Self>, AllocError> {
+        Ok(match order.kind {
+            Kind::List => VecCommand::from_order(alloc, order)?.map(Command::Vec),
+            Kind::Bytes => BytesCommand::from_order(alloc, order)?.map(Command::Bytes),
+            Kind::Text => TextCommand::from_order(alloc, order)?.map(Command::Text),
+        })
     }
-    Ok(Some(match order.verb {
-        Verb::New => TextCommand::New { name },
-        Verb::WithCapacity => TextCommand::WithCapacity {
-            name,
-            capacity: count,
-        },
-        Verb::TryInline => TextCommand::TryInline {
-            name,
-            text: order.text(alloc)?,
-        },
-        Verb::FromItems => TextCommand::FromStr {
-            name,
-            text: order.text(alloc)?,
-        },
-        Verb::FromChar => TextCommand::FromChar { name, c: 'a' },
-        Verb::Drop => TextCommand::Drop { name },
-        Verb::Len => TextCommand::Len { name },
-        Verb::Contents => TextCommand::Contents { name },
-        Verb::Capacity => TextCommand::Capacity { name },
-        Verb::IsInline => TextCommand::IsInline { name },
-        _ => return text_derive(alloc, order, name, to),
-    }))
 }
 
-/// A text of another value.
-fn text_derive(
-    alloc: Global,
-    order: &Order,
-    from: u32,
-    to: u32,
-) -> Result<Option<TextCommand>, AllocError> {
+impl FromOrder for VecCommand<i64> {
+    fn from_order(alloc: Global, order: &Order) -> Result<Option<Self>, AllocError> {
+        if order.kind != Kind::List {
+            return Ok(None);
+        }
+        if let Some(command) = common_command!(VecCommand, order) {
+            return Ok(Some(command));
+        }
+        let (name, index, value, n) = (order.name, order.start, 91, order.count);
+        Ok(Some(match order.verb {
+            Verb::FromElem => VecCommand::FromElem { name, value, n },
+            Verb::Read => VecCommand::Read { name, index },
+            Verb::Unique => VecCommand::Unique { name },
+            Verb::Edit(Word::Push) => VecCommand::Push { name, value },
+            Verb::Edit(Word::Insert) => VecCommand::Insert { name, index, value },
+            Verb::Edit(Word::Write) => VecCommand::Write { name, index, value },
+            Verb::Edit(Word::Retain) => VecCommand::Retain {
+                name,
+                marks: order.marks(alloc)?,
+            },
+            Verb::Edit(Word::Drain) => VecCommand::Drain {
+                name,
+                bounds: order.bounds(),
+            },
+            Verb::FromItems | Verb::Edit(Word::Splice | Word::Extend) => {
+                return Ok(vec_command_with(order, order.items(alloc)?));
+            }
+            _ => return Ok(None),
+        }))
+    }
+}
+
+/// The command that brings items to a list.
+fn vec_command_with(order: &Order, items: Items<i64>) -> Option<VecCommand<i64>> {
+    let (name, bounds) = (order.name, order.bounds());
+    match order.verb {
+        Verb::FromItems => Some(VecCommand::FromList { name, items }),
+        Verb::Edit(Word::Splice) => Some(VecCommand::Splice {
+            name,
+            bounds,
+            items,
+        }),
+        Verb::Edit(Word::Extend) => Some(VecCommand::Extend { name, items }),
+        _ => None,
+    }
+}
+
+impl FromOrder for BytesCommand {
+    fn from_order(alloc: Global, order: &Order) -> Result<Option<Self>, AllocError> {
+        if let Some(command) = small_command!(BytesCommand, order) {
+            return Ok(Some(command));
+        }
+        let (name, index, byte) = (order.name, order.start, 91);
+        Ok(Some(match order.verb {
+            Verb::FromOther => BytesCommand::FromText {
+                from: name,
+                to: order.to,
+            },
+            Verb::Read => BytesCommand::Read { name, index },
+            Verb::Edit(Word::Push) => BytesCommand::Push { name, byte },
+            Verb::Edit(Word::Insert) => BytesCommand::Insert { name, index, byte },
+            Verb::Edit(Word::Write) => BytesCommand::Write { name, index, byte },
+            Verb::TryInline
+            | Verb::FromItems
+            | Verb::FromEcoVec
+            | Verb::Edit(Word::Extend | Word::InsertSlice) => {
+                return Ok(bytes_command_with(order, order.byte_items(alloc)?));
+            }
+            _ => return Ok(None),
+        }))
+    }
+}
+
+/// The command that brings bytes.
+fn bytes_command_with(order: &Order, bytes: Items<u8>) -> Option<BytesCommand> {
+    let (name, index) = (order.name, order.start);
+    match order.verb {
+        Verb::TryInline => Some(BytesCommand::TryInline { name, bytes }),
+        Verb::FromItems => Some(BytesCommand::FromList { name, bytes }),
+        Verb::FromEcoVec => Some(BytesCommand::FromEcoVec { name, bytes }),
+        Verb::Edit(Word::Extend) => Some(BytesCommand::Extend { name, bytes }),
+        Verb::Edit(Word::InsertSlice) => Some(BytesCommand::InsertSlice { name, index, bytes }),
+        _ => None,
+    }
+}
+
+impl FromOrder for TextCommand {
+    fn from_order(alloc: Global, order: &Order) -> Result<Option<Self>, AllocError> {
+        if let Some(command) = small_command!(TextCommand, order) {
+            return Ok(Some(command));
+        }
+        let (name, index, c) = (order.name, order.start, texts::character(order.count));
+        Ok(Some(match order.verb {
+            Verb::FromChar => TextCommand::FromChar { name, c: 'a' },
+            Verb::Edit(Word::Push) => TextCommand::Push { name, c },
+            Verb::Edit(Word::Insert) => TextCommand::Insert { name, index, c },
+            Verb::Edit(Word::Upper) => TextCommand::AsciiUpper { name },
+            Verb::Edit(Word::Lower) => TextCommand::AsciiLower { name },
+            Verb::TryInline | Verb::FromItems | Verb::Edit(Word::Extend | Word::InsertSlice) => {
+                return Ok(text_command_with(order, order.text(alloc)?));
+            }
+            _ => return derived_text(alloc, order),
+        }))
+    }
+}
+
+/// The command that brings a text.
+fn text_command_with(order: &Order, text: Text) -> Option<TextCommand> {
+    let (name, index) = (order.name, order.start);
+    match order.verb {
+        Verb::TryInline => Some(TextCommand::TryInline { name, text }),
+        Verb::FromItems => Some(TextCommand::FromStr { name, text }),
+        Verb::Edit(Word::Extend) => Some(TextCommand::PushStr { name, text }),
+        Verb::Edit(Word::InsertSlice) => Some(TextCommand::InsertStr { name, index, text }),
+        _ => None,
+    }
+}
+
+/// The command that makes a text of another value.
+fn derived_text(alloc: Global, order: &Order) -> Result<Option<TextCommand>, AllocError> {
+    let (from, to, count) = (order.name, order.to, order.count);
     Ok(Some(match order.verb {
         Verb::FromOther => TextCommand::FromBytes { from, to },
-        Verb::Clone => TextCommand::Clone { from, to },
-        Verb::Repeat => TextCommand::Repeat {
-            from,
-            to,
-            n: order.count,
-        },
         Verb::ToUpper => TextCommand::ToAsciiUpper { from, to },
         Verb::ToLower => TextCommand::ToAsciiLower { from, to },
-        Verb::Replace => {
-            let pattern = Text::new(String::from_str(alloc, "a")?);
-            let replacement = Text::new(String::from_str(alloc, "é")?);
-            TextCommand::Replace {
-                from,
-                to,
-                pattern,
-                replacement,
-                count: order.count,
-            }
-        }
-        _ => return Ok(None),
-    }))
-}
-
-fn text_edit(alloc: Global, order: &Order, word: Word) -> Result<Option<TextCommand>, AllocError> {
-    let (name, index, c) = (order.name, order.start, order.character());
-    Ok(Some(match word {
-        Word::Push => TextCommand::Push { name, c },
-        Word::Pop => TextCommand::Pop { name },
-        Word::Insert => TextCommand::Insert { name, index, c },
-        Word::Remove => TextCommand::Remove { name, index },
-        Word::Truncate => TextCommand::Truncate {
-            name,
-            target: index,
-        },
-        Word::Clear => TextCommand::Clear { name },
-        Word::Shrink => TextCommand::ShrinkToFit { name },
-        Word::Upper => TextCommand::AsciiUpper { name },
-        Word::Lower => TextCommand::AsciiLower { name },
-        Word::Reserve => TextCommand::Reserve {
-            name,
-            additional: order.count,
-        },
-        Word::Extend => TextCommand::PushStr {
-            name,
-            text: order.text(alloc)?,
-        },
-        Word::InsertSlice => TextCommand::InsertStr {
-            name,
-            index,
-            text: order.text(alloc)?,
+        Verb::Replace => TextCommand::Replace {
+            from,
+            to,
+            pattern: Text::new(String::from_str(alloc, "a")?),
+            replacement: Text::new(String::from_str(alloc, "é")?),
+            count,
         },
         _ => return Ok(None),
     }))

@@ -132,39 +132,41 @@ fn lacks(watch: &Watch, end: End, written: &[u8]) -> Option<bool> {
     }
 }
 
-pub(crate) fn store_holds(alloc: Global, watch: &Watch) -> bool {
-    store_script_holds(alloc, watch, LISTS, &LIST_ANSWERS)
-        && store_script_holds(alloc, watch, OTHERS, &OTHER_ANSWERS)
+/// What the program runs a script on.
+#[derive(Clone, Copy)]
+enum RunOn {
+    Store,
+    /// A last line tells the blocks and the costs. The push moves four elements.
+    Counted,
 }
 
-fn store_script_holds(alloc: Global, watch: &Watch, script: &[u8], parts: &[Part]) -> bool {
+pub(crate) fn store_holds(alloc: Global, watch: &Watch) -> bool {
+    script_holds(alloc, watch, RunOn::Store, LISTS, &LIST_ANSWERS)
+        && script_holds(alloc, watch, RunOn::Store, OTHERS, &OTHER_ANSWERS)
+}
+
+pub(crate) fn counted_holds(alloc: Global, watch: &Watch) -> bool {
+    script_holds(alloc, watch, RunOn::Counted, LISTS, &LIST_ANSWERS)
+}
+
+fn script_holds(alloc: Global, watch: &Watch, on: RunOn, script: &[u8], parts: &[Part]) -> bool {
     let Ok(mut written) = Vec::with_capacity(alloc, 1000) else {
         return watch.may_refuse();
     };
     let mut rest = script;
-    let end = run_store(alloc, &mut rest, &mut written);
-    if let Some(holds) = lacks(watch, end, written.as_slice()) {
-        return holds;
-    }
-    match parts_hold(watch, parts, written.as_slice()) {
-        Some((rest, _, _)) => rest.is_empty(),
-        None => false,
-    }
-}
-
-/// Of a table of blocks a last line tells the blocks and the costs. The push moves four elements.
-pub(crate) fn counted_holds(alloc: Global, watch: &Watch) -> bool {
-    let Ok(mut written) = Vec::with_capacity(alloc, 1000) else {
-        return watch.may_refuse();
+    let end = match on {
+        RunOn::Store => run_store(alloc, &mut rest, &mut written),
+        RunOn::Counted => run_counted(alloc, &mut rest, &mut written),
     };
-    let mut script = LISTS;
-    let end = run_counted(alloc, &mut script, &mut written);
     if let Some(holds) = lacks(watch, end, written.as_slice()) {
         return holds;
     }
-    match parts_hold(watch, &LIST_ANSWERS, written.as_slice()) {
-        Some((rest, refused, place)) => rest == totals(refused, place),
-        None => false,
+    let Some((rest, refused, place)) = parts_hold(watch, parts, written.as_slice()) else {
+        return false;
+    };
+    match on {
+        RunOn::Store => rest.is_empty(),
+        RunOn::Counted => rest == totals(refused, place),
     }
 }
 

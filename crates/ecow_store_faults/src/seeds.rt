@@ -1,6 +1,6 @@
 //! Commands that a seed decides, runs of several commands, and lists that are filled.
 use crate::model::{Model, Want};
-use crate::orders::{Kind, Order, Verb};
+use crate::orders::{Kind, Order, SEEDED, Verb};
 use crate::stores::{NamedStore, Run, agrees, fits, orders_hold};
 use ecow_counted::{Counted, Filled};
 use ecow_faults::steps::Word;
@@ -9,45 +9,6 @@ use ecow_model::{Outcome, Refusal};
 use ecow_testing::numbers::Numbers;
 use ecow_vec::EcoError;
 use std::alloc::Global;
-
-const VERBS: [Verb; 36] = [
-    Verb::New,
-    Verb::WithCapacity,
-    Verb::FromItems,
-    Verb::FromItems,
-    Verb::FromElem,
-    Verb::FromEcoVec,
-    Verb::FromOther,
-    Verb::Clone,
-    Verb::Clone,
-    Verb::Clone,
-    Verb::Drop,
-    Verb::Drop,
-    Verb::Repeat,
-    Verb::Replace,
-    Verb::ToUpper,
-    Verb::Read,
-    Verb::Len,
-    Verb::Contents,
-    Verb::Capacity,
-    Verb::Unique,
-    Verb::Edit(Word::Push),
-    Verb::Edit(Word::Push),
-    Verb::Edit(Word::Insert),
-    Verb::Edit(Word::Write),
-    Verb::Edit(Word::Pop),
-    Verb::Edit(Word::Remove),
-    Verb::Edit(Word::Truncate),
-    Verb::Edit(Word::Clear),
-    Verb::Edit(Word::Retain),
-    Verb::Edit(Word::Reserve),
-    Verb::Edit(Word::Drain),
-    Verb::Edit(Word::Splice),
-    Verb::Edit(Word::Extend),
-    Verb::Edit(Word::InsertSlice),
-    Verb::Edit(Word::Shrink),
-    Verb::Edit(Word::Upper),
-];
 
 fn small(numbers: &mut Numbers, limit: u64) -> usize {
     usize::try_from(numbers.below(limit)).unwrap_or(0)
@@ -60,7 +21,7 @@ fn order(numbers: &mut Numbers, kinds: u64) -> Order {
         1 => Kind::Bytes,
         _ => Kind::Text,
     };
-    let verb = match VERBS.get(small(numbers, 36)) {
+    let verb = match SEEDED.get(small(numbers, 36)) {
         Some(verb) => *verb,
         None => Verb::Len,
     };
@@ -109,8 +70,10 @@ pub(crate) fn runs_hold<K: NamedStore>(alloc: Global, watch: &Watch) -> bool {
     }
     let mut store = K::start(alloc);
     let mut model = Model::new(K::limit());
-    let outcomes = match store.run_orders(alloc, &orders) {
-        Run::Lacking => return watch.may_refuse(),
+    let Ok(ran) = store.run_orders(alloc, &orders) else {
+        return watch.may_refuse();
+    };
+    let outcomes = match ran {
         Run::Refused(error, count) => {
             return error == EcoError::Memory
                 && count == 5

@@ -1,14 +1,14 @@
 //! The commands of both stores, each in each state of its value. The test keeps the same names
 //! by itself, and compares.
 use crate::model::{Entry, Model, Want};
-use crate::orders::{Kind, Order, Verb, command, vec_command};
+use crate::orders::{FromOrder, Kind, MAKERS, OTHERS, Order, Verb};
 use ecow_counted::Counted;
-use ecow_faults::steps::{Row, Word, step_of};
+use ecow_faults::steps::{Row, Step, Word, step_of};
 use ecow_faults::watch::Watch;
 use ecow_faults::{bytes, texts, vectors};
 use ecow_model::{BytesCommand, Command, Outcome, Refusal, TextCommand, VecCommand};
 use ecow_store::SmallStore;
-use ecow_vec::EcoError;
+use ecow_vec::{EcoError, Rejected};
 use std::alloc::{AllocError, Global};
 
 const NAMES: [u32; 4] = [0, 1, 2, 3];
@@ -16,13 +16,24 @@ const NAMES: [u32; 4] = [0, 1, 2, 3];
 /// What a store says of its blocks.
 type Account = [(Option<usize>, Option<usize>); 4];
 
+/// What a command answers; `None` where the store has no such one. An error says that the test
+/// itself lacks memory.
+type Answer = Result<Option<Outcome<i64>>, AllocError>;
+
 /// What a run of several commands came to.
 pub(crate) enum Run {
-    /// The test itself lacks memory for the commands.
-    Lacking,
     /// Why, and how many commands came back.
     Refused(EcoError, usize),
     Done(Vec<Outcome<i64>>),
+}
+
+impl Run {
+    fn of<C: Drop>(ran: Result<Vec<Outcome<i64>>, Rejected<Vec<C>>>) -> Self {
+        match ran {
+            Ok(outcomes) => Run::Done(outcomes),
+            Err(rejected) => Run::Refused(rejected.error, rejected.value.len()),
+        }
+    }
 }
 
 /// A store of named values.
@@ -32,14 +43,9 @@ pub(crate) trait NamedStore: Drop {
     /// How many bytes stand inline.
     fn limit() -> usize;
 
-    /// Carries a command out; `None` where the store has no such one.
-    fn carry_out(
-        &mut self,
-        alloc: Global,
-        order: &Order,
-    ) -> Result<Option<Outcome<i64>>, AllocError>;
+    fn carry_out(&mut self, alloc: Global, order: &Order) -> Answer;
 
-    fn run_orders(&mut self, alloc: Global, orders: &[Order]) -> Run;
+    fn run_orders(&mut self, alloc: Global, orders: &[Order]) -> Result<Run, AllocError>;
 
     /// For how many items there is room under a name, and how many names share it, where a store
     /// tells that.
@@ -54,20 +60,10 @@ pub(crate) trait NamedStore: Drop {
     fn has_totals(&self, model: &Model) -> bool;
 }
 
-fn commands(alloc: Global, orders: &[Order]) -> Result<Vec<Command<i64>>, AllocError> {
+fn commands<C: FromOrder>(alloc: Global, orders: &[Order]) -> Result<Vec<C>, AllocError> {
     let mut commands = Vec::new(alloc);
     for order in orders {
-        if let Some(command) = command(alloc, order)? {
-            commands.push(command)?;
-        }
-    }
-    Ok(commands)
-}
-
-fn vec_commands(alloc: Global, orders: &[Order]) -> Result<Vec<VecCommand<i64>>, AllocError> {
-    let mut commands = Vec::new(alloc);
-    for order in orders {
-        if let Some(command) = vec_command(alloc, order)? {
+        if let Some(command) = C::from_order(alloc, order)? {
             commands.push(command)?;
         }
     }
@@ -97,25 +93,15 @@ impl<const N: usize> NamedStore for SmallStore<i64, N> {
         N
     }
 
-    fn carry_out(
-        &mut self,
-        alloc: Global,
-        order: &Order,
-    ) -> Result<Option<Outcome<i64>>, AllocError> {
-        match command(alloc, order)? {
+    fn carry_out(&mut self, alloc: Global, order: &Order) -> Answer {
+        match Command::from_order(alloc, order)? {
             Some(command) => Ok(Some(self.step(command))),
             None => Ok(None),
         }
     }
 
-    fn run_orders(&mut self, alloc: Global, orders: &[Order]) -> Run {
-        let Ok(commands) = commands(alloc, orders) else {
-            return Run::Lacking;
-        };
-        match self.run(commands) {
-            Ok(outcomes) => Run::Done(outcomes),
-            Err(rejected) => Run::Refused(rejected.error, rejected.value.len()),
-        }
+    fn run_orders(&mut self, alloc: Global, orders: &[Order]) -> Result<Run, AllocError> {
+        Ok(Run::of(self.run(commands(alloc, orders)?)))
     }
 
     fn room(&mut self, name: u32) -> (Option<usize>, Option<usize>) {
@@ -179,31 +165,18 @@ impl NamedStore for Counted<i64> {
     }
 
     /// Every second name is given by `share`, which is the command `Clone`.
-    fn carry_out(
-        &mut self,
-        alloc: Global,
-        order: &Order,
-    ) -> Result<Option<Outcome<i64>>, AllocError> {
-        if order.kind != Kind::List {
-            return Ok(None);
-        }
-        if order.verb == Verb::Clone && order.count > 0 {
-            return Ok(Some(self.share(order.name, order.to)));
-        }
-        match vec_command(alloc, order)? {
+    fn carry_out(&mut self, alloc: Global, order: &Order) -> Answer {
+        match VecCommand::from_order(alloc, order)? {
+            Some(VecCommand::Clone { from, to }) if order.count > 0 => {
+                Ok(Some(self.share(from, to)))
+            }
             Some(command) => Ok(Some(self.step(command))),
             None => Ok(None),
         }
     }
 
-    fn run_orders(&mut self, alloc: Global, orders: &[Order]) -> Run {
-        let Ok(commands) = vec_commands(alloc, orders) else {
-            return Run::Lacking;
-        };
-        match self.run(commands) {
-            Ok(outcomes) => Run::Done(outcomes),
-            Err(rejected) => Run::Refused(rejected.error, rejected.value.len()),
-        }
+    fn run_orders(&mut self, alloc: Global, orders: &[Order]) -> Result<Run, AllocError> {
+        Ok(Run::of(self.run(commands(alloc, orders)?)))
     }
 
     fn room(&mut self, name: u32) -> (Option<usize>, Option<usize>) {
@@ -377,11 +350,7 @@ fn spilled(kind: Kind, limit: usize) -> [Order; 3] {
 
 /// Makes values in each state, shared or not, and carries one command out on each.
 pub(crate) fn kind_holds<K: NamedStore>(alloc: Global, watch: &Watch, kind: Kind) -> bool {
-    let (states, rows) = match kind {
-        Kind::List => (4, vectors::STEPS.as_slice()),
-        Kind::Bytes => (6, bytes::STEPS.as_slice()),
-        Kind::Text => (6, texts::STEPS.as_slice()),
-    };
+    let states = if kind == Kind::List { 4 } else { 6 };
     let mut hold = true;
     for state in 0..states {
         for shared in [false, true] {
@@ -389,7 +358,12 @@ pub(crate) fn kind_holds<K: NamedStore>(alloc: Global, watch: &Watch, kind: Kind
             if shared && kind != Kind::List && state < 3 {
                 continue;
             }
-            hold = state_holds::<K>(alloc, watch, (kind, state, shared), rows) && hold;
+            let made = (kind, state, shared);
+            hold = match kind {
+                Kind::List => state_holds::<K>(alloc, watch, made, &vectors::STEPS),
+                Kind::Bytes => state_holds::<K>(alloc, watch, made, &bytes::STEPS),
+                Kind::Text => state_holds::<K>(alloc, watch, made, &texts::STEPS),
+            } && hold;
         }
     }
     hold
@@ -403,50 +377,34 @@ fn state_holds<K: NamedStore>(
 ) -> bool {
     let (kind, _, _) = made;
     let mut hold = true;
-    for row in rows {
-        if is_command(kind, row) {
-            let mut order = Order::edit(kind, step_of(row));
-            if row.0 == Word::Retain {
-                order.count = 4;
+    for (word, calls) in rows {
+        for arguments in *calls {
+            let step = step_of(*word, arguments);
+            if is_command(kind, &step) {
+                let mut order = Order::edit(kind, step);
+                if step.word == Word::Retain {
+                    order.count = 4;
+                }
+                hold = case_holds::<K>(alloc, watch, made, order) && hold;
             }
-            hold = case_holds::<K>(alloc, watch, made, order) && hold;
         }
     }
-    for (verb, count) in OTHERS {
-        hold = case_holds::<K>(alloc, watch, made, Order::of(kind, verb, 0, count)) && hold;
+    for (verb, counts) in OTHERS {
+        for count in counts {
+            let order = Order::of(kind, verb, 0, *count);
+            hold = case_holds::<K>(alloc, watch, made, order) && hold;
+        }
     }
     hold
 }
 
-/// The commands that don't change a value, and those that make another of it.
-const OTHERS: [(Verb, usize); 17] = [
-    (Verb::Read, 0),
-    (Verb::Len, 0),
-    (Verb::Contents, 0),
-    (Verb::Capacity, 0),
-    (Verb::Unique, 0),
-    (Verb::IsInline, 0),
-    (Verb::Clone, 0),
-    (Verb::Clone, 1),
-    (Verb::Drop, 0),
-    (Verb::New, 0),
-    (Verb::Repeat, 0),
-    (Verb::Repeat, 1),
-    (Verb::Repeat, 2),
-    (Verb::Replace, 9),
-    (Verb::ToUpper, 0),
-    (Verb::ToLower, 0),
-    (Verb::FromOther, 0),
-];
-
-/// Whether a row says a command; of those that bring several items the shortest and the longest
+/// Whether a step says a command; of those that bring several items the shortest and the longest
 /// do.
-fn is_command(kind: Kind, row: &Row) -> bool {
-    let (word, _, _, count) = *row;
-    match word {
+fn is_command(kind: Kind, step: &Step) -> bool {
+    match step.word {
         Word::MakeMut | Word::Rewrite => false,
         Word::ExtendEach | Word::ExtendPieces | Word::Put => false,
-        Word::Reserve | Word::InsertSlice => kind == Kind::List || count != 2,
+        Word::Reserve | Word::InsertSlice => kind == Kind::List || step.count != 2,
         _ => true,
     }
 }
@@ -472,15 +430,7 @@ fn case_holds<K: NamedStore>(
 pub(crate) fn makers_hold<K: NamedStore>(alloc: Global, watch: &Watch, kind: Kind) -> bool {
     let mut hold = true;
     let limit = K::limit();
-    for verb in [
-        Verb::New,
-        Verb::TryInline,
-        Verb::WithCapacity,
-        Verb::FromItems,
-        Verb::FromElem,
-        Verb::FromEcoVec,
-        Verb::FromChar,
-    ] {
+    for verb in MAKERS {
         for count in [0, limit, limit.saturating_add(1), limit.saturating_add(7)] {
             let order = Order::of(kind, verb, 0, count);
             hold = orders_hold::<K>(alloc, watch, &[order]) && hold;

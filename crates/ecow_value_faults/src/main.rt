@@ -25,26 +25,26 @@ fn texts_hold<const N: usize>(alloc: Global, watch: &Watch, none: &SmallString<N
         && texts::derived_hold(alloc, watch, none)
 }
 
-fn is_right_bytes(part: usize, alloc: Global, watch: &Watch) -> bool {
-    match part {
-        2 => bytes_hold::<0>(alloc, watch, &SmallBytes::new(alloc)),
-        3 => bytes_hold::<1>(alloc, watch, &SmallBytes::new(alloc)),
-        4 => bytes_hold::<3>(alloc, watch, &SmallBytes::new(alloc)),
-        5 => bytes_hold::<15>(alloc, watch, &SmallBytes::new(alloc)),
-        6 => bytes_hold::<23>(alloc, watch, &SmallBytes::new(alloc)),
-        _ => bytes_hold::<255>(alloc, watch, &SmallBytes::new(alloc)),
-    }
+/// Tests values at the limit that stands in a place, counted from 0, in the order of the names.
+macro_rules! hold_at {
+    ($place:expr, $hold:ident, $value:ident, $alloc:expr, $watch:expr) => {
+        match $place {
+            0 => $hold::<0>($alloc, $watch, &$value::new($alloc)),
+            1 => $hold::<1>($alloc, $watch, &$value::new($alloc)),
+            2 => $hold::<3>($alloc, $watch, &$value::new($alloc)),
+            3 => $hold::<15>($alloc, $watch, &$value::new($alloc)),
+            4 => $hold::<23>($alloc, $watch, &$value::new($alloc)),
+            _ => $hold::<255>($alloc, $watch, &$value::new($alloc)),
+        }
+    };
 }
 
-fn is_right_text(part: usize, alloc: Global, watch: &Watch) -> bool {
-    match part {
-        8 => texts_hold::<0>(alloc, watch, &SmallString::new(alloc)),
-        9 => texts_hold::<1>(alloc, watch, &SmallString::new(alloc)),
-        10 => texts_hold::<3>(alloc, watch, &SmallString::new(alloc)),
-        11 => texts_hold::<15>(alloc, watch, &SmallString::new(alloc)),
-        12 => texts_hold::<23>(alloc, watch, &SmallString::new(alloc)),
-        _ => texts_hold::<255>(alloc, watch, &SmallString::new(alloc)),
-    }
+fn is_right_bytes(place: usize, alloc: Global, watch: &Watch) -> bool {
+    hold_at!(place, bytes_hold, SmallBytes, alloc, watch)
+}
+
+fn is_right_text(place: usize, alloc: Global, watch: &Watch) -> bool {
+    hold_at!(place, texts_hold, SmallString, alloc, watch)
 }
 
 const NAMES: [&str; 18] = [
@@ -71,16 +71,12 @@ const NAMES: [&str; 18] = [
 struct Values;
 
 impl Parts for Values {
-    fn names() -> &'static [&'static str] {
-        &NAMES
-    }
-
     fn holds(part: usize, alloc: Global, watch: &Watch) -> bool {
         match part {
             0 => vectors::calls_hold::<i64>(alloc, watch),
             1 => vectors::calls_hold::<Named>(alloc, watch),
-            2..=7 => is_right_bytes(part, alloc, watch),
-            8..=13 => is_right_text(part, alloc, watch),
+            2..=7 => is_right_bytes(part - 2, alloc, watch),
+            8..=13 => is_right_text(part - 8, alloc, watch),
             14 => prints::printing_holds(alloc, watch),
             15 => {
                 makers::makers_hold::<i64>(alloc, watch)
@@ -93,5 +89,5 @@ impl Parts for Values {
 }
 
 fn main(rt: HostRuntime) -> io::Result<()> {
-    run::<Values>(&rt)
+    run::<Values>(&rt, &NAMES)
 }
