@@ -7,6 +7,7 @@ use Rattle.ecow_tool.specs.declared.program.End.TheVariants as program
 use Rattle.ecow_tool.specs.declared.program.Exit.{Exit}
 use Rattle.ecow_tool.specs.declared.program.Exit.TheVariants.{After, Usage}
 use Rattle.ecow_script.specs.Reasons.{reason_text}
+use Rattle.ecow_script.specs.declared.reason.Reason.{Reason}
 use Rattle.ecow_script.specs.declared.script.Fault.{Fault}
 use Rattle.ecow_script.specs.declared.script.Fault.TheVariants as script
 
@@ -46,3 +47,7 @@ abbrev pub exit_text : Exit → List ℕ
 exit_text Usage = codes "usage: ecow-run [--counted] FILE\n"
 exit_text (After program.Done) = []
 exit_text (After end) = codes "ecow-run: " ++ end_text end ++ codes "\n"
+
+-- what is printed where a line doesn't fit
+abbrev pub unreadable_text : ℕ → Reason → List ℕ
+unreadable_text line reason = exit_text (After (program.Unreadable line reason))

@@ -1,7 +1,7 @@
 //! The status and the message of each end, written out by hand beside the definitions.
 ghost use Rattle.std.specs.Prelude.{◌≡◌, [], codes};
 ghost use Rattle.ecow_script.specs.declared.reason.Reason.TheVariants as reason;
-ghost use Rattle.ecow_tool.specs.Ends.{exit_text, status_of};
+ghost use Rattle.ecow_tool.specs.Ends.{exit_text, status_of, unreadable_text};
 ghost use Rattle.ecow_tool.specs.declared.program.End.TheVariants as program;
 ghost use Rattle.ecow_tool.specs.declared.program.Exit.TheVariants.{After, Usage};
 
@@ -30,22 +30,14 @@ pub fn messages()
 
 /// What it prints where a line doesn't fit.
 pub fn unreadable_lines()
-    ensures kind { exit_text (After (program.Unreadable 1 reason.Kind))
-        ≡ codes "ecow-run: line 1: kind\n" }
-    ensures command { exit_text (After (program.Unreadable 2 reason.Command))
-        ≡ codes "ecow-run: line 2: command\n" }
-    ensures name { exit_text (After (program.Unreadable 30 reason.Name))
-        ≡ codes "ecow-run: line 30: name\n" }
-    ensures number { exit_text (After (program.Unreadable 9 reason.Number))
-        ≡ codes "ecow-run: line 9: number\n" }
-    ensures list { exit_text (After (program.Unreadable 10 reason.List))
-        ≡ codes "ecow-run: line 10: list\n" }
-    ensures marks { exit_text (After (program.Unreadable 100 reason.Marks))
-        ≡ codes "ecow-run: line 100: marks\n" }
-    ensures bounds { exit_text (After (program.Unreadable 1024 reason.Bounds))
-        ≡ codes "ecow-run: line 1024: bounds\n" }
-    ensures text { exit_text (After (program.Unreadable 1025 reason.Text))
-        ≡ codes "ecow-run: line 1025: text\n" }
-    ensures arguments { exit_text (After (program.Unreadable 3001 reason.Arguments))
+    ensures kind { unreadable_text 1 reason.Kind ≡ codes "ecow-run: line 1: kind\n" }
+    ensures command { unreadable_text 2 reason.Command ≡ codes "ecow-run: line 2: command\n" }
+    ensures name { unreadable_text 30 reason.Name ≡ codes "ecow-run: line 30: name\n" }
+    ensures number { unreadable_text 9 reason.Number ≡ codes "ecow-run: line 9: number\n" }
+    ensures list { unreadable_text 10 reason.List ≡ codes "ecow-run: line 10: list\n" }
+    ensures marks { unreadable_text 100 reason.Marks ≡ codes "ecow-run: line 100: marks\n" }
+    ensures bounds { unreadable_text 1024 reason.Bounds ≡ codes "ecow-run: line 1024: bounds\n" }
+    ensures text { unreadable_text 1025 reason.Text ≡ codes "ecow-run: line 1025: text\n" }
+    ensures arguments { unreadable_text 3001 reason.Arguments
         ≡ codes "ecow-run: line 3001: arguments\n" }
 {}
