@@ -176,8 +176,8 @@ pub(crate) fn derive<const N: usize>(
             drop(value.to_vec()?);
             Ok(None)
         }
-        Call::Repeat => value.repeat(row.number).map(|made| Some(made)),
-        _ => or_memory(value.clone()).map(|made| Some(made)),
+        Call::Repeat => value.repeat(row.number).map(|copy| Some(copy)),
+        _ => or_memory(value.clone()).map(|copy| Some(copy)),
     }
 }
 

@@ -51,11 +51,11 @@ fn make(row: Row<CopyCall>, list: &mut EcoVec<u8>, other: &EcoVec<u8>) -> Result
 fn cost(meter: Meter, row: Row<CopyCall>, state: VecState) -> Result<Cost, EcoError> {
     let other = EcoVec::from_slice(meter.alloc, front(state.len))?;
     let elements = Vec::from_clones(meter.alloc, front(state.len))?;
-    let mut kept = kept_pair(meter.alloc, state, elements)?;
-    let before = kept.standing();
+    let mut pair = kept_pair(meter.alloc, state, elements)?;
+    let before = pair.standing();
     let _begun = meter.begin();
     for _ in 0..row.times {
-        make(row, &mut kept.list, &other)?;
+        make(row, &mut pair.list, &other)?;
     }
     let _ended = meter.end();
     Ok(Cost {
@@ -65,7 +65,7 @@ fn cost(meter: Meter, row: Row<CopyCall>, state: VecState) -> Result<Cost, EcoEr
         state: state.name,
         counts: None,
         before,
-        after: kept.standing(),
+        after: pair.standing(),
     })
 }
 
@@ -74,8 +74,8 @@ fn cost_of_making(meter: Meter, name: &'static str, len: usize) -> Result<Cost, 
     let _begun = meter.begin();
     let mut list = EcoVec::from_copied(meter.alloc, front(len))?;
     let _ended = meter.end();
-    let made = Role::Make.after(form_of(&mut list), Form::Absent, list.capacity());
-    Ok(Cost::of_making(name, made))
+    let standing = Role::Make.after(form_of(&mut list), Form::Absent, list.capacity());
+    Ok(Cost::of_making(name, standing))
 }
 
 /// Adds a row of each call in each of the states.

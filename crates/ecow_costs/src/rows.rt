@@ -77,9 +77,9 @@ impl Role {
     }
 
     /// What stands after the call, where the value stands so that was made, and its source so.
-    pub(crate) fn after(self, made: Form, source: Form, capacity: usize) -> Standing {
+    pub(crate) fn after(self, form: Form, source: Form, capacity: usize) -> Standing {
         Standing {
-            form: made,
+            form,
             twin: if self == Role::Make {
                 Form::Absent
             } else {
@@ -166,7 +166,7 @@ pub(crate) struct Cost {
 
 impl Cost {
     /// What it costs to make a value that then stands so.
-    pub(crate) fn of_making(name: &'static str, made: Standing) -> Self {
+    pub(crate) fn of_making(name: &'static str, standing: Standing) -> Self {
         Cost {
             role: Role::Make,
             limit: USUAL,
@@ -178,7 +178,7 @@ impl Cost {
             state: "",
             counts: None,
             before: Standing::none(),
-            after: made,
+            after: standing,
         }
     }
 

@@ -199,11 +199,11 @@ fn after<const N: usize>(
     role: Role,
     value: SmallBytes<N>,
     twin: Option<SmallBytes<N>>,
-    made: Option<SmallBytes<N>>,
+    new_value: Option<SmallBytes<N>>,
 ) -> Standing {
-    match made {
-        Some(made) => {
-            let both = standing_of(made, value);
+    match new_value {
+        Some(new_value) => {
+            let both = standing_of(new_value, value);
             drop(twin);
             role.after(both.form, both.twin, both.capacity)
         }
@@ -249,7 +249,7 @@ fn cost<const N: usize>(
     let twin = twin_of(&value, state)?;
     let gift = gift_of(meter.alloc, row.number, none)?;
     let _begun = meter.begin();
-    let made = call_on((kind, role), row, &mut value, gift)?;
+    let new_value = call_on((kind, role), row, &mut value, gift)?;
     let _ended = meter.end();
     Ok(Cost {
         role,
@@ -258,7 +258,7 @@ fn cost<const N: usize>(
         state: state.name,
         counts: None,
         before,
-        after: after(role, value, twin, made),
+        after: after(role, value, twin, new_value),
     })
 }
 

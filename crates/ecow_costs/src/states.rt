@@ -93,9 +93,9 @@ pub(crate) fn error_of<V: Drop>(rejected: Rejected<V>) -> EcoError {
 }
 
 /// What a call made that only memory refuses.
-pub(crate) fn or_memory<V>(made: Result<V, AllocError>) -> Result<V, EcoError> {
-    match made {
-        Ok(made) => Ok(made),
+pub(crate) fn or_memory<V>(value: Result<V, AllocError>) -> Result<V, EcoError> {
+    match value {
+        Ok(value) => Ok(value),
         Err(error) => Err(error.into()),
     }
 }

@@ -183,9 +183,9 @@ fn text_made<const N: usize>(
 }
 
 fn printed<const N: usize>(
-    made: Result<SmallString<N>, fmt::Error>,
+    text: Result<SmallString<N>, fmt::Error>,
 ) -> Result<SmallString<N>, EcoError> {
-    match made {
+    match text {
         Ok(text) => Ok(text),
         Err(_) => Err(EcoError::Memory),
     }
@@ -237,13 +237,13 @@ pub(crate) fn derive<const N: usize>(
     alloc: Global,
 ) -> Result<Option<SmallBytes<N>>, EcoError> {
     let text = text_of(mem::replace(value, SmallBytes::new(alloc)))?;
-    let mut made = None;
+    let mut new_value = None;
     match row.call {
         Call::ToStd => drop(text.to_std_string()?),
-        _ => made = Some(SmallBytes::from(text_made(row, &text)?)),
+        _ => new_value = Some(SmallBytes::from(text_made(row, &text)?)),
     }
     *value = SmallBytes::from(text);
-    Ok(made)
+    Ok(new_value)
 }
 
 /// The bytes of a text that is made of what is given. `_none` names their type.

@@ -36,8 +36,8 @@ fn nothing(done: Result<(), EcoError>) -> Outcome {
     done.map(|()| Out::Nothing)
 }
 
-fn made(made: Result<EcoVec<Counting>, EcoError>) -> Outcome {
-    made.map(|list| Out::NewValue(list))
+fn new_value(list: Result<EcoVec<Counting>, EcoError>) -> Outcome {
+    list.map(|list| Out::NewValue(list))
 }
 
 fn of_one(one: Option<Counting>) -> Out {
@@ -287,27 +287,27 @@ fn make(
 fn call_any(
     role: Role,
     row: Row<VecCall>,
-    kept: &mut Pair<Counting>,
+    pair: &mut Pair<Counting>,
     gift: &mut Vec<Counting>,
     alloc: Global,
 ) -> Outcome {
     match (role, row.call) {
-        (Role::Derive, _) => made(or_memory(kept.list.clone())),
-        (Role::Make, _) => made(make(row, gift, alloc)),
+        (Role::Derive, _) => new_value(or_memory(pair.list.clone())),
+        (Role::Make, _) => new_value(make(row, gift, alloc)),
         (_, VecCall::IntoVec | VecCall::IntoIter | VecCall::IntoArray | VecCall::Drop) => {
-            let list = mem::replace(&mut kept.list, EcoVec::new(alloc));
+            let list = mem::replace(&mut pair.list, EcoVec::new(alloc));
             give(row.call, list).map(|given| Out::Given(given))
         }
-        _ => call_on(row, &mut kept.list, gift, alloc),
+        _ => call_on(row, &mut pair.list, gift, alloc),
     }
 }
 
 /// What stands after a call.
-fn after(role: Role, kept: &mut Pair<Counting>, out: &mut Out) -> Standing {
+fn after(role: Role, pair: &mut Pair<Counting>, out: &mut Out) -> Standing {
     match out {
-        Out::NewValue(list) => role.after(form_of(list), form_of(&mut kept.list), list.capacity()),
-        Out::Given(_) => role.after(Form::Absent, kept.form_of_twin(), 0),
-        _ => kept.standing(),
+        Out::NewValue(list) => role.after(form_of(list), form_of(&mut pair.list), list.capacity()),
+        Out::Given(_) => role.after(Form::Absent, pair.form_of_twin(), 0),
+        _ => pair.standing(),
     }
 }
 
@@ -338,14 +338,14 @@ fn owner(role: Role, call: VecCall) -> &'static str {
 
 fn cost(role: Role, meter: Meter, row: Row<VecCall>, state: VecState) -> Result<Cost, EcoError> {
     let tally = Tally::new(meter.alloc)?;
-    let mut kept = counted(meter.alloc, &tally, state)?;
+    let mut pair = counted(meter.alloc, &tally, state)?;
     let mut gift = tally.elements(meter.alloc, row.number)?;
-    let before = role.before(kept.standing());
+    let before = role.before(pair.standing());
     let counted = counts(&tally);
     let _begun = meter.begin();
     let mut out = Out::Nothing;
     for _ in 0..row.times {
-        out = call_any(role, row, &mut kept, &mut gift, meter.alloc)?;
+        out = call_any(role, row, &mut pair, &mut gift, meter.alloc)?;
     }
     let _ended = meter.end();
     Ok(Cost {
@@ -355,7 +355,7 @@ fn cost(role: Role, meter: Meter, row: Row<VecCall>, state: VecState) -> Result<
         state: state.name,
         counts: since(&tally, counted),
         before,
-        after: after(role, &mut kept, &mut out),
+        after: after(role, &mut pair, &mut out),
     })
 }
 

@@ -15,7 +15,7 @@ pub(crate) fn done<T: Clone>(rt: &impl Abort, table: &mut Counted<T>, command: V
 }
 
 /// How many names share a name's block, and for how many elements it has room.
-pub(crate) fn held<T: Drop>(table: &Counted<T>, name: Name) -> (Option<usize>, Option<usize>) {
+pub(crate) fn standing<T: Drop>(table: &Counted<T>, name: Name) -> (Option<usize>, Option<usize>) {
     (table.owners(name), table.capacity(name))
 }
 

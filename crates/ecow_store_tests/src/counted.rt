@@ -1,6 +1,6 @@
 //! Lists in counted blocks: commands succeed with ample memory, each copied element is one clone,
 //! and elements are dropped with the last name of their block.
-use crate::calls::{done, held, step, totals};
+use crate::calls::{done, standing, step, totals};
 use crate::scripts::{COMMANDS, compare};
 use ecow_counted::{Counted, Filled};
 use ecow_model::{Items, Outcome, Refusal, VecCommand};
@@ -23,11 +23,11 @@ fn an_empty_shared_block_is_left_by_a_retain(rt: HostRuntime) -> Result<(), Fail
             capacity: 3,
         },
     );
-    let shared = is_done(table.share(0, 1)) && held(&table, 0) == (Some(2), Some(3));
+    let shared = is_done(table.share(0, 1)) && standing(&table, 0) == (Some(2), Some(3));
     assert!(rt; shared && totals(&table) == (0, 0, 1));
     let marks = Items::from_slice(rt.alloc(), &[])?;
     done(&rt, &mut table, VecCommand::Retain { name: 0, marks });
-    let left = held(&table, 0) == (None, Some(0)) && held(&table, 1) == (Some(1), Some(3));
+    let left = standing(&table, 0) == (None, Some(0)) && standing(&table, 1) == (Some(1), Some(3));
     assert!(rt; left && totals(&table) == (0, 0, 1));
     Ok(())
 }
@@ -50,7 +50,7 @@ fn a_list_moves_as_it_is_filled(rt: HostRuntime) -> Result<(), Fail> {
     for (n, moved, capacity) in [(4, 0, 4), (5, 4, 8), (9, 12, 16), (17, 28, 32)] {
         let table = filled(&rt, alloc, n)?;
         assert_eq!(rt; totals(&table), (0, moved, 1), "{n}");
-        assert_eq!(rt; held(&table, 0), (Some(1), Some(capacity)), "{n}");
+        assert_eq!(rt; standing(&table, 0), (Some(1), Some(capacity)), "{n}");
     }
     Ok(())
 }
@@ -74,7 +74,7 @@ fn units_are_counted_too(rt: HostRuntime) -> Result<(), Fail> {
     let mut table = Counted::new(rt.alloc());
     let Filled { accepted, .. } = table.fill(0, units);
     assert!(rt; accepted == 9 && totals(&table) == (0, 12, 1));
-    assert_eq!(rt; held(&table, 0), (Some(1), Some(16)));
+    assert_eq!(rt; standing(&table, 0), (Some(1), Some(16)));
     Ok(())
 }
 
@@ -158,7 +158,7 @@ fn elements_go_with_the_last_name_of_their_block(rt: HostRuntime) -> Result<(), 
     }
     done(&rt, &mut table, VecCommand::Drop { name: 0 });
     done(&rt, &mut table, VecCommand::Clear { name: 1 });
-    assert!(rt; tally.drops() == 0 && held(&table, 2) == (Some(1), Some(4)));
+    assert!(rt; tally.drops() == 0 && standing(&table, 2) == (Some(1), Some(4)));
     done(&rt, &mut table, VecCommand::Drop { name: 2 });
     assert!(rt; tally.drops() == 3 && tally.clones() == 0 && totals(&table) == (0, 0, 0));
     Ok(())
@@ -168,7 +168,7 @@ fn elements_go_with_the_last_name_of_their_block(rt: HostRuntime) -> Result<(), 
 fn elements_without_a_clone_are_shared(rt: HostRuntime) -> Result<(), Fail> {
     let mut table: Counted<Single> = Counted::new(rt.alloc());
     let refused = refusal_of(table.share(0, 1)) == Some(Refusal::NoName);
-    assert!(rt; refused && table.is_unique(0).is_none() && held(&table, 0) == (None, None));
+    assert!(rt; refused && table.is_unique(0).is_none() && standing(&table, 0) == (None, None));
     Ok(())
 }
 

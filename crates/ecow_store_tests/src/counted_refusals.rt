@@ -1,5 +1,5 @@
 //! Lists in counted blocks whose elements refuse their clones: everything stays as it was.
-use crate::calls::{held, step, totals};
+use crate::calls::{standing, step, totals};
 use ecow_counted::Counted;
 use ecow_model::{Items, Outcome, Refusal, VecCommand};
 use ecow_testing::elements::Refusing;
@@ -36,12 +36,12 @@ fn seen(
     table: &mut Counted<Refusing>,
     left: &Rc<Cell<u64>>,
 ) -> Result<Vec<u64>, AllocError> {
-    let kept = left.get();
+    let count = left.get();
     left.set(100);
     let (copied, moved, blocks) = totals(table);
     let mut numbers = vec![in alloc; copied, moved, blocks as u64]?;
     for name in 0..5 {
-        let (owners, capacity) = held(table, name);
+        let (owners, capacity) = standing(table, name);
         numbers.push(owners.unwrap_or(0) as u64)?;
         numbers.push(capacity.unwrap_or(0) as u64)?;
         if let Outcome::Elements(elements) = step(table, VecCommand::Contents { name }) {
@@ -50,7 +50,7 @@ fn seen(
             }
         }
     }
-    left.set(kept);
+    left.set(count);
     Ok(numbers)
 }
 
@@ -67,7 +67,7 @@ fn pushed(
 fn a_clone_needs_no_clone_of_an_element(rt: HostRuntime) -> Result<(), Fail> {
     let left = Rc::new(rt.alloc(), Cell::new(0))?;
     let mut table = shared(rt.alloc(), &left)?;
-    assert_eq!(rt; held(&table, 0), (Some(2), Some(4)));
+    assert_eq!(rt; standing(&table, 0), (Some(2), Some(4)));
     let refused = refusal_of(pushed(&mut table, &left)?) == Some(Refusal::Memory);
     assert!(rt; refused && totals(&table) == (0, 0, 1));
     left.set(3);
@@ -87,7 +87,7 @@ fn refused_cut(rt: &impl Abort, table: &mut Counted<Refusing>) {
 fn refused_addition(rt: &impl Abort, table: &mut Counted<Refusing>, items: Items<Refusing>) {
     let refused = step(table, VecCommand::Extend { name: 0, items });
     let refused = refusal_of(refused) == Some(Refusal::Memory);
-    assert!(rt; refused && held(table, 0) == (Some(1), Some(4)) && totals(table) == (0, 0, 1));
+    assert!(rt; refused && standing(table, 0) == (Some(1), Some(4)) && totals(table) == (0, 0, 1));
 }
 
 #[test]

@@ -78,8 +78,8 @@ fn spliced(list: &mut EcoVec<i64>, items: &mut Asked<i64>) -> Result<(), EcoErro
 }
 
 fn collected(alloc: Global, items: &mut Asked<i64>) -> Result<EcoVec<i64>, EcoError> {
-    let made = items.collect(alloc)?;
-    Ok(made)
+    let value = items.collect(alloc)?;
+    Ok(value)
 }
 
 /// The number of elements of the vector: those of the items, and 1, 2 and 3 before.
@@ -113,8 +113,8 @@ fn vectors_ask_for_each_item_and_the_end(rt: HostRuntime) -> Result<(), Fail> {
 }
 
 fn bytes_collected(alloc: Global, items: &mut Asked<u8>) -> Result<EcoBytes, EcoError> {
-    let made = items.collect(alloc)?;
-    Ok(made)
+    let value = items.collect(alloc)?;
+    Ok(value)
 }
 
 /// The number of bytes that come of the items.
@@ -145,8 +145,8 @@ fn bytes_ask_for_each_item_and_the_end(rt: HostRuntime) -> Result<(), Fail> {
 }
 
 fn chars_collected(alloc: Global, items: &mut Asked<char>) -> Result<EcoString, EcoError> {
-    let made = items.collect(alloc)?;
-    Ok(made)
+    let value = items.collect(alloc)?;
+    Ok(value)
 }
 
 /// The number of bytes of the text that comes of characters.
@@ -161,8 +161,8 @@ fn len_of_chars(way: Way, alloc: Global, items: &mut Asked<char>) -> Result<usiz
 }
 
 fn strs_collected(alloc: Global, items: &mut Asked<&'static str>) -> Result<EcoString, EcoError> {
-    let made = items.collect(alloc)?;
-    Ok(made)
+    let value = items.collect(alloc)?;
+    Ok(value)
 }
 
 /// The number of bytes of the text that comes of `str`s.
@@ -206,8 +206,8 @@ fn texts_ask_for_each_item_and_the_end(rt: HostRuntime) -> Result<(), Fail> {
 }
 
 fn texts_collected(alloc: Global, items: &mut Asked<EcoString>) -> Result<EcoString, EcoError> {
-    let made = items.collect(alloc)?;
-    Ok(made)
+    let value = items.collect(alloc)?;
+    Ok(value)
 }
 
 /// Whether texts of two bytes each ask for each and the end.

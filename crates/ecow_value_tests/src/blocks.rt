@@ -75,10 +75,10 @@ fn refused_among(
     let elements = tally.elements(rt.alloc(), count)?;
     let mut block = Block::with_capacity(rt.alloc(), 300)?;
     let first = !appended(&mut block, elements.as_slice()) && block.len() == 0;
-    let made = tally.drops();
+    let drops = tally.drops();
     let second = appended(&mut block, elements.as_slice()) && block.len() == count;
     assert!(rt; first && second, "{refused} of {count}");
-    assert!(rt; made.wrapping_add(1) == refused && tally.drops() == made);
+    assert!(rt; drops.wrapping_add(1) == refused && tally.drops() == drops);
     assert!(rt; block.capacity() == 300);
     Ok(())
 }
@@ -105,10 +105,10 @@ fn elements_of_no_bytes_are_as_many_as_the_limit(rt: HostRuntime) -> Result<(), 
 
 #[test]
 fn more_than_memory_is_refused(rt: HostRuntime) {
-    let made = Block::<u64>::with_capacity(rt.alloc(), 0x1000_0000_0000_0000);
+    let huge = Block::<u64>::with_capacity(rt.alloc(), 0x1000_0000_0000_0000);
     let mut block = Block::<u64>::new(rt.alloc());
     let grown = block.grow(0x1000_0000_0000_0000);
-    assert!(rt; made.is_err() && grown.is_err() && block.capacity() == 0 && block.grow(2).is_ok());
+    assert!(rt; huge.is_err() && grown.is_err() && block.capacity() == 0 && block.grow(2).is_ok());
 }
 
 /// A block of so many elements, which are counted from 0 on, in room for as many.

@@ -36,33 +36,33 @@ fn reversed_elements_reverse_the_order(rt: HostRuntime) -> Result<(), Fail> {
 /// Whether a map that holds one key finds another.
 pub(crate) fn is_found<K: Eq + Hash + Drop>(
     alloc: Global,
-    kept: K,
+    entry: K,
     key: &K,
 ) -> Result<bool, AllocError> {
     let mut map = HashMap::new(alloc);
-    map.insert(kept, ())?;
+    map.insert(entry, ())?;
     Ok(map.contains_key(key))
 }
 
 /// Whether a map in order that holds one key finds another.
 pub(crate) fn is_found_in_order<K: Ord + Drop>(
     alloc: Global,
-    kept: K,
+    entry: K,
     key: &K,
 ) -> Result<bool, AllocError> {
     let mut map = BTreeMap::new(alloc);
-    map.insert(kept, ())?;
+    map.insert(entry, ())?;
     Ok(map.contains_key(key))
 }
 
 #[test]
 fn vectors_are_keys_of_maps(rt: HostRuntime) -> Result<(), Fail> {
-    let kept = of(rt.alloc(), &[1u8, 2])?;
+    let entry = of(rt.alloc(), &[1u8, 2])?;
     let mut key = of(rt.alloc(), &[1u8, 2, 3])?;
     let _clone = shared(&key)?;
     key.truncate(2)?;
-    assert!(rt; is_found_in_order(rt.alloc(), shared(&kept)?, &key)?);
-    assert!(rt; is_found(rt.alloc(), kept, &key)?);
+    assert!(rt; is_found_in_order(rt.alloc(), shared(&entry)?, &key)?);
+    assert!(rt; is_found(rt.alloc(), entry, &key)?);
     Ok(())
 }
 

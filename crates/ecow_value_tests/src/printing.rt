@@ -41,17 +41,17 @@ const LISTS: [(&[u8], &str); 5] = [
 fn debugged_lists(alloc: Global, bytes: &[u8]) -> Result<(String, String, String), EcoError> {
     let list = EcoVec::from_slice(alloc, bytes)?;
     let spilled = debugged(alloc, EcoBytes::from(list.clone()?))?;
-    let made = debugged(alloc, EcoBytes::from_slice(alloc, bytes)?)?;
-    Ok((debugged(alloc, list)?, spilled, made))
+    let usual = debugged(alloc, EcoBytes::from_slice(alloc, bytes)?)?;
+    Ok((debugged(alloc, list)?, spilled, usual))
 }
 
 #[test]
 fn lists_and_bytes_are_debugged_as_slices(rt: HostRuntime) -> Result<(), Fail> {
     for (bytes, printed) in LISTS {
-        let (list, spilled, made) = debugged_lists(rt.alloc(), bytes)?;
+        let (list, spilled, usual) = debugged_lists(rt.alloc(), bytes)?;
         assert_eq!(rt; list.as_str(), printed);
         assert_eq!(rt; spilled.as_str(), printed);
-        assert_eq!(rt; made.as_str(), printed);
+        assert_eq!(rt; usual.as_str(), printed);
     }
     Ok(())
 }
@@ -68,12 +68,12 @@ fn times(alloc: Global, piece: &str, count: usize) -> Result<String, AllocError>
 #[test]
 fn long_lists_and_bytes_are_debugged_whole(rt: HostRuntime) -> Result<(), Fail> {
     let bytes = vec![in rt.alloc(); 7; 1000]?;
-    let (list, spilled, made) = debugged_lists(rt.alloc(), bytes.as_slice())?;
+    let (list, spilled, usual) = debugged_lists(rt.alloc(), bytes.as_slice())?;
     let sevens = times(rt.alloc(), "7, ", 999)?;
     let printed = format!(in rt.alloc(); "[{sevens}7]")?;
     assert_eq!(rt; list.as_str(), printed.as_str());
     assert_eq!(rt; spilled.as_str(), printed.as_str());
-    assert_eq!(rt; made.as_str(), printed.as_str());
+    assert_eq!(rt; usual.as_str(), printed.as_str());
     Ok(())
 }
 
@@ -105,8 +105,8 @@ const TEXTS: [(&str, &str); 5] = [
 #[test]
 fn texts_are_debugged_as_str_is(rt: HostRuntime) -> Result<(), Fail> {
     for (of, printed) in TEXTS {
-        let made: EcoString = text(rt.alloc(), of)?;
-        assert_eq!(rt; debugged(rt.alloc(), made)?.as_str(), printed);
+        let value: EcoString = text(rt.alloc(), of)?;
+        assert_eq!(rt; debugged(rt.alloc(), value)?.as_str(), printed);
     }
     Ok(())
 }
@@ -115,13 +115,13 @@ fn texts_are_debugged_as_str_is(rt: HostRuntime) -> Result<(), Fail> {
 fn a_long_text_is_printed_and_debugged_whole(rt: HostRuntime) -> Result<(), Fail> {
     let letters = times(rt.alloc(), "é\t", 500)?;
     let escaped = times(rt.alloc(), "é\\t", 500)?;
-    let made: EcoString = text(rt.alloc(), letters.as_str())?;
-    let printed = format!(in rt.alloc(); "{made}|{made:.150}|")?;
+    let value: EcoString = text(rt.alloc(), letters.as_str())?;
+    let printed = format!(in rt.alloc(); "{value}|{value:.150}|")?;
     let front = times(rt.alloc(), "é\t", 75)?;
     let wanted = format!(in rt.alloc(); "{letters}|{front}|")?;
     assert_eq!(rt; printed.as_str(), wanted.as_str());
     let quoted = format!(in rt.alloc(); "\"{escaped}\"")?;
-    assert_eq!(rt; debugged(rt.alloc(), made)?.as_str(), quoted.as_str());
+    assert_eq!(rt; debugged(rt.alloc(), value)?.as_str(), quoted.as_str());
     Ok(())
 }
 
@@ -132,11 +132,11 @@ fn padded_far(alloc: Global, text: &EcoString) -> Result<String, AllocError> {
 
 #[test]
 fn texts_are_padded_past_a_hundred_characters(rt: HostRuntime) -> Result<(), Fail> {
-    let made: EcoString = text(rt.alloc(), "grün")?;
+    let value: EcoString = text(rt.alloc(), "grün")?;
     let (right, both) = (times(rt.alloc(), " ", 200)?, times(rt.alloc(), "*", 150)?);
     let left = times(rt.alloc(), " ", 1000)?;
     let wanted = format!(in rt.alloc(); "{right}grün|{both}grün{both}|grün{left}|")?;
-    assert_eq!(rt; padded_far(rt.alloc(), &made)?.as_str(), wanted.as_str());
+    assert_eq!(rt; padded_far(rt.alloc(), &value)?.as_str(), wanted.as_str());
     Ok(())
 }
 
@@ -157,8 +157,8 @@ const PADDED: [(&str, &str); 2] = [
 #[test]
 fn texts_are_padded_by_characters(rt: HostRuntime) -> Result<(), Fail> {
     for (of, printed) in PADDED {
-        let made: EcoString = text(rt.alloc(), of)?;
-        assert_eq!(rt; padded(rt.alloc(), &made)?.as_str(), printed);
+        let value: EcoString = text(rt.alloc(), of)?;
+        assert_eq!(rt; padded(rt.alloc(), &value)?.as_str(), printed);
     }
     Ok(())
 }

@@ -77,7 +77,7 @@ fn returned(put: Result<(), Rejected<Refusing>>) -> Result<(), EcoError> {
 }
 
 /// Makes a call on a vector of 1, 2 and 3 that shares its block, where so many clones succeed.
-fn made(
+fn check_call(
     rt: &(impl Abort + AllocGlobal),
     call: Call,
     clones: u64,
@@ -121,9 +121,9 @@ fn each_clone_is_refused_in_turn(rt: HostRuntime) -> Result<(), Fail> {
         (Call::ExtendFromSlice, 4, &[1, 2, 3, 9]),
     ] {
         for clones in 0..needed {
-            made(&rt, call, clones, None)?;
+            check_call(&rt, call, clones, None)?;
         }
-        made(&rt, call, needed, Some(after))?;
+        check_call(&rt, call, needed, Some(after))?;
     }
     Ok(())
 }
@@ -142,12 +142,12 @@ fn a_slice_goes_in_whole_or_not_at_all(rt: HostRuntime) -> Result<(), Fail> {
 
 /// Whether a `retain` is done, and how many elements its closure was given.
 fn asked_by_retain(list: &mut EcoVec<Refusing>) -> (bool, u64) {
-    let mut asked = 0u64;
+    let mut count = 0u64;
     let outcome = list.retain(|_| {
-        asked = asked.wrapping_add(1);
+        count = count.wrapping_add(1);
         true
     });
-    (outcome.is_ok(), asked)
+    (outcome.is_ok(), count)
 }
 
 #[test]

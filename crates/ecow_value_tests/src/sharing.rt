@@ -117,7 +117,7 @@ fn no_memory_is_a_capacity_within_the_limit(rt: HostRuntime) {
         (9223372036854775808, EcoError::Capacity),
         (18446744073709551615, EcoError::Capacity),
     ] {
-        let made = EcoVec::<u8>::with_capacity(rt.alloc(), capacity);
-        assert!(rt; matches!(&made, Err(error) if *error == want));
+        let list = EcoVec::<u8>::with_capacity(rt.alloc(), capacity);
+        assert!(rt; matches!(&list, Err(error) if *error == want));
     }
 }

@@ -85,8 +85,8 @@ fn has_cases(of: &EcoString, lower: &str, upper: &str) -> Result<bool, EcoError>
 #[test]
 fn case_is_that_of_unicode(rt: HostRuntime) -> Result<(), Fail> {
     for (of, lower, upper) in CASES {
-        let made: EcoString = text(rt.alloc(), of)?;
-        assert!(rt; has_cases(&made, lower, upper)?, "{of}");
+        let value: EcoString = text(rt.alloc(), of)?;
+        assert!(rt; has_cases(&value, lower, upper)?, "{of}");
         assert!(rt; has_cases(&spilled(rt.alloc(), of)?, lower, upper)?, "{of}");
     }
     Ok(())
@@ -96,16 +96,16 @@ fn case_is_that_of_unicode(rt: HostRuntime) -> Result<(), Fail> {
 fn is_lowered(of: &EcoString, lower: &str) -> Result<bool, EcoError> {
     let mut copy = of.clone()?;
     copy.make_ascii_lowercase()?;
-    let made = of.to_ascii_lowercase()?;
-    Ok(holds(&copy, lower, of.is_inline()) && holds(&made, lower, of.is_inline()))
+    let lowered = of.to_ascii_lowercase()?;
+    Ok(holds(&copy, lower, of.is_inline()) && holds(&lowered, lower, of.is_inline()))
 }
 
 /// Whether it has them in upper case.
 fn is_raised(of: &EcoString, upper: &str) -> Result<bool, EcoError> {
     let mut copy = of.clone()?;
     copy.make_ascii_uppercase()?;
-    let made = of.to_ascii_uppercase()?;
-    Ok(holds(&copy, upper, of.is_inline()) && holds(&made, upper, of.is_inline()))
+    let raised = of.to_ascii_uppercase()?;
+    Ok(holds(&copy, upper, of.is_inline()) && holds(&raised, upper, of.is_inline()))
 }
 
 /// A text, and its ASCII letters in lower and in upper case.
@@ -119,9 +119,9 @@ const LETTERS: [(&str, &str, &str); 4] = [
 #[test]
 fn ascii_case_leaves_all_else_and_the_mode(rt: HostRuntime) -> Result<(), Fail> {
     for (of, lower, upper) in LETTERS {
-        let made: EcoString = text(rt.alloc(), of)?;
+        let value: EcoString = text(rt.alloc(), of)?;
         assert!(rt;
-            is_lowered(&made, lower)? && is_raised(&made, upper)?,
+            is_lowered(&value, lower)? && is_raised(&value, upper)?,
             "{of}"
         );
         let long = spilled(rt.alloc(), of)?;
