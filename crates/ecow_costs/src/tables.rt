@@ -340,7 +340,8 @@ pub(crate) fn first_makers() -> [Row<Call>; 6] {
     ]
 }
 
-/// The same at any other limit, on both sides of it.
+/// Calls that make an empty value, one that stands inline, or one with room, at another limit, on
+/// both sides of it.
 pub(crate) fn first_makers_at(limit: usize) -> [Row<Call>; 5] {
     let more = limit.saturating_add(1);
     [
@@ -423,7 +424,7 @@ pub(crate) fn bytes_makers() -> [Row<Call>; 18] {
     ]
 }
 
-/// The same at any other limit, on both sides of it.
+/// Calls that make bytes of something else, at another limit, on both sides of it.
 pub(crate) fn bytes_makers_at(limit: usize) -> [Row<Call>; 11] {
     let more = limit.saturating_add(1);
     [
@@ -536,7 +537,7 @@ pub(crate) fn text_makers() -> [Row<Call>; 22] {
     ]
 }
 
-/// The same at any other limit, on both sides of it.
+/// Calls that make a text of something else, at another limit, on both sides of it.
 pub(crate) fn text_makers_at(limit: usize) -> [Row<Call>; 15] {
     let more = limit.saturating_add(1);
     [
