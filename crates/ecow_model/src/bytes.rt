@@ -5,7 +5,7 @@ ghost use Rattle.ecow_model.specs.Refusing.{verdict};
 ghost use Rattle.ecow_values.specs.declared.plain.PlainBytes.{PlainBytes};
 
 use crate::command::{Name, Refusal};
-use crate::usage::{Usage, allowed, ask, derive, edit, in_bounds, make};
+use crate::usage::{Usage, allowed, in_bounds};
 use ecow_values::Items;
 
 /// A command on bytes, inline or spilled. Counts and indexes are of bytes.
@@ -187,41 +187,50 @@ impl BytesCommand {
         ensures { result ≡ bytes_usage self }
     {
         match self {
-            BytesCommand::New { name } => make(name, BytesMake::New),
-            BytesCommand::TryInline { name, bytes } => make(name, BytesMake::TryInline(bytes)),
+            BytesCommand::New { name } => Usage::make(name, BytesMake::New),
+            BytesCommand::TryInline { name, bytes } => Usage::make(
+                name,
+                BytesMake::TryInline(bytes),
+            ),
             BytesCommand::WithCapacity { name, capacity } => {
-                make(name, BytesMake::WithCapacity(capacity))
+                Usage::make(name, BytesMake::WithCapacity(capacity))
             }
-            BytesCommand::FromList { name, bytes } => make(name, BytesMake::FromList(bytes)),
-            BytesCommand::FromEcoVec { name, bytes } => make(name, BytesMake::FromEcoVec(bytes)),
-            BytesCommand::FromText { from, to } => derive(from, to, BytesDerive::FromText),
-            BytesCommand::Clone { from, to } => derive(from, to, BytesDerive::Clone),
+            BytesCommand::FromList { name, bytes } => Usage::make(name, BytesMake::FromList(bytes)),
+            BytesCommand::FromEcoVec { name, bytes } => Usage::make(
+                name,
+                BytesMake::FromEcoVec(bytes),
+            ),
+            BytesCommand::FromText { from, to } => Usage::derive(from, to, BytesDerive::FromText),
+            BytesCommand::Clone { from, to } => Usage::derive(from, to, BytesDerive::Clone),
             BytesCommand::Drop { name } => Usage::Drop { name },
-            BytesCommand::Push { name, byte } => edit(name, BytesEdit::Push(byte)),
-            BytesCommand::Pop { name } => edit(name, BytesEdit::Pop),
+            BytesCommand::Push { name, byte } => Usage::edit(name, BytesEdit::Push(byte)),
+            BytesCommand::Pop { name } => Usage::edit(name, BytesEdit::Pop),
             BytesCommand::Insert { name, index, byte } => {
-                edit(name, BytesEdit::Insert(index, byte))
+                Usage::edit(name, BytesEdit::Insert(index, byte))
             }
-            BytesCommand::Remove { name, index } => edit(name, BytesEdit::Remove(index)),
-            BytesCommand::Extend { name, bytes } => edit(name, BytesEdit::Extend(bytes)),
+            BytesCommand::Remove { name, index } => Usage::edit(name, BytesEdit::Remove(index)),
+            BytesCommand::Extend { name, bytes } => Usage::edit(name, BytesEdit::Extend(bytes)),
             BytesCommand::InsertSlice { name, index, bytes } => {
-                edit(name, BytesEdit::InsertSlice(index, bytes))
+                Usage::edit(name, BytesEdit::InsertSlice(index, bytes))
             }
-            BytesCommand::Truncate { name, target } => edit(name, BytesEdit::Truncate(target)),
-            BytesCommand::Clear { name } => edit(name, BytesEdit::Clear),
+            BytesCommand::Truncate { name, target } => Usage::edit(
+                name,
+                BytesEdit::Truncate(target),
+            ),
+            BytesCommand::Clear { name } => Usage::edit(name, BytesEdit::Clear),
             BytesCommand::Reserve { name, additional } => {
-                edit(name, BytesEdit::Reserve(additional))
+                Usage::edit(name, BytesEdit::Reserve(additional))
             }
             BytesCommand::Write { name, index, byte } => {
-                edit(name, BytesEdit::Write(index, byte))
+                Usage::edit(name, BytesEdit::Write(index, byte))
             }
-            BytesCommand::Read { name, index } => ask(name, BytesAsk::Read(index)),
-            BytesCommand::Repeat { from, to, n } => derive(from, to, BytesDerive::Repeat(n)),
-            BytesCommand::ShrinkToFit { name } => edit(name, BytesEdit::ShrinkToFit),
-            BytesCommand::Len { name } => ask(name, BytesAsk::Len),
-            BytesCommand::Capacity { name } => ask(name, BytesAsk::Capacity),
-            BytesCommand::Contents { name } => ask(name, BytesAsk::Contents),
-            BytesCommand::IsInline { name } => ask(name, BytesAsk::IsInline),
+            BytesCommand::Read { name, index } => Usage::ask(name, BytesAsk::Read(index)),
+            BytesCommand::Repeat { from, to, n } => Usage::derive(from, to, BytesDerive::Repeat(n)),
+            BytesCommand::ShrinkToFit { name } => Usage::edit(name, BytesEdit::ShrinkToFit),
+            BytesCommand::Len { name } => Usage::ask(name, BytesAsk::Len),
+            BytesCommand::Capacity { name } => Usage::ask(name, BytesAsk::Capacity),
+            BytesCommand::Contents { name } => Usage::ask(name, BytesAsk::Contents),
+            BytesCommand::IsInline { name } => Usage::ask(name, BytesAsk::IsInline),
         }
     }
 }

@@ -3,7 +3,7 @@ ghost use Rattle.std.specs.Prelude.{◌≡◌};
 ghost use Rattle.ecow_model.specs.Texts.{text_usage};
 
 use crate::command::Name;
-use crate::usage::{Usage, ask, derive, edit, make};
+use crate::usage::Usage;
 use ecow_values::Text;
 
 /// A command on a text, inline or spilled. Counts and indexes are of its UTF-8 bytes.
@@ -205,44 +205,55 @@ impl TextCommand {
         ensures { result ≡ text_usage self }
     {
         match self {
-            TextCommand::New { name } => make(name, TextMake::New),
-            TextCommand::TryInline { name, text } => make(name, TextMake::TryInline(text)),
+            TextCommand::New { name } => Usage::make(name, TextMake::New),
+            TextCommand::TryInline { name, text } => Usage::make(name, TextMake::TryInline(text)),
             TextCommand::WithCapacity { name, capacity } => {
-                make(name, TextMake::WithCapacity(capacity))
+                Usage::make(name, TextMake::WithCapacity(capacity))
             }
-            TextCommand::FromStr { name, text } => make(name, TextMake::FromStr(text)),
-            TextCommand::FromChar { name, c } => make(name, TextMake::FromChar(c)),
-            TextCommand::FromBytes { from, to } => derive(from, to, TextDerive::FromBytes),
-            TextCommand::Clone { from, to } => derive(from, to, TextDerive::Clone),
+            TextCommand::FromStr { name, text } => Usage::make(name, TextMake::FromStr(text)),
+            TextCommand::FromChar { name, c } => Usage::make(name, TextMake::FromChar(c)),
+            TextCommand::FromBytes { from, to } => Usage::derive(from, to, TextDerive::FromBytes),
+            TextCommand::Clone { from, to } => Usage::derive(from, to, TextDerive::Clone),
             TextCommand::Drop { name } => Usage::Drop { name },
-            TextCommand::Push { name, c } => edit(name, TextEdit::Push(c)),
-            TextCommand::Pop { name } => edit(name, TextEdit::Pop),
-            TextCommand::PushStr { name, text } => edit(name, TextEdit::PushStr(text)),
-            TextCommand::Insert { name, index, c } => edit(name, TextEdit::Insert(index, c)),
+            TextCommand::Push { name, c } => Usage::edit(name, TextEdit::Push(c)),
+            TextCommand::Pop { name } => Usage::edit(name, TextEdit::Pop),
+            TextCommand::PushStr { name, text } => Usage::edit(name, TextEdit::PushStr(text)),
+            TextCommand::Insert { name, index, c } => Usage::edit(name, TextEdit::Insert(index, c)),
             TextCommand::InsertStr { name, index, text } => {
-                edit(name, TextEdit::InsertStr(index, text))
+                Usage::edit(name, TextEdit::InsertStr(index, text))
             }
-            TextCommand::Remove { name, index } => edit(name, TextEdit::Remove(index)),
-            TextCommand::Truncate { name, target } => edit(name, TextEdit::Truncate(target)),
-            TextCommand::Clear { name } => edit(name, TextEdit::Clear),
-            TextCommand::Reserve { name, additional } => edit(name, TextEdit::Reserve(additional)),
+            TextCommand::Remove { name, index } => Usage::edit(name, TextEdit::Remove(index)),
+            TextCommand::Truncate { name, target } => Usage::edit(name, TextEdit::Truncate(target)),
+            TextCommand::Clear { name } => Usage::edit(name, TextEdit::Clear),
+            TextCommand::Reserve { name, additional } => Usage::edit(
+                name,
+                TextEdit::Reserve(additional),
+            ),
             TextCommand::Replace {
                 from,
                 to,
                 pattern,
                 replacement,
                 count,
-            } => derive(from, to, TextDerive::Replace(pattern, replacement, count)),
-            TextCommand::Repeat { from, to, n } => derive(from, to, TextDerive::Repeat(n)),
-            TextCommand::AsciiLower { name } => edit(name, TextEdit::AsciiLower),
-            TextCommand::AsciiUpper { name } => edit(name, TextEdit::AsciiUpper),
-            TextCommand::ToAsciiLower { from, to } => derive(from, to, TextDerive::ToAsciiLower),
-            TextCommand::ToAsciiUpper { from, to } => derive(from, to, TextDerive::ToAsciiUpper),
-            TextCommand::ShrinkToFit { name } => edit(name, TextEdit::ShrinkToFit),
-            TextCommand::Len { name } => ask(name, TextAsk::Len),
-            TextCommand::Capacity { name } => ask(name, TextAsk::Capacity),
-            TextCommand::Contents { name } => ask(name, TextAsk::Contents),
-            TextCommand::IsInline { name } => ask(name, TextAsk::IsInline),
+            } => Usage::derive(from, to, TextDerive::Replace(pattern, replacement, count)),
+            TextCommand::Repeat { from, to, n } => Usage::derive(from, to, TextDerive::Repeat(n)),
+            TextCommand::AsciiLower { name } => Usage::edit(name, TextEdit::AsciiLower),
+            TextCommand::AsciiUpper { name } => Usage::edit(name, TextEdit::AsciiUpper),
+            TextCommand::ToAsciiLower { from, to } => Usage::derive(
+                from,
+                to,
+                TextDerive::ToAsciiLower,
+            ),
+            TextCommand::ToAsciiUpper { from, to } => Usage::derive(
+                from,
+                to,
+                TextDerive::ToAsciiUpper,
+            ),
+            TextCommand::ShrinkToFit { name } => Usage::edit(name, TextEdit::ShrinkToFit),
+            TextCommand::Len { name } => Usage::ask(name, TextAsk::Len),
+            TextCommand::Capacity { name } => Usage::ask(name, TextAsk::Capacity),
+            TextCommand::Contents { name } => Usage::ask(name, TextAsk::Contents),
+            TextCommand::IsInline { name } => Usage::ask(name, TextAsk::IsInline),
         }
     }
 }

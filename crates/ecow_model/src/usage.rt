@@ -30,38 +30,30 @@ pub enum NewValue<V> {
     Tried(Option<V>),
 }
 
-pub(crate) fn make<Make, Derive, Edit, Ask>(name: Name, how: Make) -> Usage<Make, Derive, Edit, Ask>
-    ensures { result ≡ Usage.Make name how }
-{
-    Usage::Make { name, how }
-}
+impl<Make, Derive, Edit, Ask> Usage<Make, Derive, Edit, Ask> {
+    pub(crate) fn make(name: Name, how: Make) -> Self
+        ensures { result ≡ Usage.Make name how }
+    {
+        Usage::Make { name, how }
+    }
 
-pub(crate) fn derive<Make, Derive, Edit, Ask>(
-    from: Name,
-    to: Name,
-    how: Derive,
-) -> Usage<Make, Derive, Edit, Ask>
-    ensures { result ≡ Usage.Derive from to how }
-{
-    Usage::Derive { from, to, how }
-}
+    pub(crate) fn derive(from: Name, to: Name, how: Derive) -> Self
+        ensures { result ≡ Usage.Derive from to how }
+    {
+        Usage::Derive { from, to, how }
+    }
 
-pub(crate) fn edit<Make, Derive, Edit, Ask>(
-    name: Name,
-    edit: Edit,
-) -> Usage<Make, Derive, Edit, Ask>
-    ensures { result ≡ Usage.Edit name edit }
-{
-    Usage::Edit { name, edit }
-}
+    pub(crate) fn edit(name: Name, edit: Edit) -> Self
+        ensures { result ≡ Usage.Edit name edit }
+    {
+        Usage::Edit { name, edit }
+    }
 
-pub(crate) fn ask<Make, Derive, Edit, Ask>(
-    name: Name,
-    question: Ask,
-) -> Usage<Make, Derive, Edit, Ask>
-    ensures { result ≡ Usage.Ask name question }
-{
-    Usage::Ask { name, question }
+    pub(crate) fn ask(name: Name, question: Ask) -> Self
+        ensures { result ≡ Usage.Ask name question }
+    {
+        Usage::Ask { name, question }
+    }
 }
 
 /// Whether a value of `len` items may have `additional` more.

@@ -4,7 +4,7 @@ ghost use Rattle.ecow_model.specs.Vecs.{edit_vec, vec_usage};
 ghost use Rattle.ecow_model.specs.Refusing.{verdict};
 
 use crate::command::{Bounds, Name, Refusal};
-use crate::usage::{Usage, allowed, ask, derive, edit, in_bounds, make};
+use crate::usage::{Usage, allowed, in_bounds};
 use ecow_base::resolve;
 use ecow_values::Items;
 
@@ -175,37 +175,46 @@ impl<T> VecCommand<T> {
         ensures { result ≡ vec_usage self }
     {
         match self {
-            VecCommand::New { name } => make(name, VecMake::New),
+            VecCommand::New { name } => Usage::make(name, VecMake::New),
             VecCommand::WithCapacity { name, capacity } => {
-                make(name, VecMake::WithCapacity(capacity))
+                Usage::make(name, VecMake::WithCapacity(capacity))
             }
-            VecCommand::FromList { name, items } => make(name, VecMake::FromList(items)),
-            VecCommand::FromElem { name, value, n } => make(name, VecMake::FromElem(value, n)),
-            VecCommand::Clone { from, to } => derive(from, to, VecDerive::Clone),
+            VecCommand::FromList { name, items } => Usage::make(name, VecMake::FromList(items)),
+            VecCommand::FromElem { name, value, n } => Usage::make(
+                name,
+                VecMake::FromElem(value, n),
+            ),
+            VecCommand::Clone { from, to } => Usage::derive(from, to, VecDerive::Clone),
             VecCommand::Drop { name } => Usage::Drop { name },
-            VecCommand::Push { name, value } => edit(name, VecEdit::Push(value)),
-            VecCommand::Pop { name } => edit(name, VecEdit::Pop),
+            VecCommand::Push { name, value } => Usage::edit(name, VecEdit::Push(value)),
+            VecCommand::Pop { name } => Usage::edit(name, VecEdit::Pop),
             VecCommand::Insert { name, index, value } => {
-                edit(name, VecEdit::Insert(index, value))
+                Usage::edit(name, VecEdit::Insert(index, value))
             }
-            VecCommand::Remove { name, index } => edit(name, VecEdit::Remove(index)),
-            VecCommand::Truncate { name, target } => edit(name, VecEdit::Truncate(target)),
-            VecCommand::Clear { name } => edit(name, VecEdit::Clear),
-            VecCommand::Retain { name, marks } => edit(name, VecEdit::Retain(marks)),
-            VecCommand::Drain { name, bounds } => edit(name, VecEdit::Drain(bounds)),
+            VecCommand::Remove { name, index } => Usage::edit(name, VecEdit::Remove(index)),
+            VecCommand::Truncate { name, target } => Usage::edit(name, VecEdit::Truncate(target)),
+            VecCommand::Clear { name } => Usage::edit(name, VecEdit::Clear),
+            VecCommand::Retain { name, marks } => Usage::edit(name, VecEdit::Retain(marks)),
+            VecCommand::Drain { name, bounds } => Usage::edit(name, VecEdit::Drain(bounds)),
             VecCommand::Splice {
                 name,
                 bounds,
                 items,
-            } => edit(name, VecEdit::Splice(bounds, items)),
-            VecCommand::Extend { name, items } => edit(name, VecEdit::Extend(items)),
-            VecCommand::Reserve { name, additional } => edit(name, VecEdit::Reserve(additional)),
-            VecCommand::Write { name, index, value } => edit(name, VecEdit::Write(index, value)),
-            VecCommand::Read { name, index } => ask(name, VecAsk::Read(index)),
-            VecCommand::Len { name } => ask(name, VecAsk::Len),
-            VecCommand::Contents { name } => ask(name, VecAsk::Contents),
-            VecCommand::Capacity { name } => ask(name, VecAsk::Capacity),
-            VecCommand::Unique { name } => ask(name, VecAsk::Unique),
+            } => Usage::edit(name, VecEdit::Splice(bounds, items)),
+            VecCommand::Extend { name, items } => Usage::edit(name, VecEdit::Extend(items)),
+            VecCommand::Reserve { name, additional } => Usage::edit(
+                name,
+                VecEdit::Reserve(additional),
+            ),
+            VecCommand::Write { name, index, value } => Usage::edit(
+                name,
+                VecEdit::Write(index, value),
+            ),
+            VecCommand::Read { name, index } => Usage::ask(name, VecAsk::Read(index)),
+            VecCommand::Len { name } => Usage::ask(name, VecAsk::Len),
+            VecCommand::Contents { name } => Usage::ask(name, VecAsk::Contents),
+            VecCommand::Capacity { name } => Usage::ask(name, VecAsk::Capacity),
+            VecCommand::Unique { name } => Usage::ask(name, VecAsk::Unique),
         }
     }
 }
