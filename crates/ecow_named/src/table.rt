@@ -64,10 +64,7 @@ impl<V> Table<V> {
         ensures { option_copied result ≡ map.get self.now name }
     {
         if name < SLOTS {
-            match self.slots.as_slice().get(name as usize) {
-                Some(slot) => slot.as_ref(),
-                None => None,
-            }
+            self.slots.as_slice().get(name as usize)?.as_ref()
         } else {
             self.others.get(&name)
         }
@@ -80,10 +77,7 @@ impl<V> Table<V> {
         ensures value { option_copied_mut result ≡ map.get self.old name }
     {
         if name < SLOTS {
-            match self.slots.get_mut(name as usize) {
-                Some(slot) => slot.as_mut(),
-                None => None,
-            }
+            self.slots.get_mut(name as usize)?.as_mut()
         } else {
             self.others.get_mut(&name)
         }
@@ -117,10 +111,7 @@ impl<V: Drop> Table<V> {
         ensures removed { self.new ≡ map.remove self.old name }
     {
         if name < SLOTS {
-            match self.slots.get_mut(name as usize) {
-                Some(slot) => slot.take(),
-                None => None,
-            }
+            self.slots.get_mut(name as usize)?.take()
         } else {
             self.others.remove(&name)
         }

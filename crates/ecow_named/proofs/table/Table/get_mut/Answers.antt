@@ -6,25 +6,26 @@ use Rattle.ecow_named.specs.Tables.{values_of}
 use Rattle.ecow_named.proofs.Maps.{get-slot, put-slot, get-entry, put-entry, same_loan, found}
 use Rattle.ecow_named.proofs.table.Table.get_mut.Goals as goal
 
-pub returns-in-Some : goal.returns-in-Some
-returns-in-Some g c =
+pub returns-in_ok-self-inside : goal.returns-in_ok-self-inside
+returns-in_ok-self-inside g c =
     let slots = c.self.inside.slots.items in
     let es = c.self.inside.others.entries in
     let k = c.args.name in
     let small = c.if-name-lt-SLOTS.true in
-    let within = c.in-Some.ensures.item.3.0 in
-    let held = c.in-Some.ensures.item.3.1 None in (
+    let within = c.in_ok-self-inside.ensures.item.3.0 in
+    let held = c.in_ok-self-inside.ensures.item.3.1 None in (
       same_loan c.as_mut.result _ _ _ _
           (λ some w. put-slot slots es k small w within ∙ ap (λ m. map.insert m k w) c.self.view_is)
           (ap (λ o. values_of (slice_set slots k o) es) held ∙ ap (λ s. values_of s es) (set-get_or slots k None) ∙ c.self.view_is),
       record { writes_back = tt; value = c.as_mut.ensures.value ∙ held ∙ sym (get-slot slots es k small) ∙ ap (λ m. map.get m k) c.self.view_is },
     )
 
-pub returns-in-None : goal.returns-in-None
-returns-in-None g c =
+pub returns-in_err-self-inside : goal.returns-in_err-self-inside
+returns-in_err-self-inside g c =
     let slots = c.self.inside.slots.items in
     let k = c.args.name in
-    let past = c.in-None.ensures.item.3 in (
+    let past = c.in_err-self-inside.ensures.item.3 in
+    rw c.from_residual.ensures (
       ap inr c.self.view_is,
       record {
         writes_back = tt;
