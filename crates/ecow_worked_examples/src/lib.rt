@@ -4,6 +4,8 @@
 
 pub mod blocks;
 pub mod bytes;
+pub mod ranges;
+pub mod replaced;
 pub mod texts;
 pub mod values;
 pub mod vecs;

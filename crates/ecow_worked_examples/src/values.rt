@@ -1,56 +1,15 @@
-//! Ranges, replaced and repeated texts, and UTF-8.
-ghost use Rattle.std.specs.Prelude.{◌≡◌, ℕ, Some, None, Ok, Err, [], ◌∷◌, true, false, codes};
-ghost use Rattle.std.specs.declared.ops.Bound.TheVariants.{Included, Excluded, Unbounded};
-ghost use Rattle.ecow_base.specs.Range.{range_of};
+//! Lengths, repetition, and UTF-8.
+ghost use Rattle.std.specs.Prelude.{◌≡◌, ℕ, Ok, Err, [], ◌∷◌, true, false, codes};
 ghost use Rattle.ecow_model.specs.Bytes.{derive_bytes};
-ghost use Rattle.ecow_values.specs.Plain.{plain_bytes};
+ghost use Rattle.ecow_values.specs.Plain.{plain_bytes, plain_text};
 ghost use Rattle.ecow_model.specs.Vecs.{make_vec};
 ghost use Rattle.ecow_model.specs.Refusing.{allowed};
-ghost use Rattle.ecow_values.specs.Replaced.{replacen, replace_all};
 ghost use Rattle.ecow_model.specs.Texts.{derive_text};
-ghost use Rattle.ecow_values.specs.Plain.{plain_text};
 ghost use Rattle.ecow_model.specs.declared.bytes.BytesDerive.TheVariants.{Repeat as RepeatBytes};
 ghost use Rattle.ecow_model.specs.declared.command.Refusal.TheVariants.{Capacity, NotUtf8};
 ghost use Rattle.ecow_model.specs.declared.vecs.VecMake.TheVariants.{FromElem};
 ghost use Rattle.ecow_model.specs.declared.texts.TextDerive.TheVariants.{FromBytes, Repeat as RepeatText};
 ghost use Rattle.ecow_model.specs.declared.value.Value.TheVariants.{Bytes as BytesValue, Text as TextValue};
-
-/// Where ranges start and end in a list of three items.
-pub fn ranges_of_three()
-    ensures to_included { range_of (Unbounded, Included 2) 3 ≡ Some (0, 3) }
-    ensures to_included_past_the_end { range_of (Unbounded, Included 3) 3 ≡ None }
-    ensures nothing_at_the_end { range_of (Included 3, Excluded 3) 3 ≡ Some (3, 3) }
-    ensures backwards { range_of (Included 2, Excluded 1) 3 ≡ None }
-    ensures after_excluded_to_excluded { range_of (Excluded 2, Excluded 3) 3 ≡ Some (3, 3) }
-    ensures after_excluded_past_the_last { range_of (Excluded 3, Unbounded) 3 ≡ None }
-{}
-
-/// Where ranges start and end in an empty list.
-pub fn ranges_of_nothing()
-    ensures to_included { range_of (Unbounded, Included 0) 0 ≡ None }
-    ensures all { range_of (Unbounded, Unbounded) 0 ≡ Some (0, 0) }
-{}
-
-/// Patterns of some characters, and what stands in their place. 233 is é and 128512 is 😀.
-#[tactic(auto, unfolding(ecow_values::specs::Replaced::replacen, ecow_values::specs::Replaced::first_split))]
-pub fn replaced_patterns()
-    ensures leftmost_first { replace_all (codes "aa") (codes "b") (codes "aaa") ≡ codes "ba" }
-    ensures at_the_end { replace_all (codes "a") [] (233 ∷ 97 ∷ []) ≡ 233 ∷ [] }
-    ensures each_occurrence { replace_all (128512 ∷ []) (codes "ab") (128512 ∷ 128512 ∷ [])
-        ≡ codes "abab" }
-    ensures all_of_it { replace_all (codes "abc") [] (codes "abc") ≡ [] }
-{}
-
-/// The empty pattern, which occurs at every boundary.
-#[tactic(auto, unfolding(ecow_values::specs::Replaced::replacen, ecow_values::specs::Replaced::first_split))]
-pub fn replaced_boundaries()
-    ensures all { replace_all [] (codes "-") (codes "ab") ≡ codes "-a-b-" }
-    ensures two { replacen 2 [] (codes "-") (codes "ab") ≡ codes "-a-b" }
-    ensures none { replacen 0 [] (codes "-") (codes "ab") ≡ codes "ab" }
-    ensures of_long_characters { replace_all [] (codes "-") (97 ∷ 128512 ∷ [])
-        ≡ 45 ∷ 97 ∷ 45 ∷ 128512 ∷ 45 ∷ [] }
-    ensures of_nothing { replace_all [] (codes "-") [] ≡ codes "-" }
-{}
 
 /// Bytes that are no UTF-8: a byte that begins nothing, an overlong form, a surrogate, a number
 /// past the greatest, a form that is cut, and a byte that only goes on.
