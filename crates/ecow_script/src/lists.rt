@@ -1,7 +1,7 @@
 //! The forms of lists and bounds.
-ghost use Rattle.std.specs.Prelude.{◌≡◌, List, Option, ◌==◌, ◌≤◌, length};
+ghost use Rattle.std.specs.Prelude.{◌≡◌, List, Option, ◌==◌};
 ghost use Rattle.std.specs.Option.{option_copied};
-ghost use Rattle.std.specs.List.{slice_split, position_or_len, position};
+ghost use Rattle.std.specs.List.{slice_split, position};
 ghost use Rattle.ecow_script.specs.Numbers.{byte_in, integer_in, bracketed, each_in, list_in, marks_in, each_mark, mark_in, bounds_in, start_in, end_in, closed, behind_dots, is_dot};
 ghost use Rattle.ecow_script.specs.Outcomes.{Spells, SpellsItems};
 ghost use Rattle.ecow_script.specs.declared.reason.Reason.TheVariants as reason;
@@ -115,24 +115,16 @@ fn mark_in(byte: u8) -> Option<bool>
     }
 }
 
+#[tactic(auto, using(crate::proofs::Digits::or_all))]
 pub(crate) fn bounds_in(word: &[u8]) -> Option<Bounds>
     ensures { result ≡ bounds_in word.now }
 {
-    let (start, rest) = word.split_at(first_dot(word));
+    let (start, rest) = word.split_at(first_dot(word).unwrap_or(word.len()));
     let end = behind_dots(rest)?;
     Some((start_in(start)?, end_in(end)?))
 }
 
-/// How many bytes stand before the first dot: all where there is none.
-#[tactic(auto, using(crate::proofs::Digits::or_all))]
-fn first_dot(word: &[u8]) -> usize
-    ensures value { result ≡ position_or_len is_dot word.now }
-    ensures within { result ≤ length word.now }
-{
-    find_dot(word).unwrap_or(word.len())
-}
-
-fn find_dot(word: &[u8]) -> Option<usize>
+fn first_dot(word: &[u8]) -> Option<usize>
     ensures { result ≡ position is_dot word.now }
 {
     word.iter().position(|byte| *byte == b'.')

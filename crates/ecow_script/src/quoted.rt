@@ -103,7 +103,7 @@ fn close_in(bytes: &[u8]) -> Option<usize>
 }
 
 /// What stands before the first quote or backslash, and the text from that on.
-#[tactic(auto, using(crate::proofs::Quotes::plain_front, crate::proofs::Quotes::at_special))]
+#[tactic(auto, using(crate::proofs::Quotes::plain_front, crate::proofs::Quotes::at_special, crate::proofs::Digits::or_all))]
 fn plain_part(text: &str) -> (&str, &str)
     ensures spelling { text_from text.now ≡ behind_bytes result.0.now (text_from result.1.now) }
     ensures special { position_or_len is_special result.1.now ≡ 0 }
@@ -111,18 +111,10 @@ fn plain_part(text: &str) -> (&str, &str)
     ensures back { result.1.now ≡ drop (position_or_len is_special text.now) text.now }
     ensures shorter { length result.1.now ≤ length text.now }
 {
-    text.split_at(special_at(text.as_bytes()))
+    text.split_at(first_special(text.as_bytes()).unwrap_or(text.len()))
 }
 
-#[tactic(auto, using(crate::proofs::Digits::or_all))]
-fn special_at(bytes: &[u8]) -> usize
-    ensures value { result ≡ position_or_len is_special bytes.now }
-    ensures within { result ≤ length bytes.now }
-{
-    special_in(bytes).unwrap_or(bytes.len())
-}
-
-fn special_in(bytes: &[u8]) -> Option<usize>
+fn first_special(bytes: &[u8]) -> Option<usize>
     ensures { result ≡ position is_special bytes.now }
 {
     bytes

@@ -1,4 +1,7 @@
 //! Why a line was not read.
+ghost use Rattle.std.specs.Prelude.{◌≡◌};
+ghost use Rattle.ecow_script.specs.declared.reason.Misfit.TheVariants.{Memory};
+
 use std::alloc::{AllocError, AllocFailed};
 use std::fmt;
 
@@ -56,10 +59,7 @@ pub(crate) enum Misfit {
 }
 
 impl<T: Drop> From<AllocFailed<T>> for Misfit {
-    ghost use Rattle.std.specs.Prelude.{◌≡◌};
-    ghost use Rattle.ecow_script.specs.declared.reason.Misfit.{Misfit};
-
-    ghost from_gives = { λ _ misfit. misfit ≡ Misfit.Memory };
+    ghost from_gives = { λ _ misfit. misfit ≡ Memory };
 
     fn from(_: AllocFailed<T>) -> Misfit {
         Misfit::Memory
@@ -67,10 +67,7 @@ impl<T: Drop> From<AllocFailed<T>> for Misfit {
 }
 
 impl From<AllocError> for Misfit {
-    ghost use Rattle.std.specs.Prelude.{◌≡◌};
-    ghost use Rattle.ecow_script.specs.declared.reason.Misfit.{Misfit};
-
-    ghost from_gives = { λ _ misfit. misfit ≡ Misfit.Memory };
+    ghost from_gives = { λ _ misfit. misfit ≡ Memory };
 
     fn from(_: AllocError) -> Self {
         Self::Memory

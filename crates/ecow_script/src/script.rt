@@ -1,14 +1,15 @@
 //! Scripts: the text of a file, read into commands.
-ghost use Rattle.std.specs.Prelude.{◌≡◌, ◌<◌, ◌≤◌, ◌+◌, ◌^◌, [], List, ℕ, length, IfOk, IfErr, OnOk, Ok, ◌++◌};
+ghost use Rattle.std.specs.Prelude.{◌≡◌, ◌<◌, ◌+◌, ◌^◌, [], List, ℕ, length, IfOk, IfErr, OnOk, Ok, ◌++◌};
 ghost use Rattle.std.specs.Option.{option_to_list};
-ghost use Rattle.std.specs.List.{before_first, after_first, position_or_len, position};
+ghost use Rattle.std.specs.List.{before_first, after_first, position};
 ghost use Rattle.ecow_script.specs.Words.{Reading, Reads, place};
 ghost use Rattle.ecow_script.specs.Scripts.{without_return, is_feed, is_comment, line_command, ended, commands_ahead, with_front, with_command, unread, IsFaultOf};
+ghost use Rattle.ecow_script.specs.declared.script.Fault.TheVariants.{Memory};
 
 use crate::reason::{Misfit, Reason};
 use crate::words::Reader;
 use memchr::memchr;
-use std::alloc::{AllocError, AllocFailed, Global};
+use std::alloc::{AllocError, Global};
 use std::marker::Model;
 
 /// How many commands are read before they are carried out.
@@ -34,23 +35,9 @@ pub(crate) trait Scripted: Drop + Sized {
 }
 
 impl From<AllocError> for Fault {
-    ghost use Rattle.std.specs.Prelude.{◌≡◌};
-    ghost use Rattle.ecow_script.specs.declared.script.Fault.{Fault};
-
-    ghost from_gives = { λ _ fault. fault ≡ Fault.Memory };
+    ghost from_gives = { λ _ fault. fault ≡ Memory };
 
     fn from(_: AllocError) -> Fault {
-        Fault::Memory
-    }
-}
-
-impl<T: Drop> From<AllocFailed<T>> for Fault {
-    ghost use Rattle.std.specs.Prelude.{◌≡◌};
-    ghost use Rattle.ecow_script.specs.declared.script.Fault.{Fault};
-
-    ghost from_gives = { λ _ fault. fault ≡ Fault.Memory };
-
-    fn from(_: AllocFailed<T>) -> Fault {
         Fault::Memory
     }
 }
@@ -179,28 +166,20 @@ fn is_comment(kind: &str) -> bool
 
 /// A text up to its first line feed without a carriage return before that, and what stands behind
 /// it.
+#[tactic(auto, using(crate::proofs::Digits::or_all))]
 fn first_line(text: &str) -> (&str, &str)
     requires { 0 < length text.now }
     ensures line { result.0.now ≡ without_return (before_first is_feed text.now) }
     ensures rest { result.1.now ≡ after_first is_feed text.now }
     ensures shorter { length result.1.now < length text.now }
 {
-    let feed = feed_at(text.as_bytes());
+    let feed = first_feed(text.as_bytes()).unwrap_or(text.len());
     let line = without_return(text.split_at(feed).0);
     if feed < text.len() {
         (line, text.split_at(feed + 1).1)
     } else {
         (line, "")
     }
-}
-
-/// How many bytes stand before the first line feed: all where there is none.
-#[tactic(auto, using(crate::proofs::Digits::or_all))]
-fn feed_at(bytes: &[u8]) -> usize
-    ensures value { result ≡ position_or_len is_feed bytes.now }
-    ensures within { result ≤ length bytes.now }
-{
-    first_feed(bytes).unwrap_or(bytes.len())
 }
 
 fn first_feed(bytes: &[u8]) -> Option<usize>

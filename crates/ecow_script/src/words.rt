@@ -1,7 +1,7 @@
 //! The words of a line.
-ghost use Rattle.std.specs.Prelude.{◌≡◌, ◌≤◌, length, []};
+ghost use Rattle.std.specs.Prelude.{◌≡◌, []};
 ghost use Rattle.std.specs.Option.{option_copied};
-ghost use Rattle.std.specs.List.{list_all, position, position_or_len};
+ghost use Rattle.std.specs.List.{list_all, position};
 ghost use Rattle.ecow_script.specs.Words.{is_blank, is_ink, behind_blanks, word_at, behind_word, next_word, argument, count, integer, integers, byte, bytes, bounds, marks, name, numbered, is_name, is_name_byte, Reads, ReadsRef, place};
 
 use crate::lists::{bounds_in, byte_list, integer_list, marks_in};
@@ -196,18 +196,12 @@ pub(crate) fn is_blank(byte: u8) -> bool
 }
 
 /// What is left of a text from its first word on.
+#[tactic(auto, using(crate::proofs::Digits::or_all))]
 fn behind_blanks(text: &str) -> &str
     ensures { result.now ≡ behind_blanks text.now }
 {
-    text.split_at(blanks(text.as_bytes())).1
-}
-
-#[tactic(auto, using(crate::proofs::Digits::or_all))]
-fn blanks(bytes: &[u8]) -> usize
-    ensures value { result ≡ position_or_len is_ink bytes.now }
-    ensures within { result ≤ length bytes.now }
-{
-    first_ink(bytes).unwrap_or(bytes.len())
+    let blanks = first_ink(text.as_bytes()).unwrap_or(text.len());
+    text.split_at(blanks).1
 }
 
 fn first_ink(bytes: &[u8]) -> Option<usize>
@@ -217,19 +211,12 @@ fn first_ink(bytes: &[u8]) -> Option<usize>
 }
 
 /// The word at the front of a text, and what stands behind it.
+#[tactic(auto, using(crate::proofs::Digits::or_all))]
 fn first_word(text: &str) -> (&str, &str)
     ensures word { result.0.now ≡ word_at text.now }
     ensures rest { result.1.now ≡ behind_word text.now }
 {
-    text.split_at(word_len(text.as_bytes()))
-}
-
-#[tactic(auto, using(crate::proofs::Digits::or_all))]
-fn word_len(bytes: &[u8]) -> usize
-    ensures value { result ≡ position_or_len is_blank bytes.now }
-    ensures within { result ≤ length bytes.now }
-{
-    first_blank(bytes).unwrap_or(bytes.len())
+    text.split_at(first_blank(text.as_bytes()).unwrap_or(text.len()))
 }
 
 fn first_blank(bytes: &[u8]) -> Option<usize>

@@ -5,7 +5,8 @@ ghost use Rattle.ecow_script.specs.Commands.{counted_form, store_form};
 ghost use Rattle.ecow_script.specs.Runs.{Answers, CountedAnswers};
 ghost use Rattle.ecow_tool.specs.Programs.{EndsBy, EndsReading, EndsWriting, size_limit};
 ghost use Rattle.ecow_tool.specs.Arguments.{request, is_flag};
-ghost use Rattle.ecow_tool.specs.Ends.{end_text, exit_text, status_after, status_of};
+ghost use Rattle.ecow_tool.specs.declared.program.End.TheVariants.{Memory};
+ghost use Rattle.ecow_tool.specs.Ends.{end_for, end_text, exit_text, status_after, status_of};
 
 use ecow_script::{Fault, Reason, answers_to, counted_answers_to};
 use std::alloc::{AllocError, Global};
@@ -48,10 +49,7 @@ pub enum Exit {
 }
 
 impl From<AllocError> for End {
-    ghost use Rattle.std.specs.Prelude.{◌≡◌};
-    ghost use Rattle.ecow_tool.specs.declared.program.End.{End};
-
-    ghost from_gives = { λ _ end. end ≡ End.Memory };
+    ghost from_gives = { λ _ end. end ≡ Memory };
 
     fn from(_: AllocError) -> End {
         End::Memory
@@ -59,9 +57,6 @@ impl From<AllocError> for End {
 }
 
 impl From<Fault> for End {
-    ghost use Rattle.std.specs.Prelude.{◌≡◌};
-    ghost use Rattle.ecow_tool.specs.Ends.{end_for};
-
     ghost from_gives = { λ fault end. end ≡ end_for fault };
 
     fn from(fault: Fault) -> End {
