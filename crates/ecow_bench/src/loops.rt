@@ -154,16 +154,24 @@ pub(crate) fn extend_few<T: Element>(alloc: Global, items: &[T], count: u64) -> 
     sum
 }
 
-/// Makes a clone, borrows it for writing, exchanges two elements and sorts it.
+/// A clone that is borrowed for writing, with two elements exchanged.
+fn written<T: Element>(list: &EcoVec<T>) -> Option<EcoVec<T>> {
+    let mut copy = cloned(list)?;
+    if let Ok(slice) = copy.make_mut()
+        && slice.len() > 1
+    {
+        slice.swap(0, 1);
+    }
+    Some(copy)
+}
+
+/// Makes a clone, writes to it and sorts it.
 pub(crate) fn sort<T: Element>(alloc: Global, items: &[T], count: u64) -> u64 {
     let list = list_of(alloc, items);
     let mut sum = 0u64;
     for _ in 0..count {
-        if let Some(mut copy) = cloned(&list) {
+        if let Some(mut copy) = written(&list) {
             if let Ok(slice) = copy.make_mut() {
-                if slice.len() > 1 {
-                    slice.swap(0, 1);
-                }
                 slice.sort_unstable();
             }
             sum = sum.wrapping_add(copy.as_slice().last().map_or(0, |item| item.seen()));
@@ -172,17 +180,12 @@ pub(crate) fn sort<T: Element>(alloc: Global, items: &[T], count: u64) -> u64 {
     sum
 }
 
-/// Makes a clone, borrows it for writing and exchanges two elements.
+/// Makes a clone and writes to it.
 pub(crate) fn write<T: Element>(alloc: Global, items: &[T], count: u64) -> u64 {
     let list = list_of(alloc, items);
     let mut sum = 0u64;
     for _ in 0..count {
-        if let Some(mut copy) = cloned(&list) {
-            if let Ok(slice) = copy.make_mut()
-                && slice.len() > 1
-            {
-                slice.swap(0, 1);
-            }
+        if let Some(copy) = written(&list) {
             sum = sum.wrapping_add(copy.as_slice().first().map_or(0, |item| item.seen()));
         }
     }
@@ -204,8 +207,7 @@ pub(crate) fn retain<T: Element>(alloc: Global, items: &[T], count: u64) -> u64 
 /// it that begins at its middle.
 pub(crate) fn splice<T: Element + Copy>(alloc: Global, items: &[T], count: u64) -> u64 {
     let added = &items[items.len() - items.len() / 3..];
-    let start = items.len() / 2;
-    let end = start + items.len() / 4;
+    let (start, end) = quarter(items);
     let mut sum = 0u64;
     for _ in 0..count {
         let mut list = list_of(alloc, items);
@@ -221,10 +223,15 @@ pub(crate) fn splice<T: Element + Copy>(alloc: Global, items: &[T], count: u64) 
     sum
 }
 
+/// Where the quarter of a slice begins and ends that begins at its middle.
+fn quarter<T>(items: &[T]) -> (usize, usize) {
+    let start = items.len() / 2;
+    (start, start + items.len() / 4)
+}
+
 /// Fills a vector from the slice, and takes the quarter out that begins at its middle.
 pub(crate) fn drain<T: Element>(alloc: Global, items: &[T], count: u64) -> u64 {
-    let start = items.len() / 2;
-    let end = start + items.len() / 4;
+    let (start, end) = quarter(items);
     let mut sum = 0u64;
     for _ in 0..count {
         let mut list = list_of(alloc, items);

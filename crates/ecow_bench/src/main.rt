@@ -156,7 +156,8 @@ fn numbers(alloc: Global, length: usize) -> Result<Vec<u64>, AllocError> {
     Ok(numbers)
 }
 
-/// What a loop saw, or 0 where there is no such call.
+/// What a loop saw, or 0 where there is no such call. All loops on lists are for numbers, and some
+/// for other elements.
 fn sum(
     alloc: Global,
     call: &str,
@@ -172,7 +173,35 @@ fn sum(
         let text = prose(alloc, numbers)?;
         return Ok(sum_of_texts(alloc, call, text.as_str(), count));
     }
-    sum_of_lists(alloc, call, element, numbers, count)
+    Ok(match element {
+        "u8" => sum_of_copies::<u8>(alloc, call, elements_of(alloc, numbers)?.as_slice(), count),
+        "u64" => sum_of_numbers(alloc, call, numbers, count),
+        "[u64;3]" => sum_of_copies::<[u64; 3]>(
+            alloc,
+            call,
+            elements_of(alloc, numbers)?.as_slice(),
+            count,
+        ),
+        "[u64;8]" => sum_of_copies::<[u64; 8]>(
+            alloc,
+            call,
+            elements_of(alloc, numbers)?.as_slice(),
+            count,
+        ),
+        "vector" => sum_of_items::<EcoVec<u64>>(
+            alloc,
+            call,
+            elements_of(alloc, numbers)?.as_slice(),
+            count,
+        ),
+        "String" => sum_of_items::<String>(
+            alloc,
+            call,
+            elements_of(alloc, numbers)?.as_slice(),
+            count,
+        ),
+        _ => 0,
+    })
 }
 
 /// As many lower case letters as there are numbers.
@@ -237,46 +266,6 @@ fn elements_of<T: Element>(alloc: Global, numbers: &[u64]) -> Result<Vec<T>, All
         items.push(T::from_number(alloc, *number)?)?;
     }
     Ok(items)
-}
-
-/// What a loop on a list of some element saw. All loops are for numbers, and some for other
-/// elements.
-fn sum_of_lists(
-    alloc: Global,
-    call: &str,
-    element: &str,
-    numbers: &[u64],
-    count: u64,
-) -> Result<u64, AllocError> {
-    Ok(match element {
-        "u8" => sum_of_copies::<u8>(alloc, call, elements_of(alloc, numbers)?.as_slice(), count),
-        "u64" => sum_of_numbers(alloc, call, numbers, count),
-        "[u64;3]" => sum_of_copies::<[u64; 3]>(
-            alloc,
-            call,
-            elements_of(alloc, numbers)?.as_slice(),
-            count,
-        ),
-        "[u64;8]" => sum_of_copies::<[u64; 8]>(
-            alloc,
-            call,
-            elements_of(alloc, numbers)?.as_slice(),
-            count,
-        ),
-        "vector" => sum_of_items::<EcoVec<u64>>(
-            alloc,
-            call,
-            elements_of(alloc, numbers)?.as_slice(),
-            count,
-        ),
-        "String" => sum_of_items::<String>(
-            alloc,
-            call,
-            elements_of(alloc, numbers)?.as_slice(),
-            count,
-        ),
-        _ => 0,
-    })
 }
 
 fn sum_of_numbers(alloc: Global, call: &str, numbers: &[u64], count: u64) -> u64 {
