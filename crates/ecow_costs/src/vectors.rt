@@ -105,14 +105,13 @@ fn loan(list: &mut EcoVec<Counting>) -> Result<(), EcoError> {
 }
 
 fn own_loan(list: &mut EcoVec<Counting>) -> Result<(), EcoError> {
-    match list.own_mut() {
-        Ok(block) => {
-            block.as_mut_slice().reverse();
-            Ok(())
-        }
-        Err(Some(error)) => Err(error),
-        Err(None) => Ok(()),
-    }
+    let block = match list.own_mut() {
+        Ok(block) => block,
+        Err(Some(error)) => return Err(error),
+        Err(None) => return Ok(()),
+    };
+    block.as_mut_slice().reverse();
+    Ok(())
 }
 
 /// Where the elements begin and end that are taken out of so many: none, a few, or most of 1000.

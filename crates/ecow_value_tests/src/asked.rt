@@ -77,19 +77,14 @@ fn spliced(list: &mut EcoVec<i64>, items: &mut Asked<i64>) -> Result<(), EcoErro
     list.splice(1..2, items).map(drop)
 }
 
-fn collected(alloc: Global, items: &mut Asked<i64>) -> Result<EcoVec<i64>, EcoError> {
-    let value = items.collect(alloc)?;
-    Ok(value)
-}
-
 /// The number of elements of the vector: those of the items, and 1, 2 and 3 before.
 fn len_of_vector(way: Way, alloc: Global, items: &mut Asked<i64>) -> Result<usize, EcoError> {
     let mut list = EcoVec::from_slice(alloc, &[1, 2, 3])?;
     match way {
         Way::Extend => list.extend(items)?,
         Way::Splice => spliced(&mut list, items)?,
-        Way::FromIter => return Ok(EcoVec::from_iter(alloc, items)?.len()),
-        Way::Collect => return Ok(collected(alloc, items)?.len()),
+        Way::FromIter => list = EcoVec::from_iter(alloc, items)?,
+        Way::Collect => list = items.collect(alloc)?,
     }
     Ok(list.len())
 }
@@ -112,20 +107,21 @@ fn vectors_ask_for_each_item_and_the_end(rt: HostRuntime) -> Result<(), Fail> {
     Ok(())
 }
 
-fn bytes_collected(alloc: Global, items: &mut Asked<u8>) -> Result<EcoBytes, EcoError> {
-    let value = items.collect(alloc)?;
-    Ok(value)
+/// The number of bytes of the value that comes of the items.
+macro_rules! len_of {
+    ($value:ident, $from:ident, $extend:ident, $way:ident, $alloc:ident, $items:ident) => {{
+        let mut value = $value::new($alloc);
+        match $way {
+            Way::FromIter => value = $value::$from($alloc, $items)?,
+            Way::Collect => value = $items.collect($alloc)?,
+            Way::Extend | Way::Splice => value.$extend($items)?,
+        }
+        Ok(value.len())
+    }};
 }
 
-/// The number of bytes that come of the items.
 fn len_of_bytes(way: Way, alloc: Global, items: &mut Asked<u8>) -> Result<usize, EcoError> {
-    let mut bytes = EcoBytes::new(alloc);
-    match way {
-        Way::FromIter => bytes = EcoBytes::from_iter(alloc, items)?,
-        Way::Collect => bytes = bytes_collected(alloc, items)?,
-        Way::Extend | Way::Splice => bytes.extend(items)?,
-    }
-    Ok(bytes.len())
+    len_of!(EcoBytes, from_iter, extend, way, alloc, items)
 }
 
 #[test]
@@ -144,40 +140,16 @@ fn bytes_ask_for_each_item_and_the_end(rt: HostRuntime) -> Result<(), Fail> {
     Ok(())
 }
 
-fn chars_collected(alloc: Global, items: &mut Asked<char>) -> Result<EcoString, EcoError> {
-    let value = items.collect(alloc)?;
-    Ok(value)
-}
-
-/// The number of bytes of the text that comes of characters.
 fn len_of_chars(way: Way, alloc: Global, items: &mut Asked<char>) -> Result<usize, EcoError> {
-    let mut text = EcoString::new(alloc);
-    match way {
-        Way::FromIter => text = EcoString::from_chars(alloc, items)?,
-        Way::Collect => text = chars_collected(alloc, items)?,
-        Way::Extend | Way::Splice => text.extend_chars(items)?,
-    }
-    Ok(text.len())
+    len_of!(EcoString, from_chars, extend_chars, way, alloc, items)
 }
 
-fn strs_collected(alloc: Global, items: &mut Asked<&'static str>) -> Result<EcoString, EcoError> {
-    let value = items.collect(alloc)?;
-    Ok(value)
-}
-
-/// The number of bytes of the text that comes of `str`s.
 fn len_of_strs(
     way: Way,
     alloc: Global,
     items: &mut Asked<&'static str>,
 ) -> Result<usize, EcoError> {
-    let mut text = EcoString::new(alloc);
-    match way {
-        Way::FromIter => text = EcoString::from_strs(alloc, items)?,
-        Way::Collect => text = strs_collected(alloc, items)?,
-        Way::Extend | Way::Splice => text.extend_strs(items)?,
-    }
-    Ok(text.len())
+    len_of!(EcoString, from_strs, extend_strs, way, alloc, items)
 }
 
 /// Whether characters of two bytes each are asked for once, and for the end.
@@ -205,11 +177,6 @@ fn texts_ask_for_each_item_and_the_end(rt: HostRuntime) -> Result<(), Fail> {
     Ok(())
 }
 
-fn texts_collected(alloc: Global, items: &mut Asked<EcoString>) -> Result<EcoString, EcoError> {
-    let value = items.collect(alloc)?;
-    Ok(value)
-}
-
 /// Whether texts of two bytes each ask for each and the end.
 fn joins_once(alloc: Global, two: &EcoString, n: usize) -> Result<bool, EcoError> {
     let mut items = several(alloc, two, n)?;
@@ -220,7 +187,8 @@ fn joins_once(alloc: Global, two: &EcoString, n: usize) -> Result<bool, EcoError
 /// Whether `collect` of them does.
 fn collects_once(alloc: Global, two: &EcoString, n: usize) -> Result<bool, EcoError> {
     let mut items = several(alloc, two, n)?;
-    let joined = texts_collected(alloc, &mut items)?;
+    let iter = &mut items;
+    let joined: EcoString = iter.collect(alloc)?;
     Ok(joined.len() == n.wrapping_mul(2) && items.was_asked(n.wrapping_add(1)))
 }
 
@@ -338,14 +306,13 @@ fn lend_the_second(list: &mut EcoVec<Counting>, tally: &Tally) -> Result<(u64, u
 
 #[test]
 fn update_calls_its_closure_once_and_after_the_copy(rt: HostRuntime) -> Result<(), Fail> {
-    for is_shared in [false, true] {
+    for (is_shared, clones) in [(false, 0), (true, 3)] {
         let tally = Tally::new(rt.alloc())?;
         let mut list = tally.list(rt.alloc(), 3)?;
         let mut _twin = EcoVec::new(rt.alloc());
         if is_shared {
             _twin = shared(&list)?;
         }
-        let clones = if is_shared { 3 } else { 0 };
         assert_eq!(rt; lend_the_second(&mut list, &tally)?, (1, clones));
         assert!(rt; tally.has(clones, 0) && is_unique(&mut list));
     }
