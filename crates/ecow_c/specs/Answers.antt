@@ -80,10 +80,6 @@ pub record ReadsTo {X A : Type 0} (read : X → Option A) (old : Option X) (stat
 abbrev pub RefusesPast : {X : Type 0} → (X → ℕ) → Option X → ℕ → Type 0
 RefusesPast needed old status = status ≡ CAPACITY ↔ IsSomeAnd old (λ x. MAX_LEN < needed x)
 
--- the status is CAPACITY only where that length passes the limit
-abbrev pub RefusesOnlyPast : {X : Type 0} → (X → ℕ) → Option X → ℕ → Type 0
-RefusesOnlyPast needed old status = status ≡ CAPACITY → IsSomeAnd old (λ x. MAX_LEN < needed x)
-
 -- both values are there, and P holds of them
 abbrev pub AreBothAnd : {X Y : Type 0} → Option X → Option Y → (X → Y → Type 0) → Type 0
 AreBothAnd old other P = IsSomeAnd old (λ x. IsSomeAnd other (λ y. P x y))

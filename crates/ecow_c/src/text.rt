@@ -8,7 +8,7 @@ ghost use Rattle.std.specs.StrCase.Lower.{str_to_lowercase};
 ghost use Rattle.std.specs.StrCase.Upper.{str_to_uppercase};
 ghost use Rattle.ecow_values.specs.Replaced.{replace_all};
 ghost use Rattle.ecow_values.specs.Utf8.{utf8_len, is_boundary, chars_before};
-ghost use Rattle.ecow_c.specs.Answers.{Alters, AltersText, IsAmong, Reads, RefusesOnlyPast, RefusesPast, Writes};
+ghost use Rattle.ecow_c.specs.Answers.{Alters, AltersText, IsAmong, Reads, RefusesPast, Writes};
 ghost use Rattle.ecow_c.specs.Indices.{Heeds, IsInside, index_status, range_status};
 ghost use Rattle.ecow_c.specs.Texts.{char_from};
 
@@ -255,10 +255,7 @@ pub extern "C" fn ecow_proved_text_splice(
 pub extern "C" fn ecow_proved_text_to_lowercase(pointer: &mut TextPointer) -> u32
     ensures text { Alters (λ text. encode_utf8_all text.chars) str_to_lowercase
         pointer.old.value result pointer.new.value }
-    ensures statuses { IsAmong (OK ∷ MEMORY ∷ CAPACITY ∷ NULL ∷ []) result }
-    ensures capacity { RefusesOnlyPast
-        (λ text. length (str_to_lowercase (encode_utf8_all text.chars)))
-        pointer.old.value result }
+    ensures statuses { IsAmong (OK ∷ MEMORY ∷ NULL ∷ []) result }
 {
     let text = some_or!(pointer.text(), NULL);
     put(text.to_lowercase(), text)
@@ -269,10 +266,7 @@ pub extern "C" fn ecow_proved_text_to_lowercase(pointer: &mut TextPointer) -> u3
 pub extern "C" fn ecow_proved_text_to_uppercase(pointer: &mut TextPointer) -> u32
     ensures text { Alters (λ text. encode_utf8_all text.chars) str_to_uppercase
         pointer.old.value result pointer.new.value }
-    ensures statuses { IsAmong (OK ∷ MEMORY ∷ CAPACITY ∷ NULL ∷ []) result }
-    ensures capacity { RefusesOnlyPast
-        (λ text. length (str_to_uppercase (encode_utf8_all text.chars)))
-        pointer.old.value result }
+    ensures statuses { IsAmong (OK ∷ MEMORY ∷ NULL ∷ []) result }
 {
     let text = some_or!(pointer.text(), NULL);
     put(text.to_uppercase(), text)

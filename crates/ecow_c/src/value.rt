@@ -1,6 +1,6 @@
 //! The calls on nested values: their kinds, what each kind holds, and fields. A value goes in and
 //! out as a clone, which shares its memory.
-ghost use Rattle.std.specs.Prelude.{◌≡◌, ◌↔◌, ◌≤◌, ◌<◌, ◌⊎◌, ◌∷◌, [], length, false, None, Some, IsSomeAnd};
+ghost use Rattle.std.specs.Prelude.{◌≡◌, ◌↔◌, ◌≤◌, ◌∷◌, [], length, false, None, Some, IsSomeAnd};
 ghost use Rattle.std.specs.Option.{option_map};
 ghost use Rattle.std.specs.Str.{is_utf8};
 ghost use Rattle.ecow_nested.specs.Values.{truth_of, number_of, real_of, text_of, items_of, fields_of, with_field, without_field};
@@ -12,7 +12,6 @@ use crate::status::{
     CAPACITY, INDEX, IntoStatus, KIND, MEMORY, NULL, OK, UTF8, ok_or_status, put, some_or, status,
 };
 use crate::text::to_str;
-use ecow_base::MAX_LEN;
 use ecow_nested::{Kind, Value};
 use ecow_vec::EcoVec;
 use std::alloc::Global;
@@ -201,14 +200,11 @@ pub extern "C" fn ecow_proved_value_set_field(
     ensures item { item.new.value ≡ item.old.value }
 
     // When each status is answered.
-    ensures statuses { IsAmong (OK ∷ MEMORY ∷ CAPACITY ∷ UTF8 ∷ KIND ∷ NULL ∷ []) result }
+    ensures statuses { IsAmong (OK ∷ MEMORY ∷ UTF8 ∷ KIND ∷ NULL ∷ []) result }
     ensures utf8 { result ≡ UTF8
         ↔ AreBothAnd pointer.old.value item.old.value (λ _ _. is_utf8 name.now ≡ false) }
     ensures kind { result ≡ KIND
         ↔ AreBothAnd pointer.old.value item.old.value (λ value _. HasNoFields name.now value) }
-    ensures capacity { result ≡ CAPACITY → IsSomeAnd pointer.old.value
-        (λ value. IsSomeAnd (fields_of value)
-        (λ fields. (MAX_LEN ≤ length fields) ⊎ (MAX_LEN < length name.now))) }
 {
     let value = some_or!(pointer.value(), NULL);
     let item = some_or!(item.value(), NULL);

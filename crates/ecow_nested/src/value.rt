@@ -68,9 +68,10 @@ impl Clone for Field {
     ghost is_clone = { λ field copy. copy ≡ field };
 
     fn clone(&self) -> Result<Self, AllocError> {
-        let name = self.name.clone()?;
-        let value = self.value.clone()?;
-        Ok(Field { name, value })
+        Ok(Field {
+            name: self.name.clone()?,
+            value: self.value.clone()?,
+        })
     }
 }
 

@@ -1,5 +1,5 @@
 -- What a call answers that makes a text.
-use Rattle.std.specs.Prelude.{◌≡◌, ◌<◌, ◌≤◌, ◌↔◌, ℕ, Bool, false, List, map, length, Result, IfOk, IfErr, IsOk, OnErr, IsErrOf}
+use Rattle.std.specs.Prelude.{◌≡◌, ◌<◌, ◌≤◌, ◌↔◌, ℕ, Bool, false, List, map, Result, IfOk, IfErr, IsOk, OnErr, IsErrOf}
 use Rattle.std.specs.Str.{encode_utf8_all, IsAscii}
 use Rattle.ecow_base.specs.declared.capacity.TheConstants.{MAX_LEN}
 use Rattle.ecow_values.specs.Inline.{inline_for}
@@ -27,7 +27,7 @@ pub record MakesTextIn (inline : Bool) (cs : List ℕ) (result : Result PlainTex
     pub memory : IfErr result (λ error. error ≡ Memory)
 
 -- the characters cs in one case, as std's `str` has them; in ASCII the letters alone are mapped. It
--- is inline where it fits, which is never refused of ASCII
+-- is inline where it fits, which is never refused of ASCII, and else refused for memory alone
 pub record MakesCased (limit : ℕ) (case : Case) (cs : List ℕ) (result : Result PlainText EcoError)
     : Type 0 where
   pub bytes : IfOk result
@@ -35,8 +35,5 @@ pub record MakesCased (limit : ℕ) (case : Case) (cs : List ℕ) (result : Resu
   pub ascii : IsAscii (encode_utf8_all cs)
       → IfOk result (λ text. text.chars ≡ map (in_case case) cs)
   pub mode : IfOk result (λ text. text.inline ≡ inline_for limit (utf8_len text.chars))
-  -- it is for capacity only where std's text passes the greatest length, and for memory in ASCII
-  pub capacity : IsErrOf result Capacity
-      → MAX_LEN < length (str_in_case case (encode_utf8_all cs))
-  pub ascii_memory : IsAscii (encode_utf8_all cs) → IfErr result (λ error. error ≡ Memory)
+  pub memory : IfErr result (λ error. error ≡ Memory)
   pub free : IsAscii (encode_utf8_all cs) → utf8_len cs ≤ limit → IsOk result

@@ -1,10 +1,9 @@
 //! Fields by name. A refusal changes nothing.
-ghost use Rattle.std.specs.Prelude.{◌≡◌, ◌+◌, ◌<◌, ◌≤◌, ◌↔◌, ◌⊎◌, [], ◌∷◌, None, Some, length, position, slice_get, IfOk, IfSome, OnOk, OnErr, IsErrOf, IsSomeAnd, MatchOption};
+ghost use Rattle.std.specs.Prelude.{◌≡◌, ◌↔◌, [], ◌∷◌, None, Some, position, IfOk, IfSome, OnOk, OnErr, IsErrOf, IsSomeAnd, MatchOption};
 ghost use Rattle.ecow_nested.specs.Values.{fields_of, has_name, look_up, with_field, without_field, EditsFields, IsErrAmong};
 
 use crate::refusal::Refusal;
 use crate::value::{Field, Value};
-use ecow_base::MAX_LEN;
 use ecow_string::EcoString;
 use ecow_vec::EcoVec;
 
@@ -31,9 +30,7 @@ fn find<'a>(fields: &'a [Field], name: &str) -> Option<&'a Value>
 fn put(fields: &mut EcoVec<Field>, name: &str, value: Value) -> Result<(), Refusal>
     ensures ok { OnOk result (fields.new ≡ with_field name.now value fields.old) }
     ensures unchanged { OnErr result (fields.new ≡ fields.old) }
-    ensures capacity { IsErrOf result Refusal.Capacity → (MAX_LEN ≤ length fields.old)
-        ⊎ (MAX_LEN < length name.now) }
-    ensures codes { IsErrAmong (Refusal.Capacity ∷ Refusal.Memory ∷ []) result }
+    ensures codes { IsErrAmong (Refusal.Memory ∷ []) result }
 {
     match place(fields.as_slice(), name) {
         Some(at) => {
@@ -85,12 +82,11 @@ impl Value {
     }
 
     /// Puts `value` in place of the value of the first field of that name, or appends a field where
-    /// there is none.
+    /// there is none. It never answers `Capacity`: memory holds no name and no fields past the
+    /// greatest length.
     pub fn set_field(&mut self, name: &str, value: Value) -> Result<(), Refusal>
         ensures change { EditsFields (with_field name.now value) self.old result self.new }
-        ensures capacity { IsErrOf result Refusal.Capacity → IsSomeAnd (fields_of self.old)
-            (λ fields. (MAX_LEN ≤ length fields) ⊎ (MAX_LEN < length name.now)) }
-        ensures codes { IsErrAmong (Refusal.Kind ∷ Refusal.Capacity ∷ Refusal.Memory ∷ []) result }
+        ensures codes { IsErrAmong (Refusal.Kind ∷ Refusal.Memory ∷ []) result }
     {
         match self {
             Value::Fields(fields) => put(fields, name, value),

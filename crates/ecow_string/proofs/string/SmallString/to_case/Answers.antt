@@ -19,8 +19,7 @@ returns-then-is_ascii g c =
       mode =
           rw (mapped, len-in_case c.args.case c.args.self.now.chars)
           (c.in_ok-make_ascii.ensures.mode.mode ∙ c.in_ok-ascii.ensures.mode ∙ ap (inline_for g.row.N) c.len.ensures.len);
-      capacity = search rules;
-      ascii_memory = search rules;
+      memory = search rules;
       free = search rules;
     }
 
@@ -32,7 +31,6 @@ returns g c = record {
       (encodes-chars _ c.as_str.utf8 ∙ c.as_str.ensures.value ∙ c.in_ok-cased.ensures ∙ ap (str_in_case c.args.case) c.as_str-text.ensures.bytes);
   ascii = search rules;
   mode = rw c.in_ok-target.ensures.chars (c.in_ok-target.ensures.mode ∙ ap (inline_for g.row.N) (sym (utf8_len-chars _ c.as_str.utf8)));
-  capacity = search rules;
-  ascii_memory = search rules;
+  memory = search rules;
   free = search rules;
 }
