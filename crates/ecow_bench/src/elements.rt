@@ -53,10 +53,7 @@ impl Element for [u64; 8] {
 
 impl Element for EcoVec<u64> {
     fn from_number(alloc: Global, number: u64) -> Result<Self, AllocError> {
-        match EcoVec::from_slice(alloc, &[number]) {
-            Ok(list) => Ok(list),
-            Err(_) => Err(AllocError),
-        }
+        EcoVec::from_slice(alloc, &[number]).map_err(|_| AllocError)
     }
 
     fn seen(&self) -> u64 {

@@ -57,9 +57,6 @@ impl<const N: usize> FromIterator<u8> for SmallBytes<N> {
         × (b.inline ≡ inline_for N (length items)) };
 
     fn from_iter<I: IntoIterator<Item = u8>>(alloc: Global, iter: I) -> Result<Self, AllocError> {
-        match SmallBytes::from_iter(alloc, iter) {
-            Ok(target) => Ok(target),
-            Err(_) => Err(AllocError),
-        }
+        SmallBytes::from_iter(alloc, iter).map_err(|_| AllocError)
     }
 }

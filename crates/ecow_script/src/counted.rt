@@ -26,10 +26,7 @@ impl NamedStore<VecCommand<i64>> for Counted<i64> {
         ensures { IfOk result
             (λ outcomes. CountedRuns self.old commands.items outcomes.items self.new) }
     {
-        match Counted::run(self, commands) {
-            Ok(outcomes) => Ok(outcomes),
-            Err(_) => Err(AllocError),
-        }
+        Counted::run(self, commands).map_err(|_| AllocError)
     }
 }
 

@@ -25,10 +25,7 @@ impl NamedStore<Command<i64>> for Store<i64> {
         ensures { IfOk result
             (λ outcomes. Run 15 self.old commands.items outcomes.items self.new) }
     {
-        match Store::run(self, commands) {
-            Ok(outcomes) => Ok(outcomes),
-            Err(_) => Err(AllocError),
-        }
+        Store::run(self, commands).map_err(|_| AllocError)
     }
 }
 

@@ -48,10 +48,7 @@ impl<const N: usize> FromIterator<char> for SmallString<N> {
         × (text.inline ≡ inline_for N (utf8_len items)) };
 
     fn from_iter<I: IntoIterator<Item = char>>(alloc: Global, iter: I) -> Result<Self, AllocError> {
-        match SmallString::from_chars(alloc, iter) {
-            Ok(text) => Ok(text),
-            Err(_) => Err(AllocError),
-        }
+        SmallString::from_chars(alloc, iter).map_err(|_| AllocError)
     }
 }
 
@@ -67,10 +64,7 @@ impl<'a, const N: usize> FromIterator<&'a str> for SmallString<N> {
         alloc: Global,
         iter: I,
     ) -> Result<Self, AllocError> {
-        match SmallString::from_strs(alloc, iter) {
-            Ok(target) => Ok(target),
-            Err(_) => Err(AllocError),
-        }
+        SmallString::from_strs(alloc, iter).map_err(|_| AllocError)
     }
 }
 
@@ -86,9 +80,6 @@ impl<const N: usize> FromIterator<SmallString<N>> for SmallString<N> {
         alloc: Global,
         iter: I,
     ) -> Result<Self, AllocError> {
-        match SmallString::from_eco_strings(alloc, iter) {
-            Ok(target) => Ok(target),
-            Err(_) => Err(AllocError),
-        }
+        SmallString::from_eco_strings(alloc, iter).map_err(|_| AllocError)
     }
 }

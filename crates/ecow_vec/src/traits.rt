@@ -55,10 +55,7 @@ impl<T: Drop> FromIterator<T> for EcoVec<T> {
     ghost from_iter_gives = { λ items v. v ≡ items };
 
     fn from_iter<I: IntoIterator<Item = T>>(alloc: Global, iter: I) -> Result<Self, AllocError> {
-        match EcoVec::from_iter(alloc, iter) {
-            Ok(vec) => Ok(vec),
-            Err(_) => Err(AllocError),
-        }
+        EcoVec::from_iter(alloc, iter).map_err(|_| AllocError)
     }
 }
 
