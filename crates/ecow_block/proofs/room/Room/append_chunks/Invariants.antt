@@ -6,7 +6,8 @@ use Rattle.ecow_block.proofs.room.Room.append_chunks.Given as goal
 abbrev pub invariant-loop-chunk : goal.invariant-loop-chunk
 invariant-loop-chunk g l =
     (l.count ≤ length l.elements) × (l.rest ≡ drop l.count l.elements) × SamePlaces l.fn.self l.self
-    × (length l.self.items ≡ length l.fn.self.items + l.count) × (take (length l.fn.self.items) l.self.items ≡ l.fn.self.items)
+    × (length l.self.items ≡ length l.fn.self.items + l.count)
+    × (take (length l.fn.self.items) l.self.items ≡ l.fn.self.items)
     × AppendsClones g.T.Clone.is_clone l.fn.self.items (take l.count l.elements) l.self.items
 
 abbrev pub decreases-loop-chunk : goal.decreases-loop-chunk

@@ -5,7 +5,8 @@ use Rattle.ecow_block.proofs.room.Room.append_each.Given as goal
 
 abbrev pub invariant-loop-count : goal.invariant-loop-count
 invariant-loop-count g l =
-    (l.count ≤ length l.elements) × SamePlaces l.fn.self l.self × (length l.self.items ≡ length l.fn.self.items + l.count)
+    (l.count ≤ length l.elements) × SamePlaces l.fn.self l.self
+    × (length l.self.items ≡ length l.fn.self.items + l.count)
     × (take (length l.fn.self.items) l.self.items ≡ l.fn.self.items)
     × AppendsClones g.T.Clone.is_clone l.fn.self.items (take l.count l.elements) l.self.items
 

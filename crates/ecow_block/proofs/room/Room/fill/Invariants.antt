@@ -4,7 +4,8 @@ use Rattle.ecow_block.proofs.room.Room.fill.Given as goal
 
 abbrev pub invariant-loop-item : goal.invariant-loop-item
 invariant-loop-item g l =
-    (l.elements.items ++ l.moved.items ≡ l.fn.elements.items) × (l.self.items ≡ []) × (l.self.at ≡ l.fn.self.at)
+    (l.elements.items ++ l.moved.items ≡ l.fn.elements.items) × (l.self.items ≡ [])
+    × (l.self.at ≡ l.fn.self.at)
     × (l.self.start ≡ l.fn.self.start) × (l.self.capacity ≡ vec_len l.elements)
     × Follows l.self l.moved × (l.self.capacity + l.moved.capacity ≡ l.fn.self.capacity)
 
