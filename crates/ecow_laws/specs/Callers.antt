@@ -19,7 +19,8 @@ LeavesName (Ask name question) q = Unit {0}
 
 -- commands on lists, by the values before, the command, its outcome and the values after; and what
 -- a name reads as among some values
-module _ {T S R : Type 0} (Step : S → VecCommand T → Outcome T → S → Type 0) (read : S → ℕ → R) where
+module _ {T S R : Type 0} (Step : S → VecCommand T → Outcome T → S → Type 0)
+    (read : S → ℕ → R) where
   -- a fork reads as its source did
   abbrev pub ForksRead : Type 0
   ForksRead =
