@@ -26,8 +26,8 @@ pub record MakesTextIn (inline : Bool) (cs : List ℕ) (result : Result PlainTex
     pub free : OnErr result (inline ≡ false)
     pub memory : IfErr result (λ error. error ≡ Memory)
 
--- the characters cs in one case, as std's `str` has them; in ASCII the letters alone are mapped. It
--- is inline where it fits, which is never refused of ASCII, and else refused for memory alone
+-- the characters cs in one case, as std's `str` has them; in ASCII the letters alone are mapped.
+-- It is inline where it fits. A refusal is for memory alone; ASCII that fits is never refused.
 pub record MakesCased (limit : ℕ) (case : Case) (cs : List ℕ) (result : Result PlainText EcoError)
     : Type 0 where
   pub bytes : IfOk result

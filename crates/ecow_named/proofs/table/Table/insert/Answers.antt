@@ -14,14 +14,18 @@ pub returns-in_err-reach-clause-countable : goal.returns-in_err-reach-clause-cou
 returns-in_err-reach-clause-countable g c =
     let slots = c.self.inside.slots.items in
     let es = c.self.inside.others.entries in
-    few-kept c.args.self.now _ (few-values slots es c.args.self.now c.len-others.result c.self.view_is c.len-others.ensures.len c.len-others.ensures.small)
+    few-kept c.args.self.now _
+    (few-values slots es c.args.self.now c.len-others.result c.self.view_is
+    c.len-others.ensures.len c.len-others.ensures.small)
     (c.reach.ensures.kept es ∙ c.self.view_is)
 
 pub returns-in_err-insert-clause-countable : goal.returns-in_err-insert-clause-countable
 returns-in_err-insert-clause-countable g c =
     let slots = c.self.inside.slots.items in
     let es = c.self.inside.others.entries in
-    few-kept c.args.self.now _ (few-values slots es c.args.self.now c.len-others.result c.self.view_is c.len-others.ensures.len c.len-others.ensures.small)
+    few-kept c.args.self.now _
+    (few-values slots es c.args.self.now c.len-others.result c.self.view_is
+    c.len-others.ensures.len c.len-others.ensures.small)
     (ap (values_of slots) c.in_err-insert.ensures.err ∙ c.self.view_is)
 
 pub returns-in_ok-reach-clause-ok : goal.returns-in_ok-reach-clause-ok

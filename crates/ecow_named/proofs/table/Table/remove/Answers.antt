@@ -37,10 +37,13 @@ returns-in_err-get_mut-clause-removed g c =
 
 pub returns-else-name-lt-SLOTS-clause-value : goal.returns-else-name-lt-SLOTS-clause-value
 returns-else-name-lt-SLOTS-clause-value g c =
-    c.remove.ensures.value ∙ sym (get-entry c.self.inside.slots.items c.self.inside.others.entries c.args.name c.if-name-lt-SLOTS.false)
+    c.remove.ensures.value
+    ∙ sym (get-entry c.self.inside.slots.items c.self.inside.others.entries c.args.name
+    c.if-name-lt-SLOTS.false)
     ∙ ap (λ m. map.get m c.args.name) c.self.view_is
 
 pub returns-else-name-lt-SLOTS-clause-removed : goal.returns-else-name-lt-SLOTS-clause-removed
 returns-else-name-lt-SLOTS-clause-removed g c =
     cut-entry c.self.inside.slots.items c.self.inside.others.entries c.args.name c.if-name-lt-SLOTS.false
-    c.remove.new.self.entries c.remove.ensures.updates.0 ∙ ap (λ m. map.remove m c.args.name) c.self.view_is
+    c.remove.new.self.entries c.remove.ensures.updates.0
+    ∙ ap (λ m. map.remove m c.args.name) c.self.view_is
