@@ -1,4 +1,4 @@
-# Prints a row for each call and each state of the rows of docs/COSTS.md: a row of several says the same of each.
+# Prints a row for each call and each state of the tables of costs: a row of several says the same of each.
 # A cell of several parts, "5; 1000", says another thing of each: of few elements and of 1000, or of the limits
 # that the state names. What bytes and texts cost of 1000 they cost at each limit. A row without calls is of those
 # in the row above. A table without states has calls that make something of nothing. An empty cell is 0.
@@ -22,7 +22,7 @@ function print_rows(state, part,    i, j, cell, value, front, after, back) {
     for (i = 1; i <= calls; i++) print "| `" call[i] "` | " state front " | " twin(call[i], state, after) back " |"
 }
 
-/^## / { is_small = /Bytes|Texts/ }
+/^#/ { is_small = /Bytes|Texts/ }
 
 /^[|]/ { gsub(/^[|] *| *[|]$/, "") }
 

@@ -1,7 +1,7 @@
 #!/bin/sh
-# Compares docs/COSTS.md with crates/ecow_costs: its rows without the last column with what the program is
-# to print, and whole rows with what PROGRAM, the program built, costs while its requests for memory are
-# counted. Says what differs, and whether memory isn't given back.
+# Compares the tables of costs, docs/COSTS.md and those in crates/ecow_costs: their rows without the last column
+# with what that crate's program is to print, and whole rows with what PROGRAM, the program built, costs while
+# its requests for memory are counted. Says what differs, and whether memory isn't given back.
 # usage: tools/costs.sh PROGRAM
 set -eu
 program=$(realpath "$1")
@@ -10,10 +10,10 @@ work=$(mktemp -d)
 trap 'rm -r "$work"' EXIT
 export LC_ALL=C
 
-awk -f tools/costs.awk docs/COSTS.md | sort > "$work/said"
+awk -f tools/costs.awk docs/COSTS.md crates/ecow_costs/*.md | sort > "$work/said"
 sed 's/ [^|]* |$//' "$work/said" | sort > "$work/said_of_all_but_requests"
 sort crates/ecow_costs/stdout | diff "$work/said_of_all_but_requests" - > "$work/apart" || {
-    echo "docs/COSTS.md (<) and crates/ecow_costs/stdout (>) differ:"
+    echo "The tables of costs (<) and crates/ecow_costs/stdout (>) differ:"
     cat "$work/apart"
     exit 1
 }
@@ -27,8 +27,8 @@ if [ "$(wc -l < "$work/rows")" -ne "$(wc -l < "$work/counts")" ]; then
 fi
 paste -d ' ' "$work/rows" "$work/counts" | sed 's/$/ |/' | sort > "$work/counted"
 diff "$work/said" "$work/counted" > "$work/apart" || {
-    echo "docs/COSTS.md (<) and what was counted (>) differ:"
+    echo "The tables of costs (<) and what was counted (>) differ:"
     cat "$work/apart"
     exit 1
 }
-echo "$(wc -l < "$work/counted") costs are as docs/COSTS.md says"
+echo "$(wc -l < "$work/counted") costs are as their tables say"

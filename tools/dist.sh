@@ -31,8 +31,8 @@ while read -r file; do
     cp "$file" "$to/$file"
 done < "$work/files"
 cp LICENSE-APACHE LICENSE-MIT VERSION CHANGELOG.md "$to"
-# It stands above the pages there, and in docs/ beside their folders here.
-sed 's|](\.\./|](|g' docs/INSTALL.md > "$to/README.md"
+# It stands above the pages there, and beside those for C here.
+sed 's|](\.\./|](|g' c/INSTALL.md > "$to/README.md"
 find "$to" -type d -exec chmod 755 {} +
 find "$to" -type f -exec chmod 644 {} +
 tar --sort=name --mtime='2000-01-01 00:00Z' --owner=0 --group=0 --numeric-owner --format=ustar \
