@@ -62,8 +62,8 @@ extern "C" {
  * of the same sizes. */
 #define ECOW_VERSION_MAJOR 0
 #define ECOW_VERSION_MINOR 12
-#define ECOW_VERSION_PATCH 0
-#define ECOW_VERSION "0.12.0"
+#define ECOW_VERSION_PATCH 1
+#define ECOW_VERSION "0.12.1"
 
 /* The version of the library that is linked, as ECOW_VERSION. Never null. */
 const char *ecow_version(void);

@@ -27,14 +27,15 @@ pub enum IntoArray<T> {
 }
 
 impl<T: Drop> EcoVec<T> {
-    /// The elements of a `Vec`, none of them cloned; without a block where there are none. A
-    /// refusal hands the `Vec` back, with `Capacity` past 2^63 - 1 elements, and else with
-    /// `Memory`.
+    /// The elements of a `Vec`, none of them cloned; without a block, and never refused, where
+    /// there are none. A refusal hands the `Vec` back, with `Capacity` past 2^63 - 1 elements, and
+    /// else with `Memory`.
     pub fn from_vec(alloc: Global, elements: Vec<T>) -> Result<Self, Rejected<Vec<T>>>
         ensures ok { IfOk result (λ v. v ≡ elements.items) }
         ensures value_returned { IfErr result (λ rejected. rejected.value.items ≡ elements.items) }
         ensures capacity { IsErrAnd result (λ rejected. rejected.error ≡ EcoError.Capacity)
             ↔ (MAX_LEN < vec_len elements) }
+        ensures nothing { vec_len elements ≡ 0 → IsOk result }
     {
         let len = elements.len();
         if len > MAX_LEN {
