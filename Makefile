@@ -124,6 +124,7 @@ agree:
 	@cmp bin/pages/CONTRACTS.md docs/CONTRACTS.md && diff -r bin/pages/contracts docs/contracts
 	@tools/agree_statuses.sh
 	@tools/agree_docs.sh
+	@tools/agree_edits.sh
 	@tools/agree_c.sh
 
 KIND := vector

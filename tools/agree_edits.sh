@@ -1,0 +1,25 @@
+#!/bin/sh
+# Compares the edits that the prover must refuse with the code: what an edit takes away stands once in its file.
+# `rt ci` counts one that doesn't fit for nothing, and passes.
+set -eu
+cd "$(dirname "$0")/.."
+export LC_ALL=C
+
+awk '
+/^file: / {
+    split(FILENAME, part, "/")
+    file = part[1] "/" part[2] "/" substr($0, 7)
+    text = ""
+    while ((getline line < file) > 0) text = text line "\n"
+    close(file)
+}
+/^old: / {
+    old = substr($0, 6)
+    at = index(text, old)
+    if (!at || index(substr(text, at + 1), old)) {
+        print FILENAME " does not fit: " old
+        apart = 1
+    }
+}
+/^new: / { text = substr(text, 1, at - 1) substr($0, 6) substr(text, at + length(old)) }
+END { exit apart }' crates/*/must-fail/*.edit crates/*/edits/*.edit
