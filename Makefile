@@ -28,7 +28,7 @@ help:
 	@echo "  make test                the whole gate: every proof from nothing, must-fail edits, tests, programs, costs,"
 	@echo "                           each request for memory refused in turn, command lines, large scripts, and the"
 	@echo "                           library for C where there is a C compiler"
-	@echo "  make agree               compares documents and examples with the code"
+	@echo "  make agree               compares documents, examples and edits with the code"
 	@echo "  make contracts           writes docs/CONTRACTS.md and the pages below docs/contracts"
 	@echo "  make edits               tries each edit that must be refused, those beside the gate's too (needs python3);"
 	@echo "                           CRATES=\"NAME ..\": those of some crates"
