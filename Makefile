@@ -32,7 +32,7 @@ help:
 	@echo "  make contracts           writes docs/CONTRACTS.md and the pages below docs/contracts"
 	@echo "  make edits               tries each edit that must be refused, those beside the gate's too (needs python3);"
 	@echo "                           CRATES=\"NAME ..\": those of some crates"
-	@echo "  make costs               counts what each call costs, and compares docs/COSTS.md"
+	@echo "  make costs               counts what each call costs, and compares the tables of costs"
 	@echo "  make faults              refuses each request for memory in turn, without the rest of the gate"
 	@echo "  make c-test              tests the library for C from C, C++, Python and Rust, and the archive (needs gcc,"
 	@echo "                           clang, valgrind, cargo, and what make python needs)"
