@@ -28,10 +28,10 @@ refused() { # ARGUMENTS..
 }
 [ "$kind" = vector ] || refused "$new" vector "$count"
 [ "$count" = atomic ] && refused "$new" "$kind" plain || refused "$new" "$kind" atomic
-echo '// by hand' >> "$new/crates/ecow_vec/src/vec.rt"
+echo '// by hand' >> "$new/crates/ecow_list/src/vec.rt"
 refused "$new" "$kind" "$count"
-grep -q ' crates/ecow_vec/src/vec.rt$' "$work/said"
-cp -p "$work/once/crates/ecow_vec/src/vec.rt" "$new/crates/ecow_vec/src/vec.rt"
+grep -q ' crates/ecow_list/src/vec.rt$' "$work/said"
+cp -p "$work/once/crates/ecow_list/src/vec.rt" "$new/crates/ecow_list/src/vec.rt"
 diff -r "$work/once" "$new"
 for crate in $(cut -d : -f 1 "$new/crates.txt"); do
     for part in out tests edits must-fail; do
@@ -49,10 +49,10 @@ crate() {
         inside' "$2" > "$new/crates/$1/src/lib.rt"
     echo "$1: $4" >> "$new/crates.txt"
 }
-crate first README.md '# ' ecow_vec
-crate calling docs/CALLING.md '## A caller' ecow_vec
+crate first README.md '# ' ecow_list
+crate calling docs/CALLING.md '## A caller' ecow_list
 if [ "$kind" != vector ]; then
-    crate named docs/CALLING.md '**A struct of yours.**' 'ecow_vec ecow_string'
+    crate named docs/CALLING.md '**A struct of yours.**' 'ecow_list ecow_string'
     # The worked tree, as a program of its own.
     trees=$new/crates/trees
     mkdir -p "$trees/src" "$trees/specs" "$trees/proofs"
@@ -67,11 +67,11 @@ if [ "$kind" != vector ]; then
     } > "$trees/src/main.rt"
     grep '^(f \|^first child' crates/ecow_uses/stdout > "$trees/stdout"
     grep -rl 'Rattle.ecow_uses' "$trees" | xargs sed -i 's/Rattle\.ecow_uses\./Rattle.trees./g'
-    echo 'trees: ecow_vec ecow_string anyhow' >> "$new/crates.txt"
+    echo 'trees: ecow_list ecow_string anyhow' >> "$new/crates.txt"
     (cd "$trees" && rt fmt > /dev/null)
 fi
 if [ "$count" = atomic ]; then
-    crate forks docs/uses/threads.md '# ' 'ecow_vec rayon'
+    crate forks docs/uses/threads.md '# ' 'ecow_list rayon'
     answers=$new/crates/forks/proofs/fork_for_each
     mkdir -p "$answers"
     sed -n '/^```antt$/,/^```$/p' docs/uses/threads.md | grep -v '^```' > "$answers/Answers.antt"

@@ -6,12 +6,12 @@
 #![tactic(auto)]
 
 pub use ecow_bytes::{EcoBytes, INLINE_LIMIT, SmallBytes};
-pub use ecow_string::{EcoString, SmallString, ToEcoString, eco_format};
-pub use ecow_vec::{EcoError, EcoVec, IntoArray, Rejected, eco_vec, range_in, resolve};
+pub use ecow_list::{EcoError, EcoVec, IntoArray, Rejected, eco_vec, range_in, resolve};
+pub use ecow_string::{EcoString, SmallText, ToEcoString, eco_format};
 
 /// The vector and its iterators.
 pub mod vec {
-    pub use ecow_vec::{Drain, EcoVec, IntoIter, Splice};
+    pub use ecow_list::{Drain, EcoVec, IntoIter, Splice};
 }
 
 /// The bytes, for 15 inline bytes and for any number of them.
@@ -21,5 +21,5 @@ pub mod bytes {
 
 /// The text, for 15 inline bytes and for any number of them, and what prints to it.
 pub mod string {
-    pub use ecow_string::{EcoString, SmallString, ToEcoString};
+    pub use ecow_string::{EcoString, SmallText, ToEcoString};
 }

@@ -43,7 +43,8 @@ pub struct Shared<T> {
 }
 
 impl<T> Model for Shared<T> {
-    ghost use Rattle.ecow_block.specs.Contents.{Contents, contents, contents_code};
+    ghost use Rattle.ecow_block.specs.Contents.{Contents, contents_code};
+    ghost use Rattle.ecow_block.specs.Fields.{shown};
     ghost use Rattle.ecow_block.specs.Kept.{IsOwner};
     ghost use Rattle.ecow_atomic.specs.Owners.{owner_owns, owner_lends};
 
@@ -51,7 +52,7 @@ impl<T> Model for Shared<T> {
 
     ghost coded = { contents_code T.code };
 
-    ghost view = { λ s. contents s.inside.room.items s.inside.room.capacity };
+    ghost view = { λ s. shown s.inside };
 
     ghost invariant = { λ s. IsOwner s.top s.alloc s.inside };
 
@@ -61,7 +62,7 @@ impl<T> Model for Shared<T> {
 }
 
 impl<T> Shared<T> {
-    ghost use Rattle.ecow_block.specs.Parts.{IsParts};
+    ghost use Rattle.ecow_block.specs.Parts.{IsParts, capacity_of};
 
     /// The first owner of a block. Asks for no memory.
     pub fn new(block: Block<T>) -> Shared<T>
@@ -80,7 +81,7 @@ impl<T> Shared<T> {
         alloc: Global,
     ) -> Shared<T>
         requires { IsParts top room title deed alloc }
-        ensures { result ≡ contents room.items room.capacity }
+        ensures { result ≡ contents room.items (capacity_of title.fields.capacity) }
     {
         let Room { mark: _ } = room;
         let Title { mark: _ } = title;

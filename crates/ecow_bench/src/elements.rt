@@ -1,6 +1,6 @@
 //! What the lists of the loops hold.
 
-use ecow_vec::EcoVec;
+use ecow_list::EcoVec;
 use std::alloc::{AllocError, Global};
 use std::hash::Hash;
 

@@ -1,8 +1,8 @@
 //! An undo history: a document in three levels, of which a clone is kept before each edit.
 
 use crate::random::{Random, part, prose};
+use ecow_list::{EcoError, EcoVec};
 use ecow_string::EcoString;
-use ecow_vec::{EcoError, EcoVec};
 use std::alloc::Global;
 
 /// How many lines stand in a part, and how many parts on a page.

@@ -4,7 +4,7 @@
 
 use crate::elements::Element;
 use crate::pairs;
-use ecow_vec::{EcoVec, range_in};
+use ecow_list::{EcoVec, range_in};
 use std::alloc::Global;
 
 fn list_of<T: Element>(alloc: Global, items: &[T]) -> EcoVec<T> {

@@ -16,7 +16,7 @@ mod templates;
 mod texts;
 mod trees;
 
-use ecow_vec::{EcoError, EcoVec};
+use ecow_list::{EcoError, EcoVec};
 use elements::Element;
 use std::alloc::{AllocError, Global};
 use std::env::Env;

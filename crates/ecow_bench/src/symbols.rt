@@ -1,8 +1,8 @@
 //! A symbol table: words that are read, found or kept once, and bound in scopes that are forked.
 
 use crate::random::Random;
+use ecow_list::{EcoError, EcoVec};
 use ecow_string::EcoString;
-use ecow_vec::{EcoError, EcoVec};
 use std::alloc::{AllocError, Global};
 
 /// The names that were read, each once, and a table that finds their numbers: each number stands

@@ -1,8 +1,8 @@
 //! A template that is filled again and again, each time with one value more that is new.
 
 use crate::random::{Random, part, prose};
+use ecow_list::{EcoError, EcoVec};
 use ecow_string::EcoString;
-use ecow_vec::{EcoError, EcoVec};
 use std::alloc::Global;
 
 /// How many values there are.

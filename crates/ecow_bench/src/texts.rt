@@ -4,8 +4,8 @@
 use crate::pairs;
 use crate::pairs::Seen;
 use crate::rounds::sum_of;
+use ecow_list::EcoError;
 use ecow_string::{EcoString, ToEcoString, eco_format};
-use ecow_vec::EcoError;
 use std::alloc::Global;
 
 #[inline(never)]

@@ -2,8 +2,8 @@
 ghost use Rattle.std.specs.Prelude.{◌≡◌};
 
 use crate::random::{Random, part, prose};
+use ecow_list::{EcoError, EcoVec};
 use ecow_string::EcoString;
-use ecow_vec::{EcoError, EcoVec};
 use std::alloc::{AllocError, Global};
 
 /// How many nodes stand below each that is no leaf.

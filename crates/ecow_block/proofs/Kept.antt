@@ -29,12 +29,13 @@ use Rattle.std.specs.contracts.impls.GlobalAllocator.TheImpl.{ghosts}
 use Rattle.std_alloc.proofs.RcSteps.{word}
 use Rattle.std_alloc.specs.Rc.Ownership.{counter_at}
 use Rattle.ecow_block.specs.Contents.{contents}
-use Rattle.ecow_block.specs.Fields.{IsBlock}
+use Rattle.ecow_block.specs.Fields.{IsBlock, shown}
 use Rattle.ecow_block.specs.Heads.{head_rest, title_owns}
 use Rattle.ecow_block.specs.Kept.{sole_owns}
 use Rattle.ecow_block.specs.Ownership.{room_owns, deed_owns}
 use Rattle.ecow_block.specs.contracts.block.Block as B
 use Rattle.ecow_block.specs.contracts.block.Block.TheInside as BI
+use Rattle.ecow_block.specs.Parts.{capacity_of}
 use Rattle.ecow_block.proofs.Memory.{Mark, mark, mark_had, mark_made}
 use Rattle.ecow_block.proofs.Heads.{top_had, top_made}
 
@@ -90,7 +91,7 @@ module _ (E : El) (i : (Bi E).Denot) where
 
 module _ (E : El) {M : Type 1} {𝓤 : Ura M} {𝓛 : Logic 𝓤} {K : Type 0} {Γ : List (Item 𝓤)} {G : Goal 𝓤 𝓛.H} where
   pub block_had : K → (d : (Bk E).Denot) (vs : List Val)
-      → ((i : (Bi E).Denot) → contents i.room.items i.room.capacity ≡ d → IsBlock i → vs ≡ laid i.top.ptr ∷ []
+      → ((i : (Bi E).Denot) → shown i ≡ d → IsBlock i → vs ≡ laid i.top.ptr ∷ []
       → Seq K 𝓛 (‵ (deeded E i) ∷ ‵ (titled E i) ∷ ‵ (roomed E i) ∷ Γ) G)
       → Seq K 𝓛 (‵ ((Bk E).own_val d vs) ∷ Γ) G
   block_had t d vs k = fpick t (λ x. fsplit t $ move t (1 ∷ []) $ drop t $ let i = x.0 in fpick t (λ vss. fsplit t $ feq_l t (λ whole.
@@ -100,10 +101,10 @@ module _ (E : El) {M : Type 1} {𝓤 : Ura M} {𝓛 : Logic 𝓤} {K : Type 0} {
       k i x.1.0 x.1.1 (whole ∙ (λ j. vstruct (of_list (e₀ j ++ (e₁ j ++ (e₂ j ++ (e₃ j ++ (e₄ j ++ [])))))) ∷ []))))))))))
 
   pub block_made : K → (i : (Bi E).Denot) → IsBlock i
-      → Step K 𝓛 (‵ ((Bk E).own_val (contents i.room.items i.room.capacity) (laid i.top.ptr ∷ [])) ∷ Γ) G
+      → Step K 𝓛 (‵ ((Bk E).own_val (shown i) (laid i.top.ptr ∷ [])) ∷ Γ) G
       (‵ (deeded E i) ∷ ‵ (titled E i) ∷ ‵ (roomed E i) ∷ Γ) G
   block_made t i is = step (λ k.
-      let Plain : Shape = Declared.shape (BI.the_type (R E)) in let v : Val = laid i.top.ptr in let d : (Bk E).Denot = contents i.room.items i.room.capacity in
+      let Plain : Shape = Declared.shape (BI.the_type (R E)) in let v : Val = laid i.top.ptr in let d : (Bk E).Denot = shown i in
       nothing t $ heap_made t i.alloc $ fjoin t $ move t (1 ∷ []) $ use0 𝓛 (‵ ((Mark E).own_val (tt, tt) (mark ∷ []))) (mark_made E 𝓛) $ fjoin t $ fjoin t $
       move t (1 ∷ []) $ use0 𝓛 (‵ ((Mark E).own_val (tt, tt) (mark ∷ []))) (mark_made E 𝓛) $ fjoin t $ fjoin t $
       move t (1 ∷ []) $ use0 𝓛 (‵ ((Mark E).own_val (tt, tt) (mark ∷ []))) (mark_made E 𝓛) $ fjoin t $ fjoin t $
@@ -111,7 +112,7 @@ module _ (E : El) {M : Type 1} {𝓤 : Ura M} {𝓛 : Logic 𝓤} {K : Type 0} {
       fpack t (Valss Plain.fields) (within Plain ((i.top.ptr, tt), (i.room, (i.title, (i.deed, (((tt, tt), tt), tt))))) (v ∷ []))
       (word i.top.ptr ∷ [], (mark ∷ [], (mark ∷ [], (mark ∷ [], (heap_val ∷ [], tt))))) $
       nothing t $ move t (1 ∷ 0 ∷ []) $ fjoin t $
-      fpack t ((a : (Bi E).Denot) × ((contents a.room.items a.room.capacity ≡ d) × IsBlock a))
+      fpack t ((a : (Bi E).Denot) × ((shown a ≡ d) × IsBlock a))
       (λ x. fsep ((Bi E).own_val x.0 (v ∷ [])) ftrue) (i, (refl, is)) $ k)
 
 -- a block with a head is what a sole owner has
@@ -136,5 +137,7 @@ empty : {X : Type 0} (xs : List X) (c : ℕ) → length xs ≤ c → c ≡ 0 →
 empty [] c le e = refl
 empty (x ∷ xs) c le e = absurd (omega arith)
 
-pub no_contents : (E : El) (i : (Bi E).Denot) → IsBlock i → i.top.ptr ≡ null_ptr → contents i.room.items i.room.capacity ≡ contents [] 0
-no_contents E i is e = let none = is.head.none e in λ j. contents (empty i.room.items i.room.capacity i.room.within none j) (none j)
+pub no_contents : (E : El) (i : (Bi E).Denot) → IsBlock i → i.top.ptr ≡ null_ptr → shown i ≡ contents [] 0
+no_contents E i is e = let none = is.head.none e in let within = is.head.within in
+    let zero : capacity_of i.title.fields.capacity ≡ 0 = omega arith in
+    λ j. contents (empty i.room.items i.room.capacity i.room.within none j) (zero j)

@@ -1,5 +1,5 @@
 -- What holds of the parts of a block.
-use Rattle.std.specs.Prelude.{◌≡◌, ◌^◌, ◌<◌, ◌≤◌, ℕ, length}
+use Rattle.std.specs.Prelude.{◌≡◌, ◌^◌, ◌<◌, ◌≤◌, ◌-◌, ℕ, length, nat_lt, if◌then◌else◌}
 use denote.RawPtr.{Ptr, InBlock, Testable, null_ptr, ◌+ₚ◌}
 use Rattle.ecow_block.specs.declared.parts.TheConstants.{TOGETHER}
 use Rattle.ecow_block.specs.declared.room.Base.{Base}
@@ -8,18 +8,26 @@ use Rattle.ecow_block.specs.declared.room.Room.{Room}
 use Rattle.ecow_block.specs.declared.room.Title.{Title}
 use Rattle.ecow_block.specs.declared.room.Top.{Top}
 
+-- how many places a block has by the number in its head: past 2 ^ 63 it is that much less, and the
+-- places take no bytes
+abbrev pub capacity_of : ℕ → ℕ
+capacity_of n = if nat_lt n (2 ^ 63) then n else n - 2 ^ 63
+
 module _ {X A : Type 0} where
   -- the title is that of the head at top, of alloc, which says that c places begin at p; there is
-  -- no head where there are none
+  -- no head where there are none. Where the block has fewer, they take no bytes, and are 2 ^ 63
   pub record IsHead (top : Top X) (title : Title X A) (alloc : A) (p : Ptr) (c : ℕ) : Type 0 where
     pub at : title.at ≡ top.ptr
     pub alloc_same : title.alloc ≡ alloc
     pub base : title.fields.base.ptr ≡ p
-    pub capacity : title.fields.capacity ≡ c
-    pub small : c < 2 ^ 63
+    pub capacity : title.fields.capacity < 2 ^ 63 → title.fields.capacity ≡ c
+    pub nowhere : 2 ^ 63 ≤ title.fields.capacity → c ≡ 2 ^ 63
+    pub within : capacity_of title.fields.capacity ≤ c
+    pub small : capacity_of title.fields.capacity < 2 ^ 63
     pub testable : Testable top.ptr
     pub none : top.ptr ≡ null_ptr → c ≡ 0
     pub headed : 0 < c → InBlock top.ptr
+    pub some : InBlock top.ptr → 0 < c
 
   -- the c places from p on are right behind the head
   pub record IsNear (p : Ptr) (c : ℕ) (title : Title X A) : Type 0 where
@@ -46,6 +54,7 @@ module _ {X A : Type 0} where
     pub head : IsHead top title alloc room.at room.capacity
     pub start : room.start ≡ 0
     pub len : title.fields.len ≡ length room.items
+    pub fits : length room.items ≤ capacity_of title.fields.capacity
     pub backed : IsBacked room.at room.capacity title deed alloc
 
   -- the title with another number of items

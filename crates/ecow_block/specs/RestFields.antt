@@ -1,5 +1,5 @@
 -- What holds of the fields of the rest of a block.
-use Rattle.std.specs.Prelude.{◌≡◌, ◌+◌, [], length}
+use Rattle.std.specs.Prelude.{◌≡◌, ◌+◌, ◌^◌, ◌<◌, [], length}
 use Rattle.ecow_block.specs.Parts.{IsHead, IsBacked}
 use Rattle.ecow_block.specs.Rooms.{Follows}
 use Rattle.ecow_block.specs.declared.rest.Rest.TheInside.{Inside as Rest}
@@ -15,3 +15,4 @@ module _ {X : Type 0} where
     pub follows : Follows r.taken r.room
     pub start : r.start ≡ r.room.start
     pub len : r.len ≡ length r.room.items
+    pub small : r.len < 2 ^ 63

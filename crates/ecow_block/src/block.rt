@@ -9,11 +9,12 @@ ghost use Rattle.ecow_base.specs.Clones.{ClonesAreEqual};
 ghost use Rattle.ecow_block.specs.Clones.{AppendsClones};
 ghost use Rattle.ecow_block.specs.Contents.{contents};
 ghost use Rattle.ecow_block.specs.Iterators.{GivesOn};
-ghost use Rattle.ecow_block.specs.Parts.{IsParts};
+ghost use Rattle.ecow_block.specs.Parts.{IsParts, capacity_of};
 ghost use Rattle.ecow_block.specs.Updates.{TakesAt, UpdatesAt};
 
 use crate::parts::{
-    TOGETHER, base_of, give_back_parts, make_parts, no_parts, put_len, put_places, takes_bytes,
+    NOWHERE, TOGETHER, base_of, capacity_of, give_back_parts, make_parts, no_parts, put_len,
+    put_places, takes_bytes,
 };
 use crate::rest::Rest;
 use crate::room::{Deed, Room, Title, Top, fields, grow, is_none};
@@ -39,14 +40,14 @@ pub struct Block<T> {
 }
 
 impl<T> Model for Block<T> {
-    ghost use Rattle.ecow_block.specs.Contents.{Contents, contents, contents_code};
-    ghost use Rattle.ecow_block.specs.Fields.{IsBlock};
+    ghost use Rattle.ecow_block.specs.Contents.{Contents, contents_code};
+    ghost use Rattle.ecow_block.specs.Fields.{IsBlock, shown};
 
     ghost Value = { Contents T };
 
     ghost coded = { contents_code T.code };
 
-    ghost view = { λ b. contents b.room.items b.room.capacity };
+    ghost view = { λ b. shown b };
 
     ghost invariant = { λ b. IsBlock b };
 }
@@ -108,7 +109,8 @@ impl<T> Block<T> {
         if is_none(self.top) {
             return 0;
         }
-        fields(&self.title, self.top).capacity
+        self.room.is_small();
+        capacity_of::<T>(fields(&self.title, self.top).capacity)
     }
 
     /// The elements.
@@ -265,7 +267,7 @@ impl<T> Block<T> {
     /// The parts of this block.
     pub fn into_parts(self) -> (Top<T>, Room<T>, Title<T, Global>, Deed<T, Global>, Global)
         ensures parts { IsParts result.0 result.1 result.2 result.3 result.4 }
-        ensures contents { contents result.1.items result.1.capacity ≡ self }
+        ensures contents { contents result.1.items (capacity_of result.2.fields.capacity) ≡ self }
     {
         let Block {
             top,
@@ -321,14 +323,23 @@ impl<T> Block<T> {
     }
 
     /// Moves the elements into a new block of `capacity` places, and gives the old one back. Where
-    /// it is refused, the block stays as it is.
+    /// it is refused, the block stays as it is. Places that take no bytes are there: then the
+    /// number alone is changed, and nothing is refused.
     #[cold]
     #[inline(never)]
     fn renew(&mut self, capacity: usize) -> Result<(), AllocError>
-        requires { self.old.capacity ≤ capacity }
+        requires larger { self.old.capacity ≤ capacity }
+        requires bounded { capacity ≤ MAX_LEN }
         ensures { self.new ≡ contents self.old.items (if is_ok result then capacity
             else self.old.capacity) }
     {
+        if !is_none(self.top) {
+            let head = *fields(&self.title, self.top);
+            if head.capacity >= NOWHERE {
+                put_places(&mut self.title, self.top, head.base, NOWHERE + capacity);
+                return Ok(());
+            }
+        }
         let mut larger = Block::with_capacity(self.alloc, capacity)?;
         let len = self.len();
         self.drain_into(0, len, &mut larger);

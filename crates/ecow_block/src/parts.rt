@@ -1,10 +1,11 @@
 //! The parts of a block: its head, its places, and the rights to give both back. Nothing here
 //! touches a pointer.
-ghost use Rattle.std.specs.Prelude.{◌≡◌, ◌<◌, [], IfOk};
+ghost use Rattle.std.specs.Prelude.{◌≡◌, ◌+◌, ◌^◌, ◌<◌, ◌≤◌, [], true, false, IfOk};
+ghost use Rattle.std.specs.Mem.{type_size};
 ghost use Rattle.std.specs.Vec.Ownership.{FitsInBlock};
 ghost use denote.RawPtr.{InBlock};
 ghost use Rattle.ecow_block.specs.Ownership.{has_bytes};
-ghost use Rattle.ecow_block.specs.Parts.{IsBacked, IsHead, IsParts, with_len, with_places};
+ghost use Rattle.ecow_block.specs.Parts.{IsBacked, IsHead, IsParts, capacity_of, with_len, with_places};
 
 use crate::room::{
     Base, Deed, Fields, Room, Title, Top, fields, fields_mut, give_back, give_back_head, is_none,
@@ -16,6 +17,24 @@ use std::mem::{replace, size_of};
 /// How many places stand right behind their head at most, so that one request is made for both.
 /// More stand apart, so that they grow in place.
 pub(crate) const TOGETHER: usize = 1024;
+
+/// How many places a block has that take no bytes, and how much more than its capacity its head
+/// tells of then. So the block grows by a change of that number alone.
+pub(crate) const NOWHERE: usize = 9223372036854775808;
+
+/// The capacity of a block by the number in its head.
+#[inline]
+pub(crate) fn capacity_of<T>(number: usize) -> usize
+    requires sized { type_size T.row < 2 ^ 63 }
+    requires nowhere { 2 ^ 63 ≤ number → type_size T.row ≡ 0 }
+    ensures value { result ≡ capacity_of number }
+    ensures bounded { result < 2 ^ 63 }
+{
+    if 1 * size_of::<T>() == 0 && number >= NOWHERE {
+        return number - NOWHERE;
+    }
+    number
+}
 
 /// Whether `count` places take any bytes.
 pub(crate) fn takes_bytes<T>(count: usize) -> bool
@@ -33,7 +52,7 @@ pub(crate) fn put_len<T, A: Allocator>(title: &mut Title<T, A>, top: Top<T>, len
     fields_mut(title, top).len = len;
 }
 
-/// Makes the places those that a head tells of.
+/// Makes the places those that a head tells of; `capacity` is the number in it.
 pub(crate) fn put_places<T, A: Allocator>(
     title: &mut Title<T, A>,
     top: Top<T>,
@@ -53,7 +72,7 @@ pub(crate) fn no_parts<T>(
     alloc: &Global,
 ) -> (Base<T>, Top<T>, Room<T>, Title<T, Global>, Deed<T, Global>)
     ensures { IsParts result.1 result.2 result.3 result.4 alloc.now × (result.2.items ≡ [])
-        × (result.2.capacity ≡ 0) × (result.0.ptr ≡ result.2.at) }
+        × (capacity_of result.3.fields.capacity ≡ 0) × (result.0.ptr ≡ result.2.at) }
 {
     let (base, room, deed) = nowhere(alloc, 0);
     let (top, title) = no_head(alloc, base);
@@ -67,8 +86,11 @@ pub(crate) fn make_parts<T>(
 ) -> Result<(Top<T>, Room<T>, Title<T, Global>, Deed<T, Global>), AllocError>
     requires { (0 < capacity) × FitsInBlock T.row capacity }
     ensures { IfOk result (λ r. IsParts r.0 r.1 r.2 r.3 alloc.now × (r.1.items ≡ [])
-        × (r.1.capacity ≡ capacity)) }
+        × (capacity_of r.2.fields.capacity ≡ capacity)) }
 {
+    if !takes_bytes::<T>(capacity) {
+        return make_nowhere(alloc, capacity);
+    }
     if capacity > TOGETHER {
         return make_apart(alloc, capacity);
     }
@@ -79,21 +101,36 @@ pub(crate) fn make_parts<T>(
     Ok((top, room, tested(title), deed))
 }
 
+/// The parts of an empty block of places that take no bytes.
+#[inline(never)]
+fn make_nowhere<T>(
+    alloc: &Global,
+    capacity: usize,
+) -> Result<(Top<T>, Room<T>, Title<T, Global>, Deed<T, Global>), AllocError>
+    requires { FitsInBlock T.row capacity × (has_bytes T.row capacity ≡ false) × (0 < capacity) }
+    ensures { IfOk result (λ r. IsParts r.0 r.1 r.2 r.3 alloc.now × (r.1.items ≡ [])
+        × (capacity_of r.2.fields.capacity ≡ capacity)) }
+{
+    let (size, align) = layout_of::<T>(0);
+    let (top, none, title) = make_head(alloc, 0, size, align)?;
+    none.let_go();
+    let (base, room, deed) = nowhere(alloc, NOWHERE);
+    let mut title = tested(title);
+    put_places(&mut title, top, base, NOWHERE + capacity);
+    Ok((top, room, title, deed))
+}
+
 /// The parts of an empty block of many places, which stand apart from their head.
 #[inline(never)]
 fn make_apart<T>(
     alloc: &Global,
     capacity: usize,
 ) -> Result<(Top<T>, Room<T>, Title<T, Global>, Deed<T, Global>), AllocError>
-    requires { (TOGETHER < capacity) × FitsInBlock T.row capacity }
+    requires { (TOGETHER < capacity) × FitsInBlock T.row capacity × (has_bytes T.row capacity ≡ true) }
     ensures { IfOk result (λ r. IsParts r.0 r.1 r.2 r.3 alloc.now × (r.1.items ≡ [])
-        × (r.1.capacity ≡ capacity)) }
+        × (capacity_of r.2.fields.capacity ≡ capacity)) }
 {
-    let (base, room, deed) = if takes_bytes::<T>(capacity) {
-        make(alloc, capacity)?
-    } else {
-        nowhere(alloc, capacity)
-    };
+    let (base, room, deed) = make(alloc, capacity)?;
     let (size, align) = layout_of::<T>(0);
     match make_head(alloc, 0, size, align) {
         Ok((top, none, title)) => {
@@ -134,8 +171,9 @@ pub(crate) fn give_back_parts<T>(
     } = *fields(&title, top);
     if capacity > TOGETHER {
         let mut room = room;
-        let none = room.split_off(capacity);
-        give_back(alloc, base, capacity, room, deed);
+        let places = capacity.min(NOWHERE);
+        let none = room.split_off(places);
+        give_back(alloc, base, places, room, deed);
         let (size, align) = layout_of::<T>(0);
         give_back_head(alloc, top, size, align, none, title);
     } else {
@@ -158,7 +196,7 @@ pub(crate) fn base_of<T>(
     requires { IsParts top.old room.old title.old deed.old alloc.now }
     ensures parts { IsParts top.new room.new title.new deed.new alloc.now }
     ensures same { (result.ptr ≡ room.new.at) × (room.new.items ≡ room.old.items)
-        × (room.new.capacity ≡ room.old.capacity) }
+        × (capacity_of title.new.fields.capacity ≡ capacity_of title.old.fields.capacity) }
 {
     if is_none(*top) {
         let (base, none, fresh, unheaded, right) = no_parts(alloc);

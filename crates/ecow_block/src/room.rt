@@ -116,7 +116,7 @@ pub(crate) struct Fields<T> {
     pub(crate) base: Base<T>,
     /// In places.
     pub(crate) len: usize,
-    /// In places.
+    /// In places, and 2^63 more where these take no bytes.
     pub(crate) capacity: usize,
 }
 

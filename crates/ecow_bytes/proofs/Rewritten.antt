@@ -4,7 +4,7 @@ use Rattle.std.proofs.lemmas.List.{take_all}
 use Rattle.std.specs.Fn.{Once}
 use Rattle.std.specs.List.{refill}
 use denote.Ref.{MutBor}
-use Rattle.ecow_vec.proofs.Views.{refilled}
+use Rattle.ecow_list.proofs.Views.{refilled}
 use Rattle.ecow_bytes.specs.Rewrites.{Rewrites}
 
 -- of no items none are taken

@@ -5,7 +5,7 @@ use Rattle.std.specs.List.{refill}
 use Rattle.std.specs.Borrow.{Lends, follows_so, name_if_ok, Fml, GName, RattleType, MutBor, Array, u8 as byte}
 use Rattle.ecow_values.specs.Plain.{plain_bytes}
 use Rattle.ecow_values.specs.declared.plain.PlainBytes.{PlainBytes}
-use Rattle.ecow_vec.specs.Lends.{name_if_lent}
+use Rattle.ecow_list.specs.Lends.{name_if_lent}
 use Rattle.ecow_bytes.specs.Form.{plain_of}
 use Rattle.ecow_bytes.specs.declared.form.Form.{Form}
 use Rattle.ecow_bytes.specs.declared.form.Form.TheVariants.{Short, Full, Spilled}

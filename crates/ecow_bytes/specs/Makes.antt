@@ -3,8 +3,8 @@ use Rattle.std.specs.Prelude.{◌≡◌, ◌<◌, ◌≤◌, ◌↔◌, ℕ, Lis
 use Rattle.ecow_base.specs.declared.capacity.TheConstants.{MAX_LEN}
 use Rattle.ecow_values.specs.Inline.{inline_for}
 use Rattle.ecow_values.specs.declared.plain.PlainBytes.{PlainBytes}
-use Rattle.ecow_vec.specs.declared.error.EcoError.{EcoError}
-use Rattle.ecow_vec.specs.declared.error.EcoError.TheVariants.{Capacity}
+use Rattle.ecow_list.specs.declared.error.EcoError.{EcoError}
+use Rattle.ecow_list.specs.declared.error.EcoError.TheVariants.{Capacity}
 
 -- the bytes xs, in a value made for n: inline exactly where n is within the limit, which is never
 -- refused; else for capacity exactly where n passes the greatest length, or for memory

@@ -7,7 +7,7 @@ ghost use Rattle.ecow_values.specs.Plain.{plain_bytes};
 use crate::cells::Cells;
 use crate::few::Few;
 use ecow_base::MAX_LEN;
-use ecow_vec::{EcoError, EcoVec};
+use ecow_list::{EcoError, EcoVec};
 
 /// Where bytes stand. The compiler lays a tag before them, so that 15 bytes take two words.
 #[derive(Drop)]

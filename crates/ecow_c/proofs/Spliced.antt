@@ -2,8 +2,8 @@
 use Rattle.std.proofs.Common.{◌≡◌, ◌≤◌, ℕ, List, length, IfSome, Option, ap, ◌∙◌, subst}
 use Rattle.std.specs.List.{splice}
 use Rattle.std.specs.declared.ops.Bound.TheVariants.{Included, Excluded}
-use Rattle.ecow_vec.specs.Ranges.{AtRange}
-use Rattle.ecow_vec.proofs.Ranges.{within}
+use Rattle.ecow_list.specs.Ranges.{AtRange}
+use Rattle.ecow_list.proofs.Ranges.{within}
 
 pub spliced : {X : Type 0} (removed : ℕ → ℕ → Type 0) (xs new items given : List X) (start end : ℕ) → start ≤ end → end ≤ length xs → given ≡ items
     → AtRange (Included start, Excluded end) (length xs) (λ s e. removed s e × (new ≡ splice xs s e given)) → new ≡ splice xs start end items

@@ -1,8 +1,8 @@
 -- The types of the values that C keeps, as the logic describes them.
 use Rattle.std.specs.Borrow.{RattleType, i64}
-use Rattle.ecow_vec.specs.contracts.vec.EcoVec as list
+use Rattle.ecow_list.specs.contracts.vec.EcoVec as list
 use Rattle.ecow_bytes.specs.contracts.bytes.SmallBytes as bytes
-use Rattle.ecow_string.specs.contracts.string.SmallString as text
+use Rattle.ecow_string.specs.contracts.string.SmallText as text
 use Rattle.ecow_nested.specs.contracts.value.Value as value
 use denote.Param.{number}
 

@@ -3,8 +3,8 @@ use Rattle.std.specs.Prelude.{ℕ}
 use Rattle.ecow_c.specs.declared.status.TheConstants.{MEMORY, CAPACITY, INDEX, KIND}
 use Rattle.ecow_nested.specs.declared.refusal.Refusal.{Refusal}
 use Rattle.ecow_nested.specs.declared.refusal.Refusal.TheVariants as refused
-use Rattle.ecow_vec.specs.declared.error.EcoError.{EcoError}
-use Rattle.ecow_vec.specs.declared.error.EcoError.TheVariants as error
+use Rattle.ecow_list.specs.declared.error.EcoError.{EcoError}
+use Rattle.ecow_list.specs.declared.error.EcoError.TheVariants as error
 
 abbrev pub status_of_error : EcoError → ℕ
 status_of_error error.Memory = MEMORY

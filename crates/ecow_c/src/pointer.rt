@@ -11,9 +11,9 @@ ghost use Rattle.ecow_c.specs.Pointers.{pointer_owns};
 ghost use Rattle.ecow_c.specs.Rows.{list_row, bytes_row, text_row, texts_row, value_row};
 
 use ecow_bytes::EcoBytes;
+use ecow_list::EcoVec;
 use ecow_nested::Value;
 use ecow_string::EcoString;
-use ecow_vec::EcoVec;
 use std::marker::Model;
 use std::mem::size_of;
 

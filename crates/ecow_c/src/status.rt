@@ -1,11 +1,11 @@
 //! What a call answers.
 ghost use Rattle.std.specs.Prelude.{◌≡◌, ℕ, IfErr, IfOk, MatchResult};
-ghost use Rattle.ecow_vec.specs.declared.error.EcoError.TheVariants.{Memory};
+ghost use Rattle.ecow_list.specs.declared.error.EcoError.TheVariants.{Memory};
 ghost use Rattle.ecow_c.specs.Answers.{sign_of};
 ghost use Rattle.ecow_c.specs.Statuses.{status_of_error, status_of_refusal};
 
+use ecow_list::{EcoError, Rejected};
 use ecow_nested::Refusal;
-use ecow_vec::{EcoError, Rejected};
 use std::alloc::AllocError;
 use std::cmp::Ordering;
 

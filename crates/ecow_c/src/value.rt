@@ -12,8 +12,8 @@ use crate::status::{
     CAPACITY, INDEX, IntoStatus, KIND, MEMORY, NULL, OK, UTF8, ok_or_status, put, some_or, status,
 };
 use crate::text::to_str;
+use ecow_list::EcoVec;
 use ecow_nested::{Kind, Value};
-use ecow_vec::EcoVec;
 use std::alloc::Global;
 
 /// Puts `new` in place of the value.

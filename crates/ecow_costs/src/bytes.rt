@@ -8,7 +8,7 @@ use crate::tables::{
     last_changes, reads, reductions,
 };
 use ecow_bytes::SmallBytes;
-use ecow_vec::EcoError;
+use ecow_list::EcoError;
 use std::alloc::Global;
 use std::io::Write;
 use std::mem;

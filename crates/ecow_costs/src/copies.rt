@@ -4,7 +4,7 @@ use crate::marks::Meter;
 use crate::rows::{Cost, Form, Role, Row, Rows, USUAL, repeated};
 use crate::states::{VecState, compare, form_of, kept_pair, vectors};
 use crate::tables::{CopyCall, TIMES, copies_growth, copies_once};
-use ecow_vec::{EcoError, EcoVec, range_in};
+use ecow_list::{EcoError, EcoVec, range_in};
 use std::io::Write;
 
 const MANY: &[u8; 1000] = &[b'x'; 1000];

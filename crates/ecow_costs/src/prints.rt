@@ -4,8 +4,8 @@ use crate::rows::{Cost, Rows};
 use crate::small::{letters, standing_alone};
 use crate::texts::PIECES;
 use ecow_bytes::EcoBytes;
+use ecow_list::EcoError;
 use ecow_string::{EcoString, ToEcoString, eco_format};
-use ecow_vec::EcoError;
 use std::alloc::Global;
 use std::fmt;
 

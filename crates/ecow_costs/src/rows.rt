@@ -1,5 +1,5 @@
 //! Where values stand, and the rows of the tables.
-use ecow_vec::EcoError;
+use ecow_list::EcoError;
 use std::alloc::{AllocError, Global};
 
 /// Where a value's elements stand.

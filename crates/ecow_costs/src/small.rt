@@ -6,8 +6,8 @@ use crate::states::{error_of, form_of, or_memory};
 use crate::tables::{Call, Kind, first_makers, first_makers_at, last_changes};
 use crate::{bytes, texts};
 use ecow_bytes::SmallBytes;
-use ecow_string::SmallString;
-use ecow_vec::{EcoError, EcoVec};
+use ecow_list::{EcoError, EcoVec};
+use ecow_string::SmallText;
 use std::alloc::{AllocError, Global};
 
 /// A state of bytes and texts: so many, inline or in a block with so much room, shared or not.
@@ -81,7 +81,7 @@ pub(crate) struct Gift<const N: usize> {
     pub(crate) bytes: Vec<u8>,
     pub(crate) string: String,
     pub(crate) list: EcoVec<u8>,
-    pub(crate) texts: Vec<SmallString<N>>,
+    pub(crate) texts: Vec<SmallText<N>>,
 }
 
 /// So many letters: the first is an A.
@@ -102,8 +102,8 @@ fn gift_of<const N: usize>(
     let string = letters(alloc, len)?;
     let letters = string.as_str();
     let mut texts = Vec::new(alloc);
-    texts.push(SmallString::from_str(alloc, letters)?)?;
-    texts.push(SmallString::from_str(alloc, "12345678")?)?;
+    texts.push(SmallText::from_str(alloc, letters)?)?;
+    texts.push(SmallText::from_str(alloc, "12345678")?)?;
     Ok(Gift {
         alloc,
         bytes: Vec::from_clones(alloc, letters.as_bytes())?,
@@ -358,7 +358,7 @@ pub(crate) fn add_growth<const N: usize>(
 
 /// The bytes of a vector that comes of a value.
 pub(crate) fn given<V: Drop, const N: usize>(
-    list: Result<EcoVec<u8>, ecow_vec::Rejected<V>>,
+    list: Result<EcoVec<u8>, ecow_list::Rejected<V>>,
     _none: &SmallBytes<N>,
 ) -> Result<SmallBytes<N>, EcoError> {
     match list {

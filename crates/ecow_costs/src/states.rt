@@ -1,6 +1,6 @@
 //! The states of a vector that tell, and vectors in them.
 use crate::rows::{Form, Standing};
-use ecow_vec::{EcoError, EcoVec, Rejected};
+use ecow_list::{EcoError, EcoVec, Rejected};
 use std::alloc::{AllocError, Global};
 use std::hash::{DefaultHasher, Hash};
 

@@ -286,7 +286,7 @@ impl Kind {
             (Kind::Bytes, Role::Make, _) => "SmallBytes",
             (Kind::Bytes, _, _) => "b.",
             (Kind::Text, Role::Make, _) if limit == USUAL => "EcoString",
-            (Kind::Text, Role::Make, _) => "SmallString",
+            (Kind::Text, Role::Make, _) => "SmallText",
             (Kind::Text, _, Call::IntoBytes) => "",
             (Kind::Text, _, _) => "t.",
         }

@@ -8,8 +8,8 @@ use crate::tables::{
     text_makers, text_makers_at,
 };
 use ecow_bytes::SmallBytes;
-use ecow_string::SmallString;
-use ecow_vec::EcoError;
+use ecow_list::EcoError;
+use ecow_string::SmallText;
 use std::alloc::Global;
 use std::fmt::Write;
 use std::iter::repeat_n;
@@ -18,28 +18,28 @@ use std::{fmt, mem};
 /// How many pieces an iterator gives that gives many.
 pub(crate) const PIECES: usize = 14286;
 
-fn read<const N: usize>(text: &SmallString<N>) {
+fn read<const N: usize>(text: &SmallText<N>) {
     let _seen = text.as_str().len() == text.len() && text.is_empty() == (text.len() == 0);
     let _room = text.capacity();
     let _mode = text.is_inline() && text.is_char_boundary(0);
     compare(text, text);
 }
 
-fn insert<const N: usize>(text: &mut SmallString<N>, c: char) -> Result<(), EcoError> {
+fn insert<const N: usize>(text: &mut SmallText<N>, c: char) -> Result<(), EcoError> {
     if !text.is_char_boundary(0) {
         return Ok(());
     }
     text.insert(0, c)
 }
 
-fn insert_str<const N: usize>(text: &mut SmallString<N>, more: &str) -> Result<(), EcoError> {
+fn insert_str<const N: usize>(text: &mut SmallText<N>, more: &str) -> Result<(), EcoError> {
     if !text.is_char_boundary(0) {
         return Ok(());
     }
     text.insert_str(0, more)
 }
 
-fn replace<const N: usize>(text: &mut SmallString<N>, more: &str) -> Result<(), EcoError> {
+fn replace<const N: usize>(text: &mut SmallText<N>, more: &str) -> Result<(), EcoError> {
     let end = text.len().min(2);
     if !text.is_char_boundary(0) || !text.is_char_boundary(end) {
         return Ok(());
@@ -47,7 +47,7 @@ fn replace<const N: usize>(text: &mut SmallString<N>, more: &str) -> Result<(), 
     text.replace_range(..end, more)
 }
 
-fn insert_last<const N: usize>(text: &mut SmallString<N>, more: &str) -> Result<(), EcoError> {
+fn insert_last<const N: usize>(text: &mut SmallText<N>, more: &str) -> Result<(), EcoError> {
     let end = text.len();
     if !text.is_char_boundary(end) {
         return Ok(());
@@ -55,26 +55,26 @@ fn insert_last<const N: usize>(text: &mut SmallString<N>, more: &str) -> Result<
     text.insert_str(end, more)
 }
 
-fn push_reserved<const N: usize>(text: &mut SmallString<N>) -> Result<(), EcoError> {
+fn push_reserved<const N: usize>(text: &mut SmallText<N>) -> Result<(), EcoError> {
     text.reserve(1)?;
     text.push('x')
 }
 
-fn remove<const N: usize>(text: &mut SmallString<N>) -> Result<(), EcoError> {
+fn remove<const N: usize>(text: &mut SmallText<N>) -> Result<(), EcoError> {
     if text.len() == 0 || !text.is_char_boundary(0) {
         return Ok(());
     }
     text.remove(0).map(drop)
 }
 
-fn truncate<const N: usize>(text: &mut SmallString<N>, len: usize) -> Result<(), EcoError> {
+fn truncate<const N: usize>(text: &mut SmallText<N>, len: usize) -> Result<(), EcoError> {
     if !text.is_char_boundary(len) {
         return Ok(());
     }
     text.truncate(len)
 }
 
-fn write<const N: usize>(text: &mut SmallString<N>, more: &str) -> Result<(), EcoError> {
+fn write<const N: usize>(text: &mut SmallText<N>, more: &str) -> Result<(), EcoError> {
     match text.write_str(more) {
         Ok(()) => Ok(()),
         Err(_) => Err(EcoError::Memory),
@@ -84,7 +84,7 @@ fn write<const N: usize>(text: &mut SmallString<N>, more: &str) -> Result<(), Ec
 /// Makes a call that adds text.
 fn add<const N: usize>(
     row: Row<Call>,
-    text: &mut SmallString<N>,
+    text: &mut SmallText<N>,
     more: &str,
 ) -> Result<(), EcoError> {
     match row.call {
@@ -107,7 +107,7 @@ fn add<const N: usize>(
 }
 
 /// Makes a call that adds no text.
-fn reduce<const N: usize>(row: Row<Call>, text: &mut SmallString<N>) -> Result<(), EcoError> {
+fn reduce<const N: usize>(row: Row<Call>, text: &mut SmallText<N>) -> Result<(), EcoError> {
     match row.call {
         Call::Pop => text.pop().map(drop),
         Call::Remove => remove(text),
@@ -123,7 +123,7 @@ fn reduce<const N: usize>(row: Row<Call>, text: &mut SmallString<N>) -> Result<(
 }
 
 /// Makes a call that is never refused.
-fn settle<const N: usize>(call: Call, text: &mut SmallString<N>) {
+fn settle<const N: usize>(call: Call, text: &mut SmallText<N>) {
     match call {
         Call::Clear => text.clear(),
         Call::Shrink => text.shrink_to_fit(),
@@ -134,10 +134,10 @@ fn settle<const N: usize>(call: Call, text: &mut SmallString<N>) {
 
 /// The text with more behind it, so often.
 fn sum<const N: usize>(
-    text: SmallString<N>,
+    text: SmallText<N>,
     more: &str,
     times: usize,
-) -> Result<SmallString<N>, EcoError> {
+) -> Result<SmallText<N>, EcoError> {
     let mut sum = text;
     for _ in 0..times {
         sum = sum.add(more).map_err(error_of)?;
@@ -148,7 +148,7 @@ fn sum<const N: usize>(
 /// The bytes of the text after a call that is made so often. `none` names their type.
 fn changed<const N: usize>(
     row: Row<Call>,
-    text: SmallString<N>,
+    text: SmallText<N>,
     more: &str,
     none: &SmallBytes<N>,
 ) -> Result<SmallBytes<N>, EcoError> {
@@ -168,8 +168,8 @@ fn changed<const N: usize>(
 /// Makes a text of a text.
 fn text_made<const N: usize>(
     row: Row<Call>,
-    text: &SmallString<N>,
-) -> Result<SmallString<N>, EcoError> {
+    text: &SmallText<N>,
+) -> Result<SmallText<N>, EcoError> {
     match row.call {
         Call::Repeat => text.repeat(row.number),
         Call::Replace(pattern, replacement) => text.replace(pattern, replacement),
@@ -183,8 +183,8 @@ fn text_made<const N: usize>(
 }
 
 fn printed<const N: usize>(
-    text: Result<SmallString<N>, fmt::Error>,
-) -> Result<SmallString<N>, EcoError> {
+    text: Result<SmallText<N>, fmt::Error>,
+) -> Result<SmallText<N>, EcoError> {
     match text {
         Ok(text) => Ok(text),
         Err(_) => Err(EcoError::Memory),
@@ -192,28 +192,28 @@ fn printed<const N: usize>(
 }
 
 /// Makes a text of what is given.
-fn text_of_gift<const N: usize>(row: Row<Call>, gift: Gift<N>) -> Result<SmallString<N>, EcoError> {
+fn text_of_gift<const N: usize>(row: Row<Call>, gift: Gift<N>) -> Result<SmallText<N>, EcoError> {
     let (alloc, text) = (gift.alloc, gift.string.as_str());
-    let none = SmallString::new(alloc);
+    let none = SmallText::new(alloc);
     match row.call {
-        Call::Inline if text.len() <= N => Ok(SmallString::inline(alloc, text)),
-        Call::TryInline => Ok(SmallString::try_inline(alloc, text).unwrap_or(none)),
-        Call::WithCapacity => SmallString::with_capacity(alloc, text.len()),
-        Call::FromBorrowed => SmallString::from_str(alloc, text),
-        Call::FromChar => SmallString::from_char(alloc, 'é'),
-        Call::FromOwned => SmallString::from_string(alloc, gift.string).map_err(error_of),
-        Call::FromItems => SmallString::from_chars(alloc, text.chars()),
-        Call::FromStrs => SmallString::from_strs(alloc, Some(text)),
-        Call::FromManyStrs => SmallString::from_strs(alloc, repeat_n(text, PIECES)),
-        Call::FromTexts => SmallString::from_eco_strings(alloc, gift.texts),
+        Call::Inline if text.len() <= N => Ok(SmallText::inline(alloc, text)),
+        Call::TryInline => Ok(SmallText::try_inline(alloc, text).unwrap_or(none)),
+        Call::WithCapacity => SmallText::with_capacity(alloc, text.len()),
+        Call::FromBorrowed => SmallText::from_str(alloc, text),
+        Call::FromChar => SmallText::from_char(alloc, 'é'),
+        Call::FromOwned => SmallText::from_string(alloc, gift.string).map_err(error_of),
+        Call::FromItems => SmallText::from_chars(alloc, text.chars()),
+        Call::FromStrs => SmallText::from_strs(alloc, Some(text)),
+        Call::FromManyStrs => SmallText::from_strs(alloc, repeat_n(text, PIECES)),
+        Call::FromTexts => SmallText::from_eco_strings(alloc, gift.texts),
         Call::Collect => or_memory(text.chars().collect(alloc)),
-        Call::Format => printed(SmallString::format(alloc, text)),
+        Call::Format => printed(SmallText::format(alloc, text)),
         _ => Ok(none),
     }
 }
 
-fn text_of<const N: usize>(bytes: SmallBytes<N>) -> Result<SmallString<N>, EcoError> {
-    match SmallString::try_from(bytes) {
+fn text_of<const N: usize>(bytes: SmallBytes<N>) -> Result<SmallText<N>, EcoError> {
+    match SmallText::try_from(bytes) {
         Ok(text) => Ok(text),
         Err(_) => Err(EcoError::Capacity),
     }

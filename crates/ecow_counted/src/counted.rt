@@ -3,7 +3,7 @@ ghost use Rattle.std.specs.Prelude.{◌≡◌, not, OnErr, IfOk, IfErr};
 ghost use Rattle.std.specs.FinMap as finite;
 ghost use Rattle.std.specs.Option.{option_map};
 ghost use Rattle.ecow_base.specs.Clones.{ClonesAreEqual};
-ghost use Rattle.ecow_vec.specs.Refusals.{RejectsForMemory};
+ghost use Rattle.ecow_list.specs.Refusals.{RejectsForMemory};
 ghost use Rattle.ecow_model.specs.CountedRun.{ContentsStep, CountedRun, CountedStep, CountedVerdict, copied_in, if_accepted, moved_in, saturating};
 ghost use Rattle.ecow_model.specs.Vecs.{vec_usage};
 ghost use Rattle.ecow_model.specs.Names.{IsSharing, blocks, is_shared, owners_of};
@@ -16,8 +16,8 @@ mod read;
 
 use crate::blocks::Blocks;
 use crate::commands::Carried;
+use ecow_list::{EcoError, Rejected};
 use ecow_model::{Name, Outcome, VecCommand};
-use ecow_vec::{EcoError, Rejected};
 use std::alloc::Global;
 use std::marker::Model;
 

@@ -3,8 +3,8 @@ ghost use Rattle.std.specs.Iterator.{at_most};
 
 use crate::watch::Watch;
 use ecow_bytes::EcoBytes;
+use ecow_list::{EcoError, EcoVec, eco_vec, range_in};
 use ecow_string::EcoString;
-use ecow_vec::{EcoError, EcoVec, eco_vec, range_in};
 use std::alloc::Global;
 
 /// How often the item is given.

@@ -6,7 +6,7 @@ use crate::small::{
 use crate::steps::{Row, Word};
 use crate::watch::Watch;
 use ecow_bytes::SmallBytes;
-use ecow_vec::{EcoError, EcoVec, Rejected};
+use ecow_list::{EcoError, EcoVec, Rejected};
 use std::alloc::Global;
 use std::io::Write;
 

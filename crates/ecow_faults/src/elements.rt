@@ -1,7 +1,7 @@
 //! Elements whose clones take no memory, and such that do.
 use crate::short::Short;
 use crate::steps::{Step, Word};
-use ecow_vec::{EcoError, EcoVec, IntoArray, range_in};
+use ecow_list::{EcoError, EcoVec, IntoArray, range_in};
 use std::alloc::{AllocError, Global};
 
 /// An element that is known by a number.

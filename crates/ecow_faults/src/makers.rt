@@ -3,7 +3,7 @@ use crate::elements::{Element, elements, numbers};
 use crate::short::Short;
 use crate::vectors::{VecState, made, states};
 use crate::watch::Watch;
-use ecow_vec::{EcoError, EcoVec, IntoArray, eco_vec};
+use ecow_list::{EcoError, EcoVec, IntoArray, eco_vec};
 use std::alloc::Global;
 use std::io::Write;
 

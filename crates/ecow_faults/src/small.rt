@@ -3,7 +3,7 @@
 use crate::short::Long;
 use crate::steps::{Edit, Row, Step, Word, step_of};
 use crate::watch::Watch;
-use ecow_vec::{EcoError, EcoVec, Rejected};
+use ecow_list::{EcoError, EcoVec, Rejected};
 use std::alloc::Global;
 
 /// In which form a value stands, with how many bytes, and whether a twin shares its block.

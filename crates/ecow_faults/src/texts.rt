@@ -1,12 +1,12 @@
-//! The calls of `SmallString`.
+//! The calls of `SmallText`.
 use crate::short::Long;
 use crate::small::{
     Small, SmallCall, SmallState, Snapshot, into_holds, is_made, repeated_hold, states,
 };
 use crate::steps::{Edit, Row, Word};
 use crate::watch::Watch;
-use ecow_string::SmallString;
-use ecow_vec::{EcoError, EcoVec, Rejected};
+use ecow_list::{EcoError, EcoVec, Rejected};
+use ecow_string::SmallText;
 use std::alloc::Global;
 use std::fmt::Write;
 
@@ -81,7 +81,7 @@ pub fn character(count: usize) -> char {
     if count == 4 { '😀' } else { '.' }
 }
 
-impl<const N: usize> Small for SmallString<N> {
+impl<const N: usize> Small for SmallText<N> {
     fn limit() -> usize {
         N
     }
@@ -97,11 +97,11 @@ impl<const N: usize> Small for SmallString<N> {
     fn made(alloc: Global, state: SmallState) -> Result<Self, EcoError> {
         let text = letters(state.len);
         if !state.spilled {
-            return SmallString::from_str(alloc, text);
+            return SmallText::from_str(alloc, text);
         }
         let mut vector = EcoVec::with_capacity(alloc, state.room)?;
         vector.extend_from_slice(text.as_bytes())?;
-        match SmallString::try_from(vector) {
+        match SmallText::try_from(vector) {
             Ok(text) => Ok(text),
             Err(_) => Err(EcoError::Capacity),
         }
@@ -131,7 +131,7 @@ impl<const N: usize> Small for SmallString<N> {
 }
 
 /// A call that is handed a character.
-fn one<const N: usize>(text: &mut SmallString<N>, call: &SmallCall) -> Result<bool, EcoError> {
+fn one<const N: usize>(text: &mut SmallText<N>, call: &SmallCall) -> Result<bool, EcoError> {
     let (start, c) = (call.step.start, character(call.change.count));
     match call.step.word {
         Word::Push => text.push(c)?,
@@ -151,7 +151,7 @@ fn is_taken(c: char, call: &SmallCall) -> bool {
 }
 
 /// A call that answers what it takes out.
-fn take<const N: usize>(text: &mut SmallString<N>, call: &SmallCall) -> Result<bool, EcoError> {
+fn take<const N: usize>(text: &mut SmallText<N>, call: &SmallCall) -> Result<bool, EcoError> {
     let start = call.step.start;
     match call.step.word {
         Word::Pop => match text.pop()? {
@@ -166,7 +166,7 @@ fn take<const N: usize>(text: &mut SmallString<N>, call: &SmallCall) -> Result<b
     }
 }
 
-fn several<const N: usize>(text: &mut SmallString<N>, call: &SmallCall) -> Result<bool, EcoError> {
+fn several<const N: usize>(text: &mut SmallText<N>, call: &SmallCall) -> Result<bool, EcoError> {
     let start = call.step.start;
     let given = added(call.change.count);
     match call.step.word {
@@ -182,7 +182,7 @@ fn several<const N: usize>(text: &mut SmallString<N>, call: &SmallCall) -> Resul
     Ok(true)
 }
 
-fn pieces<const N: usize>(text: &mut SmallString<N>, call: &SmallCall) -> Result<bool, EcoError> {
+fn pieces<const N: usize>(text: &mut SmallText<N>, call: &SmallCall) -> Result<bool, EcoError> {
     match call.step.word {
         Word::ExtendEach => text.extend_chars(added(call.change.count).chars())?,
         _ => {
@@ -193,7 +193,7 @@ fn pieces<const N: usize>(text: &mut SmallString<N>, call: &SmallCall) -> Result
     Ok(true)
 }
 
-fn shorten<const N: usize>(text: &mut SmallString<N>, call: &SmallCall) -> Result<bool, EcoError> {
+fn shorten<const N: usize>(text: &mut SmallText<N>, call: &SmallCall) -> Result<bool, EcoError> {
     match call.step.word {
         Word::Truncate if text.is_char_boundary(call.step.start) => {
             text.truncate(call.step.start)?
@@ -210,17 +210,17 @@ fn shorten<const N: usize>(text: &mut SmallString<N>, call: &SmallCall) -> Resul
 }
 
 /// `none` names the type in which values are made: a proof knows then that they have a size.
-pub fn makers_hold<const N: usize>(alloc: Global, watch: &Watch, none: &SmallString<N>) -> bool {
+pub fn makers_hold<const N: usize>(alloc: Global, watch: &Watch, none: &SmallText<N>) -> bool {
     let mut hold = chars_hold(alloc, watch, none);
     for len in [0, 1, N, N.saturating_add(1), N.saturating_add(9)] {
         let (text, inline) = (letters(len), text_fits(len, N));
-        let bytes = SmallString::<N>::letters(len);
+        let bytes = SmallText::<N>::letters(len);
         let want = bytes.as_slice();
-        let copied = SmallString::<N>::from_str(alloc, text);
-        let iterated = SmallString::<N>::from_chars(alloc, text.chars());
+        let copied = SmallText::<N>::from_str(alloc, text);
+        let iterated = SmallText::<N>::from_chars(alloc, text.chars());
         let collected = collected::<N>(alloc, text);
-        let joined = SmallString::<N>::from_strs(alloc, ["", text]);
-        let empty = SmallString::<N>::with_capacity(alloc, len);
+        let joined = SmallText::<N>::from_strs(alloc, ["", text]);
+        let empty = SmallText::<N>::with_capacity(alloc, len);
         hold = is_made(watch, copied, want, inline)
             && is_made(watch, iterated, want, inline)
             && is_made(watch, collected, want, inline)
@@ -229,9 +229,7 @@ pub fn makers_hold<const N: usize>(alloc: Global, watch: &Watch, none: &SmallStr
             && joined_holds(alloc, watch, none, text)
             && hold;
         hold = match String::from_str(alloc, text) {
-            Ok(string) => {
-                string_holds(watch, SmallString::<N>::from_string(alloc, string), text)
-            }
+            Ok(string) => { string_holds(watch, SmallText::<N>::from_string(alloc, string), text) }
             Err(_) => watch.may_refuse(),
         } && hold;
     }
@@ -242,18 +240,18 @@ fn text_fits(len: usize, limit: usize) -> bool {
     letters(len).len() <= limit
 }
 
-fn chars_hold<const N: usize>(alloc: Global, watch: &Watch, _none: &SmallString<N>) -> bool {
-    let four = SmallString::<N>::added(4);
-    let of_one = SmallString::<N>::from_char(alloc, 'a');
-    let of_two = SmallString::<N>::from_char(alloc, 'é');
-    let of_four = SmallString::<N>::from_char(alloc, '😀');
+fn chars_hold<const N: usize>(alloc: Global, watch: &Watch, _none: &SmallText<N>) -> bool {
+    let four = SmallText::<N>::added(4);
+    let of_one = SmallText::<N>::from_char(alloc, 'a');
+    let of_two = SmallText::<N>::from_char(alloc, 'é');
+    let of_four = SmallText::<N>::from_char(alloc, '😀');
     is_made(watch, of_one, &[97], N > 0)
         && is_made(watch, of_two, &[195, 169], N > 1)
         && is_made(watch, of_four, four.as_slice(), N > 3)
 }
 
-fn collected<const N: usize>(alloc: Global, text: &str) -> Result<SmallString<N>, EcoError> {
-    match text.chars().collect::<SmallString<N>>(alloc) {
+fn collected<const N: usize>(alloc: Global, text: &str) -> Result<SmallText<N>, EcoError> {
+    match text.chars().collect::<SmallText<N>>(alloc) {
         Ok(text) => Ok(text),
         Err(_) => Err(EcoError::Memory),
     }
@@ -262,7 +260,7 @@ fn collected<const N: usize>(alloc: Global, text: &str) -> Result<SmallString<N>
 /// A text of a `String`, which comes back where it is refused.
 fn string_holds<const N: usize>(
     watch: &Watch,
-    made: Result<SmallString<N>, Rejected<String>>,
+    made: Result<SmallText<N>, Rejected<String>>,
     string: &str,
 ) -> bool {
     let bytes = Long::of_bytes(string.as_bytes());
@@ -271,7 +269,7 @@ fn string_holds<const N: usize>(
         Ok(text) => is_made(watch, Ok(text), want, inline),
         Err(rejected) => {
             rejected.value.as_str() == string
-                && is_made::<SmallString<N>>(watch, Err(rejected.error), want, inline)
+                && is_made::<SmallText<N>>(watch, Err(rejected.error), want, inline)
         }
     }
 }
@@ -280,12 +278,12 @@ fn string_holds<const N: usize>(
 fn joined_holds<const N: usize>(
     alloc: Global,
     watch: &Watch,
-    _none: &SmallString<N>,
+    _none: &SmallText<N>,
     text: &str,
 ) -> bool {
     let mut parts = Vec::new(alloc);
     for part in [text, "!"] {
-        let Ok(part) = SmallString::<N>::from_str(alloc, part) else {
+        let Ok(part) = SmallText::<N>::from_str(alloc, part) else {
             return watch.may_refuse();
         };
         if parts.push(part).is_err() {
@@ -294,22 +292,22 @@ fn joined_holds<const N: usize>(
     }
     let mut want = Long::of_bytes(text.as_bytes());
     want.push(33);
-    let made = SmallString::<N>::from_eco_strings(alloc, parts);
+    let made = SmallText::<N>::from_eco_strings(alloc, parts);
     is_made(watch, made, want.as_slice(), want.len() <= N)
 }
 
 /// What is made of a text in each state, which stays as it is.
-pub fn derived_hold<const N: usize>(alloc: Global, watch: &Watch, none: &SmallString<N>) -> bool {
+pub fn derived_hold<const N: usize>(alloc: Global, watch: &Watch, none: &SmallText<N>) -> bool {
     let mut hold = true;
     for state in states(N) {
-        let Ok(text) = SmallString::<N>::made(alloc, state) else {
+        let Ok(text) = SmallText::<N>::made(alloc, state) else {
             return state.spilled && watch.may_refuse() && hold;
         };
         hold = repeated_hold(watch, &text) && replaced_hold(watch, &text) && hold;
         hold = cased_hold(watch, &text, state.spilled)
             && printed_holds(alloc, watch, &text)
             && hold;
-        let letters = SmallString::<N>::letters(state.len);
+        let letters = SmallText::<N>::letters(state.len);
         hold = text.snapshot().bytes.is(letters.as_slice()) && hold;
         hold = text.is_inline() != state.spilled && into_holds(watch, state, text) && hold;
         hold = sums_hold(alloc, watch, none, state) && hold;
@@ -318,7 +316,7 @@ pub fn derived_hold<const N: usize>(alloc: Global, watch: &Watch, none: &SmallSt
 }
 
 /// The text with other bytes where the letter `a` stands, which it does first.
-fn with_other<const N: usize>(text: &SmallString<N>, other: &str) -> Long {
+fn with_other<const N: usize>(text: &SmallText<N>, other: &str) -> Long {
     let bytes = text.snapshot().bytes;
     let first = Edit {
         start: 0,
@@ -331,7 +329,7 @@ fn with_other<const N: usize>(text: &SmallString<N>, other: &str) -> Long {
     bytes.replaced(first, &Long::of_bytes(other.as_bytes()))
 }
 
-fn replaced_hold<const N: usize>(watch: &Watch, text: &SmallString<N>) -> bool {
+fn replaced_hold<const N: usize>(watch: &Watch, text: &SmallText<N>) -> bool {
     let mut hold = true;
     for (pattern, replacement, count) in [
         ("a", "", 9),
@@ -354,7 +352,7 @@ fn replaced_hold<const N: usize>(watch: &Watch, text: &SmallString<N>) -> bool {
 }
 
 /// Nothing is found before the first letter.
-fn spread_holds<const N: usize>(watch: &Watch, text: &SmallString<N>) -> bool {
+fn spread_holds<const N: usize>(watch: &Watch, text: &SmallText<N>) -> bool {
     let mut want = Long::of_bytes(b"..");
     want.append(text.snapshot().bytes.as_slice());
     is_made(
@@ -376,7 +374,7 @@ fn upper(letters: &Long) -> Long {
 
 /// In ASCII case a text keeps its mode. In Unicode case it is inline where it fits; past ASCII
 /// memory for std's text may be refused.
-fn cased_hold<const N: usize>(watch: &Watch, text: &SmallString<N>, spilled: bool) -> bool {
+fn cased_hold<const N: usize>(watch: &Watch, text: &SmallText<N>, spilled: bool) -> bool {
     let lower = text.snapshot().bytes;
     let ascii = lower.ascii_uppercase();
     is_made(watch, text.to_ascii_lowercase(), lower.as_slice(), !spilled)
@@ -387,7 +385,7 @@ fn cased_hold<const N: usize>(watch: &Watch, text: &SmallString<N>, spilled: boo
 
 fn is_cased<const N: usize>(
     watch: &Watch,
-    made: Result<SmallString<N>, EcoError>,
+    made: Result<SmallText<N>, EcoError>,
     want: &Long,
 ) -> bool {
     let inline = want.len() <= N;
@@ -398,7 +396,7 @@ fn is_cased<const N: usize>(
 }
 
 /// A `String` of the text, and the text printed.
-fn printed_holds<const N: usize>(alloc: Global, watch: &Watch, text: &SmallString<N>) -> bool {
+fn printed_holds<const N: usize>(alloc: Global, watch: &Watch, text: &SmallText<N>) -> bool {
     let copied = match text.to_std_string() {
         Ok(copy) => copy.as_str() == text.as_str(),
         Err(error) => error == EcoError::Memory && text.len() > 0 && watch.may_refuse(),
@@ -414,12 +412,12 @@ fn printed_holds<const N: usize>(alloc: Global, watch: &Watch, text: &SmallStrin
 fn sums_hold<const N: usize>(
     alloc: Global,
     watch: &Watch,
-    _none: &SmallString<N>,
+    _none: &SmallText<N>,
     state: SmallState,
 ) -> bool {
     let mut hold = true;
     for count in [0, 1, 4, 12] {
-        let Ok(text) = SmallString::<N>::made(alloc, state) else {
+        let Ok(text) = SmallText::<N>::made(alloc, state) else {
             return state.spilled && watch.may_refuse() && hold;
         };
         hold = sum_holds(watch, state, text, count) && hold;
@@ -430,12 +428,12 @@ fn sums_hold<const N: usize>(
 fn sum_holds<const N: usize>(
     watch: &Watch,
     state: SmallState,
-    text: SmallString<N>,
+    text: SmallText<N>,
     count: usize,
 ) -> bool {
     let (letters, capacity) = (text.snapshot().bytes, text.capacity());
     let mut want = letters;
-    want.append(SmallString::<N>::added(count).as_slice());
+    want.append(SmallText::<N>::added(count).as_slice());
     let inline = !state.spilled && want.len() <= N;
     match text.add(added(count)) {
         Ok(sum) => sum.snapshot().bytes.is(want.as_slice()) && sum.is_inline() == inline,

@@ -3,7 +3,7 @@ use crate::elements::{Element, elements, numbers};
 use crate::short::Short;
 use crate::steps::{Edit, Row, Step, Word, step_of};
 use crate::watch::Watch;
-use ecow_vec::{EcoError, EcoVec, range_in};
+use ecow_list::{EcoError, EcoVec, range_in};
 use std::alloc::Global;
 use std::mem;
 

@@ -1,9 +1,9 @@
 //! Why a call on a nested value was refused.
 ghost use Rattle.std.specs.Prelude.{◌≡◌};
-ghost use Rattle.ecow_vec.specs.declared.error.EcoError.TheVariants as list;
+ghost use Rattle.ecow_list.specs.declared.error.EcoError.TheVariants as list;
 ghost use Rattle.ecow_nested.specs.declared.refusal.Refusal.TheVariants.{Capacity, Memory};
 
-use ecow_vec::{EcoError, Rejected};
+use ecow_list::{EcoError, Rejected};
 use std::alloc::AllocError;
 use thiserror::Error;
 

@@ -8,8 +8,8 @@ mod laws;
 mod lists;
 mod parts;
 
+use ecow_list::EcoVec;
 use ecow_string::EcoString;
-use ecow_vec::EcoVec;
 use std::alloc::AllocError;
 
 /// A nested value. A clone shares all its lists and texts.

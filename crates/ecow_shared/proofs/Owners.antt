@@ -23,8 +23,7 @@ use denote.Struct.Struct.{Shape, Struct, within, as_fields}
 use Rattle.core.proofs.mem.Param.{El, R}
 use Rattle.std.specs.contracts.alloc.Global as heap
 use Rattle.std_alloc.proofs.RcSteps.{Good, word, word-Good}
-use Rattle.ecow_block.specs.Contents.{contents}
-use Rattle.ecow_block.specs.Fields.{IsBlock}
+use Rattle.ecow_block.specs.Fields.{IsBlock, shown}
 use Rattle.ecow_block.specs.Heads.{title_shares}
 use Rattle.ecow_block.specs.Kept.{IsOwner, seen}
 use Rattle.ecow_block.specs.contracts.room.Top as top_type
@@ -78,24 +77,24 @@ module _ (E : El) {M : Type 1} {𝓤 : Ura M} {𝓛 : Logic 𝓤} {K : Type 0} {
 module _ (E : El) {M : Type 1} {𝓤 : Ura M} {𝓛 : Logic 𝓤} {K : Type 0} {Γ : List (Item 𝓤)} {G : Goal 𝓤 𝓛.H} where
   -- [what is owned beside the fields]
   pub owner_had : K → (d : (Sh E).Denot) (vs : List Val)
-      → ((s : (Si E).Denot) → contents s.inside.room.items s.inside.room.capacity ≡ d → IsOwner s.top s.alloc s.inside
+      → ((s : (Si E).Denot) → shown s.inside ≡ d → IsOwner s.top s.alloc s.inside
       → vs ≡ laid s.top.ptr ∷ [] → Seq K 𝓛 (‵ (owner_owns (R E) s.inside) ∷ Γ) G)
       → Seq K 𝓛 (‵ ((Sh E).own_val d vs) ∷ Γ) G
   owner_had t d vs k = fpick t (λ x. fsplit t $ move t (1 ∷ []) $ drop t $ fsplit t $ data_had E t x.0 vs (λ e. k x.0 x.1.0 x.1.1 e))
 
   pub owner_made : K → (s : (Si E).Denot) → IsOwner s.top s.alloc s.inside
-      → Step K 𝓛 (‵ ((Sh E).own_val (contents s.inside.room.items s.inside.room.capacity) (laid s.top.ptr ∷ [])) ∷ Γ) G (‵ (owner_owns (R E) s.inside) ∷ Γ) G
-  owner_made t s is = step (λ k. let d : (Sh E).Denot = contents s.inside.room.items s.inside.room.capacity in
+      → Step K 𝓛 (‵ ((Sh E).own_val (shown s.inside) (laid s.top.ptr ∷ [])) ∷ Γ) G (‵ (owner_owns (R E) s.inside) ∷ Γ) G
+  owner_made t s is = step (λ k. let d : (Sh E).Denot = shown s.inside in
       data_made E t s $ fjoin t $ nothing t $ move t (1 ∷ 0 ∷ []) $ fjoin t $
-      fpack t ((a : (Si E).Denot) × ((contents a.inside.room.items a.inside.room.capacity ≡ d) × IsOwner a.top a.alloc a.inside))
+      fpack t ((a : (Si E).Denot) × ((shown a.inside ≡ d) × IsOwner a.top a.alloc a.inside))
       (λ x. fsep ((Si E).own_val x.0 (laid s.top.ptr ∷ [])) ftrue) (s, (refl, is)) $ k)
 
 -- what a `&` to an owner holds, and what it sees, is what a `&` to the block holds
 module _ (E : El) (s : (Si E).Denot) (is : IsOwner s.top s.alloc s.inside) (κ : Lft)
     (b o : ℕ) {M : Type 1} {𝓤 : Ura M} {𝓛 : Logic 𝓤} {K : Type 0} {Γ : List (Item 𝓤)} {G : Goal 𝓤 𝓛.H} where
-  pub block_seen : K → Step K 𝓛 (‵ (hidden_shr (Bk E) κ (contents s.inside.room.items s.inside.room.capacity) b o) ∷ Γ) G
+  pub block_seen : K → Step K 𝓛 (‵ (hidden_shr (Bk E) κ (shown s.inside) b o) ∷ Γ) G
       (‵ (hidden_shr (Data E) κ (data_of E s) b o) ∷ ‵ (seen (R E) s.inside κ) ∷ Γ) G
-  block_seen t = step (λ k. let i = s.inside in let d : (Bk E).Denot = contents i.room.items i.room.capacity in
+  block_seen t = step (λ k. let i = s.inside in let d : (Bk E).Denot = shown i in
       unhide t $ move t (1 ∷ []) $ fsplit t $ rewrite t 0 (λ (p : Ptr). ‵ (title_shares (R E) p i.title.fields κ)) (sym is.is_block.head.at) refl $
       -- [the fields of the head; the items; the owner's fields]
       move t (2 ∷ []) $ fsplit t $ fsplit t $ rewrite t 0 (λ (p : Ptr). ‵ (shared_of (top_type.the_field (R E)).row (p, tt) b (o + 0) κ)) (sym is.top_is) refl $
@@ -103,5 +102,5 @@ module _ (E : El) (s : (Si E).Denot) (is : IsOwner s.top s.alloc s.inside) (κ :
       move t (1 ∷ []) $ fsplit t $ nothing t $ move t (1 ∷ 0 ∷ []) $ fjoin t $ fjoin t $ move t (1 ∷ 0 ∷ []) $
       fjoin t $ move t (1 ∷ 0 ∷ []) $ fjoin t $ move t (1 ∷ 0 ∷ []) $ fjoin t $ fjoin t $
       nothing t $ move t (1 ∷ 0 ∷ []) $ fjoin t $
-      fpack t ((a : (Bi E).Denot) × ((contents a.room.items a.room.capacity ≡ d) × IsBlock a))
+      fpack t ((a : (Bi E).Denot) × ((shown a ≡ d) × IsBlock a))
       (λ x. beside ((Bi E).shr_at x.0 b o) nothing_held κ) (i, (refl, is.is_block)) $ hide t $ k)

@@ -5,9 +5,9 @@ ghost use Rattle.ecow_model.specs.declared.command.Refusal.{Refusal};
 ghost use Rattle.ecow_model.specs.declared.usage.NewValue.{NewValue};
 ghost use Rattle.ecow_store.specs.Refusals.{refusal_for};
 
+use ecow_list::EcoError;
 use ecow_model::usage::NewValue;
 use ecow_model::{Outcome, Refusal};
-use ecow_vec::EcoError;
 
 /// Why a command was refused whose call was.
 pub(crate) fn refusal_of(error: EcoError) -> Refusal

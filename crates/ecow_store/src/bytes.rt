@@ -8,6 +8,7 @@ ghost use Rattle.ecow_named.proofs.Uses.{bytes_wraps};
 use crate::answers::{answer_change, answer_make, refusal_of};
 use crate::store::Stored;
 use ecow_bytes::SmallBytes;
+use ecow_list::EcoVec;
 use ecow_model::bytes::{BytesAsk, BytesDerive, BytesEdit, BytesMake};
 use ecow_model::usage::NewValue;
 use ecow_model::value::Value;
@@ -15,8 +16,7 @@ use ecow_model::{BytesCommand, Items, Outcome, Refusal};
 use ecow_named::kinds::{ValueKind, carry_out};
 use ecow_named::table::Table;
 use ecow_named::values::{bytes_in, bytes_in_mut};
-use ecow_string::SmallString;
-use ecow_vec::EcoVec;
+use ecow_string::SmallText;
 use std::alloc::{AllocError, Global};
 
 /// One command on bytes.
@@ -77,7 +77,7 @@ impl<T: Clone, const N: usize> ValueKind<T, Stored<T, N>> for BytesKind {
     ) -> Result<SmallBytes<N>, Refusal> {
         match (how, source) {
             (BytesDerive::FromText, Value::Text(text)) => {
-                let copy: Result<SmallString<N>, AllocError> = text.clone();
+                let copy: Result<SmallText<N>, AllocError> = text.clone();
                 match copy {
                     Ok(copy) => Ok(SmallBytes::from(copy)),
                     Err(_) => Err(Refusal::Memory),

@@ -2,7 +2,7 @@
 ghost use Rattle.std.specs.Prelude.{◌≡◌, IfOk};
 ghost use Rattle.std.specs.FinMap as map;
 ghost use Rattle.ecow_base.specs.Clones.{ClonesAreEqual};
-ghost use Rattle.ecow_vec.specs.Refusals.{RejectsForMemory};
+ghost use Rattle.ecow_list.specs.Refusals.{RejectsForMemory};
 ghost use Rattle.ecow_model.specs.Refusing.{OnRefused};
 ghost use Rattle.ecow_model.specs.Run.{Run, RunBy, Step, StepVerdict, StepWhere};
 
@@ -10,16 +10,16 @@ mod read;
 
 use crate::{bytes, texts, vecs};
 use ecow_bytes::SmallBytes;
+use ecow_list::{EcoError, EcoVec, Rejected};
 use ecow_model::value::Value;
 use ecow_model::{Command, Outcome};
 use ecow_named::table::Table;
-use ecow_string::SmallString;
-use ecow_vec::{EcoError, EcoVec, Rejected};
+use ecow_string::SmallText;
 use std::alloc::Global;
 use std::marker::Model;
 
 /// What stands under a name.
-pub type Stored<T, const N: usize> = Value<EcoVec<T>, SmallBytes<N>, SmallString<N>>;
+pub type Stored<T, const N: usize> = Value<EcoVec<T>, SmallBytes<N>, SmallText<N>>;
 
 /// Named values of which `V` is the type.
 #[derive(Drop)]

@@ -9,6 +9,7 @@ ghost use Rattle.ecow_named.proofs.Uses.{text_wraps};
 use crate::answers::{answer_change, answer_make, refusal_of};
 use crate::store::Stored;
 use ecow_bytes::SmallBytes;
+use ecow_list::EcoError;
 use ecow_model::texts::{TextAsk, TextDerive, TextEdit, TextMake};
 use ecow_model::usage::{NewValue, allowed};
 use ecow_model::value::Value;
@@ -16,8 +17,7 @@ use ecow_model::{Outcome, Refusal, Text, TextCommand};
 use ecow_named::kinds::{ValueKind, carry_out};
 use ecow_named::table::Table;
 use ecow_named::values::{text_in, text_in_mut};
-use ecow_string::SmallString;
-use ecow_vec::EcoError;
+use ecow_string::SmallText;
 use std::alloc::{AllocError, Global};
 
 /// One command on texts.
@@ -37,7 +37,7 @@ pub(crate) fn step<T: Clone, const N: usize>(
 pub(crate) struct TextKind;
 
 impl<T: Clone, const N: usize> ValueKind<T, Stored<T, N>> for TextKind {
-    type Payload = SmallString<N>;
+    type Payload = SmallText<N>;
 
     type Make = TextMake;
 
@@ -52,17 +52,17 @@ impl<T: Clone, const N: usize> ValueKind<T, Stored<T, N>> for TextKind {
     ghost premise = { ⊤ };
 
     #[tactic(auto, using(crate::proofs::Characters::texts))]
-    fn make(alloc: Global, how: TextMake) -> Result<NewValue<SmallString<N>>, Refusal> {
+    fn make(alloc: Global, how: TextMake) -> Result<NewValue<SmallText<N>>, Refusal> {
         match how {
-            TextMake::New => Ok(NewValue::Always(SmallString::new(alloc))),
+            TextMake::New => Ok(NewValue::Always(SmallText::new(alloc))),
             TextMake::TryInline(text) => {
-                Ok(NewValue::Tried(SmallString::try_inline(alloc, text.as_str())))
+                Ok(NewValue::Tried(SmallText::try_inline(alloc, text.as_str())))
             }
-            TextMake::WithCapacity(capacity) => answer_make(SmallString::with_capacity(
+            TextMake::WithCapacity(capacity) => answer_make(SmallText::with_capacity(
                 alloc, capacity,
             )),
-            TextMake::FromStr(text) => answer_make(SmallString::from_str(alloc, text.as_str())),
-            TextMake::FromChar(c) => answer_make(SmallString::from_char(alloc, c)),
+            TextMake::FromStr(text) => answer_make(SmallText::from_str(alloc, text.as_str())),
+            TextMake::FromChar(c) => answer_make(SmallText::from_char(alloc, c)),
         }
     }
 
@@ -71,7 +71,7 @@ impl<T: Clone, const N: usize> ValueKind<T, Stored<T, N>> for TextKind {
         _alloc: Global,
         how: TextDerive,
         source: &Stored<T, N>,
-    ) -> Result<SmallString<N>, Refusal> {
+    ) -> Result<SmallText<N>, Refusal> {
         if let TextDerive::FromBytes = how {
             return match source {
                 Value::Bytes(bytes) => from_bytes(bytes),
@@ -79,10 +79,10 @@ impl<T: Clone, const N: usize> ValueKind<T, Stored<T, N>> for TextKind {
             };
         }
         let text = text_in(source)?;
-        let derived: Result<SmallString<N>, EcoError> = match how {
+        let derived: Result<SmallText<N>, EcoError> = match how {
             TextDerive::FromBytes => return Err(Refusal::Kind),
             TextDerive::Clone => {
-                let copy: Result<SmallString<N>, AllocError> = text.clone();
+                let copy: Result<SmallText<N>, AllocError> = text.clone();
                 match copy {
                     Ok(copy) => Ok(copy),
                     Err(_) => Err(EcoError::Memory),
@@ -102,7 +102,7 @@ impl<T: Clone, const N: usize> ValueKind<T, Stored<T, N>> for TextKind {
     }
 
     #[tactic(auto, using(crate::proofs::Characters::texts))]
-    fn edit(_alloc: Global, text: &mut SmallString<N>, edit: TextEdit) -> Outcome<T> {
+    fn edit(_alloc: Global, text: &mut SmallText<N>, edit: TextEdit) -> Outcome<T> {
         if let Err(refusal) = check::<T, N>(text, &edit) {
             return Outcome::Refused(refusal);
         }
@@ -137,7 +137,7 @@ impl<T: Clone, const N: usize> ValueKind<T, Stored<T, N>> for TextKind {
         }
     }
 
-    fn ask(alloc: Global, text: &mut SmallString<N>, question: TextAsk) -> Outcome<T> {
+    fn ask(alloc: Global, text: &mut SmallText<N>, question: TextAsk) -> Outcome<T> {
         match question {
             TextAsk::Len => Outcome::Count(text.len()),
             TextAsk::Capacity => Outcome::Count(text.capacity()),
@@ -149,15 +149,15 @@ impl<T: Clone, const N: usize> ValueKind<T, Stored<T, N>> for TextKind {
         }
     }
 
-    fn payload(value: &Stored<T, N>) -> Result<&SmallString<N>, Refusal> {
+    fn payload(value: &Stored<T, N>) -> Result<&SmallText<N>, Refusal> {
         text_in(value)
     }
 
-    fn payload_mut(value: &mut Stored<T, N>) -> Result<&mut SmallString<N>, Refusal> {
+    fn payload_mut(value: &mut Stored<T, N>) -> Result<&mut SmallText<N>, Refusal> {
         text_in_mut(value)
     }
 
-    fn wrap(text: SmallString<N>) -> Stored<T, N> {
+    fn wrap(text: SmallText<N>) -> Stored<T, N> {
         Value::Text(text)
     }
 
@@ -167,7 +167,7 @@ impl<T: Clone, const N: usize> ValueKind<T, Stored<T, N>> for TextKind {
 /// Whether an edit of a text may be made, and else why not: the first refusal that applies, want of
 /// memory apart.
 #[tactic(auto, using(crate::proofs::Characters::texts))]
-fn check<T, const N: usize>(text: &SmallString<N>, edit: &TextEdit) -> Result<(), Refusal>
+fn check<T, const N: usize>(text: &SmallText<N>, edit: &TextEdit) -> Result<(), Refusal>
     ensures { result ≡ verdict (edit_text {T = T} N edit.now text.now) }
 {
     let len = text.len();
@@ -209,12 +209,12 @@ fn check<T, const N: usize>(text: &SmallString<N>, edit: &TextEdit) -> Result<()
 
 /// The text that bytes spell, in their mode: `NotUtf8` where they spell none.
 #[tactic(auto, using(crate::proofs::Characters::texts))]
-fn from_bytes<const N: usize>(bytes: &SmallBytes<N>) -> Result<SmallString<N>, Refusal>
+fn from_bytes<const N: usize>(bytes: &SmallBytes<N>) -> Result<SmallText<N>, Refusal>
     ensures { IsGiven (text_from_bytes bytes.now) result }
 {
     let copy: Result<SmallBytes<N>, AllocError> = bytes.clone();
     match copy {
-        Ok(copy) => match SmallString::try_from(copy) {
+        Ok(copy) => match SmallText::try_from(copy) {
             Ok(text) => Ok(text),
             Err(_) => Err(Refusal::NotUtf8),
         },

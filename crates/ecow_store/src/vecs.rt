@@ -2,7 +2,7 @@
 ghost use Rattle.std.specs.Prelude.{◌≡◌, ◌≤◌, [], Ok, length, vec_capacity, OnOk, OnErr, IfErr, MatchResult};
 ghost use Rattle.std.specs.List.{items_where_true};
 ghost use Rattle.ecow_base.specs.Clones.{ClonesAreEqual};
-ghost use Rattle.ecow_vec.specs.declared.error.EcoError.{EcoError};
+ghost use Rattle.ecow_list.specs.declared.error.EcoError.{EcoError};
 ghost use Rattle.ecow_model.specs.Vecs.{edit_vec, vec_rules};
 ghost use Rattle.ecow_model.specs.Refusing.{OnRefused, verdict};
 ghost use Rattle.ecow_model.specs.Run.{IsVecStep, IsVecVerdict};
@@ -15,6 +15,7 @@ ghost use Rattle.ecow_named.proofs.Uses.{vec_wraps};
 use crate::answers::{answer_change, answer_make};
 use crate::store::Stored;
 use ecow_base::resolve;
+use ecow_list::{EcoError, EcoVec};
 use ecow_model::usage::NewValue;
 use ecow_model::value::Value;
 use ecow_model::vecs::{VecAsk, VecDerive, VecEdit, VecMake};
@@ -22,7 +23,6 @@ use ecow_model::{Bounds, Items, Outcome, Refusal, VecCommand};
 use ecow_named::kinds::{ValueKind, carry_out};
 use ecow_named::table::Table;
 use ecow_named::values::{vec_in, vec_in_mut};
-use ecow_vec::{EcoError, EcoVec};
 use std::alloc::{AllocError, Global};
 
 /// One command on lists.

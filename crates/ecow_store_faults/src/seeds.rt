@@ -5,9 +5,9 @@ use crate::stores::{NamedStore, Run, agrees, fits, orders_hold};
 use ecow_counted::{Counted, Filled};
 use ecow_faults::steps::Word;
 use ecow_faults::watch::Watch;
+use ecow_list::EcoError;
 use ecow_model::{Outcome, Refusal};
 use ecow_testing::numbers::Numbers;
-use ecow_vec::EcoError;
 use std::alloc::Global;
 
 fn small(numbers: &mut Numbers, limit: u64) -> usize {

@@ -6,9 +6,9 @@ use ecow_counted::Counted;
 use ecow_faults::steps::{Row, Step, Word, step_of};
 use ecow_faults::watch::Watch;
 use ecow_faults::{bytes, texts, vectors};
+use ecow_list::{EcoError, Rejected};
 use ecow_model::{BytesCommand, Command, Outcome, Refusal, TextCommand, VecCommand};
 use ecow_store::SmallStore;
-use ecow_vec::{EcoError, Rejected};
 use std::alloc::{AllocError, Global};
 
 const NAMES: [u32; 4] = [0, 1, 2, 3];

@@ -6,8 +6,8 @@ use Rattle.std.specs.List.{replace_range}
 use Rattle.std.specs.Str.{chars}
 use Rattle.ecow_base.specs.Range.{range_of}
 use Rattle.ecow_values.specs.Utf8.{utf8_len, is_boundary, chars_before}
-use Rattle.ecow_vec.specs.Ranges.{AtRange}
-use Rattle.ecow_vec.proofs.Ranges.{within}
+use Rattle.ecow_list.specs.Ranges.{AtRange}
+use Rattle.ecow_list.proofs.Ranges.{within}
 use Rattle.ecow_string.specs.Text.{AreUtf8}
 use Rattle.ecow_string.proofs.Texts.{AreUtf8-replace, chars-replace}
 

@@ -5,8 +5,8 @@ use Rattle.ecow_base.specs.declared.capacity.TheConstants.{MAX_LEN}
 use Rattle.ecow_values.specs.Inline.{inline_for}
 use Rattle.ecow_values.specs.Utf8.{utf8_len}
 use Rattle.ecow_values.specs.declared.plain.PlainText.{PlainText}
-use Rattle.ecow_vec.specs.declared.error.EcoError.{EcoError}
-use Rattle.ecow_vec.specs.declared.error.EcoError.TheVariants.{Capacity, Memory}
+use Rattle.ecow_list.specs.declared.error.EcoError.{EcoError}
+use Rattle.ecow_list.specs.declared.error.EcoError.TheVariants.{Capacity, Memory}
 use Rattle.ecow_string.specs.Case.{in_case, str_in_case}
 use Rattle.ecow_string.specs.declared.case.Case.{Case}
 

@@ -5,8 +5,8 @@ use denote.Ref.{Bor}
 use Rattle.ecow_values.specs.Inline.{inline_for}
 use Rattle.ecow_values.specs.Replaced.{first_split}
 use Rattle.ecow_values.specs.declared.plain.PlainText.{PlainText}
-use Rattle.ecow_vec.specs.declared.error.EcoError.{EcoError}
-use Rattle.ecow_vec.specs.declared.error.EcoError.TheVariants.{Memory}
+use Rattle.ecow_list.specs.declared.error.EcoError.{EcoError}
+use Rattle.ecow_list.specs.declared.error.EcoError.TheVariants.{Memory}
 
 -- the texts before and behind the first p in s
 pub record IsFirstSplit (p s before behind : List ℕ) : Type 0 where

@@ -4,13 +4,13 @@ ghost use Rattle.std.specs.Str.{chars, encode_utf8_all};
 ghost use Rattle.ecow_values.specs.Inline.{inline_after, inline_for};
 ghost use Rattle.ecow_values.specs.Utf8.{utf8_len};
 
-use crate::string::{EcoString, SmallString};
+use crate::string::{EcoString, SmallText};
 use std::alloc::Global;
 use std::fmt;
 use std::fmt::{Display, Write};
 
 /// Prints the text, padded and cut as a `str` is.
-impl<const N: usize> fmt::Display for SmallString<N> {
+impl<const N: usize> fmt::Display for SmallText<N> {
     ghost output = { λ t. Some (encode_utf8_all t.chars) };
 
     fn fmt<W: fmt::Write>(&self, f: &mut fmt::Formatter<W>) -> fmt::Result {
@@ -19,7 +19,7 @@ impl<const N: usize> fmt::Display for SmallString<N> {
 }
 
 /// What is written is appended: a whole piece, or the error and nothing.
-impl<const N: usize> fmt::Write for SmallString<N> {
+impl<const N: usize> fmt::Write for SmallText<N> {
     ghost write_str_gives = { λ old bytes new. encode_utf8_all new.chars
         ≡ encode_utf8_all old.chars ++ bytes };
 
@@ -41,7 +41,7 @@ impl<const N: usize> fmt::Write for SmallString<N> {
     }
 }
 
-impl<const N: usize> SmallString<N> {
+impl<const N: usize> SmallText<N> {
     /// The text that a value prints: inline where it has at most `N` bytes, and else spilled. The
     /// error is the value's own, or tells that there was no memory for the text or that it passes
     /// 2^63 - 1 bytes.

@@ -12,12 +12,12 @@ ghost use Rattle.ecow_values.specs.declared.plain.PlainBytes.{PlainBytes};
 ghost use Rattle.ecow_values.specs.declared.plain.PlainText.{PlainText};
 ghost use Rattle.ecow_string.specs.Text.{AreChars, bytes_of};
 
-use crate::string::SmallString;
+use crate::string::SmallText;
 use std::cmp::Ordering;
 use std::fmt;
 use std::hash::{Hash, Hasher};
 
-impl<const N: usize> PartialEq for SmallString<N> {
+impl<const N: usize> PartialEq for SmallText<N> {
     ghost eq = { λ t u. pointwise nat_eq (encode_utf8_all t.chars) (encode_utf8_all u.chars) };
 
     ghost laws = { on_per (λ t. encode_utf8_all t.chars)
@@ -29,11 +29,11 @@ impl<const N: usize> PartialEq for SmallString<N> {
     }
 }
 
-impl<const N: usize> Eq for SmallString<N> {
+impl<const N: usize> Eq for SmallText<N> {
     ghost laws = { on_equiv (λ t. encode_utf8_all t.chars) nat_list_eq_equiv };
 }
 
-impl<const N: usize> PartialOrd for SmallString<N> {
+impl<const N: usize> PartialOrd for SmallText<N> {
     ghost partial_cmp = { λ t u. Some
         (slice_cmp nat_cmp (encode_utf8_all t.chars) (encode_utf8_all u.chars)) };
 
@@ -45,7 +45,7 @@ impl<const N: usize> PartialOrd for SmallString<N> {
     }
 }
 
-impl<const N: usize> Ord for SmallString<N> {
+impl<const N: usize> Ord for SmallText<N> {
     ghost cmp = { λ t u. slice_cmp nat_cmp (encode_utf8_all t.chars) (encode_utf8_all u.chars) };
 
     ghost total = { on_total (λ t. encode_utf8_all t.chars) nat_list_cmp_total };
@@ -60,7 +60,7 @@ impl<const N: usize> Ord for SmallString<N> {
     }
 }
 
-impl<const N: usize> Hash for SmallString<N> {
+impl<const N: usize> Hash for SmallText<N> {
     ghost hash_input = { λ t. fed.str (encode_utf8_all t.chars) };
 
     ghost respects_eq = { (on_Alike (λ t. encode_utf8_all t.chars)
@@ -71,7 +71,7 @@ impl<const N: usize> Hash for SmallString<N> {
     }
 }
 
-impl<const N: usize> fmt::Debug for SmallString<N> {
+impl<const N: usize> fmt::Debug for SmallText<N> {
     fn fmt<W: fmt::Write>(&self, f: &mut fmt::Formatter<W>) -> fmt::Result {
         fmt::Debug::fmt(self.as_str(), f)
     }

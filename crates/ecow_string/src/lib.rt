@@ -10,4 +10,4 @@ mod threads;
 pub mod traits;
 
 pub use display::ToEcoString;
-pub use string::{EcoString, SmallString};
+pub use string::{EcoString, SmallText};

@@ -1,4 +1,4 @@
-//! `SmallString`: a short text in the value itself, and a longer one in a vector that clones share.
+//! `SmallText`: a short text in the value itself, and a longer one in a vector that clones share.
 //! `EcoString` is its name for 15 bytes.
 //!
 //! A call that takes memory may be refused, as a vector's is: with `Capacity` where there would be
@@ -34,15 +34,15 @@ use std::str;
 /// Lengths and indices are numbers of bytes. An index is a boundary where a character begins or the
 /// text ends.
 #[derive(Drop)]
-pub struct SmallString<const N: usize> {
+pub struct SmallText<const N: usize> {
     /// The UTF-8 bytes.
     pub(crate) bytes: SmallBytes<N>,
 }
 
 /// Text of which at most 15 bytes stand in the value itself.
-pub type EcoString = SmallString<15>;
+pub type EcoString = SmallText<15>;
 
-impl<const N: usize> Model for SmallString<N> {
+impl<const N: usize> Model for SmallText<N> {
     ghost use Rattle.ecow_values.specs.Plain.{text_of};
     ghost use Rattle.ecow_values.specs.declared.plain.PlainText.{PlainText};
     ghost use Rattle.ecow_string.specs.Text.{AreUtf8};
@@ -54,7 +54,7 @@ impl<const N: usize> Model for SmallString<N> {
     ghost invariant = { λ t. AreUtf8 t.bytes.bytes };
 }
 
-impl<const N: usize> SmallString<N> {
+impl<const N: usize> SmallText<N> {
     /// The greatest number of bytes that stand in the value itself.
     pub const INLINE_LIMIT: usize = N;
 
@@ -63,7 +63,7 @@ impl<const N: usize> SmallString<N> {
         ensures chars { result.chars ≡ [] }
         ensures mode { result.inline ≡ true }
     {
-        SmallString {
+        SmallText {
             bytes: SmallBytes::new(alloc),
         }
     }
@@ -130,12 +130,12 @@ impl<const N: usize> SmallString<N> {
     }
 }
 
-impl<const N: usize> Clone for SmallString<N> {
+impl<const N: usize> Clone for SmallText<N> {
     ghost is_clone = { λ t u. u ≡ t };
 
     #[inline]
     fn clone(&self) -> Result<Self, AllocError> {
-        Ok(SmallString {
+        Ok(SmallText {
             bytes: self.bytes.clone()?,
         })
     }

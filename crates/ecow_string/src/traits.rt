@@ -6,13 +6,13 @@ ghost use Rattle.ecow_values.specs.Inline.{inline_for};
 ghost use Rattle.ecow_values.specs.Utf8.{utf8_len};
 ghost use Rattle.ecow_string.specs.Appends.{joined_strs, joined_texts};
 
-use crate::string::SmallString;
+use crate::string::SmallText;
 use std::alloc::{AllocError, Global};
 use std::convert::{AsSlice, AsStr};
 use std::ops::DerefStr;
 
 /// The text: so `text.chars()`, `text.find(..)` and all other calls of a `str`.
-impl<const N: usize> DerefStr for SmallString<N> {
+impl<const N: usize> DerefStr for SmallText<N> {
     ghost deref_gives = { λ text bytes. bytes ≡ encode_utf8_all text.chars };
 
     #[inline]
@@ -21,40 +21,40 @@ impl<const N: usize> DerefStr for SmallString<N> {
     }
 }
 
-impl<const N: usize> AsStr for SmallString<N> {
+impl<const N: usize> AsStr for SmallText<N> {
     ghost text = { λ text. encode_utf8_all text.chars };
 
     #[inline]
     fn as_str(&self) -> &str {
-        SmallString::as_str(self)
+        SmallText::as_str(self)
     }
 }
 
 /// The UTF-8 bytes.
-impl<const N: usize> AsSlice<u8> for SmallString<N> {
+impl<const N: usize> AsSlice<u8> for SmallText<N> {
     ghost items = { λ text. encode_utf8_all text.chars };
 
     #[inline]
     fn as_slice(&self) -> &[u8] {
-        SmallString::as_str(self).as_bytes()
+        SmallText::as_str(self).as_bytes()
     }
 }
 
-/// The text of the characters, as `SmallString::from_chars` makes it; its two errors are one here.
-impl<const N: usize> FromIterator<char> for SmallString<N> {
+/// The text of the characters, as `SmallText::from_chars` makes it; its two errors are one here.
+impl<const N: usize> FromIterator<char> for SmallText<N> {
     type Alloc = Global;
 
     ghost from_iter_gives = { λ items text. (text.chars ≡ items)
         × (text.inline ≡ inline_for N (utf8_len items)) };
 
     fn from_iter<I: IntoIterator<Item = char>>(alloc: Global, iter: I) -> Result<Self, AllocError> {
-        SmallString::from_chars(alloc, iter).map_err(|_| AllocError)
+        SmallText::from_chars(alloc, iter).map_err(|_| AllocError)
     }
 }
 
-/// The texts, one after another, as `SmallString::from_strs` makes them; its two errors are one
+/// The texts, one after another, as `SmallText::from_strs` makes them; its two errors are one
 /// here.
-impl<'a, const N: usize> FromIterator<&'a str> for SmallString<N> {
+impl<'a, const N: usize> FromIterator<&'a str> for SmallText<N> {
     type Alloc = Global;
 
     ghost from_iter_gives = { λ items text. (text.chars ≡ joined_strs items)
@@ -64,22 +64,22 @@ impl<'a, const N: usize> FromIterator<&'a str> for SmallString<N> {
         alloc: Global,
         iter: I,
     ) -> Result<Self, AllocError> {
-        SmallString::from_strs(alloc, iter).map_err(|_| AllocError)
+        SmallText::from_strs(alloc, iter).map_err(|_| AllocError)
     }
 }
 
-/// The texts, one after another, as `SmallString::from_eco_strings` makes them; its two errors are
+/// The texts, one after another, as `SmallText::from_eco_strings` makes them; its two errors are
 /// one here.
-impl<const N: usize> FromIterator<SmallString<N>> for SmallString<N> {
+impl<const N: usize> FromIterator<SmallText<N>> for SmallText<N> {
     type Alloc = Global;
 
     ghost from_iter_gives = { λ items text. (text.chars ≡ joined_texts items)
         × (text.inline ≡ inline_for N (utf8_len text.chars)) };
 
-    fn from_iter<I: IntoIterator<Item = SmallString<N>>>(
+    fn from_iter<I: IntoIterator<Item = SmallText<N>>>(
         alloc: Global,
         iter: I,
     ) -> Result<Self, AllocError> {
-        SmallString::from_eco_strings(alloc, iter).map_err(|_| AllocError)
+        SmallText::from_eco_strings(alloc, iter).map_err(|_| AllocError)
     }
 }

@@ -1,5 +1,5 @@
 //! Elements that tell what is done to them.
-use ecow_vec::{EcoError, EcoVec};
+use ecow_list::{EcoError, EcoVec};
 use std::alloc::{AllocError, Global};
 use std::cell::Cell;
 use std::rc::Rc;

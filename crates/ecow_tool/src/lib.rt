@@ -5,10 +5,10 @@ pub mod examples;
 pub mod program;
 
 pub use ecow_counted::{Counted, Filled};
+pub use ecow_list::{EcoError, Rejected};
 pub use ecow_model::{
     Bounds, BytesCommand, Command, Items, Name, Outcome, Refusal, Text, TextCommand, VecCommand,
 };
 pub use ecow_script::{Fault, Reason, answers_to, counted_answers_to};
 pub use ecow_store::{SmallStore, Store};
-pub use ecow_vec::{EcoError, Rejected};
 pub use program::{End, Exit, read_arguments, run_counted, run_store};

@@ -2,8 +2,8 @@
 use Rattle.std.proofs.Common.{◌≡◌, List, [], ◌∷◌, ◌++◌, map, refl, ap}
 use Rattle.std.specs.String.{string_bytes}
 use Rattle.std.specs.declared.string.String.{String}
-use Rattle.ecow_vec.specs.Vectors.{IsKeptIn}
-use Rattle.ecow_vec.proofs.Kept.{kept_alike}
+use Rattle.ecow_list.specs.Vectors.{IsKeptIn}
+use Rattle.ecow_list.proofs.Kept.{kept_alike}
 
 module _ {Z : Type 0} where
   abbrev pub says_same : String Z → String Z → Type 0

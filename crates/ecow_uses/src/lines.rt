@@ -2,7 +2,7 @@
 ghost use Rattle.std.specs.Prelude.{◌≡◌, [], ◌∷◌, ◌++◌, map, OnErr, OnOk};
 ghost use Rattle.std.specs.String.{string_bytes};
 
-use ecow_vec::{EcoError, EcoVec};
+use ecow_list::{EcoError, EcoVec};
 
 /// Appends a line. What the lines say stays. A refusal changes nothing.
 #[tactic(auto, using(crate::proofs::Said::pushed))]

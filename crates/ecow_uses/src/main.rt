@@ -18,8 +18,8 @@ use crate::undo::History;
 use anyhow::Result;
 use ecow_bytes::EcoBytes;
 use ecow_counted::Counted;
+use ecow_list::{EcoVec, eco_vec};
 use ecow_string::EcoString;
-use ecow_vec::{EcoVec, eco_vec};
 use std::collections::BTreeMap;
 
 fn main(rt: HostRuntime) -> Result<()> {

@@ -3,11 +3,11 @@
 ghost use Rattle.std.specs.Prelude.{◌≡◌, ◌<◌, ◌↔◌, ℕ, List, None, Some, length, map, slice_get, slice_set, IfErr, IfOk, IfSome, IsSome, MatchOption};
 ghost use Rattle.std.specs.List.{position};
 ghost use Rattle.ecow_uses.specs.Nested.{has_name, names_of, parts_of, place_of, value_at, IsApart, IsSet};
-ghost use Rattle.ecow_vec.specs.declared.error.EcoError.TheVariants.{Memory};
+ghost use Rattle.ecow_list.specs.declared.error.EcoError.TheVariants.{Memory};
 ghost use Rattle.ecow_uses.specs.declared.nested.Step.{Step};
 
+use ecow_list::{EcoError, EcoVec};
 use ecow_string::EcoString;
-use ecow_vec::{EcoError, EcoVec};
 use std::alloc::AllocError;
 
 /// A document, or a part of one.

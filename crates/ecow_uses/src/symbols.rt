@@ -4,8 +4,8 @@ ghost use Rattle.std.specs.Prelude.{◌≡◌, ◌⊎◌, ℕ, List, [], ◌∷�
 ghost use Rattle.std.specs.Str.{chars, encode_utf8_all};
 ghost use Rattle.ecow_uses.specs.Scopes.{meaning, same_name};
 
+use ecow_list::{EcoError, EcoVec};
 use ecow_string::EcoString;
-use ecow_vec::{EcoError, EcoVec};
 use std::alloc::{AllocError, Global};
 use std::marker::Model;
 

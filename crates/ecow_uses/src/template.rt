@@ -4,8 +4,8 @@ ghost use Rattle.ecow_uses.specs.declared.template.Piece.{Piece};
 ghost use Rattle.std.specs.Str.{chars};
 ghost use Rattle.ecow_uses.specs.Template.{IsUnclosed, Lacks, Spells, filled, opening};
 
+use ecow_list::{EcoError, EcoVec};
 use ecow_string::EcoString;
-use ecow_vec::{EcoError, EcoVec};
 use std::alloc::{AllocError, Global};
 use std::collections::BTreeMap;
 

@@ -3,8 +3,8 @@
 ghost use Rattle.std.specs.Prelude.{◌≡◌, ◌+◌, ◌^◌, ◌<◌, ◌≤◌, ◌++◌, [], ◌∷◌, List, ℕ, None, Some, length, slice_get, slice_set, IfOk, OnOk, OnErr, IsSome, ◌↔◌, MatchOption, IfSome};
 ghost use Rattle.ecow_uses.specs.Trees.{name_of, children_of, size, printed, node_at, IsReplaced, IsRenamed, IsApart};
 
+use ecow_list::{EcoError, EcoVec};
 use ecow_string::EcoString;
-use ecow_vec::{EcoError, EcoVec};
 use std::alloc::{AllocError, Global};
 
 /// A node: its name, and the nodes below it in order.

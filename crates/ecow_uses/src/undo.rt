@@ -3,8 +3,8 @@
 ghost use Rattle.std.specs.Prelude.{◌≡◌, ◌<◌, ◌≤◌, [], true, false, length, IfOk, OnErr, OnOk, insert, remove, slice_set};
 ghost use Rattle.ecow_uses.specs.History.{edited, IsUndone};
 
+use ecow_list::{EcoError, EcoVec};
 use ecow_string::EcoString;
-use ecow_vec::{EcoError, EcoVec};
 use std::alloc::{AllocError, Global};
 use std::marker::Model;
 

@@ -2,10 +2,10 @@
 ghost use Rattle.std.specs.Prelude.{◌≡◌, ◌+◌, ◌<◌, ◌^◌, length, slice_index, slice_set, OnErr, OnOk};
 ghost use Rattle.std.specs.List.Sorted.{IsNonDecreasing, IsPermutation};
 
-use ecow_vec::{EcoError, EcoVec};
+use ecow_list::{EcoError, EcoVec};
 
 /// Adds one to the number at `at`. A refusal changes nothing.
-#[tactic(auto, using(ecow_vec::proofs::Views::refilled))]
+#[tactic(auto, using(ecow_list::proofs::Views::refilled))]
 pub fn count_up(list: &mut EcoVec<u64>, at: usize) -> Result<(), EcoError>
     requires bound { at < length list.old }
     requires small { slice_index list.old at + 1 < 2 ^ 64 }
@@ -23,7 +23,7 @@ pub fn count_up(list: &mut EcoVec<u64>, at: usize) -> Result<(), EcoError>
 }
 
 /// Sorts the numbers in place. A refusal changes nothing.
-#[tactic(auto, using(ecow_vec::proofs::Views::refilled))]
+#[tactic(auto, using(ecow_list::proofs::Views::refilled))]
 pub fn sort(list: &mut EcoVec<u64>) -> Result<(), EcoError>
     ensures ok { OnOk result (IsNonDecreasing list.new) }
     ensures permutation { OnOk result (IsPermutation list.old list.new) }

@@ -8,7 +8,7 @@ use ecow_faults::elements::Named;
 use ecow_faults::parts::{Parts, run};
 use ecow_faults::watch::Watch;
 use ecow_faults::{asked, bytes, makers, prints, small, texts, vectors};
-use ecow_string::SmallString;
+use ecow_string::SmallText;
 use std::alloc::Global;
 use std::io;
 
@@ -19,8 +19,8 @@ fn bytes_hold<const N: usize>(alloc: Global, watch: &Watch, none: &SmallBytes<N>
         && bytes::derived_hold(alloc, watch, none)
 }
 
-fn texts_hold<const N: usize>(alloc: Global, watch: &Watch, none: &SmallString<N>) -> bool {
-    small::calls_hold::<SmallString<N>>(alloc, watch, &texts::STEPS)
+fn texts_hold<const N: usize>(alloc: Global, watch: &Watch, none: &SmallText<N>) -> bool {
+    small::calls_hold::<SmallText<N>>(alloc, watch, &texts::STEPS)
         && texts::makers_hold(alloc, watch, none)
         && texts::derived_hold(alloc, watch, none)
 }
@@ -44,7 +44,7 @@ fn is_right_bytes(place: usize, alloc: Global, watch: &Watch) -> bool {
 }
 
 fn is_right_text(place: usize, alloc: Global, watch: &Watch) -> bool {
-    hold_at!(place, texts_hold, SmallString, alloc, watch)
+    hold_at!(place, texts_hold, SmallText, alloc, watch)
 }
 
 const NAMES: [&str; 18] = [

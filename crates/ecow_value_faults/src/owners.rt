@@ -1,6 +1,6 @@
 //! A vector with more owners than two bytes count.
 use ecow_faults::watch::Watch;
-use ecow_vec::EcoVec;
+use ecow_list::EcoVec;
 use std::alloc::Global;
 
 const OWNERS: usize = 70_000;

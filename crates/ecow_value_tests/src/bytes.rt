@@ -1,7 +1,7 @@
 //! Bytes, inline and spilled, at several limits: when they spill, and what stays as it was.
 use crate::laws::{is_found, is_found_in_order};
 use ecow_bytes::{EcoBytes, SmallBytes};
-use ecow_vec::{EcoError, EcoVec, eco_vec};
+use ecow_list::{EcoError, EcoVec, eco_vec};
 use std::alloc::Global;
 use std::hash::{DefaultHasher, Hash, Hasher};
 use std::io::Write;

@@ -1,6 +1,6 @@
 //! Calls of vectors, without what their contracts say: a test of many calls is proved faster over
 //! these. Where a call has a condition that doesn't hold, nothing is done.
-use ecow_vec::{EcoError, EcoVec, Rejected, range_in};
+use ecow_list::{EcoError, EcoVec, Rejected, range_in};
 use std::alloc::Global;
 
 /// What a refusal says, without the value.

@@ -2,8 +2,8 @@
 use crate::calls::{error_of, insert, of, shared};
 use crate::texts::{added, holds, pop, text};
 use ecow_bytes::EcoBytes;
+use ecow_list::{EcoError, EcoVec, IntoArray, range_in};
 use ecow_string::{EcoString, ToEcoString};
-use ecow_vec::{EcoError, EcoVec, IntoArray, range_in};
 use std::alloc::Global;
 use std::test::Fail;
 

@@ -1,7 +1,7 @@
 //! The iterators of vectors, from both ends.
 
 use crate::calls::of;
-use ecow_vec::range_in;
+use ecow_list::range_in;
 use std::test::Fail;
 
 #[test]

@@ -32,7 +32,7 @@ fn vectors_and_their_iterators_are_found(rt: HostRuntime) -> Result<(), Fail> {
 }
 
 /// So many bytes and the digits of a number, as text.
-fn printed<const N: usize>(alloc: Global, none: &ecow::SmallString<N>) -> Result<bool, EcoError> {
+fn printed<const N: usize>(alloc: Global, none: &ecow::SmallText<N>) -> Result<bool, EcoError> {
     let bytes = ecow::SmallBytes::<N>::from_slice(alloc, b"12")?;
     let text: EcoString = ecow::eco_format!(in alloc; "{}", 12)?;
     Ok(
@@ -46,6 +46,6 @@ fn printed<const N: usize>(alloc: Global, none: &ecow::SmallString<N>) -> Result
 #[test]
 fn bytes_and_texts_are_found(rt: HostRuntime) -> Result<(), Fail> {
     assert_eq!(rt; ecow::INLINE_LIMIT, 15);
-    assert!(rt; printed(rt.alloc(), &ecow::SmallString::<3>::new(rt.alloc()))?);
+    assert!(rt; printed(rt.alloc(), &ecow::SmallText::<3>::new(rt.alloc()))?);
     Ok(())
 }

@@ -1,8 +1,8 @@
 //! What values print, the limits of what stands inline, and what errors say.
 use crate::texts::text;
 use ecow_bytes::{EcoBytes, SmallBytes};
-use ecow_string::{EcoString, SmallString};
-use ecow_vec::{EcoError, EcoVec, IntoArray, Rejected};
+use ecow_list::{EcoError, EcoVec, IntoArray, Rejected};
+use ecow_string::{EcoString, SmallText};
 use std::alloc::{AllocError, Global};
 use std::fmt::Debug;
 use std::str;
@@ -11,7 +11,7 @@ use std::test::Fail;
 
 /// Whether so many bytes at most stand inline, in bytes and in texts whose types say `N`.
 fn is_limit<const N: usize>(limit: usize) -> bool {
-    SmallBytes::<N>::INLINE_LIMIT == limit && SmallString::<N>::INLINE_LIMIT == limit
+    SmallBytes::<N>::INLINE_LIMIT == limit && SmallText::<N>::INLINE_LIMIT == limit
 }
 
 #[test]

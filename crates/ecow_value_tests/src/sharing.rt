@@ -2,9 +2,9 @@
 use crate::calls::{error_of, is_unique, reverse, shared};
 use ecow_block::Block;
 use ecow_bytes::EcoBytes;
+use ecow_list::{EcoError, EcoVec};
 use ecow_string::EcoString;
 use ecow_testing::elements::{Single, Tally};
-use ecow_vec::{EcoError, EcoVec};
 use std::alloc::Global;
 use std::test::Fail;
 

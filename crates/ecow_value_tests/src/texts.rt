@@ -3,15 +3,15 @@
 //! over these.
 use crate::laws::{is_found, is_found_in_order};
 use ecow_bytes::EcoBytes;
-use ecow_string::{EcoString, SmallString, ToEcoString, eco_format};
-use ecow_vec::{EcoError, EcoVec};
+use ecow_list::{EcoError, EcoVec};
+use ecow_string::{EcoString, SmallText, ToEcoString, eco_format};
 use std::alloc::{AllocError, Global};
 use std::fmt;
 use std::fmt::Write;
 use std::test::Fail;
 
-pub(crate) fn text<const N: usize>(alloc: Global, text: &str) -> Result<SmallString<N>, EcoError> {
-    SmallString::from_str(alloc, text)
+pub(crate) fn text<const N: usize>(alloc: Global, text: &str) -> Result<SmallText<N>, EcoError> {
+    SmallText::from_str(alloc, text)
 }
 
 /// A text that `try_from` of a vector leaves spilled, however short it is.
@@ -24,18 +24,18 @@ pub(crate) fn spilled(alloc: Global, text: &str) -> Result<EcoString, Fail> {
 }
 
 /// Whether the text is this one, inline or spilled.
-pub(crate) fn holds<const N: usize>(text: &SmallString<N>, wanted: &str, inline: bool) -> bool {
+pub(crate) fn holds<const N: usize>(text: &SmallText<N>, wanted: &str, inline: bool) -> bool {
     text.as_str() == wanted && text.is_inline() == inline
 }
 
-pub(crate) fn pop<const N: usize>(text: &mut SmallString<N>) -> Result<Option<char>, EcoError> {
+pub(crate) fn pop<const N: usize>(text: &mut SmallText<N>) -> Result<Option<char>, EcoError> {
     text.pop()
 }
 
 pub(crate) fn added<const N: usize>(
-    text: SmallString<N>,
+    text: SmallText<N>,
     more: &str,
-) -> Result<SmallString<N>, EcoError> {
+) -> Result<SmallText<N>, EcoError> {
     text.add(more).map_err(|rejected| rejected.error)
 }
 
@@ -215,8 +215,8 @@ fn texts_are_ordered_by_their_bytes(rt: HostRuntime) -> Result<(), Fail> {
     Ok(())
 }
 
-fn of_char<const N: usize>(alloc: Global, letter: char) -> Result<SmallString<N>, EcoError> {
-    SmallString::from_char(alloc, letter)
+fn of_char<const N: usize>(alloc: Global, letter: char) -> Result<SmallText<N>, EcoError> {
+    SmallText::from_char(alloc, letter)
 }
 
 #[test]
@@ -230,7 +230,7 @@ fn a_character_spills_where_it_has_more_bytes(rt: HostRuntime) -> Result<(), Fai
 }
 
 /// Two letters with a dash at each boundary.
-fn spread<const N: usize>(alloc: Global) -> Result<SmallString<N>, EcoError> {
+fn spread<const N: usize>(alloc: Global) -> Result<SmallText<N>, EcoError> {
     text::<N>(alloc, "ab")?.replacen("", "-", 9)
 }
 

@@ -1,6 +1,6 @@
 //! The calls of `EcoVec` at concrete types, with the values of the original's own tests.
 use crate::calls::{drain, error_of, insert, of, push, shared};
-use ecow_vec::{EcoError, EcoVec, IntoArray, eco_vec, range_in};
+use ecow_list::{EcoError, EcoVec, IntoArray, eco_vec, range_in};
 use std::alloc::{AllocError, Global};
 use std::io::Write;
 use std::process::Abort;

@@ -34,7 +34,7 @@ pub(crate) fn nowhere<T, A: Allocator>(
     _alloc: &A,
     _capacity: usize,
 ) -> (Base<T>, Room<T>, Deed<T, A>)
-    requires { FitsInBlock T.row _capacity × (has_bytes T.row _capacity ≡ false) }
+    requires { has_bytes T.row _capacity ≡ false }
     ensures { IsWhole result.0 result.1 result.2 _alloc.now × (result.1.items ≡ [])
         × (result.1.capacity ≡ _capacity) }
 {

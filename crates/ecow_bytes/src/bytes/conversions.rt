@@ -3,7 +3,7 @@ ghost use Rattle.std.specs.Prelude.{◌≡◌, true, IfOk, IfErr, OnErr};
 
 use crate::bytes::SmallBytes;
 use crate::form::Form;
-use ecow_vec::{EcoError, EcoVec, Rejected};
+use ecow_list::{EcoError, EcoVec, Rejected};
 
 impl<const N: usize> SmallBytes<N> {
     /// A copy of the bytes in a `Vec`. The one error is `Memory`.

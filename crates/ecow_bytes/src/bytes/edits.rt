@@ -3,14 +3,14 @@
 ghost use Rattle.std.specs.Prelude.{◌≡◌, ◌+◌, ◌-◌, ◌<◌, ◌≤◌, ◌↔◌, [], length, take, true, false, IsOk, IfOk, IfErr, OnOk, OnErr, IsErrOf, IsSome, Some, insert, remove, slice_get, slice_set};
 ghost use Rattle.std.specs.List.{insert_slice, replace_range};
 ghost use Rattle.ecow_base.specs.Range.{range_of};
-ghost use Rattle.ecow_vec.specs.Ranges.{AtRange};
-ghost use Rattle.ecow_vec.specs.Refusals.{RefusesForMemory, RefusesPast};
+ghost use Rattle.ecow_list.specs.Ranges.{AtRange};
+ghost use Rattle.ecow_list.specs.Refusals.{RefusesForMemory, RefusesPast};
 ghost use Rattle.ecow_values.specs.Inline.{Grows, KeepsMode, inline_shrunk};
 
 use crate::bytes::SmallBytes;
 use crate::form::Form;
 use ecow_base::{MAX_LEN, resolve};
-use ecow_vec::EcoError;
+use ecow_list::EcoError;
 use std::ops::RangeBounds;
 
 impl<const N: usize> SmallBytes<N> {

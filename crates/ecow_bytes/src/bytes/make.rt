@@ -1,7 +1,7 @@
 //! The calls that make bytes of something else.
 ghost use Rattle.std.specs.Prelude.{◌≡◌, ℕ, ◌<◌, ◌≤◌, ◌↔◌, [], List, length, vec_len, true, false, IsOk, IfOk, IfErr, OnErr, IsErrAnd, IsErrOf, IsSome, IfSome};
 ghost use Rattle.std.specs.Iterator.{IsFiniteIterable};
-ghost use Rattle.ecow_vec.specs.Vectors.{GivesFirst, GivesItems};
+ghost use Rattle.ecow_list.specs.Vectors.{GivesFirst, GivesItems};
 ghost use Rattle.ecow_values.specs.Plain.{plain_bytes};
 ghost use Rattle.ecow_values.specs.Inline.{inline_for};
 ghost use Rattle.ecow_bytes.specs.Makes.{MakesBytes};
@@ -9,7 +9,7 @@ ghost use Rattle.ecow_bytes.specs.Makes.{MakesBytes};
 use crate::bytes::SmallBytes;
 use crate::form::Form;
 use ecow_base::MAX_LEN;
-use ecow_vec::{EcoError, EcoVec, Rejected};
+use ecow_list::{EcoError, EcoVec, Rejected};
 use std::alloc::Global;
 
 impl<const N: usize> SmallBytes<N> {

@@ -5,7 +5,7 @@ ghost use Rattle.ecow_bytes.specs.Form.{plain_of};
 
 use crate::bytes::SmallBytes;
 use crate::form::Form;
-use ecow_vec::EcoError;
+use ecow_list::EcoError;
 
 impl<const N: usize> SmallBytes<N> {
     ghost use Rattle.ecow_bytes.specs.Lends.{lends_whole, lends_bytes};

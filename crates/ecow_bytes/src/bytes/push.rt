@@ -3,14 +3,14 @@
 ghost use Rattle.std.specs.Prelude.{◌≡◌, ℕ, List, ◌+◌, ◌-◌, ◌<◌, ◌≤◌, ◌↔◌, [], ◌∷◌, ◌++◌, length, true, false, IsOk, IfOk, OnOk, OnErr, IsErrOf};
 ghost use Rattle.std.specs.Iterator.{IsFinite, IsFiniteIterable, ExtendsWithItems};
 ghost use Rattle.std.specs.List.{replace_range};
-ghost use Rattle.ecow_vec.specs.Vectors.{Appends, ExtendsBy, GivesFirst};
-ghost use Rattle.ecow_vec.specs.Refusals.{RefusesPast};
+ghost use Rattle.ecow_list.specs.Vectors.{Appends, ExtendsBy, GivesFirst};
+ghost use Rattle.ecow_list.specs.Refusals.{RefusesPast};
 ghost use Rattle.ecow_values.specs.Inline.{Grows, inline_after};
 
 use crate::bytes::SmallBytes;
 use crate::form::Form;
 use ecow_base::{MAX_LEN, room_for};
-use ecow_vec::{EcoError, EcoVec};
+use ecow_list::{EcoError, EcoVec};
 
 impl<const N: usize> SmallBytes<N> {
     /// Appends `byte`. Spilled bytes that are shared are copied first.

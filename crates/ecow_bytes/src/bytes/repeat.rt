@@ -7,7 +7,7 @@ ghost use Rattle.ecow_bytes.specs.Makes.{MakesBytes};
 use crate::bytes::SmallBytes;
 use crate::form::Form;
 use ecow_base::MAX_LEN;
-use ecow_vec::EcoError;
+use ecow_list::EcoError;
 
 impl<const N: usize> SmallBytes<N> {
     /// The bytes `count` times over. Each step appends as many copies as there are, in one move of

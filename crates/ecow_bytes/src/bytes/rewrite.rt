@@ -2,12 +2,12 @@
 ghost use Rattle.std.specs.Prelude.{◌≡◌, [], false, IsOk, IfErr, OnOk, OnErr};
 ghost use Rattle.std.specs.Fn.{FnOnceTakesAtMut};
 ghost use Rattle.ecow_bytes.specs.Rewrites.{Rewrites};
-ghost use Rattle.ecow_vec.specs.Refusals.{RefusesForMemory};
+ghost use Rattle.ecow_list.specs.Refusals.{RefusesForMemory};
 ghost use Rattle.ecow_values.specs.Inline.{KeepsMode};
 
 use crate::bytes::SmallBytes;
 use crate::form::Form;
-use ecow_vec::EcoError;
+use ecow_list::EcoError;
 
 impl<const N: usize> SmallBytes<N> {
     /// Lends the bytes to `f` for writing, once, and keeps as many of them from the front as it

@@ -4,8 +4,8 @@ ghost use Rattle.ecow_nested.specs.Values.{fields_of, has_name, look_up, with_fi
 
 use crate::refusal::Refusal;
 use crate::value::{Field, Value};
+use ecow_list::EcoVec;
 use ecow_string::EcoString;
-use ecow_vec::EcoVec;
 
 /// The place of the first field of that name.
 fn place(fields: &[Field], name: &str) -> Option<usize>

@@ -7,16 +7,16 @@ ghost use Rattle.std.specs.StrCase.Upper.{str_to_uppercase};
 ghost use Rattle.ecow_values.specs.Inline.{KeepsMode};
 ghost use Rattle.ecow_values.specs.Utf8.{utf8_len};
 ghost use Rattle.ecow_string.specs.Case.{in_case};
-ghost use Rattle.ecow_vec.specs.Refusals.{RefusesForMemory};
+ghost use Rattle.ecow_list.specs.Refusals.{RefusesForMemory};
 ghost use Rattle.ecow_string.specs.Makes.{MakesTextIn, MakesCased};
 
 use crate::case::Case;
-use crate::string::SmallString;
+use crate::string::SmallText;
 use ecow_base::MAX_LEN;
 use ecow_bytes::SmallBytes;
-use ecow_vec::{EcoError, EcoVec};
+use ecow_list::{EcoError, EcoVec};
 
-impl<const N: usize> SmallString<N> {
+impl<const N: usize> SmallText<N> {
     /// Maps the letters `A` to `Z` to lower case where they stand, and leaves all others. A spilled
     /// text that is shared is copied first.
     pub fn make_ascii_lowercase(&mut self) -> Result<(), EcoError>
@@ -104,7 +104,7 @@ impl<const N: usize> SmallString<N> {
         } else {
             SmallBytes::from(EcoVec::from_copied(alloc, text)?)
         };
-        Ok(SmallString { bytes })
+        Ok(SmallText { bytes })
     }
 
     /// The text in one case, as std's `str` has it.

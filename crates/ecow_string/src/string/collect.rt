@@ -3,16 +3,16 @@ ghost use Rattle.std.specs.Prelude.{◌≡◌, ℕ, List, ◌+◌, ◌<◌, ◌�
 ghost use Rattle.std.specs.Borrow.{Bor};
 ghost use Rattle.std.specs.Str.{chars};
 ghost use Rattle.std.specs.Iterator.{IsFinite, IsFiniteIterable, ExtendsWithItems, Yields};
-ghost use Rattle.ecow_vec.specs.Vectors.{Appends, ExtendsBy, GivesFirst, GivesItems};
+ghost use Rattle.ecow_list.specs.Vectors.{Appends, ExtendsBy, GivesFirst, GivesItems};
 ghost use Rattle.ecow_values.specs.Inline.{inline_after, inline_for, Grows};
 ghost use Rattle.ecow_values.specs.Utf8.{utf8_len};
 ghost use Rattle.ecow_values.specs.declared.plain.PlainText.{PlainText};
 ghost use Rattle.ecow_string.specs.Appends.{AppendsBy, AppendsStrs, LeavesLastOut, joined_by, joined_strs, joined_texts};
-ghost use Rattle.ecow_vec.specs.Refusals.{RefusesPast};
+ghost use Rattle.ecow_list.specs.Refusals.{RefusesPast};
 
-use crate::string::SmallString;
+use crate::string::SmallText;
 use ecow_base::MAX_LEN;
-use ecow_vec::EcoError;
+use ecow_list::EcoError;
 use std::alloc::Global;
 
 /// A text that is joined to others.
@@ -24,7 +24,7 @@ trait Joined: Drop {
         ensures { chars result.now ≡ text_of self.now };
 }
 
-impl<const N: usize> Joined for SmallString<N> {
+impl<const N: usize> Joined for SmallText<N> {
     ghost text_of = { λ text. text.chars };
 
     fn text(&self) -> &str {
@@ -40,7 +40,7 @@ impl Joined for &str {
     }
 }
 
-impl<const N: usize> SmallString<N> {
+impl<const N: usize> SmallText<N> {
     /// The characters of `iter`, one after another: inline where they come to at most `N` bytes,
     /// which is never refused, and else spilled. Answers `Capacity` at the character with which
     /// they come to more than 2^63 - 1, and else `Memory`: no further one is asked for then.

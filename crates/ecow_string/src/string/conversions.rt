@@ -4,13 +4,13 @@ ghost use Rattle.std.specs.Str.{encode_utf8_all};
 ghost use Rattle.ecow_values.specs.Plain.{plain_bytes};
 ghost use Rattle.ecow_string.specs.Text.{TriesText, bytes_of};
 
-use crate::string::SmallString;
+use crate::string::SmallText;
 use ecow_bytes::SmallBytes;
-use ecow_vec::{EcoError, EcoVec, Rejected};
+use ecow_list::{EcoError, EcoVec, Rejected};
 use std::str;
 use std::str::Utf8Error;
 
-impl<const N: usize> SmallString<N> {
+impl<const N: usize> SmallText<N> {
     /// A copy of the text in a `String`. The one error is `Memory`.
     pub fn to_std_string(&self) -> Result<String, EcoError>
         ensures bytes { IfOk result (λ copy. string_bytes copy ≡ encode_utf8_all self.now.chars) }
@@ -32,7 +32,7 @@ impl<const N: usize> SmallString<N> {
             Ok(vec) => Ok(vec),
             Err(rejected) => Err(Rejected {
                 error: rejected.error,
-                value: SmallString {
+                value: SmallText {
                     bytes: rejected.value,
                 },
             }),
@@ -42,34 +42,34 @@ impl<const N: usize> SmallString<N> {
 
 /// The text that bytes spell, in their mode: exactly where they are UTF-8, which has no overlong
 /// form, no surrogate and nothing past U+10FFFF. A refusal drops the bytes. Takes no memory.
-impl<const N: usize> TryFrom<SmallBytes<N>> for SmallString<N> {
+impl<const N: usize> TryFrom<SmallBytes<N>> for SmallText<N> {
     type Error = Utf8Error;
 
     ghost try_from_gives = { TriesText };
 
     fn try_from(bytes: SmallBytes<N>) -> Result<Self, Utf8Error> {
         str::from_utf8(bytes.as_slice())?;
-        Ok(SmallString { bytes })
+        Ok(SmallText { bytes })
     }
 }
 
 /// The text that the bytes of a vector spell, spilled, however short: it keeps the vector's block,
 /// shared or not. Refused as of other bytes. Takes no memory.
-impl<const N: usize> TryFrom<EcoVec<u8>> for SmallString<N> {
+impl<const N: usize> TryFrom<EcoVec<u8>> for SmallText<N> {
     type Error = Utf8Error;
 
     ghost try_from_gives = { λ vec result. TriesText (plain_bytes vec false) result };
 
     fn try_from(vec: EcoVec<u8>) -> Result<Self, Utf8Error> {
-        SmallString::try_from(SmallBytes::from(vec))
+        SmallText::try_from(SmallBytes::from(vec))
     }
 }
 
 /// The UTF-8 bytes of a text, in its mode. Takes no memory.
-impl<const N: usize> From<SmallString<N>> for SmallBytes<N> {
+impl<const N: usize> From<SmallText<N>> for SmallBytes<N> {
     ghost from_gives = { λ text bytes. bytes ≡ bytes_of text };
 
-    fn from(text: SmallString<N>) -> Self {
+    fn from(text: SmallText<N>) -> Self {
         text.bytes
     }
 }

@@ -4,17 +4,17 @@ ghost use Rattle.std.specs.List.{insert_slice, replace_range};
 ghost use Rattle.std.specs.Char.{len_utf8, to_ascii_lowercase, to_ascii_uppercase};
 ghost use Rattle.std.specs.Str.{chars};
 ghost use Rattle.ecow_base.specs.Range.{range_of};
-ghost use Rattle.ecow_vec.specs.Ranges.{AtRange};
+ghost use Rattle.ecow_list.specs.Ranges.{AtRange};
 ghost use Rattle.ecow_values.specs.Inline.{inline_shrunk, Grows, KeepsMode};
 ghost use Rattle.ecow_values.specs.Utf8.{utf8_len, chars_before, is_boundary};
-ghost use Rattle.ecow_vec.specs.Refusals.{RefusesForMemory, RefusesPast};
+ghost use Rattle.ecow_list.specs.Refusals.{RefusesForMemory, RefusesPast};
 
-use crate::string::SmallString;
+use crate::string::SmallText;
 use ecow_base::{MAX_LEN, resolve};
-use ecow_vec::EcoError;
+use ecow_list::EcoError;
 use std::ops::RangeBounds;
 
-impl<const N: usize> SmallString<N> {
+impl<const N: usize> SmallText<N> {
     /// Takes the last character: `None` where there is none. A spilled text that is shared copies
     /// what stays.
     pub fn pop(&mut self) -> Result<Option<char>, EcoError>

@@ -5,13 +5,13 @@ ghost use Rattle.std.specs.Str.{chars};
 ghost use Rattle.ecow_values.specs.Inline.{inline_for};
 ghost use Rattle.ecow_string.specs.Makes.{MakesText};
 
-use crate::string::SmallString;
+use crate::string::SmallText;
 use ecow_base::MAX_LEN;
 use ecow_bytes::SmallBytes;
-use ecow_vec::{EcoError, Rejected};
+use ecow_list::{EcoError, Rejected};
 use std::alloc::Global;
 
-impl<const N: usize> SmallString<N> {
+impl<const N: usize> SmallText<N> {
     /// A copy of `text`, inline: `None` where it has more than `N` bytes. Takes no memory.
     pub fn try_inline(alloc: Global, text: &str) -> Option<Self>
         ensures fits { IsSome result ↔ (length text.now ≤ N) }
@@ -19,7 +19,7 @@ impl<const N: usize> SmallString<N> {
         ensures mode { IfSome result (λ t. t.inline ≡ true) }
     {
         let bytes = SmallBytes::try_inline(alloc, text.as_bytes())?;
-        Some(SmallString { bytes })
+        Some(SmallText { bytes })
     }
 
     /// A copy of `text`, which has at most `N` bytes, inline. Takes no memory.
@@ -28,7 +28,7 @@ impl<const N: usize> SmallString<N> {
         ensures chars { result.chars ≡ chars text.now }
         ensures mode { result.inline ≡ true }
     {
-        SmallString {
+        SmallText {
             bytes: SmallBytes::inline(alloc, text.as_bytes()),
         }
     }
@@ -38,7 +38,7 @@ impl<const N: usize> SmallString<N> {
         ensures { MakesText N capacity [] result }
     {
         let bytes = SmallBytes::with_capacity(alloc, capacity)?;
-        Ok(SmallString { bytes })
+        Ok(SmallText { bytes })
     }
 
     /// The text of one character.
@@ -57,7 +57,7 @@ impl<const N: usize> SmallString<N> {
         ensures { MakesText N (length text.now) (chars text.now) result }
     {
         let bytes = SmallBytes::from_slice(alloc, text.as_bytes())?;
-        Ok(SmallString { bytes })
+        Ok(SmallText { bytes })
     }
 
     /// The text of a `String`: inline where it has at most `N` bytes, and else spilled, with a

@@ -4,13 +4,13 @@ ghost use Rattle.std.specs.Char.{len_utf8};
 ghost use Rattle.std.specs.Str.{chars};
 ghost use Rattle.ecow_values.specs.Inline.{inline_after, Grows};
 ghost use Rattle.ecow_values.specs.Utf8.{utf8_len};
-ghost use Rattle.ecow_vec.specs.Refusals.{RefusesPast};
+ghost use Rattle.ecow_list.specs.Refusals.{RefusesPast};
 
-use crate::string::SmallString;
+use crate::string::SmallText;
 use ecow_base::MAX_LEN;
-use ecow_vec::{EcoError, Rejected};
+use ecow_list::{EcoError, Rejected};
 
-impl<const N: usize> SmallString<N> {
+impl<const N: usize> SmallText<N> {
     /// Appends `c`. A spilled text that is shared is copied first.
     #[inline]
     pub fn push(&mut self, c: char) -> Result<(), EcoError>

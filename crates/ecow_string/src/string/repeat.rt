@@ -4,11 +4,11 @@ ghost use Rattle.std.specs.List.{repeat};
 ghost use Rattle.ecow_values.specs.Utf8.{utf8_len};
 ghost use Rattle.ecow_string.specs.Makes.{MakesText};
 
-use crate::string::SmallString;
+use crate::string::SmallText;
 use ecow_base::MAX_LEN;
-use ecow_vec::EcoError;
+use ecow_list::EcoError;
 
-impl<const N: usize> SmallString<N> {
+impl<const N: usize> SmallText<N> {
     /// The text `count` times over.
     pub fn repeat(&self, count: usize) -> Result<Self, EcoError>
         ensures { MakesText N
@@ -18,6 +18,6 @@ impl<const N: usize> SmallString<N> {
         // For the proof alone: the length is bounded.
         let _len = self.bytes.len();
         let bytes = self.bytes.repeat(count)?;
-        Ok(SmallString { bytes })
+        Ok(SmallText { bytes })
     }
 }

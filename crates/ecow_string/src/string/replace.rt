@@ -10,14 +10,14 @@ mod interleave;
 mod parts;
 mod pattern;
 
-use crate::string::SmallString;
+use crate::string::SmallText;
 use crate::string::replace::interleave::{interleaving_len, push_interleaving};
 use crate::string::replace::pattern::{push_replacement, replacement_len};
 use ecow_base::MAX_LEN;
-use ecow_vec::EcoError;
+use ecow_list::EcoError;
 use memchr::memmem::Finder;
 
-impl<const N: usize> SmallString<N> {
+impl<const N: usize> SmallText<N> {
     /// The text with `replacement` in place of the first `count` occurrences of `pattern`, from the
     /// left and without overlap; an empty pattern occurs at each boundary, the end too.
     pub fn replacen(&self, pattern: &str, replacement: &str, count: usize) -> Result<Self, EcoError>

@@ -1,6 +1,6 @@
 -- `Block` as a type that may hold the type that holds it.
-use Rattle.std.specs.Prelude.{◌≡◌, ℕ, List, []}
-use mathlib.Core.Path.{refl, sym, ◌∙◌}
+use Rattle.std.specs.Prelude.{◌≡◌, ◌≤◌, ℕ, List, []}
+use mathlib.Core.Path.{refl, sym, subst, ◌∙◌}
 use mathlib.Core.Former.{Former, this, const, pair, list, via, children}
 use lib.ListN.{length-map}
 use base.Stored.{Gv, gcons}
@@ -20,7 +20,7 @@ use Rattle.std_alloc.specs.Vec.Recursive.{codes_placed}
 use Rattle.ecow_block.specs.Contents.{Contents, contents}
 use Rattle.ecow_block.specs.Facts.{IsBlock-prop}
 use Rattle.ecow_block.specs.Fields.{IsBlock}
-use Rattle.ecow_block.specs.Parts.{IsHead, IsBacked}
+use Rattle.ecow_block.specs.Parts.{IsHead, IsBacked, capacity_of}
 use Rattle.ecow_block.specs.declared.block.Block.TheInside.{Inside}
 use Rattle.ecow_block.specs.declared.block.Block.TheView.{view, invariant}
 use Rattle.ecow_block.specs.contracts.block.Block as C
@@ -88,10 +88,13 @@ module _ {X Y : Type 0} (h : X → Y) (b : Inside X) where
     alloc_same = p.alloc_same;
     base = p.base;
     capacity = p.capacity;
+    nowhere = p.nowhere;
+    within = p.within;
     small = p.small;
     testable = p.testable;
     none = p.none;
     headed = p.headed;
+    some = p.some;
   }
 
   head_from : IsHead mapped.top mapped.title mapped.alloc mapped.room.at mapped.room.capacity
@@ -101,10 +104,13 @@ module _ {X Y : Type 0} (h : X → Y) (b : Inside X) where
     alloc_same = p.alloc_same;
     base = p.base;
     capacity = p.capacity;
+    nowhere = p.nowhere;
+    within = p.within;
     small = p.small;
     testable = p.testable;
     none = p.none;
     headed = p.headed;
+    some = p.some;
   }
 
   backed_to : IsBacked b.room.at b.room.capacity b.title b.deed b.alloc
@@ -140,6 +146,7 @@ module _ {X Y : Type 0} (h : X → Y) (b : Inside X) where
     head = head_to p.head;
     start = p.start;
     len = p.len ∙ sym (length-map b.room.items h);
+    fits = subst (λ n. n ≤ capacity_of b.title.fields.capacity) (sym (length-map b.room.items h)) p.fits;
     backed = backed_to p.backed;
   }
 
@@ -148,6 +155,7 @@ module _ {X Y : Type 0} (h : X → Y) (b : Inside X) where
     head = head_from p.head;
     start = p.start;
     len = p.len ∙ length-map b.room.items h;
+    fits = subst (λ n. n ≤ capacity_of b.title.fields.capacity) (length-map b.room.items h) p.fits;
     backed = backed_from p.backed;
   }
 

@@ -1,6 +1,6 @@
 use Rattle.std.proofs.Common.{rules, ◌≡◌, ◌∙◌, ◌≤◌, length}
 use Rattle.std.specs.List.{splice}
-use Rattle.ecow_vec.proofs.Items.{given_items}
+use Rattle.ecow_list.proofs.Items.{given_items}
 use Rattle.ecow_c.proofs.Spliced.{spliced}
 use Rattle.ecow_c.proofs.elements.ecow_proved_texts_splice.Goals as goal
 

@@ -1,6 +1,6 @@
 use Rattle.std.proofs.Common.{◌≡◌, ◌∙◌, arith}
 use Rattle.std.proofs.lemmas.Grind.{common_steps}
-use Rattle.ecow_vec.proofs.Items.{given_items}
+use Rattle.ecow_list.proofs.Items.{given_items}
 use Rattle.ecow_model.proofs.Lengths.{edits}
 use Rattle.ecow_store.proofs.vecs.splice.Goals as goal
 

@@ -6,10 +6,10 @@ ghost use Rattle.ecow_values.specs.Replaced.{replacen};
 ghost use Rattle.ecow_values.specs.Utf8.{utf8_len};
 ghost use Rattle.ecow_string.specs.Replace.{AppendsWithin, SplitsChar};
 
-use crate::string::SmallString;
+use crate::string::SmallText;
 use crate::string::replace::parts::{push_both, push_part, total_with};
 use ecow_base::MAX_LEN;
-use ecow_vec::EcoError;
+use ecow_list::EcoError;
 
 /// The first character, and the text behind it.
 fn split_char(text: &str) -> Option<(&str, &str)>
@@ -33,7 +33,7 @@ pub(super) fn interleaving_len(text: &str, replacement: &str, count: usize) -> O
 /// Appends what `replacen` of the empty pattern makes of `text` to a text that was made for `most`
 /// bytes.
 pub(super) fn push_interleaving<const N: usize>(
-    target: &mut SmallString<N>,
+    target: &mut SmallText<N>,
     text: &str,
     replacement: &str,
     count: usize,

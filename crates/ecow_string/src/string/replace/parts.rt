@@ -5,9 +5,9 @@ ghost use Rattle.ecow_values.specs.Inline.{inline_for};
 ghost use Rattle.ecow_values.specs.Utf8.{utf8_len};
 ghost use Rattle.ecow_string.specs.Replace.{AppendsWithin};
 
-use crate::string::SmallString;
+use crate::string::SmallText;
 use ecow_base::MAX_LEN;
-use ecow_vec::EcoError;
+use ecow_list::EcoError;
 
 /// `total` and `more` bytes together, where a text may have so many.
 pub(super) fn total_with(total: usize, more: usize) -> Option<usize>
@@ -23,7 +23,7 @@ pub(super) fn total_with(total: usize, more: usize) -> Option<usize>
 /// Appends `text` to a text that was made for `most` bytes.
 #[tactic(auto, using(crate::proofs::Limits::keeps_mode, crate::proofs::Limits::none_refused))]
 pub(super) fn push_part<const N: usize>(
-    target: &mut SmallString<N>,
+    target: &mut SmallText<N>,
     text: &str,
     most: usize,
 ) -> Result<(), EcoError>
@@ -39,7 +39,7 @@ pub(super) fn push_part<const N: usize>(
 
 /// Appends one text and then another.
 pub(super) fn push_both<const N: usize>(
-    target: &mut SmallString<N>,
+    target: &mut SmallText<N>,
     first: &str,
     second: &str,
     most: usize,

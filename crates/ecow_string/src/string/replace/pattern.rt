@@ -7,10 +7,10 @@ ghost use Rattle.ecow_values.specs.Replaced.{replacen};
 ghost use Rattle.ecow_values.specs.Utf8.{utf8_len};
 ghost use Rattle.ecow_string.specs.Replace.{AppendsWithin, SplitsFirst};
 
-use crate::string::SmallString;
+use crate::string::SmallText;
 use crate::string::replace::parts::{push_both, push_part, total_with};
 use ecow_base::MAX_LEN;
-use ecow_vec::EcoError;
+use ecow_list::EcoError;
 use memchr::memmem::Finder;
 
 /// The text before the first occurrence of `pattern`, and the text behind it.
@@ -55,7 +55,7 @@ pub(super) fn replacement_len(
 
 /// Appends what `replacen` makes of `text` to a text that was made for `most` bytes.
 pub(super) fn push_replacement<const N: usize>(
-    target: &mut SmallString<N>,
+    target: &mut SmallText<N>,
     text: &str,
     finder: &Finder,
     pattern: &str,

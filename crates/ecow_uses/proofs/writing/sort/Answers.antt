@@ -3,7 +3,7 @@ use Rattle.std.proofs.lemmas.Grind.{common_steps}
 use Rattle.std.proofs.lemmas.List.Sorted.{IsNonDecreasingBy-from_sort}
 use Rattle.std.specs.List.{refill}
 use Rattle.std.specs.List.Sorted.{IsNonDecreasing}
-use Rattle.ecow_vec.proofs.Views.{refilled}
+use Rattle.ecow_list.proofs.Views.{refilled}
 use Rattle.ecow_uses.proofs.writing.sort.Goals as goal
 
 -- what was sorted behind the loan is what the vector has

@@ -42,7 +42,7 @@ use Rattle.core.specs.declared.option.Option.TheVariants.{None, Some}
 use Rattle.atomic_table.proofs.Calls.{fm, seq_cst, found, finds}
 use Rattle.std_alloc.proofs.RcSteps.{some_Good, Some-of, none_of, word-Good}
 use Rattle.std_alloc.proofs.VecSteps.Shapes.{after, head}
-use Rattle.ecow_block.specs.Contents.{contents}
+use Rattle.ecow_block.specs.Fields.{shown}
 use Rattle.ecow_block.specs.Heads.{unless_null}
 use Rattle.ecow_block.specs.Kept.{kept}
 use Rattle.ecow_atomic.specs.Owners.{shared_owns}
@@ -130,10 +130,10 @@ module _ (E : El) {M : Type 1} {𝓤 : Ura M} (𝓛 : Logic 𝓤) (𝓜 : Model 
       sets ! (agg ! (and_then ! (lit ! tt) (and_then ! (get ! refl) (no_more !)))) refl (some_Good (lone (Sh E).mir) (laid c) (laid-Good E c)) $
       read E s ! tt b o q' $
       nothing ! $ rewrite ! 0 (λ (p : Ptr). ‵ (unless_null p (shared_owns (R E) i))) (sym e) refl $ owner_made E ! s owner $
-      use1 𝓛 (‵ ((Opt.the_row (Sh E)).own_val (Some (contents i.room.items i.room.capacity)) (live 1 (vcons (laid c) vnil) ∷ [])))
-      (Some-of 𝓛 (Sh E) (contents i.room.items i.room.capacity) (laid c)) $
+      use1 𝓛 (‵ ((Opt.the_row (Sh E)).own_val (Some (shown i)) (live 1 (vcons (laid c) vnil) ∷ [])))
+      (Some-of 𝓛 (Sh E) (shown i) (laid c)) $
       returns ! (look_at ! 0 refl) $ free_all ! refl $
-      suffices ! _ (ends_at 𝓛 (ended E) stayed held z (live 1 (vcons (laid c) vnil)) (Some (contents i.room.items i.room.capacity))
+      suffices ! _ (ends_at 𝓛 (ended E) stayed held z (live 1 (vcons (laid c) vnil)) (Some (shown i))
       (tt, tt) (tt, tt)) $ nothing ! $ nothing ! $ fjoin ! $ join ! $ move ! (1 ∷ 2 ∷ []) $ join ! $ join ! $ says ! same $ done !)))
       (λ e. let there : c ≡ block_ptr cb co = sym owner.top_is ∙ e in let V : Fml = kept (R E) i in
       move ! (1 ∷ 0 ∷ []) $ lent_out E s κ q b o ! tt (λ a r q'.
@@ -180,10 +180,10 @@ module _ (E : El) {M : Type 1} {𝓤 : Ura M} (𝓛 : Logic 𝓤) (𝓜 : Model 
       sets ! (agg ! (and_then ! (lit ! tt) (and_then ! (get ! refl) (no_more !)))) refl (some_Good (lone (Sh E).mir) (laid c) (laid-Good E c)) $
       move ! (1 ∷ []) $ use1 𝓛 (‵ (part 63 a)) (all_e 𝓤 (λ (_ : n + 1 < 2 ^ 63). sem 𝓛 (part 63 a)) grows) $ move ! (0 ∷ 2 ∷ 3 ∷ []) $ counted_made E i ! a $
       rewrite ! 0 (λ (p : Ptr). ‵ (unless_null p (shared_owns (R E) i))) (sym e) refl $ owner_made E ! s owner $
-      use1 𝓛 (‵ ((Opt.the_row (Sh E)).own_val (Some (contents i.room.items i.room.capacity)) (live 1 (vcons (laid c) vnil) ∷ [])))
-      (Some-of 𝓛 (Sh E) (contents i.room.items i.room.capacity) (laid c)) $
+      use1 𝓛 (‵ ((Opt.the_row (Sh E)).own_val (Some (shown i)) (live 1 (vcons (laid c) vnil) ∷ [])))
+      (Some-of 𝓛 (Sh E) (shown i) (laid c)) $
       returns ! (look_at ! 0 refl) $ free_all ! refl $
-      suffices ! _ (ends_at 𝓛 (ended E) stayed held z (live 1 (vcons (laid c) vnil)) (Some (contents i.room.items i.room.capacity))
+      suffices ! _ (ends_at 𝓛 (ended E) stayed held z (live 1 (vcons (laid c) vnil)) (Some (shown i))
       (tt, tt) (tt, tt)) $ nothing ! $ nothing ! $ fjoin ! $ join ! $ move ! (1 ∷ 2 ∷ []) $ join ! $ join ! $ says ! same $ done !))))
       (λ null. absurd null))))))
 

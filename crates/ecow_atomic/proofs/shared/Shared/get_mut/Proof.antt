@@ -47,7 +47,7 @@ use Rattle.atomic_table.proofs.Calls.{fm, seq_cst, found, finds, loads}
 use Rattle.std_alloc.specs.Owners.{sole_or_counted}
 use Rattle.std_alloc.proofs.RcSteps.{is_so, is_not, Some-of, none_of}
 use Rattle.std_alloc.proofs.VecSteps.Shapes.{after}
-use Rattle.ecow_block.specs.Contents.{contents}
+use Rattle.ecow_block.specs.Fields.{shown}
 use Rattle.ecow_block.specs.Heads.{unless_null}
 use Rattle.ecow_block.specs.Kept.{IsOwner, kept, sole_owns}
 use Rattle.ecow_atomic.specs.Owners.{counted_owns, shared_owns, owner_owns}
@@ -108,7 +108,7 @@ module _ (E : El) where
     handle = cell_at full_share Self.mir (laid s.top.ptr ∷ []) b o
 
     -- an owner that lends nothing is put back as it was
-    module _ (me : Self.Denot) (same : contents s.inside.room.items s.inside.room.capacity ≡ me) (κ : Lft)
+    module _ (me : Self.Denot) (same : shown s.inside ≡ me) (κ : Lft)
         (q : Share) (γ : GName) (others : Item 𝓤) {K : Type 0} {Γ : List (Item 𝓤)} {G : Goal 𝓤 H} where
       put_back : K → Soaks G
           → Step K 𝓛 (‵ ((Opt.the_row (Lent κ)).own_val None (live 0 vnil ∷ [])) ∷ (‵ (flft κ q) ⊛ others) ∷ ‵ (fres γ (Self.coded.code me)) ∷ Γ) G
@@ -204,7 +204,7 @@ module _ (E : El) {M : Type 1} {𝓤 : Ura M} (𝓛 : Logic 𝓤) (𝓜 : Model 
       first ! $ blocks ! $ sets ! (addr ! (through ! refl (stop !))) refl (tt, tt) $ sets_last ! (addr ! (through ! refl (stop !))) refl (tt, tt) $
       exec ! 𝓣.C 𝓣.Λ En (after 12 here.body) (at_ret En Post) $ sets ! (of_opd ! (get ! refl)) refl (tt, tt) $
       sets ! (agg ! (and_then ! (lit ! tt) (and_then ! (get ! refl) (no_more !)))) refl (tt, (record { fits = lit< tt }, (tt, tt))) $
-      let w : (Bk E).Denot = contents i.room.items i.room.capacity in
+      let w : (Bk E).Denot = shown i in
       counter_made E i ! cb co e $ of_sole E i facts cb co e ! $ block_made E ! i facts $
       rewrite ! 0 (λ (p : Ptr). ‵ ((Bk E).own_val w (laid p ∷ []))) owner.top_is refl $ move ! (2 ∷ 0 ∷ []) $ fjoin ! $
       fpack ! (List Val) (λ us. fsep (cell_at full_share (Bk E).mir us b o) ((Bk E).own_val w us)) (laid c ∷ []) $ nothing ! $

@@ -40,7 +40,7 @@ use Rattle.core.specs.declared.option.Option.TheVariants.{None, Some}
 use Rattle.atomic_table.proofs.Calls.{fm, seq_cst, found, finds, subs}
 use Rattle.std_alloc.proofs.RcSteps.{is_so, some_Good, Some-of, none_of, word-Good}
 use Rattle.std_alloc.proofs.VecSteps.Shapes.{after}
-use Rattle.ecow_block.specs.Contents.{contents}
+use Rattle.ecow_block.specs.Fields.{shown}
 use Rattle.ecow_block.specs.Kept.{kept}
 use Rattle.ecow_atomic.specs.contracts.shared.Shared.leave as F
 use Rattle.ecow_atomic.specs.contracts.shared.Shared.leave.Key.{name as #self}
@@ -135,11 +135,11 @@ module _ (E : El) {M : Type 1} {𝓤 : Ura M} (𝓛 : Logic 𝓤) (𝓜 : Model 
       (laid-Good E c) $
       sets ! (agg ! (and_then ! (lit ! tt) (and_then ! (get ! refl) (no_more !)))) refl (some_Good (lone (Bk E).mir) (laid c) (laid-Good E c)) $
       counter_made E i ! cb co e $ of_sole E i facts cb co e ! $ block_made E ! i facts $
-      rewrite ! 0 (λ (p : Ptr). ‵ ((Bk E).own_val (contents i.room.items i.room.capacity) (laid p ∷ []))) owner.top_is refl $
-      use1 𝓛 (‵ ((Opt.the_row (Bk E)).own_val (Some (contents i.room.items i.room.capacity)) (live 1 (vcons (laid c) vnil) ∷ [])))
-      (Some-of 𝓛 (Bk E) (contents i.room.items i.room.capacity) (laid c)) $
+      rewrite ! 0 (λ (p : Ptr). ‵ ((Bk E).own_val (shown i) (laid p ∷ []))) owner.top_is refl $
+      use1 𝓛 (‵ ((Opt.the_row (Bk E)).own_val (Some (shown i)) (live 1 (vcons (laid c) vnil) ∷ [])))
+      (Some-of 𝓛 (Bk E) (shown i) (laid c)) $
       returns ! (look_at ! 0 refl) $ free_all ! refl $ keep ! (3 ∷ 4 ∷ 0 ∷ []) $ join ! $ move ! (1 ∷ 0 ∷ []) $
-      suffices ! _ (ends_at 𝓛 (ended E) stayed held z (live 1 (vcons (laid c) vnil)) (Some (contents i.room.items i.room.capacity))
+      suffices ! _ (ends_at 𝓛 (ended E) stayed held z (live 1 (vcons (laid c) vnil)) (Some (shown i))
       (tt, tt) (tt, tt)) $ nothing ! $ nothing ! $ fjoin ! $ join ! $ move ! (1 ∷ 0 ∷ []) $ join ! $ says ! same $ done !)))))))))
 
   meets : Meets 𝓛 (ended E).signature (WpFn 𝓤 H 𝓣.C 𝓣.Λ here) (closing 𝓛 (ended E) held)

@@ -2,6 +2,7 @@
 use mathlib.Core.Path.{◌≡◌, refl, sym, subst}
 use mathlib.Core.Bool.{Bool, false}
 use Prim.Native.Nat.{ℕ, ◌*◌, ◌<◌, ◌^◌}
+use native.Mathlib.Omega.{arith}
 use mathlib.Core.List.{List, [], ◌∷◌, ◌++◌}
 use seplogic.Ra.Ura.{Ura}
 use base.Logic.{SProp, ent, id⊢}
@@ -37,7 +38,7 @@ use Rattle.std_alloc.proofs.RcSteps.{word, word-Good}
 use Rattle.ecow_block.proofs.Memory.{Rm, Bs, sz, Spare, mark, room_made}
 use Rattle.core.proofs.alloc.Calls.{Al, token}
 use Rattle.core.proofs.slots.Leases.{block_ty, args, P}
-use Rattle.std.specs.Vec.Ownership.{owns_if, FitsInBlock}
+use Rattle.std.specs.Vec.Ownership.{owns_if}
 use Rattle.ecow_block.specs.Ownership.{has_bytes}
 use Rattle.ecow_block.proofs.Deeds.{Dd, no_bytes, three_val, three_of, base_made, deed_made, fresh, fresh_small, all_fresh, no_bytes_room}
 use Rattle.ecow_block.specs.contracts.room.heap.nowhere as F
@@ -78,11 +79,12 @@ module _ (E : El) (Z : Al) where
         let q₁ = z.0.1.1.0 in let q₂ = z.0.1.1.1.0 in let args = z.0.3 in let vss = z.0.4 in
         let hp = args.0.ref_ptr in let a = args.0.now in let c = args.1.0 in let s = sz E in
         let Post : Val → SProp 𝓤 = (walk_of 𝓛 ended stayed held).post z in
-        let Asked : Type 0 = FitsInBlock (R E) c × (has_bytes (R E) c ≡ false) in
+        let Asked : Type 0 = has_bytes (R E) c ≡ false in
         qed 𝓛 (((‵ (flft κ q) ⊛ ‵ (flft κ₁ q₁) ⊛ ‵ (flft κ₂ q₂) ⊛ ‵ ftrue) ⊛ ‵ (owns (types_at ended.signature.params z.0.0) args vss))
         ∷ (raw (fact 𝓤 (κ₁ ⊑ E.row.lives)) ⊛ raw (fact 𝓤 (κ₂ ⊑ Z.row.lives)) ⊛ raw (fact 𝓤 Asked)) ∷ []) ∵
         move ! (1 ∷ []) $ split ! $ drop ! $ split ! $ drop ! $ heard ! Asked (λ ok.
-        let small : c * s < 2 ^ 63 = ok.0.0 in
+        let none : c * s ≡ 0 = no_bytes (c * s) ok in
+        let small : c * s < 2 ^ 63 = omega arith in
         split ! $ split ! $ move ! (2 ∷ []) $ fsplit ! $ fsplit ! $
         feq_l ! (λ e₀. move ! (1 ∷ []) $ fsplit ! $ fsplit ! $ feq_l ! (λ e₁. flt_l ! (λ fits. keep ! (2 ∷ 3 ∷ []) $
         let us : List Val = vptr hp.0 hp.1 ∷ vint w64 c ∷ [] in
@@ -98,8 +100,8 @@ module _ (E : El) (Z : Al) where
         (tt, ((tt, tt), ((tt, tt), ((tt, tt), tt)))) $
         returns ! (look_at ! 0 refl) $ free_all ! refl $
         -- [the token; the other tokens]
-        nothing ! $ rewrite ! 0 (λ (w : Bool). ‵ (owns_if w (token Z a (block_ty E c) p))) (sym ok.1) refl $ deed_made E Z ! (deed_at a b 0 c) $
-        use0 𝓛 (‵ (Spare E b 0 c)) (no_bytes_room E 𝓛 b 0 c (no_bytes (c * s) ok.1)) $ all_fresh E b 0 c ! $
+        nothing ! $ rewrite ! 0 (λ (w : Bool). ‵ (owns_if w (token Z a (block_ty E c) p))) (sym ok) refl $ deed_made E Z ! (deed_at a b 0 c) $
+        use0 𝓛 (‵ (Spare E b 0 c)) (no_bytes_room E 𝓛 b 0 c none) $ all_fresh E b 0 c ! $
         room_made E ! Mine b 0 refl (fresh_small E b 0 c small) $ base_made E ! p $
         use3 𝓛 (‵ (Three.own_val (block a b 0 c) (made ∷ [])))
         (three_of 𝓛 (Bs E) (Rm E) (Dd E Z) (record { ptr = p }) Mine (deed_at a b 0 c) (word p) mark mark) $

@@ -1,6 +1,6 @@
 use Rattle.std.proofs.Common.{length, ap, ◌∙◌, length-append}
-use Rattle.ecow_vec.specs.Vectors.{Appends}
-use Rattle.ecow_vec.proofs.Fronts.{refused_at}
+use Rattle.ecow_list.specs.Vectors.{Appends}
+use Rattle.ecow_list.proofs.Fronts.{refused_at}
 use Rattle.ecow_bytes.proofs.bytes.SmallBytes.extend.Goals as goal
 
 pub returns-clause-refused : goal.returns-clause-refused

@@ -1,5 +1,5 @@
 use Rattle.std.proofs.Common.{◌≡◌, length}
-use Rattle.ecow_vec.specs.Vectors.{Appends}
+use Rattle.ecow_list.specs.Vectors.{Appends}
 use Rattle.ecow_values.specs.Inline.{inline_after}
 use Rattle.ecow_bytes.proofs.bytes.SmallBytes.extend_from.Given as goal
 

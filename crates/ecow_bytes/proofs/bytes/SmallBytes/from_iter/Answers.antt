@@ -1,5 +1,5 @@
 use Rattle.std.proofs.Common.{rules, ◌≡◌, ◌+◌, ◌<◌, length, arith}
-use Rattle.ecow_vec.proofs.Fronts.{on_err}
+use Rattle.ecow_list.proofs.Fronts.{on_err}
 use Rattle.ecow_bytes.proofs.Limits.{past_by_one}
 use Rattle.ecow_bytes.proofs.bytes.SmallBytes.from_iter.Goals as goal
 

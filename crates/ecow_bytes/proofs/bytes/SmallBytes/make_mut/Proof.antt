@@ -50,9 +50,9 @@ use Rattle.ecow_values.specs.declared.plain.PlainBytes.{PlainBytes}
 use Rattle.ecow_bytes.specs.Form.{plain_of}
 use Rattle.ecow_bytes.specs.Lends.{with_bytes, name_given}
 use Rattle.ecow_bytes.specs.declared.form.Form.{Form}
-use Rattle.ecow_vec.specs.declared.error.EcoError.{EcoError}
-use Rattle.ecow_vec.specs.declared.error.EcoError.TheVariants.{Memory as NoMemory}
-use Rattle.ecow_vec.specs.contracts.error.EcoError.{the_row as error_row}
+use Rattle.ecow_list.specs.declared.error.EcoError.{EcoError}
+use Rattle.ecow_list.specs.declared.error.EcoError.TheVariants.{Memory as NoMemory}
+use Rattle.ecow_list.specs.contracts.error.EcoError.{the_row as error_row}
 use Rattle.ecow_bytes.specs.contracts.form.Form.{the_row as form_row}
 use Rattle.ecow_bytes.specs.contracts.bytes.SmallBytes.{the_row as bytes_row}
 use Rattle.ecow_bytes.specs.contracts.bytes.SmallBytes.form_mut as W
@@ -65,8 +65,8 @@ use Rattle.ecow_bytes.proofs.bytes.SmallBytes.form_mut.Met as whole_thm
 use Rattle.ecow_bytes.proofs.form.Form.make_mut.Met as form_thm
 use Rattle.ecow_bytes.proofs.bytes.SmallBytes.make_mut.Statement as stated
 use Rattle.ecow_bytes.proofs.bytes.SmallBytes.make_mut.Code as code
-use Rattle.ecow_vec.proofs.Loans.{then_so}
-use Rattle.ecow_vec.proofs.ResultTyped.{result_typed}
+use Rattle.ecow_list.proofs.Loans.{then_so}
+use Rattle.ecow_list.proofs.ResultTyped.{result_typed}
 use Rattle.ecow_bytes.proofs.Forms.{plain_with}
 
 module _ (n : ℕ) where

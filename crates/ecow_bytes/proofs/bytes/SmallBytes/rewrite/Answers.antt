@@ -1,5 +1,5 @@
 use Rattle.std.proofs.Common.{rules, ◌≡◌, [], IsOk, refl, sym, ◌∙◌}
-use Rattle.ecow_vec.proofs.Kept.{kept_equal, none_kept}
+use Rattle.ecow_list.proofs.Kept.{kept_equal, none_kept}
 use Rattle.ecow_bytes.proofs.Rewritten.{rewritten, none_rewritten}
 use Rattle.ecow_bytes.proofs.bytes.SmallBytes.rewrite.Goals.{in-Ok, in-Err-None, in-Err-Some}
 use Rattle.ecow_bytes.proofs.bytes.SmallBytes.rewrite.Goals as goal

@@ -63,36 +63,36 @@ use Rattle.std.specs.List.{refill}
 use Rattle.std_alloc.proofs.ResultValues.{ok_of}
 use Rattle.std_alloc.proofs.VecSteps.Shapes.{after, head, arm_body}
 use Rattle.ecow_base.specs.Clones.{ClonesAreEqual}
-use Rattle.ecow_vec.specs.Lends.{name_if_lent}
-use Rattle.ecow_vec.specs.Vectors.{IsKept}
-use Rattle.ecow_vec.proofs.Kept.{kept_equal}
+use Rattle.ecow_list.specs.Lends.{name_if_lent}
+use Rattle.ecow_list.specs.Vectors.{IsKept}
+use Rattle.ecow_list.proofs.Kept.{kept_equal}
 use Rattle.ecow_bytes.specs.Form.{plain_of}
 use Rattle.ecow_bytes.specs.Lends.{with_bytes, name_given}
 use Rattle.ecow_bytes.specs.declared.form.Form.{Form}
 use Rattle.ecow_bytes.specs.declared.form.Form.TheVariants.{Short, Full, Spilled}
-use Rattle.ecow_vec.specs.declared.error.EcoError.{EcoError}
-use Rattle.ecow_vec.specs.declared.error.EcoError.TheVariants.{Memory as NoMemory}
-use Rattle.ecow_vec.specs.contracts.error.EcoError.{the_row as error_row}
+use Rattle.ecow_list.specs.declared.error.EcoError.{EcoError}
+use Rattle.ecow_list.specs.declared.error.EcoError.TheVariants.{Memory as NoMemory}
+use Rattle.ecow_list.specs.contracts.error.EcoError.{the_row as error_row}
 use Rattle.ecow_bytes.specs.contracts.cells.Cells.{the_row as cells_row}
 use Rattle.ecow_bytes.specs.contracts.few.Few.{the_row as few_row}
-use Rattle.ecow_vec.specs.contracts.vec.EcoVec.{the_row as vec_row}
+use Rattle.ecow_list.specs.contracts.vec.EcoVec.{the_row as vec_row}
 use Rattle.ecow_bytes.specs.contracts.form.Form.{the_row as form_row, the_type as form_type}
 use Rattle.ecow_bytes.specs.contracts.cells.Cells.all_mut as W
 use Rattle.ecow_bytes.specs.contracts.cells.Cells.all_mut.Key.{name as #cells}
 use Rattle.ecow_bytes.specs.contracts.few.Few.as_mut_slice as S
 use Rattle.ecow_bytes.specs.contracts.few.Few.as_mut_slice.Key.{name as #few}
-use Rattle.ecow_vec.specs.contracts.vec.EcoVec.make_mut as E
-use Rattle.ecow_vec.specs.contracts.vec.EcoVec.make_mut.Key.{name as #vec}
+use Rattle.ecow_list.specs.contracts.vec.EcoVec.make_mut as E
+use Rattle.ecow_list.specs.contracts.vec.EcoVec.make_mut.Key.{name as #vec}
 use Rattle.ecow_bytes.specs.contracts.form.Form.make_mut as F
 use Rattle.ecow_bytes.specs.contracts.form.Form.make_mut.Key.{name as #self}
 use Rattle.ecow_bytes.proofs.cells.Cells.all_mut.Met as cells_thm
 use Rattle.ecow_bytes.proofs.few.Few.as_mut_slice.Met as few_thm
-use Rattle.ecow_vec.proofs.vec.EcoVec.make_mut.Met as vec_thm
+use Rattle.ecow_list.proofs.vec.EcoVec.make_mut.Met as vec_thm
 use Rattle.ecow_bytes.proofs.form.Form.make_mut.Statement as stated
 use Rattle.ecow_bytes.proofs.form.Form.make_mut.Code as code
 use Rattle.ecow_bytes.proofs.Destruct++none.drop.Code as dropped
-use Rattle.ecow_vec.proofs.Loans.{so_of, then_so}
-use Rattle.ecow_vec.proofs.ResultTyped.{result_typed}
+use Rattle.ecow_list.proofs.Loans.{so_of, then_so}
+use Rattle.ecow_list.proofs.ResultTyped.{result_typed}
 use Rattle.ecow_bytes.proofs.Variants.{variants, opened, lends}
 
 -- bytes, as the call of the vector's `make_mut` passes them
@@ -433,7 +433,7 @@ make_mut_spec 𝓤 𝓛 𝓜 𝓡 wired n fits =
     entered 𝓤 𝓛.H (triple_of 𝓛 (ended n).signature (closing 𝓛 (ended n) (held n 𝓛 𝓜.mem 𝓡.returns))) 𝓣.C 𝓣.Λ (#self (args n)) (function n)
     (code.unfolded 𝓤 𝓛.H 𝓜 𝓡 wired (number n, tt))
     (meets n 𝓛 𝓜.mem 𝓡.returns 𝓣
-    (vec_thm.met 𝓤 𝓛 𝓜 𝓡 (code.calls-ecow_vec::vec::EcoVec::make_mut 𝓡.env wired) Y Y-laws u8_clone.ghosts u8_clone.dict drops
+    (vec_thm.met 𝓤 𝓛 𝓜 𝓡 (code.calls-ecow_list::vec::EcoVec::make_mut 𝓡.env wired) Y Y-laws u8_clone.ghosts u8_clone.dict drops
     (u8_clone_met.passed 𝓡.env (code.calls-core::clone::U8Clone::clone 𝓡.env wired) _ 𝓤 𝓛 𝓜 𝓡)
     (glues "ecow_bytes::Destruct++none::drop" 𝓡.env (code.calls-ecow_bytes::Destruct++none::drop 𝓡.env wired) Y Y-laws _ 𝓤 𝓛 𝓜 𝓡))
     (cells_thm.met 𝓤 𝓛 𝓜 𝓡 (code.calls-ecow_bytes::cells::Cells::all_mut 𝓡.env wired) n fits)

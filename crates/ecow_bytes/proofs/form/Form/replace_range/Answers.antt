@@ -1,7 +1,7 @@
 use Rattle.std.proofs.Common.{◌≡◌, ◌+◌, ◌-◌, length, take, refl, sym, ap, true, arith, ◌∙◌}
 use Rattle.std.proofs.lemmas.List.{take_all}
 use Rattle.std.specs.List.{copy_within}
-use Rattle.ecow_vec.proofs.Replaced.{replaced}
+use Rattle.ecow_list.proofs.Replaced.{replaced}
 use Rattle.ecow_values.specs.Plain.{plain_bytes}
 use Rattle.ecow_values.specs.declared.plain.PlainBytes.{PlainBytes}
 use Rattle.ecow_bytes.specs.Form.{plain_of}

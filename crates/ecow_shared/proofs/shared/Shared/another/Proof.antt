@@ -43,7 +43,7 @@ use Rattle.core.specs.contracts.option.Option as Opt
 use Rattle.core.specs.declared.option.Option.TheVariants.{None, Some}
 use Rattle.std_alloc.proofs.RcSteps.{is_not, some_Good, Some-of, none_of, word-Good}
 use Rattle.std_alloc.proofs.VecSteps.Shapes.{after, head, inside}
-use Rattle.ecow_block.specs.Contents.{contents}
+use Rattle.ecow_block.specs.Fields.{shown}
 use Rattle.ecow_block.specs.Heads.{unless_null}
 use Rattle.ecow_shared.specs.Owners.{shared_owns}
 use Rattle.ecow_shared.specs.contracts.shared.Shared.another as F
@@ -126,10 +126,10 @@ module _ (E : El) where
         sets ! (agg ! (and_then ! (lit ! tt) (and_then ! (get ! refl) (no_more !)))) refl (some_Good (lone (Sh E).mir) (laid c) (laid-Good E c)) $
         read E s ! tt b o q' $
         nothing ! $ rewrite ! 0 (λ (p : Ptr). ‵ (unless_null p (shared_owns (R E) i))) (sym e) refl $ owner_made E ! s owner $
-        use1 𝓛 (‵ ((Opt.the_row (Sh E)).own_val (Some (contents i.room.items i.room.capacity)) (live 1 (vcons (laid c) vnil) ∷ [])))
-        (Some-of 𝓛 (Sh E) (contents i.room.items i.room.capacity) (laid c)) $
+        use1 𝓛 (‵ ((Opt.the_row (Sh E)).own_val (Some (shown i)) (live 1 (vcons (laid c) vnil) ∷ [])))
+        (Some-of 𝓛 (Sh E) (shown i) (laid c)) $
         returns ! (look_at ! 0 refl) $ free_all ! refl $ keep ! (0 ∷ 1 ∷ 3 ∷ 2 ∷ []) $
-        suffices ! _ (ends_at 𝓛 ended stayed held z (live 1 (vcons (laid c) vnil)) (Some (contents i.room.items i.room.capacity))
+        suffices ! _ (ends_at 𝓛 ended stayed held z (live 1 (vcons (laid c) vnil)) (Some (shown i))
         (tt, tt) (tt, tt)) $ nothing ! $ nothing ! $ fjoin ! $ join ! $ move ! (1 ∷ 2 ∷ []) $
         join ! $ join ! $ frame ! $ says ! same $ done !)))
         (λ _ _ _. move ! (1 ∷ 0 ∷ []) $ lent_out E s κ q b o ! tt (λ a r q'. move ! (1 ∷ 0 ∷ 6 ∷ []) $ opens E i a ! tt r (λ n cb co e fits some_n.
@@ -167,10 +167,10 @@ module _ (E : El) where
         move ! (1 ∷ []) $ more E i a ! n grows $ move ! (2 ∷ 0 ∷ 3 ∷ 4 ∷ []) $ shut E i a ! tt (n + 1) cb co e grows $
         move ! (2 ∷ 3 ∷ 4 ∷ []) $ lent_back E s κ q b o ! tt a.0 r q' $ move ! (2 ∷ 3 ∷ 4 ∷ []) $ counted_made E i ! a $
         rewrite ! 0 (λ (p : Ptr). ‵ (unless_null p (shared_owns (R E) i))) (sym e) refl $ owner_made E ! s owner $
-        use1 𝓛 (‵ ((Opt.the_row (Sh E)).own_val (Some (contents i.room.items i.room.capacity)) (live 1 (vcons (laid c) vnil) ∷ [])))
-        (Some-of 𝓛 (Sh E) (contents i.room.items i.room.capacity) (laid c)) $
+        use1 𝓛 (‵ ((Opt.the_row (Sh E)).own_val (Some (shown i)) (live 1 (vcons (laid c) vnil) ∷ [])))
+        (Some-of 𝓛 (Sh E) (shown i) (laid c)) $
         returns ! (look_at ! 0 refl) $ free_all ! refl $ keep ! (0 ∷ 1 ∷ 3 ∷ 2 ∷ []) $
-        suffices ! _ (ends_at 𝓛 ended stayed held z (live 1 (vcons (laid c) vnil)) (Some (contents i.room.items i.room.capacity))
+        suffices ! _ (ends_at 𝓛 ended stayed held z (live 1 (vcons (laid c) vnil)) (Some (shown i))
         (tt, tt) (tt, tt)) $ nothing ! $ nothing ! $ fjoin ! $ join ! $ move ! (1 ∷ 2 ∷ []) $ join ! $ join ! $ frame ! $ says ! same $ done !))
         (λ null. absurd null)))))))
 

@@ -49,7 +49,7 @@ use Rattle.std_alloc.specs.Rc.Ownership.{counter_at}
 use Rattle.std_alloc.proofs.RcSteps.{is_so, Some-of, none_of}
 use Rattle.std_alloc.proofs.VecSteps.Shapes.{after, head, inside}
 use Rattle.core.proofs.mem.Param.{El, R, args}
-use Rattle.ecow_block.specs.Contents.{contents}
+use Rattle.ecow_block.specs.Fields.{shown}
 use Rattle.ecow_block.specs.Heads.{unless_null}
 use Rattle.ecow_block.specs.Kept.{IsOwner, sole_owns}
 use Rattle.ecow_shared.specs.Owners.{counted_owns, shared_owns, owner_owns}
@@ -117,7 +117,7 @@ module _ (E : El) where
     handle = cell_at full_share Self.mir (laid s.top.ptr ∷ []) b o
 
     -- an owner that lends nothing is put back as it was
-    module _ (me : Self.Denot) (same : contents s.inside.room.items s.inside.room.capacity ≡ me) (κ : Lft)
+    module _ (me : Self.Denot) (same : shown s.inside ≡ me) (κ : Lft)
         (q : Share) (γ : GName) (others : Item 𝓤) {K : Type 0} {Γ : List (Item 𝓤)} {G : Goal 𝓤 H} where
       put_back : K → Soaks G
           → Step K 𝓛 (‵ ((Opt.the_row (Lent κ)).own_val None (live 0 vnil ∷ [])) ∷ (‵ (flft κ q) ⊛ others)
@@ -203,7 +203,7 @@ module _ (E : El) where
         move ! (1 ∷ 4 ∷ 2 ∷ 3 ∷ []) $ alone E i a ! tt $
         -- [the thread's token; what is kept; the count; the invariant; what is seen; the other tokens; the owner's cell; the open borrow; obs; auth]
         move ! (2 ∷ 1 ∷ []) $ flt_i ! 1 (2 ^ 64) (lit< tt) $ fjoin ! $ rewrite ! 0 (λ (p : Ptr). ‵ (counter_at p 0 1)) (sym e) refl $ fjoin ! $
-        let w : (Bk E).Denot = contents i.room.items i.room.capacity in
+        let w : (Bk E).Denot = shown i in
         of_sole E i facts cb co e ! $ block_made E ! i facts $
         rewrite ! 0 (λ (p : Ptr). ‵ ((Bk E).own_val w (laid p ∷ []))) owner.top_is refl $ move ! (5 ∷ 0 ∷ []) $ fjoin ! $
         fpack ! (List Val) (λ us. fsep (cell_at full_share (Bk E).mir us b o) ((Bk E).own_val w us)) (laid c ∷ []) $ nothing ! $

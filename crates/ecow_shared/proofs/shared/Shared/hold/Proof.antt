@@ -34,6 +34,7 @@ use Rattle.std.specs.contracts.alloc.Global as heap
 use Rattle.std.specs.contracts.impls.GlobalAllocator.TheImpl.{ghosts}
 use Rattle.std_alloc.proofs.RcSteps.{word, word-Good}
 use Rattle.std_alloc.specs.Owners.{sole_or_counted}
+use Rattle.ecow_block.specs.Fields.{shown}
 use Rattle.ecow_block.specs.Contents.{contents}
 use Rattle.ecow_block.specs.Heads.{unless_null}
 use Rattle.ecow_block.specs.Kept.{IsOwner, sole_owns}
@@ -41,6 +42,7 @@ use Rattle.ecow_shared.specs.Owners.{counted_owns, shared_owns, owner_owns}
 use Rattle.ecow_block.specs.Parts.{IsParts}
 use Rattle.ecow_block.specs.contracts.room.Title as title_type
 use Rattle.ecow_block.specs.contracts.room.Deed as deed_type
+use Rattle.ecow_block.specs.Parts.{capacity_of}
 use Rattle.ecow_shared.specs.contracts.shared.Shared.hold as F
 use Rattle.ecow_shared.specs.contracts.shared.Shared.hold.Key.{name as #self}
 use Rattle.ecow_shared.proofs.shared.Shared.hold.Statement.{statement}
@@ -79,11 +81,11 @@ module _ (E : El) where
     held = F.clauses E.row 𝓛 at_mem run
 
     exits : (z : (walk_of 𝓛 ended stayed held).Ghost) (s : (Si E).Denot) → IsOwner s.top s.alloc s.inside
-        → contents s.inside.room.items s.inside.room.capacity ≡ contents z.0.3.1.0.items z.0.3.1.0.capacity
+        → shown s.inside ≡ contents z.0.3.1.0.items (capacity_of z.0.3.1.1.0.fields.capacity)
         → ent 𝓤 (⋆ 𝓛 (‵ (owner_owns (R E) s.inside) ∷ (‵ (flft z.0.0.0 z.0.1.0) ⊛ ‵ ftrue) ∷ [])) ((walk_of 𝓛 ended stayed held).post z (laid s.top.ptr))
     exits z s owner is =
         qed 𝓛 (‵ (owner_owns (R E) s.inside) ∷ (‵ (flft z.0.0.0 z.0.1.0) ⊛ ‵ ftrue) ∷ []) ∵ owner_made E ! s owner $
-        suffices ! _ (ends_at 𝓛 ended stayed held z (laid s.top.ptr) (contents s.inside.room.items s.inside.room.capacity)
+        suffices ! _ (ends_at 𝓛 ended stayed held z (laid s.top.ptr) (shown s.inside)
         (tt, (tt, (tt, (tt, (tt, tt))))) (tt, (tt, (tt, (tt, (tt, tt)))))) $ says ! is $
         nothing ! $ nothing ! $ fjoin ! $ nothing ! $ fjoin ! $ nothing ! $ fjoin ! $ nothing ! $
         fjoin ! $ nothing ! $ fjoin ! $ join ! $ move ! (1 ∷ 0 ∷ []) $ join ! $ done !

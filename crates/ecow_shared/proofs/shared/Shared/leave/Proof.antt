@@ -44,7 +44,6 @@ use Rattle.core.specs.declared.option.Option.TheVariants.{None, Some}
 use Rattle.std_alloc.proofs.RcSteps.{is_so, is_not, some_Good, Some-of, none_of, word-Good}
 use Rattle.std_alloc.proofs.VecSteps.Shapes.{after}
 use Rattle.std_alloc.specs.Rc.Ownership.{counter_at}
-use Rattle.ecow_block.specs.Contents.{contents}
 use Rattle.ecow_shared.specs.contracts.shared.Shared.leave as F
 use Rattle.ecow_shared.specs.contracts.shared.Shared.leave.Key.{name as #self}
 use Rattle.ecow_shared.proofs.shared.Shared.leave.Statement.{statement}
@@ -53,6 +52,7 @@ use Rattle.ecow_shared.proofs.shared.Shared.leave.Code.{code as body}
 use Rattle.ecow_block.proofs.Heads.{cell}
 use Rattle.ecow_block.proofs.Kept.{Bi, Bk, laid, block_made, of_sole}
 use Rattle.ecow_shared.proofs.Owners.{Sh, laid-Good, owner_had}
+use Rattle.ecow_block.specs.Fields.{shown}
 use Rattle.ecow_shared.proofs.Counting.{cases, value, counted_had, is_counted, opens, shut, less, alone}
 
 module _ (E : El) where
@@ -134,11 +134,11 @@ module _ (E : El) where
         -- [the thread's token; what is kept; the count; the invariant; what is seen; the token; the other tokens]
         move ! (2 ∷ 1 ∷ []) $ flt_i ! 1 (2 ^ 64) (lit< tt) $ fjoin ! $ rewrite ! 0 (λ (p : Ptr). ‵ (counter_at p 0 1)) (sym e) refl $ fjoin ! $
         of_sole E i facts cb co e ! $ block_made E ! i facts $
-        rewrite ! 0 (λ (p : Ptr). ‵ ((Bk E).own_val (contents i.room.items i.room.capacity) (laid p ∷ []))) owner.top_is refl $
-        use1 𝓛 (‵ ((Opt.the_row (Bk E)).own_val (Some (contents i.room.items i.room.capacity)) (live 1 (vcons (laid c) vnil) ∷ [])))
-        (Some-of 𝓛 (Bk E) (contents i.room.items i.room.capacity) (laid c)) $
+        rewrite ! 0 (λ (p : Ptr). ‵ ((Bk E).own_val (shown i) (laid p ∷ []))) owner.top_is refl $
+        use1 𝓛 (‵ ((Opt.the_row (Bk E)).own_val (Some (shown i)) (live 1 (vcons (laid c) vnil) ∷ [])))
+        (Some-of 𝓛 (Bk E) (shown i) (laid c)) $
         returns ! (look_at ! 0 refl) $ free_all ! refl $ keep ! (4 ∷ 5 ∷ 0 ∷ 1 ∷ []) $ join ! $ move ! (1 ∷ 0 ∷ 2 ∷ []) $
-        suffices ! _ (ends_at 𝓛 ended stayed held z (live 1 (vcons (laid c) vnil)) (Some (contents i.room.items i.room.capacity))
+        suffices ! _ (ends_at 𝓛 ended stayed held z (live 1 (vcons (laid c) vnil)) (Some (shown i))
         (tt, tt) (tt, tt)) $ nothing ! $ nothing ! $ fjoin ! $ join ! $ move ! (1 ∷ 0 ∷ []) $ join ! $ frame ! $ says ! same $ done !))))))))
 
     meets : Meets 𝓛 ended.signature (WpFn 𝓤 H 𝓣.C 𝓣.Λ here) (closing 𝓛 ended held)

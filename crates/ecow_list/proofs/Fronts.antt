@@ -1,0 +1,30 @@
+-- The items that an iterator gave up to a refusal.
+use Rattle.std.proofs.Common.{◌≡◌, ◌+◌, List, ◌∷◌, ◌++◌, [], length, Option, Some, Result, Ok, Err, OnErr, arith, length-append}
+use Rattle.std.specs.Iterator.{Yields}
+use Rattle.std.proofs.iter.Next.{Yields-more}
+use Rattle.ecow_list.specs.Vectors.{ExtendsBy, GivesFirst, GivesItems}
+
+module _ {C I T : Type 0} (gives : C → I → Type 0) (steps : I → Option T → I → Type 0) (c : C) where
+  -- one item more came
+  pub one_more : (it : I) (xs : List T) (t : I) (x : T) (u : I) → gives c it → Yields steps it xs t
+      → steps t (Some x) u → GivesFirst gives steps c (xs ++ x ∷ [])
+  one_more it xs t x u g y s = (it, u, g, Yields-more steps it xs t x u y s)
+
+  -- all items are the first ones
+  pub all_first : (xs : List T) → GivesItems gives steps c xs → GivesFirst gives steps c xs
+  all_first xs h = (h.0, h.2.1.0, h.1, h.2.1.1)
+
+  -- a refusal was at one item more than went in
+  pub refused_at : {E : Type 0} (extends : List T → List T → List T → Type 0) (it : I) (old new : List T) (r : Result (Unit {0}) E) (rest : I)
+      → ((xs : List T) → extends old xs new → length new ≡ length old + length xs) → gives c it → ExtendsBy steps extends it old new r rest
+      → OnErr r ((xs : List T) × GivesFirst gives steps c xs × (length new + 1 ≡ length old + length xs))
+  refused_at extends it old new (Ok u) rest lengthens g h = tt
+  refused_at extends it old new (Err e) rest lengthens g h =
+      let len : length (h.0 ++ h.2.0 ∷ []) ≡ length h.0 + 1 = length-append h.0 (h.2.0 ∷ []) in
+      let went = lengthens h.0 h.1 in
+      (h.0 ++ h.2.0 ∷ [], one_more it h.0 h.2.1.0 h.2.0 rest g h.2.1.1 h.2.1.2, omega arith)
+
+-- what holds anyway holds where there is an error
+pub on_err : {T E P : Type 0} (r : Result T E) → P → OnErr r P
+on_err (Ok x) p = tt
+on_err (Err e) p = p

@@ -1,0 +1,181 @@
+//! The calls that change a vector's elements in place. Each says what becomes of the elements of
+//! its own block: `edit` makes the block its own first.
+ghost use Rattle.std.specs.Prelude.{◌≡◌, ◌+◌, ◌-◌, ◌<◌, ◌≤◌, ◌↔◌, [], ◌++◌, length, take, IsOk, IfOk, OnOk, IsSome, Some, insert, remove, slice_get, slice_set, min};
+ghost use Rattle.std.specs.Fn.{CalledAtMut};
+ghost use Rattle.std.specs.List.Retain.{RetainsInTurn};
+ghost use Rattle.ecow_base.specs.Clones.{ClonesAreEqual};
+ghost use Rattle.ecow_block.specs.Updates.{TakesKeptAt, UpdatesAt};
+ghost use Rattle.ecow_list.specs.Refusals.{RefusesForMemory, RefusesPast, RejectsForMemory, RejectsPast};
+ghost use Rattle.ecow_list.specs.Vectors.{Changes, ChangesBy, IsKept, IsKeptBefore};
+
+use crate::error::{EcoError, Rejected};
+use crate::vec::EcoVec;
+use crate::vec::own::{Clones, Least};
+use ecow_base::{MAX_LEN, fresh_capacity};
+use ecow_shared::Shared;
+
+impl<T: Clone> EcoVec<T> {
+    /// Keeps the first `len` elements, or all where there are fewer. A shared vector copies only
+    /// those that stay; where all do, it stays shared, and where none does, it gives its block up.
+    pub fn truncate(&mut self, len: usize) -> Result<(), EcoError>
+        ensures ok { ClonesAreEqual T.is_clone → OnOk result (self.new ≡ take len self.old) }
+        ensures kept { OnOk result (IsKept T.is_clone (take len self.old) self.new) }
+        ensures len { OnOk result (length self.new ≡ min len (length self.old)) }
+
+        // Refused where a shared vector must be copied, and not where all or none stay.
+        ensures refused { RefusesForMemory self.old result self.new }
+        ensures keeps_all { length self.old ≤ len → IsOk result × (self.new ≡ self.old) }
+        ensures keeps_none { len ≡ 0 → IsOk result × (self.new ≡ []) }
+    {
+        if len >= self.len() {
+            return Ok(());
+        }
+        if len == 0 {
+            self.clear();
+            return Ok(());
+        }
+        if let Some(block) = self.sole_block() {
+            block.truncate(len);
+            return Ok(());
+        }
+        let block = self.copy(Clones, &self.as_slice()[..len], fresh_capacity(len))?;
+        self.block = Shared::new(block);
+        Ok(())
+    }
+
+    /// Takes the last element: `None` where there is none. A shared vector copies all its elements
+    /// first.
+    #[inline]
+    pub fn pop(&mut self) -> Result<Option<T>, EcoError>
+        ensures change { ChangesBy T.is_clone self.old
+            (λ xs last ys.
+            (last ≡ slice_get xs (length xs - 1)) × (ys ≡ take (length xs - 1) xs))
+            result self.new }
+        ensures some { IfOk result (λ last. IsSome last ↔ (0 < length self.old)) }
+        ensures len { OnOk result (length self.new ≡ length self.old - 1) }
+
+        // Refused where a shared vector must be copied, and not where there is no element.
+        ensures refused { RefusesForMemory self.old result self.new }
+        ensures empty { self.old ≡ [] → IsOk result × (self.new ≡ []) }
+    {
+        if self.is_empty() {
+            return Ok(None);
+        }
+        Ok(self.edit(Clones, Least::Fresh, 0, (), |block, ()| Ok(block.pop()))?)
+    }
+
+    /// Puts `value` in at `index`, before the element that stands there. A vector that is shared
+    /// copies its elements into a block of its own first, and one that is full gets a larger block.
+    #[inline]
+    pub fn insert(&mut self, index: usize, value: T) -> Result<(), Rejected<T>>
+        requires { index ≤ length self.old }
+        ensures change { Changes T.is_clone self.old
+            (λ xs. insert xs index value)
+            result self.new }
+        ensures len { OnOk result (length self.new ≡ length self.old + 1) }
+        ensures refused { RejectsPast (length self.old + 1) value self.old result self.new }
+    {
+        self.edit(Clones, Least::Same, 1, value, |block, value| {
+            Ok(block.insert_within_capacity(index, value))
+        })
+    }
+
+    /// Takes the element at `index`. A shared vector copies all its elements first.
+    pub fn remove(&mut self, index: usize) -> Result<T, EcoError>
+        requires { index < length self.old }
+        ensures change { ChangesBy T.is_clone self.old
+            (λ xs value ys. (slice_get xs index ≡ Some value) × (ys ≡ remove xs index))
+            result self.new }
+        ensures len { OnOk result (length self.new + 1 ≡ length self.old) }
+        ensures refused { RefusesForMemory self.old result self.new }
+    {
+        Ok(self.edit(Clones, Least::Fresh, 0, (), |block, ()| {
+            Ok(block.remove(index))
+        })?)
+    }
+
+    /// Puts `value` in place of the element at `index`, which is dropped. A shared vector copies
+    /// its elements first.
+    ///
+    /// This project's own: the original writes through `make_mut`, which is proved here as well,
+    /// but of whose borrow a proved caller learns less.
+    pub fn set(&mut self, index: usize, value: T) -> Result<(), Rejected<T>>
+        requires { index < length self.old }
+        ensures change { Changes T.is_clone self.old
+            (λ xs. slice_set xs index value)
+            result self.new }
+        ensures len { OnOk result (length self.new ≡ length self.old) }
+        ensures refused { RejectsForMemory value self.old result self.new }
+    {
+        self.edit(Clones, Least::Fresh, 0, value, |block, value| {
+            Ok(block.set(index, value))
+        })
+    }
+
+    /// Lends the element at `index` to `f`, once, and returns what `f` answers. A shared vector
+    /// copies its elements first. Where that copy is refused, `f` isn't called.
+    ///
+    /// This project's own: the original writes through `make_mut`, of whose borrow a proved caller
+    /// learns less.
+    pub fn update<R, F: FnOnce(&mut T) -> R>(&mut self, index: usize, f: F) -> Result<R, EcoError>
+        requires in_bounds { index < length self.old }
+        requires callable { TakesKeptAt F.FnOnce f T.is_clone self.old index }
+        ensures change { ChangesBy T.is_clone self.old
+            (λ xs answer ys. UpdatesAt F.FnOnce f index xs ys answer)
+            result self.new }
+        ensures len { OnOk result (length self.new ≡ length self.old) }
+        ensures refused { RefusesForMemory self.old result self.new }
+    {
+        Ok(self.edit(Clones, Least::Fresh, 0, (), |block, ()| {
+            Ok(block.update(index, f))
+        })?)
+    }
+
+    /// Asks for room for `additional` more elements; no capacity is promised. A shared vector
+    /// copies its elements into a block of its own, also where `additional` is 0. A vector without
+    /// a block stays without one there.
+    pub fn reserve(&mut self, additional: usize) -> Result<(), EcoError>
+        ensures change { Changes T.is_clone self.old (λ xs. xs) result self.new }
+        ensures len { OnOk result (length self.new ≡ length self.old) }
+        ensures refused { RefusesPast (length self.old + additional) self.old result self.new }
+    {
+        Ok(self.edit(Clones, Least::Same, additional, (), |_block, ()| Ok(()))?)
+    }
+
+    /// Appends clones of `elements`: all, or none where it is refused. A vector that is shared
+    /// copies its own elements first, and one that is too full gets a larger block.
+    #[inline]
+    pub fn extend_from_slice(&mut self, elements: &[T]) -> Result<(), EcoError>
+        ensures ok { ClonesAreEqual T.is_clone → OnOk result (self.new ≡ self.old ++ elements.now) }
+        ensures kept { OnOk result (IsKeptBefore T.is_clone self.old elements.now self.new) }
+        ensures len { OnOk result (length self.new ≡ length self.old + length elements.now) }
+        ensures refused { RefusesPast (length self.old + length elements.now)
+            self.old result self.new }
+
+        // For no elements nothing changes, sharing included.
+        ensures nothing { elements.now ≡ [] → IsOk result × (self.new ≡ self.old) }
+    {
+        // The vector's length stands here for the proof alone: it is bounded.
+        let (_len, added) = (self.len(), elements.len());
+        if added == 0 {
+            return Ok(());
+        }
+        Ok(self.edit(Clones, Least::Same, added, (), |block, ()| {
+            block.extend_within_capacity(elements).map_err(|_| ())
+        })?)
+    }
+
+    /// Gives each element to `f` for writing, once and in order, and keeps those, as `f` left
+    /// them, at which it answered `true`. A shared vector copies its elements first, or gives its
+    /// block up where it has none. Where that copy is refused, `f` is given no element.
+    pub fn retain<F: FnMut(&mut T) -> bool>(&mut self, f: F) -> Result<(), EcoError>
+        requires { F.IsAlwaysCallable f }
+        ensures change { ChangesBy T.is_clone self.old
+            (λ xs _ ys. RetainsInTurn (CalledAtMut F.FnMut) f xs ys)
+            result self.new }
+        ensures len { OnOk result (length self.new ≤ length self.old) }
+        ensures refused { RefusesForMemory self.old result self.new }
+    {
+        Ok(self.edit(Clones, Least::Fresh, 0, (), |block, ()| Ok(block.retain(f)))?)
+    }
+}

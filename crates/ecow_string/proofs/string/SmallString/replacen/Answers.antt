@@ -1,6 +1,0 @@
-use Rattle.std.proofs.Common.{sym}
-use Rattle.ecow_string.proofs.Texts.{chars_of_none}
-use Rattle.ecow_string.proofs.string.SmallString.replacen.Goals as goal
-
-pub returns-then-is_empty : goal.returns-then-is_empty
-returns-then-is_empty g c = rw (chars_of_none c.args.pattern.now (sym c.if-is_empty.ensures)) c.interleave.ensures

@@ -1,5 +1,0 @@
-use Rattle.std.proofs.Common.{rules}
-use Rattle.ecow_vec.proofs.vec.EcoVec.drain.Goals as goal
-
-pub returns-clause-change : goal.returns-clause-change
-returns-clause-change g c = record { ok = search rules; kept = search rules }
