@@ -8,15 +8,14 @@ use Rattle.ecow_model.specs.declared.vecs.VecCommand.{VecCommand}
 use Rattle.ecow_model.specs.declared.vecs.VecCommand.TheVariants.{New, Push}
 use Rattle.ecow_counted.specs.declared.fill.Filled.{Filled}
 use Rattle.ecow_counted.specs.State.{CountedState}
-use Rattle.ecow_counted.specs.Totals.{CopiedIsSum, MovedIsSum}
+use Rattle.ecow_counted.specs.Totals.{TotalsArePaid}
 
 module _ {T : Type 0} where
-  -- the commands have these outcomes, and the totals rise by their sums
+  -- the commands have these outcomes, the totals rise by their sums, and both are paid
   pub record IsRunOf (old : CountedState T) (cs : List (VecCommand T))
       (outcomes : List (Outcome T)) (new : CountedState T) : Type 0 where
     pub run : CountedRun old.names cs outcomes new.names
-    pub copied : CopiedIsSum old cs outcomes new
-    pub moved : MovedIsSum old cs outcomes new
+    pub totals : TotalsArePaid old cs outcomes new
 
   -- New, and a Push of each item
   abbrev pub filling : ℕ → List T → List (VecCommand T)

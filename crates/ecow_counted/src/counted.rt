@@ -1,5 +1,5 @@
 //! Commands on named lists whose clones share a block until one of them changes.
-ghost use Rattle.std.specs.Prelude.{◌≡◌, not, OnErr, IfOk, IfErr};
+ghost use Rattle.std.specs.Prelude.{◌≡◌, [], ◌∷◌, not, OnErr, IfOk, IfErr};
 ghost use Rattle.std.specs.FinMap as finite;
 ghost use Rattle.std.specs.Option.{option_map};
 ghost use Rattle.ecow_base.specs.Clones.{ClonesAreEqual};
@@ -134,9 +134,11 @@ impl<T> Counted<T> {
         ensures unchanged { OnRefused result (self.new ≡ self.old) }
         ensures sharing { IsSharing self.new.names }
 
-        // The totals stay.
+        // The totals stay, and are paid.
         ensures copied { self.new.copied ≡ self.old.copied }
         ensures moved { self.new.moved ≡ self.old.moved }
+        ensures totals { TotalsArePaid self.old
+            (VecCommand.Clone from to ∷ []) (result ∷ []) self.new }
     {
         self.blocks.join(from, to)
     }
@@ -158,6 +160,8 @@ impl<T: Clone> Counted<T> {
         ensures moved { self.new.moved
             ≡ saturating self.old.moved
             (if_accepted result (moved_in (vec_usage command) self.old.names)) }
+        ensures totals { ClonesAreEqual T.is_clone
+            → TotalsArePaid self.old (command ∷ []) (result ∷ []) self.new }
     {
         let Carried {
             outcome,

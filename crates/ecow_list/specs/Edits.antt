@@ -22,13 +22,6 @@ module _ {F A T R : Type 0} (g : Once F (MutBor (Contents T) × (A × Unit {0}))
       → length old + additional ≤ b.now.capacity
       → g.pre edit (b, (given, tt))
 
-  -- it leaves a block the room that it had
-  abbrev pub KeepsRoom : Type 0
-  KeepsRoom =
-      (b left : MutBor (Contents T)) (r : Result R A)
-      → g.post edit (b, (given, tt)) (r, (left, tt))
-      → left.now.capacity ≡ b.now.capacity
-
   -- where it refuses, it leaves the elements as they were, and hands back what it was given
   abbrev pub RefusesClean : Type 0
   RefusesClean =

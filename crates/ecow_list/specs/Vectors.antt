@@ -47,6 +47,10 @@ abbrev pub IsKeptIn : {T : Type 0} → (T → T → Type 0) → List T → (List
     → Type 0
 IsKeptIn is_clone old change new = SomeKept is_clone old (λ kept. new ≡ change kept)
 
+-- new is the old elements, or a clone of each, and then xs
+abbrev pub AppendsKept : {T : Type 0} → (T → T → Type 0) → List T → List T → List T → Type 0
+AppendsKept is_clone old xs new = IsKeptIn is_clone old (λ kept. kept ++ xs) new
+
 -- new is the old elements, or a clone of each, and then a clone of each of xs
 abbrev pub IsKeptBefore : {T : Type 0} → (T → T → Type 0) → List T → List T → List T → Type 0
 IsKeptBefore {T} is_clone old xs new =

@@ -93,4 +93,12 @@ impl Text {
     {
         self.text.as_str()
     }
+
+    /// The `String` again. Takes no memory.
+    pub fn into_string(self) -> String
+        ensures { chars (string_bytes result) ≡ self }
+    {
+        let Text { text } = self;
+        text
+    }
 }

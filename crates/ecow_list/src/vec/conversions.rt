@@ -1,14 +1,15 @@
 //! The calls that make a vector of other collections, or other collections of a vector.
-ghost use Rattle.std.specs.Prelude.{◌≡◌, ◌≢◌, ◌+◌, ◌<◌, ◌≤◌, ◌↔◌, [], All, List, length, replicate, vec_len, IsOk, IfOk, IfErr, OnErr, IsErrAnd, IsErrOf};
+ghost use Rattle.std.specs.Prelude.{◌≡◌, ◌≢◌, ◌+◌, ◌<◌, ◌≤◌, ◌↔◌, [], ◌∷◌, ◌++◌, All, List, length, replicate, vec_len, Some, IsOk, IfOk, IfErr, OnErr, IsErrAnd, IsErrOf};
 ghost use Rattle.std.specs.Iterator.{IsFinite, IsFiniteIterable, ExtendsWithItems};
 ghost use Rattle.std.specs.List.{AllZip};
 ghost use Rattle.ecow_base.specs.Clones.{ClonesAreEqual};
-ghost use Rattle.ecow_list.specs.Vectors.{Appends, ExtendsBy, GivesFirst, GivesItems, IsKept, Lengthens, SomeFirst};
+ghost use Rattle.ecow_list.specs.Vectors.{Appends, AppendsKept, ExtendsBy, GivesFirst, GivesItems, IsKept, Lengthens, SomeFirst};
 
 use crate::error::{EcoError, IntoArray, Rejected};
 use crate::iter::IntoIter;
 use crate::vec::EcoVec;
 use crate::vec::collect::collect;
+use crate::vec::own::{Clones, Least, enlarge};
 use ecow_base::{MAX_LEN, fresh_capacity};
 use ecow_block::Block;
 use ecow_shared::Shared;
@@ -177,6 +178,8 @@ impl<T: Clone> EcoVec<T> {
         ensures ok { ClonesAreEqual T.is_clone
             → ExtendsWithItems I.into_iter_gives I.IntoIter.next_gives Appends
             iter self.old self.new result }
+        ensures kept { ExtendsWithItems I.into_iter_gives I.IntoIter.next_gives
+            (AppendsKept T.is_clone) iter self.old self.new result }
         ensures len { ExtendsWithItems I.into_iter_gives I.IntoIter.next_gives Lengthens
             iter self.old self.new result }
         ensures refused { OnErr result
@@ -186,25 +189,50 @@ impl<T: Clone> EcoVec<T> {
         ensures capacity { OnErr result
             (IsErrOf result EcoError.Capacity ↔ (MAX_LEN ≤ length self.new)) }
     {
-        self.extend_from(&mut iter.into_iter())
+        let mut items = iter.into_iter();
+        match items.next() {
+            Some(first) => self.extend_from(first, items),
+            None => Ok(()),
+        }
     }
 
-    /// Appends what `iter` still gives, as `extend` does.
-    fn extend_from<I: Iterator<Item = T>>(&mut self, iter: &mut I) -> Result<(), EcoError>
-        requires ends { I.can_next iter.old × IsFinite (I.remaining iter.old) }
-        ensures ok { ClonesAreEqual T.is_clone
-            → ExtendsBy I.next_gives Appends iter.old self.old self.new result iter.new }
-        ensures len { ExtendsBy I.next_gives Lengthens
-            iter.old self.old self.new result iter.new }
+    /// Appends `first`, which `iter` has just given, and what it still gives, as `extend` does.
+    fn extend_from<I: Iterator<Item = T>>(&mut self, first: T, iter: I) -> Result<(), EcoError>
+        requires ends { I.can_next iter × IsFinite (I.remaining iter) }
+        ensures kept { (from : I)
+            → I.next_gives from (Some first) iter
+            → (rest : I) × ExtendsBy I.next_gives
+            (AppendsKept T.is_clone) from self.old self.new result rest }
+        ensures len { (from : I)
+            → I.next_gives from (Some first) iter
+            → (rest : I) × ExtendsBy I.next_gives Lengthens from self.old self.new result rest }
         ensures capacity { OnErr result
             (IsErrOf result EcoError.Capacity ↔ (MAX_LEN ≤ length self.new)) }
     {
-        while let Some(item) = iter.next() {
-            if let Err(rejected) = self.push(item) {
-                return Err(rejected.error);
-            }
+        let given = (first, iter);
+        let added = self.edit(
+            Clones,
+            Least::Same,
+            1,
+            given,
+            |block, (first, iter)|
+                requires room { length block.old.items < block.old.capacity }
+                requires ends { I.can_next iter × IsFinite (I.remaining iter) }
+                ensures items { IfOk result
+                    (λ r. (rest : I) × ExtendsBy I.next_gives Appends
+                    iter (block.old.items ++ first ∷ []) block.new.items r rest) }
+                ensures ok { IsOk result }
+                ensures capacity { IfOk result (λ r. OnErr r
+                    (IsErrOf r EcoError.Capacity ↔ (MAX_LEN ≤ length block.new.items))) }
+            {
+                let mut items = iter;
+                Ok(append(block, first, &mut items))
+            },
+        );
+        match added {
+            Ok(result) => result,
+            Err(rejected) => Err(rejected.error),
         }
-        Ok(())
     }
 
     /// The elements as a `Vec`. A sole vector moves them, and a shared one clones them. The one
@@ -269,4 +297,30 @@ impl<T: Clone> EcoVec<T> {
             Err(rejected) => Err(IntoArray::Refused(rejected.error, rejected.value)),
         }
     }
+}
+
+/// Puts `first`, for which there is room, and the items of `iter` behind the elements of `block`,
+/// one after another. A refused item is dropped, and no further one is asked for.
+fn append<T: Drop, I: Iterator<Item = T>>(
+    block: &mut Block<T>,
+    first: T,
+    iter: &mut I,
+) -> Result<(), EcoError>
+    requires room { length block.old.items < block.old.capacity }
+    requires ends { I.can_next iter.old × IsFinite (I.remaining iter.old) }
+    ensures items { ExtendsBy I.next_gives Appends
+        iter.old (block.old.items ++ first ∷ []) block.new.items result iter.new }
+    ensures capacity { OnErr result
+        (IsErrOf result EcoError.Capacity ↔ (MAX_LEN ≤ length block.new.items)) }
+{
+    block.push_within_capacity(first);
+    while let Some(item) = iter.next() {
+        if block.len() == block.capacity()
+            && let Err(error) = enlarge(block, 1)
+        {
+            return Err(error);
+        }
+        block.push_within_capacity(item);
+    }
+    Ok(())
 }

@@ -3,7 +3,7 @@
 //! place last. So a refusal leaves all elements as they were.
 ghost use Rattle.std.specs.Prelude.{◌≡◌, ◌+◌, ◌<◌, ◌≤◌, ◌↔◌, length, IfOk, OnOk, IsOk, IsErrOf};
 ghost use Rattle.std.specs.List.{AllZip};
-ghost use Rattle.ecow_list.specs.Edits.{Edited, Edits, KeepsRoom, RefusesClean};
+ghost use Rattle.ecow_list.specs.Edits.{Edited, Edits, RefusesClean};
 
 use crate::error::{EcoError, Rejected};
 use crate::vec::EcoVec;
@@ -72,7 +72,6 @@ impl<T: Drop> EcoVec<T> {
         edit: F,
     ) -> Result<R, Rejected<A>>
         requires callable { Edits F.FnOnce edit given C.makes self.old additional }
-        requires keeps_room { KeepsRoom F.FnOnce edit given }
         requires clean { RefusesClean F.FnOnce edit given }
         ensures edited { Edited F.FnOnce edit given C.makes self.old additional result self.new }
     {
@@ -102,7 +101,6 @@ impl<T: Drop> EcoVec<T> {
         edit: F,
     ) -> Result<R, Rejected<A>>
         requires callable { Edits F.FnOnce edit given C.makes self.old additional }
-        requires keeps_room { KeepsRoom F.FnOnce edit given }
         requires clean { RefusesClean F.FnOnce edit given }
         ensures edited { Edited F.FnOnce edit given C.makes self.old additional result self.new }
     {
@@ -152,7 +150,7 @@ impl<T: Drop> EcoVec<T> {
 /// `Capacity` where the length and `additional` pass 2^63 - 1, and else `Memory`.
 #[cold]
 #[inline(never)]
-fn enlarge<T: Drop>(block: &mut Block<T>, additional: usize) -> Result<(), EcoError>
+pub(super) fn enlarge<T: Drop>(block: &mut Block<T>, additional: usize) -> Result<(), EcoError>
     ensures items { block.new.items ≡ block.old.items }
     ensures room { OnOk result (length block.old.items + additional ≤ block.new.capacity) }
     ensures capacity { IsErrOf result EcoError.Capacity

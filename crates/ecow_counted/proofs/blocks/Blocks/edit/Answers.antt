@@ -36,7 +36,10 @@ returns-in_default-new-clause-carried g c =
 
 -- copies that there are, or no smaller a block
 pub own-requires-clause-wanted : goal.own-requires-clause-wanted
-own-requires-clause-wanted g c = record { copies = search rules; fits = search rules; grows = search rules; staying = search rules }
+own-requires-clause-wanted g c =
+    let found = found_size c.args.self.now.names c.args.name c.in-Some.size (sym c.in-Some.is ∙ c.size.ensures.size) in
+    let len = ap (λ s. s.len) found.1 in
+    record { copies = search rules; fits = search rules; grows = search rules; staying = omega (arith, len, c.staying.ensures.bounded) }
 
 pub returns-in_default-own-clause-carried : goal.returns-in_default-own-clause-carried
 returns-in_default-own-clause-carried g c =

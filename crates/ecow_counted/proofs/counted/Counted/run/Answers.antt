@@ -5,7 +5,7 @@ use Rattle.ecow_model.specs.CountedRun.{CountedStep, CountedVerdict, saturating,
 use Rattle.ecow_model.proofs.Contents.{run_of_contents}
 use Rattle.ecow_named.proofs.Runs.{goes_further, gone_through}
 use Rattle.ecow_counted.specs.State.{IsValid}
-use Rattle.ecow_counted.proofs.Totals.{total_goes_on, saturating_none, saturating_small, copies_paid, moves_paid, copies_from_new, moves_from_new}
+use Rattle.ecow_counted.proofs.Totals.{total_goes_on, saturating_none, saturating_small, totals_are_paid}
 use Rattle.ecow_counted.proofs.counted.Counted.run.Goals as goal
 
 pub loop-command-preserved : goal.loop-command-preserved
@@ -67,11 +67,4 @@ returns-clause-totals g c = λ clones.
     let moved =
     saturating_none new.moved so_far.valid.moved ∙ ap (λ cs. saturating new.moved (moved_in_run new.names cs [])) (sym ended) ∙ so_far.moved clones []
     ∙ ap (λ all. saturating old.moved (moved_in_run old.names commands all)) (append-nil outcomes) in
-    record {
-      copied = copied;
-      moved = moved;
-      copies_paid = copies_paid old commands outcomes new valid.sharing ran copied moved;
-      moves_paid = moves_paid old commands outcomes new valid.sharing ran copied moved;
-      copies_from_new = copies_from_new old commands outcomes new valid.sharing ran copied moved;
-      moves_from_new = moves_from_new old commands outcomes new valid.sharing ran copied moved;
-    }
+    totals_are_paid old commands outcomes new valid.sharing ran copied moved
