@@ -45,13 +45,7 @@ bool CALL(equal)(const VALUE *left, const VALUE *right) {
 
 int CALL(compare)(const VALUE *left, const VALUE *right) {
     VALUE *first = (VALUE *)left, *second = (VALUE *)right;
-    if (left == right || CALL(shares)(left, right)) {
-        return 0;
-    }
-    if (!left || !right) {
-        return left ? 1 : -1;
-    }
-    return PROVED(compare)(&first, &second);
+    return left == right || CALL(shares)(left, right) ? 0 : PROVED(compare)(&first, &second);
 }
 
 uint64_t CALL(hash)(const VALUE *value) {

@@ -61,9 +61,9 @@ extern "C" {
 /* This header's version. Versions with the same first two numbers have the same calls, and values
  * of the same sizes. */
 #define ECOW_VERSION_MAJOR 0
-#define ECOW_VERSION_MINOR 12
-#define ECOW_VERSION_PATCH 1
-#define ECOW_VERSION "0.12.1"
+#define ECOW_VERSION_MINOR 13
+#define ECOW_VERSION_PATCH 0
+#define ECOW_VERSION "0.13.0"
 
 /* The version of the library that is linked, as ECOW_VERSION. Never null. */
 const char *ecow_version(void);

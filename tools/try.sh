@@ -1,6 +1,7 @@
 #!/bin/sh
 # Runs a script with no proof, in a build that stops where a promise is broken:
-# tools/try.sh [--counted] FILE. The answers come first, then messages and the status.
+# tools/try.sh [--counted] FILE. The answers come first, then messages and the status, with which it
+# ends.
 set -u
 flag=
 if [ "${1:-}" = --counted ]; then
@@ -28,3 +29,4 @@ if ! grep -q '^run=ended ' "$said"; then
 fi
 grep -v '^checked: \|^run=' "$said"
 echo "(status $status, nothing was proved)"
+exit "$status"

@@ -1,19 +1,20 @@
 #!/bin/sh
 # Copies crates into another repository, as plain folders below its crates/, with their rows in its
 # crates.txt, so that its gate proves them: tools/vendor.sh FOLDER [KIND [COUNT]]. KIND says what is
-# needed: vector (EcoVec), text (vector, bytes and text), store (these and both stores), or laws
-# (with the lemmas for callers of stores). COUNT says how owners are counted: plain, for one
-# thread, or atomic. Tests and edits stay here.
+# needed: vector (EcoVec), text (vector, bytes and text), nested (these and nested values), store
+# (text and both stores), laws (with the lemmas for callers of stores), or tool (with scripts and the
+# program over any reader and writer). COUNT says how owners are counted: plain, for one thread, or
+# atomic. Tests and edits stay here. A folder that isn't there is made.
 #
 # Where crates of an earlier call are there, it updates them, their rows too, and touches nothing
 # else; a crate that has another name now is replaced, and it says so. It refuses to, and changes
-# nothing, where that would mix two states.
+# nothing, where that would mix two states, or where a change by hand could be lost.
 set -eu
 export LC_ALL=C
 to=${1:-}
 kind=${2:-vector}
 count=${3:-plain}
-use="make vendor TO=FOLDER [KIND=vector|text|store|laws] [COUNT=plain|atomic]"
+use="make vendor TO=FOLDER [KIND=vector|text|nested|store|laws|tool] [COUNT=plain|atomic]"
 
 refuse() { # WHY..
     printf '%s\n' "$@" >&2
@@ -21,20 +22,24 @@ refuse() { # WHY..
 }
 
 case $kind in
-    vector) tops=ecow_vec ;;
+    vector) tops=ecow_list ;;
     text) tops=ecow ;;
+    nested) tops="ecow ecow_nested" ;;
     store) tops="ecow ecow_store ecow_counted" ;;
     laws) tops="ecow ecow_store ecow_counted ecow_laws" ;;
-    *) refuse "$use" "KIND is vector, text, store or laws, and not $kind" ;;
+    tool) tops="ecow ecow_tool" ;;
+    *) refuse "$use" "KIND is vector, text, nested, store, laws or tool, and not $kind" ;;
 esac
 case $count in
     plain | atomic) ;;
     *) refuse "$use" "COUNT is plain or atomic, and not $count" ;;
 esac
 [ -n "$to" ] || refuse "$use" "Without TO there is no repository to copy into."
-[ -d "$to" ] || refuse "$use" "There is no folder $to"
+[ ! -e "$to" ] || [ -d "$to" ] || refuse "$use" "$to is no folder"
+here=$(cd "$(dirname "$0")/.." && pwd)
+mkdir -p "$to"
 to=$(cd "$to" && pwd)
-cd "$(dirname "$0")/.."
+cd "$here"
 [ "$to" != "$(pwd)" ] || refuse "$use" "FOLDER is to be another repository."
 if [ ! -d "$to/crates" ] && grep -q '^[^#].*:' "$to/crates.txt" 2> /dev/null; then
     refuse "$to keeps its crates beside crates.txt: move them below crates/ first"
@@ -44,19 +49,25 @@ crates=$(awk -F: -v tops="$tops" -f tools/below.awk crates.txt)
 
 # The checksum of each file of a crate, but for what its checks left.
 sums() { # FOLDER
-    (cd "$1" && find . -path ./out -prune -o -type f ! -name SUMS -print | sort | xargs cksum)
+    (cd "$1" && find . -path ./out -prune -o -type f ! -name SUMS -exec cksum {} + | sort -k 3)
 }
 
-# Crates that had another name up to version 0.10.
-renamed="ecow_list:ecow_vec ecow_text:ecow_string ecow_keeping:ecow_named"
+# Crates that had another name: the first from version 0.11 to 0.12, the others up to 0.10.
+renamed="ecow_vec:ecow_list ecow_text:ecow_string ecow_keeping:ecow_named"
 
-# Of an earlier call: the crates that this one wouldn't bring up to date, and the files changed since.
-beyond= changed=
+# Of an earlier call: the crates that this one wouldn't bring up to date, the files changed since, and the crates of
+# which that can't be told, since their copy has no checksums.
+beyond= changed= unknown=
+look_at() { # CRATE
+    if [ -f "$to/crates/$1/SUMS" ]; then
+        changed="$changed$(sums "$to/crates/$1" | diff "$to/crates/$1/SUMS" - \
+            | sed -n "s|^[<>] [0-9]* [0-9]* \./| crates/$1/|p" | sort -u | tr -d '\n')"
+    else
+        unknown="$unknown crates/$1"
+    fi
+}
 for pair in $renamed; do
-    folder=$to/crates/${pair%:*}
-    [ -f "$folder/VERSION" ] && [ -f "$folder/SUMS" ] || continue
-    changed="$changed$(sums "$folder" | diff "$folder/SUMS" - \
-        | sed -n "s|^[<>] [0-9]* [0-9]* \./| crates/${pair%:*}/|p" | sort -u | tr -d '\n')"
+    [ ! -f "$to/crates/${pair%:*}/VERSION" ] || look_at "${pair%:*}"
 done
 for crate in $(cut -d : -f 1 crates.txt); do
     folder=$to/crates/$crate
@@ -67,8 +78,7 @@ for crate in $(cut -d : -f 1 crates.txt); do
         continue
     fi
     [ -n "$wanted" ] || beyond="$beyond $crate"
-    [ ! -f "$folder/SUMS" ] || changed="$changed$(sums "$folder" | diff "$folder/SUMS" - \
-        | sed -n "s|^[<>] [0-9]* [0-9]* \./| crates/$crate/|p" | sort -u | tr -d '\n')"
+    look_at "$crate"
 done
 [ -z "$beyond" ] || refuse "$to has crates that KIND=$kind doesn't bring up to date:$beyond" \
     "Name their KIND, or remove their folders and their rows in crates.txt first."
@@ -78,10 +88,13 @@ if [ -n "$has" ] && [ "$has" != "$count" ]; then
 fi
 [ -z "$changed" ] || refuse "These files of $to were changed since they were copied:$changed" \
     "Keep the change in a crate of your own, and remove the changed crate's folder first."
+[ -z "$unknown" ] || refuse "These folders of $to were copied before version 0.10.1, without checksums:$unknown" \
+    "Whether a file was changed since can't be told. Keep a change in a crate of your own, and remove them first."
 before=$(cat "$to/crates/ecow_vec/VERSION" "$to/crates/ecow_list/VERSION" 2> /dev/null | head -n 1 || true)
 
-# A crate of another name gives way: its folder and its row.
+# A crate of another name gives way: its folder and its row. A type had another name from version 0.11 to 0.12.
 new_names=
+! grep -rqs 'pub struct SmallString' "$to/crates/ecow_string/src" || new_names=" SmallString is SmallText;"
 for pair in $renamed; do
     old=${pair%:*}
     [ -f "$to/crates/$old/VERSION" ] || continue

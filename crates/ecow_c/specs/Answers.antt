@@ -100,11 +100,12 @@ texts_at value = option_map_or (λ texts. texts) value []
 abbrev pub chars_at : Option PlainText → List ℕ
 chars_at value = option_map_or (λ value. value.chars) value []
 
--- the test holds of two values; a null pointer has none of which it could hold
-abbrev pub are_both : {X : Type 0} → (X → X → Bool) → Option X → Option X → Bool
-are_both test (Some x) (Some y) = test x y
-are_both test (Some x) None = false
-are_both test None value = false
+-- whether two values are equal by the test; a null pointer equals a null pointer alone
+abbrev pub are_equal : {X : Type 0} → (X → X → Bool) → Option X → Option X → Bool
+are_equal test (Some x) (Some y) = test x y
+are_equal test (Some x) None = false
+are_equal test None (Some y) = false
+are_equal test None None = true
 
 -- an order as C has it
 abbrev pub sign_of : Ordering → ℤ
@@ -112,11 +113,12 @@ sign_of Less = negsuc 0
 sign_of Equal = pos 0
 sign_of Greater = pos 1
 
--- how two values compare; 0 at a null pointer
+-- how two values compare; a null pointer comes before every value
 abbrev pub order_of : {X : Type 0} → (X → X → Ordering) → Option X → Option X → ℤ
 order_of order (Some x) (Some y) = sign_of (order x y)
-order_of order (Some x) None = pos 0
-order_of order None value = pos 0
+order_of order (Some x) None = pos 1
+order_of order None (Some y) = negsuc 0
+order_of order None None = pos 0
 
 -- the hash of what is fed to std's hasher
 abbrev pub hash_of : List (List ℕ) → ℕ

@@ -10,7 +10,7 @@ ghost use Rattle.ecow_values.specs.Utf8.{utf8_len};
 ghost use Rattle.ecow_bytes.specs.Hashes.{hash_writes};
 ghost use Rattle.ecow_nested.specs.Values.{kind_of, value_eq};
 ghost use Rattle.ecow_nested.specs.declared.value.Kind.TheVariants as kind;
-ghost use Rattle.ecow_c.specs.Answers.{Alters, AltersBytes, AltersList, AltersText, AltersTexts, IsAmong, ReadsTo, RefusesPast, are_both, bytes_at, chars_at, hash_of, numbers_at, order_of, texts_at};
+ghost use Rattle.ecow_c.specs.Answers.{Alters, AltersBytes, AltersList, AltersText, AltersTexts, IsAmong, ReadsTo, RefusesPast, are_equal, bytes_at, chars_at, hash_of, numbers_at, order_of, texts_at};
 ghost use Rattle.ecow_c.specs.Texts.{text_cmp, text_eq, text_fed};
 ghost use Rattle.ecow_c.specs.Values.{len_at};
 
@@ -472,77 +472,95 @@ pub extern "C" fn ecow_proved_texts_clear(pointer: &mut TextsPointer) -> u32
     OK
 }
 
-/// Whether two lists hold the same numbers.
+/// Whether two lists hold the same numbers. A null pointer equals a null pointer
+/// alone.
 #[unsafe(no_mangle)]
 pub extern "C" fn ecow_proved_list_equal(left: &mut ListPointer, right: &mut ListPointer) -> bool
     ensures equal { result
-        ≡ are_both (pointwise int_eq) left.old.value right.old.value }
+        ≡ are_equal (pointwise int_eq) left.old.value right.old.value }
     ensures unchanged { (left.new.value ≡ left.old.value) × (right.new.value ≡ right.old.value) }
 {
-    let left = some_or!(left.list(), false);
+    let Some(left) = left.list() else {
+        return right.list().is_none();
+    };
     let right = some_or!(right.list(), false);
     left.as_slice() == right.as_slice()
 }
 
-/// Whether two values hold the same bytes.
+/// Whether two values hold the same bytes. A null pointer equals a null pointer
+/// alone.
 #[unsafe(no_mangle)]
 pub extern "C" fn ecow_proved_bytes_equal(left: &mut BytesPointer, right: &mut BytesPointer) -> bool
     ensures equal { result
-        ≡ are_both (λ x y. pointwise nat_eq x.bytes y.bytes) left.old.value right.old.value }
+        ≡ are_equal (λ x y. pointwise nat_eq x.bytes y.bytes) left.old.value right.old.value }
     ensures unchanged { (left.new.value ≡ left.old.value) × (right.new.value ≡ right.old.value) }
 {
-    let left = some_or!(left.bytes(), false);
+    let Some(left) = left.bytes() else {
+        return right.bytes().is_none();
+    };
     let right = some_or!(right.bytes(), false);
     left.as_slice() == right.as_slice()
 }
 
-/// Whether two texts are equal.
+/// Whether two texts are equal. A null pointer equals a null pointer
+/// alone.
 #[unsafe(no_mangle)]
 pub extern "C" fn ecow_proved_text_equal(left: &mut TextPointer, right: &mut TextPointer) -> bool
-    ensures equal { result ≡ are_both text_eq left.old.value right.old.value }
+    ensures equal { result ≡ are_equal text_eq left.old.value right.old.value }
     ensures unchanged { (left.new.value ≡ left.old.value) × (right.new.value ≡ right.old.value) }
 {
-    let left = some_or!(left.text(), false);
+    let Some(left) = left.text() else {
+        return right.text().is_none();
+    };
     let right = some_or!(right.text(), false);
     left.as_str() == right.as_str()
 }
 
-/// Whether two lists hold the same texts.
+/// Whether two lists hold the same texts. A null pointer equals a null pointer
+/// alone.
 #[unsafe(no_mangle)]
 pub extern "C" fn ecow_proved_texts_equal(left: &mut TextsPointer, right: &mut TextsPointer) -> bool
     ensures equal { result
-        ≡ are_both (pointwise text_eq) left.old.value right.old.value }
+        ≡ are_equal (pointwise text_eq) left.old.value right.old.value }
     ensures unchanged { (left.new.value ≡ left.old.value) × (right.new.value ≡ right.old.value) }
 {
-    let left = some_or!(left.texts(), false);
+    let Some(left) = left.texts() else {
+        return right.texts().is_none();
+    };
     let right = some_or!(right.texts(), false);
     left.as_slice() == right.as_slice()
 }
 
-/// Whether two values are equal.
+/// Whether two values are equal. A null pointer equals a null pointer
+/// alone.
 #[unsafe(no_mangle)]
 pub extern "C" fn ecow_proved_value_equal(left: &mut ValuePointer, right: &mut ValuePointer) -> bool
-    ensures equal { result ≡ are_both value_eq left.old.value right.old.value }
+    ensures equal { result ≡ are_equal value_eq left.old.value right.old.value }
     ensures unchanged { (left.new.value ≡ left.old.value) × (right.new.value ≡ right.old.value) }
 {
-    let left = some_or!(left.value(), false);
+    let Some(left) = left.value() else {
+        return right.value().is_none();
+    };
     let right = some_or!(right.value(), false);
     left.equals(right)
 }
 
-/// How two lists compare: below 0 where the left one comes first, 0 where they are equal.
+/// How two lists compare: below 0 where the left one comes first, 0 where they are equal. A null
+/// pointer comes before every list.
 #[unsafe(no_mangle)]
 pub extern "C" fn ecow_proved_list_compare(left: &mut ListPointer, right: &mut ListPointer) -> i32
     ensures order { result ≡ order_of (slice_cmp int_cmp) left.old.value right.old.value }
     ensures unchanged { (left.new.value ≡ left.old.value) × (right.new.value ≡ right.old.value) }
 {
-    let left = some_or!(left.list(), 0);
-    let right = some_or!(right.list(), 0);
+    let Some(left) = left.list() else {
+        return if right.list().is_none() { 0 } else { -1 };
+    };
+    let right = some_or!(right.list(), 1);
     order(left.as_slice().cmp(&right.as_slice()))
 }
 
 /// How the bytes of two values compare: below 0 where the left ones come first, 0 where they are
-/// equal.
+/// equal. A null pointer comes before every value.
 #[unsafe(no_mangle)]
 pub extern "C" fn ecow_proved_bytes_compare(
     left: &mut BytesPointer,
@@ -552,23 +570,29 @@ pub extern "C" fn ecow_proved_bytes_compare(
         left.old.value right.old.value }
     ensures unchanged { (left.new.value ≡ left.old.value) × (right.new.value ≡ right.old.value) }
 {
-    let left = some_or!(left.bytes(), 0);
-    let right = some_or!(right.bytes(), 0);
+    let Some(left) = left.bytes() else {
+        return if right.bytes().is_none() { 0 } else { -1 };
+    };
+    let right = some_or!(right.bytes(), 1);
     order(left.as_slice().cmp(&right.as_slice()))
 }
 
-/// How two texts compare: below 0 where the left one comes first, 0 where they are equal.
+/// How two texts compare: below 0 where the left one comes first, 0 where they are equal. A null
+/// pointer comes before every text.
 #[unsafe(no_mangle)]
 pub extern "C" fn ecow_proved_text_compare(left: &mut TextPointer, right: &mut TextPointer) -> i32
     ensures order { result ≡ order_of text_cmp left.old.value right.old.value }
     ensures unchanged { (left.new.value ≡ left.old.value) × (right.new.value ≡ right.old.value) }
 {
-    let left = some_or!(left.text(), 0);
-    let right = some_or!(right.text(), 0);
+    let Some(left) = left.text() else {
+        return if right.text().is_none() { 0 } else { -1 };
+    };
+    let right = some_or!(right.text(), 1);
     order(left.as_str().cmp(&right.as_str()))
 }
 
-/// How two lists compare: below 0 where the left one comes first, 0 where they are equal.
+/// How two lists compare: below 0 where the left one comes first, 0 where they are equal. A null
+/// pointer comes before every list.
 #[unsafe(no_mangle)]
 pub extern "C" fn ecow_proved_texts_compare(
     left: &mut TextsPointer,
@@ -578,8 +602,10 @@ pub extern "C" fn ecow_proved_texts_compare(
         ≡ order_of (slice_cmp text_cmp) left.old.value right.old.value }
     ensures unchanged { (left.new.value ≡ left.old.value) × (right.new.value ≡ right.old.value) }
 {
-    let left = some_or!(left.texts(), 0);
-    let right = some_or!(right.texts(), 0);
+    let Some(left) = left.texts() else {
+        return if right.texts().is_none() { 0 } else { -1 };
+    };
+    let right = some_or!(right.texts(), 1);
     order(left.as_slice().cmp(&right.as_slice()))
 }
 

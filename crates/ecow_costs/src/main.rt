@@ -12,6 +12,7 @@ mod small;
 mod states;
 mod tables;
 mod texts;
+mod units;
 mod vectors;
 
 use crate::marks::Meter;
@@ -38,6 +39,7 @@ fn main(rt: HostRuntime) -> io::Result<()> {
     let mut rows = Rows::new(rt.alloc());
     vectors::add_rows(meter, &mut rows);
     copies::add_rows(meter, &mut rows);
+    units::add_rows(meter, &mut rows);
     small_rows::<0>(meter, &mut rows, &SmallBytes::new(meter.alloc));
     small_rows::<1>(meter, &mut rows, &SmallBytes::new(meter.alloc));
     small_rows::<3>(meter, &mut rows, &SmallBytes::new(meter.alloc));

@@ -26,9 +26,8 @@ use Rattle.ecow_counted.proofs.Lengths.{is_answer}
 use Rattle.ecow_counted.proofs.Settled.{get-settle}
 use Rattle.ecow_counted.proofs.Steps.{IsPaidSole, paid_sole}
 use Rattle.ecow_counted.proofs.Totals.{totals_are_paid}
-use Rattle.ecow_counted.specs.Filling.{IsRunOf, filling, accepted}
+use Rattle.ecow_counted.specs.Filling.{IsRunOf, IsPaidRun, filling, accepted}
 use Rattle.ecow_counted.specs.State.{CountedState}
-use Rattle.ecow_counted.specs.Totals.{CopiedIsSum, MovedIsSum}
 
 -- the item at an index and those after it
 pub record IsNext {X : Type 0} (k : ℕ) (items : List X) (item : X) (rest : List X) : Type 0 where
@@ -86,29 +85,23 @@ module _ {T : Type 0} where
       + if_accepted outcome (cost (vec_usage c) mid) = sum_more cost cs outcomes h.0 mid c outcome step.sharing h.2 in
       rw step.after (omega (arith, later))
 
-  -- the commands have these outcomes, and the totals rose by their sums
-  pub record HasRun (old : CountedState T) (cs : List (VecCommand T)) (outcomes : List (Outcome T)) (new : CountedState T) : Type 0 where
-    pub run : CountedRun old.names cs outcomes new.names
-    pub copied : CopiedIsSum old cs outcomes new
-    pub moved : MovedIsSum old cs outcomes new
-
-  -- so both are paid
+  -- what a run adds to the totals is paid
   pub paid : (old : CountedState T) (cs : List (VecCommand T)) (outcomes : List (Outcome T)) (new : CountedState T) → IsSharing old.names
-      → HasRun old cs outcomes new → IsRunOf old cs outcomes new
+      → IsRunOf old cs outcomes new → IsPaidRun old cs outcomes new
   paid old cs outcomes new groups is = record { run = is.run; totals = totals_are_paid old cs outcomes new groups is.run is.copied is.moved }
 
   pub runs_one : (old : CountedState T) (c : VecCommand T) (outcome : Outcome T) (new : CountedState T)
       → CountedStep old.names c outcome new.names
       → new.copied ≡ saturating old.copied (if_accepted outcome (copied_in (vec_usage c) old.names))
-      → new.moved ≡ saturating old.moved (if_accepted outcome (moved_in (vec_usage c) old.names)) → HasRun old (c ∷ []) (outcome ∷ []) new
+      → new.moved ≡ saturating old.moved (if_accepted outcome (moved_in (vec_usage c) old.names)) → IsRunOf old (c ∷ []) (outcome ∷ []) new
   runs_one old c outcome new step copies moves = record { run = (new.names, step, refl); copied = omega (arith, copies); moved = omega (arith, moves) }
 
   pub runs_more : (old : CountedState T) (cs : List (VecCommand T)) (outcomes : List (Outcome T)) (mid new : CountedState T)
-      (c : VecCommand T) (outcome : Outcome T) → IsSharing old.names → HasRun old cs outcomes mid
+      (c : VecCommand T) (outcome : Outcome T) → IsSharing old.names → IsRunOf old cs outcomes mid
       → CountedStep mid.names c outcome new.names
       → new.copied ≡ saturating mid.copied (if_accepted outcome (copied_in (vec_usage c) mid.names))
       → new.moved ≡ saturating mid.moved (if_accepted outcome (moved_in (vec_usage c) mid.names))
-      → HasRun old (cs ++ c ∷ []) (outcomes ++ outcome ∷ []) new
+      → IsRunOf old (cs ++ c ∷ []) (outcomes ++ outcome ∷ []) new
   runs_more old cs outcomes mid new c outcome groups so_far step copies moves = record {
     run = run_more cs outcomes old.names mid.names new.names c outcome so_far.run step;
     copied = omega (arith, copies, so_far.copied, sum_more copied_in cs outcomes old.names mid.names c outcome groups so_far.run);

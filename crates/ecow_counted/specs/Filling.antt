@@ -8,11 +8,18 @@ use Rattle.ecow_model.specs.declared.vecs.VecCommand.{VecCommand}
 use Rattle.ecow_model.specs.declared.vecs.VecCommand.TheVariants.{New, Push}
 use Rattle.ecow_counted.specs.declared.fill.Filled.{Filled}
 use Rattle.ecow_counted.specs.State.{CountedState}
-use Rattle.ecow_counted.specs.Totals.{TotalsArePaid}
+use Rattle.ecow_counted.specs.Totals.{CopiedIsSum, MovedIsSum, TotalsArePaid}
 
 module _ {T : Type 0} where
-  -- the commands have these outcomes, the totals rise by their sums, and both are paid
+  -- the commands have these outcomes, and the totals rise by their sums
   pub record IsRunOf (old : CountedState T) (cs : List (VecCommand T))
+      (outcomes : List (Outcome T)) (new : CountedState T) : Type 0 where
+    pub run : CountedRun old.names cs outcomes new.names
+    pub copied : CopiedIsSum old cs outcomes new
+    pub moved : MovedIsSum old cs outcomes new
+
+  -- the commands have these outcomes, and what the totals rise by is paid
+  pub record IsPaidRun (old : CountedState T) (cs : List (VecCommand T))
       (outcomes : List (Outcome T)) (new : CountedState T) : Type 0 where
     pub run : CountedRun old.names cs outcomes new.names
     pub totals : TotalsArePaid old cs outcomes new
@@ -29,11 +36,11 @@ module _ {T : Type 0} where
   abbrev pub IsFilledUntil : Option Refusal → CountedState T → ℕ → List T → ℕ → CountedState T
       → Type 0
   IsFilledUntil None old name items n new =
-      (n ≡ length items) × IsRunOf old (filling name items) (accepted n) new
+      (n ≡ length items) × IsPaidRun old (filling name items) (accepted n) new
   IsFilledUntil (Some refusal) old name items n new =
-      ((n ≡ 0) × IsRunOf old (New name ∷ []) (Refused refusal ∷ []) new)
+      ((n ≡ 0) × IsPaidRun old (New name ∷ []) (Refused refusal ∷ []) new)
       ⊎ ((n < length items)
-      × IsRunOf old (filling name (take (n + 1) items))
+      × IsPaidRun old (filling name (take (n + 1) items))
       (accepted n ++ Refused refusal ∷ []) new)
 
   -- what `fill` answers and leaves, by whether an item was refused

@@ -6,7 +6,7 @@ use crate::small::{
 use crate::steps::{Row, Word};
 use crate::watch::Watch;
 use ecow_bytes::SmallBytes;
-use ecow_list::{EcoError, EcoVec, Rejected};
+use ecow_list::{EcoError, EcoVec, Rejected, range_in};
 use std::alloc::Global;
 use std::io::Write;
 
@@ -21,7 +21,7 @@ const LETTERS: [u8; 280] = *b"abcdefghijklmnopqrstuvwxyz{|}~ABCDEFGHIJ\
     abcdefghijklmnopqrstuvwxyz{|}~ABCDEFGHIJ\
     abcdefghijklmnopqrstuvwxyz{|}~ABCDEFGHIJ";
 
-pub const STEPS: [Row; 15] = [
+pub const STEPS: [Row; 16] = [
     (Word::Push, &[(0, 0, 1)]),
     (Word::Insert, &[(0, 0, 1), (2, 2, 1)]),
     (Word::Write, &[(0, 1, 1), (2, 3, 1)]),
@@ -45,6 +45,10 @@ pub const STEPS: [Row; 15] = [
     (
         Word::InsertSlice,
         &[(0, 0, 0), (0, 0, 1), (2, 2, 1), (2, 2, 2), (0, 0, 12)],
+    ),
+    (
+        Word::ReplaceRange,
+        &[(0, 0, 0), (0, 0, 1), (0, 1, 1), (1, 3, 1), (0, 2, 12)],
     ),
 ];
 
@@ -82,7 +86,8 @@ impl<const N: usize> Small for SmallBytes<N> {
         match call.step.word {
             Word::Push | Word::Insert | Word::Write | Word::MakeMut => one(self, call),
             Word::Pop | Word::Remove => take(self, call),
-            Word::Extend | Word::ExtendEach | Word::Put | Word::InsertSlice => several(self, call),
+            Word::Extend | Word::ExtendEach | Word::Put => several(self, call),
+            Word::InsertSlice | Word::ReplaceRange => several(self, call),
             _ => shorten(self, call),
         }
     }
@@ -141,6 +146,9 @@ fn several<const N: usize>(bytes: &mut SmallBytes<N>, call: &SmallCall) -> Resul
         Word::ExtendEach => bytes.extend(given.iter().copied())?,
         Word::InsertSlice if call.step.start <= bytes.len() => {
             bytes.insert_slice(call.step.start, given)?
+        }
+        Word::ReplaceRange if range_in(&(call.step.start..call.step.end), bytes.len()) => {
+            bytes.replace_range(call.step.start..call.step.end, given)?
         }
         Word::Put => {
             return match bytes.write(given) {

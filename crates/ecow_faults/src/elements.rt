@@ -49,6 +49,9 @@ impl Element for i64 {
             Word::ExtendWithin if range_in(&(step.start..step.end), list.len()) => {
                 list.extend_from_within(step.start..step.end)?
             }
+            Word::ReplaceRange if range_in(&(step.start..step.end), list.len()) => {
+                list.replace_range(step.start..step.end, given)?
+            }
             _ => return Ok(false),
         }
         Ok(true)

@@ -8,6 +8,8 @@ pub enum Word {
     Write,
     Update,
     MakeMut,
+    /// The block is lent, and written to.
+    OwnMut,
     /// The items are lent to a closure, which keeps the first of them.
     Rewrite,
     Pop,
@@ -27,6 +29,7 @@ pub enum Word {
     /// A writer's piece goes in behind.
     Put,
     InsertSlice,
+    ReplaceRange,
     /// What goes in behind is taken as memory.
     ExtendCopied,
     ExtendWithin,
@@ -78,7 +81,7 @@ impl Step {
         let count = match self.word {
             Word::Reserve | Word::Truncate | Word::Pop | Word::Retain => 0,
             Word::ExtendWithin => self.end.saturating_sub(self.start),
-            Word::MakeMut => len.min(1),
+            Word::MakeMut | Word::OwnMut => len.min(1),
             Word::Rewrite | Word::Upper | Word::Lower | Word::Shrink => 0,
             _ => self.count,
         };
@@ -94,7 +97,7 @@ impl Step {
             Word::Pop => (len.saturating_sub(1), len),
             Word::Truncate | Word::Rewrite => (self.start.min(len), len),
             Word::Clear => (0, len),
-            Word::MakeMut => (0, len.min(1)),
+            Word::MakeMut | Word::OwnMut => (0, len.min(1)),
             _ => (self.start, self.end),
         }
     }
@@ -128,7 +131,8 @@ impl Step {
             Word::Clear | Word::Shrink => true,
             Word::Truncate if self.start == 0 => true,
             // What is empty is made its own by giving the block up.
-            Word::Retain | Word::MakeMut | Word::Rewrite | Word::Upper | Word::Lower => len == 0,
+            Word::Retain | Word::MakeMut | Word::OwnMut => len == 0,
+            Word::Rewrite | Word::Upper | Word::Lower => len == 0,
             _ => self.is_nothing(len),
         }
     }

@@ -1,4 +1,7 @@
 //! The calls of `SmallText`.
+ghost use Rattle.std.specs.Prelude.{◌≡◌, ◌≤◌, true, IsTrue};
+ghost use Rattle.ecow_values.specs.Utf8.{is_boundary, utf8_len};
+
 use crate::short::Long;
 use crate::small::{
     Small, SmallCall, SmallState, Snapshot, into_holds, is_made, repeated_hold, states,
@@ -22,7 +25,7 @@ const FEW: &str = "abcd";
 
 const DOTS: &str = "............";
 
-pub const STEPS: [Row; 15] = [
+pub const STEPS: [Row; 16] = [
     (Word::Push, &[(0, 0, 1), (0, 0, 4)]),
     (Word::Insert, &[(0, 0, 1), (2, 2, 1), (2, 2, 4)]),
     (Word::Pop, &[(0, 0, 0)]),
@@ -52,6 +55,17 @@ pub const STEPS: [Row; 15] = [
             (2, 2, 4),
             (0, 0, 12),
             (2, 2, 12),
+        ],
+    ),
+    (
+        Word::ReplaceRange,
+        &[
+            (0, 0, 0),
+            (0, 0, 1),
+            (0, 1, 1),
+            (2, 4, 4),
+            (2, 4, 1),
+            (0, 2, 12),
         ],
     ),
 ];
@@ -111,7 +125,9 @@ impl<const N: usize> Small for SmallText<N> {
         match call.step.word {
             Word::Push | Word::Insert => one(self, call),
             Word::Pop | Word::Remove => take(self, call),
-            Word::Extend | Word::Put | Word::InsertSlice => several(self, call),
+            Word::Extend | Word::Put | Word::InsertSlice | Word::ReplaceRange => several(
+                self, call,
+            ),
             Word::ExtendEach | Word::ExtendPieces => pieces(self, call),
             _ => shorten(self, call),
         }
@@ -166,12 +182,22 @@ fn take<const N: usize>(text: &mut SmallText<N>, call: &SmallCall) -> Result<boo
     }
 }
 
+/// Whether these are boundaries of the text, in order.
+fn has_part<const N: usize>(text: &SmallText<N>, start: usize, end: usize) -> bool
+    ensures boundaries { IsTrue result
+        → (is_boundary text.now.chars start ≡ true) × (is_boundary text.now.chars end ≡ true) }
+    ensures in_range { IsTrue result → (start ≤ end) × (end ≤ utf8_len text.now.chars) }
+{
+    start <= end && end <= text.len() && text.is_char_boundary(start) && text.is_char_boundary(end)
+}
+
 fn several<const N: usize>(text: &mut SmallText<N>, call: &SmallCall) -> Result<bool, EcoError> {
-    let start = call.step.start;
+    let (start, end) = (call.step.start, call.step.end);
     let given = added(call.change.count);
     match call.step.word {
         Word::Extend => text.push_str(given)?,
         Word::InsertSlice if text.is_char_boundary(start) => text.insert_str(start, given)?,
+        Word::ReplaceRange if has_part(text, start, end) => text.replace_range(start..end, given)?,
         Word::Put => {
             if text.write_str(given).is_err() {
                 return Err(EcoError::Memory);

@@ -32,12 +32,13 @@ pub fn states() -> [VecState; 7] {
     ]
 }
 
-pub const STEPS: [Row; 15] = [
+pub const STEPS: [Row; 16] = [
     (Word::Push, &[(0, 0, 1)]),
     (Word::Insert, &[(0, 0, 1), (3, 3, 1)]),
     (Word::Write, &[(0, 1, 1), (3, 4, 1)]),
     (Word::Update, &[(0, 1, 1), (3, 4, 1)]),
     (Word::MakeMut, &[(0, 0, 0)]),
+    (Word::OwnMut, &[(0, 0, 0)]),
     (Word::Pop, &[(0, 0, 0)]),
     (Word::Remove, &[(0, 1, 0), (3, 4, 0)]),
     (Word::Truncate, &[(0, 0, 0), (2, 0, 0), (4, 0, 0)]),
@@ -51,10 +52,14 @@ pub const STEPS: [Row; 15] = [
 ];
 
 /// The calls that copy elements as memory.
-const COPIES: [Row; 3] = [
+const COPIES: [Row; 4] = [
     (Word::ExtendCopied, &[(0, 0, 0), (0, 0, 2), (0, 0, 6)]),
     (Word::ExtendWithin, &[(0, 0, 0), (0, 2, 0), (0, 4, 0)]),
     (Word::InsertSlice, &[(0, 0, 0), (1, 1, 2), (0, 0, 6)]),
+    (
+        Word::ReplaceRange,
+        &[(0, 0, 0), (1, 3, 1), (1, 3, 2), (0, 4, 9), (2, 2, 3)],
+    ),
 ];
 
 pub fn calls_hold<T: Element>(alloc: Global, watch: &Watch) -> bool {
@@ -167,12 +172,11 @@ fn called<T: Element>(
     given: Vec<T>,
 ) -> Result<bool, EcoError> {
     match call.step.word {
-        Word::Push | Word::Insert | Word::Write | Word::Update | Word::MakeMut => {
-            with_one(list, call, given)
-        }
+        Word::Push | Word::Insert | Word::Write | Word::Update => with_one(list, call, given),
+        Word::MakeMut | Word::OwnMut => lending(list, call, given),
         Word::Extend | Word::ExtendEach | Word::Splice => with_several(list, call, given),
         Word::Pop | Word::Remove | Word::Drain => taking(list, call),
-        Word::ExtendCopied | Word::ExtendWithin | Word::InsertSlice => {
+        Word::ExtendCopied | Word::ExtendWithin | Word::InsertSlice | Word::ReplaceRange => {
             T::take_copied(list, call.step, given.as_slice())
         }
         _ => shortening(list, call),
@@ -187,16 +191,14 @@ fn with_one<T: Element>(
 ) -> Result<bool, EcoError> {
     let mut given = given;
     let Some(value) = given.pop() else {
-        list.make_mut()?;
-        return Ok(true);
+        return Ok(false);
     };
     let start = call.step.start;
     let done = match call.step.word {
         Word::Push => list.push(value),
         Word::Insert if start <= list.len() => list.insert(start, value),
         Word::Write if start < list.len() => list.set(start, value),
-        Word::Update => return updated(list, call, value),
-        _ => return written(list, value),
+        _ => return updated(list, call, value),
     };
     match done {
         Ok(()) => Ok(true),
@@ -215,14 +217,32 @@ fn updated<T: Element>(list: &mut EcoVec<T>, call: &VecCall, value: T) -> Result
     Ok(call.removed().is(&[before.number()]))
 }
 
-fn written<T: Element>(list: &mut EcoVec<T>, value: T) -> Result<bool, EcoError> {
-    let elements = list.make_mut()?;
-    match elements.get_mut(0) {
-        Some(place) => {
+/// A call that lends the elements, of which the first is written to.
+fn lending<T: Element>(
+    list: &mut EcoVec<T>,
+    call: &VecCall,
+    given: Vec<T>,
+) -> Result<bool, EcoError> {
+    let is_given = !given.is_empty();
+    if call.step.word == Word::MakeMut {
+        return Ok(writes_first(list.make_mut()?, given) == is_given);
+    }
+    match list.own_mut() {
+        Ok(block) => Ok(writes_first(block.as_mut_slice(), given) && is_given),
+        Err(None) => Ok(!is_given),
+        Err(Some(error)) => Err(error),
+    }
+}
+
+/// Puts an element in the first one's place, if there are both, and says so.
+fn writes_first<T: Element>(elements: &mut [T], given: Vec<T>) -> bool {
+    let mut given = given;
+    match (elements.get_mut(0), given.pop()) {
+        (Some(place), Some(value)) => {
             *place = value;
-            Ok(true)
+            true
         }
-        None => Ok(false),
+        _ => false,
     }
 }
 

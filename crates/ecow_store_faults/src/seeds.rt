@@ -114,7 +114,25 @@ pub(crate) fn filling_holds(alloc: Global, watch: &Watch) -> bool {
     for count in [0, 1, 4, 5, 9] {
         hold = filled_holds(alloc, watch, count) && hold;
     }
-    hold
+    hold && units_hold(alloc, watch)
+}
+
+/// Elements of no bytes ask for the name and the first block alone.
+fn units_hold(alloc: Global, watch: &Watch) -> bool {
+    let Ok(items) = Vec::from_array(alloc, [(); 9]) else {
+        return watch.may_refuse();
+    };
+    let mut counted = Counted::new(alloc);
+    let Filled { accepted, refusal } = counted.fill(0, items);
+    match refusal {
+        None => accepted == 9 && counted.capacity(0) == Some(16) && counted.moved() == 12,
+        Some(refusal) => {
+            accepted == 0
+                && refusal == Refusal::Memory
+                && watch.may_refuse()
+                && counted.moved() == 0
+        }
+    }
 }
 
 fn filled_holds(alloc: Global, watch: &Watch, count: usize) -> bool {

@@ -2,6 +2,7 @@
 #![tactic(auto)]
 
 mod owners;
+mod units;
 
 use ecow_bytes::SmallBytes;
 use ecow_faults::elements::Named;
@@ -47,7 +48,7 @@ fn is_right_text(place: usize, alloc: Global, watch: &Watch) -> bool {
     hold_at!(place, texts_hold, SmallText, alloc, watch)
 }
 
-const NAMES: [&str; 18] = [
+const NAMES: [&str; 19] = [
     "vectors of numbers",
     "vectors of names",
     "bytes, none inline",
@@ -66,6 +67,7 @@ const NAMES: [&str; 18] = [
     "makers of vectors",
     "items that are asked for",
     "many owners",
+    "elements of no bytes",
 ];
 
 struct Values;
@@ -83,7 +85,8 @@ impl Parts for Values {
                     && makers::makers_hold::<Named>(alloc, watch)
             }
             16 => asked::items_hold(alloc, watch),
-            _ => owners::owners_hold(alloc, watch),
+            17 => owners::owners_hold(alloc, watch),
+            _ => units::units_hold(alloc, watch),
         }
     }
 }

@@ -1,4 +1,4 @@
-//! All that `ecow` hands on, by the paths of the original.
+//! All that `ecow` hands on, by the paths of the original, and what `ecow_list` shows beside it.
 use ecow::bytes::EcoBytes;
 use ecow::string::{EcoString, ToEcoString};
 use ecow::vec::{Drain, EcoVec, IntoIter, Splice};
@@ -47,5 +47,30 @@ fn printed<const N: usize>(alloc: Global, none: &ecow::SmallText<N>) -> Result<b
 fn bytes_and_texts_are_found(rt: HostRuntime) -> Result<(), Fail> {
     assert_eq!(rt; ecow::INLINE_LIMIT, 15);
     assert!(rt; printed(rt.alloc(), &ecow::SmallText::<3>::new(rt.alloc()))?);
+    Ok(())
+}
+
+/// By the paths of `ecow_list`: the first element is taken, and the others are written to in their
+/// block.
+fn by_modules(
+    list: ecow_list::vec::EcoVec<u8>,
+) -> Result<ecow_list::vec::EcoVec<u8>, ecow_list::error::EcoError> {
+    let mut list = list;
+    if ecow_list::range::range_in(&(..1), list.len()) {
+        let first: ecow_list::iter::Drain<u8> = list.drain(..1)?;
+        drop(first);
+    }
+    let owned: Result<&mut ecow_list::block::Block<u8>, Option<EcoError>> = list.own_mut();
+    if let Ok(block) = owned {
+        block.as_mut_slice().reverse();
+    }
+    Ok(list)
+}
+
+#[test]
+fn modules_of_vectors_are_found(rt: HostRuntime) -> Result<(), Fail> {
+    let list = by_modules(ecow_list::eco_vec![in rt.alloc(); 1u8, 2, 3]?)?;
+    assert_eq!(rt; list.as_slice(), [3u8, 2].as_slice());
+    assert_eq!(rt; ecow_list::range::resolve(&(1..), list.len()), Some((1, 2)));
     Ok(())
 }

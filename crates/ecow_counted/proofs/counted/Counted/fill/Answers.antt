@@ -7,9 +7,9 @@ use Rattle.ecow_model.specs.declared.command.Outcome.{Outcome}
 use Rattle.ecow_model.specs.declared.command.Outcome.TheVariants.{Refused}
 use Rattle.ecow_model.specs.declared.command.Refusal.TheVariants.{Taken}
 use Rattle.ecow_model.specs.declared.vecs.VecCommand.TheVariants.{New, Push}
-use Rattle.ecow_counted.specs.Filling.{filling, accepted}
+use Rattle.ecow_counted.specs.Filling.{IsRunOf, filling, accepted}
 use Rattle.ecow_counted.specs.State.{CountedState}
-use Rattle.ecow_counted.proofs.Filling.{HasRun, paid, next_of, accepted_more, filling_more, runs_one, runs_more, begins, pushes, moves_at_most, not_refused_by, is_taken, refusal_in}
+use Rattle.ecow_counted.proofs.Filling.{paid, next_of, accepted_more, filling_more, runs_one, runs_more, begins, pushes, moves_at_most, not_refused_by, is_taken, refusal_in}
 use Rattle.ecow_counted.proofs.counted.Counted.fill.Goals as goal
 
 pub returns-in-Refused-clause-run : goal.returns-in-Refused-clause-run
@@ -30,7 +30,7 @@ loop-value-init g c =
       within = omega arith;
       left = c.into_iter-rest.ensures.rest;
       sharing = is.sharing;
-      run = λ clones. subst (λ outcome. HasRun c.args.self.now (New c.args.name ∷ []) (outcome ∷ []) c.step.new.self)
+      run = λ clones. subst (λ outcome. IsRunOf c.args.self.now (New c.args.name ∷ []) (outcome ∷ []) c.step.new.self)
           (begun clones).0 (runs_one c.args.self.now (New c.args.name) c.step.result c.step.new.self (is.step clones) is.copied is.moved);
       moves = λ clones. (begun clones).1;
     }
@@ -52,7 +52,7 @@ returns-in-Refused-step-clause-run g c =
       next.within,
       paid c.args.self.now (filling c.args.name (take (c.loop-value.accepted + 1) c.args.items.items))
           (accepted c.loop-value.accepted ++ Refused c.in-Refused-step.refusal ∷ []) c.step-in-Some.new.self c.blocks-sharing.ensures.sharing
-          (subst (λ cs. HasRun c.args.self.now cs (accepted c.loop-value.accepted ++ Refused c.in-Refused-step.refusal
+          (subst (λ cs. IsRunOf c.args.self.now cs (accepted c.loop-value.accepted ++ Refused c.in-Refused-step.refusal
           ∷ []) c.step-in-Some.new.self) (sym (filling_more c.args.name c.loop-value.accepted c.args.items.items c.in-Some.value _ next))
           (runs_more c.args.self.now (filling c.args.name (take c.loop-value.accepted c.args.items.items))
           (accepted c.loop-value.accepted) c.loop-value.self c.step-in-Some.new.self (Push c.args.name c.in-Some.value)
@@ -87,7 +87,7 @@ loop-value-preserved g c =
       left = sym next.left;
       sharing = is.sharing;
       run = λ clones. rw (filling_more c.args.name c.loop-value.accepted c.args.items.items c.in-Some.value _ next, accepted_more c.loop-value.accepted)
-          (subst (λ outcome. HasRun c.args.self.now (filling c.args.name (take c.loop-value.accepted c.args.items.items)
+          (subst (λ outcome. IsRunOf c.args.self.now (filling c.args.name (take c.loop-value.accepted c.args.items.items)
           ++ Push c.args.name c.in-Some.value ∷ [])
           (accepted c.loop-value.accepted ++ outcome ∷ []) c.step-in-Some.new.self) (pushed clones).0
           (runs_more c.args.self.now (filling c.args.name (take c.loop-value.accepted c.args.items.items))
@@ -108,7 +108,7 @@ returns-clause-run g c =
     λ clones. (
       all,
       paid c.args.self.now (filling c.args.name c.args.items.items) (accepted c.loop-value.accepted) c.loop-value.self
-          c.blocks-sharing.ensures.sharing (subst (λ items. HasRun c.args.self.now (filling c.args.name items)
+          c.blocks-sharing.ensures.sharing (subst (λ items. IsRunOf c.args.self.now (filling c.args.name items)
           (accepted c.loop-value.accepted) c.loop-value.self) whole (so_far.run clones)),
     )
 
