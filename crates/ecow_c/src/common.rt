@@ -481,7 +481,10 @@ pub extern "C" fn ecow_proved_list_equal(left: &mut ListPointer, right: &mut Lis
     ensures unchanged { (left.new.value ≡ left.old.value) × (right.new.value ≡ right.old.value) }
 {
     let Some(left) = left.list() else {
-        return right.list().is_none();
+        return match right.list() {
+            Some(_) => false,
+            None => true,
+        };
     };
     let right = some_or!(right.list(), false);
     left.as_slice() == right.as_slice()
@@ -496,7 +499,10 @@ pub extern "C" fn ecow_proved_bytes_equal(left: &mut BytesPointer, right: &mut B
     ensures unchanged { (left.new.value ≡ left.old.value) × (right.new.value ≡ right.old.value) }
 {
     let Some(left) = left.bytes() else {
-        return right.bytes().is_none();
+        return match right.bytes() {
+            Some(_) => false,
+            None => true,
+        };
     };
     let right = some_or!(right.bytes(), false);
     left.as_slice() == right.as_slice()
@@ -510,7 +516,10 @@ pub extern "C" fn ecow_proved_text_equal(left: &mut TextPointer, right: &mut Tex
     ensures unchanged { (left.new.value ≡ left.old.value) × (right.new.value ≡ right.old.value) }
 {
     let Some(left) = left.text() else {
-        return right.text().is_none();
+        return match right.text() {
+            Some(_) => false,
+            None => true,
+        };
     };
     let right = some_or!(right.text(), false);
     left.as_str() == right.as_str()
@@ -525,7 +534,10 @@ pub extern "C" fn ecow_proved_texts_equal(left: &mut TextsPointer, right: &mut T
     ensures unchanged { (left.new.value ≡ left.old.value) × (right.new.value ≡ right.old.value) }
 {
     let Some(left) = left.texts() else {
-        return right.texts().is_none();
+        return match right.texts() {
+            Some(_) => false,
+            None => true,
+        };
     };
     let right = some_or!(right.texts(), false);
     left.as_slice() == right.as_slice()
@@ -539,7 +551,10 @@ pub extern "C" fn ecow_proved_value_equal(left: &mut ValuePointer, right: &mut V
     ensures unchanged { (left.new.value ≡ left.old.value) × (right.new.value ≡ right.old.value) }
 {
     let Some(left) = left.value() else {
-        return right.value().is_none();
+        return match right.value() {
+            Some(_) => false,
+            None => true,
+        };
     };
     let right = some_or!(right.value(), false);
     left.equals(right)
@@ -553,7 +568,10 @@ pub extern "C" fn ecow_proved_list_compare(left: &mut ListPointer, right: &mut L
     ensures unchanged { (left.new.value ≡ left.old.value) × (right.new.value ≡ right.old.value) }
 {
     let Some(left) = left.list() else {
-        return if right.list().is_none() { 0 } else { -1 };
+        return match right.list() {
+            Some(_) => -1,
+            None => 0,
+        };
     };
     let right = some_or!(right.list(), 1);
     order(left.as_slice().cmp(&right.as_slice()))
@@ -571,7 +589,10 @@ pub extern "C" fn ecow_proved_bytes_compare(
     ensures unchanged { (left.new.value ≡ left.old.value) × (right.new.value ≡ right.old.value) }
 {
     let Some(left) = left.bytes() else {
-        return if right.bytes().is_none() { 0 } else { -1 };
+        return match right.bytes() {
+            Some(_) => -1,
+            None => 0,
+        };
     };
     let right = some_or!(right.bytes(), 1);
     order(left.as_slice().cmp(&right.as_slice()))
@@ -585,7 +606,10 @@ pub extern "C" fn ecow_proved_text_compare(left: &mut TextPointer, right: &mut T
     ensures unchanged { (left.new.value ≡ left.old.value) × (right.new.value ≡ right.old.value) }
 {
     let Some(left) = left.text() else {
-        return if right.text().is_none() { 0 } else { -1 };
+        return match right.text() {
+            Some(_) => -1,
+            None => 0,
+        };
     };
     let right = some_or!(right.text(), 1);
     order(left.as_str().cmp(&right.as_str()))
@@ -603,7 +627,10 @@ pub extern "C" fn ecow_proved_texts_compare(
     ensures unchanged { (left.new.value ≡ left.old.value) × (right.new.value ≡ right.old.value) }
 {
     let Some(left) = left.texts() else {
-        return if right.texts().is_none() { 0 } else { -1 };
+        return match right.texts() {
+            Some(_) => -1,
+            None => 0,
+        };
     };
     let right = some_or!(right.texts(), 1);
     order(left.as_slice().cmp(&right.as_slice()))
