@@ -4,12 +4,14 @@
 set -eu
 cd "$(dirname "$0")/.."
 
+quoted_files=0
 quotes() { # PAGE FILE..
     page=$1
     shift
     for file; do
         [ -s "$file" ] || { echo "no $file"; exit 1; }
         case "$(cat "$page")" in *"$(cat "$file")"*) ;; *) echo "$page quotes another $file"; exit 1 ;; esac
+        quoted_files=$((quoted_files + 1))
     done
 }
 
@@ -25,3 +27,4 @@ crate=$(sed -n 's/^version = "\(.*\)"$/\1/p' rust/Cargo.toml)
 for said in "include/ecow.h: $numbers" "include/ecow.h: $quoted" "rust/Cargo.toml: $crate"; do
     [ "${said#*: }" = "$version" ] || { echo "VERSION is $version, and that of $said"; exit 1; }
 done
+echo "$quoted_files programs stand in their pages, of version $version"

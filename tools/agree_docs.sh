@@ -8,8 +8,10 @@ work=$(mktemp -d)
 trap 'rm -r "$work"' EXIT
 export LC_ALL=C
 
-# Compares what is said with standard input.
+# Compares what is said, which is something, with standard input.
 compare() { # WHAT
+    [ -s "$work/said" ] || { echo "$1: nothing is said"; exit 1; }
+    cat "$work/said" >> "$work/compared"
     diff "$work/said" - > "$work/apart" || {
         echo "$1 differ:"
         cat "$work/apart"
@@ -40,11 +42,13 @@ words() {
     cat "$@" | tr -s ' \n' '  '
 }
 
+pages=0
 for page in docs/uses/*.md; do
     code=$(sed -n '/^```rust$/,/^```$/p' "$page" | grep -v '^```' | words)
     sources=$(sed -n 's/^`\(crates\/[^`]*\)`.*/\1/p' "$page")
     # The code of that page stands nowhere else.
     [ -n "$sources" ] || [ "$page" != docs/uses/threads.md ] || continue
+    [ -z "$code" ] || pages=$((pages + 1))
     source=$(words $sources)
     case $source in
         *"${code% }"*) ;;
@@ -59,3 +63,5 @@ promised() { # CRATE
 
 promised ecow_shared | sed 's/ecow_shared/ecow_atomic/g' > "$work/said"
 promised ecow_atomic | compare "ecow_shared (<) and ecow_atomic (>)"
+[ "$pages" -gt 0 ]
+echo "$(wc -l < "$work/compared") lines and $pages pages say what the code has"

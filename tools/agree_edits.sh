@@ -1,6 +1,6 @@
 #!/bin/sh
 # Compares the edits that the prover must refuse with the code: what an edit takes away stands once in its file.
-# `rt ci` counts one that doesn't fit for nothing, and passes.
+# `rt ci` counts one that doesn't fit for nothing, and passes. The last line says how many were compared.
 set -eu
 cd "$(dirname "$0")/.."
 export LC_ALL=C
@@ -13,6 +13,7 @@ awk '
     while ((getline line < file) > 0) text = text line "\n"
     close(file)
 }
+FNR == 1 { edits++ }
 /^old: / {
     old = substr($0, 6)
     at = index(text, old)
@@ -22,4 +23,7 @@ awk '
     }
 }
 /^new: / { text = substr(text, 1, at - 1) substr($0, 6) substr(text, at + length(old)) }
-END { exit apart }' crates/*/must-fail/*.edit crates/*/edits/*.edit
+END {
+    print edits + 0 " edits fit their files"
+    exit apart || !edits
+}' crates/*/must-fail/*.edit crates/*/edits/*.edit

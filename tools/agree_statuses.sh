@@ -12,6 +12,7 @@ sed 's/ .*//' "$work/statuses" | sort > "$work/names"
 
 # Compares those of a file, on standard input.
 compare() { # FILE, the name of what it has to have
+    echo "$1" >> "$work/compared"
     diff "$work/$2" - > "$work/apart" || {
         echo "$1 has other statuses (>):"
         cat "$work/apart"
@@ -33,3 +34,4 @@ constants "$work/ecow.h" statuses ' *ECOW_' ''
 constants rust/src/sys.rs statuses 'pub const ' ': Status'
 cases include/ecow.hpp
 cases c/ecow.c
+echo "$(grep -c '' "$work/compared") files have the $(grep -c '' "$work/statuses") statuses"

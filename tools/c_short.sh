@@ -54,6 +54,7 @@ refuse_each() { # PROGRAM EDITS SETTING.., of the library that refuses
     run="$out/$1 $2"
     shift 2
     total=$(env TOTAL=1 LD_PRELOAD="$out/shim.so" $run 2>&1 > /dev/null)
+    [ "$total" -gt 0 ] || { echo "$run: $total requests"; exit 1; }
     number=0
     while [ "$number" -lt "$total" ]; do
         number=$((number + 1))

@@ -31,4 +31,5 @@ diff "$work/said" "$work/counted" > "$work/apart" || {
     cat "$work/apart"
     exit 1
 }
+[ -s "$work/counted" ] || { echo "no cost was counted"; exit 1; }
 echo "$(wc -l < "$work/counted") costs are as their tables say"

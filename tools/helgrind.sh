@@ -5,14 +5,18 @@ set -eu
 cd "$(dirname "$0")/.."
 out=$(mktemp -d)
 trap 'rm -rf "$out"' EXIT
-run() { # LIBRARY
+build() { # LIBRARY
     ${CC:-cc} -std=c11 -O2 -g -pthread -Iinclude c/tests/threads.c "$1/libecow.a" -o "$out/threads"
+}
+run() {
     valgrind -q --tool=helgrind --error-exitcode=9 "$out/threads" "$rounds" > "$out/said" 2>&1
 }
 rounds=$1
-run bin || { cat "$out/said"; exit 1; }
+build bin
+run || { cat "$out/said"; exit 1; }
 [ -d bin/plain ] || exit 0
-if run bin/plain; then
+build bin/plain
+if run; then
     echo "helgrind sees no error in the plain count that threads share: it sees none at all"
     exit 1
 fi

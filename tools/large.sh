@@ -24,6 +24,7 @@ for part in names owners list texts; do
             diff "$work/wanted" "$work/answers" | cut -c 1-200 | head -n 10
             exit 1
         fi
+        [ -s "$work/wanted" ] || { echo "the large script of $part has no answers"; exit 1; }
         lines=$((lines + $(wc -l < "$work/wanted")))
     done
 done

@@ -61,4 +61,6 @@ cmp "$work/out" python/examples/versions.out
 for program in re.findall("```python\n(.*?)```", open("python/README.md").read(), re.S):
     exec(program, {})' > /dev/null
 "$run" python/tests/speed.py 0.01 > "$work/speed" || { cat "$work/speed"; exit 1; }
-echo "python: $(sed -n 's/^Ran \([0-9]*\) tests.*/\1/p' "$work/log") tests of the installed package $version"
+tests=$(sed -n 's/^Ran \([0-9]*\) tests.*/\1/p' "$work/log")
+[ "$tests" -gt 0 ] || { echo "no test of the package for Python ran"; exit 1; }
+echo "python: $tests tests of the installed package $version"

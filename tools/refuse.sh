@@ -14,6 +14,7 @@ watched="env LEFT=1 LD_PRELOAD=$work/refuse.so"
 $watched "$program" < /dev/null > "$work/lines" 2>&1
 parts=$(grep -c '' < "$work/lines")
 if grep -e wrong -e left "$work/lines"; then exit 1; fi
+[ "$parts" -gt 0 ] || { echo "$program has no part"; exit 1; }
 
 # Refuses the request with this number, and each that comes so many processors later.
 refuse_from() {
@@ -36,6 +37,7 @@ while part=$((part + 1)) && [ "$part" -le "$parts" ]; do
     echo "$part" > "$work/part"
     want=$(sed -n "${part}p" "$work/lines")
     total=$($watched TOTAL=1 "$program" < "$work/part" 2>&1 > "$work/none")
+    [ "$total" -gt 0 ] || { echo "part $part of $program: $total requests"; exit 1; }
     all=$((all + total))
     first=1
     while [ "$first" -le "$processors" ]; do
