@@ -1,5 +1,5 @@
 #!/usr/bin/env python3
-"""Mutates the scripts of examples/ and of the cases, and runs the program on them for some seconds:
+"""Mutates the scripts of the cases, the examples among them, and runs the program on them for some seconds:
 tools/fuzz.py SECONDS [SEED]. Each run must end with a status from 0 to 3 and the streams that
 docs/SCRIPT.md promises for it, within 2 s; a script that asks for no room by number must stay within
 20 times its size of memory, beside what the program takes for an empty one. Prints what did not, the
@@ -27,7 +27,7 @@ LIMIT = 2 << 30
 
 
 def corpus():
-    paths = glob.glob(f"{TOP}/examples/*.eco") + glob.glob(f"{TOP}/crates/ecow_cases/data/*.eco")
+    paths = glob.glob(f"{TOP}/crates/ecow_cases/data/*.eco")
     scripts = [open(path, "rb").read() for path in sorted(paths)]
     return [[line for line in script.split(b"\n") if not line.startswith(b"#")] for script in scripts]
 

@@ -1,74 +1,16 @@
 -- The answers and the totals of scripts on shared blocks, computed.
 use Rattle.std.proofs.Common.{refl}
-use Rattle.ecow_worked_examples.specs.BlockScripts.{eleven_pushes, one_push, ThreeNamesEndInThreeBlocks, PopCopiesTheWholeSharedList, TruncateCopiesWhatStays, AnEmptyBlockIsShared, AnEmptyBlockStaysShared, RetainGivesUpAnEmptyBlock, ReserveGivesAnEmptyBlockOfItsOwn, WithoutABlockNothingIsShared, DrainOfNothingUnshares, ExtendByNothingStaysShared, FourPushesMoveNothing, TheFifthPushMovesFour, SpliceMakesItsBlockAtOnce, SpliceMovesWhatIsLeft, ReserveOfNothingUnshares, ReserveGrowsUpToTheGreatest, TakenAndDroppedNamesAreRefused, BlocksGoWithTheirLastName, APushByACloneTakesRoomForFour, PushesAfterAPop, ACloneOfACloneSharesOneBlock, DrainedAndRetainedAlone, PushesAfterAPopArePaid, EachWrittenCloneIsCopiedOnce, UnwrittenClonesAreOwed, DroppedClonesCostNothing, ANewTableIsEmpty, AMissingNameIsNotShared, TheThirdPushOutgrowsRoomForTwo, AnInsertWithinTheCapacityMovesNothing, AnInsertPastTheCapacityMovesAll, APushAfterAnExtendDoublesTheCapacity, ElevenPushesCopyTenTimes, APushAfterTheClonesAreDroppedCopiesNothing}
+use Rattle.ecow_worked_examples.specs.BlockScripts.{ThreeNamesEndInThreeBlocks, BlocksGoWithTheirLastName, AnEmptyBlockIsShared, EachWrittenCloneIsCopiedOnce, UnwrittenClonesAreOwed, DroppedClonesCostNothing, PushesAfterAPopArePaid}
 use Rattle.ecow_worked_examples.proofs.Tables.{table_rules}
-use Rattle.ecow_worked_examples.proofs.Tallies.{tally-computed}
 
 pub three_names_end_in_three_blocks : ThreeNamesEndInThreeBlocks
 three_names_end_in_three_blocks = simp table_rules refl
 
-pub pop_copies_the_whole_shared_list : PopCopiesTheWholeSharedList
-pop_copies_the_whole_shared_list = simp table_rules refl
-
-pub truncate_copies_what_stays : TruncateCopiesWhatStays
-truncate_copies_what_stays = simp table_rules refl
-
 pub an_empty_block_is_shared : AnEmptyBlockIsShared
 an_empty_block_is_shared = simp table_rules refl
 
-pub an_empty_block_stays_shared : AnEmptyBlockStaysShared
-an_empty_block_stays_shared = simp table_rules refl
-
-pub retain_gives_up_an_empty_block : RetainGivesUpAnEmptyBlock
-retain_gives_up_an_empty_block = simp table_rules refl
-
-pub reserve_gives_an_empty_block_of_its_own : ReserveGivesAnEmptyBlockOfItsOwn
-reserve_gives_an_empty_block_of_its_own = simp table_rules refl
-
-pub without_a_block_nothing_is_shared : WithoutABlockNothingIsShared
-without_a_block_nothing_is_shared = simp table_rules refl
-
-pub drain_of_nothing_unshares : DrainOfNothingUnshares
-drain_of_nothing_unshares = simp table_rules refl
-
-pub extend_by_nothing_stays_shared : ExtendByNothingStaysShared
-extend_by_nothing_stays_shared = simp table_rules refl
-
-pub four_pushes_move_nothing : FourPushesMoveNothing
-four_pushes_move_nothing = simp table_rules refl
-
-pub the_fifth_push_moves_four : TheFifthPushMovesFour
-the_fifth_push_moves_four = simp table_rules refl
-
-pub splice_makes_its_block_at_once : SpliceMakesItsBlockAtOnce
-splice_makes_its_block_at_once = simp table_rules refl
-
-pub splice_moves_what_is_left : SpliceMovesWhatIsLeft
-splice_moves_what_is_left = simp table_rules refl
-
-pub reserve_of_nothing_unshares : ReserveOfNothingUnshares
-reserve_of_nothing_unshares = simp table_rules refl
-
-pub reserve_grows_up_to_the_greatest : ReserveGrowsUpToTheGreatest
-reserve_grows_up_to_the_greatest = simp table_rules refl
-
-pub taken_and_dropped_names_are_refused : TakenAndDroppedNamesAreRefused
-taken_and_dropped_names_are_refused = simp table_rules refl
-
 pub blocks_go_with_their_last_name : BlocksGoWithTheirLastName
 blocks_go_with_their_last_name = simp table_rules refl
-
-pub a_push_by_a_clone_takes_room_for_four : APushByACloneTakesRoomForFour
-a_push_by_a_clone_takes_room_for_four = simp table_rules refl
-
-pub pushes_after_a_pop : PushesAfterAPop
-pushes_after_a_pop = simp table_rules refl
-
-pub a_clone_of_a_clone_shares_one_block : ACloneOfACloneSharesOneBlock
-a_clone_of_a_clone_shares_one_block = simp table_rules refl
-
-pub drained_and_retained_alone : DrainedAndRetainedAlone
-drained_and_retained_alone = simp table_rules refl
 
 pub pushes_after_a_pop_are_paid : PushesAfterAPopArePaid
 pushes_after_a_pop_are_paid = simp table_rules refl
@@ -81,27 +23,3 @@ unwritten_clones_are_owed = simp table_rules refl
 
 pub dropped_clones_cost_nothing : DroppedClonesCostNothing
 dropped_clones_cost_nothing = simp table_rules refl
-
-pub a_new_table_is_empty : ANewTableIsEmpty
-a_new_table_is_empty = simp table_rules refl
-
-pub a_missing_name_is_not_shared : AMissingNameIsNotShared
-a_missing_name_is_not_shared = simp table_rules refl
-
-pub the_third_push_outgrows_room_for_two : TheThirdPushOutgrowsRoomForTwo
-the_third_push_outgrows_room_for_two = simp table_rules refl
-
-pub an_insert_within_the_capacity_moves_nothing : AnInsertWithinTheCapacityMovesNothing
-an_insert_within_the_capacity_moves_nothing = simp table_rules refl
-
-pub an_insert_past_the_capacity_moves_all : AnInsertPastTheCapacityMovesAll
-an_insert_past_the_capacity_moves_all = simp table_rules refl
-
-pub a_push_after_an_extend_doubles_the_capacity : APushAfterAnExtendDoublesTheCapacity
-a_push_after_an_extend_doubles_the_capacity = simp table_rules refl
-
-pub eleven_pushes_copy_ten_times : ElevenPushesCopyTenTimes
-eleven_pushes_copy_ten_times = tally-computed eleven_pushes
-
-pub a_push_after_the_clones_are_dropped_copies_nothing : APushAfterTheClonesAreDroppedCopiesNothing
-a_push_after_the_clones_are_dropped_copies_nothing = tally-computed one_push

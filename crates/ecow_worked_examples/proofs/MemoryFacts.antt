@@ -1,10 +1,8 @@
 -- What a step is that lacks memory.
 use Rattle.std.proofs.Common.{◌≡◌, ℕ, Bool, true, false, Result, Ok, Err, [], ◌∷◌, inl, inr, refl, ap}
-use Rattle.ecow_model.specs.State.{State}
 use Rattle.ecow_model.specs.Names.{Names}
-use Rattle.ecow_model.specs.Run.{IsVecStep}
-use Rattle.ecow_model.specs.Uses.{Gives, carry_out, use_is_free}
-use Rattle.ecow_model.specs.Vecs.{vec_rules, vec_usage}
+use Rattle.ecow_model.specs.Uses.{Gives}
+use Rattle.ecow_model.specs.Vecs.{vec_usage}
 use Rattle.ecow_model.specs.CountedRun.{counted_carry_out, counted_is_free, CountedStep}
 use Rattle.ecow_model.specs.declared.vecs.VecCommand.{VecCommand}
 use Rattle.ecow_model.specs.declared.vecs.VecCommand.TheVariants.{Push, Truncate, Clear, Extend}
@@ -12,9 +10,7 @@ use Rattle.ecow_model.specs.declared.command.Outcome.{Outcome}
 use Rattle.ecow_model.specs.declared.command.Outcome.TheVariants.{Done, Refused}
 use Rattle.ecow_model.specs.declared.command.Refusal.{Refusal}
 use Rattle.ecow_model.specs.declared.command.Refusal.TheVariants.{Memory}
-use Rattle.ecow_worked_examples.specs.Scripts.{unread}
-use Rattle.ecow_worked_examples.specs.Memory.{one_list, three_of_four, four_of_four, shared_block}
-use Rattle.ecow_worked_examples.proofs.Scripts.{rules}
+use Rattle.ecow_worked_examples.specs.Memory.{three_of_four, four_of_four, shared_block}
 use Rattle.ecow_worked_examples.proofs.Tables.{table_rules}
 
 abbrev is_done : {T : Type 0} → Outcome T → Bool
@@ -40,26 +36,9 @@ module _ {T S : Type 0} where
   lacked (Ok answer) free old accepted paid = inr (refl, refl, paid)
   lacked (Err refusal) free old accepted paid = cc
 
-vec_lacking : (old : State ℕ) (c : VecCommand ℕ) (new : State ℕ) → is_accepted (carry_out vec_rules unread old (vec_usage c)) ≡ true
-    → IsVecStep old c (Refused Memory) new → (new ≡ old) × (use_is_free vec_rules old (vec_usage c) ≡ false)
-vec_lacking old c new = lacking (carry_out vec_rules unread old (vec_usage c)) (use_is_free vec_rules old (vec_usage c)) old new
-
 counted_lacking : (old : Names ℕ) (c : VecCommand ℕ) (new : Names ℕ) → is_accepted (counted_carry_out old (vec_usage c)) ≡ true
     → CountedStep old c (Refused Memory) new → (new ≡ old) × (counted_is_free old (vec_usage c) ≡ false)
 counted_lacking old c new = lacking (counted_carry_out old (vec_usage c)) (counted_is_free old (vec_usage c)) old new
-
-pub a_push_may_lack_memory : IsVecStep one_list (Push 0 4) (Refused Memory) one_list
-a_push_may_lack_memory =
-    lacked (carry_out vec_rules unread one_list (vec_usage (Push 0 4)))
-    (use_is_free vec_rules one_list (vec_usage (Push 0 4))) one_list (simp rules refl) (simp rules refl)
-
-pub a_push_without_memory_changes_nothing : (new : State ℕ) → IsVecStep one_list (Push 0 4) (Refused Memory) new → new ≡ one_list
-a_push_without_memory_changes_nothing new step = (vec_lacking one_list (Push 0 4) new (simp rules refl) step).0
-
-pub a_clear_never_lacks_memory : (new : State ℕ) → ¬ (IsVecStep one_list (Clear 0) (Refused Memory) new)
-a_clear_never_lacks_memory new step =
-    let free : use_is_free vec_rules one_list (vec_usage (Clear 0)) ≡ true = simp rules refl in
-    let paid = (vec_lacking one_list (Clear 0) new (simp rules refl) step).1 in cc
 
 pub a_push_into_a_full_block_may_lack_memory : CountedStep four_of_four (Push 0 5) (Refused Memory) four_of_four
 a_push_into_a_full_block_may_lack_memory =

@@ -1,12 +1,10 @@
 -- Scripts on lists in shared blocks, from no names, and what they leave where no memory is wanting.
-use Rattle.std.specs.Prelude.{ℕ, zero, suc, ◌+◌, ◌*◌, false, List, [], ◌∷◌, ◌++◌, map, Option, Result, Ok, Err}
+use Rattle.std.specs.Prelude.{ℕ, ◌+◌, ◌*◌, List, [], ◌∷◌, ◌++◌, map, Option, Result, Ok, Err}
 use Rattle.std.specs.Option.{option_map}
 use Rattle.std.specs.FinMap as finite
 use Rattle.ecow_model.specs.Names.{Names, owners_of, blocks, debt, strain}
 use Rattle.ecow_model.specs.Vecs.{vec_usage}
 use Rattle.ecow_model.specs.CountedRun.{counted_carry_out, names_or, copied_in, moved_in, eager_in, input_in}
-use Rattle.ecow_model.specs.Costs.{capacity_after, moves}
-use Rattle.ecow_model.specs.declared.vecs.VecEdit.TheVariants.{Push}
 use Rattle.ecow_model.specs.declared.vecs.VecCommand.{VecCommand}
 use Rattle.ecow_model.specs.declared.command.Outcome.{Outcome}
 use Rattle.ecow_model.specs.declared.command.Outcome.TheVariants.{Refused}
@@ -121,13 +119,3 @@ left_by_from names (c ∷ cs) =
 -- what names hold after commands
 abbrev pub left_by : List (VecCommand ℕ) → Names ℕ
 left_by cs = left_by_from finite.empty cs
-
--- the capacity and the moved elements after one more push of a sole name of n items
-abbrev pub push_one : ℕ → ℕ × ℕ → ℕ × ℕ
-push_one n before =
-    (capacity_after {T = ℕ} (Push 0) false n before.0, before.1 + moves {T = ℕ} (Push 0) n before.0)
-
--- the same after n pushes into a new name
-abbrev pub pushed : ℕ → ℕ × ℕ
-pushed zero = (0, 0)
-pushed (suc n) = push_one n (pushed n)

@@ -5,7 +5,6 @@ pub returns : goal.returns
 returns c =
     record {
       three_names_end_in_three_blocks = facts.three_names_end_in_three_blocks;
-      a_clone_of_a_clone_shares_one_block =
-          facts.a_clone_of_a_clone_shares_one_block;
+      an_empty_block_is_shared = facts.an_empty_block_is_shared;
       blocks_go_with_their_last_name = facts.blocks_go_with_their_last_name;
     }
