@@ -30,7 +30,8 @@ help:
 	@echo "                           each request for memory refused in turn, command lines, large scripts, and the"
 	@echo "                           library for C where there is a C compiler"
 	@echo "  make agree               compares documents, examples and edits with the code"
-	@echo "  make contracts           writes docs/CONTRACTS.md and the pages below docs/contracts"
+	@echo "  make contracts           writes every public call with its clauses, and where their words come from, into"
+	@echo "                           bin/contracts"
 	@echo "  make edits               tries each edit that must be refused, those beside the gate's too (needs python3);"
 	@echo "                           CRATES=\"NAME ..\": those of some crates"
 	@echo "  make costs               counts what each call costs, and compares the tables of costs"
@@ -115,13 +116,10 @@ test: agree
 	tools/threads_gate.sh
 	tools/c_gate.sh
 
-# The gate runs the program on the first example, of which there is a theorem; the contracts quoted are those of the
-# code.
+# The gate runs the program on the first example, of which there is a theorem.
 agree:
 	@cmp examples/first.eco crates/ecow_run/data/first.eco
 	@sed -n '/^first_script =/,/^$$/s/^[ +]*codes "\(.*\)\\n"$$/\1/p' crates/ecow_script/specs/FirstExample.antt | cmp - examples/first.eco
-	@mkdir -p bin/pages && tools/contracts.sh bin/pages
-	@cmp bin/pages/CONTRACTS.md docs/CONTRACTS.md && diff -r bin/pages/contracts docs/contracts
 	@tools/agree_statuses.sh
 	@tools/agree_docs.sh
 	@tools/agree_edits.sh
@@ -132,7 +130,7 @@ vendor:
 	@tools/vendor.sh "$(TO)" $(KIND) $(COUNT)
 
 contracts:
-	tools/contracts.sh docs
+	@tools/contracts.sh bin/contracts
 
 vendor-test:
 	tools/vendor_test.sh $(KIND) $(COUNT)

@@ -30,6 +30,7 @@ while read -r file; do
     mkdir -p "$to/${file%/*}"
     cp "$file" "$to/$file"
 done < "$work/files"
+tools/contracts.sh "$to/contracts" > "$work/said"
 cp LICENSE-APACHE LICENSE-MIT VERSION CHANGELOG.md "$to"
 # It stands above the pages there, and beside those for C here.
 sed 's|](\.\./|](|g' c/INSTALL.md > "$to/README.md"
