@@ -1,10 +1,8 @@
-//! Bytes, inline and spilled, at several limits: when they spill, and what stays as it was.
-use crate::laws::{is_found, is_found_in_order};
+//! Bytes at limits past those of the tables of costs, closures that rewrite them, and their hash.
 use ecow_bytes::{EcoBytes, SmallBytes};
-use ecow_list::{EcoError, EcoVec, eco_vec};
+use ecow_list::{EcoError, EcoVec};
 use std::alloc::Global;
 use std::hash::{DefaultHasher, Hash, Hasher};
-use std::io::Write;
 use std::test::Fail;
 
 const LETTERS: [u8; 15] = *b"abcdefghijklmno";
@@ -32,76 +30,6 @@ fn pop<const N: usize>(bytes: &mut SmallBytes<N>) -> Result<Option<u8>, EcoError
     bytes.pop()
 }
 
-#[test]
-fn keys_of_maps_have_no_mode(rt: HostRuntime) -> Result<(), Fail> {
-    let (inline, spilled) = (letters(rt.alloc())?, spilled_letters(rt.alloc())?);
-    assert!(rt; holds(&inline, &LETTERS, true) && holds(&spilled, &LETTERS, false));
-    assert!(rt; is_found(rt.alloc(), spilled_letters(rt.alloc())?, &inline)?);
-    assert!(rt; is_found_in_order(rt.alloc(), inline, &spilled)?);
-    Ok(())
-}
-
-#[test]
-fn bytes_are_ordered_as_lists(rt: HostRuntime) -> Result<(), Fail> {
-    let alloc = rt.alloc();
-    let front: EcoBytes = SmallBytes::from(eco_vec![in alloc; 1u8, 2]?);
-    let longer = EcoBytes::from_slice(alloc, &[1, 2, 0])?;
-    assert!(rt; front < longer);
-    let text = format!(in alloc; "{front:?}")?;
-    assert_eq!(rt; text.as_str(), "[1, 2]");
-    Ok(())
-}
-
-#[test]
-fn bytes_of_a_vector_are_spilled(rt: HostRuntime) -> Result<(), Fail> {
-    let alloc = rt.alloc();
-    let of_vector: EcoBytes = SmallBytes::from(eco_vec![in alloc; 1u8]?);
-    assert!(rt; !of_vector.is_inline());
-    let Ok(vec) = of_vector.into_eco_vec() else {
-        return Err("the vector of spilled bytes".into());
-    };
-    assert_eq!(rt; vec.as_slice(), [1].as_slice());
-    let Ok(of_vec) = EcoBytes::from_vec(alloc, vec![in alloc; 1u8]?) else {
-        return Err("the bytes of a vec".into());
-    };
-    assert!(rt; of_vec.is_inline());
-    Ok(())
-}
-
-#[test]
-fn a_write_is_appended(rt: HostRuntime) -> Result<(), Fail> {
-    let mut bytes = EcoBytes::new(rt.alloc());
-    assert_eq!(rt; bytes.write(b"0123456789abcdef")?, 16);
-    bytes.flush()?;
-    assert!(rt; holds(&bytes, b"0123456789abcdef", false));
-    Ok(())
-}
-
-#[test]
-fn no_byte_fits_within_a_limit_of_none(rt: HostRuntime) -> Result<(), Fail> {
-    let mut bytes = SmallBytes::<0>::new(rt.alloc());
-    assert!(rt; holds(&bytes, b"", true) && bytes.capacity() == 0);
-    push(&mut bytes, 1)?;
-    assert!(rt; holds(&bytes, &[1], false));
-    assert_eq!(rt; pop(&mut bytes)?, Some(1));
-    assert!(rt; holds(&bytes, b"", false));
-    bytes.shrink_to_fit();
-    assert!(rt; bytes.is_inline() && bytes.repeat(usize::MAX)?.is_inline());
-    assert!(rt; !SmallBytes::<0>::with_capacity(rt.alloc(), 1)?.is_inline());
-    Ok(())
-}
-
-#[test]
-fn three_bytes_fit_within_a_limit_of_three(rt: HostRuntime) -> Result<(), Fail> {
-    let mut bytes = SmallBytes::<3>::from_array(rt.alloc(), [1, 2, 3])?;
-    let mut roomier = bytes.clone()?;
-    assert!(rt; holds(&bytes, &[1, 2, 3], true));
-    push(&mut bytes, 4)?;
-    roomier.reserve(1)?;
-    assert!(rt; holds(&bytes, &[1, 2, 3, 4], false) && holds(&roomier, &[1, 2, 3], false));
-    Ok(())
-}
-
 /// Whether bytes that are pushed up to their limit, and popped, have the right length and clones
 /// all the way. There are none before.
 fn is_filled_and_emptied<const N: usize>(mut bytes: SmallBytes<N>) -> Result<bool, EcoError> {
@@ -125,39 +53,6 @@ fn a_length_stands_in_one_cell_or_nine(rt: HostRuntime) -> Result<(), Fail> {
     assert!(rt; is_filled_and_emptied(SmallBytes::<256>::new(rt.alloc()))?);
     assert!(rt; is_filled_and_emptied(SmallBytes::<257>::new(rt.alloc()))?);
     assert!(rt; is_filled_and_emptied(SmallBytes::<600>::new(rt.alloc()))?);
-    Ok(())
-}
-
-#[test]
-fn bytes_are_added_one_by_one(rt: HostRuntime) -> Result<(), Fail> {
-    let mut bytes = SmallBytes::<23>::from_iter(rt.alloc(), 0..23u8)?;
-    assert!(rt; bytes.is_inline());
-    bytes.extend((23..30u8).filter(|byte| byte % 2 == 0))?;
-    bytes.extend(0..0u8)?;
-    assert!(rt; bytes.len() == 26 && !bytes.is_inline());
-    assert_eq!(rt; pop(&mut bytes)?, Some(28));
-    Ok(())
-}
-
-#[test]
-fn few_bytes_are_put_inline(rt: HostRuntime) {
-    assert!(rt; holds(&EcoBytes::inline(rt.alloc(), &[1]), &[1], true));
-    assert_eq!(rt; EcoBytes::INLINE_LIMIT, 15);
-}
-
-/// The bytes in reverse, where they stood.
-fn reversed(mut bytes: EcoBytes) -> Result<EcoBytes, EcoError> {
-    bytes.make_mut()?.reverse();
-    Ok(bytes)
-}
-
-#[test]
-fn bytes_are_written_where_they_stand(rt: HostRuntime) -> Result<(), Fail> {
-    let inline = reversed(letters(rt.alloc())?)?;
-    assert!(rt; holds(&inline, b"onmlkjihgfedcba", true));
-    let shared = spilled_letters(rt.alloc())?;
-    let spilled = reversed(shared.clone()?)?;
-    assert!(rt; holds(&spilled, b"onmlkjihgfedcba", false) && holds(&shared, &LETTERS, false));
     Ok(())
 }
 

@@ -16,19 +16,11 @@ mod calls;
 #[cfg(test)]
 mod drops;
 #[cfg(test)]
-mod examples;
-#[cfg(test)]
-mod iterators;
-#[cfg(test)]
-mod laws;
-#[cfg(test)]
 mod owners;
 #[cfg(test)]
 mod paths;
 #[cfg(test)]
 mod printing;
-#[cfg(test)]
-mod ranges;
 #[cfg(test)]
 mod refusals;
 #[cfg(test)]

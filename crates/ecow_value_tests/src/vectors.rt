@@ -1,31 +1,10 @@
-//! The calls of `EcoVec` at concrete types, with the values of the original's own tests.
+//! What `retain` asks, the forms of `eco_vec!`, writers, and elements of no bytes.
 use crate::calls::{drain, error_of, insert, of, push, shared};
-use ecow_list::{EcoError, EcoVec, IntoArray, eco_vec, range_in};
+use ecow_list::{EcoError, EcoVec, eco_vec};
 use std::alloc::{AllocError, Global};
 use std::io::Write;
 use std::process::Abort;
 use std::test::Fail;
-
-#[test]
-fn drains_may_be_dropped_early(rt: HostRuntime) -> Result<(), Fail> {
-    let mut list = of(rt.alloc(), &['a'; 10])?;
-    if !range_in(&(5..), list.len()) {
-        return Err("ten elements".into());
-    }
-    let first = list.drain(5..)?.next();
-    assert_eq!(rt; (first, list.len()), (Some('a'), 5));
-    Ok(())
-}
-
-#[test]
-fn owned_iterators_go_from_both_ends(rt: HostRuntime) -> Result<(), Fail> {
-    let mut rest = of(rt.alloc(), &[2, 4, 5])?.into_iter().map_err(error_of)?;
-    let ends = [rest.next(), rest.next_back()];
-    let shown = rest.as_slice() == [4].as_slice() && rest.len() == 1;
-    let end = [rest.next(), rest.next(), rest.next_back()];
-    assert!(rt; ends == [Some(2), Some(5)] && shown && end == [Some(4), None, None]);
-    Ok(())
-}
 
 fn holds(rt: &impl Abort, elements: &[u8], wanted: &[u8]) {
     assert_eq!(rt; elements, wanted);
@@ -44,23 +23,6 @@ fn retain_keeps_the_changed_elements(rt: HostRuntime) -> Result<(), Fail> {
     holds(&rt, list.as_slice(), &[6u8, 8]);
     holds(&rt, seen.as_slice(), &[1u8, 2, 3, 4]);
     holds(&rt, clone.as_slice(), &[1u8, 2, 3, 4]);
-    Ok(())
-}
-
-/// The length of a vector that is no array.
-fn length_of(error: IntoArray<u16>) -> Option<usize> {
-    match error {
-        IntoArray::Length(list) => Some(list.len()),
-        IntoArray::Refused(_, _) => None,
-    }
-}
-
-#[test]
-fn arrays_come_back_or_tell_their_length(rt: HostRuntime) -> Result<(), Fail> {
-    let list = of(rt.alloc(), &[3u16, 5])?;
-    let array = shared(&list)?.into_array::<2>().map_err(length_of);
-    let length = list.into_array::<3>().map_err(length_of);
-    assert!(rt; array == Ok([3, 5]) && length == Err(Some(2)));
     Ok(())
 }
 
