@@ -116,8 +116,10 @@ test: agree
 	tools/threads_gate.sh
 	tools/c_gate.sh
 
-# The gate runs the program on the first example, of which there is a theorem.
+# The examples are cases too, and the gate runs the program on the first, of which there is a theorem. The kit takes no
+# linked file.
 agree:
+	@for file in examples/*.eco; do cmp $$file crates/ecow_cases/data/$$(basename $$file) || exit 1; done
 	@cmp examples/first.eco crates/ecow_run/data/first.eco
 	@sed -n '/^first_script =/,/^$$/s/^[ +]*codes "\(.*\)\\n"$$/\1/p' crates/ecow_script/specs/FirstExample.antt | cmp - examples/first.eco
 	@tools/agree_statuses.sh
