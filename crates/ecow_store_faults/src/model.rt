@@ -1,8 +1,8 @@
 //! Named values as the test keeps them by itself: what each holds, and in which form; which names
 //! share a block, and its room; how many elements were copied and moved.
 use crate::orders::{Kind, Order, Verb};
-use ecow_faults::short::Short;
-use ecow_faults::steps::{Edit, Step, Word};
+use ecow_calls::short::Short;
+use ecow_calls::steps::{Edit, Step, Word};
 use ecow_model::Refusal;
 
 /// The most elements that a block has room for.

@@ -1,7 +1,7 @@
 //! Commands as data, and the commands that they stand for.
-use ecow_faults::short::Short;
-use ecow_faults::steps::{Step, Word};
-use ecow_faults::texts;
+use ecow_calls::short::Short;
+use ecow_calls::steps::{Step, Word};
+use ecow_calls::texts;
 use ecow_model::{Bounds, BytesCommand, Command, Items, Text, TextCommand, VecCommand};
 use std::alloc::{AllocError, Global};
 use std::ops::Bound;

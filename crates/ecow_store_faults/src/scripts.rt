@@ -1,5 +1,5 @@
 //! The program, over scripts in which each three lines make a value, change it and show it.
-use ecow_faults::watch::Watch;
+use ecow_calls::watch::Watch;
 use ecow_tool::{End, run_counted, run_store};
 use std::alloc::Global;
 

@@ -3,9 +3,9 @@
 use crate::model::{Entry, Model, Want};
 use crate::orders::{FromOrder, Kind, MAKERS, OTHERS, Order, Verb};
 use ecow_counted::Counted;
-use ecow_faults::steps::{Row, Step, Word, step_of};
-use ecow_faults::watch::Watch;
-use ecow_faults::{bytes, texts, vectors};
+use ecow_calls::steps::{Row, Step, Word, step_of};
+use ecow_calls::watch::Watch;
+use ecow_calls::{bytes, texts, vectors};
 use ecow_list::{EcoError, Rejected};
 use ecow_model::{BytesCommand, Command, Outcome, Refusal, TextCommand, VecCommand};
 use ecow_store::SmallStore;

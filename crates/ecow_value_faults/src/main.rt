@@ -5,10 +5,10 @@ mod owners;
 mod units;
 
 use ecow_bytes::SmallBytes;
-use ecow_faults::elements::Named;
-use ecow_faults::parts::{Parts, run};
-use ecow_faults::watch::Watch;
-use ecow_faults::{asked, bytes, makers, prints, small, texts, vectors};
+use ecow_calls::elements::Named;
+use ecow_calls::parts::{Parts, run};
+use ecow_calls::watch::Watch;
+use ecow_calls::{asked, bytes, makers, prints, small, texts, vectors};
 use ecow_string::SmallText;
 use std::alloc::Global;
 use std::io;

@@ -1,5 +1,5 @@
 //! A vector with more owners than two bytes count.
-use ecow_faults::watch::Watch;
+use ecow_calls::watch::Watch;
 use ecow_list::EcoVec;
 use std::alloc::Global;
 

@@ -1,5 +1,5 @@
 //! Elements of no bytes: a vector asks for its block alone, however much it grows.
-use ecow_faults::watch::Watch;
+use ecow_calls::watch::Watch;
 use ecow_list::EcoVec;
 use std::alloc::Global;
 

@@ -4,8 +4,10 @@
 
 pub mod asked;
 pub mod bytes;
+pub mod counting;
 pub mod elements;
 pub mod makers;
+pub mod numbers;
 pub mod parts;
 pub mod prints;
 pub mod short;

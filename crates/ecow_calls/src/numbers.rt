@@ -1,0 +1,30 @@
+//! Numbers that a seed decides.
+
+/// A row of numbers that a seed decides.
+#[derive(Drop)]
+pub struct Numbers(u64);
+
+impl Numbers {
+    pub fn new(seed: u64) -> Self {
+        Numbers(seed)
+    }
+
+    /// A number below `limit`, or 0 where that is 0.
+    pub fn below(&mut self, limit: u64) -> u64 {
+        self.0 = self
+            .0
+            .wrapping_mul(6364136223846793005)
+            .wrapping_add(1442695040888963407);
+        (self.0 >> 33).checked_rem(limit).unwrap_or(0)
+    }
+
+    /// An index or a count below 7.
+    pub fn index(&mut self) -> usize {
+        usize::try_from(self.below(7)).unwrap_or(0)
+    }
+
+    /// An element below 100.
+    pub fn value(&mut self) -> i64 {
+        i64::try_from(self.below(100)).unwrap_or(0)
+    }
+}
