@@ -1,254 +1,384 @@
 //! The calls of `SmallBytes`.
-use crate::short::Long;
-use crate::small::{
-    Small, SmallCall, SmallState, Snapshot, into_holds, is_made, repeated_hold, states,
-};
-use crate::steps::{Row, Word};
-use crate::watch::Watch;
+ghost use Rattle.std.specs.Iterator.{at_most};
+
+use crate::calls::{Call, Role, Row};
+use crate::elements::{compare, or_memory};
+use crate::states::State;
+use crate::value::{Asked, Value};
 use ecow_bytes::SmallBytes;
 use ecow_list::{EcoError, EcoVec, Rejected, range_in};
-use std::alloc::Global;
+use std::alloc::{AllocError, Global};
+use std::cell::Cell;
 use std::io::Write;
+use std::mem;
 
-/// The bytes that calls bring.
-const ADDED: [u8; 12] = [46, 47, 48, 49, 50, 51, 52, 53, 54, 55, 56, 57];
-
-const LETTERS: [u8; 280] = *b"abcdefghijklmnopqrstuvwxyz{|}~ABCDEFGHIJ\
-    abcdefghijklmnopqrstuvwxyz{|}~ABCDEFGHIJ\
-    abcdefghijklmnopqrstuvwxyz{|}~ABCDEFGHIJ\
-    abcdefghijklmnopqrstuvwxyz{|}~ABCDEFGHIJ\
-    abcdefghijklmnopqrstuvwxyz{|}~ABCDEFGHIJ\
-    abcdefghijklmnopqrstuvwxyz{|}~ABCDEFGHIJ\
-    abcdefghijklmnopqrstuvwxyz{|}~ABCDEFGHIJ";
-
-pub const STEPS: [Row; 16] = [
-    (Word::Push, &[(0, 0, 1)]),
-    (Word::Insert, &[(0, 0, 1), (2, 2, 1)]),
-    (Word::Write, &[(0, 1, 1), (2, 3, 1)]),
-    (Word::MakeMut, &[(0, 0, 0)]),
-    (Word::Rewrite, &[(0, 0, 0), (2, 0, 0), (100, 0, 0)]),
-    (Word::Pop, &[(0, 0, 0)]),
-    (Word::Remove, &[(0, 1, 0), (2, 3, 0)]),
-    (Word::Truncate, &[(0, 0, 0), (2, 0, 0), (100, 0, 0)]),
-    (Word::Clear, &[(0, 0, 0)]),
-    (Word::Shrink, &[(0, 0, 0)]),
-    (
-        Word::Reserve,
-        &[(0, 0, 0), (0, 0, 1), (0, 0, 2), (0, 0, 20)],
-    ),
-    (Word::Extend, &[(0, 0, 0), (0, 0, 1), (0, 0, 2), (0, 0, 12)]),
-    (
-        Word::ExtendEach,
-        &[(0, 0, 0), (0, 0, 1), (0, 0, 2), (0, 0, 12)],
-    ),
-    (Word::Put, &[(0, 0, 0), (0, 0, 1), (0, 0, 12)]),
-    (
-        Word::InsertSlice,
-        &[(0, 0, 0), (0, 0, 1), (2, 2, 1), (2, 2, 2), (0, 0, 12)],
-    ),
-    (
-        Word::ReplaceRange,
-        &[(0, 0, 0), (0, 0, 1), (0, 1, 1), (1, 3, 1), (0, 2, 12)],
-    ),
-];
-
-pub fn first(bytes: &[u8], count: usize) -> &[u8] {
-    match bytes.get(..count) {
-        Some(first) => first,
-        None => &[],
-    }
-}
-
-impl<const N: usize> Small for SmallBytes<N> {
-    fn limit() -> usize {
-        N
-    }
-
-    fn letters(len: usize) -> Long {
-        Long::of_bytes(first(&LETTERS, len))
-    }
-
-    fn added(count: usize) -> Long {
-        Long::of_bytes(first(&ADDED, count))
-    }
-
-    fn made(alloc: Global, state: SmallState) -> Result<Self, EcoError> {
-        let letters = first(&LETTERS, state.len);
-        if !state.spilled {
-            return SmallBytes::from_slice(alloc, letters);
-        }
-        let mut vector = EcoVec::with_capacity(alloc, state.room)?;
-        vector.extend_from_slice(letters)?;
-        Ok(SmallBytes::from(vector))
-    }
-
-    fn call(&mut self, call: &SmallCall) -> Result<bool, EcoError> {
-        match call.step.word {
-            Word::Push | Word::Insert | Word::Write | Word::MakeMut => one(self, call),
-            Word::Pop | Word::Remove => take(self, call),
-            Word::Extend | Word::ExtendEach | Word::Put => several(self, call),
-            Word::InsertSlice | Word::ReplaceRange => several(self, call),
-            _ => shorten(self, call),
-        }
-    }
-
-    fn snapshot(&self) -> Snapshot {
-        Snapshot::of(self.as_slice(), self.is_inline(), self.capacity())
-    }
-
-    fn into_vector(self) -> Result<EcoVec<u8>, Rejected<Self>> {
-        self.into_eco_vec()
-    }
-
-    fn repeated(&self, count: usize) -> Result<Self, EcoError> {
-        self.repeat(count)
-    }
-}
-
-/// A call that is handed a byte.
-fn one<const N: usize>(bytes: &mut SmallBytes<N>, call: &SmallCall) -> Result<bool, EcoError> {
-    let start = call.step.start;
-    match call.step.word {
-        Word::Push => bytes.push(46)?,
-        Word::Insert if start <= bytes.len() => bytes.insert(start, 46)?,
-        Word::Write if start < bytes.len() => bytes.set(start, 46)?,
-        Word::MakeMut => {
-            let places = bytes.make_mut()?;
-            if let Some(place) = places.get_mut(0) {
-                *place = 46;
-            }
-        }
-        _ => return Ok(false),
-    }
-    Ok(true)
-}
-
-/// A call that answers what it takes out.
-fn take<const N: usize>(bytes: &mut SmallBytes<N>, call: &SmallCall) -> Result<bool, EcoError> {
-    let removed = SmallBytes::<N>::letters(call.state.len).part(call.change.start, call.change.end);
-    match call.step.word {
-        Word::Pop => match bytes.pop()? {
-            Some(byte) => Ok(removed.is_bytes(&[byte])),
-            None => Ok(removed.is_bytes(&[])),
-        },
-        _ if call.step.start < bytes.len() => {
-            let byte = bytes.remove(call.step.start)?;
-            Ok(removed.is_bytes(&[byte]))
-        }
-        _ => Ok(false),
-    }
-}
-
-fn several<const N: usize>(bytes: &mut SmallBytes<N>, call: &SmallCall) -> Result<bool, EcoError> {
-    let given = first(&ADDED, call.change.count);
-    match call.step.word {
-        Word::Extend => bytes.extend_from_slice(given)?,
-        Word::ExtendEach => bytes.extend(given.iter().copied())?,
-        Word::InsertSlice if call.step.start <= bytes.len() => {
-            bytes.insert_slice(call.step.start, given)?
-        }
-        Word::ReplaceRange if range_in(&(call.step.start..call.step.end), bytes.len()) => {
-            bytes.replace_range(call.step.start..call.step.end, given)?
-        }
-        Word::Put => {
-            return match bytes.write(given) {
-                Ok(count) => Ok(count == given.len()),
-                Err(_) => Err(EcoError::Memory),
-            };
-        }
-        _ => return Ok(false),
-    }
-    Ok(true)
-}
-
-fn shorten<const N: usize>(bytes: &mut SmallBytes<N>, call: &SmallCall) -> Result<bool, EcoError> {
-    match call.step.word {
-        Word::Truncate => bytes.truncate(call.step.start)?,
-        Word::Rewrite => {
-            let kept = call.step.start;
-            bytes.rewrite(|_| kept)?;
-        }
-        Word::Clear => bytes.clear(),
-        Word::Shrink => bytes.shrink_to_fit(),
-        Word::Reserve => bytes.reserve(call.step.count)?,
-        _ => return Ok(false),
-    }
-    Ok(true)
-}
-
-/// Whether bytes were made as they are to be, or for want of memory not at all.
-fn are_made<const N: usize>(
-    watch: &Watch,
-    made: Result<SmallBytes<N>, EcoError>,
-    want: &[u8],
-    inline: bool,
-) -> bool {
-    is_made(watch, made, Long::of_bytes(want).as_slice(), inline)
-}
-
-/// `none` names the type in which values are made: a proof knows then that they have a size.
-pub fn makers_hold<const N: usize>(alloc: Global, watch: &Watch, none: &SmallBytes<N>) -> bool {
-    let mut hold = arrays_hold(alloc, watch, none);
-    for len in [0, 1, N, N.saturating_add(1), N.saturating_add(9)] {
-        let (want, inline) = (first(&LETTERS, len), len <= N);
-        let copied = SmallBytes::<N>::from_slice(alloc, want);
-        let iterated = SmallBytes::<N>::from_iter(alloc, want.iter().copied());
-        let empty = SmallBytes::<N>::with_capacity(alloc, len);
-        hold = are_made(watch, copied, want, inline)
-            && are_made(watch, iterated, want, inline)
-            && are_made(watch, empty, &[], inline)
-            && handed_hold(alloc, watch, none, want)
-            && hold;
-    }
-    hold
-}
-
-fn arrays_hold<const N: usize>(alloc: Global, watch: &Watch, _none: &SmallBytes<N>) -> bool {
-    let letters = b"abcdefghijklmnopqrstuvwxyz";
-    let few = SmallBytes::<N>::from_array(alloc, *b"ab");
-    let many = SmallBytes::<N>::from_array(alloc, *letters);
-    are_made(watch, few, b"ab", N >= 2) && are_made(watch, many, letters, N >= 26)
-}
-
-/// Of bytes that are handed over, of which those of a `Vec` come back where it is refused.
-fn handed_hold<const N: usize>(
+/// Bytes that a call is given, in each form that one takes. As an iterator it gives them in order,
+/// and counts how often it is asked. Its hint is of no use.
+#[derive(Drop)]
+pub struct Gift {
     alloc: Global,
-    watch: &Watch,
-    _none: &SmallBytes<N>,
-    want: &[u8],
-) -> bool {
-    let inline = want.len() <= N;
-    let collected = match want.iter().copied().collect::<SmallBytes<N>>(alloc) {
-        Ok(bytes) => Ok(bytes),
-        Err(_) => Err(EcoError::Memory),
-    };
-    let hold = are_made(watch, collected, want, inline);
-    let Ok(vec) = Vec::from_clones(alloc, want) else {
-        return watch.may_refuse() && hold;
-    };
-    match SmallBytes::<N>::from_vec(alloc, vec) {
-        Ok(bytes) => are_made(watch, Ok(bytes), want, inline) && hold,
-        Err(rejected) => {
-            rejected.value.as_slice() == want
-                && are_made::<N>(watch, Err(rejected.error), want, inline)
-                && hold
+    bytes: Vec<u8>,
+    list: EcoVec<u8>,
+    next: usize,
+    left: usize,
+    asked: usize,
+    is_hint_asked: Cell<bool>,
+}
+
+impl Iterator for &mut Gift {
+    type Item = u8;
+
+    ghost remaining = { λ it. at_most it.now.left };
+
+    fn next(&mut self) -> Option<u8> {
+        self.asked = self.asked.wrapping_add(1);
+        if self.left == 0 {
+            return None;
         }
+        self.left -= 1;
+        let byte = self.bytes.as_slice().get(self.next).copied();
+        self.next = self.next.wrapping_add(1);
+        byte
+    }
+
+    fn size_hint(&self) -> (usize, Option<usize>) {
+        self.is_hint_asked.set(true);
+        (0, None)
     }
 }
 
-/// What is made of bytes in each state, which stay as they are.
-pub fn derived_hold<const N: usize>(alloc: Global, watch: &Watch, _none: &SmallBytes<N>) -> bool {
-    let mut hold = true;
-    for state in states(N) {
-        let Ok(bytes) = SmallBytes::<N>::made(alloc, state) else {
-            return state.spilled && watch.may_refuse() && hold;
-        };
-        hold = repeated_hold(watch, &bytes) && hold;
-        hold = match bytes.to_vec() {
-            Ok(copy) => copy.as_slice() == first(&LETTERS, state.len),
-            Err(error) => error == EcoError::Memory && state.len > 0 && watch.may_refuse(),
-        } && hold;
-        hold = into_holds(watch, state, bytes) && hold;
+/// Where the bytes of a value stand that a call asks for again.
+fn number_at(place: usize, first: u8, count: usize) -> i64 {
+    let shift = place.checked_rem(count).unwrap_or(0);
+    i64::from(first).wrapping_add(i64::try_from(shift).unwrap_or(0))
+}
+
+/// A letter: those of a plain value are an A and then b alone.
+pub(crate) fn letter_at(is_plain: bool, place: usize) -> i64 {
+    match (is_plain, place) {
+        (true, 0) => 65,
+        (true, _) => 98,
+        (false, _) => number_at(place, b'a', 26),
     }
-    hold
+}
+
+fn byte_of(number: i64) -> u8 {
+    u8::try_from(number).unwrap_or(0)
+}
+
+pub(crate) fn letters<V: Value>(alloc: Global, state: &State) -> Result<Vec<u8>, AllocError> {
+    let mut bytes = Vec::with_capacity(alloc, state.len)?;
+    for place in 0..state.len {
+        bytes.push(byte_of(V::letter(state, place)))?;
+    }
+    Ok(bytes)
+}
+
+/// How many bytes a call is given.
+pub(crate) fn gift_len(row: &Row) -> usize {
+    match row.call {
+        Call::Truncate | Call::Reserve | Call::Rewrite | Call::Repeat | Call::WithCapacity => 0,
+        _ => row.count,
+    }
+}
+
+pub(crate) fn given<V: Value>(alloc: Global, row: &Row) -> Result<Vec<u8>, AllocError> {
+    let len = gift_len(row);
+    let mut bytes = Vec::with_capacity(alloc, len)?;
+    for place in 0..len {
+        bytes.push(byte_of(V::given(row, place)))?;
+    }
+    Ok(bytes)
+}
+
+/// The letters in a block with so much room.
+pub(crate) fn block_of(alloc: Global, letters: &[u8], room: usize) -> Result<EcoVec<u8>, EcoError> {
+    let mut list = EcoVec::with_capacity(alloc, room)?;
+    list.extend_from_slice(letters)?;
+    Ok(list)
+}
+
+fn read<const N: usize>(value: &SmallBytes<N>) {
+    let _seen = value.as_slice().len() == value.len() && value.is_empty();
+    let _room = value.capacity() > 0 && value.is_inline();
+    compare(value, value);
+}
+
+/// Makes a call that takes bytes out.
+fn take<const N: usize>(value: &mut SmallBytes<N>, row: &Row) -> Result<Option<u8>, EcoError> {
+    let start = row.start_in(value.len());
+    match row.call {
+        Call::Pop => value.pop(),
+        Call::Remove if start < value.len() => value.remove(start).map(|byte| Some(byte)),
+        _ => Err(EcoError::Capacity),
+    }
+}
+
+/// Makes a call that adds no bytes.
+fn settle<const N: usize>(value: &mut SmallBytes<N>, row: &Row) -> Result<(), EcoError> {
+    match row.call {
+        Call::Truncate => value.truncate(row.count)?,
+        Call::Reserve => value.reserve(row.count)?,
+        Call::MakeMut => value.make_mut()?.reverse(),
+        Call::Rewrite => value.rewrite(|bytes| {
+            bytes.reverse();
+            row.count
+        })?,
+        Call::Clear => value.clear(),
+        Call::ShrinkToFit => value.shrink_to_fit(),
+        Call::Read => read(value),
+        _ => return Err(EcoError::Capacity),
+    }
+    Ok(())
+}
+
+fn write<const N: usize>(value: &mut SmallBytes<N>, bytes: &[u8]) -> Result<(), EcoError> {
+    match value.write(bytes) {
+        Ok(count) if count == bytes.len() => Ok(()),
+        Ok(_) => Err(EcoError::Capacity),
+        Err(_) => Err(EcoError::Memory),
+    }
+}
+
+fn push_reserved<const N: usize>(value: &mut SmallBytes<N>, byte: u8) -> Result<(), EcoError> {
+    value.reserve(1)?;
+    value.push(byte)
+}
+
+/// Makes a call that adds a byte.
+fn put<const N: usize>(value: &mut SmallBytes<N>, row: &Row, byte: u8) -> Result<(), EcoError> {
+    let start = row.start_in(value.len());
+    match row.call {
+        Call::Push => value.push(byte),
+        Call::PushReserved => push_reserved(value, byte),
+        Call::Insert => value.insert(start, byte),
+        Call::Set if start < value.len() => value.set(start, byte),
+        _ => Err(EcoError::Capacity),
+    }
+}
+
+/// Makes a call that adds bytes of a slice.
+fn add<const N: usize>(value: &mut SmallBytes<N>, row: &Row, bytes: &[u8]) -> Result<(), EcoError> {
+    let (start, end) = (row.start_in(value.len()), row.end_in(value.len()));
+    match row.call {
+        Call::ExtendFromSlice => value.extend_from_slice(bytes),
+        Call::InsertSlice => value.insert_slice(start, bytes),
+        Call::ReplaceRange if range_in(&(start..end), value.len()) => {
+            value.replace_range(start..end, bytes)
+        }
+        Call::Write => write(value, bytes),
+        _ => Err(EcoError::Capacity),
+    }
+}
+
+/// Bytes of the vector take the value's place; where there is none, it is there as before.
+fn give<const N: usize>(value: &mut SmallBytes<N>, alloc: Global) -> Result<(), EcoError> {
+    let whole = mem::replace(value, SmallBytes::new(alloc));
+    match whole.into_eco_vec() {
+        Ok(list) => *value = SmallBytes::from(list),
+        Err(rejected) => {
+            *value = rejected.value;
+            return Err(rejected.error);
+        }
+    }
+    Ok(())
+}
+
+/// Bytes of an array of so many, or of `N`.
+fn from_array<const N: usize>(alloc: Global, bytes: Vec<u8>) -> Result<SmallBytes<N>, EcoError> {
+    if bytes.len() == 16 {
+        let array: [u8; 16] = bytes.try_into().unwrap();
+        return SmallBytes::from_array(alloc, array);
+    }
+    if bytes.len() == 1000 {
+        let array: [u8; 1000] = bytes.try_into().unwrap();
+        return SmallBytes::from_array(alloc, array);
+    }
+    if bytes.len() != N {
+        return Err(EcoError::Capacity);
+    }
+    let array: [u8; N] = bytes.try_into().unwrap();
+    SmallBytes::from_array(alloc, array)
+}
+
+/// A refused `Vec` comes back.
+fn error_of_vec(rejected: Rejected<Vec<u8>>, row: &Row) -> EcoError {
+    if rejected.value.len() == row.count {
+        rejected.error
+    } else {
+        EcoError::Capacity
+    }
+}
+
+impl<const N: usize> Value for SmallBytes<N> {
+    type Source = ();
+
+    type Gift = Gift;
+
+    type Out = Option<u8>;
+
+    type Block = EcoVec<u8>;
+
+    fn limit() -> Option<usize> {
+        Some(N)
+    }
+
+    fn is_text() -> bool {
+        false
+    }
+
+    fn is_plain() -> bool {
+        true
+    }
+
+    fn counts(_source: &()) -> Option<(u64, u64)> {
+        None
+    }
+
+    fn owner(role: Role, _row: &Row) -> &'static str {
+        match role {
+            Role::Make if N == 15 => "EcoBytes",
+            Role::Make => "SmallBytes",
+            _ => "b.",
+        }
+    }
+
+    fn letter(state: &State, place: usize) -> i64 {
+        letter_at(state.is_plain, place)
+    }
+
+    fn given(_row: &Row, place: usize) -> i64 {
+        number_at(place, b'.', 12)
+    }
+
+    fn made(alloc: Global, _source: &(), state: &State) -> Result<Self, EcoError> {
+        let letters = letters::<Self>(alloc, state)?;
+        match state.room {
+            None => SmallBytes::from_slice(alloc, letters.as_slice()),
+            Some(room) => Ok(SmallBytes::from(block_of(alloc, letters.as_slice(), room)?)),
+        }
+    }
+
+    fn gift(alloc: Global, _source: &(), row: &Row) -> Result<Gift, AllocError> {
+        let bytes = given::<Self>(alloc, row)?;
+        let mut list = EcoVec::new(alloc);
+        if row.call == Call::FromEcoVec && list.extend_from_slice(bytes.as_slice()).is_err() {
+            return Err(AllocError);
+        }
+        Ok(Gift {
+            alloc,
+            bytes,
+            list,
+            next: 0,
+            left: 0,
+            asked: 0,
+            is_hint_asked: Cell::new(false),
+        })
+    }
+
+    fn change(&mut self, row: &Row, gift: &mut Gift) -> Result<Option<u8>, EcoError> {
+        gift.left = row.count;
+        gift.next = 0;
+        match row.call {
+            Call::Push | Call::PushReserved | Call::Insert | Call::Set => {
+                put(
+                    self,
+                    row,
+                    gift.bytes.as_slice().first().copied().unwrap_or(0),
+                )?
+            }
+            Call::ExtendFromSlice | Call::InsertSlice | Call::ReplaceRange | Call::Write => {
+                add(self, row, gift.bytes.as_slice())?
+            }
+            Call::Extend => self.extend(gift)?,
+            Call::Pop | Call::Remove => return take(self, row),
+            Call::IntoEcoVec => give(self, gift.alloc)?,
+            _ => settle(self, row)?,
+        }
+        Ok(None)
+    }
+
+    fn derive(&self, row: &Row) -> Result<Option<Self>, EcoError> {
+        match row.call {
+            Call::ToStd => {
+                let copy = self.to_vec()?;
+                if copy.as_slice() != self.as_slice() {
+                    return Err(EcoError::Capacity);
+                }
+                Ok(None)
+            }
+            Call::Repeat => self.repeat(row.count).map(|copy| Some(copy)),
+            _ => or_memory(self.clone()).map(|copy| Some(copy)),
+        }
+    }
+
+    fn make(row: &Row, gift: &mut Gift) -> Result<Self, EcoError> {
+        let alloc = gift.alloc;
+        gift.left = row.count;
+        match row.call {
+            Call::Inline if gift.bytes.len() <= N => {
+                Ok(SmallBytes::inline(alloc, gift.bytes.as_slice()))
+            }
+            Call::TryInline => match SmallBytes::try_inline(alloc, gift.bytes.as_slice()) {
+                Some(value) => Ok(value),
+                None => Err(EcoError::Capacity),
+            },
+            Call::WithCapacity => SmallBytes::with_capacity(alloc, row.count),
+            Call::FromSlice => SmallBytes::from_slice(alloc, gift.bytes.as_slice()),
+            Call::FromArray => from_array(alloc, mem::replace(&mut gift.bytes, Vec::new(alloc))),
+            Call::FromVec => {
+                SmallBytes::from_vec(alloc, mem::replace(&mut gift.bytes, Vec::new(alloc))).map_err(
+                    |rejected| error_of_vec(rejected, row),
+                )
+            }
+            Call::FromIter => SmallBytes::from_iter(alloc, gift),
+            Call::Collect => or_memory(gift.collect(alloc)),
+            Call::FromEcoVec => {
+                Ok(SmallBytes::from(mem::replace(&mut gift.list, EcoVec::new(alloc))))
+            }
+            _ => Ok(SmallBytes::new(alloc)),
+        }
+    }
+
+    fn len(&self) -> usize {
+        SmallBytes::len(self)
+    }
+
+    fn capacity(&self) -> usize {
+        SmallBytes::capacity(self)
+    }
+
+    fn is_inline(&self) -> bool {
+        SmallBytes::is_inline(self)
+    }
+
+    fn item(&self, place: usize) -> Option<i64> {
+        self.as_slice().get(place).map(|byte| i64::from(*byte))
+    }
+
+    fn handed(out: &Option<u8>, place: usize) -> Option<i64> {
+        match out {
+            Some(byte) if place == 0 => Some(i64::from(*byte)),
+            _ => None,
+        }
+    }
+
+    fn asked(gift: &Gift) -> Asked {
+        if gift.is_hint_asked.get() {
+            Asked::ForHint
+        } else {
+            Asked::ForItems(gift.asked)
+        }
+    }
+
+    fn into_block(self) -> Option<EcoVec<u8>> {
+        if self.is_inline() {
+            return None;
+        }
+        self.into_eco_vec().ok()
+    }
+
+    fn is_sole(block: &mut EcoVec<u8>) -> bool {
+        block.is_unique()
+    }
 }

@@ -57,7 +57,13 @@ impl Tally {
 
     /// An element that counts here.
     pub fn element(&self) -> Result<Counting, AllocError> {
+        self.numbered(0)
+    }
+
+    /// An element that counts here, with a number.
+    pub fn numbered(&self, number: i64) -> Result<Counting, AllocError> {
         Ok(Counting {
+            number,
             counts: self.counts.clone()?,
         })
     }
@@ -79,6 +85,7 @@ impl Tally {
 
 /// An element that counts its clones and its drop.
 pub struct Counting {
+    pub number: i64,
     counts: Rc<Counts>,
 }
 
@@ -90,6 +97,7 @@ impl Clone for Counting {
             return Err(AllocError);
         }
         Ok(Counting {
+            number: self.number,
             counts: self.counts.clone()?,
         })
     }
@@ -97,7 +105,10 @@ impl Clone for Counting {
 
 impl Drop for Counting {
     fn drop(self) {
-        let Counting { counts } = self;
+        let Counting {
+            counts,
+            number: _number,
+        } = self;
         counts.drops.set(counts.drops.get().wrapping_add(1));
     }
 }

@@ -1,27 +1,88 @@
-//! Elements whose clones take no memory, and such that do.
-use crate::short::Short;
-use crate::steps::{Step, Word};
-use ecow_list::{EcoError, EcoVec, IntoArray, range_in};
+//! Elements of vectors: numbers, bytes, such whose clones take memory, and such that count.
+use crate::calls::{Call, Row};
+use crate::counting::{Counting, Tally};
+use ecow_list::{EcoError, EcoVec, IntoArray, Rejected, range_in};
 use std::alloc::{AllocError, Global};
+use std::hash::{DefaultHasher, Hash};
+use std::io::Write;
 
 /// An element that is known by a number.
 pub trait Element: Clone + Drop {
-    fn of(alloc: Global, number: i64) -> Result<Self, AllocError>;
+    /// What it is made of, beside memory.
+    type Source: Drop;
+
+    /// Five elements, or a thousand.
+    type Array: Drop;
+
+    fn of(alloc: Global, source: &Self::Source, number: i64) -> Result<Self, AllocError>;
 
     fn number(&self) -> i64;
+
+    /// The number of an element that is made of this one.
+    fn shown(number: i64) -> i64;
 
     /// Whether a clone is a copy, which takes no memory.
     fn is_plain() -> bool;
 
-    /// The numbers of the array that four elements make.
-    fn array_of(list: EcoVec<Self>) -> Result<Short, IntoArray<Self>>;
+    /// How often elements were cloned so far, and how often dropped, where that is counted.
+    fn counts(source: &Self::Source) -> Option<(u64, u64)>;
 
-    /// A call that takes elements as memory. Answers whether it did what it is to do.
-    fn take_copied(list: &mut EcoVec<Self>, step: Step, given: &[Self]) -> Result<bool, EcoError>;
+    fn into_array(list: EcoVec<Self>) -> Result<Self::Array, IntoArray<Self>>;
+
+    fn in_array(array: &Self::Array, place: usize) -> Option<i64>;
+
+    fn from_array(alloc: Global, elements: Vec<Self>) -> Result<EcoVec<Self>, EcoError>;
+
+    /// Makes a vector by a call that takes elements as memory.
+    fn from_copied(alloc: Global, elements: &[Self]) -> Result<EcoVec<Self>, EcoError>;
+
+    /// Makes a call that takes elements as memory, or compares them.
+    fn copy(list: &mut EcoVec<Self>, row: &Row, given: &[Self]) -> Result<(), EcoError>;
+}
+
+/// Why a value came back. It is let go.
+pub fn error_of<V: Drop>(rejected: Rejected<V>) -> EcoError {
+    rejected.error
+}
+
+/// What a call made that only memory refuses.
+pub fn or_memory<V>(value: Result<V, AllocError>) -> Result<V, EcoError> {
+    match value {
+        Ok(value) => Ok(value),
+        Err(error) => Err(error.into()),
+    }
+}
+
+/// Compares a value, and hashes it.
+pub fn compare<V: Ord + Hash>(value: &V, other: &V) {
+    let _equal = value == other;
+    let _order = value.cmp(other);
+    let mut hasher = DefaultHasher::new();
+    value.hash(&mut hasher);
+}
+
+/// A call that takes elements of a slice as memory.
+fn copied<T: Copy>(list: &mut EcoVec<T>, row: &Row, given: &[T]) -> Result<(), EcoError> {
+    let (start, end) = (row.start_in(list.len()), row.end_in(list.len()));
+    match row.call {
+        Call::ExtendFromCopied => list.extend_from_copied(given),
+        Call::InsertSlice => list.insert_slice(start, given),
+        Call::ExtendFromWithin if range_in(&(start..end), list.len()) => {
+            list.extend_from_within(start..end)
+        }
+        Call::ReplaceRange if range_in(&(start..end), list.len()) => {
+            list.replace_range(start..end, given)
+        }
+        _ => Err(EcoError::Capacity),
+    }
 }
 
 impl Element for i64 {
-    fn of(_alloc: Global, number: i64) -> Result<Self, AllocError> {
+    type Source = ();
+
+    type Array = [i64; 5];
+
+    fn of(_alloc: Global, _source: &(), number: i64) -> Result<Self, AllocError> {
         Ok(number)
     }
 
@@ -29,32 +90,105 @@ impl Element for i64 {
         *self
     }
 
+    fn shown(number: i64) -> i64 {
+        number
+    }
+
     fn is_plain() -> bool {
         true
     }
 
-    fn array_of(list: EcoVec<i64>) -> Result<Short, IntoArray<i64>> {
-        match list.into_array::<4>() {
-            Ok(array) => Ok(Short::of(array.as_slice())),
-            Err(error) => Err(error),
+    fn counts(_source: &()) -> Option<(u64, u64)> {
+        None
+    }
+
+    fn into_array(list: EcoVec<i64>) -> Result<[i64; 5], IntoArray<i64>> {
+        list.into_array::<5>()
+    }
+
+    fn in_array(array: &[i64; 5], place: usize) -> Option<i64> {
+        array.get(place).copied()
+    }
+
+    fn from_array(alloc: Global, elements: Vec<i64>) -> Result<EcoVec<i64>, EcoError> {
+        match elements.try_into() {
+            Ok(array) => {
+                let array: [i64; 5] = array;
+                EcoVec::from_array(alloc, array).map_err(error_of)
+            }
+            Err(_) => EcoVec::from_array(alloc, []).map_err(error_of),
         }
     }
 
-    fn take_copied(list: &mut EcoVec<i64>, step: Step, given: &[i64]) -> Result<bool, EcoError> {
-        match step.word {
-            Word::ExtendCopied => list.extend_from_copied(given)?,
-            Word::InsertSlice if step.start <= list.len() => {
-                list.insert_slice(step.start, given)?
+    fn from_copied(alloc: Global, elements: &[i64]) -> Result<EcoVec<i64>, EcoError> {
+        EcoVec::from_copied(alloc, elements)
+    }
+
+    fn copy(list: &mut EcoVec<i64>, row: &Row, given: &[i64]) -> Result<(), EcoError> {
+        copied(list, row, given)
+    }
+}
+
+impl Element for u8 {
+    type Source = ();
+
+    type Array = [u8; 5];
+
+    fn of(_alloc: Global, _source: &(), number: i64) -> Result<Self, AllocError> {
+        Ok(u8::try_from(number.wrapping_rem(256)).unwrap_or(0))
+    }
+
+    fn number(&self) -> i64 {
+        i64::from(*self)
+    }
+
+    fn shown(number: i64) -> i64 {
+        number.wrapping_rem(256)
+    }
+
+    fn is_plain() -> bool {
+        true
+    }
+
+    fn counts(_source: &()) -> Option<(u64, u64)> {
+        None
+    }
+
+    fn into_array(list: EcoVec<u8>) -> Result<[u8; 5], IntoArray<u8>> {
+        list.into_array::<5>()
+    }
+
+    fn in_array(array: &[u8; 5], place: usize) -> Option<i64> {
+        array.get(place).map(|byte| i64::from(*byte))
+    }
+
+    fn from_array(alloc: Global, elements: Vec<u8>) -> Result<EcoVec<u8>, EcoError> {
+        match elements.try_into() {
+            Ok(array) => {
+                let array: [u8; 5] = array;
+                EcoVec::from_array(alloc, array).map_err(error_of)
             }
-            Word::ExtendWithin if range_in(&(step.start..step.end), list.len()) => {
-                list.extend_from_within(step.start..step.end)?
-            }
-            Word::ReplaceRange if range_in(&(step.start..step.end), list.len()) => {
-                list.replace_range(step.start..step.end, given)?
-            }
-            _ => return Ok(false),
+            Err(_) => EcoVec::from_array(alloc, []).map_err(error_of),
         }
-        Ok(true)
+    }
+
+    fn from_copied(alloc: Global, elements: &[u8]) -> Result<EcoVec<u8>, EcoError> {
+        EcoVec::from_copied(alloc, elements)
+    }
+
+    fn copy(list: &mut EcoVec<u8>, row: &Row, given: &[u8]) -> Result<(), EcoError> {
+        match row.call {
+            Call::Compare => {
+                compare(list, list);
+                Ok(())
+            }
+            Call::Write => match list.write(given) {
+                Ok(count) if count == given.len() => Ok(()),
+                Ok(_) => Err(EcoError::Capacity),
+                Err(_) => Err(EcoError::Memory),
+            },
+            _ => copied(list, row, given),
+        }
     }
 }
 
@@ -66,7 +200,11 @@ pub struct Named {
 }
 
 impl Element for Named {
-    fn of(alloc: Global, number: i64) -> Result<Self, AllocError> {
+    type Source = ();
+
+    type Array = [Named; 5];
+
+    fn of(alloc: Global, _source: &(), number: i64) -> Result<Self, AllocError> {
         Ok(Named {
             number,
             name: String::from_str(alloc, "an element")?,
@@ -81,47 +219,116 @@ impl Element for Named {
         }
     }
 
+    fn shown(number: i64) -> i64 {
+        number
+    }
+
     fn is_plain() -> bool {
         false
     }
 
-    fn array_of(list: EcoVec<Named>) -> Result<Short, IntoArray<Named>> {
-        match list.into_array::<4>() {
-            Ok(array) => Ok(numbers_of(array.as_slice())),
-            Err(error) => Err(error),
+    fn counts(_source: &()) -> Option<(u64, u64)> {
+        None
+    }
+
+    fn into_array(list: EcoVec<Named>) -> Result<[Named; 5], IntoArray<Named>> {
+        list.into_array::<5>()
+    }
+
+    fn in_array(array: &[Named; 5], place: usize) -> Option<i64> {
+        array.get(place).map(|element| element.number())
+    }
+
+    fn from_array(alloc: Global, elements: Vec<Named>) -> Result<EcoVec<Named>, EcoError> {
+        match elements.try_into() {
+            Ok(array) => {
+                let array: [Named; 5] = array;
+                EcoVec::from_array(alloc, array).map_err(error_of)
+            }
+            Err(_) => EcoVec::from_array(alloc, []).map_err(error_of),
         }
     }
 
-    fn take_copied(
-        _list: &mut EcoVec<Named>,
-        _step: Step,
-        _given: &[Named],
-    ) -> Result<bool, EcoError> {
-        Ok(false)
+    fn from_copied(_alloc: Global, _elements: &[Named]) -> Result<EcoVec<Named>, EcoError> {
+        Err(EcoError::Capacity)
+    }
+
+    fn copy(_list: &mut EcoVec<Named>, _row: &Row, _given: &[Named]) -> Result<(), EcoError> {
+        Err(EcoError::Capacity)
     }
 }
 
-fn numbers_of(elements: &[Named]) -> Short {
-    let mut numbers = Short::new();
-    for element in elements {
-        numbers.push(element.number);
-    }
-    numbers
+/// The arrays of elements that count.
+#[derive(Drop)]
+pub enum Counted {
+    Few([Counting; 5]),
+    Many([Counting; 1000]),
 }
 
-/// So many elements with numbers from `first` on.
-pub fn elements<T: Element>(alloc: Global, first: i64, count: usize) -> Result<Vec<T>, AllocError> {
-    let mut elements = Vec::new(alloc);
-    for number in Short::from(first, count).as_slice() {
-        elements.push(T::of(alloc, *number)?)?;
+impl Element for Counting {
+    type Source = Tally;
+
+    type Array = Counted;
+
+    fn of(_alloc: Global, tally: &Tally, number: i64) -> Result<Self, AllocError> {
+        tally.numbered(number)
     }
-    Ok(elements)
+
+    fn number(&self) -> i64 {
+        self.number
+    }
+
+    fn shown(number: i64) -> i64 {
+        number
+    }
+
+    fn is_plain() -> bool {
+        false
+    }
+
+    fn counts(tally: &Tally) -> Option<(u64, u64)> {
+        Some((tally.clones(), tally.drops()))
+    }
+
+    fn into_array(list: EcoVec<Counting>) -> Result<Counted, IntoArray<Counting>> {
+        if list.len() == 5 {
+            return list.into_array::<5>().map(|array| Counted::Few(array));
+        }
+        list.into_array::<1000>().map(|array| Counted::Many(array))
+    }
+
+    fn in_array(array: &Counted, place: usize) -> Option<i64> {
+        let element = match array {
+            Counted::Few(few) => few.get(place),
+            Counted::Many(many) => many.get(place),
+        };
+        element.map(|element| element.number)
+    }
+
+    fn from_array(alloc: Global, elements: Vec<Counting>) -> Result<EcoVec<Counting>, EcoError> {
+        match elements.len() {
+            0 => EcoVec::from_array(alloc, []).map_err(error_of),
+            5 => array_of::<5>(alloc, elements),
+            _ => array_of::<1000>(alloc, elements),
+        }
+    }
+
+    fn from_copied(_alloc: Global, _elements: &[Counting]) -> Result<EcoVec<Counting>, EcoError> {
+        Err(EcoError::Capacity)
+    }
+
+    fn copy(_list: &mut EcoVec<Counting>, _row: &Row, _given: &[Counting]) -> Result<(), EcoError> {
+        Err(EcoError::Capacity)
+    }
 }
 
-pub fn numbers<T: Element>(elements: &[T]) -> Short {
-    let mut numbers = Short::new();
-    for element in elements {
-        numbers.push(element.number());
+fn array_of<const N: usize>(
+    alloc: Global,
+    elements: Vec<Counting>,
+) -> Result<EcoVec<Counting>, EcoError> {
+    if elements.len() != N {
+        return Err(EcoError::Capacity);
     }
-    numbers
+    let elements: [Counting; N] = elements.try_into().unwrap();
+    EcoVec::from_array(alloc, elements).map_err(error_of)
 }

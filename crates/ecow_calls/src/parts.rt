@@ -54,7 +54,8 @@ pub fn run<P: Parts>(rt: &HostRuntime, names: &[&str]) -> io::Result<()> {
         if P::holds(part, rt.alloc(), &watch) && watch.is_kept() {
             println!(rt; "{name}: as before or done")?;
         } else {
-            println!(rt; "{name}: wrong")?;
+            let (call, state) = watch.wrong().unwrap_or(("", ""));
+            println!(rt; "{name}: wrong {call} {state}")?;
         }
     }
     Ok(())

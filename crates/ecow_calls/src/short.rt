@@ -1,5 +1,4 @@
 //! Short lists that take no memory.
-use crate::steps::Edit;
 
 /// A list of at most `M` numbers. It takes no memory, so that it is there where memory is refused.
 #[derive(Clone, Copy)]
@@ -79,11 +78,11 @@ impl<const M: usize> List<M> {
         }
     }
 
-    /// The list with other numbers in place of a part.
-    pub fn replaced(&self, change: Edit, added: &Self) -> Self {
-        let mut list = self.part(0, change.start);
+    /// The list with other numbers in place of those from `start` up to `end`.
+    pub fn replaced(&self, start: usize, end: usize, added: &Self) -> Self {
+        let mut list = self.part(0, start);
         list.append(added.as_slice());
-        list.append(self.part(change.end, self.len).as_slice());
+        list.append(self.part(end, self.len).as_slice());
         list
     }
 

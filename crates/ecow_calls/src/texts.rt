@@ -2,183 +2,79 @@
 ghost use Rattle.std.specs.Prelude.{◌≡◌, ◌≤◌, true, IsTrue};
 ghost use Rattle.ecow_values.specs.Utf8.{is_boundary, utf8_len};
 
-use crate::short::Long;
-use crate::small::{
-    Small, SmallCall, SmallState, Snapshot, into_holds, is_made, repeated_hold, states,
-};
-use crate::steps::{Edit, Row, Word};
-use crate::watch::Watch;
+use crate::bytes::{block_of, given, letter_at, letters};
+use crate::calls::{Call, LAST, Role, Row};
+use crate::elements::{compare, or_memory};
+use crate::states::State;
+use crate::value::{Asked, Value};
+use ecow_bytes::SmallBytes;
 use ecow_list::{EcoError, EcoVec, Rejected};
 use ecow_string::SmallText;
-use std::alloc::Global;
+use std::alloc::{AllocError, Global};
 use std::fmt::Write;
+use std::iter::repeat_n;
+use std::{fmt, mem};
 
-const LETTERS: &str = "abécdefghijklmnopqrstuvwxyz{|}~{|}~{|}~\
-    bcdefghijklmnopqrstuvwxyz{|}~{|}~{|}~{|}\
-    bcdefghijklmnopqrstuvwxyz{|}~{|}~{|}~{|}\
-    bcdefghijklmnopqrstuvwxyz{|}~{|}~{|}~{|}\
-    bcdefghijklmnopqrstuvwxyz{|}~{|}~{|}~{|}\
-    bcdefghijklmnopqrstuvwxyz{|}~{|}~{|}~{|}\
-    bcdefghijklmnopqrstuvwxyz{|}~{|}~{|}~{|}";
+/// A text that a call is given, and two texts where it takes such.
+#[derive(Drop)]
+pub struct Gift<const N: usize> {
+    alloc: Global,
+    text: String,
+    texts: Vec<SmallText<N>>,
+}
 
-const FEW: &str = "abcd";
+/// What a call answers that took a character out.
+type Out = Option<char>;
 
-const DOTS: &str = "............";
+/// Two bytes, or four, of the one character that they are.
+const TWO: &str = "é";
 
-pub const STEPS: [Row; 16] = [
-    (Word::Push, &[(0, 0, 1), (0, 0, 4)]),
-    (Word::Insert, &[(0, 0, 1), (2, 2, 1), (2, 2, 4)]),
-    (Word::Pop, &[(0, 0, 0)]),
-    (Word::Remove, &[(0, 1, 0), (2, 4, 0)]),
-    (
-        Word::Truncate,
-        &[(0, 0, 0), (2, 0, 0), (4, 0, 0), (100, 0, 0)],
-    ),
-    (Word::Clear, &[(0, 0, 0)]),
-    (Word::Shrink, &[(0, 0, 0)]),
-    (Word::Upper, &[(0, 0, 0)]),
-    (Word::Lower, &[(0, 0, 0)]),
-    (
-        Word::Reserve,
-        &[(0, 0, 0), (0, 0, 1), (0, 0, 2), (0, 0, 20)],
-    ),
-    (Word::Extend, &[(0, 0, 0), (0, 0, 1), (0, 0, 4), (0, 0, 12)]),
-    (Word::ExtendEach, &[(0, 0, 0), (0, 0, 1), (0, 0, 12)]),
-    (Word::ExtendPieces, &[(0, 0, 0), (0, 0, 2), (0, 0, 12)]),
-    (Word::Put, &[(0, 0, 0), (0, 0, 1), (0, 0, 12)]),
-    (
-        Word::InsertSlice,
-        &[
-            (0, 0, 0),
-            (0, 0, 1),
-            (2, 2, 1),
-            (2, 2, 4),
-            (0, 0, 12),
-            (2, 2, 12),
-        ],
-    ),
-    (
-        Word::ReplaceRange,
-        &[
-            (0, 0, 0),
-            (0, 0, 1),
-            (0, 1, 1),
-            (2, 4, 4),
-            (2, 4, 1),
-            (0, 2, 12),
-        ],
-    ),
-];
+const FOUR: &str = "😀";
 
-/// So many bytes of letters; from five on one letter has two.
-pub fn letters(len: usize) -> &'static str {
-    let letters = if len < 5 { FEW } else { LETTERS };
-    match letters.get(..len) {
-        Some(text) => text,
-        None => "",
+fn byte_at(text: &str, place: usize) -> i64 {
+    i64::from(text.as_bytes().get(place).copied().unwrap_or(0))
+}
+
+/// Whether a call is given one character.
+fn is_given_a_char(row: &Row) -> bool {
+    matches!(row.call, Call::Push | Call::PushReserved | Call::Insert)
+}
+
+/// Whether a text of four bytes is given as one character.
+fn may_be_given_a_char(row: &Row) -> bool {
+    match row.call {
+        Call::Extend | Call::ExtendStrs | Call::ExtendHalves | Call::ExtendManyStrs(_) => false,
+        Call::FromIter | Call::Collect | Call::FromStrs | Call::FromManyStrs(_) => false,
+        _ => true,
     }
 }
 
-/// So many bytes: four are one character.
-pub fn added(count: usize) -> &'static str {
-    if count == 4 {
-        return "😀";
-    }
-    match DOTS.get(..count) {
-        Some(text) => text,
-        None => "",
+fn string_of(bytes: Vec<u8>) -> Result<String, AllocError> {
+    match String::from_utf8(bytes) {
+        Ok(text) => Ok(text),
+        Err(_) => Err(AllocError),
     }
 }
 
-/// The character that `added` gives for so many bytes.
-pub fn character(count: usize) -> char {
-    if count == 4 { '😀' } else { '.' }
+fn read<const N: usize>(text: &SmallText<N>) {
+    let _seen = text.as_str().len() == text.len() && text.is_empty();
+    let _room = text.capacity() > 0 && text.is_inline() && text.is_char_boundary(0);
+    compare(text, text);
 }
 
-impl<const N: usize> Small for SmallText<N> {
-    fn limit() -> usize {
-        N
-    }
-
-    fn letters(len: usize) -> Long {
-        Long::of_bytes(letters(len).as_bytes())
-    }
-
-    fn added(count: usize) -> Long {
-        Long::of_bytes(added(count).as_bytes())
-    }
-
-    fn made(alloc: Global, state: SmallState) -> Result<Self, EcoError> {
-        let text = letters(state.len);
-        if !state.spilled {
-            return SmallText::from_str(alloc, text);
-        }
-        let mut vector = EcoVec::with_capacity(alloc, state.room)?;
-        vector.extend_from_slice(text.as_bytes())?;
-        match SmallText::try_from(vector) {
-            Ok(text) => Ok(text),
-            Err(_) => Err(EcoError::Capacity),
-        }
-    }
-
-    fn call(&mut self, call: &SmallCall) -> Result<bool, EcoError> {
-        match call.step.word {
-            Word::Push | Word::Insert => one(self, call),
-            Word::Pop | Word::Remove => take(self, call),
-            Word::Extend | Word::Put | Word::InsertSlice | Word::ReplaceRange => several(
-                self, call,
-            ),
-            Word::ExtendEach | Word::ExtendPieces => pieces(self, call),
-            _ => shorten(self, call),
-        }
-    }
-
-    fn snapshot(&self) -> Snapshot {
-        Snapshot::of(self.as_str().as_bytes(), self.is_inline(), self.capacity())
-    }
-
-    fn into_vector(self) -> Result<EcoVec<u8>, Rejected<Self>> {
-        self.into_eco_vec()
-    }
-
-    fn repeated(&self, count: usize) -> Result<Self, EcoError> {
-        self.repeat(count)
-    }
+fn push_reserved<const N: usize>(text: &mut SmallText<N>, c: char) -> Result<(), EcoError> {
+    text.reserve(1)?;
+    text.push(c)
 }
 
-/// A call that is handed a character.
-fn one<const N: usize>(text: &mut SmallText<N>, call: &SmallCall) -> Result<bool, EcoError> {
-    let (start, c) = (call.step.start, character(call.change.count));
-    match call.step.word {
-        Word::Push => text.push(c)?,
-        Word::Insert if text.is_char_boundary(start) => text.insert(start, c)?,
-        _ => return Ok(false),
-    }
-    Ok(true)
-}
-
-/// Whether a character is that whose bytes were to be taken.
-fn is_taken(c: char, call: &SmallCall) -> bool {
-    let width = call.change.end.saturating_sub(call.change.start);
-    let Some(rest) = letters(call.state.len).get(call.change.start..) else {
-        return false;
-    };
-    c.len_utf8() == width && rest.chars().next() == Some(c)
-}
-
-/// A call that answers what it takes out.
-fn take<const N: usize>(text: &mut SmallText<N>, call: &SmallCall) -> Result<bool, EcoError> {
-    let start = call.step.start;
-    match call.step.word {
-        Word::Pop => match text.pop()? {
-            Some(c) => Ok(is_taken(c, call)),
-            None => Ok(call.state.len == 0),
-        },
-        _ if start < text.len() && text.is_char_boundary(start) => {
-            let c = text.remove(start)?;
-            Ok(is_taken(c, call))
-        }
-        _ => Ok(false),
+/// Makes a call that is given a character.
+fn put<const N: usize>(text: &mut SmallText<N>, row: &Row, c: char) -> Result<(), EcoError> {
+    let start = row.start_in(text.len());
+    match row.call {
+        Call::PushReserved => push_reserved(text, c),
+        Call::Insert if text.is_char_boundary(start) => text.insert(start, c),
+        Call::Push => text.push(c),
+        _ => Err(EcoError::Capacity),
     }
 }
 
@@ -191,286 +87,338 @@ fn has_part<const N: usize>(text: &SmallText<N>, start: usize, end: usize) -> bo
     start <= end && end <= text.len() && text.is_char_boundary(start) && text.is_char_boundary(end)
 }
 
-fn several<const N: usize>(text: &mut SmallText<N>, call: &SmallCall) -> Result<bool, EcoError> {
-    let (start, end) = (call.step.start, call.step.end);
-    let given = added(call.change.count);
-    match call.step.word {
-        Word::Extend => text.push_str(given)?,
-        Word::InsertSlice if text.is_char_boundary(start) => text.insert_str(start, given)?,
-        Word::ReplaceRange if has_part(text, start, end) => text.replace_range(start..end, given)?,
-        Word::Put => {
-            if text.write_str(given).is_err() {
-                return Err(EcoError::Memory);
-            }
-        }
-        _ => return Ok(false),
+fn write<const N: usize>(text: &mut SmallText<N>, more: &str) -> Result<(), EcoError> {
+    match text.write_str(more) {
+        Ok(()) => Ok(()),
+        Err(_) => Err(EcoError::Memory),
     }
-    Ok(true)
 }
 
-fn pieces<const N: usize>(text: &mut SmallText<N>, call: &SmallCall) -> Result<bool, EcoError> {
-    match call.step.word {
-        Word::ExtendEach => text.extend_chars(added(call.change.count).chars())?,
-        _ => {
-            let half = added(call.change.count / 2);
-            text.extend_strs([half, "", half])?
+/// The text with more behind it; where that is refused, it is there as before.
+fn sum<const N: usize>(text: &mut SmallText<N>, more: &str, alloc: Global) -> Result<(), EcoError> {
+    let whole = mem::replace(text, SmallText::new(alloc));
+    match whole.add(more) {
+        Ok(sum) => *text = sum,
+        Err(rejected) => {
+            *text = rejected.value;
+            return Err(rejected.error);
         }
     }
-    Ok(true)
+    Ok(())
 }
 
-fn shorten<const N: usize>(text: &mut SmallText<N>, call: &SmallCall) -> Result<bool, EcoError> {
-    match call.step.word {
-        Word::Truncate if text.is_char_boundary(call.step.start) => {
-            text.truncate(call.step.start)?
+/// Makes a call that adds a text.
+fn add<const N: usize>(text: &mut SmallText<N>, row: &Row, more: &str) -> Result<(), EcoError> {
+    let (start, end) = (row.start_in(text.len()), row.end_in(text.len()));
+    match row.call {
+        Call::ExtendFromSlice => text.push_str(more),
+        Call::InsertSlice if text.is_char_boundary(start) => text.insert_str(start, more),
+        Call::ReplaceRange if has_part(text, start, end) => text.replace_range(start..end, more),
+        Call::Write => write(text, more),
+        _ => extend(text, row, more),
+    }
+}
+
+/// Makes a call that adds the pieces of an iterator.
+fn extend<const N: usize>(text: &mut SmallText<N>, row: &Row, more: &str) -> Result<(), EcoError> {
+    match row.call {
+        Call::Extend => text.extend_chars(more.chars()),
+        Call::ExtendStrs => text.extend_strs(Some(more)),
+        Call::ExtendHalves => {
+            let half = more.get(..more.len() / 2).unwrap_or("");
+            text.extend_strs([half, "", half])
         }
-        Word::Truncate if call.step.start > text.len() => text.truncate(call.step.start)?,
-        Word::Clear => text.clear(),
-        Word::Shrink => text.shrink_to_fit(),
-        Word::Reserve => text.reserve(call.step.count)?,
-        Word::Upper => text.make_ascii_uppercase()?,
-        Word::Lower => text.make_ascii_lowercase()?,
-        _ => return Ok(false),
+        Call::ExtendManyStrs(times) => text.extend_strs(repeat_n(more, times)),
+        _ => Err(EcoError::Capacity),
     }
-    Ok(true)
 }
 
-/// `none` names the type in which values are made: a proof knows then that they have a size.
-pub fn makers_hold<const N: usize>(alloc: Global, watch: &Watch, none: &SmallText<N>) -> bool {
-    let mut hold = chars_hold(alloc, watch, none);
-    for len in [0, 1, N, N.saturating_add(1), N.saturating_add(9)] {
-        let (text, inline) = (letters(len), text_fits(len, N));
-        let bytes = SmallText::<N>::letters(len);
-        let want = bytes.as_slice();
-        let copied = SmallText::<N>::from_str(alloc, text);
-        let iterated = SmallText::<N>::from_chars(alloc, text.chars());
-        let collected = collected::<N>(alloc, text);
-        let joined = SmallText::<N>::from_strs(alloc, ["", text]);
-        let empty = SmallText::<N>::with_capacity(alloc, len);
-        hold = is_made(watch, copied, want, inline)
-            && is_made(watch, iterated, want, inline)
-            && is_made(watch, collected, want, inline)
-            && is_made(watch, joined, want, inline)
-            && is_made(watch, empty, &[], len <= N)
-            && joined_holds(alloc, watch, none, text)
-            && hold;
-        hold = match String::from_str(alloc, text) {
-            Ok(string) => { string_holds(watch, SmallText::<N>::from_string(alloc, string), text) }
-            Err(_) => watch.may_refuse(),
-        } && hold;
+/// Makes a call that takes a character out.
+fn take<const N: usize>(text: &mut SmallText<N>, row: &Row) -> Result<Out, EcoError> {
+    let start = row.start_in(text.len());
+    match row.call {
+        Call::Pop => text.pop(),
+        Call::Remove if start < text.len() && text.is_char_boundary(start) => {
+            text.remove(start).map(|c| Some(c))
+        }
+        _ => Err(EcoError::Capacity),
     }
-    hold
 }
 
-fn text_fits(len: usize, limit: usize) -> bool {
-    letters(len).len() <= limit
+fn truncate<const N: usize>(text: &mut SmallText<N>, len: usize) -> Result<(), EcoError> {
+    if len <= text.len() && !text.is_char_boundary(len) {
+        return Err(EcoError::Capacity);
+    }
+    text.truncate(len)
 }
 
-fn chars_hold<const N: usize>(alloc: Global, watch: &Watch, _none: &SmallText<N>) -> bool {
-    let four = SmallText::<N>::added(4);
-    let of_one = SmallText::<N>::from_char(alloc, 'a');
-    let of_two = SmallText::<N>::from_char(alloc, 'é');
-    let of_four = SmallText::<N>::from_char(alloc, '😀');
-    is_made(watch, of_one, &[97], N > 0)
-        && is_made(watch, of_two, &[195, 169], N > 1)
-        && is_made(watch, of_four, four.as_slice(), N > 3)
+/// Makes a call that adds no text.
+fn settle<const N: usize>(text: &mut SmallText<N>, row: &Row) -> Result<(), EcoError> {
+    match row.call {
+        Call::Truncate => truncate(text, row.count)?,
+        Call::Reserve => text.reserve(row.count)?,
+        Call::MakeAsciiLowercase => text.make_ascii_lowercase()?,
+        Call::MakeAsciiUppercase => text.make_ascii_uppercase()?,
+        Call::Clear => text.clear(),
+        Call::ShrinkToFit => text.shrink_to_fit(),
+        Call::Read => read(text),
+        _ => return Err(EcoError::Capacity),
+    }
+    Ok(())
 }
 
-fn collected<const N: usize>(alloc: Global, text: &str) -> Result<SmallText<N>, EcoError> {
-    match text.chars().collect::<SmallText<N>>(alloc) {
+fn text_of<const N: usize>(bytes: SmallBytes<N>) -> Result<SmallText<N>, EcoError> {
+    match SmallText::try_from(bytes) {
+        Ok(text) => Ok(text),
+        Err(_) => Err(EcoError::Capacity),
+    }
+}
+
+/// Bytes and back, or by way of the vector, which takes the text's place; where there is none, it is
+/// there as before.
+fn give<const N: usize>(text: &mut SmallText<N>, row: &Row, alloc: Global) -> Result<(), EcoError> {
+    let whole = mem::replace(text, SmallText::new(alloc));
+    if row.call == Call::IntoBytes {
+        *text = text_of(SmallBytes::from(whole))?;
+        return Ok(());
+    }
+    match whole.into_eco_vec() {
+        Ok(list) => *text = text_of(SmallBytes::from(list))?,
+        Err(rejected) => {
+            *text = rejected.value;
+            return Err(rejected.error);
+        }
+    }
+    Ok(())
+}
+
+/// Makes a text of a text.
+fn derived<const N: usize>(text: &SmallText<N>, row: &Row) -> Result<SmallText<N>, EcoError> {
+    match row.call {
+        Call::Repeat => text.repeat(row.count),
+        Call::Replace(pattern, by, LAST) => text.replace(pattern, by),
+        Call::Replace(pattern, by, times) => text.replacen(pattern, by, times),
+        Call::ToAsciiLowercase => text.to_ascii_lowercase(),
+        Call::ToAsciiUppercase => text.to_ascii_uppercase(),
+        Call::ToLowercase => text.to_lowercase(),
+        Call::ToUppercase => text.to_uppercase(),
+        _ => or_memory(text.clone()),
+    }
+}
+
+fn printed<const N: usize>(
+    text: Result<SmallText<N>, fmt::Error>,
+) -> Result<SmallText<N>, EcoError> {
+    match text {
         Ok(text) => Ok(text),
         Err(_) => Err(EcoError::Memory),
     }
 }
 
-/// A text of a `String`, which comes back where it is refused.
-fn string_holds<const N: usize>(
-    watch: &Watch,
-    made: Result<SmallText<N>, Rejected<String>>,
-    string: &str,
-) -> bool {
-    let bytes = Long::of_bytes(string.as_bytes());
-    let (want, inline) = (bytes.as_slice(), string.len() <= N);
-    match made {
-        Ok(text) => is_made(watch, Ok(text), want, inline),
-        Err(rejected) => {
-            rejected.value.as_str() == string
-                && is_made::<SmallText<N>>(watch, Err(rejected.error), want, inline)
-        }
+/// A refused `String` comes back.
+fn error_of_string(rejected: Rejected<String>, row: &Row) -> EcoError {
+    if rejected.value.len() == row.count {
+        rejected.error
+    } else {
+        EcoError::Capacity
     }
 }
 
-/// The text of two texts.
-fn joined_holds<const N: usize>(
+/// The text of an iterator.
+fn collected<const N: usize>(
     alloc: Global,
-    watch: &Watch,
-    _none: &SmallText<N>,
+    row: &Row,
     text: &str,
-) -> bool {
-    let mut parts = Vec::new(alloc);
-    for part in [text, "!"] {
-        let Ok(part) = SmallText::<N>::from_str(alloc, part) else {
-            return watch.may_refuse();
-        };
-        if parts.push(part).is_err() {
-            return watch.may_refuse();
+) -> Result<SmallText<N>, EcoError> {
+    match row.call {
+        Call::FromIter => SmallText::from_chars(alloc, text.chars()),
+        Call::FromStrs => SmallText::from_strs(alloc, Some(text)),
+        Call::FromManyStrs(times) => SmallText::from_strs(alloc, repeat_n(text, times)),
+        Call::Collect => or_memory(text.chars().collect(alloc)),
+        _ => Err(EcoError::Capacity),
+    }
+}
+
+impl<const N: usize> Value for SmallText<N> {
+    type Source = ();
+
+    type Gift = Gift<N>;
+
+    type Out = Out;
+
+    type Block = EcoVec<u8>;
+
+    fn limit() -> Option<usize> {
+        Some(N)
+    }
+
+    fn is_text() -> bool {
+        true
+    }
+
+    fn is_plain() -> bool {
+        true
+    }
+
+    fn counts(_source: &()) -> Option<(u64, u64)> {
+        None
+    }
+
+    fn owner(role: Role, row: &Row) -> &'static str {
+        match role {
+            Role::Make if N == 15 => "EcoString",
+            Role::Make => "SmallText",
+            _ if row.call == Call::IntoBytes => "",
+            _ => "t.",
         }
     }
-    let mut want = Long::of_bytes(text.as_bytes());
-    want.push(33);
-    let made = SmallText::<N>::from_eco_strings(alloc, parts);
-    is_made(watch, made, want.as_slice(), want.len() <= N)
-}
 
-/// What is made of a text in each state, which stays as it is.
-pub fn derived_hold<const N: usize>(alloc: Global, watch: &Watch, none: &SmallText<N>) -> bool {
-    let mut hold = true;
-    for state in states(N) {
-        let Ok(text) = SmallText::<N>::made(alloc, state) else {
-            return state.spilled && watch.may_refuse() && hold;
-        };
-        hold = repeated_hold(watch, &text) && replaced_hold(watch, &text) && hold;
-        hold = cased_hold(watch, &text, state.spilled)
-            && printed_holds(alloc, watch, &text)
-            && hold;
-        let letters = SmallText::<N>::letters(state.len);
-        hold = text.snapshot().bytes.is(letters.as_slice()) && hold;
-        hold = text.is_inline() != state.spilled && into_holds(watch, state, text) && hold;
-        hold = sums_hold(alloc, watch, none, state) && hold;
-    }
-    hold
-}
-
-/// The text with other bytes where the letter `a` stands, which it does first.
-fn with_other<const N: usize>(text: &SmallText<N>, other: &str) -> Long {
-    let bytes = text.snapshot().bytes;
-    let first = Edit {
-        start: 0,
-        end: bytes.len().min(1),
-        count: other.len(),
-    };
-    if bytes.len() == 0 {
-        return bytes;
-    }
-    bytes.replaced(first, &Long::of_bytes(other.as_bytes()))
-}
-
-fn replaced_hold<const N: usize>(watch: &Watch, text: &SmallText<N>) -> bool {
-    let mut hold = true;
-    for (pattern, replacement, count) in [
-        ("a", "", 9),
-        ("a", "é.😀", 9),
-        ("a", "a", 1),
-        ("a", "é", 0),
-        ("!", "é", 9),
-    ] {
-        let want = if pattern == "a" && count > 0 {
-            with_other(text, replacement)
-        } else {
-            text.snapshot().bytes
-        };
-        let made = text.replacen(pattern, replacement, count);
-        hold = is_made(watch, made, want.as_slice(), want.len() <= N) && hold;
-    }
-    let want = with_other(text, "a😀");
-    let made = text.replace("a", "a😀");
-    hold && is_made(watch, made, want.as_slice(), want.len() <= N) && spread_holds(watch, text)
-}
-
-/// Nothing is found before the first letter.
-fn spread_holds<const N: usize>(watch: &Watch, text: &SmallText<N>) -> bool {
-    let mut want = Long::of_bytes(b"..");
-    want.append(text.snapshot().bytes.as_slice());
-    is_made(
-        watch,
-        text.replacen("", "..", 1),
-        want.as_slice(),
-        want.len() <= N,
-    )
-}
-
-/// The letters in upper case, `é` among them, which ends in the byte 169, and `É` in 137.
-fn upper(letters: &Long) -> Long {
-    let mut upper = Long::new();
-    for letter in letters.ascii_uppercase().as_slice() {
-        upper.push(if *letter == 169 { 137 } else { *letter });
-    }
-    upper
-}
-
-/// In ASCII case a text keeps its mode. In Unicode case it is inline where it fits; past ASCII
-/// memory for std's text may be refused.
-fn cased_hold<const N: usize>(watch: &Watch, text: &SmallText<N>, spilled: bool) -> bool {
-    let lower = text.snapshot().bytes;
-    let ascii = lower.ascii_uppercase();
-    is_made(watch, text.to_ascii_lowercase(), lower.as_slice(), !spilled)
-        && is_made(watch, text.to_ascii_uppercase(), ascii.as_slice(), !spilled)
-        && is_cased(watch, text.to_lowercase(), &lower)
-        && is_cased(watch, text.to_uppercase(), &upper(&lower))
-}
-
-fn is_cased<const N: usize>(
-    watch: &Watch,
-    made: Result<SmallText<N>, EcoError>,
-    want: &Long,
-) -> bool {
-    let inline = want.len() <= N;
-    match made {
-        Err(EcoError::Memory) if want.len() > 4 => watch.may_refuse(),
-        made => is_made(watch, made, want.as_slice(), inline),
-    }
-}
-
-/// A `String` of the text, and the text printed.
-fn printed_holds<const N: usize>(alloc: Global, watch: &Watch, text: &SmallText<N>) -> bool {
-    let copied = match text.to_std_string() {
-        Ok(copy) => copy.as_str() == text.as_str(),
-        Err(error) => error == EcoError::Memory && text.len() > 0 && watch.may_refuse(),
-    };
-    let printed = match text.to_string(alloc) {
-        Ok(copy) => copy.as_str() == text.as_str(),
-        Err(_) => text.len() > 0 && watch.may_refuse(),
-    };
-    copied && printed
-}
-
-/// A sum that is refused hands the text back.
-fn sums_hold<const N: usize>(
-    alloc: Global,
-    watch: &Watch,
-    _none: &SmallText<N>,
-    state: SmallState,
-) -> bool {
-    let mut hold = true;
-    for count in [0, 1, 4, 12] {
-        let Ok(text) = SmallText::<N>::made(alloc, state) else {
-            return state.spilled && watch.may_refuse() && hold;
-        };
-        hold = sum_holds(watch, state, text, count) && hold;
-    }
-    hold
-}
-
-fn sum_holds<const N: usize>(
-    watch: &Watch,
-    state: SmallState,
-    text: SmallText<N>,
-    count: usize,
-) -> bool {
-    let (letters, capacity) = (text.snapshot().bytes, text.capacity());
-    let mut want = letters;
-    want.append(SmallText::<N>::added(count).as_slice());
-    let inline = !state.spilled && want.len() <= N;
-    match text.add(added(count)) {
-        Ok(sum) => sum.snapshot().bytes.is(want.as_slice()) && sum.is_inline() == inline,
-        Err(rejected) => {
-            rejected.error == EcoError::Memory
-                && !inline
-                && (!state.spilled || want.len() > state.room)
-                && watch.may_refuse()
-                && rejected.value.snapshot().bytes.is(letters.as_slice())
-                && rejected.value.is_inline() != state.spilled
-                && rejected.value.capacity() == capacity
+    /// Of letters that differ the fourth is `é`, where there are more than five bytes.
+    fn letter(state: &State, place: usize) -> i64 {
+        if !state.is_plain && state.len > 5 && (place == 3 || place == 4) {
+            return byte_at(TWO, place - 3);
         }
+        letter_at(state.is_plain, place)
+    }
+
+    fn given(row: &Row, place: usize) -> i64 {
+        match row.count {
+            2 if is_given_a_char(row) => byte_at(TWO, place),
+            4 if may_be_given_a_char(row) => byte_at(FOUR, place),
+            _ => 46,
+        }
+    }
+
+    fn made(alloc: Global, _source: &(), state: &State) -> Result<Self, EcoError> {
+        let letters = letters::<Self>(alloc, state)?;
+        match state.room {
+            None => SmallText::from_str(alloc, string_of(letters)?.as_str()),
+            Some(room) => {
+                let block = block_of(alloc, letters.as_slice(), room)?;
+                match SmallText::try_from(block) {
+                    Ok(text) => Ok(text),
+                    Err(_) => Err(EcoError::Capacity),
+                }
+            }
+        }
+    }
+
+    fn gift(alloc: Global, _source: &(), row: &Row) -> Result<Gift<N>, AllocError> {
+        let text = string_of(given::<Self>(alloc, row)?)?;
+        let mut texts = Vec::new(alloc);
+        if row.call == Call::FromEcoStrings {
+            for part in [text.as_str(), "12345678"] {
+                match SmallText::from_str(alloc, part) {
+                    Ok(part) => texts.push(part)?,
+                    Err(_) => return Err(AllocError),
+                }
+            }
+        }
+        Ok(Gift { alloc, text, texts })
+    }
+
+    fn change(&mut self, row: &Row, gift: &mut Gift<N>) -> Result<Out, EcoError> {
+        let more = gift.text.as_str();
+        match row.call {
+            Call::Push | Call::PushReserved | Call::Insert => match more.chars().next() {
+                Some(c) => put(self, row, c)?,
+                None => return Err(EcoError::Capacity),
+            },
+            Call::ExtendFromSlice | Call::InsertSlice | Call::ReplaceRange | Call::Write => {
+                add(self, row, more)?
+            }
+            Call::Extend | Call::ExtendStrs | Call::ExtendHalves | Call::ExtendManyStrs(_) => {
+                extend(self, row, more)?
+            }
+            Call::Add => sum(self, more, gift.alloc)?,
+            Call::Pop | Call::Remove => return take(self, row),
+            Call::IntoEcoVec | Call::IntoBytes => give(self, row, gift.alloc)?,
+            _ => settle(self, row)?,
+        }
+        Ok(None)
+    }
+
+    fn derive(&self, row: &Row) -> Result<Option<Self>, EcoError> {
+        if row.call == Call::ToStd {
+            let copy = self.to_std_string()?;
+            if copy.as_str() != self.as_str() {
+                return Err(EcoError::Capacity);
+            }
+            return Ok(None);
+        }
+        derived(self, row).map(|copy| Some(copy))
+    }
+
+    fn make(row: &Row, gift: &mut Gift<N>) -> Result<Self, EcoError> {
+        let alloc = gift.alloc;
+        let text = gift.text.as_str();
+        match row.call {
+            Call::Inline if text.len() <= N => Ok(SmallText::inline(alloc, text)),
+            Call::TryInline => match SmallText::try_inline(alloc, text) {
+                Some(text) => Ok(text),
+                None => Err(EcoError::Capacity),
+            },
+            Call::WithCapacity => SmallText::with_capacity(alloc, row.count),
+            Call::FromSlice => SmallText::from_str(alloc, text),
+            Call::FromChar => SmallText::from_char(alloc, 'é'),
+            Call::FromVec => {
+                let text = mem::replace(&mut gift.text, String::new(alloc));
+                SmallText::from_string(alloc, text).map_err(|rejected| error_of_string(
+                    rejected, row,
+                ))
+            }
+            Call::FromEcoStrings => {
+                let texts = mem::replace(&mut gift.texts, Vec::new(alloc));
+                SmallText::from_eco_strings(alloc, texts)
+            }
+            Call::Format => printed(SmallText::format(alloc, text)),
+            Call::New => Ok(SmallText::new(alloc)),
+            _ => collected(alloc, row, text),
+        }
+    }
+
+    fn len(&self) -> usize {
+        SmallText::len(self)
+    }
+
+    fn capacity(&self) -> usize {
+        SmallText::capacity(self)
+    }
+
+    fn is_inline(&self) -> bool {
+        SmallText::is_inline(self)
+    }
+
+    fn item(&self, place: usize) -> Option<i64> {
+        self.as_str()
+            .as_bytes()
+            .get(place)
+            .map(|byte| i64::from(*byte))
+    }
+
+    fn handed(out: &Out, place: usize) -> Option<i64> {
+        let mut bytes = [0u8; 4];
+        match out {
+            Some(c) => {
+                let text = c.encode_utf8(&mut bytes);
+                text.as_bytes().get(place).map(|byte| i64::from(*byte))
+            }
+            None => None,
+        }
+    }
+
+    fn asked(_gift: &Gift<N>) -> Asked {
+        Asked::Unseen
+    }
+
+    fn into_block(self) -> Option<EcoVec<u8>> {
+        if self.is_inline() {
+            return None;
+        }
+        self.into_eco_vec().ok()
+    }
+
+    fn is_sole(block: &mut EcoVec<u8>) -> bool {
+        block.is_unique()
     }
 }

@@ -1,394 +1,421 @@
-//! The calls that change an `EcoVec`, on vectors in each state.
-use crate::elements::{Element, elements, numbers};
-use crate::short::Short;
-use crate::steps::{Edit, Row, Step, Word, step_of};
-use crate::watch::Watch;
-use ecow_list::{EcoError, EcoVec, range_in};
-use std::alloc::Global;
+//! The calls of `EcoVec`.
+ghost use Rattle.std.specs.Iterator.{at_most};
+
+use crate::calls::{Call, Role, Row};
+use crate::elements::{Element, or_memory};
+use crate::states::State;
+use crate::value::{Asked, Value};
+use ecow_list::{Drain, EcoError, EcoVec, IntoArray, IntoIter, Rejected, Splice, range_in};
+use std::alloc::{AllocError, Global};
+use std::cell::Cell;
 use std::mem;
 
-/// A vector before a call. Without room it has no block.
-#[derive(Clone, Copy)]
-pub struct VecState {
-    pub room: usize,
-    pub len: usize,
-    /// Whether a twin shares the block.
-    pub shared: bool,
+/// What a call is given: elements, of which calls that take them one by one take the last first. As
+/// an iterator it gives so many of them, and counts how often it is asked. Its hint is of no use.
+#[derive(Drop)]
+pub struct Gift<T> {
+    alloc: Global,
+    elements: Vec<T>,
+    left: usize,
+    asked: usize,
+    is_hint_asked: Cell<bool>,
 }
 
-fn in_state(room: usize, len: usize, shared: bool) -> VecState {
-    VecState { room, len, shared }
-}
+impl<T> Iterator for &mut Gift<T> {
+    type Item = T;
 
-pub fn states() -> [VecState; 7] {
-    [
-        in_state(0, 0, false),
-        in_state(3, 0, false),
-        in_state(8, 4, false),
-        in_state(4, 4, false),
-        in_state(3, 0, true),
-        in_state(8, 4, true),
-        in_state(4, 4, true),
-    ]
-}
+    ghost remaining = { λ it. at_most it.now.left };
 
-pub const STEPS: [Row; 16] = [
-    (Word::Push, &[(0, 0, 1)]),
-    (Word::Insert, &[(0, 0, 1), (3, 3, 1)]),
-    (Word::Write, &[(0, 1, 1), (3, 4, 1)]),
-    (Word::Update, &[(0, 1, 1), (3, 4, 1)]),
-    (Word::MakeMut, &[(0, 0, 0)]),
-    (Word::OwnMut, &[(0, 0, 0)]),
-    (Word::Pop, &[(0, 0, 0)]),
-    (Word::Remove, &[(0, 1, 0), (3, 4, 0)]),
-    (Word::Truncate, &[(0, 0, 0), (2, 0, 0), (4, 0, 0)]),
-    (Word::Clear, &[(0, 0, 0)]),
-    (Word::Retain, &[(0, 0, 0), (1, 3, 0), (0, 4, 0)]),
-    (Word::Reserve, &[(0, 0, 0), (0, 0, 2), (0, 0, 20)]),
-    (Word::Drain, &[(0, 0, 0), (1, 3, 0), (0, 4, 0)]),
-    (Word::Splice, &[(0, 0, 0), (1, 2, 3), (1, 3, 1), (0, 0, 9)]),
-    (Word::Extend, &[(0, 0, 0), (0, 0, 2), (0, 0, 6)]),
-    (Word::ExtendEach, &[(0, 0, 0), (0, 0, 3), (0, 0, 9)]),
-];
-
-/// The calls that copy elements as memory.
-const COPIES: [Row; 4] = [
-    (Word::ExtendCopied, &[(0, 0, 0), (0, 0, 2), (0, 0, 6)]),
-    (Word::ExtendWithin, &[(0, 0, 0), (0, 2, 0), (0, 4, 0)]),
-    (Word::InsertSlice, &[(0, 0, 0), (1, 1, 2), (0, 0, 6)]),
-    (
-        Word::ReplaceRange,
-        &[(0, 0, 0), (1, 3, 1), (1, 3, 2), (0, 4, 9), (2, 2, 3)],
-    ),
-];
-
-pub fn calls_hold<T: Element>(alloc: Global, watch: &Watch) -> bool {
-    let mut hold = rows_hold::<T>(alloc, watch, &STEPS);
-    if T::is_plain() {
-        hold = rows_hold::<T>(alloc, watch, &COPIES) && hold;
-    }
-    hold
-}
-
-fn rows_hold<T: Element>(alloc: Global, watch: &Watch, rows: &[Row]) -> bool {
-    let mut hold = true;
-    for state in states() {
-        for (word, calls) in rows {
-            for arguments in *calls {
-                let step = step_of(*word, arguments);
-                hold = call_holds::<T>(alloc, watch, state, step) && hold;
-            }
+    fn next(&mut self) -> Option<T> {
+        self.asked = self.asked.wrapping_add(1);
+        if self.left == 0 {
+            return None;
         }
+        self.left -= 1;
+        self.elements.pop()
     }
-    hold
+
+    fn size_hint(&self) -> (usize, Option<usize>) {
+        self.is_hint_asked.set(true);
+        (0, None)
+    }
 }
 
-/// Makes a vector in a state; its elements have the numbers from 1 on.
-pub fn made<T: Element>(alloc: Global, state: VecState) -> Result<EcoVec<T>, EcoError> {
-    let mut list = EcoVec::with_capacity(alloc, state.room)?;
-    for element in elements(alloc, 1, state.len)? {
-        if list.push(element).is_err() {
-            return Err(EcoError::Memory);
+impl<T: Drop> Gift<T> {
+    /// All elements that are left.
+    fn take(&mut self) -> Vec<T> {
+        mem::replace(&mut self.elements, Vec::new(self.alloc))
+    }
+}
+
+/// What a call hands out.
+#[derive(Drop)]
+pub enum Out<T: Element> {
+    Nothing,
+    One(T),
+    Drained(Drain<T>),
+    Spliced(Splice<T>),
+    All(Vec<T>),
+    Rest(IntoIter<T>),
+    Array(T::Array),
+}
+
+type Outcome<T> = Result<Out<T>, EcoError>;
+
+fn nothing<T: Element>(done: Result<(), EcoError>) -> Outcome<T> {
+    done.map(|()| Out::Nothing)
+}
+
+/// Whether elements are taken one by one, the last first.
+fn is_taken_last_first(call: Call) -> bool {
+    matches!(
+        call,
+        Call::Extend | Call::Splice | Call::FromIter | Call::Collect
+    )
+}
+
+/// How many elements a call is given.
+fn gift_len(row: &Row) -> usize {
+    match row.call {
+        Call::Push | Call::PushReserved | Call::Insert | Call::Set | Call::Update => {
+            row.count.saturating_mul(row.times)
         }
-    }
-    Ok(list)
-}
-
-/// What stood before a call, and what it is to do.
-#[derive(Clone, Copy)]
-struct VecCall {
-    state: VecState,
-    step: Step,
-    change: Edit,
-    capacity: usize,
-    given: Short,
-}
-
-impl VecCall {
-    fn before(&self) -> Short {
-        Short::from(1, self.state.len)
-    }
-
-    /// What the call takes out.
-    fn removed(&self) -> Short {
-        self.before().part(self.change.start, self.change.end)
-    }
-
-    fn room(&self) -> usize {
-        self.step.room(self.state.len, self.change)
-    }
-
-    /// Whether the call needs no memory, nor a clone that does.
-    fn is_free(&self, is_plain: bool) -> bool {
-        let VecState { room, len, shared } = self.state;
-        match self.step.word {
-            _ if shared => self.step.is_free_shared(len),
-            // What they take out or put in stands in a block of its own meanwhile.
-            Word::Drain => self.change.start == self.change.end,
-            Word::Splice => self.change.start == self.change.end && self.change.count == 0,
-            Word::Extend => self.change.count == 0 || is_plain && self.room() <= room,
-            _ => self.room() <= room,
-        }
+        Call::Extend => row.count.saturating_mul(row.times),
+        Call::Truncate | Call::Reserve | Call::WithCapacity | Call::Rewrite => 0,
+        Call::FromElem => 1,
+        _ => row.count,
     }
 }
 
-fn call_holds<T: Element>(alloc: Global, watch: &Watch, state: VecState, step: Step) -> bool {
-    let VecState { len, shared, .. } = state;
-    let Some(change) = step.change(len) else {
-        return true;
-    };
-    let (Ok(list), Ok(given)) = (
-        made::<T>(alloc, state),
-        elements::<T>(alloc, 91, change.count),
-    ) else {
-        return watch.may_refuse();
-    };
-    let mut twin = EcoVec::new(alloc);
-    if shared {
-        match list.clone() {
-            Ok(copy) => twin = copy,
-            Err(_) => return false,
-        }
-    }
-    let call = VecCall {
-        state,
-        step,
-        change,
-        capacity: list.capacity(),
-        given: match step.word {
-            Word::ExtendWithin => Short::from(1, len).part(step.start, step.end),
-            _ => Short::from(91, change.count),
-        },
-    };
-    let mut list = list;
-    let answer = called(&mut list, &call, given);
-    is_right(watch, &call, answer, list, twin)
+fn number_at(place: usize) -> i64 {
+    i64::try_from(place).unwrap_or(0)
 }
 
-/// Makes a call. Answers whether what it gave is right.
-fn called<T: Element>(
-    list: &mut EcoVec<T>,
-    call: &VecCall,
-    given: Vec<T>,
-) -> Result<bool, EcoError> {
-    match call.step.word {
-        Word::Push | Word::Insert | Word::Write | Word::Update => with_one(list, call, given),
-        Word::MakeMut | Word::OwnMut => lending(list, call, given),
-        Word::Extend | Word::ExtendEach | Word::Splice => with_several(list, call, given),
-        Word::Pop | Word::Remove | Word::Drain => taking(list, call),
-        Word::ExtendCopied | Word::ExtendWithin | Word::InsertSlice | Word::ReplaceRange => {
-            T::take_copied(list, call.step, given.as_slice())
-        }
-        _ => shortening(list, call),
+/// The numbers of elements that are given begin here.
+const FIRST_GIVEN: i64 = 91;
+
+fn elements<T: Element>(
+    alloc: Global,
+    source: &T::Source,
+    first: i64,
+    len: usize,
+) -> Result<Vec<T>, AllocError> {
+    let mut elements = Vec::new(alloc);
+    for place in 0..len {
+        elements.push(T::of(alloc, source, first.wrapping_add(number_at(place)))?)?;
     }
+    Ok(elements)
 }
 
-/// A call that is handed an element, which comes back where it is refused.
-fn with_one<T: Element>(
-    list: &mut EcoVec<T>,
-    call: &VecCall,
-    given: Vec<T>,
-) -> Result<bool, EcoError> {
-    let mut given = given;
-    let Some(value) = given.pop() else {
-        return Ok(false);
-    };
-    let start = call.step.start;
-    let done = match call.step.word {
-        Word::Push => list.push(value),
-        Word::Insert if start <= list.len() => list.insert(start, value),
-        Word::Write if start < list.len() => list.set(start, value),
-        _ => return updated(list, call, value),
-    };
-    match done {
-        Ok(()) => Ok(true),
-        Err(rejected) if rejected.value.number() == 91 => Err(rejected.error),
-        Err(_) => Ok(false),
-    }
-}
-
-/// Answers whether the element that was there came out.
-fn updated<T: Element>(list: &mut EcoVec<T>, call: &VecCall, value: T) -> Result<bool, EcoError> {
-    let start = call.step.start;
-    if start >= list.len() {
-        return Ok(false);
-    }
-    let before = list.update(start, |place| mem::replace(place, value))?;
-    Ok(call.removed().is(&[before.number()]))
-}
-
-/// A call that lends the elements, of which the first is written to.
-fn lending<T: Element>(
-    list: &mut EcoVec<T>,
-    call: &VecCall,
-    given: Vec<T>,
-) -> Result<bool, EcoError> {
-    let is_given = !given.is_empty();
-    if call.step.word == Word::MakeMut {
-        return Ok(writes_first(list.make_mut()?, given) == is_given);
-    }
-    match list.own_mut() {
-        Ok(block) => Ok(writes_first(block.as_mut_slice(), given) && is_given),
-        Err(None) => Ok(!is_given),
-        Err(Some(error)) => Err(error),
-    }
-}
-
-/// Puts an element in the first one's place, if there are both, and says so.
-fn writes_first<T: Element>(elements: &mut [T], given: Vec<T>) -> bool {
-    let mut given = given;
-    match (elements.get_mut(0), given.pop()) {
-        (Some(place), Some(value)) => {
-            *place = value;
-            true
-        }
-        _ => false,
-    }
-}
-
-fn with_several<T: Element>(
-    list: &mut EcoVec<T>,
-    call: &VecCall,
-    given: Vec<T>,
-) -> Result<bool, EcoError> {
-    let (start, end) = (call.step.start, call.step.end);
-    match call.step.word {
-        Word::Extend => list.extend_from_slice(given.as_slice())?,
-        Word::ExtendEach => list.extend(given)?,
-        _ if range_in(&(start..end), list.len()) => {
-            let removed = list.splice(start..end, given)?;
-            return Ok(numbers(removed.as_slice()).is(call.removed().as_slice()));
-        }
-        _ => return Ok(false),
-    }
-    Ok(true)
-}
-
-/// A call that answers what it takes out.
-fn taking<T: Element>(list: &mut EcoVec<T>, call: &VecCall) -> Result<bool, EcoError> {
-    let (start, end) = (call.step.start, call.step.end);
-    let removed = call.removed();
-    match call.step.word {
-        Word::Pop => match list.pop()? {
-            Some(element) => Ok(removed.is(&[element.number()])),
-            None => Ok(removed.is(&[])),
-        },
-        Word::Remove if start < list.len() => {
-            let element = list.remove(start)?;
-            Ok(removed.is(&[element.number()]))
-        }
-        Word::Drain if range_in(&(start..end), list.len()) => {
-            let taken = list.drain(start..end)?;
-            Ok(numbers(taken.as_slice()).is(removed.as_slice()))
-        }
-        _ => Ok(false),
-    }
-}
-
-fn shortening<T: Element>(list: &mut EcoVec<T>, call: &VecCall) -> Result<bool, EcoError> {
-    let step = call.step;
-    match step.word {
-        Word::Truncate => list.truncate(step.start)?,
-        Word::Clear => list.clear(),
-        Word::Reserve => list.reserve(step.count)?,
-        Word::Retain => {
-            let mut place = 0usize;
-            list.retain(|_| {
-                let is_kept = place < step.start || place >= step.end;
-                place = place.wrapping_add(1);
-                is_kept
-            })?
-        }
-        _ => return Ok(false),
-    }
-    Ok(true)
-}
-
-/// Whether a call did all that it is to do, or was refused and left all as it was.
-fn is_right<T: Element>(
-    watch: &Watch,
-    call: &VecCall,
-    answer: Result<bool, EcoError>,
-    list: EcoVec<T>,
-    twin: EcoVec<T>,
-) -> bool {
-    let mut list = list;
-    let VecState { len, shared, .. } = call.state;
-    let (after, left) = match answer {
-        Ok(true) => (
-            call.before().replaced(call.change, &call.given),
-            shared && !call.step.is_nothing(len),
-        ),
-        Err(EcoError::Memory) if !call.is_free(T::is_plain()) && watch.may_refuse() => {
-            // What went in one by one stays.
-            let count = match call.step.word {
-                Word::ExtendEach => list.len().saturating_sub(len),
-                _ => 0,
-            };
-            if !is_cut(call, count) {
-                return false;
-            }
-            let end = Edit {
-                start: len,
-                end: len,
-                count,
-            };
-            (
-                call.before().replaced(end, &call.given.part(0, count)),
-                shared && count > 0,
-            )
-        }
-        _ => return false,
-    };
-    let is_own = left || !shared;
-    numbers(list.as_slice()).is(after.as_slice())
-        && has_room(call, answer, left, T::is_plain(), list.capacity())
-        && list.is_unique() == is_own
-        && twin_holds(call, left, twin)
-}
-
-/// Whether an extension may have ended behind so many items: before the last, and not before the
-/// block was full.
-fn is_cut(call: &VecCall, count: usize) -> bool {
-    let VecState { room, len, shared } = call.state;
-    match call.step.word {
-        Word::ExtendEach => {
-            count < call.change.count && (shared && count == 0 || len.saturating_add(count) >= room)
-        }
-        _ => true,
-    }
-}
-
-/// Whether the capacity is as it was where the call was refused or had its room, and else enough.
-fn has_room(
-    call: &VecCall,
-    answer: Result<bool, EcoError>,
-    left: bool,
-    is_plain: bool,
-    capacity: usize,
-) -> bool {
-    let VecState { room, len, shared } = call.state;
-    if answer.is_err() && !shared && !is_plain && matches!(call.step.word, Word::Extend) {
-        // The block has grown before the first clone, and stays so where a clone is refused.
-        return capacity == call.capacity || capacity >= call.room();
-    }
-    if answer.is_err() && !left && !matches!(call.step.word, Word::ExtendEach) {
-        return capacity == call.capacity;
-    }
-    let is_kept = !shared && call.room() <= room || shared && call.step.is_nothing(len);
-    if is_kept {
-        capacity == call.capacity
+/// A refused call hands the element back that it was given.
+fn error_of_one<T: Element>(rejected: Rejected<T>) -> EcoError {
+    if rejected.value.number() == T::shown(FIRST_GIVEN) {
+        rejected.error
     } else {
-        answer.is_err() || capacity >= call.room()
+        EcoError::Capacity
     }
 }
 
-/// Whether the twin is as it was, and alone where the list has left it.
-fn twin_holds<T: Element>(call: &VecCall, left: bool, twin: EcoVec<T>) -> bool {
-    let mut twin = twin;
-    let VecState { len, shared, .. } = call.state;
-    !shared
-        || numbers(twin.as_slice()).is(Short::from(1, len).as_slice())
-            && twin.capacity() == call.capacity
-            && twin.is_unique() == left
+/// A refused call hands the elements back that it was given.
+fn error_beside<T: Element>(error: EcoError, back: &[T], row: &Row) -> EcoError {
+    let is_first = match back.first() {
+        Some(first) => first.number() == T::shown(FIRST_GIVEN),
+        None => true,
+    };
+    if back.len() == row.count && is_first {
+        error
+    } else {
+        EcoError::Capacity
+    }
+}
+
+fn returned<T: Element>(put: Result<(), Rejected<T>>) -> Outcome<T> {
+    match put {
+        Ok(()) => Ok(Out::Nothing),
+        Err(rejected) => Err(error_of_one(rejected)),
+    }
+}
+
+/// Makes a call that is given an element.
+fn put<T: Element>(list: &mut EcoVec<T>, row: &Row, value: T) -> Outcome<T> {
+    let start = row.start_in(list.len());
+    match row.call {
+        Call::PushReserved => {
+            list.reserve(1)?;
+            returned(list.push(value))
+        }
+        Call::Insert => returned(list.insert(start, value)),
+        Call::Set if start < list.len() => returned(list.set(start, value)),
+        Call::Update if start < list.len() => list
+            .update(start, |place| mem::replace(place, value))
+            .map(|old| Out::One(old)),
+        Call::Push => returned(list.push(value)),
+        _ => Err(EcoError::Capacity),
+    }
+}
+
+/// Drops the elements of a part. Each is given once, and none where that is refused.
+fn retain<T: Element>(list: &mut EcoVec<T>, row: &Row) -> Result<(), EcoError> {
+    let (len, mut place) = (list.len(), 0usize);
+    let done = list.retain(|_| {
+        let is_kept = place < row.start || place >= row.end;
+        place = place.wrapping_add(1);
+        is_kept
+    });
+    let given = if done.is_ok() { len } else { 0 };
+    if place == given {
+        done
+    } else {
+        Err(EcoError::Capacity)
+    }
+}
+
+fn own_and_reverse<T: Element>(list: &mut EcoVec<T>) -> Result<(), EcoError> {
+    match list.own_mut() {
+        Ok(block) => {
+            block.as_mut_slice().reverse();
+            Ok(())
+        }
+        Err(Some(error)) => Err(error),
+        Err(None) => Ok(()),
+    }
+}
+
+/// Makes a call that is given no element and hands none out.
+fn settle<T: Element>(list: &mut EcoVec<T>, row: &Row) -> Result<(), EcoError> {
+    match row.call {
+        Call::Truncate => list.truncate(row.count)?,
+        Call::Clear => list.clear(),
+        Call::Retain => retain(list, row)?,
+        Call::Reserve => list.reserve(row.count)?,
+        Call::MakeMut => list.make_mut()?.reverse(),
+        Call::OwnMut => own_and_reverse(list)?,
+        Call::Read => {
+            let _seen = list.as_slice().len() == list.iter().count() && list.is_empty();
+            let _room = list.capacity() > 0 && list.is_unique();
+        }
+        _ => return Err(EcoError::Capacity),
+    }
+    Ok(())
+}
+
+/// Makes a call that hands out what it takes.
+fn take<T: Element>(list: &mut EcoVec<T>, row: &Row, gift: &mut Gift<T>) -> Outcome<T> {
+    let (start, end) = (row.start_in(list.len()), row.end_in(list.len()));
+    match row.call {
+        Call::Pop => match list.pop()? {
+            Some(last) => Ok(Out::One(last)),
+            None => Ok(Out::Nothing),
+        },
+        Call::Remove if start < list.len() => list.remove(start).map(|one| Out::One(one)),
+        Call::Drain if range_in(&(start..end), list.len()) => {
+            list.drain(start..end).map(|drained| Out::Drained(drained))
+        }
+        Call::Splice if range_in(&(start..end), list.len()) => list
+            .splice(start..end, gift)
+            .map(|spliced| Out::Spliced(spliced)),
+        _ => Err(EcoError::Capacity),
+    }
+}
+
+/// Gives a vector away. Where that is refused it is there as before.
+fn give<T: Element>(list: &mut EcoVec<T>, row: &Row, alloc: Global) -> Outcome<T> {
+    let whole = mem::replace(list, EcoVec::new(alloc));
+    let (error, back) = match row.call {
+        Call::IntoVec => match whole.into_vec() {
+            Ok(all) => return Ok(Out::All(all)),
+            Err(rejected) => (rejected.error, rejected.value),
+        },
+        Call::IntoIter => match whole.into_iter() {
+            Ok(rest) => return Ok(Out::Rest(rest)),
+            Err(rejected) => (rejected.error, rejected.value),
+        },
+        Call::IntoArray => match T::into_array(whole) {
+            Ok(array) => return Ok(Out::Array(array)),
+            Err(IntoArray::Refused(error, back)) => (error, back),
+            Err(IntoArray::Length(back)) => (EcoError::Capacity, back),
+        },
+        _ => {
+            drop(whole);
+            return Ok(Out::Nothing);
+        }
+    };
+    *list = back;
+    Err(error)
+}
+
+/// No array has one place more than the vector has elements. It comes back at once.
+fn refuse_array<T: Element>(list: &mut EcoVec<T>, alloc: Global) -> Outcome<T> {
+    let whole = mem::replace(list, EcoVec::new(alloc));
+    match whole.into_array::<7>() {
+        Err(IntoArray::Length(back)) => {
+            *list = back;
+            Ok(Out::Nothing)
+        }
+        _ => Err(EcoError::Capacity),
+    }
+}
+
+impl<T: Element> Value for EcoVec<T> {
+    type Source = T::Source;
+
+    type Gift = Gift<T>;
+
+    type Out = Out<T>;
+
+    type Block = EcoVec<T>;
+
+    fn limit() -> Option<usize> {
+        None
+    }
+
+    fn is_text() -> bool {
+        false
+    }
+
+    fn is_plain() -> bool {
+        T::is_plain()
+    }
+
+    fn counts(source: &T::Source) -> Option<(u64, u64)> {
+        T::counts(source)
+    }
+
+    fn owner(role: Role, row: &Row) -> &'static str {
+        match (role, row.call) {
+            (Role::Make, Call::Collect) => "",
+            (Role::Make, _) => "EcoVec",
+            _ => "",
+        }
+    }
+
+    fn letter(_state: &State, place: usize) -> i64 {
+        T::shown(number_at(place).wrapping_add(1))
+    }
+
+    fn given(_row: &Row, place: usize) -> i64 {
+        T::shown(number_at(place).wrapping_add(FIRST_GIVEN))
+    }
+
+    fn made(alloc: Global, source: &T::Source, state: &State) -> Result<Self, EcoError> {
+        let elements = elements(alloc, source, 1, state.len)?;
+        let mut list = EcoVec::with_capacity(alloc, state.room.unwrap_or(0))?;
+        list.extend(elements)?;
+        Ok(list)
+    }
+
+    fn gift(alloc: Global, source: &T::Source, row: &Row) -> Result<Gift<T>, AllocError> {
+        let mut elements = elements(alloc, source, FIRST_GIVEN, gift_len(row))?;
+        if is_taken_last_first(row.call) {
+            elements.reverse();
+        }
+        Ok(Gift {
+            alloc,
+            elements,
+            left: 0,
+            asked: 0,
+            is_hint_asked: Cell::new(false),
+        })
+    }
+
+    fn change(&mut self, row: &Row, gift: &mut Gift<T>) -> Outcome<T> {
+        gift.left = row.count;
+        match row.call {
+            Call::Push | Call::PushReserved | Call::Insert | Call::Set | Call::Update => {
+                match gift.elements.pop() {
+                    Some(value) => put(self, row, value),
+                    None => Err(EcoError::Capacity),
+                }
+            }
+            Call::ExtendFromSlice => nothing(self.extend_from_slice(gift.elements.as_slice())),
+            Call::Extend => nothing(self.extend(gift)),
+            Call::Pop | Call::Remove | Call::Drain | Call::Splice => take(self, row, gift),
+            Call::IntoVec | Call::IntoIter | Call::IntoArray | Call::Drop => {
+                give(self, row, gift.alloc)
+            }
+            Call::IntoOtherArray => refuse_array(self, gift.alloc),
+            Call::ExtendFromCopied | Call::ExtendFromWithin | Call::InsertSlice => {
+                nothing(T::copy(self, row, gift.elements.as_slice()))
+            }
+            Call::ReplaceRange | Call::Write | Call::Compare => {
+                nothing(T::copy(self, row, gift.elements.as_slice()))
+            }
+            _ => nothing(settle(self, row)),
+        }
+    }
+
+    fn derive(&self, _row: &Row) -> Result<Option<Self>, EcoError> {
+        or_memory(self.clone()).map(|twin| Some(twin))
+    }
+
+    fn make(row: &Row, gift: &mut Gift<T>) -> Result<Self, EcoError> {
+        let alloc = gift.alloc;
+        gift.left = row.count;
+        match row.call {
+            Call::WithCapacity => EcoVec::with_capacity(alloc, row.count),
+            Call::FromVec => EcoVec::from_vec(alloc, gift.take()).map_err(|rejected| error_beside(
+                rejected.error,
+                rejected.value.as_slice(),
+                row,
+            )),
+            Call::FromArray => T::from_array(alloc, gift.take()),
+            Call::FromSlice => EcoVec::from_slice(alloc, gift.elements.as_slice()),
+            Call::FromCopied => T::from_copied(alloc, gift.elements.as_slice()),
+            Call::FromElem => match gift.elements.pop() {
+                Some(value) => EcoVec::from_elem(alloc, value, row.count).map_err(
+                    |rejected| error_of_one(rejected),
+                ),
+                None => Err(EcoError::Capacity),
+            },
+            Call::FromIter => EcoVec::from_iter(alloc, gift),
+            Call::Collect => or_memory(gift.collect(alloc)),
+            _ => Ok(EcoVec::new(alloc)),
+        }
+    }
+
+    fn len(&self) -> usize {
+        EcoVec::len(self)
+    }
+
+    fn capacity(&self) -> usize {
+        EcoVec::capacity(self)
+    }
+
+    fn is_inline(&self) -> bool {
+        false
+    }
+
+    fn item(&self, place: usize) -> Option<i64> {
+        self.as_slice().get(place).map(|element| element.number())
+    }
+
+    fn handed(out: &Out<T>, place: usize) -> Option<i64> {
+        let handed = match out {
+            Out::Nothing => None,
+            Out::One(one) if place == 0 => Some(one),
+            Out::One(_) => None,
+            Out::Drained(rest) => rest.as_slice().get(place),
+            Out::Spliced(rest) => rest.as_slice().get(place),
+            Out::All(all) => all.as_slice().get(place),
+            Out::Rest(rest) => rest.as_slice().get(place),
+            Out::Array(array) => return T::in_array(array, place),
+        };
+        handed.map(|element| element.number())
+    }
+
+    fn asked(gift: &Gift<T>) -> Asked {
+        if gift.is_hint_asked.get() {
+            Asked::ForHint
+        } else {
+            Asked::ForItems(gift.asked)
+        }
+    }
+
+    fn into_block(self) -> Option<Self> {
+        Some(self)
+    }
+
+    fn is_sole(block: &mut Self) -> bool {
+        block.is_unique()
+    }
 }

@@ -4,21 +4,17 @@
 //! Without, it prints how many rows there are, and their hash: two builds of it must agree.
 #![tactic(auto)]
 
-mod bytes;
-mod copies;
 mod marks;
+mod measure;
 mod prints;
 mod rows;
-mod small;
-mod states;
-mod tables;
-mod texts;
 mod units;
-mod vectors;
 
 use crate::marks::Meter;
+use crate::measure::{add_bytes, add_copies, add_texts, add_vectors};
 use crate::rows::Rows;
 use ecow_bytes::SmallBytes;
+use ecow_string::SmallText;
 use std::env::Env;
 use std::hash::{DefaultHasher, Hash, Hasher};
 use std::{env, io};
@@ -30,25 +26,30 @@ fn is_marked(rt: &(impl Env + AllocGlobal)) -> io::Result<bool> {
     Ok(words.next().is_some())
 }
 
-/// The rows of bytes and texts of which at most `N` bytes stand inline. `none` names their type.
-fn small_rows<const N: usize>(meter: Meter, rows: &mut Rows, none: &SmallBytes<N>) {
-    bytes::add_rows(meter, rows, none);
-    texts::add_rows(meter, rows, none);
+/// The rows of bytes and texts at each limit of the tables.
+fn add_small(meter: Meter, rows: &mut Rows) {
+    add_bytes::<SmallBytes<0>>(meter, rows);
+    add_bytes::<SmallBytes<1>>(meter, rows);
+    add_bytes::<SmallBytes<3>>(meter, rows);
+    add_bytes::<SmallBytes<15>>(meter, rows);
+    add_bytes::<SmallBytes<23>>(meter, rows);
+    add_bytes::<SmallBytes<255>>(meter, rows);
+    add_texts::<SmallText<0>>(meter, rows);
+    add_texts::<SmallText<1>>(meter, rows);
+    add_texts::<SmallText<3>>(meter, rows);
+    add_texts::<SmallText<15>>(meter, rows);
+    add_texts::<SmallText<23>>(meter, rows);
+    add_texts::<SmallText<255>>(meter, rows);
 }
 
 fn main(rt: HostRuntime) -> io::Result<()> {
     let is_marked = is_marked(&rt)?;
     let meter = Meter::new(rt.alloc(), is_marked);
     let mut rows = Rows::new(rt.alloc());
-    vectors::add_rows(meter, &mut rows);
-    copies::add_rows(meter, &mut rows);
+    add_vectors(meter, &mut rows);
+    add_copies(meter, &mut rows);
     units::add_rows(meter, &mut rows);
-    small_rows::<0>(meter, &mut rows, &SmallBytes::new(meter.alloc));
-    small_rows::<1>(meter, &mut rows, &SmallBytes::new(meter.alloc));
-    small_rows::<3>(meter, &mut rows, &SmallBytes::new(meter.alloc));
-    small_rows::<15>(meter, &mut rows, &SmallBytes::new(meter.alloc));
-    small_rows::<23>(meter, &mut rows, &SmallBytes::new(meter.alloc));
-    small_rows::<255>(meter, &mut rows, &SmallBytes::new(meter.alloc));
+    add_small(meter, &mut rows);
     prints::add_rows(meter, &mut rows);
     if is_marked {
         return print!(rt; "{}", rows.text);

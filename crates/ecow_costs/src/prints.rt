@@ -1,12 +1,10 @@
 //! Texts that are printed. What `eco_format!` and `to_eco_string` make is an `EcoString`.
 use crate::marks::Meter;
-use crate::rows::{Cost, Rows};
-use crate::small::{letters, standing_alone};
-use crate::texts::PIECES;
-use ecow_bytes::EcoBytes;
+use crate::rows::{Cost, Form, Rows};
+use ecow_calls::tables::TIMES;
 use ecow_list::EcoError;
 use ecow_string::{EcoString, ToEcoString, eco_format};
-use std::alloc::Global;
+use std::alloc::{AllocError, Global};
 use std::fmt;
 
 /// Prints seven letters so often.
@@ -36,12 +34,12 @@ fn calls() -> [(Print, &'static str); 8] {
         (Print::Format(15), "eco_format!(15)"),
         (Print::Format(16), "eco_format!(16)"),
         (Print::Format(1000), "eco_format!(1000)"),
-        (Print::FormatPieces(PIECES), "eco_format!(14286 of 7)"),
+        (Print::FormatPieces(TIMES), "eco_format!(14286 of 7)"),
         (Print::ToEcoString(15), "to_eco_string(15)"),
         (Print::ToEcoString(16), "to_eco_string(16)"),
         (Print::ToEcoString(1000), "to_eco_string(1000)"),
         (
-            Print::PiecesToEcoString(PIECES),
+            Print::PiecesToEcoString(TIMES),
             "to_eco_string(14286 of 7)",
         ),
     ]
@@ -56,6 +54,15 @@ fn printed(call: Print, letters: &str, alloc: Global) -> Result<EcoString, fmt::
     }
 }
 
+/// So many letters.
+fn letters(alloc: Global, len: usize) -> Result<String, AllocError> {
+    let mut letters = String::new(alloc);
+    for _ in 0..len {
+        letters.push('b')?;
+    }
+    Ok(letters)
+}
+
 fn cost(meter: Meter, call: Print, name: &'static str) -> Result<Cost, EcoError> {
     let letters = match call {
         Print::Format(len) | Print::ToEcoString(len) => letters(meter.alloc, len)?,
@@ -64,7 +71,12 @@ fn cost(meter: Meter, call: Print, name: &'static str) -> Result<Cost, EcoError>
     let _begun = meter.begin();
     let text = printed(call, letters.as_str(), meter.alloc)?;
     let _ended = meter.end();
-    Ok(Cost::of_making(name, standing_alone(EcoBytes::from(text))))
+    let form = if text.is_inline() {
+        Form::Inline
+    } else {
+        Form::Sole
+    };
+    Ok(Cost::of_making(name, form, text.capacity()))
 }
 
 pub(crate) fn add_rows(meter: Meter, rows: &mut Rows) {

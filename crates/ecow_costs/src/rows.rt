@@ -1,4 +1,7 @@
 //! Where values stand, and the rows of the tables.
+use ecow_calls::calls::{Role, Row};
+use ecow_calls::states::State;
+use ecow_calls::value::Value;
 use ecow_list::EcoError;
 use std::alloc::{AllocError, Global};
 
@@ -50,86 +53,6 @@ impl Standing {
     }
 }
 
-/// What a call does with the value.
-#[derive(Clone, Copy, PartialEq)]
-pub(crate) enum Role {
-    /// It changes it, reads it or gives it away.
-    Change,
-    /// It makes another of it.
-    Derive,
-    /// It needs none, and makes one.
-    Make,
-}
-
-impl Role {
-    /// What stands before the call where the value stands so: what is to be made, isn't there.
-    pub(crate) fn before(self, value: Standing) -> Standing {
-        let twin = match self {
-            Role::Change => return value,
-            Role::Derive => value.form,
-            Role::Make => Form::Absent,
-        };
-        Standing {
-            form: Form::Absent,
-            twin,
-            capacity: value.capacity,
-        }
-    }
-
-    /// What stands after the call, where the value stands so that was made, and its source so.
-    pub(crate) fn after(self, form: Form, source: Form, capacity: usize) -> Standing {
-        Standing {
-            form,
-            twin: if self == Role::Make {
-                Form::Absent
-            } else {
-                source
-            },
-            capacity,
-        }
-    }
-}
-
-/// A call, its name, the number that it is given, how many elements there must be, and how often it
-/// is made.
-#[derive(Clone, Copy)]
-pub(crate) struct Row<C> {
-    pub(crate) call: C,
-    pub(crate) name: &'static str,
-    pub(crate) number: usize,
-    pub(crate) needs: usize,
-    pub(crate) times: usize,
-}
-
-pub(crate) fn row_of<C>(call: C, name: &'static str, number: usize, needs: usize) -> Row<C> {
-    Row {
-        call,
-        name,
-        number,
-        needs,
-        times: 1,
-    }
-}
-
-/// A call that is made again and again.
-pub(crate) fn repeated<C>(call: C, name: &'static str, number: usize, times: usize) -> Row<C> {
-    Row {
-        times,
-        ..row_of(call, name, number, 0)
-    }
-}
-
-impl<C> Row<C> {
-    /// How the call is written of what stands before its name.
-    pub(crate) fn written(&self, owner: &'static str) -> Written {
-        Written {
-            owner,
-            name: self.name,
-            times: self.times,
-        }
-    }
-}
-
 /// How a call is written: whose it is, its name, and how often it is made.
 #[derive(Clone, Copy)]
 pub(crate) struct Written {
@@ -165,8 +88,25 @@ pub(crate) struct Cost {
 }
 
 impl Cost {
+    /// What a call costs in a state, but for what is measured: it leaves all as it was.
+    pub(crate) fn of<V: Value>(role: Role, row: &Row, state: &State, before: Standing) -> Self {
+        Cost {
+            role,
+            limit: V::limit().unwrap_or(USUAL),
+            call: Written {
+                owner: V::owner(role, row),
+                name: row.name,
+                times: row.times,
+            },
+            state: state.name,
+            counts: None,
+            before,
+            after: before,
+        }
+    }
+
     /// What it costs to make a value that then stands so.
-    pub(crate) fn of_making(name: &'static str, standing: Standing) -> Self {
+    pub(crate) fn of_making(name: &'static str, form: Form, capacity: usize) -> Self {
         Cost {
             role: Role::Make,
             limit: USUAL,
@@ -178,7 +118,11 @@ impl Cost {
             state: "",
             counts: None,
             before: Standing::none(),
-            after: standing,
+            after: Standing {
+                form,
+                twin: Form::Absent,
+                capacity,
+            },
         }
     }
 

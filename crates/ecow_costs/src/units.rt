@@ -1,8 +1,8 @@
 //! Vectors of elements of no bytes, which grow again and again.
 use crate::marks::Meter;
-use crate::rows::{Cost, Form, Role, Rows, USUAL, Written};
-use crate::states::form_of;
-use crate::tables::TIMES;
+use crate::rows::{Cost, Form, Rows, Standing, USUAL, Written};
+use ecow_calls::calls::Role;
+use ecow_calls::tables::TIMES;
 use ecow_list::{EcoError, EcoVec};
 
 const SEVEN: [(); 7] = [(); 7];
@@ -29,9 +29,18 @@ fn grow(list: &mut EcoVec<()>, call: UnitCall) -> Result<(), EcoError> {
     Ok(())
 }
 
+/// Where a vector stands that has no clone.
+fn standing(list: &EcoVec<()>) -> Standing {
+    Standing {
+        form: Form::Sole,
+        twin: Form::Absent,
+        capacity: list.capacity(),
+    }
+}
+
 fn cost(meter: Meter, name: &'static str, call: UnitCall, times: usize) -> Result<Cost, EcoError> {
     let mut list = EcoVec::new(meter.alloc);
-    let before = Role::Change.after(form_of(&mut list), Form::Absent, list.capacity());
+    let before = standing(&list);
     let _begun = meter.begin();
     for _ in 0..times {
         grow(&mut list, call)?;
@@ -48,17 +57,16 @@ fn cost(meter: Meter, name: &'static str, call: UnitCall, times: usize) -> Resul
         state: "no block",
         counts: None,
         before,
-        after: Role::Change.after(form_of(&mut list), Form::Absent, list.capacity()),
+        after: standing(&list),
     })
 }
 
 /// What it costs to make a vector of so many.
 fn cost_of_making(meter: Meter, name: &'static str, len: usize) -> Result<Cost, EcoError> {
     let _begun = meter.begin();
-    let mut list = EcoVec::from_elem(meter.alloc, (), len)?;
+    let list = EcoVec::from_elem(meter.alloc, (), len)?;
     let _ended = meter.end();
-    let standing = Role::Make.after(form_of(&mut list), Form::Absent, list.capacity());
-    Ok(Cost::of_making(name, standing))
+    Ok(Cost::of_making(name, Form::Sole, list.capacity()))
 }
 
 pub(crate) fn add_rows(meter: Meter, rows: &mut Rows) {

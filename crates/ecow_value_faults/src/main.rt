@@ -1,56 +1,29 @@
-//! Vectors, bytes and texts whose requests for memory are refused in turn by the gate.
+//! Vectors, bytes and texts whose requests for memory are refused in turn by the gate: each call of
+//! the tables in each state. Where no request is refused, the clones of elements are, and calls are
+//! made on values of many items and of lengths that a seed decides.
 #![tactic(auto)]
 
+mod clones;
+mod each_call;
 mod owners;
+mod seeds;
 mod units;
 
+use crate::each_call::{bytes_hold, copies_hold, many_hold, texts_hold, vectors_hold};
 use ecow_bytes::SmallBytes;
 use ecow_calls::elements::Named;
 use ecow_calls::parts::{Parts, run};
+use ecow_calls::prints;
 use ecow_calls::watch::Watch;
-use ecow_calls::{asked, bytes, makers, prints, small, texts, vectors};
 use ecow_string::SmallText;
 use std::alloc::Global;
 use std::io;
 
-/// `none` names the type of the values: a proof knows then that they have a size.
-fn bytes_hold<const N: usize>(alloc: Global, watch: &Watch, none: &SmallBytes<N>) -> bool {
-    small::calls_hold::<SmallBytes<N>>(alloc, watch, &bytes::STEPS)
-        && bytes::makers_hold(alloc, watch, none)
-        && bytes::derived_hold(alloc, watch, none)
-}
-
-fn texts_hold<const N: usize>(alloc: Global, watch: &Watch, none: &SmallText<N>) -> bool {
-    small::calls_hold::<SmallText<N>>(alloc, watch, &texts::STEPS)
-        && texts::makers_hold(alloc, watch, none)
-        && texts::derived_hold(alloc, watch, none)
-}
-
-/// Tests values at the limit that stands in a place, counted from 0, in the order of the names.
-macro_rules! hold_at {
-    ($place:expr, $hold:ident, $value:ident, $alloc:expr, $watch:expr) => {
-        match $place {
-            0 => $hold::<0>($alloc, $watch, &$value::new($alloc)),
-            1 => $hold::<1>($alloc, $watch, &$value::new($alloc)),
-            2 => $hold::<3>($alloc, $watch, &$value::new($alloc)),
-            3 => $hold::<15>($alloc, $watch, &$value::new($alloc)),
-            4 => $hold::<23>($alloc, $watch, &$value::new($alloc)),
-            _ => $hold::<255>($alloc, $watch, &$value::new($alloc)),
-        }
-    };
-}
-
-fn is_right_bytes(place: usize, alloc: Global, watch: &Watch) -> bool {
-    hold_at!(place, bytes_hold, SmallBytes, alloc, watch)
-}
-
-fn is_right_text(place: usize, alloc: Global, watch: &Watch) -> bool {
-    hold_at!(place, texts_hold, SmallText, alloc, watch)
-}
-
-const NAMES: [&str; 19] = [
+const NAMES: [&str; 21] = [
     "vectors of numbers",
+    "vectors of bytes",
     "vectors of names",
+    "vectors of many elements",
     "bytes, none inline",
     "bytes, 1 inline",
     "bytes, 3 inline",
@@ -64,8 +37,8 @@ const NAMES: [&str; 19] = [
     "texts, 23 inline",
     "texts, 255 inline",
     "printed texts",
-    "makers of vectors",
-    "items that are asked for",
+    "clones of elements",
+    "values by a seed",
     "many owners",
     "elements of no bytes",
 ];
@@ -75,17 +48,26 @@ struct Values;
 impl Parts for Values {
     fn holds(part: usize, alloc: Global, watch: &Watch) -> bool {
         match part {
-            0 => vectors::calls_hold::<i64>(alloc, watch),
-            1 => vectors::calls_hold::<Named>(alloc, watch),
-            2..=7 => is_right_bytes(part - 2, alloc, watch),
-            8..=13 => is_right_text(part - 8, alloc, watch),
-            14 => prints::printing_holds(alloc, watch),
-            15 => {
-                makers::makers_hold::<i64>(alloc, watch)
-                    && makers::makers_hold::<Named>(alloc, watch)
-            }
-            16 => asked::items_hold(alloc, watch),
-            17 => owners::owners_hold(alloc, watch),
+            0 => vectors_hold::<i64>(alloc, watch) && copies_hold::<i64>(alloc, watch, 11),
+            1 => vectors_hold::<u8>(alloc, watch) && copies_hold::<u8>(alloc, watch, 15),
+            2 => vectors_hold::<Named>(alloc, watch),
+            3 => many_hold(alloc, watch),
+            4 => bytes_hold::<SmallBytes<0>>(alloc, watch),
+            5 => bytes_hold::<SmallBytes<1>>(alloc, watch),
+            6 => bytes_hold::<SmallBytes<3>>(alloc, watch),
+            7 => bytes_hold::<SmallBytes<15>>(alloc, watch),
+            8 => bytes_hold::<SmallBytes<23>>(alloc, watch),
+            9 => bytes_hold::<SmallBytes<255>>(alloc, watch),
+            10 => texts_hold::<SmallText<0>>(alloc, watch),
+            11 => texts_hold::<SmallText<1>>(alloc, watch),
+            12 => texts_hold::<SmallText<3>>(alloc, watch),
+            13 => texts_hold::<SmallText<15>>(alloc, watch),
+            14 => texts_hold::<SmallText<23>>(alloc, watch),
+            15 => texts_hold::<SmallText<255>>(alloc, watch),
+            16 => prints::printing_holds(alloc, watch),
+            17 => clones::clones_hold(alloc, watch),
+            18 => seeds::values_hold(alloc, watch),
+            19 => owners::owners_hold(alloc, watch),
             _ => units::units_hold(alloc, watch),
         }
     }

@@ -1,0 +1,305 @@
+//! A call on a value in a state, seen from outside: it does what the model says, or is refused where
+//! that may be, and leaves all as it was.
+use crate::calls::{Call, Role, Row};
+use crate::model::{Case, Origin};
+use crate::states::State;
+use crate::value::{Asked, Value, case_of};
+use crate::watch::Watch;
+use ecow_list::EcoError;
+use std::alloc::Global;
+
+/// An item in the case that a call gives it.
+fn in_case(row: &Row, item: i64) -> i64 {
+    match row.call {
+        Call::MakeAsciiUppercase | Call::ToAsciiUppercase if item >= 97 && item <= 122 => item - 32,
+        Call::ToUppercase if item >= 97 && item <= 122 => item - 32,
+        // The second byte of `é`, and of `É`.
+        Call::ToUppercase if item == 169 => 137,
+        Call::MakeAsciiLowercase | Call::ToAsciiLowercase if item >= 65 && item <= 90 => item + 32,
+        Call::ToLowercase if item >= 65 && item <= 90 => item + 32,
+        _ => item,
+    }
+}
+
+fn item_of<V: Value>(case: &Case, origin: Origin) -> i64 {
+    match origin {
+        Origin::Before(place) => in_case(&case.row, V::letter(&case.state, place)),
+        Origin::Given(place) => V::given(&case.row, place),
+        Origin::Byte(byte) => i64::from(byte),
+    }
+}
+
+/// Whether a value has so many items, each from where it is to come.
+fn holds_change<V: Value>(case: &Case, value: &V, len: usize) -> bool {
+    let mut hold = value.len() == len;
+    for place in 0..value.len() {
+        let item = item_of::<V>(case, case.row.origin(case.state.len, place));
+        hold = hold && value.item(place) == Some(item);
+    }
+    hold
+}
+
+fn holds_made<V: Value>(case: &Case, value: &V) -> bool {
+    let mut hold = value.len() == case.made_len();
+    for place in 0..value.len() {
+        let item = item_of::<V>(case, case.row.made_of(case.state.len, place));
+        hold = hold && value.item(place) == Some(item);
+    }
+    hold
+}
+
+/// Whether a value is as it was made.
+fn is_before<V: Value>(case: &Case, value: &V) -> bool {
+    let mut hold = value.len() == case.state.len;
+    for place in 0..value.len() {
+        hold = hold && value.item(place) == Some(V::letter(&case.state, place));
+    }
+    hold && value.is_inline() == case.state.room.is_none() && value.capacity() == room_before(case)
+}
+
+fn room_before(case: &Case) -> usize {
+    case.state.room.or(case.limit).unwrap_or(0)
+}
+
+/// Whether what is handed out is what went.
+fn hands_out<V: Value>(case: &Case, out: &V::Out) -> bool {
+    let edit = case.edit();
+    let count = if case.row.hands_out() {
+        edit.end.saturating_sub(edit.start)
+    } else {
+        0
+    };
+    let mut hold = V::handed(out, count).is_none();
+    for place in 0..count {
+        let item = V::letter(&case.state, edit.start.saturating_add(place));
+        hold = hold && V::handed(out, place) == Some(item);
+    }
+    hold
+}
+
+/// Whether an iterator was asked for each item that went in, and once more.
+fn is_asked<V: Value>(case: &Case, gift: &V::Gift, count: usize) -> bool {
+    let takes_items = match case.row.call {
+        Call::Extend | Call::Splice | Call::FromIter | Call::Collect => true,
+        _ => false,
+    };
+    match V::asked(gift) {
+        Asked::ForItems(times) => !takes_items || times == count.saturating_add(1),
+        Asked::ForHint => false,
+        Asked::Unseen => true,
+    }
+}
+
+/// Whether so many elements were cloned, where that is counted.
+fn is_cloned<V: Value>(source: &V::Source, before: Option<(u64, u64)>, clones: usize) -> bool {
+    match (before, V::counts(source)) {
+        (Some((before, _)), Some((after, _))) => after.wrapping_sub(before) == clones as u64,
+        _ => true,
+    }
+}
+
+/// Whether a call that is refused may have left so many items more: those that went in piece by
+/// piece, up to one for which there was no room.
+fn is_cut(case: &Case, count: usize) -> bool {
+    let Some(piece) = case.row.piece() else {
+        return count == 0;
+    };
+    let len = case.state.len.saturating_add(count);
+    let is_full = len.saturating_add(piece) > case.room_by_pieces(count);
+    let is_whole = count.checked_rem(piece).unwrap_or(0) == 0;
+    count < case.edit().count && is_whole && (is_full || case.state.shared && count == 0)
+}
+
+/// Whether the room is that of a refused call that left so many items more.
+fn is_room_left(case: &Case, count: usize, room: usize) -> bool {
+    if count > 0 {
+        return room == case.room_by_pieces(count);
+    }
+    // A block has grown before the first clone, and stays so where a clone is refused.
+    let has_grown = case.row.call == Call::ExtendFromSlice && !case.state.shared;
+    room == room_before(case) || has_grown && !case.is_plain && room == case.room_after()
+}
+
+/// Whether a change did what it is to do, or was refused and left all; and whether the value then
+/// shares no block.
+fn change_holds<V: Value>(
+    watch: &Watch,
+    case: &Case,
+    done: &Result<V::Out, EcoError>,
+    value: &V,
+    gift: &V::Gift,
+) -> (bool, bool) {
+    match done {
+        Ok(out) => {
+            let hold = holds_change(case, value, case.len_after())
+                && hands_out::<V>(case, out)
+                && value.is_inline() == case.is_inline_after()
+                && value.capacity() == case.room_after()
+                && is_asked::<V>(case, gift, case.row.count);
+            (hold, case.leaves())
+        }
+        Err(EcoError::Memory) if !case.is_free() && watch.may_refuse() => {
+            let count = value.len().saturating_sub(case.state.len);
+            let hold = is_cut(case, count)
+                && holds_front(case, value, count)
+                && is_room_left(case, count, value.capacity())
+                && (case.row.call != Call::Extend || is_asked::<V>(case, gift, count));
+            (hold, count > 0)
+        }
+        Err(_) => (false, false),
+    }
+}
+
+/// Whether a value is as before, with so many of the items that it was given behind.
+fn holds_front<V: Value>(case: &Case, value: &V, count: usize) -> bool {
+    let len = case.state.len.saturating_add(count);
+    let mut hold = value.len() == len;
+    for place in 0..value.len() {
+        let item = if place < case.state.len {
+            V::letter(&case.state, place)
+        } else {
+            item_of::<V>(case, case.row.origin(case.state.len, place))
+        };
+        hold = hold && value.item(place) == Some(item);
+    }
+    hold && value.is_inline() == (case.state.room.is_none() && fits(case, len))
+}
+
+fn fits(case: &Case, len: usize) -> bool {
+    match case.limit {
+        Some(limit) => len <= limit,
+        None => false,
+    }
+}
+
+/// Whether a twin is as it was made, and alone where the value left it.
+fn twin_holds<V: Value>(case: &Case, twin: Option<V>, has_left: bool) -> bool {
+    let Some(twin) = twin else {
+        return true;
+    };
+    let is_kept = is_before(case, &twin);
+    match twin.into_block() {
+        Some(mut block) => is_kept && V::is_sole(&mut block) == has_left,
+        None => is_kept,
+    }
+}
+
+/// Makes a change on a value in a state.
+fn change_trial<V: Value>(alloc: Global, source: &V::Source, watch: &Watch, case: &Case) -> bool {
+    let (Ok(value), Ok(gift)) = (
+        V::made(alloc, source, &case.state),
+        V::gift(alloc, source, &case.row),
+    ) else {
+        return watch.may_refuse();
+    };
+    let (mut value, mut gift, mut twin) = (value, gift, None);
+    if case.state.shared {
+        match value.clone() {
+            Ok(copy) => twin = Some(copy),
+            Err(_) => return false,
+        }
+    }
+    let counts = V::counts(source);
+    let done = value.change(&case.row, &mut gift);
+    let is_cloned = done.is_err() || is_cloned::<V>(source, counts, case.clones(Role::Change));
+    let (hold, has_left) = change_holds(watch, case, &done, &value, &gift);
+    hold && is_cloned && twin_holds(case, twin, has_left)
+}
+
+/// Makes a value of a value in a state, which stays as it was.
+fn derive_trial<V: Value>(alloc: Global, source: &V::Source, watch: &Watch, case: &Case) -> bool {
+    let Ok(value) = V::made(alloc, source, &case.state) else {
+        return watch.may_refuse();
+    };
+    let mut twin = None;
+    if case.state.shared {
+        match value.clone() {
+            Ok(copy) => twin = Some(copy),
+            Err(_) => return false,
+        }
+    }
+    let counts = V::counts(source);
+    let hold = match value.derive(&case.row) {
+        Ok(Some(made)) => is_made(case, &made) && is_shared_by_clones(case, made),
+        Ok(None) => case.row.call == Call::ToStd,
+        Err(EcoError::Memory) => !case.is_made_free() && watch.may_refuse(),
+        Err(_) => false,
+    };
+    let is_cloned = is_cloned::<V>(source, counts, 0);
+    hold && is_cloned && is_before(case, &value) && twin_holds(case, twin, false)
+}
+
+/// Whether a value that was made is as it is to be.
+fn is_made<V: Value>(case: &Case, value: &V) -> bool {
+    let inline = case.is_made_inline();
+    let has_room = match case.row.call {
+        Call::Clone => value.capacity() == room_before(case),
+        _ if inline => value.capacity() == case.limit.unwrap_or(0),
+        Call::WithCapacity => value.capacity() == case.row.count,
+        _ => value.capacity() >= case.made_len(),
+    };
+    holds_made(case, value) && value.is_inline() == inline && has_room
+}
+
+/// Whether a value shares its block where it is a clone, and else has its own.
+fn is_shared_by_clones<V: Value>(case: &Case, made: V) -> bool {
+    let has_block = case.state.room.is_some_and(|room| room > 0);
+    match made.into_block() {
+        Some(mut block) => V::is_sole(&mut block) != (case.row.call == Call::Clone && has_block),
+        None => true,
+    }
+}
+
+/// Makes a value of what a call is given.
+fn make_trial<V: Value>(alloc: Global, source: &V::Source, watch: &Watch, case: &Case) -> bool {
+    let Ok(mut gift) = V::gift(alloc, source, &case.row) else {
+        return watch.may_refuse();
+    };
+    let counts = V::counts(source);
+    match V::make(&case.row, &mut gift) {
+        Ok(made) => {
+            is_made(case, &made)
+                && is_cloned::<V>(source, counts, case.clones(Role::Make))
+                && is_asked::<V>(case, &gift, case.row.count)
+        }
+        Err(EcoError::Memory) => !case.is_made_free() && watch.may_refuse(),
+        Err(_) => false,
+    }
+}
+
+/// Whether a call in a state holds; so does one that doesn't fit there.
+pub fn trial<V: Value>(
+    alloc: Global,
+    source: &V::Source,
+    watch: &Watch,
+    role: Role,
+    (row, state): (&Row, &State),
+) -> bool {
+    let case = case_of::<V>(row, state);
+    if !case.fits() {
+        return true;
+    }
+    let hold = match role {
+        Role::Change => change_trial::<V>(alloc, source, watch, &case),
+        Role::Derive => derive_trial::<V>(alloc, source, watch, &case),
+        Role::Make => make_trial::<V>(alloc, source, watch, &case),
+    };
+    watch.sees(hold, row, state)
+}
+
+/// Whether each call of a table holds in each of the states.
+pub fn table_holds<V: Value>(
+    alloc: Global,
+    source: &V::Source,
+    watch: &Watch,
+    role: Role,
+    (rows, states): (&[Row], &[State]),
+) -> bool {
+    let mut hold = true;
+    for row in rows {
+        for state in states {
+            hold = trial::<V>(alloc, source, watch, role, (row, state)) && hold;
+        }
+    }
+    hold
+}

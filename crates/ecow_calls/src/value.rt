@@ -1,0 +1,93 @@
+//! What those see of a value that watch its calls.
+use crate::calls::{Role, Row};
+use crate::model::Case;
+use crate::states::State;
+use ecow_list::EcoError;
+use std::alloc::{AllocError, Global};
+
+/// What the iterator of a gift was asked.
+#[derive(Clone, Copy)]
+pub enum Asked {
+    /// For an item, so often, and for nothing else.
+    ForItems(usize),
+    ForHint,
+    /// It counts nothing.
+    Unseen,
+}
+
+/// A vector, bytes or a text. A call that hands back another value than it was given answers
+/// `Capacity`, which none is refused for here.
+pub trait Value: Clone + Drop {
+    /// What elements are made of, beside memory.
+    type Source: Drop;
+
+    /// What a call is given, made before it.
+    type Gift: Drop;
+
+    /// What a call hands out.
+    type Out: Drop;
+
+    /// The block of a value that isn't inline.
+    type Block: Drop;
+
+    /// How many items stand in the value itself; vectors have none there.
+    fn limit() -> Option<usize>;
+
+    fn is_text() -> bool;
+
+    /// Whether a clone of an item can't be refused.
+    fn is_plain() -> bool;
+
+    /// How often elements were cloned so far, and how often dropped, where that is counted.
+    fn counts(source: &Self::Source) -> Option<(u64, u64)>;
+
+    /// What stands before a call's name in the tables of costs.
+    fn owner(role: Role, row: &Row) -> &'static str;
+
+    /// The item at a place of a value of so many.
+    fn letter(state: &State, place: usize) -> i64;
+
+    /// An item that a call is given.
+    fn given(row: &Row, place: usize) -> i64;
+
+    fn made(alloc: Global, source: &Self::Source, state: &State) -> Result<Self, EcoError>;
+
+    fn gift(alloc: Global, source: &Self::Source, row: &Row) -> Result<Self::Gift, AllocError>;
+
+    /// Makes a call that changes the value, reads it or gives it away.
+    fn change(&mut self, row: &Row, gift: &mut Self::Gift) -> Result<Self::Out, EcoError>;
+
+    /// Makes another of the value; `None` where that is none of ours.
+    fn derive(&self, row: &Row) -> Result<Option<Self>, EcoError>;
+
+    /// Makes a value of what the call is given.
+    fn make(row: &Row, gift: &mut Self::Gift) -> Result<Self, EcoError>;
+
+    fn len(&self) -> usize;
+
+    fn capacity(&self) -> usize;
+
+    fn is_inline(&self) -> bool;
+
+    fn item(&self, place: usize) -> Option<i64>;
+
+    fn handed(out: &Self::Out, place: usize) -> Option<i64>;
+
+    fn asked(gift: &Self::Gift) -> Asked;
+
+    /// The block of a value; none of an inline one.
+    fn into_block(self) -> Option<Self::Block>;
+
+    fn is_sole(block: &mut Self::Block) -> bool;
+}
+
+/// A call on a value in a state.
+pub fn case_of<V: Value>(row: &Row, state: &State) -> Case {
+    Case {
+        row: *row,
+        state: *state,
+        limit: V::limit(),
+        is_text: V::is_text(),
+        is_plain: V::is_plain(),
+    }
+}

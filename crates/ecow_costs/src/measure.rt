@@ -1,0 +1,285 @@
+//! What calls cost of any value.
+use crate::marks::Meter;
+use crate::rows::{Cost, Form, Rows, Standing, USUAL};
+use ecow_calls::calls::{Role, Row};
+use ecow_calls::counting::{Counting, Tally};
+use ecow_calls::elements::or_memory;
+use ecow_calls::states::{
+    State, edge, few_bytes, few_elements, few_spilled, no_byte, thousand,
+};
+use ecow_calls::tables;
+use ecow_calls::value::Value;
+use ecow_list::{EcoError, EcoVec};
+
+fn form_of<V: Value>(block: &mut Option<V::Block>) -> Form {
+    match block {
+        Some(block) => {
+            if V::is_sole(block) {
+                Form::Sole
+            } else {
+                Form::Shared
+            }
+        }
+        None => Form::Inline,
+    }
+}
+
+/// Where two values stand, of which there may be one.
+fn forms<V: Value>(value: V, other: Option<V>) -> (Form, Form) {
+    let mut block = value.into_block();
+    match other {
+        Some(other) => {
+            let mut other = other.into_block();
+            (form_of::<V>(&mut block), form_of::<V>(&mut other))
+        }
+        None => (form_of::<V>(&mut block), Form::Absent),
+    }
+}
+
+/// Where the value stands in a state, and its clone or what is to be made of it.
+fn before<V: Value>(role: Role, state: &State) -> Standing {
+    let form = match state.room {
+        None => Form::Inline,
+        Some(_) if state.shared => Form::Shared,
+        Some(_) => Form::Sole,
+    };
+    let capacity = state.room.or(V::limit()).unwrap_or(0);
+    let (form, twin) = match role {
+        Role::Change if state.shared => (form, form),
+        Role::Change => (form, Form::Absent),
+        Role::Derive => (Form::Absent, form),
+        Role::Make => (Form::Absent, Form::Absent),
+    };
+    Standing {
+        form,
+        twin,
+        capacity,
+    }
+}
+
+/// Where the value stands after a change, and its clone.
+fn after_change<V: Value>(row: &Row, value: V, twin: Option<V>) -> Standing {
+    let capacity = value.capacity();
+    let (form, twin) = forms(value, twin);
+    if row.gives_away() {
+        return Standing {
+            form: Form::Absent,
+            twin,
+            capacity: 0,
+        };
+    }
+    Standing {
+        form,
+        twin,
+        capacity,
+    }
+}
+
+/// Where a value stands that was made, if one was, and what it was made of.
+fn after_making<V: Value>(made: Option<V>, source: Option<V>) -> Standing {
+    match (made, source) {
+        (Some(made), source) => {
+            let capacity = made.capacity();
+            let (form, twin) = forms(made, source);
+            Standing {
+                form,
+                twin,
+                capacity,
+            }
+        }
+        (None, Some(source)) => {
+            let (twin, _) = forms(source, None);
+            Standing {
+                form: Form::Absent,
+                twin,
+                capacity: 0,
+            }
+        }
+        (None, None) => Standing::none(),
+    }
+}
+
+/// What has been counted since.
+fn since(before: Option<(u64, u64)>, after: Option<(u64, u64)>) -> Option<(u64, u64)> {
+    let (before, after) = (before?, after?);
+    Some((after.0.wrapping_sub(before.0), after.1.wrapping_sub(before.1)))
+}
+
+/// A clone of a value that is to be shared.
+fn twin_of<V: Value>(value: &V, state: &State) -> Result<Option<V>, EcoError> {
+    if !state.shared {
+        return Ok(None);
+    }
+    or_memory(value.clone()).map(|twin| Some(twin))
+}
+
+fn cost_of_change<V: Value>(
+    meter: Meter,
+    source: &V::Source,
+    (row, state): (&Row, &State),
+) -> Result<Cost, EcoError> {
+    let mut value = V::made(meter.alloc, source, state)?;
+    let twin = twin_of(&value, state)?;
+    let mut gift = V::gift(meter.alloc, source, row)?;
+    let (counted, _begun) = (V::counts(source), meter.begin());
+    let mut out = None;
+    for _ in 0..row.times {
+        out = Some(value.change(row, &mut gift)?);
+    }
+    let (_ended, counts) = (meter.end(), since(counted, V::counts(source)));
+    drop(out);
+    Ok(Cost {
+        after: after_change(row, value, twin),
+        counts,
+        ..Cost::of::<V>(Role::Change, row, state, before::<V>(Role::Change, state))
+    })
+}
+
+fn cost_of_derivation<V: Value>(
+    meter: Meter,
+    source: &V::Source,
+    (row, state): (&Row, &State),
+) -> Result<Cost, EcoError> {
+    let value = V::made(meter.alloc, source, state)?;
+    let twin = twin_of(&value, state)?;
+    let (counted, _begun) = (V::counts(source), meter.begin());
+    let made = value.derive(row)?;
+    let (_ended, counts) = (meter.end(), since(counted, V::counts(source)));
+    let after = after_making(made, Some(value));
+    drop(twin);
+    Ok(Cost {
+        after,
+        counts,
+        ..Cost::of::<V>(Role::Derive, row, state, before::<V>(Role::Derive, state))
+    })
+}
+
+fn cost_of_making<V: Value>(
+    meter: Meter,
+    source: &V::Source,
+    (row, state): (&Row, &State),
+) -> Result<Cost, EcoError> {
+    let mut gift = V::gift(meter.alloc, source, row)?;
+    let (counted, _begun) = (V::counts(source), meter.begin());
+    let made = V::make(row, &mut gift)?;
+    let (_ended, counts) = (meter.end(), since(counted, V::counts(source)));
+    Ok(Cost {
+        after: after_making(Some(made), None),
+        counts,
+        ..Cost::of::<V>(Role::Make, row, state, before::<V>(Role::Make, state))
+    })
+}
+
+/// Adds a row of each call of a table in each of the states in which it fits.
+fn add<V: Value>(
+    meter: Meter,
+    rows: &mut Rows,
+    source: &V::Source,
+    role: Role,
+    (calls, states): (&[Row], &[State]),
+) {
+    for row in calls {
+        for state in states {
+            if row.needs <= state.len {
+                let at = (row, state);
+                rows.add(match role {
+                    Role::Change => cost_of_change::<V>(meter, source, at),
+                    Role::Derive => cost_of_derivation::<V>(meter, source, at),
+                    Role::Make => cost_of_making::<V>(meter, source, at),
+                });
+            }
+        }
+    }
+}
+
+/// The rows of vectors of elements that count.
+pub(crate) fn add_vectors(meter: Meter, rows: &mut Rows) {
+    type Vector = EcoVec<Counting>;
+    let Ok(tally) = Tally::new(meter.alloc) else {
+        return;
+    };
+    let (few, many) = (few_elements(), thousand());
+    let (none, changes) = (&few[..1], tables::vector_changes());
+    let (makers, more) = (tables::vector_makers(), tables::vector_makers_of_many());
+    for states in [few.as_slice(), &many] {
+        add::<Vector>(meter, rows, &tally, Role::Change, (&changes, states));
+        let derivations = tables::vector_derivations();
+        add::<Vector>(meter, rows, &tally, Role::Derive, (&derivations, states));
+    }
+    add::<Vector>(meter, rows, &tally, Role::Change, (&tables::vector_growth(), none));
+    add::<Vector>(meter, rows, &tally, Role::Make, (&makers, none));
+    add::<Vector>(meter, rows, &tally, Role::Make, (&more, none));
+}
+
+/// The rows of calls that take elements as memory, of bytes.
+pub(crate) fn add_copies(meter: Meter, rows: &mut Rows) {
+    type Vector = EcoVec<u8>;
+    let (few, many, copies) = (few_elements(), thousand(), tables::copies());
+    let (none, within) = (&few[..1], tables::copies_within());
+    for states in [few.as_slice(), &many] {
+        add::<Vector>(meter, rows, &(), Role::Change, (&copies, states));
+        add::<Vector>(meter, rows, &(), Role::Change, (&within, states));
+    }
+    add::<Vector>(meter, rows, &(), Role::Change, (&tables::copies_growth(), none));
+    add::<Vector>(meter, rows, &(), Role::Make, (&tables::copies_makers(), none));
+}
+
+/// The rows of changes and derivations of bytes or texts at their limit.
+fn add_states<V: Value<Source = ()>>(
+    meter: Meter,
+    rows: &mut Rows,
+    changes: &[Row],
+    derivations: &[Row],
+) {
+    let limit = V::limit().unwrap_or(0);
+    let (usual, edge, many, few) = (few_bytes(), edge(limit), thousand(), few_spilled(limit));
+    let states = match limit {
+        USUAL => usual.as_slice(),
+        0 => &edge[..1],
+        _ => &edge,
+    };
+    let reductions = tables::reductions();
+    for states in [states, &many] {
+        add::<V>(meter, rows, &(), Role::Change, (changes, states));
+        add::<V>(meter, rows, &(), Role::Change, (&reductions, states));
+        add::<V>(meter, rows, &(), Role::Derive, (derivations, states));
+    }
+    add::<V>(meter, rows, &(), Role::Change, (&tables::shrinking(), &few));
+}
+
+/// The rows of makers of bytes or texts, at the usual limit or at another; of growth at the first.
+fn add_made<V: Value<Source = ()>>(
+    meter: Meter,
+    rows: &mut Rows,
+    makers: &[Row],
+    makers_at: &[Row],
+    growth: &[Row],
+) {
+    let limit = V::limit().unwrap_or(0);
+    let (states, none) = (edge(limit), no_byte());
+    let first = &states[..1];
+    if limit == USUAL {
+        add::<V>(meter, rows, &(), Role::Make, (&tables::first_makers(), first));
+        add::<V>(meter, rows, &(), Role::Make, (makers, first));
+        add::<V>(meter, rows, &(), Role::Change, (growth, &none));
+    } else {
+        add::<V>(meter, rows, &(), Role::Make, (&tables::first_makers_at(limit), first));
+        add::<V>(meter, rows, &(), Role::Make, (makers_at, first));
+    }
+}
+
+pub(crate) fn add_bytes<V: Value<Source = ()>>(meter: Meter, rows: &mut Rows) {
+    let limit = V::limit().unwrap_or(0);
+    let (makers, makers_at) = (tables::bytes_makers(), tables::bytes_makers_at(limit));
+    let (changes, derivations) = (tables::bytes_changes(), tables::bytes_derivations());
+    add_states::<V>(meter, rows, &changes, &derivations);
+    add_made::<V>(meter, rows, &makers, &makers_at, &tables::bytes_growth());
+}
+
+pub(crate) fn add_texts<V: Value<Source = ()>>(meter: Meter, rows: &mut Rows) {
+    let limit = V::limit().unwrap_or(0);
+    let (makers, makers_at) = (tables::text_makers(), tables::text_makers_at(limit));
+    let (changes, derivations) = (tables::text_changes(), tables::text_derivations());
+    add_states::<V>(meter, rows, &changes, &derivations);
+    add_made::<V>(meter, rows, &makers, &makers_at, &tables::text_growth());
+}

@@ -1,0 +1,53 @@
+//! Calls whose clones of elements are refused: the first, the second and so on.
+use ecow_calls::calls::{Role, Row};
+use ecow_calls::counting::{Counting, Tally};
+use ecow_calls::states::{State, few_elements};
+use ecow_calls::tables;
+use ecow_calls::trials::trial;
+use ecow_calls::watch::Watch;
+use ecow_list::EcoVec;
+use std::alloc::Global;
+
+/// Refuses each clone of a call in turn, until none is refused. `None` where the elements can't be
+/// made.
+fn each_clone_is_refused(
+    alloc: Global,
+    role: Role,
+    row: &Row,
+    state: &State,
+) -> Option<bool> {
+    for refused in 1..100 {
+        let (tally, watch) = (Tally::refusing(alloc, refused).ok()?, Watch::new(false));
+        if !trial::<EcoVec<Counting>>(alloc, &tally, &watch, role, (row, state)) {
+            return Some(false);
+        }
+        if watch.is_untouched() {
+            return Some(true);
+        }
+    }
+    Some(false)
+}
+
+fn rows_hold(alloc: Global, watch: &Watch, role: Role, rows: &[Row], states: &[State]) -> bool {
+    let mut hold = true;
+    for row in rows {
+        for state in states {
+            let is_right = each_clone_is_refused(alloc, role, row, state) == Some(true);
+            hold = watch.sees(is_right, row, state) && hold;
+        }
+    }
+    hold
+}
+
+/// No request for memory may be refused beside.
+pub(crate) fn clones_hold(alloc: Global, watch: &Watch) -> bool {
+    let (changes, further) = (tables::vector_changes(), tables::further_vector_changes());
+    let (makers, more) = (tables::vector_makers(), tables::further_vector_makers());
+    let states = few_elements();
+    !watch.is_strict()
+        || rows_hold(alloc, watch, Role::Change, &changes, &states)
+            && rows_hold(alloc, watch, Role::Change, &further, &states)
+            && rows_hold(alloc, watch, Role::Derive, &tables::vector_derivations(), &states)
+            && rows_hold(alloc, watch, Role::Make, &makers, &states[..1])
+            && rows_hold(alloc, watch, Role::Make, &more, &states[..1])
+}

@@ -1,0 +1,130 @@
+//! Each call of the tables in each state.
+use ecow_calls::calls::{Role, Row};
+use ecow_calls::counting::{Counting, Tally};
+use ecow_calls::elements::Element;
+use ecow_calls::states::{State, around, few_elements, few_spilled, thousand};
+use ecow_calls::tables;
+use ecow_calls::trials::table_holds;
+use ecow_calls::value::Value;
+use ecow_calls::watch::Watch;
+use ecow_list::EcoVec;
+use std::alloc::Global;
+
+/// Vectors of a thousand elements that count, where no request is refused.
+pub(crate) fn many_hold(alloc: Global, watch: &Watch) -> bool {
+    let Ok(tally) = Tally::new(alloc) else {
+        return watch.may_refuse();
+    };
+    let (changes, many) = (tables::vector_changes(), thousand());
+    let (makers, first) = (tables::vector_makers_of_many(), &many[..1]);
+    !watch.is_strict()
+        || table_holds::<EcoVec<Counting>>(alloc, &tally, watch, Role::Change, (&changes, &many))
+            && table_holds::<EcoVec<Counting>>(alloc, &tally, watch, Role::Make, (&makers, first))
+}
+
+/// Vectors with few elements in each state, which come of memory alone.
+pub(crate) fn vectors_hold<T: Element<Source = ()>>(alloc: Global, watch: &Watch) -> bool {
+    let source = &();
+    let (changes, further) = (tables::vector_changes(), tables::further_vector_changes());
+    let (makers, more) = (tables::vector_makers(), tables::further_vector_makers());
+    let (states, derivations) = (few_elements(), tables::vector_derivations());
+    let first = &states[..1];
+    table_holds::<EcoVec<T>>(alloc, source, watch, Role::Change, (&changes, &states))
+        && table_holds::<EcoVec<T>>(alloc, source, watch, Role::Change, (&further, &states))
+        && table_holds::<EcoVec<T>>(alloc, source, watch, Role::Derive, (&derivations, &states))
+        && table_holds::<EcoVec<T>>(alloc, source, watch, Role::Make, (&makers, first))
+        && table_holds::<EcoVec<T>>(alloc, source, watch, Role::Make, (&more, first))
+}
+
+/// Calls of vectors that take elements as memory. Those behind the first eleven are of bytes alone.
+pub(crate) fn copies_hold<T: Element<Source = ()>>(
+    alloc: Global,
+    watch: &Watch,
+    copies: usize,
+) -> bool {
+    let (rows, further, makers) = (
+        tables::copies(),
+        tables::further_copies(),
+        tables::copies_makers(),
+    );
+    let (few, many) = (few_elements(), thousand());
+    let mut hold = true;
+    for (number, row) in rows.iter().enumerate() {
+        let rows = [*row];
+        if number < copies {
+            hold = table_holds::<EcoVec<T>>(alloc, &(), watch, Role::Change, (&rows, &few))
+                && table_holds::<EcoVec<T>>(alloc, &(), watch, Role::Change, (&rows, &many))
+                && hold;
+        }
+    }
+    table_holds::<EcoVec<T>>(alloc, &(), watch, Role::Change, (&further, &few))
+        && table_holds::<EcoVec<T>>(alloc, &(), watch, Role::Make, (&makers, &few[..1]))
+        && hold
+}
+
+/// Letters that differ, in each of the states.
+fn varied<const M: usize>(states: [State; M]) -> [State; M] {
+    let mut states = states;
+    for state in &mut states {
+        *state = state.varied();
+    }
+    states
+}
+
+/// Bytes or texts whose changes, derivations and makers these are, on both sides of their limit.
+fn small_hold<V: Value<Source = ()>>(
+    alloc: Global,
+    watch: &Watch,
+    changes: [&[Row]; 2],
+    further: [&[Row]; 2],
+    derivations: [&[Row]; 2],
+    makers: [&[Row]; 2],
+) -> bool {
+    let limit = V::limit().unwrap_or(0);
+    let (states, few, many) = (around(limit), few_spilled(limit), thousand());
+    let differ = varied(states);
+    let mut hold = true;
+    for rows in changes {
+        hold = table_holds::<V>(alloc, &(), watch, Role::Change, (rows, &differ))
+            && table_holds::<V>(alloc, &(), watch, Role::Change, (rows, &few))
+            && table_holds::<V>(alloc, &(), watch, Role::Change, (rows, &many))
+            && hold;
+    }
+    for rows in further {
+        hold = table_holds::<V>(alloc, &(), watch, Role::Change, (rows, &differ)) && hold;
+    }
+    for rows in derivations {
+        hold = table_holds::<V>(alloc, &(), watch, Role::Derive, (rows, &states)) && hold;
+    }
+    for rows in makers {
+        hold = table_holds::<V>(alloc, &(), watch, Role::Make, (rows, &states[..1])) && hold;
+    }
+    hold
+}
+
+pub(crate) fn bytes_hold<V: Value<Source = ()>>(alloc: Global, watch: &Watch) -> bool {
+    let limit = V::limit().unwrap_or(0);
+    small_hold::<V>(
+        alloc,
+        watch,
+        [&tables::bytes_changes(), &tables::reductions()],
+        [&tables::further_bytes_changes(), &tables::further_reductions()],
+        [&tables::bytes_derivations(), &[]],
+        [&tables::first_makers_at(limit), &tables::bytes_makers_at(limit)],
+    )
+}
+
+pub(crate) fn texts_hold<V: Value<Source = ()>>(alloc: Global, watch: &Watch) -> bool {
+    let limit = V::limit().unwrap_or(0);
+    let small = small_hold::<V>(
+        alloc,
+        watch,
+        [&tables::text_changes(), &tables::reductions()],
+        [&tables::further_text_changes(), &tables::further_reductions()],
+        [&tables::text_derivations(), &tables::further_text_derivations()],
+        [&tables::first_makers_at(limit), &tables::text_makers_at(limit)],
+    );
+    // Past ASCII the case of letters asks for std's text besides.
+    let (differ, rows) = (varied(around(limit)), tables::text_derivations());
+    small && table_holds::<V>(alloc, &(), watch, Role::Derive, (&rows[9..], &differ))
+}
