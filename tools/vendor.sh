@@ -52,8 +52,9 @@ sums() { # FOLDER
     (cd "$1" && find . -path ./out -prune -o -type f ! -name SUMS -exec cksum {} + | sort -k 3)
 }
 
-# Crates that had another name: the first from version 0.11 to 0.12, the others up to 0.10.
-renamed="ecow_vec:ecow_list ecow_text:ecow_string ecow_keeping:ecow_named"
+# Crates that had another name, or stand in another one now: the first from version 0.11 to 0.12, the next two up to
+# 0.10, the last up to 0.12.
+renamed="ecow_vec:ecow_list ecow_text:ecow_string ecow_keeping:ecow_named ecow_values:ecow_base"
 
 # Of an earlier call: the crates that this one wouldn't bring up to date, the files changed since, and the crates of
 # which that can't be told, since their copy has no checksums.

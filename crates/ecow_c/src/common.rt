@@ -6,7 +6,7 @@ ghost use Rattle.std.specs.Cmp.Lexicographic.{pointwise, slice_cmp};
 ghost use Rattle.std.specs.Hash as fed;
 ghost use Rattle.std.specs.Ordering.{int_eq, int_cmp, nat_cmp};
 ghost use Rattle.std.specs.Str.{chars, encode_utf8_all, is_utf8};
-ghost use Rattle.ecow_values.specs.Utf8.{utf8_len};
+ghost use Rattle.ecow_base.specs.Utf8.{utf8_len};
 ghost use Rattle.ecow_bytes.specs.Hashes.{hash_writes};
 ghost use Rattle.ecow_nested.specs.Values.{kind_of, value_eq};
 ghost use Rattle.ecow_nested.specs.declared.value.Kind.TheVariants as kind;

@@ -11,6 +11,6 @@ pub mod vecs;
 
 pub use bytes::BytesCommand;
 pub use command::{Bounds, Command, Name, Outcome, Refusal};
-pub use ecow_values::{Items, PlainBytes, PlainText, Text};
+pub use ecow_base::{Items, PlainBytes, PlainText, Text};
 pub use texts::TextCommand;
 pub use vecs::VecCommand;

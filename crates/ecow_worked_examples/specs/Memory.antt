@@ -1,8 +1,8 @@
 -- Values on which memory may be wanting.
 use Rattle.std.specs.Prelude.{ℕ, Bool, [], ◌∷◌, replicate}
 use Rattle.ecow_model.specs.Names.{Names}
-use Rattle.ecow_values.specs.Plain.{plain_bytes}
-use Rattle.ecow_values.specs.declared.plain.PlainBytes.{PlainBytes}
+use Rattle.ecow_base.specs.Plain.{plain_bytes}
+use Rattle.ecow_base.specs.declared.plain.PlainBytes.{PlainBytes}
 use Rattle.ecow_model.specs.declared.vecs.VecCommand.TheVariants.{FromList, Clone}
 use Rattle.ecow_worked_examples.specs.Tables.{left_by}
 

@@ -1,9 +1,9 @@
 //! Replaced patterns of a text.
 ghost use Rattle.std.specs.Prelude.{◌≡◌, [], ◌∷◌, codes};
-ghost use Rattle.ecow_values.specs.Replaced.{replacen, replace_all};
+ghost use Rattle.ecow_base.specs.Replaced.{replacen, replace_all};
 
 /// Patterns of some characters, and what stands in their place. 233 is é and 128512 is 😀.
-#[tactic(auto, unfolding(ecow_values::specs::Replaced::replacen, ecow_values::specs::Replaced::first_split))]
+#[tactic(auto, unfolding(ecow_base::specs::Replaced::replacen, ecow_base::specs::Replaced::first_split))]
 pub fn replaced_patterns()
     ensures leftmost_first { replace_all (codes "aa") (codes "b") (codes "aaa") ≡ codes "ba" }
     ensures at_the_end { replace_all (codes "a") [] (233 ∷ 97 ∷ []) ≡ 233 ∷ [] }
@@ -13,7 +13,7 @@ pub fn replaced_patterns()
 {}
 
 /// The empty pattern, which occurs at every boundary.
-#[tactic(auto, unfolding(ecow_values::specs::Replaced::replacen, ecow_values::specs::Replaced::first_split))]
+#[tactic(auto, unfolding(ecow_base::specs::Replaced::replacen, ecow_base::specs::Replaced::first_split))]
 pub fn replaced_boundaries()
     ensures all { replace_all [] (codes "-") (codes "ab") ≡ codes "-a-b-" }
     ensures two { replacen 2 [] (codes "-") (codes "ab") ≡ codes "-a-b" }

@@ -1,8 +1,8 @@
 -- Bytes and texts as contracts see them.
 use Rattle.std.specs.Prelude.{ℕ, Bool, List}
 use Rattle.std.specs.Str.{chars, encode_utf8_all}
-use Rattle.ecow_values.specs.declared.plain.PlainBytes.{PlainBytes}
-use Rattle.ecow_values.specs.declared.plain.PlainText.{PlainText}
+use Rattle.ecow_base.specs.declared.plain.PlainBytes.{PlainBytes}
+use Rattle.ecow_base.specs.declared.plain.PlainText.{PlainText}
 
 -- bytes, and whether they stand in the value itself
 abbrev pub plain_bytes : List ℕ → Bool → PlainBytes

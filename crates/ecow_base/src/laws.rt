@@ -1,6 +1,6 @@
 //! Laws of the definitions.
 ghost use Rattle.std.specs.Prelude.{◌≡◌, ℕ, List, true};
-ghost use Rattle.ecow_values.specs.Utf8.{IsBoundary, is_boundary};
+ghost use Rattle.ecow_base.specs.Utf8.{IsBoundary, is_boundary};
 
 /// The test of a boundary is right.
 pub fn boundaries_are_tested()
