@@ -1,4 +1,6 @@
 pub mod Contents
+pub mod Agreement
+pub mod CallerLemmas
 pub mod Entries
 pub mod Lengths
 pub mod PutBack

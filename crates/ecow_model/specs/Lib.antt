@@ -10,3 +10,4 @@ pub mod Names
 pub mod Costs
 pub mod CountedRun
 pub mod Agreement
+pub mod Callers

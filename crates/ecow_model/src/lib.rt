@@ -1,7 +1,9 @@
-//! The commands on named lists, bytes and texts, and the definitions of what they do.
+//! The commands on named lists, bytes and texts, the definitions of what they do, and the laws of
+//! these.
 #![tactic(auto)]
 
 pub mod bytes;
+pub mod callers;
 pub mod command;
 pub mod laws;
 pub mod texts;

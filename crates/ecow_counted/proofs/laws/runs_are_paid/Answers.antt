@@ -1,5 +1,5 @@
 use Rattle.ecow_counted.proofs.Bounds.{run_shares, copies_at_most_eagerly, moves_are_paid, copies_from_nothing, moves_from_nothing}
-use Rattle.ecow_laws.proofs.laws.runs_are_paid.Goals as goal
+use Rattle.ecow_counted.proofs.laws.runs_are_paid.Goals as goal
 
 pub returns : goal.returns
 returns g c =

@@ -29,7 +29,7 @@ use Rattle.ecow_model.specs.declared.usage.Usage.{Usage}
 use Rattle.ecow_model.specs.declared.usage.Usage.TheVariants.{Make, Derive, Drop, Edit, Ask}
 use Rattle.ecow_model.specs.declared.value.Value.TheVariants.{Vec as VecValue, Bytes as BytesValue, Text as TextValue}
 use Rattle.ecow_model.proofs.Contents.{get-contents, step_of_contents}
-use Rattle.ecow_laws.specs.Callers.{LeavesName}
+use Rattle.ecow_model.specs.Callers.{LeavesName}
 
 abbrev nothing : Unit {0}
 nothing = tt

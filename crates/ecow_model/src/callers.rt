@@ -1,7 +1,7 @@
 //! What a caller knows of one command.
 ghost use Rattle.std.specs.FinMap.{get};
 ghost use Rattle.std.specs.Result.{result_ok};
-ghost use Rattle.ecow_laws.specs.Callers.{ForksRead, WritesSet, OthersStay};
+ghost use Rattle.ecow_model.specs.Callers.{ForksRead, WritesSet, OthersStay};
 ghost use Rattle.ecow_model.specs.CountedRun.{CountedStep};
 ghost use Rattle.ecow_model.specs.Names.{list_of};
 ghost use Rattle.ecow_model.specs.Run.{IsVecStep};

@@ -1,5 +1,5 @@
-use Rattle.ecow_laws.proofs.Agreement.{a_store_agrees, stores_agree}
-use Rattle.ecow_laws.proofs.laws.stores_agree.Goals as goal
+use Rattle.ecow_model.proofs.Agreement.{a_store_agrees, stores_agree}
+use Rattle.ecow_model.proofs.laws.stores_agree.Goals as goal
 
 pub returns : goal.returns
 returns g c = record {
