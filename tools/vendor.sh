@@ -53,8 +53,8 @@ sums() { # FOLDER
 
 # Crates that had another name, or stand in others now: the first from version 0.11 to 0.12, the next two up to 0.10,
 # the others up to 0.12.
-renamed="ecow_vec:ecow_list ecow_text:ecow_string ecow_keeping:ecow_named
-    ecow_values:ecow_base ecow_laws:ecow_model+ecow_counted"
+renamed="ecow_vec:ecow_list ecow_text:ecow_string ecow_keeping:ecow_model+ecow_store
+    ecow_values:ecow_base ecow_laws:ecow_model+ecow_counted ecow_named:ecow_model+ecow_store"
 
 # Of an earlier call: the crates that this one wouldn't bring up to date, the files changed since, and the crates of
 # which that can't be told, since their copy has no checksums.

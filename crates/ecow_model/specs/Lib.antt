@@ -11,3 +11,5 @@ pub mod Costs
 pub mod CountedRun
 pub mod Agreement
 pub mod Callers
+pub mod Tables
+pub mod Loans

@@ -1,11 +1,12 @@
-//! The commands on named lists, bytes and texts, the definitions of what they do, and the laws of
-//! these.
+//! The commands on named lists, bytes and texts, the definitions of what they do, the laws of
+//! these, and the table of named values.
 #![tactic(auto)]
 
 pub mod bytes;
 pub mod callers;
 pub mod command;
 pub mod laws;
+pub mod table;
 pub mod texts;
 pub mod usage;
 pub mod value;

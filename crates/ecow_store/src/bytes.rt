@@ -3,19 +3,19 @@ ghost use Rattle.std.specs.Prelude.{◌≡◌, ⊤};
 ghost use Rattle.ecow_model.specs.Bytes.{bytes_rules};
 ghost use Rattle.ecow_model.specs.Refusing.{OnRefused};
 ghost use Rattle.ecow_model.specs.Run.{IsBytesStep, IsBytesVerdict};
-ghost use Rattle.ecow_named.proofs.Uses.{bytes_wraps};
+ghost use Rattle.ecow_model.proofs.Uses.{bytes_wraps};
 
 use crate::answers::{answer_change, answer_make, refusal_of};
+use crate::kinds::{ValueKind, carry_out};
 use crate::store::Stored;
+use crate::values::{bytes_in, bytes_in_mut};
 use ecow_bytes::SmallBytes;
 use ecow_list::EcoVec;
 use ecow_model::bytes::{BytesAsk, BytesDerive, BytesEdit, BytesMake};
+use ecow_model::table::Table;
 use ecow_model::usage::NewValue;
 use ecow_model::value::Value;
 use ecow_model::{BytesCommand, Items, Outcome, Refusal};
-use ecow_named::kinds::{ValueKind, carry_out};
-use ecow_named::table::Table;
-use ecow_named::values::{bytes_in, bytes_in_mut};
 use ecow_string::SmallText;
 use std::alloc::{AllocError, Global};
 

@@ -3,8 +3,11 @@
 
 mod answers;
 mod bytes;
+mod kinds;
+mod loans;
 pub mod store;
 mod texts;
+mod values;
 mod vecs;
 
 pub use store::{SmallStore, Store};

@@ -4,19 +4,19 @@ ghost use Rattle.ecow_model.specs.Refusing.{OnRefused, verdict};
 ghost use Rattle.ecow_model.specs.Run.{IsTextStep, IsTextVerdict};
 ghost use Rattle.ecow_model.specs.Texts.{edit_text, text_rules, text_from_bytes};
 ghost use Rattle.ecow_model.specs.Uses.{IsGiven};
-ghost use Rattle.ecow_named.proofs.Uses.{text_wraps};
+ghost use Rattle.ecow_model.proofs.Uses.{text_wraps};
 
 use crate::answers::{answer_change, answer_make, refusal_of};
+use crate::kinds::{ValueKind, carry_out};
 use crate::store::Stored;
+use crate::values::{text_in, text_in_mut};
 use ecow_bytes::SmallBytes;
 use ecow_list::EcoError;
+use ecow_model::table::Table;
 use ecow_model::texts::{TextAsk, TextDerive, TextEdit, TextMake};
 use ecow_model::usage::{NewValue, allowed};
 use ecow_model::value::Value;
 use ecow_model::{Outcome, Refusal, Text, TextCommand};
-use ecow_named::kinds::{ValueKind, carry_out};
-use ecow_named::table::Table;
-use ecow_named::values::{text_in, text_in_mut};
 use ecow_string::SmallText;
 use std::alloc::{AllocError, Global};
 

@@ -10,19 +10,19 @@ ghost use Rattle.ecow_model.specs.Uses.{IsEdit, IsEditVerdict};
 ghost use Rattle.ecow_model.specs.declared.command.Outcome.{Outcome};
 ghost use Rattle.ecow_model.specs.declared.command.Refusal.{Refusal};
 ghost use Rattle.ecow_model.specs.declared.vecs.VecEdit.{VecEdit};
-ghost use Rattle.ecow_named.proofs.Uses.{vec_wraps};
+ghost use Rattle.ecow_model.proofs.Uses.{vec_wraps};
 
 use crate::answers::{answer_change, answer_make};
+use crate::kinds::{ValueKind, carry_out};
 use crate::store::Stored;
+use crate::values::{vec_in, vec_in_mut};
 use ecow_base::resolve;
 use ecow_list::{EcoError, EcoVec};
+use ecow_model::table::Table;
 use ecow_model::usage::NewValue;
 use ecow_model::value::Value;
 use ecow_model::vecs::{VecAsk, VecDerive, VecEdit, VecMake};
 use ecow_model::{Bounds, Items, Outcome, Refusal, VecCommand};
-use ecow_named::kinds::{ValueKind, carry_out};
-use ecow_named::table::Table;
-use ecow_named::values::{vec_in, vec_in_mut};
 use std::alloc::{AllocError, Global};
 
 /// One command on lists.

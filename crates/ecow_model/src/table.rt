@@ -3,10 +3,10 @@ ghost use Rattle.std.specs.Prelude.{◌≡◌, ◌<◌, ◌^◌, ℕ, List, OnOk
 ghost use Rattle.std.specs.Borrow.{sem};
 ghost use Rattle.std.specs.FinMap as map;
 ghost use Rattle.std.specs.Option.{option_copied, option_copied_mut};
-ghost use Rattle.ecow_named.specs.Loans.{LendsValue};
-ghost use Rattle.ecow_named.specs.Tables.{values_of};
+ghost use Rattle.ecow_model.specs.Loans.{LendsValue};
+ghost use Rattle.ecow_model.specs.Tables.{values_of};
 
-use ecow_model::Name;
+use crate::command::Name;
 use std::alloc::{AllocError, Global};
 use std::collections::BTreeMap;
 use std::marker::Model;
@@ -30,7 +30,7 @@ impl<V> Model for Table<V> {
     ghost use Rattle.std.specs.Coded.{coded_ℕ};
     ghost use Rattle.std.specs.FinMap as map;
     ghost use Rattle.std.specs.Ordering.{nat_cmp};
-    ghost use Rattle.ecow_named.specs.Tables.{values_of};
+    ghost use Rattle.ecow_model.specs.Tables.{values_of};
 
     ghost Value = { map.FinMap nat_cmp V };
 

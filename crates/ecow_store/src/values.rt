@@ -1,14 +1,14 @@
 //! The list, the bytes or the text that a value is, for reading or for writing.
 ghost use Rattle.std.specs.Prelude.{◌≡◌, MatchResult, Ok, Err};
 ghost use Rattle.std.specs.Borrow.{sem};
-ghost use Rattle.ecow_named.specs.Loans.{LendsVec, LendsBytes, LendsText};
+ghost use Rattle.ecow_store.specs.Loans.{LendsVec, LendsBytes, LendsText};
 ghost use Rattle.ecow_model.specs.Values.{as_vec, as_bytes, as_text};
 
 use ecow_model::Refusal;
 use ecow_model::value::Value;
 
 /// The list that a value is, for reading; `Kind` where it is bytes or a text.
-pub fn vec_in<L, B, S>(value: &Value<L, B, S>) -> Result<&L, Refusal>
+pub(crate) fn vec_in<L, B, S>(value: &Value<L, B, S>) -> Result<&L, Refusal>
     ensures { MatchResult result (λ list. as_vec value.now ≡ Ok list.now)
         (λ refusal. as_vec value.now ≡ Err refusal) }
 {
@@ -20,7 +20,7 @@ pub fn vec_in<L, B, S>(value: &Value<L, B, S>) -> Result<&L, Refusal>
 }
 
 /// The list that a value is, for writing; `Kind` where it is bytes or a text.
-pub fn vec_in_mut<L, B, S>(value: &mut Value<L, B, S>) -> Result<&mut L, Refusal>
+pub(crate) fn vec_in_mut<L, B, S>(value: &mut Value<L, B, S>) -> Result<&mut L, Refusal>
     ensures* writes_back { sem 𝓛 (LendsVec L.row B.row S.row value.entry result) }
     ensures value { MatchResult result (λ list. as_vec value.old ≡ Ok list.now)
         (λ refusal. as_vec value.old ≡ Err refusal) }
@@ -33,7 +33,7 @@ pub fn vec_in_mut<L, B, S>(value: &mut Value<L, B, S>) -> Result<&mut L, Refusal
 }
 
 /// The bytes that a value is, for reading; `Kind` where it is a list or a text.
-pub fn bytes_in<L, B, S>(value: &Value<L, B, S>) -> Result<&B, Refusal>
+pub(crate) fn bytes_in<L, B, S>(value: &Value<L, B, S>) -> Result<&B, Refusal>
     ensures { MatchResult result (λ bytes. as_bytes value.now ≡ Ok bytes.now)
         (λ refusal. as_bytes value.now ≡ Err refusal) }
 {
@@ -45,7 +45,7 @@ pub fn bytes_in<L, B, S>(value: &Value<L, B, S>) -> Result<&B, Refusal>
 }
 
 /// The bytes that a value is, for writing; `Kind` where it is a list or a text.
-pub fn bytes_in_mut<L, B, S>(value: &mut Value<L, B, S>) -> Result<&mut B, Refusal>
+pub(crate) fn bytes_in_mut<L, B, S>(value: &mut Value<L, B, S>) -> Result<&mut B, Refusal>
     ensures* writes_back { sem 𝓛 (LendsBytes L.row B.row S.row value.entry result) }
     ensures value { MatchResult result (λ bytes. as_bytes value.old ≡ Ok bytes.now)
         (λ refusal. as_bytes value.old ≡ Err refusal) }
@@ -58,7 +58,7 @@ pub fn bytes_in_mut<L, B, S>(value: &mut Value<L, B, S>) -> Result<&mut B, Refus
 }
 
 /// The text that a value is, for reading; `Kind` where it is a list or bytes.
-pub fn text_in<L, B, S>(value: &Value<L, B, S>) -> Result<&S, Refusal>
+pub(crate) fn text_in<L, B, S>(value: &Value<L, B, S>) -> Result<&S, Refusal>
     ensures { MatchResult result (λ text. as_text value.now ≡ Ok text.now)
         (λ refusal. as_text value.now ≡ Err refusal) }
 {
@@ -70,7 +70,7 @@ pub fn text_in<L, B, S>(value: &Value<L, B, S>) -> Result<&S, Refusal>
 }
 
 /// The text that a value is, for writing; `Kind` where it is a list or bytes.
-pub fn text_in_mut<L, B, S>(value: &mut Value<L, B, S>) -> Result<&mut S, Refusal>
+pub(crate) fn text_in_mut<L, B, S>(value: &mut Value<L, B, S>) -> Result<&mut S, Refusal>
     ensures* writes_back { sem 𝓛 (LendsText L.row B.row S.row value.entry result) }
     ensures value { MatchResult result (λ text. as_text value.old ≡ Ok text.now)
         (λ refusal. as_text value.old ≡ Err refusal) }

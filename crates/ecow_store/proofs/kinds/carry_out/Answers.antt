@@ -1,5 +1,5 @@
-use Rattle.ecow_named.proofs.Uses.{edit_lifts, edit_verdict_lifts, answer_lifts, answer_verdict_lifts, refused_lifts, put_wrap, on_refused}
-use Rattle.ecow_named.proofs.kinds.carry_out.Goals as goal
+use Rattle.ecow_model.proofs.Uses.{edit_lifts, edit_verdict_lifts, answer_lifts, answer_verdict_lifts, refused_lifts, put_wrap, on_refused}
+use Rattle.ecow_store.proofs.kinds.carry_out.Goals as goal
 
 pub returns-in-Ok-payload-clause-step : goal.returns-in-Ok-payload-clause-step
 returns-in-Ok-payload-clause-step g c =

@@ -1,7 +1,7 @@
 use Rattle.std.proofs.Common.{ap, ◌∙◌}
-use Rattle.ecow_named.specs.Tables.{values_of}
-use Rattle.ecow_named.proofs.Maps.{one_more, same-slots}
-use Rattle.ecow_named.proofs.table.reach.Goals as goal
+use Rattle.ecow_model.specs.Tables.{values_of}
+use Rattle.ecow_model.proofs.Maps.{one_more, same-slots}
+use Rattle.ecow_model.proofs.table.reach.Goals as goal
 
 pub loop-slots-preserved : goal.loop-slots-preserved
 loop-slots-preserved g c =

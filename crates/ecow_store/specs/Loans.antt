@@ -1,19 +1,14 @@
 -- What is left where a value, or the list, bytes or text in it, is lent for writing.
-use Rattle.std.specs.Prelude.{ℕ, Option, Result}
-use Rattle.std.specs.Borrow.{LendsIf, LendsIfOk, MutBor, Fml}
+use Rattle.std.specs.Prelude.{ℕ, Result}
+use Rattle.std.specs.Borrow.{LendsIfOk, MutBor, Fml}
 use Rattle.std.specs.FinMap.{insert}
 use denote.RattleType.{RattleType}
 use Rattle.ecow_model.specs.Values.{Named}
 use Rattle.ecow_model.specs.declared.value.Value.{Value}
 use Rattle.ecow_model.specs.declared.value.Value.TheVariants.{Vec as VecValue, Bytes as BytesValue, Text as TextValue}
 use Rattle.ecow_model.specs.declared.command.Refusal.{Refusal}
-use Rattle.ecow_named.specs.contracts.table.Table.{the_row}
+use Rattle.ecow_model.specs.contracts.table.Table.{the_row}
 use Rattle.ecow_model.specs.contracts.value.Value as value
-
--- what is written through r stands under the name, if it lends a value
-abbrev pub LendsValue : (V : RattleType) → MutBor (Named V.Denot) → ℕ → Option (MutBor V.Denot)
-    → Fml
-LendsValue V table name r = LendsIf (the_row V) V table r (insert table.now name) table.now
 
 -- what is written through r stands under the name, unless r is a refusal
 abbrev pub LendsThere : (V : RattleType) → MutBor (Named V.Denot) → ℕ

@@ -2,14 +2,14 @@
 ghost use Rattle.std.specs.Prelude.{◌≡◌, ◌⊎◌, MatchResult, Ok, Err};
 ghost use Rattle.std.specs.Borrow.{sem};
 ghost use Rattle.std.specs.FinMap as map;
-ghost use Rattle.ecow_named.specs.Loans.{LendsPayload, LendsPayloadAt};
+ghost use Rattle.ecow_store.specs.Loans.{LendsPayload, LendsPayloadAt};
 ghost use Rattle.ecow_model.specs.Refusing.{OnRefused};
 ghost use Rattle.ecow_model.specs.Uses.{Rules, WrapsPayloads, IsMade, IsMadeOrRefused, IsDerived, IsDerivedOrRefused, IsEdit, IsEditVerdict, IsAnswer, IsAnswerVerdict, IsUse, IsUseVerdict, value_at};
 ghost use Rattle.ecow_model.specs.declared.command.Outcome.{Outcome};
 ghost use Rattle.ecow_model.specs.declared.command.Refusal.{Refusal};
 
 use crate::loans::value_mut;
-use crate::table::Table;
+use ecow_model::table::Table;
 use ecow_model::usage::{NewValue, Usage};
 use ecow_model::{Name, Outcome, Refusal};
 use std::alloc::Global;
@@ -19,7 +19,7 @@ use std::alloc::Global;
 ///
 /// `rules` are the definitions that the kind keeps where `premise` holds. Which refusal comes
 /// doesn't depend on `premise`. `wraps` says that a value under a name is its payload and no more.
-pub trait ValueKind<T: Clone, V: Drop> {
+pub(crate) trait ValueKind<T: Clone, V: Drop> {
     /// The values of the kind.
     type Payload: Drop;
 
@@ -112,7 +112,7 @@ fn put<T: Drop, V: Drop>(
 }
 
 /// Carries out one command on values of one kind, by its parts.
-pub fn carry_out<T: Clone, V: Drop, K: ValueKind<T, V>>(
+pub(crate) fn carry_out<T: Clone, V: Drop, K: ValueKind<T, V>>(
     alloc: Global,
     values: &mut Table<V>,
     usage: Usage<K::Make, K::Derive, K::Edit, K::Ask>,

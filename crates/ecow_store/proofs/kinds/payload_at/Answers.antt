@@ -1,7 +1,7 @@
 use Rattle.std.proofs.Common.{ap}
 use borrow.Follows.Closed.{read_of}
 use Rattle.ecow_model.proofs.PutBack.{insert_same, found_value}
-use Rattle.ecow_named.proofs.kinds.payload_at.Goals as goal
+use Rattle.ecow_store.proofs.kinds.payload_at.Goals as goal
 
 pub returns : goal.returns
 returns g c =

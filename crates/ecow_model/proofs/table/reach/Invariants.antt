@@ -1,6 +1,6 @@
 use Rattle.std.proofs.Common.{◌≡◌, ℕ, List, ◌+◌, ◌-◌, length}
-use Rattle.ecow_named.specs.Tables.{values_of}
-use Rattle.ecow_named.proofs.table.reach.Given as goal
+use Rattle.ecow_model.specs.Tables.{values_of}
+use Rattle.ecow_model.proofs.table.reach.Given as goal
 
 abbrev pub invariant-loop-slots : goal.invariant-loop-slots
 invariant-loop-slots g l =
