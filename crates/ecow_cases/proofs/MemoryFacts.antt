@@ -10,8 +10,8 @@ use Rattle.ecow_model.specs.declared.command.Outcome.{Outcome}
 use Rattle.ecow_model.specs.declared.command.Outcome.TheVariants.{Done, Refused}
 use Rattle.ecow_model.specs.declared.command.Refusal.{Refusal}
 use Rattle.ecow_model.specs.declared.command.Refusal.TheVariants.{Memory}
-use Rattle.ecow_worked_examples.specs.Memory.{three_of_four, four_of_four, shared_block}
-use Rattle.ecow_worked_examples.proofs.Tables.{table_rules}
+use Rattle.ecow_cases.specs.Memory.{three_of_four, four_of_four, shared_block}
+use Rattle.ecow_cases.proofs.Tables.{table_rules}
 
 abbrev is_done : {T : Type 0} → Outcome T → Bool
 is_done Done = true

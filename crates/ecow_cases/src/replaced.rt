@@ -4,7 +4,7 @@ ghost use Rattle.ecow_base.specs.Replaced.{replacen, replace_all};
 
 /// Patterns of some characters, and what stands in their place. 233 is é and 128512 is 😀.
 #[tactic(auto, unfolding(ecow_base::specs::Replaced::replacen, ecow_base::specs::Replaced::first_split))]
-pub fn replaced_patterns()
+pub(crate) fn replaced_patterns()
     ensures leftmost_first { replace_all (codes "aa") (codes "b") (codes "aaa") ≡ codes "ba" }
     ensures at_the_end { replace_all (codes "a") [] (233 ∷ 97 ∷ []) ≡ 233 ∷ [] }
     ensures each_occurrence { replace_all (128512 ∷ []) (codes "ab") (128512 ∷ 128512 ∷ [])
@@ -14,7 +14,7 @@ pub fn replaced_patterns()
 
 /// The empty pattern, which occurs at every boundary.
 #[tactic(auto, unfolding(ecow_base::specs::Replaced::replacen, ecow_base::specs::Replaced::first_split))]
-pub fn replaced_boundaries()
+pub(crate) fn replaced_boundaries()
     ensures all { replace_all [] (codes "-") (codes "ab") ≡ codes "-a-b-" }
     ensures two { replacen 2 [] (codes "-") (codes "ab") ≡ codes "-a-b" }
     ensures none { replacen 0 [] (codes "-") (codes "ab") ≡ codes "ab" }

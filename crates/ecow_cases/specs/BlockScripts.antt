@@ -3,7 +3,7 @@
 use Rattle.std.specs.Prelude.{◌≡◌, false, [], ◌∷◌, Some}
 use Rattle.ecow_model.specs.declared.vecs.VecCommand.TheVariants as vec
 use Rattle.ecow_model.specs.declared.command.Outcome.TheVariants as gives
-use Rattle.ecow_worked_examples.specs.Tables.{table, leaves, tally, sums}
+use Rattle.ecow_cases.specs.Tables.{table, leaves, tally, sums}
 
 -- three names of one list, changed apart
 abbrev pub ThreeNamesEndInThreeBlocks : Type 0

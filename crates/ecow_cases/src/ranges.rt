@@ -4,7 +4,7 @@ ghost use Rattle.std.specs.declared.ops.Bound.TheVariants.{Included, Excluded, U
 ghost use Rattle.ecow_base.specs.Range.{range_of};
 
 /// Where ranges start and end in a list of three items.
-pub fn ranges_of_three()
+pub(crate) fn ranges_of_three()
     ensures to_included { range_of (Unbounded, Included 2) 3 ≡ Some (0, 3) }
     ensures to_included_past_the_end { range_of (Unbounded, Included 3) 3 ≡ None }
     ensures nothing_at_the_end { range_of (Included 3, Excluded 3) 3 ≡ Some (3, 3) }
@@ -14,7 +14,7 @@ pub fn ranges_of_three()
 {}
 
 /// Where ranges start and end in an empty list.
-pub fn ranges_of_nothing()
+pub(crate) fn ranges_of_nothing()
     ensures to_included { range_of (Unbounded, Included 0) 0 ≡ None }
     ensures all { range_of (Unbounded, Unbounded) 0 ≡ Some (0, 0) }
 {}

@@ -4,7 +4,7 @@ use Rattle.ecow_model.specs.Names.{Names}
 use Rattle.ecow_base.specs.Plain.{plain_bytes}
 use Rattle.ecow_base.specs.declared.plain.PlainBytes.{PlainBytes}
 use Rattle.ecow_model.specs.declared.vecs.VecCommand.TheVariants.{FromList, Clone}
-use Rattle.ecow_worked_examples.specs.Tables.{left_by}
+use Rattle.ecow_cases.specs.Tables.{left_by}
 
 -- a list of 1, 2 and 3 in a block with room for four
 abbrev pub three_of_four : Names ℕ

@@ -1,5 +1,5 @@
-use Rattle.ecow_worked_examples.proofs.BlockFacts as facts
-use Rattle.ecow_worked_examples.proofs.blocks.sharing.Goals as goal
+use Rattle.ecow_cases.proofs.BlockFacts as facts
+use Rattle.ecow_cases.proofs.blocks.sharing.Goals as goal
 
 pub returns : goal.returns
 returns c =

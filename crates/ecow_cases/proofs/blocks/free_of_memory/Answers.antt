@@ -1,7 +1,7 @@
 use Rattle.std.proofs.Common.{refl}
-use Rattle.ecow_worked_examples.proofs.MemoryFacts as facts
-use Rattle.ecow_worked_examples.proofs.Tables.{table_rules}
-use Rattle.ecow_worked_examples.proofs.blocks.free_of_memory.Goals as goal
+use Rattle.ecow_cases.proofs.MemoryFacts as facts
+use Rattle.ecow_cases.proofs.Tables.{table_rules}
+use Rattle.ecow_cases.proofs.blocks.free_of_memory.Goals as goal
 
 pub returns : goal.returns
 returns c = record {

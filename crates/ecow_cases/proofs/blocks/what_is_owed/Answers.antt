@@ -1,5 +1,5 @@
-use Rattle.ecow_worked_examples.proofs.BlockFacts as facts
-use Rattle.ecow_worked_examples.proofs.blocks.what_is_owed.Goals as goal
+use Rattle.ecow_cases.proofs.BlockFacts as facts
+use Rattle.ecow_cases.proofs.blocks.what_is_owed.Goals as goal
 
 pub returns : goal.returns
 returns c =

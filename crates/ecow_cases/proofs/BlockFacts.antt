@@ -1,7 +1,7 @@
 -- The answers and the totals of scripts on shared blocks, computed.
 use Rattle.std.proofs.Common.{refl}
-use Rattle.ecow_worked_examples.specs.BlockScripts.{ThreeNamesEndInThreeBlocks, BlocksGoWithTheirLastName, AnEmptyBlockIsShared, EachWrittenCloneIsCopiedOnce, UnwrittenClonesAreOwed, DroppedClonesCostNothing, PushesAfterAPopArePaid}
-use Rattle.ecow_worked_examples.proofs.Tables.{table_rules}
+use Rattle.ecow_cases.specs.BlockScripts.{ThreeNamesEndInThreeBlocks, BlocksGoWithTheirLastName, AnEmptyBlockIsShared, EachWrittenCloneIsCopiedOnce, UnwrittenClonesAreOwed, DroppedClonesCostNothing, PushesAfterAPopArePaid}
+use Rattle.ecow_cases.proofs.Tables.{table_rules}
 
 pub three_names_end_in_three_blocks : ThreeNamesEndInThreeBlocks
 three_names_end_in_three_blocks = simp table_rules refl

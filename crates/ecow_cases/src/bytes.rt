@@ -2,10 +2,10 @@
 ghost use Rattle.std.specs.Prelude.{◌≡◌, true, false};
 ghost use Rattle.ecow_model.specs.Bytes.{bytes_edit_is_free};
 ghost use Rattle.ecow_model.specs.declared.bytes.BytesEdit.TheVariants.{Pop, Push, Reserve};
-ghost use Rattle.ecow_worked_examples.specs.Memory.{bytes_of_number};
+ghost use Rattle.ecow_cases.specs.Memory.{bytes_of_number};
 
 /// Inline bytes that stay inline take no memory: one more of fourteen, and none more of fifteen.
-pub fn free_of_memory()
+pub(crate) fn free_of_memory()
     ensures the_fifteenth_push { bytes_edit_is_free 15 (Push 7) (bytes_of_number 14 true) ≡ true }
     ensures not_the_sixteenth { bytes_edit_is_free 15 (Push 7) (bytes_of_number 15 true) ≡ false }
     ensures a_reserve_of_nothing { bytes_edit_is_free 15 (Reserve 0) (bytes_of_number 15 true)

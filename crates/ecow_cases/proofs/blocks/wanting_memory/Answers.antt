@@ -1,5 +1,5 @@
-use Rattle.ecow_worked_examples.proofs.MemoryFacts as facts
-use Rattle.ecow_worked_examples.proofs.blocks.wanting_memory.Goals as goal
+use Rattle.ecow_cases.proofs.MemoryFacts as facts
+use Rattle.ecow_cases.proofs.blocks.wanting_memory.Goals as goal
 
 pub returns : goal.returns
 returns c = record {

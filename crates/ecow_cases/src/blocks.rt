@@ -6,18 +6,18 @@ ghost use Rattle.ecow_model.specs.Names.{Names};
 ghost use Rattle.ecow_model.specs.declared.command.Outcome.TheVariants.{Refused};
 ghost use Rattle.ecow_model.specs.declared.command.Refusal.TheVariants.{Memory};
 ghost use Rattle.ecow_model.specs.declared.vecs.VecCommand.TheVariants.{Clear, Extend, Pop, Push, Reserve, Retain, Truncate, Write};
-ghost use Rattle.ecow_worked_examples.specs.Memory.{four_of_four, shared_block, three_of_four};
-ghost use Rattle.ecow_worked_examples.specs.BlockScripts.{ThreeNamesEndInThreeBlocks, BlocksGoWithTheirLastName, AnEmptyBlockIsShared, EachWrittenCloneIsCopiedOnce, UnwrittenClonesAreOwed, DroppedClonesCostNothing, PushesAfterAPopArePaid};
+ghost use Rattle.ecow_cases.specs.Memory.{four_of_four, shared_block, three_of_four};
+ghost use Rattle.ecow_cases.specs.BlockScripts.{ThreeNamesEndInThreeBlocks, BlocksGoWithTheirLastName, AnEmptyBlockIsShared, EachWrittenCloneIsCopiedOnce, UnwrittenClonesAreOwed, DroppedClonesCostNothing, PushesAfterAPopArePaid};
 
 /// Names of one block, until one of them is written to.
-pub fn sharing()
+pub(crate) fn sharing()
     ensures three_names_end_in_three_blocks { ThreeNamesEndInThreeBlocks }
     ensures an_empty_block_is_shared { AnEmptyBlockIsShared }
     ensures blocks_go_with_their_last_name { BlocksGoWithTheirLastName }
 {}
 
 /// Copied elements, what copying at each clone would copy, and what is still owed.
-pub fn what_is_owed()
+pub(crate) fn what_is_owed()
     ensures each_written_clone_is_copied_once { EachWrittenCloneIsCopiedOnce }
     ensures unwritten_clones_are_owed { UnwrittenClonesAreOwed }
     ensures dropped_clones_cost_nothing { DroppedClonesCostNothing }
@@ -25,7 +25,7 @@ pub fn what_is_owed()
 {}
 
 /// A command that must grow or copy may lack memory, and then changes nothing.
-pub fn wanting_memory()
+pub(crate) fn wanting_memory()
     ensures a_push_into_a_full_block_may_lack_memory { CountedStep four_of_four (Push 0 5)
         (Refused Memory) four_of_four }
     ensures it_then_changes_nothing { (new : Names ℕ)
@@ -39,7 +39,7 @@ pub fn wanting_memory()
 {}
 
 /// A command that has its room never lacks memory.
-pub fn free_of_memory()
+pub(crate) fn free_of_memory()
     ensures a_push_within_the_capacity { (new : Names ℕ)
         → ¬ (CountedStep three_of_four (Push 0 4) (Refused Memory) new) }
     ensures a_clear_of_a_shared_name { (new : Names ℕ)
