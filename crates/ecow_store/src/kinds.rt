@@ -8,7 +8,6 @@ ghost use Rattle.ecow_model.specs.Uses.{Rules, WrapsPayloads, IsMade, IsMadeOrRe
 ghost use Rattle.ecow_model.specs.declared.command.Outcome.{Outcome};
 ghost use Rattle.ecow_model.specs.declared.command.Refusal.{Refusal};
 
-use crate::loans::value_mut;
 use ecow_model::table::Table;
 use ecow_model::usage::{NewValue, Usage};
 use ecow_model::{Name, Outcome, Refusal};
@@ -91,7 +90,10 @@ fn payload_at<T: Clone, V: Drop, K: ValueKind<T, V>>(
     ensures value { MatchResult result (λ x. value_at K.rules values.old name ≡ Ok x.now)
         (λ refusal. value_at K.rules values.old name ≡ Err refusal) }
 {
-    K::payload_mut(value_mut(values, name)?)
+    match values.get_mut(name) {
+        Some(value) => K::payload_mut(value),
+        None => Err(Refusal::NoName),
+    }
 }
 
 /// Puts a value under a name, and then answers `outcome`. Without memory for the name it answers

@@ -4,7 +4,6 @@
 mod answers;
 mod bytes;
 mod kinds;
-mod loans;
 pub mod store;
 mod texts;
 mod values;

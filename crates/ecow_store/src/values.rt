@@ -1,7 +1,5 @@
-//! The list, the bytes or the text that a value is, for reading or for writing.
+//! The list, the bytes or the text that a value is, for reading.
 ghost use Rattle.std.specs.Prelude.{◌≡◌, MatchResult, Ok, Err};
-ghost use Rattle.std.specs.Borrow.{sem};
-ghost use Rattle.ecow_store.specs.Loans.{LendsVec, LendsBytes, LendsText};
 ghost use Rattle.ecow_model.specs.Values.{as_vec, as_bytes, as_text};
 
 use ecow_model::Refusal;
@@ -11,19 +9,6 @@ use ecow_model::value::Value;
 pub(crate) fn vec_in<L, B, S>(value: &Value<L, B, S>) -> Result<&L, Refusal>
     ensures { MatchResult result (λ list. as_vec value.now ≡ Ok list.now)
         (λ refusal. as_vec value.now ≡ Err refusal) }
-{
-    match value {
-        Value::Vec(list) => Ok(list),
-        Value::Bytes(_) => Err(Refusal::Kind),
-        Value::Text(_) => Err(Refusal::Kind),
-    }
-}
-
-/// The list that a value is, for writing; `Kind` where it is bytes or a text.
-pub(crate) fn vec_in_mut<L, B, S>(value: &mut Value<L, B, S>) -> Result<&mut L, Refusal>
-    ensures* writes_back { sem 𝓛 (LendsVec L.row B.row S.row value.entry result) }
-    ensures value { MatchResult result (λ list. as_vec value.old ≡ Ok list.now)
-        (λ refusal. as_vec value.old ≡ Err refusal) }
 {
     match value {
         Value::Vec(list) => Ok(list),
@@ -44,36 +29,10 @@ pub(crate) fn bytes_in<L, B, S>(value: &Value<L, B, S>) -> Result<&B, Refusal>
     }
 }
 
-/// The bytes that a value is, for writing; `Kind` where it is a list or a text.
-pub(crate) fn bytes_in_mut<L, B, S>(value: &mut Value<L, B, S>) -> Result<&mut B, Refusal>
-    ensures* writes_back { sem 𝓛 (LendsBytes L.row B.row S.row value.entry result) }
-    ensures value { MatchResult result (λ bytes. as_bytes value.old ≡ Ok bytes.now)
-        (λ refusal. as_bytes value.old ≡ Err refusal) }
-{
-    match value {
-        Value::Vec(_) => Err(Refusal::Kind),
-        Value::Bytes(bytes) => Ok(bytes),
-        Value::Text(_) => Err(Refusal::Kind),
-    }
-}
-
 /// The text that a value is, for reading; `Kind` where it is a list or bytes.
 pub(crate) fn text_in<L, B, S>(value: &Value<L, B, S>) -> Result<&S, Refusal>
     ensures { MatchResult result (λ text. as_text value.now ≡ Ok text.now)
         (λ refusal. as_text value.now ≡ Err refusal) }
-{
-    match value {
-        Value::Vec(_) => Err(Refusal::Kind),
-        Value::Bytes(_) => Err(Refusal::Kind),
-        Value::Text(text) => Ok(text),
-    }
-}
-
-/// The text that a value is, for writing; `Kind` where it is a list or bytes.
-pub(crate) fn text_in_mut<L, B, S>(value: &mut Value<L, B, S>) -> Result<&mut S, Refusal>
-    ensures* writes_back { sem 𝓛 (LendsText L.row B.row S.row value.entry result) }
-    ensures value { MatchResult result (λ text. as_text value.old ≡ Ok text.now)
-        (λ refusal. as_text value.old ≡ Err refusal) }
 {
     match value {
         Value::Vec(_) => Err(Refusal::Kind),
