@@ -20,8 +20,8 @@ rm -f "$to"/*.md
     echo "| Page | Calls |"
     echo "|---|---|"
 } > "$to/README.md"
-# The crates of KIND=laws and nested values, the script and the program above, and the library for C.
-for crate in $(awk -F: -v tops="ecow_nested ecow_laws ecow_tool ecow_c" -f tools/below.awk crates.txt); do
+# The crates of the stores and of nested values, the script and the program above, and the library for C.
+for crate in $(awk -F: -v tops="ecow_nested ecow_tool ecow_c" -f tools/below.awk crates.txt); do
     page=$to/$crate.md
     files=$(find "crates/$crate/src" -name '*.rt' | sort)
     # What stands below the vector is no part of it, but for the block that it lends.

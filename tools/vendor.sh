@@ -2,8 +2,8 @@
 # Copies crates into another repository, as plain folders below its crates/, with their rows in its
 # crates.txt, so that its gate proves them: tools/vendor.sh FOLDER [KIND [COUNT]]. KIND says what is
 # needed: vector (EcoVec), text (vector, bytes and text), nested (these and nested values), store
-# (text and both stores), laws (with the lemmas for callers of stores), or tool (with scripts and the
-# program over any reader and writer). COUNT says how owners are counted: plain, for one thread, or
+# (text and both stores, with their laws), or tool (with scripts and the program over any reader and
+# writer). COUNT says how owners are counted: plain, for one thread, or
 # atomic. Tests and edits stay here. A folder that isn't there is made.
 #
 # Where crates of an earlier call are there, it updates them, their rows too, and touches nothing
@@ -14,7 +14,7 @@ export LC_ALL=C
 to=${1:-}
 kind=${2:-vector}
 count=${3:-plain}
-use="make vendor TO=FOLDER [KIND=vector|text|nested|store|laws|tool] [COUNT=plain|atomic]"
+use="make vendor TO=FOLDER [KIND=vector|text|nested|store|tool] [COUNT=plain|atomic]"
 
 refuse() { # WHY..
     printf '%s\n' "$@" >&2
@@ -26,9 +26,8 @@ case $kind in
     text) tops=ecow ;;
     nested) tops="ecow ecow_nested" ;;
     store) tops="ecow ecow_store ecow_counted" ;;
-    laws) tops="ecow ecow_store ecow_counted ecow_laws" ;;
     tool) tops="ecow ecow_tool" ;;
-    *) refuse "$use" "KIND is vector, text, nested, store, laws or tool, and not $kind" ;;
+    *) refuse "$use" "KIND is vector, text, nested, store or tool, and not $kind" ;;
 esac
 case $count in
     plain | atomic) ;;
@@ -52,8 +51,10 @@ sums() { # FOLDER
     (cd "$1" && find . -path ./out -prune -o -type f ! -name SUMS -exec cksum {} + | sort -k 3)
 }
 
-# Crates that had another name: the first from version 0.11 to 0.12, the others up to 0.10.
-renamed="ecow_vec:ecow_list ecow_text:ecow_string ecow_keeping:ecow_named"
+# Crates that had another name, or stand in others now: the first from version 0.11 to 0.12, the next two up to 0.10,
+# the others up to 0.12.
+renamed="ecow_vec:ecow_list ecow_text:ecow_string ecow_keeping:ecow_model+ecow_store
+    ecow_values:ecow_base ecow_laws:ecow_model+ecow_counted ecow_named:ecow_model+ecow_store"
 
 # Of an earlier call: the crates that this one wouldn't bring up to date, the files changed since, and the crates of
 # which that can't be told, since their copy has no checksums.
@@ -102,7 +103,7 @@ for pair in $renamed; do
     sed "/^$old:/d" "$to/crates.txt" > "$to/crates.txt.new"
     cat "$to/crates.txt.new" > "$to/crates.txt"
     rm "$to/crates.txt.new"
-    new_names="$new_names $old is ${pair#*:};"
+    new_names="$new_names $old is $(echo "${pair#*:}" | sed 's/+/ and /');"
 done
 
 touch "$to/crates.txt"

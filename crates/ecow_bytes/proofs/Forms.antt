@@ -1,7 +1,7 @@
 -- What a form shows once other bytes stand in place of its own.
 use Rattle.std.proofs.Common.{◌≡◌, ℕ, List, length, true, refl, ap, ◌∙◌}
 use Rattle.std_alloc.proofs.VecSteps.Gaps.{all_new}
-use Rattle.ecow_values.specs.Plain.{plain_bytes}
+use Rattle.ecow_base.specs.Plain.{plain_bytes}
 use Rattle.ecow_bytes.specs.Form.{plain_of}
 use Rattle.ecow_bytes.specs.Lends.{with_bytes}
 use Rattle.ecow_bytes.specs.declared.form.Form.{Form}

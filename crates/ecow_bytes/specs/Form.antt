@@ -1,7 +1,7 @@
 -- The bytes and the mode of each form.
 use Rattle.std.specs.Prelude.{ℕ, true, false}
-use Rattle.ecow_values.specs.Plain.{plain_bytes}
-use Rattle.ecow_values.specs.declared.plain.PlainBytes.{PlainBytes}
+use Rattle.ecow_base.specs.Plain.{plain_bytes}
+use Rattle.ecow_base.specs.declared.plain.PlainBytes.{PlainBytes}
 use Rattle.ecow_bytes.specs.declared.form.Form.{Form}
 use Rattle.ecow_bytes.specs.declared.form.Form.TheVariants.{Short, Full, Spilled}
 

@@ -3,8 +3,8 @@ use mathlib.Core.Option as maybe
 use Rattle.std.specs.Prelude.{◌≡◌, ℕ, Bool, true, false, List, [], ◌++◌, length, take, drop, Result, IsOk, OnErr}
 use Rattle.std.specs.List.{refill}
 use Rattle.std.specs.Borrow.{Lends, follows_so, name_if_ok, Fml, GName, RattleType, MutBor, Array, u8 as byte}
-use Rattle.ecow_values.specs.Plain.{plain_bytes}
-use Rattle.ecow_values.specs.declared.plain.PlainBytes.{PlainBytes}
+use Rattle.ecow_base.specs.Plain.{plain_bytes}
+use Rattle.ecow_base.specs.declared.plain.PlainBytes.{PlainBytes}
 use Rattle.ecow_list.specs.Lends.{name_if_lent}
 use Rattle.ecow_bytes.specs.Form.{plain_of}
 use Rattle.ecow_bytes.specs.declared.form.Form.{Form}

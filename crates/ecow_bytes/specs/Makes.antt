@@ -1,8 +1,8 @@
 -- What a call answers that makes bytes.
 use Rattle.std.specs.Prelude.{◌≡◌, ◌<◌, ◌≤◌, ◌↔◌, ℕ, List, Result, IfOk, IsOk, IsErrOf}
 use Rattle.ecow_base.specs.declared.capacity.TheConstants.{MAX_LEN}
-use Rattle.ecow_values.specs.Inline.{inline_for}
-use Rattle.ecow_values.specs.declared.plain.PlainBytes.{PlainBytes}
+use Rattle.ecow_base.specs.Inline.{inline_for}
+use Rattle.ecow_base.specs.declared.plain.PlainBytes.{PlainBytes}
 use Rattle.ecow_list.specs.declared.error.EcoError.{EcoError}
 use Rattle.ecow_list.specs.declared.error.EcoError.TheVariants.{Capacity}
 

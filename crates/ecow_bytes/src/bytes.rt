@@ -41,7 +41,7 @@ pub type EcoBytes = SmallBytes<15>;
 pub const INLINE_LIMIT: usize = 15;
 
 impl<const N: usize> Model for SmallBytes<N> {
-    ghost use Rattle.ecow_values.specs.declared.plain.PlainBytes.{PlainBytes};
+    ghost use Rattle.ecow_base.specs.declared.plain.PlainBytes.{PlainBytes};
     ghost use Rattle.ecow_bytes.specs.Form.{plain_of};
 
     ghost Value = { PlainBytes };

@@ -2,7 +2,7 @@
 ghost use Rattle.std.specs.Prelude.{◌≡◌, ◌+◌, ◌-◌, ◌<◌, ◌≤◌, ◌↔◌, [], length, take, remove, slice_get, Some, true, false, IsOk, IfOk, IfErr, OnErr, IsSome, IfSome};
 ghost use Rattle.std.specs.Borrow.{sem};
 ghost use Rattle.std.specs.List.{replace_range};
-ghost use Rattle.ecow_values.specs.Plain.{plain_bytes};
+ghost use Rattle.ecow_base.specs.Plain.{plain_bytes};
 
 use crate::cells::Cells;
 use crate::few::Few;

@@ -3,7 +3,7 @@
 ghost use Rattle.std.specs.Prelude.{◌≡◌, ◌<◌, ◌^◌, ℕ, length};
 ghost use Rattle.std.specs.Iterator.Runs.{EveryRun, ItemsMapTo};
 ghost use Rattle.std.specs.Slice.Iter.{iter_rest, iter_steps};
-ghost use Rattle.ecow_values.specs.Inline.{inline_for};
+ghost use Rattle.ecow_base.specs.Inline.{inline_for};
 
 use crate::bytes::SmallBytes;
 use std::alloc::{AllocError, Global};

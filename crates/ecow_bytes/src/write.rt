@@ -5,7 +5,7 @@ ghost use Rattle.std.specs.Io.{WritesAtMost};
 ghost use Rattle.std.specs.Io.KnownBytes.{Keeps, WriteAppends};
 ghost use Rattle.std.specs.IoError.{error_kind};
 ghost use Rattle.std.specs.declared.io.ErrorKind.TheVariants.{OutOfMemory};
-ghost use Rattle.ecow_values.specs.Inline.{inline_after};
+ghost use Rattle.ecow_base.specs.Inline.{inline_after};
 
 use crate::bytes::SmallBytes;
 use std::alloc::AllocError;

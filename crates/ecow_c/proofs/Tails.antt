@@ -4,8 +4,8 @@ use Rattle.std.specs.Prelude.{slice_get}
 use Rattle.std.specs.Str.{chars, encode_utf8_all}
 use Rattle.std.proofs.lemmas.Str.{chars-encodes}
 use Rattle.std.proofs.lemmas.List.{drop_at}
-use Rattle.ecow_values.specs.Utf8.{chars_before, is_boundary}
-use Rattle.ecow_values.proofs.Boundaries.{chars_before-front, passes_boundary}
+use Rattle.ecow_base.specs.Utf8.{chars_before, is_boundary}
+use Rattle.ecow_base.proofs.Boundaries.{chars_before-front, passes_boundary}
 use Rattle.ecow_string.specs.Text.{AreChars}
 use Rattle.ecow_string.proofs.Texts.{AreChars-append, split_encoded}
 

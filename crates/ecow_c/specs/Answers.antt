@@ -5,8 +5,8 @@ use Rattle.std.specs.List.{fold, list_any}
 use Rattle.std.specs.Hash.DefaultHasher.{initial, write, finish}
 use Rattle.std.specs.declared.cmp.Ordering.{Ordering}
 use Rattle.std.specs.declared.cmp.Ordering.TheVariants.{Less, Equal, Greater}
-use Rattle.ecow_values.specs.declared.plain.PlainBytes.{PlainBytes}
-use Rattle.ecow_values.specs.declared.plain.PlainText.{PlainText}
+use Rattle.ecow_base.specs.declared.plain.PlainBytes.{PlainBytes}
+use Rattle.ecow_base.specs.declared.plain.PlainText.{PlainText}
 use Rattle.ecow_base.specs.declared.capacity.TheConstants.{MAX_LEN}
 use Rattle.ecow_c.specs.declared.status.TheConstants.{OK, CAPACITY, NULL}
 

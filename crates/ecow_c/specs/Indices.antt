@@ -1,6 +1,6 @@
 -- Which indices and ranges a call takes, and what it answers of others.
 use Rattle.std.specs.Prelude.{◌≡◌, ◌≢◌, ◌<◌, ◌≤◌, ◌+◌, ◌-◌, ◌||◌, ℕ, Bool, false, ◌==◌, List, nat_lt, if◌then◌else◌}
-use Rattle.ecow_values.specs.Utf8.{utf8_len, is_boundary}
+use Rattle.ecow_base.specs.Utf8.{utf8_len, is_boundary}
 use Rattle.ecow_base.specs.declared.capacity.TheConstants.{MAX_LEN}
 use Rattle.ecow_c.specs.declared.status.TheConstants.{OK, INDEX, BOUNDARY}
 

@@ -2,8 +2,8 @@
 -- the value is the one that was lent.
 use Rattle.std.specs.Prelude.{List, ℤ, Option, Some}
 use Rattle.std.specs.Borrow.{LendsIf, Fml, MutBor}
-use Rattle.ecow_values.specs.declared.plain.PlainBytes.{PlainBytes}
-use Rattle.ecow_values.specs.declared.plain.PlainText.{PlainText}
+use Rattle.ecow_base.specs.declared.plain.PlainBytes.{PlainBytes}
+use Rattle.ecow_base.specs.declared.plain.PlainText.{PlainText}
 use Rattle.ecow_nested.specs.declared.value.Value.{Value}
 use Rattle.ecow_c.specs.Rows.{list_row, bytes_row, text_row, texts_row, value_row}
 use Rattle.ecow_c.specs.contracts.pointer.ListPointer.{the_row as list_pointer}

@@ -6,8 +6,8 @@ use Rattle.std.specs.Option.{option_map}
 use Rattle.std.specs.Hash as fed
 use Rattle.std.specs.Str.{encode_utf8_all}
 use Rattle.std.specs.declared.cmp.Ordering.{Ordering}
-use Rattle.ecow_values.specs.Utf8.{chars_before, utf8_len}
-use Rattle.ecow_values.specs.declared.plain.PlainText.{PlainText}
+use Rattle.ecow_base.specs.Utf8.{chars_before, utf8_len}
+use Rattle.ecow_base.specs.declared.plain.PlainText.{PlainText}
 
 -- the character that begins at an index
 abbrev pub char_from : ℕ → PlainText → Option ℕ

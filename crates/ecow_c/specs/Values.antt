@@ -5,7 +5,7 @@ use Rattle.ecow_nested.specs.declared.value.Kind.{Kind}
 use Rattle.ecow_nested.specs.declared.value.Kind.TheVariants as kind
 use Rattle.ecow_nested.specs.declared.value.Value.{Value}
 use Rattle.std.specs.Str.{is_utf8}
-use Rattle.ecow_values.specs.declared.plain.PlainText.{PlainText}
+use Rattle.ecow_base.specs.declared.plain.PlainText.{PlainText}
 use Rattle.ecow_nested.specs.Values.{fields_of, items_of, kind_of, len_of, look_up, name_in}
 
 -- the number of a kind in the header

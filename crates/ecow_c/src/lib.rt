@@ -2,9 +2,12 @@
 //! `ecow_value` for C.
 #![tactic(auto)]
 
-mod common;
+mod assign;
+mod compare;
 mod elements;
 mod pointer;
+mod read;
+mod room;
 mod status;
 mod text;
 mod value;

@@ -1,6 +1,6 @@
 //! The calls of `SmallText`.
 ghost use Rattle.std.specs.Prelude.{◌≡◌, ◌≤◌, true, IsTrue};
-ghost use Rattle.ecow_values.specs.Utf8.{is_boundary, utf8_len};
+ghost use Rattle.ecow_base.specs.Utf8.{is_boundary, utf8_len};
 
 use crate::bytes::{block_of, given, letter_at, letters};
 use crate::calls::{Call, LAST, Role, Row};

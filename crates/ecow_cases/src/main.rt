@@ -1,8 +1,15 @@
 //! Runs each case of its folder, and says whether it answers as expected. The gate compares what
 //! this prints with the file `stdout`.
+//!
+//! Beside them stand examples that no script can ask for, worked out on the definitions: owners,
+//! what is owed, what is free, ranges and replacement. Each clause is computed; nothing calls them.
 #![tactic(auto)]
 
+mod blocks;
+mod bytes;
 mod case;
+mod ranges;
+mod replaced;
 
 use std::{fs, io};
 

@@ -13,7 +13,7 @@ ghost use Rattle.ecow_counted.specs.Sizes.{size_of, sole_block};
 use ecow_base::MAX_LEN;
 use ecow_block::Block;
 use ecow_model::Name;
-use ecow_named::table::Table;
+use ecow_model::table::Table;
 use slab::Slab;
 use std::alloc::{AllocError, Global};
 use std::marker::Model;

@@ -1,5 +1,5 @@
 //! `Counted`: commands on named lists in a table of blocks, with exact counts of what is shared,
-//! copied and moved.
+//! copied and moved, and the laws of these.
 #![tactic(auto)]
 
 mod apply;
@@ -8,6 +8,7 @@ mod commands;
 mod costs;
 pub mod counted;
 pub mod fill;
+pub mod laws;
 mod own;
 
 pub use counted::Counted;

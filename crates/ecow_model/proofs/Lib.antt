@@ -1,4 +1,10 @@
 pub mod Contents
+pub mod Agreement
+pub mod CallerLemmas
 pub mod Entries
 pub mod Lengths
 pub mod PutBack
+pub mod Maps
+pub mod Marks
+pub mod Runs
+pub mod Uses

@@ -3,13 +3,13 @@
 use Rattle.std.specs.Prelude.{ℕ, ◌+◌, ◌-◌, ◌*◌, Bool, true, false, ◌||◌, ◌==◌, if◌then◌else◌, nat_le, max, Some, None, List, [], ◌∷◌, ◌++◌, length, take, slice_get, slice_set, Result, Ok}
 use Rattle.std.specs.List.{insert as insert_at, remove as remove_at, insert_slice, repeat}
 use Rattle.std.specs.Option.{ok_or}
-use Rattle.ecow_values.specs.Inline.{inline_for, inline_after, inline_shrunk}
+use Rattle.ecow_base.specs.Inline.{inline_for, inline_after, inline_shrunk}
 use Rattle.ecow_model.specs.State.{Plain}
 use Rattle.ecow_model.specs.Refusing.{◌>>=◌, check, allowed, Effect, becomes}
 use Rattle.ecow_model.specs.Values.{as_bytes, as_text}
 use Rattle.ecow_model.specs.Uses.{Observation, Rules}
-use Rattle.ecow_values.specs.Plain.{plain_bytes, bytes_of}
-use Rattle.ecow_values.specs.declared.plain.PlainBytes.{PlainBytes}
+use Rattle.ecow_base.specs.Plain.{plain_bytes, bytes_of}
+use Rattle.ecow_base.specs.declared.plain.PlainBytes.{PlainBytes}
 use Rattle.ecow_model.specs.declared.value.Value.TheVariants.{Bytes as BytesValue}
 use Rattle.ecow_model.specs.declared.command.Outcome.{Outcome}
 use Rattle.ecow_model.specs.declared.command.Outcome.TheVariants.{Byte, PoppedByte, Bytes, Count, Flag}

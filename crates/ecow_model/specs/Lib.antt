@@ -10,3 +10,6 @@ pub mod Names
 pub mod Costs
 pub mod CountedRun
 pub mod Agreement
+pub mod Callers
+pub mod Tables
+pub mod Loans

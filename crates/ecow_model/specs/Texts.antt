@@ -6,16 +6,16 @@ use Rattle.std.specs.List.{insert as insert_at, remove as remove_at, insert_slic
 use Rattle.std.specs.Char.{len_utf8, to_ascii_lowercase, to_ascii_uppercase}
 use Rattle.std.specs.Str.{is_utf8}
 use Rattle.std.specs.Option.{ok_or}
-use Rattle.ecow_values.specs.Inline.{inline_for, inline_after, inline_shrunk}
-use Rattle.ecow_values.specs.Utf8.{utf8_len, chars_before, is_boundary}
-use Rattle.ecow_values.specs.Replaced.{replacen}
+use Rattle.ecow_base.specs.Inline.{inline_for, inline_after, inline_shrunk}
+use Rattle.ecow_base.specs.Utf8.{utf8_len, chars_before, is_boundary}
+use Rattle.ecow_base.specs.Replaced.{replacen}
 use Rattle.ecow_model.specs.State.{Plain}
 use Rattle.ecow_model.specs.Refusing.{◌>>=◌, check, allowed, Effect, becomes}
 use Rattle.ecow_model.specs.Values.{as_bytes, as_text}
 use Rattle.ecow_model.specs.Uses.{Observation, Rules}
-use Rattle.ecow_values.specs.Plain.{plain_text, text_of}
-use Rattle.ecow_values.specs.declared.plain.PlainBytes.{PlainBytes}
-use Rattle.ecow_values.specs.declared.plain.PlainText.{PlainText}
+use Rattle.ecow_base.specs.Plain.{plain_text, text_of}
+use Rattle.ecow_base.specs.declared.plain.PlainBytes.{PlainBytes}
+use Rattle.ecow_base.specs.declared.plain.PlainText.{PlainText}
 use Rattle.ecow_model.specs.declared.value.Value.TheVariants.{Text as TextValue}
 use Rattle.ecow_model.specs.declared.command.Outcome.{Outcome}
 use Rattle.ecow_model.specs.declared.command.Outcome.TheVariants.{Char, PoppedChar, Text as Texted, Count, Flag}

@@ -2,11 +2,11 @@
 ghost use Rattle.std.specs.Prelude.{◌≡◌, length};
 ghost use Rattle.ecow_model.specs.Bytes.{edit_bytes, bytes_usage};
 ghost use Rattle.ecow_model.specs.Refusing.{verdict};
-ghost use Rattle.ecow_values.specs.declared.plain.PlainBytes.{PlainBytes};
+ghost use Rattle.ecow_base.specs.declared.plain.PlainBytes.{PlainBytes};
 
 use crate::command::{Name, Refusal};
 use crate::usage::{Usage, allowed, in_bounds};
-use ecow_values::Items;
+use ecow_base::Items;
 
 /// A command on bytes, inline or spilled. Counts and indexes are of bytes.
 #[derive(Drop)]

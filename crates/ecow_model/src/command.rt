@@ -2,7 +2,7 @@
 use crate::bytes::BytesCommand;
 use crate::texts::TextCommand;
 use crate::vecs::VecCommand;
-use ecow_values::{Items, Text};
+use ecow_base::{Items, Text};
 use std::ops::Bound;
 
 /// What a value is called by.

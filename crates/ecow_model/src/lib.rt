@@ -1,9 +1,12 @@
-//! The commands on named lists, bytes and texts, and the definitions of what they do.
+//! The commands on named lists, bytes and texts, the definitions of what they do, the laws of
+//! these, and the table of named values.
 #![tactic(auto)]
 
 pub mod bytes;
+pub mod callers;
 pub mod command;
 pub mod laws;
+pub mod table;
 pub mod texts;
 pub mod usage;
 pub mod value;
@@ -11,6 +14,6 @@ pub mod vecs;
 
 pub use bytes::BytesCommand;
 pub use command::{Bounds, Command, Name, Outcome, Refusal};
-pub use ecow_values::{Items, PlainBytes, PlainText, Text};
+pub use ecow_base::{Items, PlainBytes, PlainText, Text};
 pub use texts::TextCommand;
 pub use vecs::VecCommand;

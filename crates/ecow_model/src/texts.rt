@@ -4,7 +4,7 @@ ghost use Rattle.ecow_model.specs.Texts.{text_usage};
 
 use crate::command::Name;
 use crate::usage::Usage;
-use ecow_values::Text;
+use ecow_base::Text;
 
 /// A command on a text, inline or spilled. Counts and indexes are of its UTF-8 bytes.
 #[derive(Drop)]

@@ -5,8 +5,7 @@ ghost use Rattle.ecow_model.specs.Refusing.{verdict};
 
 use crate::command::{Bounds, Name, Refusal};
 use crate::usage::{Usage, allowed, in_bounds};
-use ecow_base::resolve;
-use ecow_values::Items;
+use ecow_base::{Items, resolve};
 
 /// A command on a list of elements. Counts and indexes are of elements.
 #[derive(Drop)]

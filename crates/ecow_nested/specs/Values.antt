@@ -5,9 +5,9 @@ use Rattle.std.specs.List.{list_any}
 use Rattle.std.specs.Option.{option_map}
 use Rattle.std.specs.Ordering.{int_eq}
 use Rattle.std.specs.Str.{chars, bytes_eq, encode_utf8_all}
-use Rattle.ecow_values.specs.Inline.{inline_for}
-use Rattle.ecow_values.specs.Plain.{plain_text}
-use Rattle.ecow_values.specs.declared.plain.PlainText.{PlainText}
+use Rattle.ecow_base.specs.Inline.{inline_for}
+use Rattle.ecow_base.specs.Plain.{plain_text}
+use Rattle.ecow_base.specs.declared.plain.PlainText.{PlainText}
 use Rattle.ecow_nested.specs.declared.refusal.Refusal.{Refusal}
 use Rattle.ecow_nested.specs.declared.refusal.Refusal.TheVariants as refused
 use Rattle.ecow_nested.specs.declared.value.Kind.{Kind}

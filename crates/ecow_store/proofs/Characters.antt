@@ -7,8 +7,8 @@ use Rattle.std.specs.Str.{encode_utf8_all}
 use Rattle.std.proofs.lemmas.Bool.{eqb-true, lt-ltb}
 use Rattle.std.proofs.lemmas.List.{nil_from_length}
 use Rattle.std.proofs.lemmas.Str.{encodes-append, len_utf8_bounds, is_utf8-from_IsUtf8}
-use Rattle.ecow_values.specs.Utf8.{utf8_len}
-use Rattle.ecow_values.proofs.Boundaries.{width}
+use Rattle.ecow_base.specs.Utf8.{utf8_len}
+use Rattle.ecow_base.proofs.Boundaries.{width}
 use Rattle.ecow_string.proofs.Places.{nothing_at_end}
 use Rattle.ecow_string.proofs.Texts.{not_utf8}
 

@@ -1,2 +1,3 @@
 pub mod Refusals
 pub mod Reading
+pub mod Loans

@@ -4,8 +4,8 @@ use Rattle.std.specs.Result.{result_ok}
 use Rattle.ecow_model.specs.Refusing.{◌>>=◌}
 use Rattle.ecow_model.specs.State.{State}
 use Rattle.ecow_model.specs.Values.{as_vec, as_bytes, as_text, there}
-use Rattle.ecow_values.specs.declared.plain.PlainBytes.{PlainBytes}
-use Rattle.ecow_values.specs.declared.plain.PlainText.{PlainText}
+use Rattle.ecow_base.specs.declared.plain.PlainBytes.{PlainBytes}
+use Rattle.ecow_base.specs.declared.plain.PlainText.{PlainText}
 
 module _ {T : Type 0} where
   -- the list under a name, if one stands there

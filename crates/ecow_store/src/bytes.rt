@@ -1,36 +1,20 @@
 //! What the store does with bytes: each table of the definitions is one `match`.
-ghost use Rattle.std.specs.Prelude.{◌≡◌, ⊤};
+ghost use Rattle.std.specs.Prelude.{⊤};
 ghost use Rattle.ecow_model.specs.Bytes.{bytes_rules};
-ghost use Rattle.ecow_model.specs.Refusing.{OnRefused};
-ghost use Rattle.ecow_model.specs.Run.{IsBytesStep, IsBytesVerdict};
-ghost use Rattle.ecow_named.proofs.Uses.{bytes_wraps};
+ghost use Rattle.ecow_model.proofs.Uses.{bytes_wraps};
 
 use crate::answers::{answer_change, answer_make, refusal_of};
+use crate::kinds::ValueKind;
 use crate::store::Stored;
+use crate::values::bytes_in;
 use ecow_bytes::SmallBytes;
 use ecow_list::EcoVec;
 use ecow_model::bytes::{BytesAsk, BytesDerive, BytesEdit, BytesMake};
 use ecow_model::usage::NewValue;
 use ecow_model::value::Value;
-use ecow_model::{BytesCommand, Items, Outcome, Refusal};
-use ecow_named::kinds::{ValueKind, carry_out};
-use ecow_named::table::Table;
-use ecow_named::values::{bytes_in, bytes_in_mut};
+use ecow_model::{Items, Outcome, Refusal};
 use ecow_string::SmallText;
 use std::alloc::{AllocError, Global};
-
-/// One command on bytes.
-pub(crate) fn step<T: Clone, const N: usize>(
-    alloc: Global,
-    values: &mut Table<Stored<T, N>>,
-    command: BytesCommand,
-) -> Outcome<T>
-    ensures step { IsBytesStep N values.old command result values.new }
-    ensures verdict { IsBytesVerdict N values.old command result values.new }
-    ensures unchanged { OnRefused result (values.new ≡ values.old) }
-{
-    carry_out::<T, Stored<T, N>, BytesKind>(alloc, values, command.usage())
-}
 
 /// Bytes, inline or in handles.
 pub(crate) struct BytesKind;
@@ -153,7 +137,11 @@ impl<T: Clone, const N: usize> ValueKind<T, Stored<T, N>> for BytesKind {
     }
 
     fn payload_mut(value: &mut Stored<T, N>) -> Result<&mut SmallBytes<N>, Refusal> {
-        bytes_in_mut(value)
+        match value {
+            Value::Vec(_) => Err(Refusal::Kind),
+            Value::Bytes(bytes) => Ok(bytes),
+            Value::Text(_) => Err(Refusal::Kind),
+        }
     }
 
     fn wrap(bytes: SmallBytes<N>) -> Stored<T, N> {

@@ -3,8 +3,10 @@
 
 mod answers;
 mod bytes;
+mod kinds;
 pub mod store;
 mod texts;
+mod values;
 mod vecs;
 
 pub use store::{SmallStore, Store};

@@ -8,12 +8,15 @@ ghost use Rattle.ecow_model.specs.Run.{Run, RunBy, Step, StepVerdict, StepWhere}
 
 mod read;
 
-use crate::{bytes, texts, vecs};
+use crate::bytes::BytesKind;
+use crate::kinds::carry_out;
+use crate::texts::TextKind;
+use crate::vecs::VecKind;
 use ecow_bytes::SmallBytes;
 use ecow_list::{EcoError, EcoVec, Rejected};
+use ecow_model::table::Table;
 use ecow_model::value::Value;
 use ecow_model::{Command, Outcome};
-use ecow_named::table::Table;
 use ecow_string::SmallText;
 use std::alloc::Global;
 use std::marker::Model;
@@ -71,9 +74,21 @@ impl<T: Clone, const N: usize> NamedValues<Stored<T, N>> {
         ensures unchanged { OnRefused result (self.new ≡ self.old) }
     {
         match command {
-            Command::Vec(command) => vecs::step::<T, N>(self.alloc, &mut self.values, command),
-            Command::Bytes(command) => bytes::step::<T, N>(self.alloc, &mut self.values, command),
-            Command::Text(command) => texts::step::<T, N>(self.alloc, &mut self.values, command),
+            Command::Vec(command) => carry_out::<T, Stored<T, N>, VecKind>(
+                self.alloc,
+                &mut self.values,
+                command.usage(),
+            ),
+            Command::Bytes(command) => carry_out::<T, Stored<T, N>, BytesKind>(
+                self.alloc,
+                &mut self.values,
+                command.usage(),
+            ),
+            Command::Text(command) => carry_out::<T, Stored<T, N>, TextKind>(
+                self.alloc,
+                &mut self.values,
+                command.usage(),
+            ),
         }
     }
 

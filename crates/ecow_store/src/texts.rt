@@ -1,37 +1,22 @@
 //! What the store does with texts: each table of the definitions is one `match`.
 ghost use Rattle.std.specs.Prelude.{◌≡◌, ⊤};
-ghost use Rattle.ecow_model.specs.Refusing.{OnRefused, verdict};
-ghost use Rattle.ecow_model.specs.Run.{IsTextStep, IsTextVerdict};
+ghost use Rattle.ecow_model.specs.Refusing.{verdict};
 ghost use Rattle.ecow_model.specs.Texts.{edit_text, text_rules, text_from_bytes};
 ghost use Rattle.ecow_model.specs.Uses.{IsGiven};
-ghost use Rattle.ecow_named.proofs.Uses.{text_wraps};
+ghost use Rattle.ecow_model.proofs.Uses.{text_wraps};
 
 use crate::answers::{answer_change, answer_make, refusal_of};
+use crate::kinds::ValueKind;
 use crate::store::Stored;
+use crate::values::text_in;
 use ecow_bytes::SmallBytes;
 use ecow_list::EcoError;
 use ecow_model::texts::{TextAsk, TextDerive, TextEdit, TextMake};
 use ecow_model::usage::{NewValue, allowed};
 use ecow_model::value::Value;
-use ecow_model::{Outcome, Refusal, Text, TextCommand};
-use ecow_named::kinds::{ValueKind, carry_out};
-use ecow_named::table::Table;
-use ecow_named::values::{text_in, text_in_mut};
+use ecow_model::{Outcome, Refusal, Text};
 use ecow_string::SmallText;
 use std::alloc::{AllocError, Global};
-
-/// One command on texts.
-pub(crate) fn step<T: Clone, const N: usize>(
-    alloc: Global,
-    values: &mut Table<Stored<T, N>>,
-    command: TextCommand,
-) -> Outcome<T>
-    ensures step { IsTextStep N values.old command result values.new }
-    ensures verdict { IsTextVerdict N values.old command result values.new }
-    ensures unchanged { OnRefused result (values.new ≡ values.old) }
-{
-    carry_out::<T, Stored<T, N>, TextKind>(alloc, values, command.usage())
-}
 
 /// Texts, inline or in handles.
 pub(crate) struct TextKind;
@@ -154,7 +139,11 @@ impl<T: Clone, const N: usize> ValueKind<T, Stored<T, N>> for TextKind {
     }
 
     fn payload_mut(value: &mut Stored<T, N>) -> Result<&mut SmallText<N>, Refusal> {
-        text_in_mut(value)
+        match value {
+            Value::Vec(_) => Err(Refusal::Kind),
+            Value::Bytes(_) => Err(Refusal::Kind),
+            Value::Text(text) => Ok(text),
+        }
     }
 
     fn wrap(text: SmallText<N>) -> Stored<T, N> {

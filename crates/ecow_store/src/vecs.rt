@@ -1,42 +1,27 @@
 //! What the store does with a list: each table of the definitions is one `match`.
-ghost use Rattle.std.specs.Prelude.{◌≡◌, ◌≤◌, [], Ok, length, vec_capacity, OnOk, OnErr, IfErr, MatchResult};
+ghost use Rattle.std.specs.Prelude.{◌≡◌, Ok, length, OnOk, OnErr, IfErr};
 ghost use Rattle.std.specs.List.{items_where_true};
 ghost use Rattle.ecow_base.specs.Clones.{ClonesAreEqual};
 ghost use Rattle.ecow_list.specs.declared.error.EcoError.{EcoError};
 ghost use Rattle.ecow_model.specs.Vecs.{edit_vec, vec_rules};
 ghost use Rattle.ecow_model.specs.Refusing.{OnRefused, verdict};
-ghost use Rattle.ecow_model.specs.Run.{IsVecStep, IsVecVerdict};
 ghost use Rattle.ecow_model.specs.Uses.{IsEdit, IsEditVerdict};
 ghost use Rattle.ecow_model.specs.declared.command.Outcome.{Outcome};
 ghost use Rattle.ecow_model.specs.declared.command.Refusal.{Refusal};
 ghost use Rattle.ecow_model.specs.declared.vecs.VecEdit.{VecEdit};
-ghost use Rattle.ecow_named.proofs.Uses.{vec_wraps};
+ghost use Rattle.ecow_model.proofs.Uses.{vec_wraps};
 
 use crate::answers::{answer_change, answer_make};
+use crate::kinds::ValueKind;
 use crate::store::Stored;
+use crate::values::vec_in;
 use ecow_base::resolve;
 use ecow_list::{EcoError, EcoVec};
 use ecow_model::usage::NewValue;
 use ecow_model::value::Value;
 use ecow_model::vecs::{VecAsk, VecDerive, VecEdit, VecMake};
-use ecow_model::{Bounds, Items, Outcome, Refusal, VecCommand};
-use ecow_named::kinds::{ValueKind, carry_out};
-use ecow_named::table::Table;
-use ecow_named::values::{vec_in, vec_in_mut};
+use ecow_model::{Bounds, Items, Outcome, Refusal};
 use std::alloc::{AllocError, Global};
-
-/// One command on lists.
-pub(crate) fn step<T: Clone, const N: usize>(
-    alloc: Global,
-    values: &mut Table<Stored<T, N>>,
-    command: VecCommand<T>,
-) -> Outcome<T>
-    ensures step { ClonesAreEqual T.is_clone → IsVecStep values.old command result values.new }
-    ensures verdict { IsVecVerdict values.old command result values.new }
-    ensures unchanged { OnRefused result (values.new ≡ values.old) }
-{
-    carry_out::<T, Stored<T, N>, VecKind>(alloc, values, command.usage())
-}
 
 /// Lists, which are handles.
 pub(crate) struct VecKind;
@@ -138,7 +123,11 @@ impl<T: Clone, const N: usize> ValueKind<T, Stored<T, N>> for VecKind {
     }
 
     fn payload_mut(value: &mut Stored<T, N>) -> Result<&mut EcoVec<T>, Refusal> {
-        vec_in_mut(value)
+        match value {
+            Value::Vec(list) => Ok(list),
+            Value::Bytes(_) => Err(Refusal::Kind),
+            Value::Text(_) => Err(Refusal::Kind),
+        }
     }
 
     fn wrap(list: EcoVec<T>) -> Stored<T, N> {

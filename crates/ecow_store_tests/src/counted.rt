@@ -1,11 +1,9 @@
 //! Lists in counted blocks: commands succeed with ample memory, each copied element is one clone,
 //! and elements are dropped with the last name of their block.
 use crate::calls::{done, standing, step, totals};
-use crate::scripts::{COMMANDS, compare};
 use ecow_counted::{Counted, Filled};
 use ecow_model::{Items, Outcome, Refusal, VecCommand};
 use ecow_testing::elements::{Counting, Single, Tally};
-use ecow_testing::numbers::Numbers;
 use ecow_testing::outcomes::{is_done, refusal_of};
 use std::alloc::{AllocError, Global};
 use std::ops::Bound;
@@ -170,12 +168,4 @@ fn elements_without_a_clone_are_shared(rt: HostRuntime) -> Result<(), Fail> {
     let refused = refusal_of(table.share(0, 1)) == Some(Refusal::NoName);
     assert!(rt; refused && table.is_unique(0).is_none() && standing(&table, 0) == (None, None));
     Ok(())
-}
-
-#[test]
-fn counted_lists_answer_as_plain_lists_do(rt: HostRuntime) -> Result<(), Fail> {
-    compare(&rt, 100..120, |seed| {
-        let commands = Numbers::new(seed).commands(rt.alloc(), COMMANDS).ok()?;
-        Counted::new(rt.alloc()).run(commands).ok()
-    })
 }

@@ -1,5 +1,5 @@
-//! Tests of both stores: what is cloned and dropped, what a refusal leaves, and commands that a
-//! seed decides. Scripts with their answers stand in `ecow_cases`.
+//! Tests of both stores: what is cloned and dropped, and what a refusal leaves. Scripts
+//! with their answers stand in `ecow_cases`.
 #![tactic(auto)]
 
 #[cfg(test)]
@@ -12,7 +12,5 @@ mod counted_refusals;
 mod drops;
 #[cfg(test)]
 mod limits;
-#[cfg(test)]
-mod scripts;
 #[cfg(test)]
 mod store;

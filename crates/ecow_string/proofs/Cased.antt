@@ -8,7 +8,7 @@ use Rattle.std.proofs.lemmas.Str.{encode_ascii, inside_one, chars-encodes}
 use Rattle.std.proofs.lemmas.Str.Ascii.{lowercase_ascii, uppercase_ascii, lowercase_is, uppercase_is}
 use Rattle.std.proofs.lemmas.Bool.{cases_lt}
 use Rattle.std.proofs.lemmas.List.{length-map, map-append}
-use Rattle.ecow_values.specs.Utf8.{utf8_len}
+use Rattle.ecow_base.specs.Utf8.{utf8_len}
 use Rattle.std.proofs.Math.Utf8.{scalar, low_scalar}
 use Rattle.ecow_string.specs.Case.{in_case, str_in_case}
 use Rattle.ecow_string.specs.declared.case.Case.{Case}

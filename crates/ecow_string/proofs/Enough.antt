@@ -2,7 +2,7 @@
 use Rattle.std.proofs.Common.{◌≡◌, ℕ, zero, suc, ◌<◌, ◌≤◌, Bool, true, false, List, [], ◌∷◌, ◌++◌, length, Option, Some, None, refl, ap, arith}
 use Rattle.std.specs.Prelude.{◌==◌, if◌then◌else◌}
 use Rattle.std.specs.Option.{option_map, option_map_or}
-use Rattle.ecow_values.specs.Replaced.{after_front, or_later, first_split, replacen}
+use Rattle.ecow_base.specs.Replaced.{after_front, or_later, first_split, replacen}
 
 is_some : {A : Type 0} (x y : A) → Some x ≡ Some y → x ≡ y
 is_some x y e = ap (λ (o : Option _). option_map_or (λ a. a) o x) e

@@ -3,7 +3,7 @@ use Rattle.std.proofs.Common.{◌≡◌, ℕ, ◌+◌, List, [], ◌∷◌, ◌+
 use Rattle.std.specs.Prelude.{IsErrOf}
 use Rattle.std.specs.Str.{chars}
 use Rattle.std.proofs.lemmas.Grind.{flat_map-append}
-use Rattle.ecow_values.specs.Utf8.{utf8_len}
+use Rattle.ecow_base.specs.Utf8.{utf8_len}
 use Rattle.ecow_string.specs.Appends.{joined_by}
 use Rattle.ecow_string.proofs.Occurrences.{encoded_len}
 use Rattle.ecow_string.proofs.Steps.{utf8_len-chars}

@@ -1,6 +1,6 @@
 -- When a text stays inline.
 use Rattle.std.proofs.Common.{◌≡◌, ℕ, ◌+◌, ◌<◌, ◌≤◌, Bool, true, false, rules}
-use Rattle.ecow_values.specs.Inline.{inline_after, inline_for}
+use Rattle.ecow_base.specs.Inline.{inline_after, inline_for}
 
 -- a text that was made for n bytes keeps its mode while it gets no more than these
 pub keeps_mode : (limit n : ℕ) (inline : Bool) (len k : ℕ) → inline ≡ inline_for limit n → len + k ≤ n → inline_after limit inline len k ≡ inline_for limit n

@@ -8,9 +8,9 @@ use Rattle.std.proofs.lemmas.List.Prefix.{at_from_reads, at_reads}
 use Rattle.std.proofs.lemmas.List.{take_at, drop_at}
 use borrow.Author.Tests.{eqb-true, eq-eqb}
 use Rattle.memchr.specs.Find.{OccursAt, FindsNeedle}
-use Rattle.ecow_values.specs.Utf8.{utf8_len}
-use Rattle.ecow_values.specs.Replaced.{after_front, or_later, first_split}
-use Rattle.ecow_values.proofs.Boundaries.{width}
+use Rattle.ecow_base.specs.Utf8.{utf8_len}
+use Rattle.ecow_base.specs.Replaced.{after_front, or_later, first_split}
+use Rattle.ecow_base.proofs.Boundaries.{width}
 use Rattle.ecow_string.specs.Text.{AreChars}
 use Rattle.ecow_string.proofs.Texts.{front_of_boundary, split_encoded, AreChars-append}
 

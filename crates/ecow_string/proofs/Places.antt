@@ -4,8 +4,8 @@ use Rattle.std.specs.Prelude.{slice_get, nat_lt, ◌||◌}
 use Rattle.std.proofs.lemmas.List.{take_all}
 use Rattle.std.proofs.lemmas.Bool.{cases_lt, le-ltb}
 use Rattle.std.proofs.lemmas.Option.{slice_get_past, slice_get-get_or}
-use Rattle.ecow_values.specs.Utf8.{utf8_len, chars_before, is_boundary}
-use Rattle.ecow_values.proofs.Boundaries.{chars_before-front, passes_boundary}
+use Rattle.ecow_base.specs.Utf8.{utf8_len, chars_before, is_boundary}
+use Rattle.ecow_base.proofs.Boundaries.{chars_before-front, passes_boundary}
 use Rattle.ecow_string.proofs.Texts.{chars_before-past}
 
 -- no character stands at the end or past it

@@ -3,7 +3,7 @@ use Rattle.std.proofs.Common.{◌≡◌, List, ℕ, ◌++◌, Option, None, Some
 use Rattle.std.specs.Fmt.{WritesText}
 use Rattle.std.specs.Str.{encode_utf8_all}
 use Rattle.std.proofs.lemmas.Fmt.{contents_after_writes}
-use Rattle.ecow_values.specs.declared.plain.PlainText.{PlainText}
+use Rattle.ecow_base.specs.declared.plain.PlainText.{PlainText}
 
 -- some calls of `write_str` append what they write
 pub text_after_writes : (old new : PlainText) (o : Option (List ℕ))

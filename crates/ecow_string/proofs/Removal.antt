@@ -6,8 +6,8 @@ use Rattle.std.specs.Char.{len_utf8, encode_utf8}
 use Rattle.std.specs.Str.{chars, encode_utf8_all}
 use Rattle.std.proofs.lemmas.Str.{chars-encodes, encodes-append, cons_from_encodes, length-encode, drop_past_char}
 use Rattle.std.proofs.lemmas.List.{take_at, drop_at}
-use Rattle.ecow_values.specs.Utf8.{chars_before, is_boundary}
-use Rattle.ecow_values.proofs.Boundaries.{chars_before-front, passes_boundary}
+use Rattle.ecow_base.specs.Utf8.{chars_before, is_boundary}
+use Rattle.ecow_base.proofs.Boundaries.{chars_before-front, passes_boundary}
 use Rattle.ecow_string.specs.Text.{AreChars, AreUtf8}
 use Rattle.ecow_string.proofs.Texts.{AreUtf8-encoded, AreChars-append, AreChars-joined, front_bytes, split_encoded}
 

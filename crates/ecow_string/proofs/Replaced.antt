@@ -5,7 +5,7 @@ use Rattle.std.specs.declared.ops.Bound.TheVariants.{Included, Excluded}
 use Rattle.std.specs.List.{replace_range}
 use Rattle.std.specs.Str.{chars}
 use Rattle.ecow_base.specs.Range.{range_of}
-use Rattle.ecow_values.specs.Utf8.{utf8_len, is_boundary, chars_before}
+use Rattle.ecow_base.specs.Utf8.{utf8_len, is_boundary, chars_before}
 use Rattle.ecow_list.specs.Ranges.{AtRange}
 use Rattle.ecow_list.proofs.Ranges.{within}
 use Rattle.ecow_string.specs.Text.{AreUtf8}

@@ -5,9 +5,9 @@ use Rattle.std.specs.Char.{len_utf8}
 use Rattle.std.specs.Str.{chars, encode_utf8_all, IsUtf8}
 use Rattle.std.specs.Option.{option_map_or}
 use Rattle.std.proofs.lemmas.Str.{encodes-chars}
-use Rattle.ecow_values.specs.Utf8.{utf8_len}
-use Rattle.ecow_values.specs.Replaced.{first_split, replacen}
-use Rattle.ecow_values.proofs.Boundaries.{width}
+use Rattle.ecow_base.specs.Utf8.{utf8_len}
+use Rattle.ecow_base.specs.Replaced.{first_split, replacen}
+use Rattle.ecow_base.proofs.Boundaries.{width}
 use Rattle.ecow_string.specs.Replace.{IsFirstSplit, IsCharSplit}
 use Rattle.ecow_string.proofs.Occurrences.{encoded_len}
 

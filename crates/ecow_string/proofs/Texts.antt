@@ -8,8 +8,8 @@ use Rattle.std.proofs.lemmas.Str.{chars-nil, chars-encodes, encodes-chars, scala
 use Rattle.std.proofs.lemmas.List.{take_at, take_all, drop_at, nil_from_length}
 use Rattle.std.proofs.lemmas.Bool.{cases_lt, eqb-true, eq-eqb}
 use Rattle.std.proofs.Math.Utf8.{scalar}
-use Rattle.ecow_values.specs.Utf8.{utf8_len, chars_before, IsBoundary, is_boundary}
-use Rattle.ecow_values.proofs.Boundaries.{width, chars_before-front, passes_boundary}
+use Rattle.ecow_base.specs.Utf8.{utf8_len, chars_before, IsBoundary, is_boundary}
+use Rattle.ecow_base.proofs.Boundaries.{width, chars_before-front, passes_boundary}
 use Rattle.ecow_string.specs.Text.{AreChars, AreUtf8}
 
 pub AreUtf8-from : (bs : List ℕ) → IsUtf8 bs → AreUtf8 bs

@@ -3,7 +3,7 @@
 use Rattle.std.specs.Prelude.{◌≡◌, ℕ, List, [], ◌∷◌, ◌++◌, flat_map}
 use Rattle.std.specs.Str.{chars}
 use denote.Ref.{Bor}
-use Rattle.ecow_values.specs.declared.plain.PlainText.{PlainText}
+use Rattle.ecow_base.specs.declared.plain.PlainText.{PlainText}
 
 -- the characters of the texts, end to end
 abbrev pub joined_by : {T : Type 0} → (T → List ℕ) → List T → List ℕ

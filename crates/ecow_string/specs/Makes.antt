@@ -2,9 +2,9 @@
 use Rattle.std.specs.Prelude.{◌≡◌, ◌<◌, ◌≤◌, ◌↔◌, ℕ, Bool, false, List, map, Result, IfOk, IfErr, IsOk, OnErr, IsErrOf}
 use Rattle.std.specs.Str.{encode_utf8_all, IsAscii}
 use Rattle.ecow_base.specs.declared.capacity.TheConstants.{MAX_LEN}
-use Rattle.ecow_values.specs.Inline.{inline_for}
-use Rattle.ecow_values.specs.Utf8.{utf8_len}
-use Rattle.ecow_values.specs.declared.plain.PlainText.{PlainText}
+use Rattle.ecow_base.specs.Inline.{inline_for}
+use Rattle.ecow_base.specs.Utf8.{utf8_len}
+use Rattle.ecow_base.specs.declared.plain.PlainText.{PlainText}
 use Rattle.ecow_list.specs.declared.error.EcoError.{EcoError}
 use Rattle.ecow_list.specs.declared.error.EcoError.TheVariants.{Capacity, Memory}
 use Rattle.ecow_string.specs.Case.{in_case, str_in_case}

@@ -2,9 +2,9 @@
 use Rattle.std.specs.Prelude.{◌≡◌, ◌<◌, ℕ, MatchOption, List, [], ◌∷◌, ◌++◌, Option, Some, None, Result, IfErr, OnErr, OnOk}
 use Rattle.std.specs.Str.{chars, IsUtf8}
 use denote.Ref.{Bor}
-use Rattle.ecow_values.specs.Inline.{inline_for}
-use Rattle.ecow_values.specs.Replaced.{first_split}
-use Rattle.ecow_values.specs.declared.plain.PlainText.{PlainText}
+use Rattle.ecow_base.specs.Inline.{inline_for}
+use Rattle.ecow_base.specs.Replaced.{first_split}
+use Rattle.ecow_base.specs.declared.plain.PlainText.{PlainText}
 use Rattle.ecow_list.specs.declared.error.EcoError.{EcoError}
 use Rattle.ecow_list.specs.declared.error.EcoError.TheVariants.{Memory}
 

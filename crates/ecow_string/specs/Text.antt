@@ -4,10 +4,10 @@ use Rattle.std.specs.Prelude.{◌≡◌, ℕ, true, false, List, drop, Result, M
 use Rattle.std.specs.Str.{chars, encode_utf8_all, all_scalars, is_utf8, valid_up_to, error_len}
 use Rattle.std.specs.Str.Lossy.{utf8_valid_len, utf8_error_len}
 use Rattle.std.specs.declared.str.Utf8Error.{Utf8Error}
-use Rattle.ecow_values.specs.Plain.{plain_bytes}
-use Rattle.ecow_values.specs.Plain.{text_of}
-use Rattle.ecow_values.specs.declared.plain.PlainBytes.{PlainBytes}
-use Rattle.ecow_values.specs.declared.plain.PlainText.{PlainText}
+use Rattle.ecow_base.specs.Plain.{plain_bytes}
+use Rattle.ecow_base.specs.Plain.{text_of}
+use Rattle.ecow_base.specs.declared.plain.PlainBytes.{PlainBytes}
+use Rattle.ecow_base.specs.declared.plain.PlainText.{PlainText}
 
 -- each number of the list is a character
 abbrev pub AreChars : List ℕ → Type 0

@@ -1,8 +1,8 @@
 //! Texts that are printed, and printing to a text.
 ghost use Rattle.std.specs.Prelude.{◌≡◌, ◌++◌, length, Some, IsOk, IfOk, IfSome, OnOk, OnErr, true, false};
 ghost use Rattle.std.specs.Str.{chars, encode_utf8_all};
-ghost use Rattle.ecow_values.specs.Inline.{inline_after, inline_for};
-ghost use Rattle.ecow_values.specs.Utf8.{utf8_len};
+ghost use Rattle.ecow_base.specs.Inline.{inline_after, inline_for};
+ghost use Rattle.ecow_base.specs.Utf8.{utf8_len};
 
 use crate::string::{EcoString, SmallText};
 use std::alloc::Global;

@@ -7,9 +7,9 @@ ghost use Rattle.std.specs.Cmp.Lexicographic.{pointwise, slice_cmp, nat_list_eq_
 ghost use Rattle.std.specs.Hash as fed;
 ghost use Rattle.std.specs.Hash.{on_Alike, same_Alike};
 ghost use Rattle.std.specs.Str.{chars, encode_utf8_all, is_utf8, IsUtf8};
-ghost use Rattle.ecow_values.specs.Plain.{text_of};
-ghost use Rattle.ecow_values.specs.declared.plain.PlainBytes.{PlainBytes};
-ghost use Rattle.ecow_values.specs.declared.plain.PlainText.{PlainText};
+ghost use Rattle.ecow_base.specs.Plain.{text_of};
+ghost use Rattle.ecow_base.specs.declared.plain.PlainBytes.{PlainBytes};
+ghost use Rattle.ecow_base.specs.declared.plain.PlainText.{PlainText};
 ghost use Rattle.ecow_string.specs.Text.{AreChars, bytes_of};
 
 use crate::string::SmallText;

@@ -6,7 +6,7 @@
 //! whose text stays inline.
 ghost use Rattle.std.specs.Prelude.{◌≡◌, ◌≤◌, ◌==◌, [], length, true, false};
 ghost use Rattle.std.specs.Str.{chars, encode_utf8_all};
-ghost use Rattle.ecow_values.specs.Utf8.{utf8_len, is_boundary};
+ghost use Rattle.ecow_base.specs.Utf8.{utf8_len, is_boundary};
 ghost use Rattle.ecow_string.specs.Text.{AreChars};
 
 mod case;
@@ -43,8 +43,8 @@ pub struct SmallText<const N: usize> {
 pub type EcoString = SmallText<15>;
 
 impl<const N: usize> Model for SmallText<N> {
-    ghost use Rattle.ecow_values.specs.Plain.{text_of};
-    ghost use Rattle.ecow_values.specs.declared.plain.PlainText.{PlainText};
+    ghost use Rattle.ecow_base.specs.Plain.{text_of};
+    ghost use Rattle.ecow_base.specs.declared.plain.PlainText.{PlainText};
     ghost use Rattle.ecow_string.specs.Text.{AreUtf8};
 
     ghost Value = { PlainText };

@@ -2,8 +2,8 @@
 //! as a `String` is.
 ghost use Rattle.std.specs.Prelude.{◌≡◌};
 ghost use Rattle.std.specs.Str.{encode_utf8_all};
-ghost use Rattle.ecow_values.specs.Inline.{inline_for};
-ghost use Rattle.ecow_values.specs.Utf8.{utf8_len};
+ghost use Rattle.ecow_base.specs.Inline.{inline_for};
+ghost use Rattle.ecow_base.specs.Utf8.{utf8_len};
 ghost use Rattle.ecow_string.specs.Appends.{joined_strs, joined_texts};
 
 use crate::string::SmallText;

@@ -3,7 +3,7 @@ use Rattle.std.proofs.Common.{◌≡◌, ◌≢◌, ℕ, List, [], ◌∷◌, �
 use Rattle.std.specs.BTreeMap.{BTreeMap}
 use Rattle.std.specs.List.{flat_map}
 use Rattle.std.proofs.lemmas.List.Elements.{All-head, All-tail}
-use Rattle.ecow_values.specs.declared.plain.PlainText.{PlainText}
+use Rattle.ecow_base.specs.declared.plain.PlainText.{PlainText}
 use Rattle.ecow_uses.specs.declared.template.Piece.{Piece}
 use Rattle.ecow_uses.specs.declared.template.Piece.TheVariants.{Text, Hole}
 use Rattle.ecow_uses.specs.Template.{IsUnclosed, Lacks, Spells, closing, filled, opening, form_of}

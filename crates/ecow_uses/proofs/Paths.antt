@@ -9,7 +9,7 @@ use Rattle.std.proofs.lemmas.List.{length-map, map-set}
 use Rattle.std.proofs.lemmas.List.Quantifiers.{position-Some}
 use Rattle.std.proofs.lemmas.Option.{none-some, same_Some, slice_get-map}
 use Rattle.std.proofs.lemmas.Str.{encodes_same}
-use Rattle.ecow_values.specs.declared.plain.PlainText.{PlainText}
+use Rattle.ecow_base.specs.declared.plain.PlainText.{PlainText}
 use Rattle.ecow_uses.proofs.Trees.{get_set, get_other}
 use Rattle.ecow_uses.specs.Nested.{has_name, names_in, names_of, parts_of, place, place_of, part_of, value_at, AreApart, IsSet, IsApart}
 use Rattle.ecow_uses.specs.declared.nested.Step.{Step}

@@ -4,7 +4,7 @@ use Rattle.std.specs.Cmp.Lexicographic.{pointwise}
 use Rattle.std.specs.List.{position}
 use Rattle.std.specs.Option.{option_and_then}
 use Rattle.std.specs.Str.{encode_utf8_all}
-use Rattle.ecow_values.specs.declared.plain.PlainText.{PlainText}
+use Rattle.ecow_base.specs.declared.plain.PlainText.{PlainText}
 use Rattle.ecow_uses.specs.declared.nested.Step.{Step}
 use Rattle.ecow_uses.specs.declared.nested.Step.TheVariants as step
 use Rattle.ecow_uses.specs.declared.nested.Value.{Value, out-Value}

@@ -17,7 +17,7 @@ pub fn value(settings: &Counted<u64>, version: Name, setting: usize) -> Option<u
 
 /// Makes the version `to` of the settings of `from`. It copies and moves nothing. A refusal changes
 /// nothing.
-#[tactic(auto, using(ecow_laws::proofs::CallerLemmas::share_reads))]
+#[tactic(auto, using(ecow_model::proofs::CallerLemmas::share_reads))]
 pub fn fork(settings: &mut Counted<u64>, from: Name, to: Name) -> Result<(), Refusal>
     ensures reads { OnOk result (list_of settings.new.names to ≡ list_of settings.old.names from) }
     ensures others { (version : ℕ) → version ≢ to → list_of settings.new.names version
@@ -34,7 +34,7 @@ pub fn fork(settings: &mut Counted<u64>, from: Name, to: Name) -> Result<(), Ref
 }
 
 /// Sets one setting of a version. A refusal changes nothing.
-#[tactic(auto, using(ecow_laws::proofs::CallerLemmas::shared_write_sets))]
+#[tactic(auto, using(ecow_model::proofs::CallerLemmas::shared_write_sets))]
 pub fn set(
     settings: &mut Counted<u64>,
     version: Name,

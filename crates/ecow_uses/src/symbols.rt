@@ -18,7 +18,7 @@ pub struct Interner {
 
 impl Model for Interner {
     ghost use Rattle.std.specs.Prelude.{List};
-    ghost use Rattle.ecow_values.specs.declared.plain.PlainText.{PlainText};
+    ghost use Rattle.ecow_base.specs.declared.plain.PlainText.{PlainText};
 
     ghost Value = { List PlainText };
 

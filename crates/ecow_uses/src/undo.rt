@@ -18,7 +18,7 @@ pub struct History {
 }
 
 impl Model for History {
-    ghost use Rattle.ecow_values.specs.declared.plain.PlainText.{PlainText};
+    ghost use Rattle.ecow_base.specs.declared.plain.PlainText.{PlainText};
     ghost use Rattle.ecow_uses.specs.History.{Timeline};
 
     ghost Value = { Timeline PlainText };

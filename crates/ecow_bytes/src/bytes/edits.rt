@@ -5,7 +5,7 @@ ghost use Rattle.std.specs.List.{insert_slice, replace_range};
 ghost use Rattle.ecow_base.specs.Range.{range_of};
 ghost use Rattle.ecow_list.specs.Ranges.{AtRange};
 ghost use Rattle.ecow_list.specs.Refusals.{RefusesForMemory, RefusesPast};
-ghost use Rattle.ecow_values.specs.Inline.{Grows, KeepsMode, inline_shrunk};
+ghost use Rattle.ecow_base.specs.Inline.{Grows, KeepsMode, inline_shrunk};
 
 use crate::bytes::SmallBytes;
 use crate::form::Form;

@@ -2,8 +2,8 @@
 ghost use Rattle.std.specs.Prelude.{◌≡◌, ℕ, ◌<◌, ◌≤◌, ◌↔◌, [], List, length, vec_len, true, false, IsOk, IfOk, IfErr, OnErr, IsErrAnd, IsErrOf, IsSome, IfSome};
 ghost use Rattle.std.specs.Iterator.{IsFiniteIterable};
 ghost use Rattle.ecow_list.specs.Vectors.{GivesFirst, GivesItems};
-ghost use Rattle.ecow_values.specs.Plain.{plain_bytes};
-ghost use Rattle.ecow_values.specs.Inline.{inline_for};
+ghost use Rattle.ecow_base.specs.Plain.{plain_bytes};
+ghost use Rattle.ecow_base.specs.Inline.{inline_for};
 ghost use Rattle.ecow_bytes.specs.Makes.{MakesBytes};
 
 use crate::bytes::SmallBytes;

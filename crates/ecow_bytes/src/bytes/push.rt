@@ -5,7 +5,7 @@ ghost use Rattle.std.specs.Iterator.{IsFinite, IsFiniteIterable, ExtendsWithItem
 ghost use Rattle.std.specs.List.{replace_range};
 ghost use Rattle.ecow_list.specs.Vectors.{Appends, ExtendsBy, GivesFirst};
 ghost use Rattle.ecow_list.specs.Refusals.{RefusesPast};
-ghost use Rattle.ecow_values.specs.Inline.{Grows, inline_after};
+ghost use Rattle.ecow_base.specs.Inline.{Grows, inline_after};
 
 use crate::bytes::SmallBytes;
 use crate::form::Form;

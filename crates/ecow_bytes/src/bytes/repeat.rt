@@ -1,7 +1,7 @@
 //! Repetition of the bytes.
 ghost use Rattle.std.specs.Prelude.{◌≡◌, ◌+◌, ◌*◌, ◌<◌, ◌≤◌, ◌↔◌, ◌++◌, false, length, take, IsOk, IfOk, IfErr, OnOk, OnErr, IsErrOf};
 ghost use Rattle.std.specs.List.{repeat};
-ghost use Rattle.ecow_values.specs.Inline.{Grows};
+ghost use Rattle.ecow_base.specs.Inline.{Grows};
 ghost use Rattle.ecow_bytes.specs.Makes.{MakesBytes};
 
 use crate::bytes::SmallBytes;

@@ -3,7 +3,7 @@ ghost use Rattle.std.specs.Prelude.{◌≡◌, [], false, IsOk, IfErr, OnOk, OnE
 ghost use Rattle.std.specs.Fn.{FnOnceTakesAtMut};
 ghost use Rattle.ecow_bytes.specs.Rewrites.{Rewrites};
 ghost use Rattle.ecow_list.specs.Refusals.{RefusesForMemory};
-ghost use Rattle.ecow_values.specs.Inline.{KeepsMode};
+ghost use Rattle.ecow_base.specs.Inline.{KeepsMode};
 
 use crate::bytes::SmallBytes;
 use crate::form::Form;

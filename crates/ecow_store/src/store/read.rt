@@ -5,8 +5,8 @@ ghost use Rattle.std.specs.Str.{encode_utf8_all};
 ghost use Rattle.ecow_store.specs.Reading.{bytes_under, vec_under, text_under};
 
 use crate::store::{NamedValues, Stored};
+use crate::values::{bytes_in, text_in, vec_in};
 use ecow_model::Name;
-use ecow_named::values::{bytes_in, text_in, vec_in};
 
 impl<T, const N: usize> NamedValues<Stored<T, N>> {
     /// The list of a name; `None` where no list stands there. Takes no memory.

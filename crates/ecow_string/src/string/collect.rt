@@ -4,9 +4,9 @@ ghost use Rattle.std.specs.Borrow.{Bor};
 ghost use Rattle.std.specs.Str.{chars};
 ghost use Rattle.std.specs.Iterator.{IsFinite, IsFiniteIterable, ExtendsWithItems, Yields};
 ghost use Rattle.ecow_list.specs.Vectors.{Appends, ExtendsBy, GivesFirst, GivesItems};
-ghost use Rattle.ecow_values.specs.Inline.{inline_after, inline_for, Grows};
-ghost use Rattle.ecow_values.specs.Utf8.{utf8_len};
-ghost use Rattle.ecow_values.specs.declared.plain.PlainText.{PlainText};
+ghost use Rattle.ecow_base.specs.Inline.{inline_after, inline_for, Grows};
+ghost use Rattle.ecow_base.specs.Utf8.{utf8_len};
+ghost use Rattle.ecow_base.specs.declared.plain.PlainText.{PlainText};
 ghost use Rattle.ecow_string.specs.Appends.{AppendsBy, AppendsStrs, LeavesLastOut, joined_by, joined_strs, joined_texts};
 ghost use Rattle.ecow_list.specs.Refusals.{RefusesPast};
 

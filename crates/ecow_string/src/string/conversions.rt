@@ -1,7 +1,7 @@
 //! The calls that make something else of a text, and texts of bytes.
 ghost use Rattle.std.specs.Prelude.{◌≡◌, true, false, string_bytes, IfOk, IfErr, OnErr};
 ghost use Rattle.std.specs.Str.{encode_utf8_all};
-ghost use Rattle.ecow_values.specs.Plain.{plain_bytes};
+ghost use Rattle.ecow_base.specs.Plain.{plain_bytes};
 ghost use Rattle.ecow_string.specs.Text.{TriesText, bytes_of};
 
 use crate::string::SmallText;

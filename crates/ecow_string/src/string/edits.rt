@@ -5,8 +5,8 @@ ghost use Rattle.std.specs.Char.{len_utf8, to_ascii_lowercase, to_ascii_uppercas
 ghost use Rattle.std.specs.Str.{chars};
 ghost use Rattle.ecow_base.specs.Range.{range_of};
 ghost use Rattle.ecow_list.specs.Ranges.{AtRange};
-ghost use Rattle.ecow_values.specs.Inline.{inline_shrunk, Grows, KeepsMode};
-ghost use Rattle.ecow_values.specs.Utf8.{utf8_len, chars_before, is_boundary};
+ghost use Rattle.ecow_base.specs.Inline.{inline_shrunk, Grows, KeepsMode};
+ghost use Rattle.ecow_base.specs.Utf8.{utf8_len, chars_before, is_boundary};
 ghost use Rattle.ecow_list.specs.Refusals.{RefusesForMemory, RefusesPast};
 
 use crate::string::SmallText;

@@ -2,7 +2,7 @@
 ghost use Rattle.std.specs.Prelude.{◌≡◌, ◌<◌, ◌≤◌, ◌↔◌, [], ◌∷◌, length, true, IsOk, IfOk, IfErr, IsErrAnd, IsErrOf, IsSome, IfSome, string_bytes};
 ghost use Rattle.std.specs.Char.{len_utf8};
 ghost use Rattle.std.specs.Str.{chars};
-ghost use Rattle.ecow_values.specs.Inline.{inline_for};
+ghost use Rattle.ecow_base.specs.Inline.{inline_for};
 ghost use Rattle.ecow_string.specs.Makes.{MakesText};
 
 use crate::string::SmallText;

@@ -2,8 +2,8 @@
 ghost use Rattle.std.specs.Prelude.{◌≡◌, ◌+◌, ◌<◌, ◌↔◌, [], ◌∷◌, ◌++◌, length, false, IsOk, IfOk, IfErr, OnOk, OnErr, IsErrAnd, IsErrOf};
 ghost use Rattle.std.specs.Char.{len_utf8};
 ghost use Rattle.std.specs.Str.{chars};
-ghost use Rattle.ecow_values.specs.Inline.{inline_after, Grows};
-ghost use Rattle.ecow_values.specs.Utf8.{utf8_len};
+ghost use Rattle.ecow_base.specs.Inline.{inline_after, Grows};
+ghost use Rattle.ecow_base.specs.Utf8.{utf8_len};
 ghost use Rattle.ecow_list.specs.Refusals.{RefusesPast};
 
 use crate::string::SmallText;

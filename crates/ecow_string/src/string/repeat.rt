@@ -1,7 +1,7 @@
 //! Repetition of a text.
 ghost use Rattle.std.specs.Prelude.{◌≡◌, ◌*◌, ◌<◌, ◌≤◌, ◌↔◌, IsOk, IfOk, IsErrOf};
 ghost use Rattle.std.specs.List.{repeat};
-ghost use Rattle.ecow_values.specs.Utf8.{utf8_len};
+ghost use Rattle.ecow_base.specs.Utf8.{utf8_len};
 ghost use Rattle.ecow_string.specs.Makes.{MakesText};
 
 use crate::string::SmallText;

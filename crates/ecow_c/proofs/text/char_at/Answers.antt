@@ -2,8 +2,8 @@ use Rattle.std.proofs.Common.{◌≡◌, ◌∙◌, ap, sym, drop}
 use Rattle.std.specs.Prelude.{slice_get}
 use Rattle.std.specs.Str.{chars}
 use Rattle.std.proofs.lemmas.Str.{chars_past_char}
-use Rattle.ecow_values.specs.Utf8.{chars_before}
-use Rattle.ecow_values.proofs.Boundaries.{passes_boundary}
+use Rattle.ecow_base.specs.Utf8.{chars_before}
+use Rattle.ecow_base.proofs.Boundaries.{passes_boundary}
 use Rattle.ecow_string.proofs.Texts.{boundary_of_front}
 use Rattle.ecow_c.proofs.Tails.{chars-drop, item_at}
 use Rattle.ecow_c.proofs.text.char_at.Goals as goal

@@ -1,6 +1,6 @@
 use Rattle.std.proofs.Common.{rules, refl}
 use Rattle.ecow_block.specs.Contents.{contents}
-use Rattle.ecow_named.proofs.Marks.{retained_by_marks}
+use Rattle.ecow_model.proofs.Marks.{retained_by_marks}
 use Rattle.ecow_counted.specs.contracts.apply.fn.retain_by_marks.retain as closure
 use Rattle.ecow_counted.proofs.apply.retain_by_marks.Goals as goal
 

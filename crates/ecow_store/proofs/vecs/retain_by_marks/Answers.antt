@@ -1,6 +1,6 @@
 use Rattle.std.proofs.Common.{rules, refl}
 use Rattle.std.proofs.lemmas.Result.{IfOk-weaker}
-use Rattle.ecow_named.proofs.Marks.{retained_by_marks}
+use Rattle.ecow_model.proofs.Marks.{retained_by_marks}
 use Rattle.ecow_store.specs.contracts.vecs.fn.retain_by_marks.retain as closure
 use Rattle.ecow_store.proofs.vecs.retain_by_marks.Goals as goal
 

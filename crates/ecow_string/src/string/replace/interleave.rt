@@ -1,9 +1,9 @@
 //! The occurrences of the empty pattern: before each character, and at the end.
 ghost use Rattle.std.specs.Prelude.{◌≡◌, ◌+◌, ◌≤◌, [], length, SomeIff};
 ghost use Rattle.std.specs.Str.{chars};
-ghost use Rattle.ecow_values.specs.Inline.{inline_for};
-ghost use Rattle.ecow_values.specs.Replaced.{replacen};
-ghost use Rattle.ecow_values.specs.Utf8.{utf8_len};
+ghost use Rattle.ecow_base.specs.Inline.{inline_for};
+ghost use Rattle.ecow_base.specs.Replaced.{replacen};
+ghost use Rattle.ecow_base.specs.Utf8.{utf8_len};
 ghost use Rattle.ecow_string.specs.Replace.{AppendsWithin, SplitsChar};
 
 use crate::string::SmallText;

@@ -1,8 +1,8 @@
 //! Appending to a text that was made for so many bytes, and keeps its mode while it gets no more.
 ghost use Rattle.std.specs.Prelude.{◌≡◌, ◌+◌, ◌≤◌, ◌++◌, length, SomeIff};
 ghost use Rattle.std.specs.Str.{chars};
-ghost use Rattle.ecow_values.specs.Inline.{inline_for};
-ghost use Rattle.ecow_values.specs.Utf8.{utf8_len};
+ghost use Rattle.ecow_base.specs.Inline.{inline_for};
+ghost use Rattle.ecow_base.specs.Utf8.{utf8_len};
 ghost use Rattle.ecow_string.specs.Replace.{AppendsWithin};
 
 use crate::string::SmallText;

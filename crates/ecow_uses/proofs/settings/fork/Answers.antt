@@ -1,4 +1,4 @@
-use Rattle.ecow_laws.proofs.CallerLemmas.{other_lists_stay}
+use Rattle.ecow_model.proofs.CallerLemmas.{other_lists_stay}
 use Rattle.ecow_model.specs.declared.vecs.VecCommand.TheVariants.{Clone}
 use Rattle.ecow_uses.proofs.settings.fork.Goals as goal
 

@@ -1,6 +1,6 @@
 use Rattle.std.proofs.Common.{◌≡◌, length}
 use Rattle.ecow_list.specs.Vectors.{Appends}
-use Rattle.ecow_values.specs.Inline.{inline_after}
+use Rattle.ecow_base.specs.Inline.{inline_after}
 use Rattle.ecow_bytes.proofs.bytes.SmallBytes.extend_from.Given as goal
 
 abbrev pub invariant-loop-byte : goal.invariant-loop-byte

@@ -45,8 +45,8 @@ use Rattle.std.specs.declared.result.Result.{Result}
 use Rattle.std.specs.declared.result.Result.TheVariants.{Ok, Err}
 use Rattle.std.specs.contracts.result.Result.{the_row as result_row}
 use Rattle.std.specs.Prelude.{false, IfOk, IfErr, IsOk, OnErr}
-use Rattle.ecow_values.specs.Plain.{plain_bytes}
-use Rattle.ecow_values.specs.declared.plain.PlainBytes.{PlainBytes}
+use Rattle.ecow_base.specs.Plain.{plain_bytes}
+use Rattle.ecow_base.specs.declared.plain.PlainBytes.{PlainBytes}
 use Rattle.ecow_bytes.specs.Form.{plain_of}
 use Rattle.ecow_bytes.specs.Lends.{with_bytes, name_given}
 use Rattle.ecow_bytes.specs.declared.form.Form.{Form}

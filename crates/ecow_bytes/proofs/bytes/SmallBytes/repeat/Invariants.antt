@@ -1,6 +1,6 @@
 use Rattle.std.proofs.Common.{◌≡◌, ◌*◌, ◌≤◌, ◌-◌, length}
 use Rattle.std.specs.List.{repeat}
-use Rattle.ecow_values.specs.Inline.{inline_for}
+use Rattle.ecow_base.specs.Inline.{inline_for}
 use Rattle.ecow_bytes.proofs.bytes.SmallBytes.repeat.Given as goal
 
 abbrev pub invariant-loop-copies : goal.invariant-loop-copies

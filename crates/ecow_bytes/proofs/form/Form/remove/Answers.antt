@@ -1,7 +1,7 @@
 use Rattle.std.proofs.Common.{◌≡◌, ◌+◌, ◌-◌, ◌<◌, length, take, ap, true, arith, ◌∙◌}
 use Rattle.std.specs.List.{copy_within}
-use Rattle.ecow_values.specs.Plain.{plain_bytes}
-use Rattle.ecow_values.specs.declared.plain.PlainBytes.{PlainBytes}
+use Rattle.ecow_base.specs.Plain.{plain_bytes}
+use Rattle.ecow_base.specs.declared.plain.PlainBytes.{PlainBytes}
 use Rattle.ecow_bytes.specs.Form.{plain_of}
 use Rattle.ecow_bytes.proofs.Forms.{inline_with}
 use Rattle.ecow_bytes.proofs.Moves.{removed}

@@ -2,8 +2,8 @@ use Rattle.std.proofs.Common.{◌≡◌, ◌+◌, ◌-◌, length, take, refl, s
 use Rattle.std.proofs.lemmas.List.{take_all}
 use Rattle.std.specs.List.{copy_within}
 use Rattle.ecow_list.proofs.Replaced.{replaced}
-use Rattle.ecow_values.specs.Plain.{plain_bytes}
-use Rattle.ecow_values.specs.declared.plain.PlainBytes.{PlainBytes}
+use Rattle.ecow_base.specs.Plain.{plain_bytes}
+use Rattle.ecow_base.specs.declared.plain.PlainBytes.{PlainBytes}
 use Rattle.ecow_bytes.specs.Form.{plain_of}
 use Rattle.ecow_bytes.proofs.Forms.{inline_with}
 use Rattle.ecow_bytes.proofs.form.Form.replace_range.Goals as goal

@@ -3,7 +3,7 @@ use Rattle.std.specs.Vec.Iter.{into_iter_items}
 use Rattle.std.proofs.lemmas.List.{nil_from_length}
 use Rattle.ecow_model.specs.CountedRun.{CountedStep, CountedVerdict, saturating, copied_in, moved_in, copied_in_run, moved_in_run}
 use Rattle.ecow_model.proofs.Contents.{run_of_contents}
-use Rattle.ecow_named.proofs.Runs.{goes_further, gone_through}
+use Rattle.ecow_model.proofs.Runs.{goes_further, gone_through}
 use Rattle.ecow_counted.specs.State.{IsValid}
 use Rattle.ecow_counted.proofs.Totals.{total_goes_on, saturating_none, saturating_small, totals_are_paid}
 use Rattle.ecow_counted.proofs.counted.Counted.run.Goals as goal

@@ -3,7 +3,7 @@ use Rattle.std.specs.Vec.Iter.{into_iter_items, into_iter_len}
 use Rattle.ecow_base.specs.Clones.{ClonesAreEqual}
 use Rattle.ecow_model.specs.CountedRun.{CountedStep, CountedVerdict, saturating, copied_in_run, moved_in_run}
 use Rattle.ecow_model.specs.declared.command.Outcome.{Outcome}
-use Rattle.ecow_named.proofs.Runs.{GoesOn}
+use Rattle.ecow_model.proofs.Runs.{GoesOn}
 use Rattle.ecow_counted.specs.State.{IsValid}
 use Rattle.ecow_counted.proofs.counted.Counted.run.Given as goal
 

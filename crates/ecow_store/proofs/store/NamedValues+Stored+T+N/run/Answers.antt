@@ -3,7 +3,7 @@ use Rattle.std.specs.Vec.Iter.{into_iter_items}
 use Rattle.std.proofs.lemmas.List.{nil_from_length}
 use Rattle.ecow_base.specs.Clones.{ClonesAreEqual}
 use Rattle.ecow_model.specs.Run.{Step, StepVerdict, StepWhere}
-use Rattle.ecow_named.proofs.Runs.{goes_further, gone_through}
+use Rattle.ecow_model.proofs.Runs.{goes_further, gone_through}
 use Rattle.ecow_store.proofs.store.NamedValues+Stored+T+N.run.Goals as goal
 
 pub loop-command-preserved : goal.loop-command-preserved

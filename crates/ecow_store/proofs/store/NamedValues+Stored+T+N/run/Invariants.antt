@@ -2,7 +2,7 @@ use Rattle.std.proofs.Common.{◌+◌, ◌≤◌, vec_len, vec_capacity}
 use Rattle.std.specs.Vec.Iter.{into_iter_items, into_iter_len}
 use Rattle.ecow_base.specs.Clones.{ClonesAreEqual}
 use Rattle.ecow_model.specs.Run.{Step, StepVerdict, StepWhere}
-use Rattle.ecow_named.proofs.Runs.{GoesOn}
+use Rattle.ecow_model.proofs.Runs.{GoesOn}
 use Rattle.ecow_store.proofs.store.NamedValues+Stored+T+N.run.Given as goal
 
 -- there is room for what is left, and each run of what is left goes on the run so far

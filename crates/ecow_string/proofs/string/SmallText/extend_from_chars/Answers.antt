@@ -1,7 +1,7 @@
 use Rattle.std.proofs.Common.{◌≡◌, ◌+◌, length, ◌∷◌, ◌++◌, [], sym, ap, ◌∙◌, arith, append_assoc, length-append}
 use Rattle.std.specs.Char.{len_utf8}
 use Rattle.std.proofs.lemmas.Result.{err_from_is_err_and}
-use Rattle.ecow_values.specs.Utf8.{utf8_len}
+use Rattle.ecow_base.specs.Utf8.{utf8_len}
 use Rattle.std.proofs.iter.Next.{Yields-more}
 use Rattle.ecow_list.proofs.Fronts.{on_err}
 use Rattle.ecow_string.proofs.Limits.{stays}

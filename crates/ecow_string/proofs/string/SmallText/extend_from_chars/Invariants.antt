@@ -1,7 +1,7 @@
 use Rattle.std.proofs.Common.{◌≡◌}
 use Rattle.ecow_list.specs.Vectors.{Appends}
-use Rattle.ecow_values.specs.Inline.{inline_after}
-use Rattle.ecow_values.specs.Utf8.{utf8_len}
+use Rattle.ecow_base.specs.Inline.{inline_after}
+use Rattle.ecow_base.specs.Utf8.{utf8_len}
 use Rattle.ecow_string.proofs.string.SmallText.extend_from_chars.Given as goal
 
 abbrev pub invariant-loop-c : goal.invariant-loop-c

@@ -1,6 +1,6 @@
 use Rattle.std.proofs.Common.{◌≡◌, ◌+◌, length, ◌∷◌, ◌++◌, [], refl, sym, ap, ◌∙◌}
 use Rattle.std.proofs.lemmas.Result.{err_from_is_err_and}
-use Rattle.ecow_values.specs.Utf8.{utf8_len}
+use Rattle.ecow_base.specs.Utf8.{utf8_len}
 use Rattle.std.proofs.iter.Next.{Yields-more}
 use Rattle.ecow_list.proofs.Fronts.{on_err}
 use Rattle.ecow_string.specs.Appends.{joined_by}

@@ -1,7 +1,7 @@
 use Rattle.std.proofs.Common.{◌≡◌}
 use Rattle.ecow_string.specs.Appends.{AppendsBy}
-use Rattle.ecow_values.specs.Inline.{inline_after}
-use Rattle.ecow_values.specs.Utf8.{utf8_len}
+use Rattle.ecow_base.specs.Inline.{inline_after}
+use Rattle.ecow_base.specs.Utf8.{utf8_len}
 use Rattle.ecow_string.proofs.string.SmallText.extend_from_texts.Given as goal
 
 abbrev pub invariant-loop-text : goal.invariant-loop-text

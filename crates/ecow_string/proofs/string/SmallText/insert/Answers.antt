@@ -1,7 +1,7 @@
 use Rattle.std.proofs.Common.{ap, ◌∙◌}
 use Rattle.std.specs.List.{insert_slice}
 use Rattle.std.specs.Str.{chars}
-use Rattle.ecow_values.specs.Utf8.{chars_before}
+use Rattle.ecow_base.specs.Utf8.{chars_before}
 use Rattle.ecow_string.proofs.Texts.{chars_of_one, insert_one}
 use Rattle.ecow_string.proofs.string.SmallText.insert.Goals as goal
 

@@ -1,4 +1,4 @@
-use Rattle.ecow_values.proofs.Boundaries.{boundary_passes, passes_boundary}
+use Rattle.ecow_base.proofs.Boundaries.{boundary_passes, passes_boundary}
 use Rattle.ecow_string.proofs.Texts.{front_of_boundary, boundary_of_front, same_test}
 use Rattle.ecow_string.proofs.string.SmallText.is_char_boundary.Goals as goal
 

@@ -1,7 +1,7 @@
 use Rattle.std.proofs.Common.{◌≡◌, ◌++◌, ◌∷◌, [], length, take, refl, sym, ap, ◌∙◌, encode_utf8}
 use Rattle.std.specs.Str.{chars, encode_utf8_all}
 use Rattle.std.proofs.lemmas.List.{take_at, nil_from_length}
-use Rattle.ecow_values.specs.declared.plain.PlainText.{PlainText}
+use Rattle.ecow_base.specs.declared.plain.PlainText.{PlainText}
 use Rattle.ecow_string.proofs.Texts.{AreUtf8-from, chars_of_nil, last_char, last_of, nothing_last}
 use Rattle.ecow_string.proofs.string.SmallText.pop.Given.{Over}
 use Rattle.ecow_string.proofs.string.SmallText.pop.Goals as goal

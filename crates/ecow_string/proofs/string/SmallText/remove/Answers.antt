@@ -2,8 +2,8 @@ use Rattle.std.proofs.Common.{◌≡◌, sym, ap, ◌∙◌, ◌+◌, ◌-◌, a
 use Rattle.std.specs.Str.{encode_utf8_all}
 use Rattle.std.specs.List.{copy_within, remove_range}
 use Rattle.std.specs.Char.{len_utf8}
-use Rattle.ecow_values.proofs.Boundaries.{passes_boundary}
-use Rattle.ecow_values.specs.declared.plain.PlainText.{PlainText}
+use Rattle.ecow_base.proofs.Boundaries.{passes_boundary}
+use Rattle.ecow_base.specs.declared.plain.PlainText.{PlainText}
 use Rattle.ecow_string.proofs.Moved.{cut_in_front}
 use Rattle.ecow_string.proofs.Removal.{Removed, removed}
 use Rattle.ecow_string.proofs.Texts.{boundary_of_front}

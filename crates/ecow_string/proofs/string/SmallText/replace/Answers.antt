@@ -1,7 +1,7 @@
 use Rattle.std.proofs.Common.{◌≡◌, ◌+◌, length, arith}
 use Rattle.std.specs.Str.{chars}
 use Rattle.std.proofs.lemmas.Str.{length-le-encodes}
-use Rattle.ecow_values.specs.Replaced.{replacen, replace_all}
+use Rattle.ecow_base.specs.Replaced.{replacen, replace_all}
 use Rattle.ecow_string.proofs.Enough.{enough}
 use Rattle.ecow_string.proofs.string.SmallText.replace.Goals as goal
 

@@ -1,5 +1,5 @@
 use Rattle.std.proofs.Common.{sym, ap, ◌∙◌}
-use Rattle.ecow_values.specs.declared.plain.PlainText.{PlainText}
+use Rattle.ecow_base.specs.declared.plain.PlainText.{PlainText}
 use Rattle.ecow_string.proofs.Replaced.{stays_utf8, replaced_chars}
 use Rattle.ecow_string.proofs.string.SmallText.replace_range.Goals as goal
 

@@ -1,7 +1,7 @@
 use Rattle.std.proofs.Common.{◌≡◌, rules, sym, ap, ◌∙◌}
 use Rattle.std.specs.Prelude.{map}
 use Rattle.std.proofs.lemmas.Str.{encodes-chars}
-use Rattle.ecow_values.specs.Inline.{inline_for}
+use Rattle.ecow_base.specs.Inline.{inline_for}
 use Rattle.ecow_string.specs.Case.{in_case, str_in_case}
 use Rattle.ecow_string.proofs.Cased.{encoded-in_case, len-in_case}
 use Rattle.ecow_string.proofs.Steps.{utf8_len-chars}

@@ -1,7 +1,7 @@
 use Rattle.std.proofs.Common.{◌≡◌, ◌+◌, length, min, [], arith, rules}
 use Rattle.std.specs.Str.{chars}
-use Rattle.ecow_values.specs.Utf8.{utf8_len}
-use Rattle.ecow_values.specs.Replaced.{replacen}
+use Rattle.ecow_base.specs.Utf8.{utf8_len}
+use Rattle.ecow_base.specs.Replaced.{replacen}
 use Rattle.std.proofs.lemmas.Str.{chars_from_encodes}
 use Rattle.ecow_string.proofs.Steps.{interleaving_total}
 use Rattle.ecow_string.proofs.string.replace.interleave.interleaving_len.Goals as goal

@@ -1,7 +1,7 @@
 use Rattle.std.proofs.Common.{◌≡◌, ◌+◌, ◌-◌, ◌++◌, [], length, sym, ap, ◌∙◌, arith, append_assoc, append-nil, rules}
 use Rattle.std.specs.Str.{chars}
-use Rattle.ecow_values.specs.Utf8.{utf8_len}
-use Rattle.ecow_values.specs.Replaced.{replacen}
+use Rattle.ecow_base.specs.Utf8.{utf8_len}
+use Rattle.ecow_base.specs.Replaced.{replacen}
 use Rattle.ecow_string.proofs.Steps.{replaced-zero, interleaving_len-step, interleaving-step, interleaving-end, part_fits, utf8_len-chars}
 use Rattle.ecow_string.proofs.string.replace.interleave.push_interleaving.Goals as goal
 

@@ -2,8 +2,8 @@ use Rattle.std.proofs.Common.{◌≡◌, ◌++◌, []}
 use Rattle.std.specs.Str.{chars}
 use denote.Shadow.{shadow}
 use denote.Text.{Utf8}
-use Rattle.ecow_values.specs.Inline.{inline_for}
-use Rattle.ecow_values.specs.Replaced.{replacen}
+use Rattle.ecow_base.specs.Inline.{inline_for}
+use Rattle.ecow_base.specs.Replaced.{replacen}
 use Rattle.ecow_string.proofs.string.replace.interleave.push_interleaving.Given as goal
 
 abbrev pub invariant-loop-left : goal.invariant-loop-left

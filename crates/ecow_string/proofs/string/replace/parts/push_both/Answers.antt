@@ -1,6 +1,6 @@
 use Rattle.std.proofs.Common.{arith, ap, rules}
 use Rattle.std.specs.Str.{chars}
-use Rattle.ecow_values.specs.Utf8.{utf8_len}
+use Rattle.ecow_base.specs.Utf8.{utf8_len}
 use Rattle.ecow_string.proofs.Occurrences.{encoded_len}
 use Rattle.ecow_string.proofs.Steps.{utf8_len-chars}
 use Rattle.ecow_string.proofs.string.replace.parts.push_both.Goals as goal

@@ -1,7 +1,7 @@
 use Rattle.std.proofs.Common.{◌≡◌, ◌+◌, length, ap, arith}
 use Rattle.std.specs.Str.{chars}
-use Rattle.ecow_values.specs.Utf8.{utf8_len}
-use Rattle.ecow_values.specs.Replaced.{replacen}
+use Rattle.ecow_base.specs.Utf8.{utf8_len}
+use Rattle.ecow_base.specs.Replaced.{replacen}
 use Rattle.ecow_string.proofs.Steps.{replaced-none, replaced-zero, replaced_len-step, chars_some, utf8_len-chars}
 use Rattle.ecow_string.proofs.string.replace.pattern.replacement_len.Goals as goal
 

@@ -3,8 +3,8 @@ use Rattle.std.specs.Str.{chars}
 use denote.Shadow.{shadow}
 use denote.Text.{Utf8}
 use Rattle.ecow_base.specs.declared.capacity.TheConstants.{MAX_LEN}
-use Rattle.ecow_values.specs.Utf8.{utf8_len}
-use Rattle.ecow_values.specs.Replaced.{replacen}
+use Rattle.ecow_base.specs.Utf8.{utf8_len}
+use Rattle.ecow_base.specs.Replaced.{replacen}
 use Rattle.ecow_string.proofs.string.replace.pattern.replacement_len.Given as goal
 
 abbrev pub invariant-loop-left : goal.invariant-loop-left

@@ -1,0 +1,217 @@
+//! The calls that put all of a value anew: a copy of what C hands over, a clone, or nothing.
+ghost use Rattle.std.specs.Prelude.{◌≡◌, ◌↔◌, ◌<◌, ◌∷◌, [], length, Some, IsSomeAnd, true, false};
+ghost use Rattle.std.specs.Str.{chars, is_utf8};
+ghost use Rattle.ecow_nested.specs.Values.{kind_of};
+ghost use Rattle.ecow_nested.specs.declared.value.Kind.TheVariants as kind;
+ghost use Rattle.ecow_c.specs.Answers.{Alters, AltersBytes, AltersList, AltersText, AltersTexts, IsAmong, ReadsTo, RefusesPast};
+
+use crate::pointer::{BytesPointer, ListPointer, TextPointer, TextsPointer, ValuePointer};
+use crate::status::{CAPACITY, MEMORY, NULL, OK, UTF8, put, some_or};
+use crate::text::to_str;
+use crate::value::assign;
+use ecow_base::MAX_LEN;
+use ecow_bytes::EcoBytes;
+use ecow_list::EcoVec;
+use ecow_nested::Value;
+use ecow_string::EcoString;
+use std::alloc::Global;
+
+/// Puts a copy of `numbers` in place of the list.
+#[unsafe(no_mangle)]
+pub extern "C" fn ecow_proved_list_assign(
+    alloc: Global,
+    pointer: &mut ListPointer,
+    numbers: &[i64],
+) -> u32
+    ensures list { AltersList (λ _. numbers.now) pointer.old.value result pointer.new.value }
+    ensures statuses { IsAmong (OK ∷ MEMORY ∷ CAPACITY ∷ NULL ∷ []) result }
+    ensures capacity { RefusesPast (λ _. length numbers.now) pointer.old.value result }
+{
+    let list = some_or!(pointer.list(), NULL);
+    put(EcoVec::from_copied(alloc, numbers), list)
+}
+
+/// Puts a copy of `added` in place of the bytes.
+#[unsafe(no_mangle)]
+pub extern "C" fn ecow_proved_bytes_assign(
+    alloc: Global,
+    pointer: &mut BytesPointer,
+    added: &[u8],
+) -> u32
+    ensures bytes { AltersBytes (λ _. added.now) pointer.old.value result pointer.new.value }
+    ensures statuses { IsAmong (OK ∷ MEMORY ∷ CAPACITY ∷ NULL ∷ []) result }
+    ensures capacity { RefusesPast (λ _. length added.now) pointer.old.value result }
+{
+    let bytes = some_or!(pointer.bytes(), NULL);
+    put(EcoBytes::from_slice(alloc, added), bytes)
+}
+
+/// Puts a copy of the text that `added` spells in place of the text.
+#[unsafe(no_mangle)]
+pub extern "C" fn ecow_proved_text_assign(
+    alloc: Global,
+    pointer: &mut TextPointer,
+    added: &[u8],
+) -> u32
+    ensures text { AltersText (λ _. chars added.now) pointer.old.value result pointer.new.value }
+    ensures statuses { IsAmong (OK ∷ MEMORY ∷ CAPACITY ∷ UTF8 ∷ NULL ∷ []) result }
+    ensures utf8 { result ≡ UTF8 ↔ IsSomeAnd pointer.old.value (λ _. is_utf8 added.now ≡ false) }
+    ensures capacity { result ≡ CAPACITY ↔ IsSomeAnd pointer.old.value
+        (λ _. (is_utf8 added.now ≡ true) × (MAX_LEN < length added.now)) }
+{
+    let text = some_or!(pointer.text(), NULL);
+    let added = some_or!(to_str(added), UTF8);
+    put(EcoString::from_str(alloc, added), text)
+}
+
+/// Puts a clone of the list at `from`, which shares its block, in place of the list at `to`.
+#[unsafe(no_mangle)]
+pub extern "C" fn ecow_proved_list_clone(from: &mut ListPointer, to: &mut ListPointer) -> u32
+    ensures list { ReadsTo Some from.old.value result from.new.value to.old.value to.new.value }
+    ensures statuses { IsAmong (OK ∷ MEMORY ∷ NULL ∷ []) result }
+{
+    let list = some_or!(from.list(), NULL);
+    let to = some_or!(to.list(), NULL);
+    put(list.clone(), to)
+}
+
+/// Puts a clone of the bytes at `from`, which shares their block, in place of the bytes at `to`.
+#[unsafe(no_mangle)]
+pub extern "C" fn ecow_proved_bytes_clone(from: &mut BytesPointer, to: &mut BytesPointer) -> u32
+    ensures bytes { ReadsTo Some from.old.value result from.new.value to.old.value to.new.value }
+    ensures statuses { IsAmong (OK ∷ MEMORY ∷ NULL ∷ []) result }
+{
+    let bytes = some_or!(from.bytes(), NULL);
+    let to = some_or!(to.bytes(), NULL);
+    put(bytes.clone(), to)
+}
+
+/// Puts a clone of the text at `from`, which shares its block, in place of the text at `to`.
+#[unsafe(no_mangle)]
+pub extern "C" fn ecow_proved_text_clone(from: &mut TextPointer, to: &mut TextPointer) -> u32
+    ensures text { ReadsTo Some from.old.value result from.new.value to.old.value to.new.value }
+    ensures statuses { IsAmong (OK ∷ MEMORY ∷ NULL ∷ []) result }
+{
+    let text = some_or!(from.text(), NULL);
+    let to = some_or!(to.text(), NULL);
+    put(text.clone(), to)
+}
+
+/// Puts a clone of the list at `from`, which shares its block, in place of the list at `to`.
+#[unsafe(no_mangle)]
+pub extern "C" fn ecow_proved_texts_clone(from: &mut TextsPointer, to: &mut TextsPointer) -> u32
+    ensures texts { ReadsTo Some from.old.value result from.new.value to.old.value to.new.value }
+    ensures statuses { IsAmong (OK ∷ MEMORY ∷ NULL ∷ []) result }
+{
+    let texts = some_or!(from.texts(), NULL);
+    let to = some_or!(to.texts(), NULL);
+    put(texts.clone(), to)
+}
+
+/// Puts a clone of the value at `from`, which shares its memory, in place of the value at `to`.
+#[unsafe(no_mangle)]
+pub extern "C" fn ecow_proved_value_clone(from: &mut ValuePointer, to: &mut ValuePointer) -> u32
+    ensures value { ReadsTo Some from.old.value result from.new.value to.old.value to.new.value }
+    ensures statuses { IsAmong (OK ∷ MEMORY ∷ NULL ∷ []) result }
+{
+    let value = some_or!(from.value(), NULL);
+    let to = some_or!(to.value(), NULL);
+    put(value.clone(), to)
+}
+
+/// Gives the list up: an empty one stands in its place.
+#[unsafe(no_mangle)]
+pub extern "C" fn ecow_proved_list_drop(alloc: Global, pointer: &mut ListPointer) -> u32
+    ensures list { AltersList (λ _. []) pointer.old.value result pointer.new.value }
+    ensures statuses { IsAmong (OK ∷ NULL ∷ []) result }
+{
+    let list = some_or!(pointer.list(), NULL);
+    *list = EcoVec::new(alloc);
+    OK
+}
+
+/// Gives the bytes up: none stand in their place.
+#[unsafe(no_mangle)]
+pub extern "C" fn ecow_proved_bytes_drop(alloc: Global, pointer: &mut BytesPointer) -> u32
+    ensures bytes { AltersBytes (λ _. []) pointer.old.value result pointer.new.value }
+    ensures statuses { IsAmong (OK ∷ NULL ∷ []) result }
+{
+    let bytes = some_or!(pointer.bytes(), NULL);
+    *bytes = EcoBytes::new(alloc);
+    OK
+}
+
+/// Gives the text up: an empty one stands in its place.
+#[unsafe(no_mangle)]
+pub extern "C" fn ecow_proved_text_drop(alloc: Global, pointer: &mut TextPointer) -> u32
+    ensures text { AltersText (λ _. []) pointer.old.value result pointer.new.value }
+    ensures statuses { IsAmong (OK ∷ NULL ∷ []) result }
+{
+    let text = some_or!(pointer.text(), NULL);
+    *text = EcoString::new(alloc);
+    OK
+}
+
+/// Gives the list up: an empty one stands in its place.
+#[unsafe(no_mangle)]
+pub extern "C" fn ecow_proved_texts_drop(alloc: Global, pointer: &mut TextsPointer) -> u32
+    ensures texts { AltersTexts (λ _. []) pointer.old.value result pointer.new.value }
+    ensures statuses { IsAmong (OK ∷ NULL ∷ []) result }
+{
+    let texts = some_or!(pointer.texts(), NULL);
+    *texts = EcoVec::new(alloc);
+    OK
+}
+
+/// Gives the value up: nothing stands in its place.
+#[unsafe(no_mangle)]
+pub extern "C" fn ecow_proved_value_drop(pointer: &mut ValuePointer) -> u32
+    ensures value { Alters kind_of (λ _. kind.Nothing) pointer.old.value result pointer.new.value }
+    ensures statuses { IsAmong (OK ∷ NULL ∷ []) result }
+{
+    assign(pointer, Value::Nothing)
+}
+
+/// Keeps no number. A block that no other list shares stays, with its room.
+#[unsafe(no_mangle)]
+pub extern "C" fn ecow_proved_list_clear(pointer: &mut ListPointer) -> u32
+    ensures list { AltersList (λ _. []) pointer.old.value result pointer.new.value }
+    ensures statuses { IsAmong (OK ∷ NULL ∷ []) result }
+{
+    let list = some_or!(pointer.list(), NULL);
+    list.clear();
+    OK
+}
+
+/// Keeps no byte. A block that no other value shares stays, with its room.
+#[unsafe(no_mangle)]
+pub extern "C" fn ecow_proved_bytes_clear(pointer: &mut BytesPointer) -> u32
+    ensures bytes { AltersBytes (λ _. []) pointer.old.value result pointer.new.value }
+    ensures statuses { IsAmong (OK ∷ NULL ∷ []) result }
+{
+    let bytes = some_or!(pointer.bytes(), NULL);
+    bytes.clear();
+    OK
+}
+
+/// Keeps no character. A block that no other text shares stays, with its room.
+#[unsafe(no_mangle)]
+pub extern "C" fn ecow_proved_text_clear(pointer: &mut TextPointer) -> u32
+    ensures text { AltersText (λ _. []) pointer.old.value result pointer.new.value }
+    ensures statuses { IsAmong (OK ∷ NULL ∷ []) result }
+{
+    let text = some_or!(pointer.text(), NULL);
+    text.clear();
+    OK
+}
+
+/// Keeps no text. A block that no other list shares stays, with its room.
+#[unsafe(no_mangle)]
+pub extern "C" fn ecow_proved_texts_clear(pointer: &mut TextsPointer) -> u32
+    ensures texts { AltersTexts (λ _. []) pointer.old.value result pointer.new.value }
+    ensures statuses { IsAmong (OK ∷ NULL ∷ []) result }
+{
+    let texts = some_or!(pointer.texts(), NULL);
+    texts.clear();
+    OK
+}

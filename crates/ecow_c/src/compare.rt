@@ -1,0 +1,238 @@
+//! The calls that compare two values, and hash one.
+ghost use Rattle.std.specs.Prelude.{◌≡◌, nat_eq};
+ghost use Rattle.std.specs.Cmp.Lexicographic.{pointwise, slice_cmp};
+ghost use Rattle.std.specs.Hash as fed;
+ghost use Rattle.std.specs.Ordering.{int_eq, int_cmp, nat_cmp};
+ghost use Rattle.std.specs.Str.{encode_utf8_all};
+ghost use Rattle.ecow_bytes.specs.Hashes.{hash_writes};
+ghost use Rattle.ecow_nested.specs.Values.{value_eq};
+ghost use Rattle.ecow_c.specs.Answers.{are_equal, bytes_at, chars_at, hash_of, numbers_at, order_of, texts_at};
+ghost use Rattle.ecow_c.specs.Texts.{text_cmp, text_eq, text_fed};
+
+use crate::pointer::{BytesPointer, ListPointer, TextPointer, TextsPointer, ValuePointer};
+use crate::status::{order, some_or};
+use ecow_bytes::EcoBytes;
+use ecow_list::EcoVec;
+use ecow_string::EcoString;
+use std::alloc::Global;
+use std::hash::{DefaultHasher, Hash, Hasher};
+
+/// Whether two lists hold the same numbers. A null pointer equals a null pointer
+/// alone.
+#[unsafe(no_mangle)]
+pub extern "C" fn ecow_proved_list_equal(left: &mut ListPointer, right: &mut ListPointer) -> bool
+    ensures equal { result
+        ≡ are_equal (pointwise int_eq) left.old.value right.old.value }
+    ensures unchanged { (left.new.value ≡ left.old.value) × (right.new.value ≡ right.old.value) }
+{
+    let Some(left) = left.list() else {
+        return match right.list() {
+            Some(_) => false,
+            None => true,
+        };
+    };
+    let right = some_or!(right.list(), false);
+    left.as_slice() == right.as_slice()
+}
+
+/// Whether two values hold the same bytes. A null pointer equals a null pointer
+/// alone.
+#[unsafe(no_mangle)]
+pub extern "C" fn ecow_proved_bytes_equal(left: &mut BytesPointer, right: &mut BytesPointer) -> bool
+    ensures equal { result
+        ≡ are_equal (λ x y. pointwise nat_eq x.bytes y.bytes) left.old.value right.old.value }
+    ensures unchanged { (left.new.value ≡ left.old.value) × (right.new.value ≡ right.old.value) }
+{
+    let Some(left) = left.bytes() else {
+        return match right.bytes() {
+            Some(_) => false,
+            None => true,
+        };
+    };
+    let right = some_or!(right.bytes(), false);
+    left.as_slice() == right.as_slice()
+}
+
+/// Whether two texts are equal. A null pointer equals a null pointer
+/// alone.
+#[unsafe(no_mangle)]
+pub extern "C" fn ecow_proved_text_equal(left: &mut TextPointer, right: &mut TextPointer) -> bool
+    ensures equal { result ≡ are_equal text_eq left.old.value right.old.value }
+    ensures unchanged { (left.new.value ≡ left.old.value) × (right.new.value ≡ right.old.value) }
+{
+    let Some(left) = left.text() else {
+        return match right.text() {
+            Some(_) => false,
+            None => true,
+        };
+    };
+    let right = some_or!(right.text(), false);
+    left.as_str() == right.as_str()
+}
+
+/// Whether two lists hold the same texts. A null pointer equals a null pointer
+/// alone.
+#[unsafe(no_mangle)]
+pub extern "C" fn ecow_proved_texts_equal(left: &mut TextsPointer, right: &mut TextsPointer) -> bool
+    ensures equal { result
+        ≡ are_equal (pointwise text_eq) left.old.value right.old.value }
+    ensures unchanged { (left.new.value ≡ left.old.value) × (right.new.value ≡ right.old.value) }
+{
+    let Some(left) = left.texts() else {
+        return match right.texts() {
+            Some(_) => false,
+            None => true,
+        };
+    };
+    let right = some_or!(right.texts(), false);
+    left.as_slice() == right.as_slice()
+}
+
+/// Whether two values are equal. A null pointer equals a null pointer
+/// alone.
+#[unsafe(no_mangle)]
+pub extern "C" fn ecow_proved_value_equal(left: &mut ValuePointer, right: &mut ValuePointer) -> bool
+    ensures equal { result ≡ are_equal value_eq left.old.value right.old.value }
+    ensures unchanged { (left.new.value ≡ left.old.value) × (right.new.value ≡ right.old.value) }
+{
+    let Some(left) = left.value() else {
+        return match right.value() {
+            Some(_) => false,
+            None => true,
+        };
+    };
+    let right = some_or!(right.value(), false);
+    left.equals(right)
+}
+
+/// How two lists compare: below 0 where the left one comes first, 0 where they are equal. A null
+/// pointer comes before every list.
+#[unsafe(no_mangle)]
+pub extern "C" fn ecow_proved_list_compare(left: &mut ListPointer, right: &mut ListPointer) -> i32
+    ensures order { result ≡ order_of (slice_cmp int_cmp) left.old.value right.old.value }
+    ensures unchanged { (left.new.value ≡ left.old.value) × (right.new.value ≡ right.old.value) }
+{
+    let Some(left) = left.list() else {
+        return match right.list() {
+            Some(_) => -1,
+            None => 0,
+        };
+    };
+    let right = some_or!(right.list(), 1);
+    order(left.as_slice().cmp(&right.as_slice()))
+}
+
+/// How the bytes of two values compare: below 0 where the left ones come first, 0 where they are
+/// equal. A null pointer comes before every value.
+#[unsafe(no_mangle)]
+pub extern "C" fn ecow_proved_bytes_compare(
+    left: &mut BytesPointer,
+    right: &mut BytesPointer,
+) -> i32
+    ensures order { result ≡ order_of (λ x y. slice_cmp nat_cmp x.bytes y.bytes)
+        left.old.value right.old.value }
+    ensures unchanged { (left.new.value ≡ left.old.value) × (right.new.value ≡ right.old.value) }
+{
+    let Some(left) = left.bytes() else {
+        return match right.bytes() {
+            Some(_) => -1,
+            None => 0,
+        };
+    };
+    let right = some_or!(right.bytes(), 1);
+    order(left.as_slice().cmp(&right.as_slice()))
+}
+
+/// How two texts compare: below 0 where the left one comes first, 0 where they are equal. A null
+/// pointer comes before every text.
+#[unsafe(no_mangle)]
+pub extern "C" fn ecow_proved_text_compare(left: &mut TextPointer, right: &mut TextPointer) -> i32
+    ensures order { result ≡ order_of text_cmp left.old.value right.old.value }
+    ensures unchanged { (left.new.value ≡ left.old.value) × (right.new.value ≡ right.old.value) }
+{
+    let Some(left) = left.text() else {
+        return match right.text() {
+            Some(_) => -1,
+            None => 0,
+        };
+    };
+    let right = some_or!(right.text(), 1);
+    order(left.as_str().cmp(&right.as_str()))
+}
+
+/// How two lists compare: below 0 where the left one comes first, 0 where they are equal. A null
+/// pointer comes before every list.
+#[unsafe(no_mangle)]
+pub extern "C" fn ecow_proved_texts_compare(
+    left: &mut TextsPointer,
+    right: &mut TextsPointer,
+) -> i32
+    ensures order { result
+        ≡ order_of (slice_cmp text_cmp) left.old.value right.old.value }
+    ensures unchanged { (left.new.value ≡ left.old.value) × (right.new.value ≡ right.old.value) }
+{
+    let Some(left) = left.texts() else {
+        return match right.texts() {
+            Some(_) => -1,
+            None => 0,
+        };
+    };
+    let right = some_or!(right.texts(), 1);
+    order(left.as_slice().cmp(&right.as_slice()))
+}
+
+/// The hash of the numbers, by std's hasher. Equal lists have the same.
+#[unsafe(no_mangle)]
+pub extern "C" fn ecow_proved_list_hash(alloc: Global, pointer: &mut ListPointer) -> u64
+    ensures hash { result ≡ hash_of (fed.slice fed.i64 (numbers_at pointer.old.value)) }
+    ensures unchanged { pointer.new.value ≡ pointer.old.value }
+{
+    let mut hasher = DefaultHasher::new();
+    match pointer.list() {
+        Some(list) => list.hash(&mut hasher),
+        None => EcoVec::<i64>::new(alloc).hash(&mut hasher),
+    }
+    hasher.finish()
+}
+
+/// The hash of the bytes, by std's hasher. Equal bytes have the same.
+#[unsafe(no_mangle)]
+pub extern "C" fn ecow_proved_bytes_hash(alloc: Global, pointer: &mut BytesPointer) -> u64
+    ensures hash { result ≡ hash_of (hash_writes (bytes_at pointer.old.value)) }
+    ensures unchanged { pointer.new.value ≡ pointer.old.value }
+{
+    let mut hasher = DefaultHasher::new();
+    match pointer.bytes() {
+        Some(bytes) => bytes.hash(&mut hasher),
+        None => EcoBytes::new(alloc).hash(&mut hasher),
+    }
+    hasher.finish()
+}
+
+/// The hash of the text, by std's hasher. Equal texts have the same.
+#[unsafe(no_mangle)]
+pub extern "C" fn ecow_proved_text_hash(alloc: Global, pointer: &mut TextPointer) -> u64
+    ensures hash { result ≡ hash_of (fed.str (encode_utf8_all (chars_at pointer.old.value))) }
+    ensures unchanged { pointer.new.value ≡ pointer.old.value }
+{
+    let mut hasher = DefaultHasher::new();
+    match pointer.text() {
+        Some(text) => text.hash(&mut hasher),
+        None => EcoString::new(alloc).hash(&mut hasher),
+    }
+    hasher.finish()
+}
+
+/// The hash of the texts, by std's hasher. Equal lists have the same.
+#[unsafe(no_mangle)]
+pub extern "C" fn ecow_proved_texts_hash(alloc: Global, pointer: &mut TextsPointer) -> u64
+    ensures hash { result ≡ hash_of (fed.slice text_fed (texts_at pointer.old.value)) }
+    ensures unchanged { pointer.new.value ≡ pointer.old.value }
+{
+    let mut hasher = DefaultHasher::new();
+    match pointer.texts() {
+        Some(texts) => texts.hash(&mut hasher),
+        None => EcoVec::<EcoString>::new(alloc).hash(&mut hasher),
+    }
+    hasher.finish()
+}

@@ -1,0 +1,146 @@
+//! The calls that tell of room for items, ask for more, and give up what isn't used. That of a text
+//! counts bytes.
+ghost use Rattle.std.specs.Prelude.{◌≡◌, ◌≤◌, ◌+◌, ◌∷◌, [], length};
+ghost use Rattle.ecow_base.specs.Utf8.{utf8_len};
+ghost use Rattle.ecow_c.specs.Answers.{AltersBytes, AltersList, AltersText, AltersTexts, IsAmong, RefusesPast, bytes_at, chars_at, numbers_at, texts_at};
+
+use crate::pointer::{BytesPointer, ListPointer, TextPointer, TextsPointer};
+use crate::status::{CAPACITY, MEMORY, NULL, OK, ok_or_status, some_or, status};
+use ecow_list::EcoVec;
+use std::alloc::Global;
+
+/// How many numbers there is room for, never fewer than there are; 0 at a null pointer.
+#[unsafe(no_mangle)]
+pub extern "C" fn ecow_proved_list_capacity(pointer: &mut ListPointer) -> usize
+    ensures room { length (numbers_at pointer.old.value) ≤ result }
+    ensures unchanged { pointer.new.value ≡ pointer.old.value }
+{
+    some_or!(pointer.list(), 0).capacity()
+}
+
+/// How many bytes there is room for, never fewer than there are; 0 at a null pointer.
+#[unsafe(no_mangle)]
+pub extern "C" fn ecow_proved_bytes_capacity(pointer: &mut BytesPointer) -> usize
+    ensures room { length (bytes_at pointer.old.value) ≤ result }
+    ensures unchanged { pointer.new.value ≡ pointer.old.value }
+{
+    some_or!(pointer.bytes(), 0).capacity()
+}
+
+/// How many bytes there is room for, never fewer than there are; 0 at a null pointer.
+#[unsafe(no_mangle)]
+pub extern "C" fn ecow_proved_text_capacity(pointer: &mut TextPointer) -> usize
+    ensures room { utf8_len (chars_at pointer.old.value) ≤ result }
+    ensures unchanged { pointer.new.value ≡ pointer.old.value }
+{
+    some_or!(pointer.text(), 0).capacity()
+}
+
+/// How many texts there is room for, never fewer than there are; 0 at a null pointer.
+#[unsafe(no_mangle)]
+pub extern "C" fn ecow_proved_texts_capacity(pointer: &mut TextsPointer) -> usize
+    ensures room { length (texts_at pointer.old.value) ≤ result }
+    ensures unchanged { pointer.new.value ≡ pointer.old.value }
+{
+    some_or!(pointer.texts(), 0).capacity()
+}
+
+/// Asks for room for `additional` more numbers.
+#[unsafe(no_mangle)]
+pub extern "C" fn ecow_proved_list_reserve(pointer: &mut ListPointer, additional: usize) -> u32
+    ensures list { AltersList (λ xs. xs) pointer.old.value result pointer.new.value }
+    ensures statuses { IsAmong (OK ∷ MEMORY ∷ CAPACITY ∷ NULL ∷ []) result }
+    ensures capacity { RefusesPast (λ xs. length xs + additional) pointer.old.value result }
+{
+    let list = some_or!(pointer.list(), NULL);
+    status(list.reserve(additional))
+}
+
+/// Asks for room for `additional` more bytes.
+#[unsafe(no_mangle)]
+pub extern "C" fn ecow_proved_bytes_reserve(pointer: &mut BytesPointer, additional: usize) -> u32
+    ensures bytes { AltersBytes (λ xs. xs) pointer.old.value result pointer.new.value }
+    ensures statuses { IsAmong (OK ∷ MEMORY ∷ CAPACITY ∷ NULL ∷ []) result }
+    ensures capacity { RefusesPast (λ value. length value.bytes + additional)
+        pointer.old.value result }
+{
+    let bytes = some_or!(pointer.bytes(), NULL);
+    status(bytes.reserve(additional))
+}
+
+/// Asks for room for `additional` more bytes.
+#[unsafe(no_mangle)]
+pub extern "C" fn ecow_proved_text_reserve(pointer: &mut TextPointer, additional: usize) -> u32
+    ensures text { AltersText (λ cs. cs) pointer.old.value result pointer.new.value }
+    ensures statuses { IsAmong (OK ∷ MEMORY ∷ CAPACITY ∷ NULL ∷ []) result }
+    ensures capacity { RefusesPast (λ text. utf8_len text.chars + additional)
+        pointer.old.value result }
+{
+    let text = some_or!(pointer.text(), NULL);
+    status(text.reserve(additional))
+}
+
+/// Asks for room for `additional` more texts.
+#[unsafe(no_mangle)]
+pub extern "C" fn ecow_proved_texts_reserve(pointer: &mut TextsPointer, additional: usize) -> u32
+    ensures texts { AltersTexts (λ xs. xs) pointer.old.value result pointer.new.value }
+    ensures statuses { IsAmong (OK ∷ MEMORY ∷ CAPACITY ∷ NULL ∷ []) result }
+    ensures capacity { RefusesPast (λ xs. length xs + additional) pointer.old.value result }
+{
+    let texts = some_or!(pointer.texts(), NULL);
+    status(texts.reserve(additional))
+}
+
+/// Gives up room that isn't used, unless another list shares the block.
+#[unsafe(no_mangle)]
+pub extern "C" fn ecow_proved_list_shrink_to_fit(alloc: Global, pointer: &mut ListPointer) -> u32
+    ensures list { AltersList (λ xs. xs) pointer.old.value result pointer.new.value }
+    ensures statuses { IsAmong (OK ∷ MEMORY ∷ NULL ∷ []) result }
+{
+    let list = some_or!(pointer.list(), NULL);
+    if list.capacity() == list.len() || !list.is_unique() {
+        return OK;
+    }
+    let mut copy = ok_or_status!(EcoVec::with_capacity(alloc, list.len()));
+    ok_or_status!(copy.extend_from_copied(list.as_slice()));
+    *list = copy;
+    OK
+}
+
+/// Brings spilled bytes back inline where there are at most 15.
+#[unsafe(no_mangle)]
+pub extern "C" fn ecow_proved_bytes_shrink_to_fit(pointer: &mut BytesPointer) -> u32
+    ensures bytes { AltersBytes (λ xs. xs) pointer.old.value result pointer.new.value }
+    ensures statuses { IsAmong (OK ∷ NULL ∷ []) result }
+{
+    let bytes = some_or!(pointer.bytes(), NULL);
+    bytes.shrink_to_fit();
+    OK
+}
+
+/// Brings a spilled text back inline where it has at most 15 bytes.
+#[unsafe(no_mangle)]
+pub extern "C" fn ecow_proved_text_shrink_to_fit(pointer: &mut TextPointer) -> u32
+    ensures text { AltersText (λ cs. cs) pointer.old.value result pointer.new.value }
+    ensures statuses { IsAmong (OK ∷ NULL ∷ []) result }
+{
+    let text = some_or!(pointer.text(), NULL);
+    text.shrink_to_fit();
+    OK
+}
+
+/// Gives up room that isn't used, unless another list shares the block.
+#[unsafe(no_mangle)]
+pub extern "C" fn ecow_proved_texts_shrink_to_fit(alloc: Global, pointer: &mut TextsPointer) -> u32
+    ensures texts { AltersTexts (λ xs. xs) pointer.old.value result pointer.new.value }
+    ensures statuses { IsAmong (OK ∷ MEMORY ∷ NULL ∷ []) result }
+{
+    let texts = some_or!(pointer.texts(), NULL);
+    if texts.capacity() == texts.len() || !texts.is_unique() {
+        return OK;
+    }
+    let mut copy = ok_or_status!(EcoVec::with_capacity(alloc, texts.len()));
+    ok_or_status!(copy.extend_from_slice(texts.as_slice()));
+    *texts = copy;
+    OK
+}

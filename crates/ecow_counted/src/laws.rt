@@ -1,0 +1,26 @@
+//! Laws of runs in shared blocks: what sharing copies and what growing moves, over every run.
+ghost use Rattle.std.specs.Prelude.{ℕ, ◌+◌, ◌*◌, ◌≤◌, List};
+ghost use Rattle.std.specs.FinMap as finite;
+ghost use Rattle.ecow_model.specs.CountedRun.{CountedRun, CopiesAtMostEagerly, MovesArePaid, copied_in_run, eager_in_run, input_in_run, moved_in_run};
+ghost use Rattle.ecow_model.specs.Names.{IsSharing, Names};
+ghost use Rattle.ecow_model.specs.declared.command.Outcome.{Outcome};
+ghost use Rattle.ecow_model.specs.declared.vecs.VecCommand.{VecCommand};
+
+/// What a run copies and moves is paid; from no names at all, sharing never copies more than
+/// copying at each clone would.
+pub fn runs_are_paid<T>()
+    ensures sharing { (commands : List (VecCommand T)) (outcomes : List (Outcome T)) (old : Names T)
+        (new : Names T) → IsSharing old → CountedRun old commands outcomes new → IsSharing new }
+    ensures copies { (commands : List (VecCommand T)) (outcomes : List (Outcome T)) (old : Names T)
+        (new : Names T) → CopiesAtMostEagerly old commands outcomes new }
+    ensures moves { (commands : List (VecCommand T)) (outcomes : List (Outcome T)) (old : Names T)
+        (new : Names T) → MovesArePaid old commands outcomes new }
+    ensures copies_from_nothing { (commands : List (VecCommand T)) (outcomes : List (Outcome T))
+        (new : Names T) → CountedRun finite.empty commands outcomes new
+        → copied_in_run finite.empty commands outcomes
+        ≤ eager_in_run finite.empty commands outcomes }
+    ensures moves_from_nothing { (commands : List (VecCommand T)) (outcomes : List (Outcome T))
+        (new : Names T) → CountedRun finite.empty commands outcomes new
+        → moved_in_run finite.empty commands outcomes ≤ copied_in_run finite.empty commands outcomes
+        + 2 * input_in_run finite.empty commands outcomes }
+{}

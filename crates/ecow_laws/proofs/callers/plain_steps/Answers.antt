@@ -1,5 +1,0 @@
-use Rattle.ecow_laws.proofs.CallerLemmas.{fork_reads, write_sets, others_stay}
-use Rattle.ecow_laws.proofs.callers.plain_steps.Goals as goal
-
-pub returns : goal.returns
-returns g c = record { fork = fork_reads; write = write_sets; others = others_stay }

@@ -1,5 +1,0 @@
-use Rattle.ecow_laws.proofs.Agreement.{capacity_read}
-use Rattle.ecow_laws.proofs.laws.capacities_are_exact.Goals as goal
-
-pub returns : goal.returns
-returns g c = capacity_read

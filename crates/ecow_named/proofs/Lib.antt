@@ -1,4 +1,0 @@
-pub mod Maps
-pub mod Marks
-pub mod Runs
-pub mod Uses

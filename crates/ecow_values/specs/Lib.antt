@@ -1,4 +1,0 @@
-pub mod Inline
-pub mod Utf8
-pub mod Replaced
-pub mod Plain
