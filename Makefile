@@ -123,6 +123,7 @@ agree:
 	@sed -n '/^first_script =/,/^$$/s/^[ +]*codes "\(.*\)\\n"$$/\1/p' crates/ecow_script/specs/FirstExample.antt | cmp - examples/first.eco
 	@tools/agree_statuses.sh
 	@tools/agree_docs.sh
+	@tools/agree_calls.sh
 	@tools/agree_edits.sh
 	@tools/agree_c.sh
 

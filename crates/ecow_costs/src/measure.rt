@@ -4,9 +4,7 @@ use crate::rows::{Cost, Form, Rows, Standing, USUAL};
 use ecow_calls::calls::{Role, Row};
 use ecow_calls::counting::{Counting, Tally};
 use ecow_calls::elements::or_memory;
-use ecow_calls::states::{
-    State, edge, few_bytes, few_elements, few_spilled, no_byte, thousand,
-};
+use ecow_calls::states::{State, edge, few_bytes, few_elements, few_spilled, no_byte, thousand};
 use ecow_calls::tables;
 use ecow_calls::value::Value;
 use ecow_list::{EcoError, EcoVec};
@@ -102,7 +100,10 @@ fn after_making<V: Value>(made: Option<V>, source: Option<V>) -> Standing {
 /// What has been counted since.
 fn since(before: Option<(u64, u64)>, after: Option<(u64, u64)>) -> Option<(u64, u64)> {
     let (before, after) = (before?, after?);
-    Some((after.0.wrapping_sub(before.0), after.1.wrapping_sub(before.1)))
+    Some((
+        after.0.wrapping_sub(before.0),
+        after.1.wrapping_sub(before.1),
+    ))
 }
 
 /// A clone of a value that is to be shared.
@@ -206,7 +207,13 @@ pub(crate) fn add_vectors(meter: Meter, rows: &mut Rows) {
         let derivations = tables::vector_derivations();
         add::<Vector>(meter, rows, &tally, Role::Derive, (&derivations, states));
     }
-    add::<Vector>(meter, rows, &tally, Role::Change, (&tables::vector_growth(), none));
+    add::<Vector>(
+        meter,
+        rows,
+        &tally,
+        Role::Change,
+        (&tables::vector_growth(), none),
+    );
     add::<Vector>(meter, rows, &tally, Role::Make, (&makers, none));
     add::<Vector>(meter, rows, &tally, Role::Make, (&more, none));
 }
@@ -220,8 +227,20 @@ pub(crate) fn add_copies(meter: Meter, rows: &mut Rows) {
         add::<Vector>(meter, rows, &(), Role::Change, (&copies, states));
         add::<Vector>(meter, rows, &(), Role::Change, (&within, states));
     }
-    add::<Vector>(meter, rows, &(), Role::Change, (&tables::copies_growth(), none));
-    add::<Vector>(meter, rows, &(), Role::Make, (&tables::copies_makers(), none));
+    add::<Vector>(
+        meter,
+        rows,
+        &(),
+        Role::Change,
+        (&tables::copies_growth(), none),
+    );
+    add::<Vector>(
+        meter,
+        rows,
+        &(),
+        Role::Make,
+        (&tables::copies_makers(), none),
+    );
 }
 
 /// The rows of changes and derivations of bytes or texts at their limit.
@@ -259,11 +278,23 @@ fn add_made<V: Value<Source = ()>>(
     let (states, none) = (edge(limit), no_byte());
     let first = &states[..1];
     if limit == USUAL {
-        add::<V>(meter, rows, &(), Role::Make, (&tables::first_makers(), first));
+        add::<V>(
+            meter,
+            rows,
+            &(),
+            Role::Make,
+            (&tables::first_makers(), first),
+        );
         add::<V>(meter, rows, &(), Role::Make, (makers, first));
         add::<V>(meter, rows, &(), Role::Change, (growth, &none));
     } else {
-        add::<V>(meter, rows, &(), Role::Make, (&tables::first_makers_at(limit), first));
+        add::<V>(
+            meter,
+            rows,
+            &(),
+            Role::Make,
+            (&tables::first_makers_at(limit), first),
+        );
         add::<V>(meter, rows, &(), Role::Make, (makers_at, first));
     }
 }

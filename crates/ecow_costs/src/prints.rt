@@ -38,10 +38,7 @@ fn calls() -> [(Print, &'static str); 8] {
         (Print::ToEcoString(15), "to_eco_string(15)"),
         (Print::ToEcoString(16), "to_eco_string(16)"),
         (Print::ToEcoString(1000), "to_eco_string(1000)"),
-        (
-            Print::PiecesToEcoString(TIMES),
-            "to_eco_string(14286 of 7)",
-        ),
+        (Print::PiecesToEcoString(TIMES), "to_eco_string(14286 of 7)"),
     ]
 }
 

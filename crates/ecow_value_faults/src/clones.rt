@@ -10,12 +10,7 @@ use std::alloc::Global;
 
 /// Refuses each clone of a call in turn, until none is refused. `None` where the elements can't be
 /// made.
-fn each_clone_is_refused(
-    alloc: Global,
-    role: Role,
-    row: &Row,
-    state: &State,
-) -> Option<bool> {
+fn each_clone_is_refused(alloc: Global, role: Role, row: &Row, state: &State) -> Option<bool> {
     for refused in 1..100 {
         let (tally, watch) = (Tally::refusing(alloc, refused).ok()?, Watch::new(false));
         if !trial::<EcoVec<Counting>>(alloc, &tally, &watch, role, (row, state)) {
@@ -47,7 +42,13 @@ pub(crate) fn clones_hold(alloc: Global, watch: &Watch) -> bool {
     !watch.is_strict()
         || rows_hold(alloc, watch, Role::Change, &changes, &states)
             && rows_hold(alloc, watch, Role::Change, &further, &states)
-            && rows_hold(alloc, watch, Role::Derive, &tables::vector_derivations(), &states)
+            && rows_hold(
+                alloc,
+                watch,
+                Role::Derive,
+                &tables::vector_derivations(),
+                &states,
+            )
             && rows_hold(alloc, watch, Role::Make, &makers, &states[..1])
             && rows_hold(alloc, watch, Role::Make, &more, &states[..1])
 }

@@ -108,9 +108,15 @@ pub(crate) fn bytes_hold<V: Value<Source = ()>>(alloc: Global, watch: &Watch) ->
         alloc,
         watch,
         [&tables::bytes_changes(), &tables::reductions()],
-        [&tables::further_bytes_changes(), &tables::further_reductions()],
+        [
+            &tables::further_bytes_changes(),
+            &tables::further_reductions(),
+        ],
         [&tables::bytes_derivations(), &[]],
-        [&tables::first_makers_at(limit), &tables::bytes_makers_at(limit)],
+        [
+            &tables::first_makers_at(limit),
+            &tables::bytes_makers_at(limit),
+        ],
     )
 }
 
@@ -120,9 +126,18 @@ pub(crate) fn texts_hold<V: Value<Source = ()>>(alloc: Global, watch: &Watch) ->
         alloc,
         watch,
         [&tables::text_changes(), &tables::reductions()],
-        [&tables::further_text_changes(), &tables::further_reductions()],
-        [&tables::text_derivations(), &tables::further_text_derivations()],
-        [&tables::first_makers_at(limit), &tables::text_makers_at(limit)],
+        [
+            &tables::further_text_changes(),
+            &tables::further_reductions(),
+        ],
+        [
+            &tables::text_derivations(),
+            &tables::further_text_derivations(),
+        ],
+        [
+            &tables::first_makers_at(limit),
+            &tables::text_makers_at(limit),
+        ],
     );
     // Past ASCII the case of letters asks for std's text besides.
     let (differ, rows) = (varied(around(limit)), tables::text_derivations());

@@ -1,13 +1,12 @@
-//! How often an iterator is asked: once for each item and once for the `None` behind them, no more
-//! after a refusal, and never for a hint.
+//! How often texts ask an iterator: once for each item and once for the `None` behind them, and never
+//! for a hint; and when a closure is called, and elements are cloned.
 ghost use Rattle.std.specs.Prelude.{vec_len};
 ghost use Rattle.std.specs.Iterator.{at_most};
 
 use crate::calls::{is_unique, shared};
-use ecow_bytes::EcoBytes;
+use ecow_calls::counting::{Counting, Refusing, Tally};
 use ecow_list::{EcoError, EcoVec, range_in};
 use ecow_string::EcoString;
-use ecow_testing::elements::{Counting, Refusing, Tally};
 use std::alloc::{AllocError, Global};
 use std::cell::Cell;
 use std::rc::Rc;
@@ -61,87 +60,29 @@ fn several<T: Clone>(alloc: Global, item: &T, n: usize) -> Result<Asked<T>, Allo
     Ok(Asked::new(items))
 }
 
-/// The calls that make a vector of an iterator, or put its items into one.
+/// The calls that make a text of an iterator, or put its items into one.
 #[derive(Clone, Copy, Debug)]
 enum Way {
     Extend,
-    Splice,
     FromIter,
     Collect,
 }
 
-fn spliced(list: &mut EcoVec<i64>, items: &mut Asked<i64>) -> Result<(), EcoError> {
-    if !range_in(&(1..2), list.len()) {
-        return Ok(());
-    }
-    list.splice(1..2, items).map(drop)
-}
-
-/// The number of elements of the vector: those of the items, and 1, 2 and 3 before.
-fn len_of_vector(way: Way, alloc: Global, items: &mut Asked<i64>) -> Result<usize, EcoError> {
-    let mut list = EcoVec::from_slice(alloc, &[1, 2, 3])?;
-    match way {
-        Way::Extend => list.extend(items)?,
-        Way::Splice => spliced(&mut list, items)?,
-        Way::FromIter => list = EcoVec::from_iter(alloc, items)?,
-        Way::Collect => list = items.collect(alloc)?,
-    }
-    Ok(list.len())
-}
-
-#[test]
-fn vectors_ask_for_each_item_and_the_end(rt: HostRuntime) -> Result<(), Fail> {
-    for (way, more) in [
-        (Way::Extend, 3usize),
-        (Way::Splice, 2),
-        (Way::FromIter, 0),
-        (Way::Collect, 0),
-    ] {
-        for n in [0usize, 1, 4, 5, 16, 17, 40] {
-            let mut items = several(rt.alloc(), &7, n)?;
-            let len = len_of_vector(way, rt.alloc(), &mut items)?;
-            assert_eq!(rt; len, more.wrapping_add(n), "{way:?} {n}");
-            assert!(rt; items.was_asked(n.wrapping_add(1)), "{way:?} {n}");
-        }
-    }
-    Ok(())
-}
-
-/// The number of bytes of the value that comes of the items.
+/// The number of bytes of the text that comes of the items.
 macro_rules! len_of {
-    ($value:ident, $from:ident, $extend:ident, $way:ident, $alloc:ident, $items:ident) => {{
-        let mut value = $value::new($alloc);
+    ($from:ident, $extend:ident, $way:ident, $alloc:ident, $items:ident) => {{
+        let mut text = EcoString::new($alloc);
         match $way {
-            Way::FromIter => value = $value::$from($alloc, $items)?,
-            Way::Collect => value = $items.collect($alloc)?,
-            Way::Extend | Way::Splice => value.$extend($items)?,
+            Way::FromIter => text = EcoString::$from($alloc, $items)?,
+            Way::Collect => text = $items.collect($alloc)?,
+            Way::Extend => text.$extend($items)?,
         }
-        Ok(value.len())
+        Ok(text.len())
     }};
 }
 
-fn len_of_bytes(way: Way, alloc: Global, items: &mut Asked<u8>) -> Result<usize, EcoError> {
-    len_of!(EcoBytes, from_iter, extend, way, alloc, items)
-}
-
-#[test]
-fn bytes_ask_for_each_item_and_the_end(rt: HostRuntime) -> Result<(), Fail> {
-    for way in [Way::Extend, Way::FromIter, Way::Collect] {
-        for n in [0usize, 1, 15, 16, 40] {
-            let mut items = several(rt.alloc(), &7u8, n)?;
-            assert_eq!(rt;
-                len_of_bytes(way, rt.alloc(), &mut items)?,
-                n,
-                "{way:?} {n}"
-            );
-            assert!(rt; items.was_asked(n.wrapping_add(1)), "{way:?} {n}");
-        }
-    }
-    Ok(())
-}
-
 fn len_of_chars(way: Way, alloc: Global, items: &mut Asked<char>) -> Result<usize, EcoError> {
-    len_of!(EcoString, from_chars, extend_chars, way, alloc, items)
+    len_of!(from_chars, extend_chars, way, alloc, items)
 }
 
 fn len_of_strs(
@@ -149,7 +90,7 @@ fn len_of_strs(
     alloc: Global,
     items: &mut Asked<&'static str>,
 ) -> Result<usize, EcoError> {
-    len_of!(EcoString, from_strs, extend_strs, way, alloc, items)
+    len_of!(from_strs, extend_strs, way, alloc, items)
 }
 
 /// Whether characters of two bytes each are asked for once, and for the end.
@@ -214,18 +155,6 @@ fn two(alloc: Global, clones: u64) -> Result<(EcoVec<Refusing>, EcoVec<Refusing>
 fn pair(alloc: Global) -> Result<Asked<Refusing>, AllocError> {
     let left = Rc::new(alloc, Cell::new(9))?;
     Ok(Asked::new(Refusing::several(alloc, &[4, 5], &left)?))
-}
-
-#[test]
-fn extend_asks_for_nothing_after_a_refused_copy(rt: HostRuntime) -> Result<(), Fail> {
-    for clones in 0..3 {
-        let (mut list, _clone) = two(rt.alloc(), clones)?;
-        let mut items = pair(rt.alloc())?;
-        assert_eq!(rt; list.extend(&mut items), Err(EcoError::Memory));
-        assert!(rt; items.was_asked(1) && list.len() == 3);
-        assert!(rt; !is_unique(&mut list));
-    }
-    Ok(())
 }
 
 #[test]

@@ -47,18 +47,6 @@ pub(crate) fn write<T: Clone>(
     list.set(index, value)
 }
 
-pub(crate) fn remove<T: Clone>(list: &mut EcoVec<T>, index: usize) -> Result<(), EcoError> {
-    if index >= list.len() {
-        return Ok(());
-    }
-    list.remove(index).map(drop)
-}
-
-pub(crate) fn reverse<T: Clone>(list: &mut EcoVec<T>) -> Result<(), EcoError> {
-    list.make_mut()?.reverse();
-    Ok(())
-}
-
 pub(crate) fn drain<T: Clone>(
     list: &mut EcoVec<T>,
     start: usize,
@@ -68,16 +56,4 @@ pub(crate) fn drain<T: Clone>(
         return Ok(());
     }
     list.drain(start..end).map(drop)
-}
-
-pub(crate) fn splice<T: Clone>(
-    list: &mut EcoVec<T>,
-    start: usize,
-    end: usize,
-    value: T,
-) -> Result<(), EcoError> {
-    if !range_in(&(start..end), list.len()) {
-        return Ok(());
-    }
-    list.splice(start..end, Some(value)).map(drop)
 }

@@ -16,13 +16,9 @@ mod calls;
 #[cfg(test)]
 mod drops;
 #[cfg(test)]
-mod owners;
-#[cfg(test)]
 mod paths;
 #[cfg(test)]
 mod printing;
-#[cfg(test)]
-mod refusals;
 #[cfg(test)]
 mod sharing;
 mod sizes;

@@ -1,10 +1,10 @@
 //! Who shares a block, and what is cloned and dropped, where no script says it.
-use crate::calls::{error_of, is_unique, reverse, shared};
+use crate::calls::{error_of, is_unique, shared};
 use ecow_block::Block;
 use ecow_bytes::EcoBytes;
+use ecow_calls::counting::Single;
 use ecow_list::{EcoError, EcoVec};
 use ecow_string::EcoString;
-use ecow_testing::elements::{Single, Tally};
 use std::alloc::Global;
 use std::test::Fail;
 
@@ -22,21 +22,6 @@ fn room_of_a_unique(list: &mut EcoVec<u8>) -> Option<usize> {
         return Some(list.capacity());
     }
     None
-}
-
-#[test]
-fn a_loan_for_writing_unshares(rt: HostRuntime) -> Result<(), Fail> {
-    for (values, after, room) in [
-        ([].as_slice(), [].as_slice(), 0),
-        (&[1, 2, 3], &[3, 2, 1], 4),
-    ] {
-        let (mut first, second) = with_clone(rt.alloc(), values)?;
-        reverse(&mut first)?;
-        assert_eq!(rt; room_of_a_unique(&mut first), Some(room));
-        assert_eq!(rt; first.as_slice(), after);
-        assert_eq!(rt; second.as_slice(), values);
-    }
-    Ok(())
 }
 
 /// Puts a block without room in the place of a vector's own.
@@ -96,17 +81,6 @@ fn bytes_and_texts_of_a_vector_share_its_block(rt: HostRuntime) -> Result<(), Fa
         return Err("three letters".into());
     };
     assert!(rt; is_block_of(&mut list, EcoBytes::from(text)) && is_unique(&mut list));
-    Ok(())
-}
-
-#[test]
-fn drops_come_at_once_and_once(rt: HostRuntime) -> Result<(), Fail> {
-    let tally = Tally::new(rt.alloc())?;
-    let mut first = tally.list(rt.alloc(), 1000)?;
-    first.truncate(900)?;
-    let second = shared(&first)?;
-    assert_eq!(rt; tally.counts_without(first), (0, 100));
-    assert_eq!(rt; tally.counts_without(second), (0, 1000));
     Ok(())
 }
 
