@@ -13,7 +13,7 @@ use ecow_string::SmallText;
 use std::alloc::Global;
 
 /// How often each call of a table is made.
-const ROUNDS: usize = 60;
+const ROUNDS: usize = 600;
 
 /// A number of one of several sizes.
 fn size(numbers: &mut Numbers) -> usize {
