@@ -17,6 +17,11 @@ impl Watch {
         }
     }
 
+    /// Whether no request is refused in this run.
+    pub fn is_strict(&self) -> bool {
+        self.strict
+    }
+
     /// Counts an answer that memory is wanting, and says whether it may be right.
     pub fn may_refuse(&self) -> bool {
         let refusals = self.refusals.get().saturating_add(1);

@@ -4,7 +4,7 @@ use crate::rows::{Cost, Form, Role, Row, Rows, Standing, USUAL, row_of};
 use crate::states::{Pair, VecState, error_of, form_of, kept_pair, or_memory, vectors};
 use crate::tables::{VecCall, vector_changes, vector_growth, vector_makers, vector_reads};
 use ecow_list::{Drain, EcoError, EcoVec, IntoArray, IntoIter, Splice, range_in};
-use ecow_testing::elements::{Counting, Tally};
+use ecow_calls::counting::{Counting, Tally};
 use std::alloc::Global;
 use std::mem;
 use std::ops::Range;

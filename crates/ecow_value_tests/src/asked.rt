@@ -7,7 +7,7 @@ use crate::calls::{is_unique, shared};
 use ecow_bytes::EcoBytes;
 use ecow_list::{EcoError, EcoVec, range_in};
 use ecow_string::EcoString;
-use ecow_testing::elements::{Counting, Refusing, Tally};
+use ecow_calls::counting::{Counting, Refusing, Tally};
 use std::alloc::{AllocError, Global};
 use std::cell::Cell;
 use std::rc::Rc;

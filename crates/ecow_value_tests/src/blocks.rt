@@ -2,7 +2,7 @@
 use ecow_base::MAX_LEN;
 use ecow_block::Block;
 use ecow_shared::Shared;
-use ecow_testing::elements::{Counting, Tally};
+use ecow_calls::counting::{Counting, Tally};
 use std::alloc::{AllocError, Global};
 use std::process::Abort;
 

@@ -5,7 +5,7 @@ ghost use Rattle.ecow_base.specs.Clones.{ClonesAreEqual};
 
 use crate::calls::{error_of, of, push, shared};
 use ecow_list::{EcoError, EcoVec};
-use ecow_testing::elements::Tally;
+use ecow_calls::counting::Tally;
 use std::test::Fail;
 
 /// The elements of `list` and one more, in a vector of their own.

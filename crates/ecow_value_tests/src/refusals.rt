@@ -3,7 +3,7 @@
 //! Once all clones succeed, the call is done and the other vector is as it was.
 use crate::calls::{drain, insert, is_unique, push, remove, reverse, shared, splice, write};
 use ecow_list::{EcoError, EcoVec, IntoArray, Rejected};
-use ecow_testing::elements::Refusing;
+use ecow_calls::counting::Refusing;
 use std::alloc::{AllocError, Global};
 use std::cell::Cell;
 use std::process::Abort;

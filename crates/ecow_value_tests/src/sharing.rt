@@ -4,7 +4,7 @@ use ecow_block::Block;
 use ecow_bytes::EcoBytes;
 use ecow_list::{EcoError, EcoVec};
 use ecow_string::EcoString;
-use ecow_testing::elements::{Single, Tally};
+use ecow_calls::counting::{Single, Tally};
 use std::alloc::Global;
 use std::test::Fail;
 

@@ -4,7 +4,7 @@ use crate::calls::{push, write};
 use ecow_bytes::EcoBytes;
 use ecow_list::{EcoError, EcoVec};
 use ecow_string::EcoString;
-use ecow_testing::elements::{Counting, Tally};
+use ecow_calls::counting::{Counting, Tally};
 use std::alloc::{AllocError, Global};
 use std::test::Fail;
 

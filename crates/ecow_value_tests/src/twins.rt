@@ -1,6 +1,6 @@
 //! The block over raw memory beside a `Vec` and a capacity number, on edits that a seed decides.
 use ecow_block::{Block, Rest};
-use ecow_testing::numbers::Numbers;
+use ecow_calls::numbers::Numbers;
 use std::alloc::{AllocError, Global};
 use std::process::Abort;
 use std::test::Fail;
