@@ -10,7 +10,7 @@ use std::str;
 const MAX: usize = 9223372036854775807;
 
 /// Longer values are left to others.
-const LONGEST: usize = 200;
+pub(crate) const LONGEST: usize = 200;
 
 /// What stands under a name.
 #[derive(Clone, Copy)]
@@ -277,31 +277,24 @@ impl Model {
     }
 
     pub(crate) fn held(&self, name: u32) -> Option<Entry> {
-        let place = usize::try_from(name).ok()?;
-        *self.names.get(place)?
+        *self.names.get(name as usize)?
     }
 
     fn put(&mut self, name: u32, held: Option<Entry>) {
-        if let Ok(place) = usize::try_from(name)
-            && let Some(stood) = self.names.get_mut(place)
-        {
-            *stood = held;
+        if let Some(place) = self.names.get_mut(name as usize) {
+            *place = held;
         }
     }
 
-    /// How many names have a block.
-    fn owners_of(&self, block: u32) -> usize {
+    /// How many names have the block of an entry.
+    pub(crate) fn owners(&self, held: &Entry) -> usize {
         let mut owners = 0usize;
-        for other in self.names {
-            if block > 0 && matches!(other, Some(other) if other.block == block) {
+        for other in &self.names {
+            if held.block > 0 && matches!(other, Some(other) if other.block == held.block) {
                 owners = owners.saturating_add(1);
             }
         }
         owners
-    }
-
-    pub(crate) fn owners(&self, held: &Entry) -> usize {
-        self.owners_of(held.block)
     }
 
     pub(crate) fn is_shared(&self, held: &Entry) -> bool {
@@ -310,13 +303,18 @@ impl Model {
 
     /// The number of blocks of lists.
     pub(crate) fn blocks(&self) -> usize {
-        let mut blocks = 0usize;
-        for block in 1..=self.last_block {
-            if self.owners_of(block) > 0 {
-                blocks = blocks.saturating_add(1);
+        let (mut blocks, mut count) = ([0u32; 4], 0usize);
+        for held in &self.names {
+            if let Some(held) = held
+                && held.block > 0
+                && !blocks.contains(&held.block)
+                && let Some(place) = blocks.get_mut(count)
+            {
+                *place = held.block;
+                count = count.saturating_add(1);
             }
         }
-        blocks
+        count
     }
 
     fn new_block(&mut self, capacity: usize) -> u32 {
@@ -378,42 +376,41 @@ impl Model {
         if self.held(order.name).is_some() {
             return Err(Refusal::Taken);
         }
-        let asks_room = matches!(order.word, Word::WithCapacity | Word::FromElem);
-        if asks_room && order.count > MAX {
-            return Err(Refusal::Capacity);
-        }
-        let items = match order.word {
-            Word::FromElem => repeated(&Line::of(&[order.first]), order.count),
-            _ => order.given(),
+        let (kind, word, given) = (order.kind, order.word, order.given());
+        let room = match word {
+            Word::WithCapacity | Word::FromElem => order.count,
+            Word::FromItems if kind == Kind::List => fresh(given.len()),
+            _ => given.len(),
         };
-        if items.len() > LONGEST || asks_room && order.count > LONGEST {
-            return Ok(None);
+        if room > LONGEST {
+            return if room > MAX {
+                Err(Refusal::Capacity)
+            } else {
+                Ok(None)
+            };
         }
-        if order.word == Word::TryInline && items.len() > self.limit {
+        let is_tried = word == Word::TryInline;
+        if is_tried && room > self.limit {
             return Ok(Some(Want::Flag(false)));
         }
-        self.put_new(order, items);
-        Ok(Some(match order.word {
-            Word::TryInline => Want::Flag(true),
-            _ => Want::Done,
-        }))
-    }
-
-    fn put_new(&mut self, order: &Order, items: Line) {
-        let capacity = match order.word {
-            Word::WithCapacity => order.count,
-            Word::FromItems if order.kind == Kind::List => fresh(items.len()),
-            _ => items.len(),
+        let items = match word {
+            Word::FromElem => repeated(&Line::of(&[order.first]), room),
+            _ => given,
         };
-        let is_list = order.kind == Kind::List;
+        let is_list = kind == Kind::List;
         let held = Entry {
-            kind: order.kind,
+            kind,
             items,
-            inline: !is_list && capacity <= self.limit && order.word != Word::FromEcoVec,
-            block: if is_list { self.new_block(capacity) } else { 0 },
-            capacity,
+            inline: !is_list && room <= self.limit && word != Word::FromEcoVec,
+            block: if is_list { self.new_block(room) } else { 0 },
+            capacity: room,
         };
         self.put(order.name, Some(held));
+        Ok(Some(if is_tried {
+            Want::Flag(true)
+        } else {
+            Want::Done
+        }))
     }
 
     fn derive(&mut self, order: &Order) -> Result<Option<Want>, Refusal> {

@@ -64,12 +64,12 @@ impl Order {
     }
 
     /// The character that the command brings.
-    fn character(&self) -> char {
+    fn character(&self) -> &'static str {
         match self.count {
-            2 => 'é',
-            3 => '€',
-            4 => '😀',
-            _ => 'a',
+            2 => "é",
+            3 => "€",
+            4 => "😀",
+            _ => "a",
         }
     }
 
@@ -78,9 +78,7 @@ impl Order {
     fn letters(&self) -> &'static str {
         let is_change = self.word.part() == Part::Changes;
         let letters = match self.several() {
-            2 if is_change => Some("é"),
-            3 if is_change => Some("€"),
-            4 if is_change => Some("😀"),
+            2..=4 if is_change => Some(self.character()),
             count if count < 5 => FEW.get(..count),
             count if is_change => LETTERS.get(40..count.saturating_add(40)),
             count => LETTERS.get(..count),
@@ -90,18 +88,14 @@ impl Order {
 
     /// What the command brings.
     pub(crate) fn given(&self) -> Line {
-        let is_text = self.kind == Kind::Text;
-        match self.word {
-            Word::Push | Word::Insert | Word::Write | Word::FromChar if is_text => {
-                match self.character() {
-                    'é' => Line::of(&[195, 169]),
-                    '€' => Line::of(&[226, 130, 172]),
-                    '😀' => Line::of(&[240, 159, 152, 128]),
-                    _ => Line::of(&[97]),
-                }
-            }
-            Word::Push | Word::Insert | Word::Write => Line::of(&[self.first]),
-            _ if is_text => Line::of_bytes(self.letters().as_bytes()),
+        let is_one = matches!(
+            self.word,
+            Word::Push | Word::Insert | Word::Write | Word::FromChar
+        );
+        match self.kind {
+            Kind::Text if is_one => Line::of_bytes(self.character().as_bytes()),
+            Kind::Text => Line::of_bytes(self.letters().as_bytes()),
+            _ if is_one => Line::of(&[self.first]),
             _ => Line::from(self.first, self.several()),
         }
     }
@@ -164,7 +158,9 @@ pub(crate) fn command_of<C: FromOrder>(
 ) -> Result<Option<C>, AllocError> {
     let command: Option<C> = C::from_order(alloc, order)?;
     Ok(match command {
-        Some(command) if command.word() == order.word && order.word.has_row() => Some(command),
+        Some(command) if command.word() == order.word && order.word.row().is_some() => Some(
+            command,
+        ),
         _ => None,
     })
 }
@@ -185,6 +181,16 @@ impl FromOrder for Command<i64> {
             Command::Text(command) => command.word(),
         }
     }
+}
+
+/// The word of a command: of the variants that have their words' names, and of the others.
+macro_rules! word_of {
+    ($command:ident, $value:expr, [$($same:ident)*], [$($word:ident $variant:ident,)*]) => {
+        match $value {
+            $($command::$same { .. } => Word::$same,)*
+            $($command::$variant { .. } => Word::$word,)*
+        }
+    };
 }
 
 impl FromOrder for VecCommand<i64> {
@@ -231,31 +237,12 @@ impl FromOrder for VecCommand<i64> {
     }
 
     fn word(&self) -> Word {
-        match self {
-            VecCommand::New { .. } => Word::New,
-            VecCommand::WithCapacity { .. } => Word::WithCapacity,
-            VecCommand::FromList { .. } => Word::FromItems,
-            VecCommand::FromElem { .. } => Word::FromElem,
-            VecCommand::Clone { .. } => Word::Clone,
-            VecCommand::Drop { .. } => Word::Drop,
-            VecCommand::Push { .. } => Word::Push,
-            VecCommand::Pop { .. } => Word::Pop,
-            VecCommand::Insert { .. } => Word::Insert,
-            VecCommand::Remove { .. } => Word::Remove,
-            VecCommand::Truncate { .. } => Word::Truncate,
-            VecCommand::Clear { .. } => Word::Clear,
-            VecCommand::Retain { .. } => Word::Retain,
-            VecCommand::Drain { .. } => Word::Drain,
-            VecCommand::Splice { .. } => Word::Splice,
-            VecCommand::Extend { .. } => Word::Extend,
-            VecCommand::Reserve { .. } => Word::Reserve,
-            VecCommand::Write { .. } => Word::Write,
-            VecCommand::Read { .. } => Word::Read,
-            VecCommand::Len { .. } => Word::Len,
-            VecCommand::Contents { .. } => Word::Contents,
-            VecCommand::Capacity { .. } => Word::Capacity,
-            VecCommand::Unique { .. } => Word::Unique,
-        }
+        word_of!(VecCommand, self, [
+            New WithCapacity FromElem Clone Drop Push Pop Insert Remove Truncate Clear Retain
+            Drain Splice Extend Reserve Write Read Len Contents Capacity Unique
+        ], [
+            FromItems FromList,
+        ])
     }
 }
 
@@ -297,33 +284,12 @@ impl FromOrder for BytesCommand {
     }
 
     fn word(&self) -> Word {
-        match self {
-            BytesCommand::New { .. } => Word::New,
-            BytesCommand::TryInline { .. } => Word::TryInline,
-            BytesCommand::WithCapacity { .. } => Word::WithCapacity,
-            BytesCommand::FromList { .. } => Word::FromItems,
-            BytesCommand::FromEcoVec { .. } => Word::FromEcoVec,
-            BytesCommand::FromText { .. } => Word::FromOther,
-            BytesCommand::Clone { .. } => Word::Clone,
-            BytesCommand::Drop { .. } => Word::Drop,
-            BytesCommand::Push { .. } => Word::Push,
-            BytesCommand::Pop { .. } => Word::Pop,
-            BytesCommand::Insert { .. } => Word::Insert,
-            BytesCommand::Remove { .. } => Word::Remove,
-            BytesCommand::Extend { .. } => Word::Extend,
-            BytesCommand::InsertSlice { .. } => Word::InsertSlice,
-            BytesCommand::Truncate { .. } => Word::Truncate,
-            BytesCommand::Clear { .. } => Word::Clear,
-            BytesCommand::Reserve { .. } => Word::Reserve,
-            BytesCommand::Write { .. } => Word::Write,
-            BytesCommand::Read { .. } => Word::Read,
-            BytesCommand::Repeat { .. } => Word::Repeat,
-            BytesCommand::ShrinkToFit { .. } => Word::Shrink,
-            BytesCommand::Len { .. } => Word::Len,
-            BytesCommand::Capacity { .. } => Word::Capacity,
-            BytesCommand::Contents { .. } => Word::Contents,
-            BytesCommand::IsInline { .. } => Word::IsInline,
-        }
+        word_of!(BytesCommand, self, [
+            New TryInline WithCapacity FromEcoVec Clone Drop Push Pop Insert Remove Extend
+            InsertSlice Truncate Clear Reserve Write Read Repeat Len Capacity Contents IsInline
+        ], [
+            FromItems FromList, FromOther FromText, Shrink ShrinkToFit,
+        ])
     }
 }
 
@@ -336,7 +302,8 @@ impl FromOrder for TextCommand {
             ..
         } = *order;
         let (from, index, target) = (name, order.start, order.start);
-        let (n, capacity, additional, c) = (count, count, count, order.character());
+        let (n, capacity, additional) = (count, count, count);
+        let c = order.character().chars().next().unwrap_or('a');
         let (text, (pattern, by)) = (text_of(alloc, order.letters())?, order.pattern());
         let (pattern, replacement) = (text_of(alloc, pattern)?, text_of(alloc, by)?);
         Ok(Some(match order.word {
@@ -379,35 +346,13 @@ impl FromOrder for TextCommand {
     }
 
     fn word(&self) -> Word {
-        match self {
-            TextCommand::New { .. } => Word::New,
-            TextCommand::TryInline { .. } => Word::TryInline,
-            TextCommand::WithCapacity { .. } => Word::WithCapacity,
-            TextCommand::FromStr { .. } => Word::FromItems,
-            TextCommand::FromChar { .. } => Word::FromChar,
-            TextCommand::FromBytes { .. } => Word::FromOther,
-            TextCommand::Clone { .. } => Word::Clone,
-            TextCommand::Drop { .. } => Word::Drop,
-            TextCommand::Push { .. } => Word::Push,
-            TextCommand::Pop { .. } => Word::Pop,
-            TextCommand::PushStr { .. } => Word::Extend,
-            TextCommand::Insert { .. } => Word::Insert,
-            TextCommand::InsertStr { .. } => Word::InsertSlice,
-            TextCommand::Remove { .. } => Word::Remove,
-            TextCommand::Truncate { .. } => Word::Truncate,
-            TextCommand::Clear { .. } => Word::Clear,
-            TextCommand::Reserve { .. } => Word::Reserve,
-            TextCommand::Replace { .. } => Word::Replace,
-            TextCommand::Repeat { .. } => Word::Repeat,
-            TextCommand::AsciiLower { .. } => Word::Lower,
-            TextCommand::AsciiUpper { .. } => Word::Upper,
-            TextCommand::ToAsciiLower { .. } => Word::ToLower,
-            TextCommand::ToAsciiUpper { .. } => Word::ToUpper,
-            TextCommand::ShrinkToFit { .. } => Word::Shrink,
-            TextCommand::Len { .. } => Word::Len,
-            TextCommand::Capacity { .. } => Word::Capacity,
-            TextCommand::Contents { .. } => Word::Contents,
-            TextCommand::IsInline { .. } => Word::IsInline,
-        }
+        word_of!(TextCommand, self, [
+            New TryInline WithCapacity FromChar Clone Drop Push Pop Insert Remove Truncate Clear
+            Reserve Replace Repeat Len Capacity Contents IsInline
+        ], [
+            FromItems FromStr, FromOther FromBytes, Extend PushStr, InsertSlice InsertStr,
+            Lower AsciiLower, Upper AsciiUpper, ToLower ToAsciiLower, ToUpper ToAsciiUpper,
+            Shrink ShrinkToFit,
+        ])
     }
 }

@@ -1,7 +1,7 @@
 //! Commands that a seed decides, runs of several commands, and lists that are filled.
-use crate::model::{Model, Want};
+use crate::model::{LONGEST, Model, Want};
 use crate::orders::{Line, Order};
-use crate::stores::{NamedStore, Run, agrees, fits, order_holds};
+use crate::stores::{NamedStore, agrees, fits, order_holds};
 use crate::table::{Kind, ROWS, Row, Word};
 use ecow_calls::numbers::Numbers;
 use ecow_calls::watch::Watch;
@@ -10,8 +10,6 @@ use ecow_list::EcoError;
 use ecow_model::{Outcome, Refusal};
 use std::alloc::Global;
 use std::ops::Bound;
-
-const KINDS: [Kind; 3] = [Kind::List, Kind::Bytes, Kind::Text];
 
 fn small(numbers: &mut Numbers, limit: usize) -> usize {
     usize::try_from(numbers.below(limit as u64)).unwrap_or(0)
@@ -38,12 +36,12 @@ fn row(numbers: &mut Numbers, kind: Kind) -> Row {
     ROWS[0]
 }
 
-/// A number that is small, near a length, or anywhere.
+/// An index into so many items: a small one, one near the last or any; rarely one far outside.
 fn near(numbers: &mut Numbers, len: usize) -> usize {
     match numbers.below(16) {
-        0..9 => small(numbers, 7),
-        9..14 => small(numbers, len.saturating_add(3)),
-        14 => small(numbers, 200),
+        0..5 => small(numbers, 7),
+        5..10 => len.saturating_add(2).saturating_sub(small(numbers, 7)),
+        10..15 => small(numbers, len.saturating_add(3)),
         _ => usize::MAX,
     }
 }
@@ -56,11 +54,11 @@ fn bound(numbers: &mut Numbers, index: usize) -> Bound<usize> {
     }
 }
 
-/// How many items a command brings or asks room for.
+/// How many items a command brings or asks room for, beside so many.
 fn count(numbers: &mut Numbers, len: usize) -> usize {
     match numbers.below(8) {
-        0 => small(numbers, 150),
-        1 => len,
+        0..2 => small(numbers, LONGEST.saturating_sub(len)),
+        2 => len,
         _ => small(numbers, 6),
     }
 }
@@ -68,9 +66,13 @@ fn count(numbers: &mut Numbers, len: usize) -> usize {
 /// A command on so many kinds of value that the numbers decide. Some have the arguments of their
 /// row.
 fn drawn(numbers: &mut Numbers, kinds: usize, model: &Model) -> Order {
-    let kind = KINDS[small(numbers, kinds) % 3];
+    let kind = match small(numbers, kinds) {
+        0 => Kind::List,
+        1 => Kind::Bytes,
+        _ => Kind::Text,
+    };
     let (word, _, _, _, arguments) = row(numbers, kind);
-    let mut order = Order::of(kind, word, &arguments[0]);
+    let mut order = Order::counted(kind, word, 0);
     order.name = u32::try_from(numbers.below(4)).unwrap_or(0);
     order.to = u32::try_from(numbers.below(4)).unwrap_or(0);
     order.first = i64::try_from(numbers.below(56)).unwrap_or(0);
@@ -82,9 +84,11 @@ fn drawn(numbers: &mut Numbers, kinds: usize, model: &Model) -> Order {
     order.end = near(numbers, len);
     order.count = count(numbers, len);
     order.bounds = (bound(numbers, order.start), bound(numbers, order.end));
-    if numbers.below(6) == 0 {
-        let place = small(numbers, arguments.len());
-        (order.start, order.end, order.count) = arguments[place];
+    let of_row = arguments.get(small(numbers, arguments.len()));
+    if let Some(arguments) = of_row
+        && numbers.below(6) == 0
+    {
+        (order.start, order.end, order.count) = *arguments;
     }
     order
 }
@@ -122,18 +126,17 @@ pub(crate) fn seeds_hold<K: NamedStore>(alloc: Global, watch: &Watch, kinds: usi
     true
 }
 
-/// A list, bytes or a text of four, and behind it each command of the table that the kind has. Its
-/// last one drops the name.
+/// A list, bytes or a text of four, and behind it a command of each row that the kind has.
 fn run_of(kind: Kind) -> [Order; 40] {
     let mut orders = [Order::counted(kind, Word::Len, 0); 40];
-    let mut words = ROWS
-        .iter()
-        .filter(|(_, _, kinds, _, _)| kinds.contains(&kind));
+    let mut rows = ROWS.iter();
     for (place, order) in orders.iter_mut().enumerate() {
         if place == 0 {
             *order = Order::counted(kind, Word::FromItems, 4);
-        } else if let Some((word, _, _, _, arguments)) = words.next() {
-            *order = Order::of(kind, *word, &arguments[0]);
+        } else if let Some((word, _, kinds, _, _)) = rows.next()
+            && kinds.contains(&kind)
+        {
+            *order = Order::counted(kind, *word, 1);
         }
     }
     orders
@@ -149,13 +152,12 @@ pub(crate) fn run_holds<K: NamedStore>(alloc: Global, watch: &Watch, kind: Kind)
         return watch.may_refuse();
     };
     let outcomes = match ran {
-        Run::Refused(error, count) => {
-            return error == EcoError::Memory
-                && count == orders.len()
+        Ok(outcomes) => outcomes,
+        Err(refused) => {
+            return refused == (EcoError::Memory, orders.len())
                 && watch.may_refuse()
                 && agrees(&mut store, &model);
         }
-        Run::Done(outcomes) => outcomes,
     };
     let mut hold = outcomes.len() == orders.len();
     for (order, outcome) in orders.iter().zip(outcomes.as_slice()) {
@@ -206,10 +208,8 @@ fn units_hold(alloc: Global, watch: &Watch) -> bool {
     match refusal {
         None => accepted == 9 && counted.capacity(0) == Some(16) && counted.moved() == 12,
         Some(refusal) => {
-            accepted == 0
-                && refusal == Refusal::Memory
-                && watch.may_refuse()
-                && counted.moved() == 0
+            let is_lacking = refusal == Refusal::Memory && watch.may_refuse();
+            is_lacking && accepted == 0 && counted.moved() == 0
         }
     }
 }
@@ -231,26 +231,22 @@ fn filled_holds(
         None => {
             let again = counted.fill(0, Vec::new(alloc));
             let is_taken = again.accepted == 0 && again.refusal == Some(Refusal::Taken);
-            is_taken
-                && accepted == count
-                && counted.moved() == moved
-                && counted.capacity(0) == Some(capacity)
+            let costs = (accepted, counted.moved(), counted.capacity(0));
+            is_taken && costs == (count, moved, Some(capacity))
         }
         Some(refusal) => {
-            accepted < count.max(1)
-                && refusal == Refusal::Memory
-                && watch.may_refuse()
-                && [0, 4, 8, 16].contains(&accepted)
+            let is_full = accepted < count.max(1) && [0, 4, 8, 16].contains(&accepted);
+            is_full && refusal == Refusal::Memory && watch.may_refuse()
         }
     };
     let mut model = Model::new(0);
     if refusal.is_none() || counted.get(0).is_some() {
         model.carry_out(&Order::counted(Kind::List, Word::New, 0));
     }
-    for item in Line::from(91, accepted).as_slice() {
-        let mut push = Order::counted(Kind::List, Word::Push, 1);
-        push.first = *item;
+    let mut push = Order::counted(Kind::List, Word::Push, 1);
+    for _ in 0..accepted {
         model.carry_out(&push);
+        push.first = push.first.wrapping_add(1);
     }
     is_right && agrees(&mut counted, &model)
 }

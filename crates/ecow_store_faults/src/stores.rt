@@ -2,7 +2,7 @@
 //! by itself, and compares.
 use crate::model::{Entry, Model, Want};
 use crate::orders::{FromOrder, Order, command_of};
-use crate::table::{Arguments, Kind, Part, ROWS, Word};
+use crate::table::{Kind, Part, ROWS, Word};
 use ecow_calls::watch::Watch;
 use ecow_counted::Counted;
 use ecow_list::{EcoError, Rejected};
@@ -19,19 +19,13 @@ type Account = [(Option<usize>, Option<usize>); 4];
 /// test itself lacks memory.
 type Answer = Result<Option<Outcome<i64>>, AllocError>;
 
-/// What a run of several commands came to.
-pub(crate) enum Run {
-    /// Why, and how many commands came back.
-    Refused(EcoError, usize),
-    Done(Vec<Outcome<i64>>),
-}
+/// What a run of several commands answers; or why it is refused, and how many come back.
+pub(crate) type Ran = Result<Vec<Outcome<i64>>, (EcoError, usize)>;
 
-impl Run {
-    fn of<C: Drop>(ran: Result<Vec<Outcome<i64>>, Rejected<Vec<C>>>) -> Self {
-        match ran {
-            Ok(outcomes) => Run::Done(outcomes),
-            Err(rejected) => Run::Refused(rejected.error, rejected.value.len()),
-        }
+fn ran<C: Drop>(ran: Result<Vec<Outcome<i64>>, Rejected<Vec<C>>>) -> Ran {
+    match ran {
+        Ok(outcomes) => Ok(outcomes),
+        Err(rejected) => Err((rejected.error, rejected.value.len())),
     }
 }
 
@@ -44,7 +38,7 @@ pub(crate) trait NamedStore: Drop {
 
     fn carry_out(&mut self, alloc: Global, order: &Order) -> Answer;
 
-    fn run_orders(&mut self, alloc: Global, orders: &[Order]) -> Result<Run, AllocError>;
+    fn run_orders(&mut self, alloc: Global, orders: &[Order]) -> Result<Ran, AllocError>;
 
     /// For how many items there is room under a name, and how many names share it, where a store
     /// tells that.
@@ -93,12 +87,14 @@ impl<const N: usize> NamedStore for SmallStore<i64, N> {
     }
 
     fn carry_out(&mut self, alloc: Global, order: &Order) -> Answer {
-        let command: Option<Command<i64>> = command_of(alloc, order)?;
-        Ok(command.map(|command| self.step(command)))
+        match command_of(alloc, order)? {
+            Some(command) => Ok(Some(self.step(command))),
+            None => Ok(None),
+        }
     }
 
-    fn run_orders(&mut self, alloc: Global, orders: &[Order]) -> Result<Run, AllocError> {
-        Ok(Run::of(self.run(commands(alloc, orders)?)))
+    fn run_orders(&mut self, alloc: Global, orders: &[Order]) -> Result<Ran, AllocError> {
+        Ok(ran(self.run(commands(alloc, orders)?)))
     }
 
     fn room(&mut self, name: u32) -> (Option<usize>, Option<usize>) {
@@ -164,8 +160,8 @@ impl NamedStore for Counted<i64> {
         }
     }
 
-    fn run_orders(&mut self, alloc: Global, orders: &[Order]) -> Result<Run, AllocError> {
-        Ok(Run::of(self.run(commands(alloc, orders)?)))
+    fn run_orders(&mut self, alloc: Global, orders: &[Order]) -> Result<Ran, AllocError> {
+        Ok(ran(self.run(commands(alloc, orders)?)))
     }
 
     fn room(&mut self, name: u32) -> (Option<usize>, Option<usize>) {
@@ -337,10 +333,11 @@ pub(crate) fn kind_holds<K: NamedStore>(alloc: Global, watch: &Watch, kind: Kind
     let states = if kind == Kind::List { 4 } else { 6 };
     let mut hold = true;
     for state in 0..states {
-        hold = state_holds::<K>(alloc, watch, (kind, state, false)) && hold;
-        // An inline value shares nothing.
-        if kind == Kind::List || state > 2 {
-            hold = state_holds::<K>(alloc, watch, (kind, state, true)) && hold;
+        for shared in [false, true] {
+            // An inline value shares nothing.
+            if !shared || kind == Kind::List || state > 2 {
+                hold = state_holds::<K>(alloc, watch, (kind, state, shared)) && hold;
+            }
         }
     }
     hold
@@ -352,7 +349,8 @@ fn state_holds<K: NamedStore>(alloc: Global, watch: &Watch, made: (Kind, usize, 
     for (word, _, kinds, _, arguments) in &ROWS {
         for arguments in *arguments {
             if kinds.contains(&kind) {
-                hold = case_holds::<K>(alloc, watch, made, (*word, arguments)) && hold;
+                let order = Order::of(kind, *word, arguments);
+                hold = case_holds::<K>(alloc, watch, made, order) && hold;
             }
         }
     }
@@ -363,16 +361,14 @@ fn state_holds<K: NamedStore>(alloc: Global, watch: &Watch, made: (Kind, usize, 
 fn case_holds<K: NamedStore>(
     alloc: Global,
     watch: &Watch,
-    made: (Kind, usize, bool),
-    (word, arguments): (Word, &Arguments),
+    (kind, state, shared): (Kind, usize, bool),
+    order: Order,
 ) -> bool {
-    let (kind, state, shared) = made;
     let [first, second, third] = setup(kind, state, K::limit());
     let mut twin = Order::counted(kind, Word::Clone, state);
     twin.to = 1;
     let twin = if shared { Some(twin) } else { None };
-    let order = Some(Order::of(kind, word, arguments));
-    orders_hold::<K>(alloc, watch, &[first, second, third, twin, order])
+    orders_hold::<K>(alloc, watch, &[first, second, third, twin, Some(order)])
 }
 
 /// The makers, at lengths about the inline limit.

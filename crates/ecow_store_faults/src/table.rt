@@ -147,7 +147,7 @@ const PATTERNS: &[Arguments] = &[(0, 0, 9), (1, 0, 2), (1, 0, TOO_MANY)];
 pub(crate) const ROWS: [Row; Word::Drop as usize + 1] = [
     (Word::New, Part::Makes, ALL, 1, NONE),
     (Word::WithCapacity, Part::Makes, ALL, 1, ROOMS),
-    (Word::FromItems, Part::Makes, ALL, 3, FEW),
+    (Word::FromItems, Part::Makes, ALL, 4, FEW),
     (Word::TryInline, Part::Makes, SMALL, 1, FEW),
     (Word::FromElem, Part::Makes, LISTS, 1, ROOMS),
     (Word::FromEcoVec, Part::Makes, BYTES, 1, FEW),
@@ -167,9 +167,9 @@ pub(crate) const ROWS: [Row; Word::Drop as usize + 1] = [
     (Word::Clear, Part::Changes, ALL, 1, NONE),
     (Word::Retain, Part::Changes, LISTS, 2, MARKS),
     (Word::Drain, Part::Changes, LISTS, 1, RANGES),
-    (Word::Splice, Part::Changes, LISTS, 2, RANGES),
-    (Word::Extend, Part::Changes, ALL, 2, PIECES),
-    (Word::InsertSlice, Part::Changes, SMALL, 2, SLICES),
+    (Word::Splice, Part::Changes, LISTS, 3, RANGES),
+    (Word::Extend, Part::Changes, ALL, 4, PIECES),
+    (Word::InsertSlice, Part::Changes, SMALL, 3, SLICES),
     (Word::Reserve, Part::Changes, ALL, 1, TIMES),
     (Word::Shrink, Part::Changes, SMALL, 1, NONE),
     (Word::Upper, Part::Changes, TEXTS, 1, NONE),
@@ -184,15 +184,19 @@ pub(crate) const ROWS: [Row; Word::Drop as usize + 1] = [
 ];
 
 impl Word {
-    /// Whether the row in the place of the word is its own.
-    pub(crate) fn has_row(&self) -> bool {
-        let (word, _, _, _, _) = ROWS[*self as usize];
-        word == *self
+    /// The row of the word, where it stands in its place.
+    pub(crate) fn row(&self) -> Option<Row> {
+        match ROWS.get(*self as usize) {
+            Some(row) if row.0 == *self => Some(*row),
+            _ => None,
+        }
     }
 
     /// What a command of this word does.
     pub(crate) fn part(&self) -> Part {
-        let (_, part, _, _, _) = ROWS[*self as usize];
-        part
+        match self.row() {
+            Some((_, part, _, _, _)) => part,
+            None => Part::Drops,
+        }
     }
 }

@@ -163,6 +163,13 @@ const ROWS: [Row; 17] = [
     (0, 0, 0),
 ];
 
+fn row_at(row: usize) -> Row {
+    match ROWS.get(row) {
+        Some(row) => *row,
+        None => (0, 0, 0),
+    }
+}
+
 fn with_value(row: usize, name: u32, index: usize, value: Numbered) -> VecCommand<Numbered> {
     match row {
         0 => VecCommand::Push { name, value },
@@ -207,7 +214,7 @@ fn command_of(
     row: usize,
     (name, index): (u32, usize),
 ) -> Result<VecCommand<Numbered>, AllocError> {
-    let (_, _, count) = ROWS[row];
+    let (_, _, count) = row_at(row);
     let items = elements(alloc, tally, 4, count)?;
     if row < 4 {
         let mut values = items.into_vec();
@@ -236,49 +243,54 @@ fn refusal_of(row: usize, (name, index): (u32, usize)) -> Option<Refusal> {
 /// last number is refused, counted from 1.
 type Case = (usize, (u32, usize), bool, u64);
 
+/// Why a command is to be refused, how many clones succeed, and how many elements are copied.
+fn expected(&(row, place, shared, refused): &Case) -> (Option<Refusal>, u64, u64) {
+    let (copied, cloned, _) = row_at(row);
+    let copied = if shared { copied } else { 0 };
+    let clones = copied.wrapping_add(cloned);
+    match refusal_of(row, place) {
+        Some(refusal) => (Some(refusal), 0, 0),
+        None if refused > 0 && refused <= clones => {
+            (Some(Refusal::Memory), refused.wrapping_sub(1), 0)
+        }
+        None => (None, clones, copied),
+    }
+}
+
+fn refusal_in(outcome: Outcome<Numbered>) -> Option<Refusal> {
+    match &outcome {
+        Outcome::Refused(refusal) => Some(*refusal),
+        _ => None,
+    }
+}
+
 /// Whether a command is done and clones what it is to, or is refused and changes nothing. All
 /// elements are dropped with the store at last.
-fn holds<L: Lists>(alloc: Global, (row, place, shared, refused): Case) -> Result<bool, AllocError> {
+fn holds<L: Lists>(alloc: Global, case: Case) -> Result<bool, AllocError> {
+    let (row, place, shared, refused) = case;
     let tally = Tally::refusing(alloc, refused)?;
     let mut lists: L = made(alloc, &tally, shared)?;
     let before = seen(alloc, &lists)?;
     let command = command_of(alloc, &tally, row, place)?;
-    let none_yet = tally.has(0, 0);
-    let outcome = lists.carry_out(command);
-    let (copied, cloned, brought) = ROWS[row];
-    let copied = if shared { copied } else { 0 };
-    let clones = copied.wrapping_add(cloned);
-    let lacks = refused > 0 && refused <= clones;
-    let wanted = match refusal_of(row, place) {
-        None if lacks => Some(Refusal::Memory),
-        refusal => refusal,
-    };
-    let said = match &outcome {
-        Outcome::Refused(refusal) => Some(*refusal),
-        _ => None,
-    };
-    let made = match wanted {
-        None => clones,
-        Some(Refusal::Memory) => refused.wrapping_sub(1),
-        Some(_) => 0,
-    };
-    let is_left = match wanted {
+    let is_untouched = tally.has(0, 0);
+    let said = refusal_in(lists.carry_out(command));
+    let is_unchanged = seen(alloc, &lists)? == before;
+    let (wanted, clones, copied) = expected(&case);
+    let (_, _, brought) = row_at(row);
+    let all = clones.wrapping_add(brought as u64);
+    let lacking = u64::from(wanted == Some(Refusal::Memory));
+    let is_right = match wanted {
         None => lists.has_copied(copied),
-        Some(_) => {
-            let dropped = tally.drops() == made.wrapping_add(brought as u64);
-            dropped && seen(alloc, &lists)? == before
-        }
+        Some(_) => is_unchanged && tally.drops() == all,
     };
-    let is_counted = tally.clones()
-        == made.wrapping_add(u64::from(wanted == Some(Refusal::Memory)));
-    drop(outcome);
+    let is_counted = tally.clones() == clones.wrapping_add(lacking);
     drop(lists);
-    let all = made.wrapping_add(brought as u64).wrapping_add(3);
-    Ok(none_yet && said == wanted && is_left && is_counted && tally.drops() == all)
+    let is_dropped = tally.drops() == all.wrapping_add(3);
+    Ok(is_untouched && said == wanted && is_right && is_counted && is_dropped)
 }
 
 fn rows_hold<L: Lists>(rt: &(impl Abort + AllocGlobal)) -> Result<(), Fail> {
-    for row in 0..17 {
+    for row in 0..ROWS.len() {
         for place in [(1, 0), (1, 1), (1, 9), (9, 1)] {
             for refused in 0..7 {
                 for shared in [false, true] {

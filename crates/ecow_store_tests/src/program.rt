@@ -40,7 +40,7 @@ fn read_alike(
 ) {
     let block = [byte; 4096];
     let mut reader = Reader::new(&block, usize::MAX);
-    (reader.left, reader.again) = (&block[..size], again);
+    (reader.left, reader.again) = (&block[..size.min(4096)], again);
     let mut writer = Writer::new(rt.alloc(), usize::MAX, 0);
     let end = ended(rt.alloc(), counted, &mut reader, &mut writer);
     let is_read = reader.ends == 1 && reader.left.is_empty() && reader.again == 0;
