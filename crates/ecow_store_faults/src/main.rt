@@ -7,12 +7,13 @@ mod orders;
 mod scripts;
 mod seeds;
 mod stores;
+mod table;
 
-use crate::orders::Kind;
 use crate::stores::NamedStore;
-use ecow_counted::Counted;
+use crate::table::Kind;
 use ecow_calls::parts::{Parts, run};
 use ecow_calls::watch::Watch;
+use ecow_counted::Counted;
 use ecow_store::SmallStore;
 use std::alloc::Global;
 use std::io;
@@ -29,14 +30,21 @@ fn lists_hold<K: NamedStore>(alloc: Global, watch: &Watch) -> bool {
         && stores::makers_hold::<K>(alloc, watch, Kind::List)
 }
 
+fn runs_hold(alloc: Global, watch: &Watch) -> bool {
+    seeds::run_holds::<SmallStore<i64, 15>>(alloc, watch, Kind::List)
+        && seeds::run_holds::<SmallStore<i64, 15>>(alloc, watch, Kind::Bytes)
+        && seeds::run_holds::<SmallStore<i64, 15>>(alloc, watch, Kind::Text)
+        && seeds::run_holds::<Counted<i64>>(alloc, watch, Kind::List)
+}
+
 const NAMES: [&str; 12] = [
     "lists of a store",
     "counted lists",
     "a store, none inline",
-    "a store, 3 inline",
+    "a store, 4 inline",
     "a store, 15 inline",
     "a store, 23 inline",
-    "a store by a seed, 3 inline",
+    "a store by a seed, 4 inline",
     "a store by a seed, 15 inline",
     "counted lists by a seed",
     "runs",
@@ -52,16 +60,13 @@ impl Parts for Both {
             0 => lists_hold::<SmallStore<i64, 15>>(alloc, watch),
             1 => lists_hold::<Counted<i64>>(alloc, watch),
             2 => store_holds::<0>(alloc, watch, &SmallStore::new(alloc)),
-            3 => store_holds::<3>(alloc, watch, &SmallStore::new(alloc)),
+            3 => store_holds::<4>(alloc, watch, &SmallStore::new(alloc)),
             4 => store_holds::<15>(alloc, watch, &SmallStore::new(alloc)),
             5 => store_holds::<23>(alloc, watch, &SmallStore::new(alloc)),
-            6 => seeds::commands_hold::<SmallStore<i64, 3>>(alloc, watch, 3),
-            7 => seeds::commands_hold::<SmallStore<i64, 15>>(alloc, watch, 3),
-            8 => seeds::commands_hold::<Counted<i64>>(alloc, watch, 1),
-            9 => {
-                seeds::runs_hold::<SmallStore<i64, 15>>(alloc, watch)
-                    && seeds::runs_hold::<Counted<i64>>(alloc, watch)
-            }
+            6 => seeds::seeds_hold::<SmallStore<i64, 4>>(alloc, watch, 3),
+            7 => seeds::seeds_hold::<SmallStore<i64, 15>>(alloc, watch, 3),
+            8 => seeds::seeds_hold::<Counted<i64>>(alloc, watch, 1),
+            9 => runs_hold(alloc, watch),
             10 => seeds::filling_holds(alloc, watch),
             _ => scripts::store_holds(alloc, watch) && scripts::counted_holds(alloc, watch),
         }

@@ -1,21 +1,22 @@
 //! Named values as the test keeps them by itself: what each holds, and in which form; which names
 //! share a block, and its room; how many elements were copied and moved.
-use crate::orders::{Kind, Order, Verb};
-use ecow_calls::short::Short;
-use ecow_calls::steps::{Edit, Step, Word};
-use ecow_model::Refusal;
+use crate::orders::{Line, Order};
+use crate::table::{Kind, Part, Word};
+use ecow_model::{Bounds, Refusal};
+use std::ops::Bound;
+use std::str;
 
 /// The most elements that a block has room for.
 const MAX: usize = 9223372036854775807;
 
-/// Longer lists are left to others.
-const LONGEST: usize = 48;
+/// Longer values are left to others.
+pub(crate) const LONGEST: usize = 200;
 
 /// What stands under a name.
 #[derive(Clone, Copy)]
 pub(crate) struct Entry {
     pub(crate) kind: Kind,
-    pub(crate) items: Short,
+    pub(crate) items: Line,
     /// Whether bytes stand in the value.
     pub(crate) inline: bool,
     /// The block of a list; names of one block share it. None is 0.
@@ -30,11 +31,20 @@ pub(crate) enum Want {
     Done,
     Item(i64),
     Popped(Option<i64>),
-    Items(Short),
+    Items(Line),
     Count(usize),
-    Room(Entry),
+    /// The room under the name, which is asked apart.
+    Room,
     Flag(bool),
     Refused(Refusal),
+}
+
+/// What a change puts in place of the items from `start` up to `end`.
+#[derive(Clone, Copy)]
+struct Change {
+    start: usize,
+    end: usize,
+    added: Line,
 }
 
 /// The names, and what their commands cost.
@@ -53,128 +63,126 @@ fn is_within_char(byte: i64) -> bool {
     byte >= 128 && byte <= 191
 }
 
-/// The room of a block that must grow: what is needed, twice what it has, and 4 at least.
-fn grown(len: usize, more: usize, capacity: usize) -> usize {
+/// The room of a block that is made for so many; for none there is no block.
+fn fresh(count: usize) -> usize {
+    if count == 0 { 0 } else { count.max(4) }
+}
+
+/// The room that there is; or where it isn't enough, what is needed, twice what there is, and 4 at
+/// least.
+fn with_room(len: usize, more: usize, capacity: usize) -> usize {
     let needed = len.saturating_add(more);
+    if needed <= capacity {
+        return capacity;
+    }
     needed.max(capacity.saturating_mul(2)).max(4).min(MAX)
 }
 
-/// The room that there is, or that of a grown block where it isn't enough.
-fn with_room(len: usize, more: usize, capacity: usize) -> usize {
-    if len.saturating_add(more) <= capacity {
-        capacity
-    } else {
-        grown(len, more, capacity)
+/// Where a range starts and ends, where it is one of so many items.
+fn resolved(bounds: Bounds, len: usize) -> Result<(usize, usize), Refusal> {
+    let start = match bounds.0 {
+        Bound::Included(index) => Some(index),
+        Bound::Excluded(index) => index.checked_add(1),
+        Bound::Unbounded => Some(0),
+    };
+    let end = match bounds.1 {
+        Bound::Included(index) => index.checked_add(1),
+        Bound::Excluded(index) => Some(index),
+        Bound::Unbounded => Some(len),
+    };
+    match (start, end) {
+        (Some(start), Some(end)) if start <= end && end <= len => Ok((start, end)),
+        _ => Err(Refusal::Range),
     }
 }
 
 impl Entry {
-    /// Whether an item begins at an index, or the list ends there.
-    fn is_boundary(&self, index: usize) -> bool {
+    /// Whether an item begins at an index.
+    fn begins(&self, index: usize) -> bool {
         match self.items.as_slice().get(index) {
-            Some(byte) => !is_within_char(*byte),
-            None => index == self.items.len(),
+            Some(byte) => self.kind != Kind::Text || !is_within_char(*byte),
+            None => false,
         }
     }
 
-    /// Where the item at an index ends: a character has several bytes.
+    /// Where the last item begins.
+    fn last(&self) -> usize {
+        let mut last = 0;
+        for index in 0..self.items.len() {
+            if self.begins(index) {
+                last = index;
+            }
+        }
+        last
+    }
+
+    /// Where the item at an index ends: a character has up to four bytes.
     fn end_of(&self, index: usize) -> usize {
         let mut end = index.saturating_add(1);
-        if self.kind == Kind::Text {
-            for _ in 0..3 {
-                if !self.is_boundary(end) {
-                    end = end.saturating_add(1);
-                }
+        for _ in 0..3 {
+            if end < self.items.len() && !self.begins(end) {
+                end = end.saturating_add(1);
             }
         }
         end
     }
 
-    /// Where the last item begins.
-    fn last(&self) -> usize {
-        let mut start = self.items.len().saturating_sub(1);
-        if self.kind == Kind::Text {
-            for _ in 0..3 {
-                if !self.is_boundary(start) {
-                    start = start.saturating_sub(1);
-                }
+    /// Why a change is refused, for another reason than its range and want of memory.
+    fn refusal(&self, order: &Order) -> Option<Refusal> {
+        let (len, start) = (self.items.len(), order.start);
+        let is_refused = match order.word {
+            Word::Insert | Word::InsertSlice => start != len && !self.begins(start),
+            Word::Remove | Word::Write => !self.begins(start),
+            Word::Truncate => start < len && !self.begins(start),
+            Word::Retain if order.count != len => return Some(Refusal::Marks),
+            Word::Reserve if order.count > MAX.saturating_sub(len) => {
+                return Some(Refusal::Capacity);
             }
-        }
-        start
-    }
-
-    /// Why an edit is refused, for another reason than want of memory.
-    fn refusal(&self, order: &Order, word: Word) -> Option<Refusal> {
-        let (len, start, end) = (self.items.len(), order.start, order.end);
-        let is_text = self.kind == Kind::Text;
-        let outside = if is_text {
-            Refusal::Boundary
-        } else {
-            Refusal::Index
-        };
-        let is_outside = match word {
-            Word::Insert | Word::InsertSlice => start > len || is_text && !self.is_boundary(start),
-            Word::Remove | Word::Write => start >= len || is_text && !self.is_boundary(start),
-            Word::Truncate => is_text && start < len && !self.is_boundary(start),
             _ => false,
         };
-        match word {
-            _ if is_outside => Some(outside),
-            Word::Drain | Word::Splice if start > end || end > len => Some(Refusal::Range),
-            Word::Retain if order.count != len => Some(Refusal::Marks),
-            Word::Reserve if order.count > MAX.saturating_sub(len) => Some(Refusal::Capacity),
-            _ => None,
+        match self.kind {
+            _ if !is_refused => None,
+            Kind::Text => Some(Refusal::Boundary),
+            _ => Some(Refusal::Index),
         }
     }
 
-    /// Which part of the list an edit puts something in the place of.
-    fn change(&self, order: &Order, word: Word) -> Edit {
-        let len = self.items.len();
-        let (start, end) = match word {
-            Word::Insert | Word::InsertSlice => (order.start, order.start),
-            Word::Remove | Word::Write => (order.start, self.end_of(order.start)),
+    /// What a change puts where.
+    fn change(&self, order: &Order) -> Result<Change, Refusal> {
+        if let Some(refusal) = self.refusal(order) {
+            return Err(refusal);
+        }
+        let (len, start) = (self.items.len(), order.start);
+        let (start, end) = match order.word {
+            Word::Insert | Word::InsertSlice => (start, start),
+            Word::Remove | Word::Write => (start, self.end_of(start)),
             Word::Pop => (self.last(), len),
-            Word::Retain => (order.start.min(len), order.end.min(len)),
-            Word::Truncate => (order.start.min(len), len),
+            Word::Truncate => (start.min(len), len),
             Word::Clear => (0, len),
-            Word::Drain | Word::Splice => (order.start, order.end),
+            Word::Drain | Word::Splice => resolved(order.bounds, len)?,
             _ => (len, len),
         };
-        let count = match word {
-            Word::Push | Word::Insert | Word::Write => order.given().len(),
-            Word::Extend | Word::InsertSlice | Word::Splice => order.given().len(),
-            _ => 0,
-        };
-        Edit {
-            start,
-            end: end.max(start),
-            count,
+        let added = order.given();
+        Ok(Change { start, end, added })
+    }
+
+    /// The items behind a change.
+    fn changed(&self, order: &Order, change: &Change) -> Line {
+        let mut items = self.items.part(0, change.start);
+        items.append(change.added.as_slice());
+        items.append(self.items.part(change.end, self.items.len()).as_slice());
+        match order.word {
+            Word::Upper => items.ascii_uppercase(),
+            Word::Lower => items.ascii_lowercase(),
+            Word::Retain => kept(&items, order),
+            _ => items,
         }
     }
 
-    /// The list behind an edit.
-    fn edited(&self, order: &Order, word: Word) -> Short {
-        match word {
-            Word::Upper => self.items.ascii_uppercase(),
-            Word::Lower => self.items.ascii_lowercase(),
-            Word::Write
-            | Word::Push
-            | Word::Insert
-            | Word::Extend
-            | Word::Splice
-            | Word::InsertSlice => {
-                self.items
-                    .replaced(self.change(order, word), &order.given())
-            }
-            _ => self.items.replaced(self.change(order, word), &Short::new()),
-        }
-    }
-
-    /// What an edit answers.
-    fn answer(&self, order: &Order, word: Word) -> Want {
-        let change = self.change(order, word);
+    /// What a change answers.
+    fn answer(&self, order: &Order, change: &Change) -> Want {
         let removed = self.items.part(change.start, change.end);
-        match word {
+        match order.word {
             Word::Pop if removed.len() == 0 => Want::Popped(None),
             Word::Pop => Want::Popped(Some(number_of(&removed))),
             Word::Remove => Want::Item(number_of(&removed)),
@@ -184,37 +192,77 @@ impl Entry {
     }
 }
 
+/// The items that are marked.
+fn kept(items: &Line, order: &Order) -> Line {
+    let mut kept = Line::new();
+    for (place, item) in items.as_slice().iter().enumerate() {
+        if order.keeps(place) {
+            kept.push(*item);
+        }
+    }
+    kept
+}
+
 /// An item that is a number itself, or the number of the character that has these bytes.
-fn number_of(bytes: &Short) -> i64 {
+fn number_of(bytes: &Line) -> i64 {
     let mut number = 0i64;
-    for byte in bytes.as_slice() {
-        let low = if is_within_char(*byte) && bytes.len() > 1 {
-            byte.wrapping_sub(128)
-        } else if bytes.len() == 1 {
-            *byte
-        } else if bytes.len() == 2 {
-            byte.wrapping_sub(192)
-        } else {
-            byte.wrapping_sub(240)
+    for (place, byte) in bytes.as_slice().iter().enumerate() {
+        let front = match (place, bytes.len()) {
+            (0, 1) => 0,
+            (0, 2) => 192,
+            (0, 3) => 224,
+            (0, _) => 240,
+            _ => 128,
         };
-        number = number.wrapping_mul(64).wrapping_add(low);
+        number = number
+            .wrapping_mul(64)
+            .wrapping_add(byte.wrapping_sub(front));
     }
     number
 }
 
-/// The letter `é` in place of the first so many letters `a`.
-fn with_accents(bytes: &Short, count: usize) -> Short {
-    let mut replaced = Short::new();
-    let mut left = count;
-    for byte in bytes.as_slice() {
-        if *byte == 97 && left > 0 {
-            left = left.saturating_sub(1);
-            replaced.append(&[195, 169]);
+/// The text with a pattern replaced, so often at most. The pattern is one letter, or none: then
+/// something comes before each character and behind the last.
+fn replaced(held: &Entry, order: &Order) -> Line {
+    let (pattern, by) = order.pattern();
+    let (mut replaced, mut left) = (Line::new(), order.count);
+    for index in 0..=held.items.len() {
+        let item = held.items.part(index, index.saturating_add(1));
+        let is_found = if pattern.is_empty() {
+            index == held.items.len() || held.begins(index)
         } else {
-            replaced.push(*byte);
+            item.is_bytes(pattern.as_bytes())
+        };
+        if is_found && left > 0 {
+            left = left.saturating_sub(1);
+            replaced.append(Line::of_bytes(by.as_bytes()).as_slice());
+            if !pattern.is_empty() {
+                continue;
+            }
         }
+        replaced.append(item.as_slice());
     }
     replaced
+}
+
+/// The items so many times over.
+fn repeated(items: &Line, times: usize) -> Line {
+    let mut repeated = Line::new();
+    for _ in 0..times.min(LONGEST) {
+        repeated.append(items.as_slice());
+    }
+    repeated
+}
+
+fn is_utf8(items: &Line) -> bool {
+    let mut bytes = [0u8; 256];
+    for (byte, item) in bytes.iter_mut().zip(items.as_slice()) {
+        *byte = u8::try_from(*item).unwrap_or(0);
+    }
+    match bytes.get(..items.len()) {
+        Some(bytes) => str::from_utf8(bytes).is_ok(),
+        None => false,
+    }
 }
 
 impl Model {
@@ -229,26 +277,20 @@ impl Model {
     }
 
     pub(crate) fn held(&self, name: u32) -> Option<Entry> {
-        let place = usize::try_from(name).ok()?;
-        *self.names.get(place)?
+        *self.names.get(name as usize)?
     }
 
     fn put(&mut self, name: u32, held: Option<Entry>) {
-        if let Ok(place) = usize::try_from(name)
-            && let Some(stood) = self.names.get_mut(place)
-        {
-            *stood = held;
+        if let Some(place) = self.names.get_mut(name as usize) {
+            *place = held;
         }
     }
 
-    /// How many names have a block.
+    /// How many names have the block of an entry.
     pub(crate) fn owners(&self, held: &Entry) -> usize {
         let mut owners = 0usize;
-        for other in self.names {
-            if let Some(other) = other
-                && other.block == held.block
-                && other.block > 0
-            {
+        for other in &self.names {
+            if held.block > 0 && matches!(other, Some(other) if other.block == held.block) {
                 owners = owners.saturating_add(1);
             }
         }
@@ -259,18 +301,20 @@ impl Model {
         self.owners(held) > 1
     }
 
-    /// The number of blocks of lists: each is counted at its first name.
+    /// The number of blocks of lists.
     pub(crate) fn blocks(&self) -> usize {
-        let mut blocks = 0usize;
-        for block in 1..=self.last_block {
-            let is_held = |other: &Option<
-                Entry,
-            >| matches!(other, Some(held) if held.block == block);
-            if self.names.iter().any(is_held) {
-                blocks = blocks.saturating_add(1);
+        let (mut blocks, mut count) = ([0u32; 4], 0usize);
+        for held in &self.names {
+            if let Some(held) = held
+                && held.block > 0
+                && !blocks.contains(&held.block)
+                && let Some(place) = blocks.get_mut(count)
+            {
+                *place = held.block;
+                count = count.saturating_add(1);
             }
         }
-        blocks
+        count
     }
 
     fn new_block(&mut self, capacity: usize) -> u32 {
@@ -290,195 +334,168 @@ impl Model {
         }
     }
 
-    /// Carries a command out and says what it is to answer. `None` where a list would grow too
+    /// Carries a command out and says what it is to answer. `None` where a value would grow too
     /// long.
     pub(crate) fn carry_out(&mut self, order: &Order) -> Option<Want> {
-        match order.verb {
-            Verb::New | Verb::TryInline | Verb::WithCapacity | Verb::FromItems => self.make(order),
-            Verb::FromElem | Verb::FromEcoVec | Verb::FromChar => self.make(order),
-            Verb::Clone | Verb::FromOther | Verb::Repeat | Verb::Replace => self.derive(order),
-            Verb::ToUpper | Verb::ToLower => self.derive(order),
-            Verb::Edit(word) => self.edit(order, word),
-            Verb::Drop => Some(match self.found(order, order.kind) {
-                Ok(_) => {
-                    self.put(order.name, None);
-                    Want::Done
-                }
-                Err(refusal) => Want::Refused(refusal),
-            }),
-            _ => Some(match self.found(order, order.kind) {
-                Ok(held) => self.asked(order, &held),
-                Err(refusal) => Want::Refused(refusal),
-            }),
+        let answered = match order.word.part() {
+            Part::Makes => self.make(order),
+            Part::Derives => self.derive(order),
+            Part::Changes => self.edit(order),
+            Part::Asks => self.asked(order),
+            Part::Drops => self.dropped(order),
+        };
+        match answered {
+            Ok(Some(want)) => Some(want),
+            Ok(None) => None,
+            Err(refusal) => Some(Want::Refused(refusal)),
         }
     }
 
-    fn asked(&self, order: &Order, held: &Entry) -> Want {
-        match order.verb {
-            Verb::Len => Want::Count(held.items.len()),
-            Verb::Contents => Want::Items(held.items),
-            Verb::Capacity => Want::Room(*held),
-            Verb::Unique => Want::Flag(!self.is_shared(held)),
-            Verb::IsInline => Want::Flag(held.inline),
+    fn dropped(&mut self, order: &Order) -> Result<Option<Want>, Refusal> {
+        self.found(order, order.kind)?;
+        self.put(order.name, None);
+        Ok(Some(Want::Done))
+    }
+
+    fn asked(&self, order: &Order) -> Result<Option<Want>, Refusal> {
+        let held = self.found(order, order.kind)?;
+        Ok(Some(match order.word {
+            Word::Len => Want::Count(held.items.len()),
+            Word::Contents => Want::Items(held.items),
+            Word::Capacity => Want::Room,
+            Word::Unique => Want::Flag(!self.is_shared(&held)),
+            Word::IsInline => Want::Flag(held.inline),
             _ => match held.items.as_slice().get(order.start) {
                 Some(item) => Want::Item(*item),
                 None => Want::Refused(Refusal::Index),
             },
-        }
+        }))
     }
 
-    fn make(&mut self, order: &Order) -> Option<Want> {
+    fn make(&mut self, order: &Order) -> Result<Option<Want>, Refusal> {
         if self.held(order.name).is_some() {
-            return Some(Want::Refused(Refusal::Taken));
+            return Err(Refusal::Taken);
         }
-        if order.verb == Verb::WithCapacity && order.count > MAX {
-            return Some(Want::Refused(Refusal::Capacity));
-        }
-        let mut items = order.given();
-        match order.verb {
-            Verb::New | Verb::WithCapacity => items = Short::new(),
-            Verb::FromChar => items = Short::of(&[97]),
-            Verb::FromElem => {
-                items = Short::new();
-                for _ in 0..order.count {
-                    items.push(91);
-                }
-            }
-            Verb::TryInline if items.len() > self.limit => return Some(Want::Flag(false)),
-            _ => {}
-        }
-        if items.len() > LONGEST {
-            return None;
-        }
-        self.put_new(order, items);
-        Some(match order.verb {
-            Verb::TryInline => Want::Flag(true),
-            _ => Want::Done,
-        })
-    }
-
-    fn put_new(&mut self, order: &Order, items: Short) {
-        let room = match order.verb {
-            Verb::WithCapacity => order.count,
-            _ => items.len(),
+        let (kind, word, given) = (order.kind, order.word, order.given());
+        let room = match word {
+            Word::WithCapacity | Word::FromElem => order.count,
+            Word::FromItems if kind == Kind::List => fresh(given.len()),
+            _ => given.len(),
         };
-        let is_list = order.kind == Kind::List;
-        let capacity = match order.verb {
-            Verb::FromItems if room > 0 => room.max(4),
-            _ => room,
+        if room > LONGEST {
+            return if room > MAX {
+                Err(Refusal::Capacity)
+            } else {
+                Ok(None)
+            };
+        }
+        let is_tried = word == Word::TryInline;
+        if is_tried && room > self.limit {
+            return Ok(Some(Want::Flag(false)));
+        }
+        let items = match word {
+            Word::FromElem => repeated(&Line::of(&[order.first]), room),
+            _ => given,
         };
-        let block = if is_list { self.new_block(capacity) } else { 0 };
+        let is_list = kind == Kind::List;
         let held = Entry {
-            kind: order.kind,
+            kind,
             items,
-            inline: !is_list && room <= self.limit && order.verb != Verb::FromEcoVec,
-            block,
-            capacity,
+            inline: !is_list && room <= self.limit && word != Word::FromEcoVec,
+            block: if is_list { self.new_block(room) } else { 0 },
+            capacity: room,
         };
         self.put(order.name, Some(held));
+        Ok(Some(if is_tried {
+            Want::Flag(true)
+        } else {
+            Want::Done
+        }))
     }
 
-    fn derive(&mut self, order: &Order) -> Option<Want> {
-        let kind = match order.verb {
-            Verb::FromOther if order.kind == Kind::Text => Kind::Bytes,
-            Verb::FromOther => Kind::Text,
-            _ => order.kind,
+    fn derive(&mut self, order: &Order) -> Result<Option<Want>, Refusal> {
+        let kind = match (order.word, order.kind) {
+            (Word::FromOther, Kind::Text) => Kind::Bytes,
+            (Word::FromOther, _) => Kind::Text,
+            (_, kind) => kind,
         };
         let found = self.found(order, kind);
-        if self.held(order.to).is_some() && self.held(order.name).is_some() {
-            return Some(Want::Refused(Refusal::Taken));
+        if self.held(order.name).is_some() && self.held(order.to).is_some() {
+            return Err(Refusal::Taken);
         }
-        let mut held = match found {
-            Ok(held) => held,
-            Err(refusal) => return Some(Want::Refused(refusal)),
+        let held = found?;
+        let mut made = held;
+        made.kind = order.kind;
+        made.items = match order.word {
+            Word::FromOther if kind == Kind::Bytes && !is_utf8(&held.items) => {
+                return Err(Refusal::NotUtf8);
+            }
+            Word::Repeat if held.items.len().saturating_mul(order.count) > MAX => {
+                return Err(Refusal::Capacity);
+            }
+            Word::Repeat => repeated(&held.items, order.count),
+            Word::Replace => replaced(&held, order),
+            Word::ToUpper => held.items.ascii_uppercase(),
+            Word::ToLower => held.items.ascii_lowercase(),
+            _ => held.items,
         };
-        let is_text = order.verb == Verb::FromOther && order.kind == Kind::Text;
-        if is_text && !is_utf8(&held.items) {
-            return Some(Want::Refused(Refusal::NotUtf8));
+        if matches!(order.word, Word::Repeat | Word::Replace) {
+            made.inline = made.items.len() <= self.limit;
         }
-        held.kind = order.kind;
-        match order.verb {
-            Verb::Repeat => {
-                let one = held.items;
-                held.items = Short::new();
-                for _ in 0..order.count {
-                    held.items.append(one.as_slice());
-                }
-                held.inline = held.items.len() <= self.limit;
-            }
-            Verb::Replace => {
-                held.items = with_accents(&held.items, order.count);
-                held.inline = held.items.len() <= self.limit;
-            }
-            Verb::ToUpper => held.items = held.items.ascii_uppercase(),
-            Verb::ToLower => held.items = held.items.ascii_lowercase(),
-            _ => {}
+        if made.items.len() > LONGEST {
+            return Ok(None);
         }
-        if held.items.len() > LONGEST {
-            return None;
-        }
-        self.put(order.to, Some(held));
-        Some(Want::Done)
+        self.put(order.to, Some(made));
+        Ok(Some(Want::Done))
     }
 
-    fn edit(&mut self, order: &Order, word: Word) -> Option<Want> {
-        let held = match self.found(order, order.kind) {
-            Ok(held) => held,
-            Err(refusal) => return Some(Want::Refused(refusal)),
-        };
-        if let Some(refusal) = held.refusal(order, word) {
-            return Some(Want::Refused(refusal));
-        }
+    fn edit(&mut self, order: &Order) -> Result<Option<Want>, Refusal> {
+        let held = self.found(order, order.kind)?;
+        let change = held.change(order)?;
         let mut after = held;
-        after.items = held.edited(order, word);
+        after.items = held.changed(order, &change);
         if after.items.len() > LONGEST {
-            return None;
+            return Ok(None);
         }
-        let want = held.answer(order, word);
         if held.kind == Kind::List {
-            self.pay(order, word, &held, &mut after);
+            self.pay(order, &change, &held, &mut after);
         } else {
-            after.inline = self.is_inline_after(order, word, &held, after.items.len());
+            after.inline = self.is_inline_after(order, &held, after.items.len());
         }
         self.put(order.name, Some(after));
-        Some(want)
+        Ok(Some(held.answer(order, &change)))
     }
 
-    fn is_inline_after(&self, order: &Order, word: Word, held: &Entry, len: usize) -> bool {
-        match word {
+    fn is_inline_after(&self, order: &Order, held: &Entry, len: usize) -> bool {
+        match order.word {
             Word::Shrink => held.inline || len <= self.limit,
             Word::Reserve => held.inline && len.saturating_add(order.count) <= self.limit,
             _ => held.inline && len <= self.limit,
         }
     }
 
-    /// What an edit of a list costs, and in which block it stands then.
-    fn pay(&mut self, order: &Order, word: Word, held: &Entry, after: &mut Entry) {
-        let (len, shared) = (held.items.len(), self.is_shared(held));
-        let change = held.change(order, word);
-        let more = match word {
-            Word::Reserve => order.count,
-            _ => change.count,
-        };
+    /// What a change of a list costs, and in which block it stands then.
+    fn pay(&mut self, order: &Order, change: &Change, held: &Entry, after: &mut Entry) {
+        let (len, word) = (held.items.len(), order.word);
         let left = len.saturating_sub(change.end.saturating_sub(change.start));
-        let (copies, capacity) = match word {
-            Word::Pop | Word::Clear if len == 0 => return,
-            Word::Extend if change.count == 0 => return,
-            Word::Truncate if order.start >= len => return,
-            Word::Clear if shared => (0, 0),
-            Word::Truncate if shared => (left, least_room(left)),
-            Word::Pop | Word::Remove | Word::Retain | Word::Drain | Word::Write if shared => {
-                (len, least_room(len))
-            }
-            Word::Splice if shared => (len, with_room(left, more, least_room(len))),
+        let (more, shared) = (more_for(order, change), self.is_shared(held));
+        if shared && is_nothing(word, change) {
+            return;
+        }
+        let capacity = match word {
             Word::Push | Word::Insert | Word::Extend | Word::Reserve => {
-                (len, with_room(len, more, held.capacity))
+                with_room(len, more, held.capacity)
             }
-            Word::Splice => (len, with_room(left, more, held.capacity)),
-            _ => (0, held.capacity),
+            Word::Splice if shared => with_room(left, more, fresh(len)),
+            Word::Splice => with_room(left, more, held.capacity),
+            _ if !shared => held.capacity,
+            Word::Truncate | Word::Clear => fresh(left),
+            _ => fresh(len),
         };
         after.capacity = capacity;
+        let is_cut = matches!(word, Word::Truncate | Word::Clear);
         if shared {
+            let copies = if is_cut { left } else { len };
             self.copied = self.copied.saturating_add(copies as u64);
             after.block = self.new_block(capacity);
         } else if capacity > held.capacity {
@@ -493,60 +510,52 @@ impl Model {
     /// Whether a command may not lack memory, since it neither grows a block nor makes one. Under
     /// the name there is room for `capacity` items.
     pub(crate) fn is_free(&self, order: &Order, capacity: usize) -> bool {
-        let Some(held) = self.held(order.name) else {
+        let (Some(held), part) = (self.held(order.name), order.word.part()) else {
             return false;
         };
-        let word = match order.verb {
-            Verb::Drop | Verb::Len | Verb::Capacity | Verb::Unique | Verb::IsInline => return true,
-            Verb::Read => return held.kind == Kind::Bytes,
-            Verb::Edit(word) => word,
-            _ => return false,
+        let Ok(change) = held.change(order) else {
+            return false;
         };
-        let (len, start) = (held.items.len(), order.start);
-        match word {
+        match order.word {
+            Word::Contents => false,
+            Word::Read => held.kind == Kind::Bytes,
             Word::Clear | Word::Shrink => true,
-            Word::Truncate if start == 0 || start >= len => true,
-            Word::Pop if len == 0 => true,
-            Word::Extend if order.count == 0 => true,
-            _ if held.kind == Kind::List => !self.is_shared(&held)
-                && has_room(order, word, &held, capacity),
+            _ if part != Part::Changes => part == Part::Asks || part == Part::Drops,
+            Word::Truncate if change.start == 0 => true,
+            word if is_nothing(word, &change) => true,
+            _ if held.kind == Kind::List => {
+                !self.is_shared(&held) && has_room(order, &change, &held, capacity)
+            }
             _ => {
-                let after = held.edited(order, word).len();
-                held.inline && self.is_inline_after(order, word, &held, after)
+                let after = held.changed(order, &change).len();
+                held.inline && self.is_inline_after(order, &held, after)
             }
         }
     }
 }
 
+/// Whether a change of such a word leaves a shared block shared.
+fn is_nothing(word: Word, change: &Change) -> bool {
+    let leaves = matches!(
+        word,
+        Word::Pop | Word::Truncate | Word::Clear | Word::Extend
+    );
+    leaves && change.start == change.end && change.added.len() == 0
+}
+
+/// For how many items more a change of a list needs room.
+fn more_for(order: &Order, change: &Change) -> usize {
+    match order.word {
+        Word::Reserve => order.count,
+        Word::Write => 0,
+        _ => change.added.len(),
+    }
+}
+
 /// Whether a change of a list that has its block alone is made in it.
-fn has_room(order: &Order, word: Word, held: &Entry, capacity: usize) -> bool {
-    let len = held.items.len();
-    match word {
-        Word::Pop | Word::Remove | Word::Retain | Word::Write | Word::Truncate => true,
-        Word::Push | Word::Insert => len < capacity,
-        Word::Reserve => len.saturating_add(order.count) <= capacity,
-        _ => false,
+fn has_room(order: &Order, change: &Change, held: &Entry, capacity: usize) -> bool {
+    match order.word {
+        Word::Drain | Word::Splice | Word::Extend => false,
+        _ => held.items.len().saturating_add(more_for(order, change)) <= capacity,
     }
-}
-
-/// The room of a block into which so many are copied; for none there is no block.
-fn least_room(copied: usize) -> usize {
-    if copied == 0 { 0 } else { copied.max(4) }
-}
-
-/// Whether bytes are characters of the tests' letters: two bytes of one, or four, or one.
-fn is_utf8(bytes: &Short) -> bool {
-    let mut wanted = 0usize;
-    for byte in bytes.as_slice() {
-        if is_within_char(*byte) != (wanted > 0) {
-            return false;
-        }
-        wanted = match *byte {
-            195 => 1,
-            240 => 3,
-            byte if byte < 128 || is_within_char(byte) => wanted.saturating_sub(1),
-            _ => return false,
-        };
-    }
-    wanted == 0
 }

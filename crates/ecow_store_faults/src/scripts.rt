@@ -3,8 +3,9 @@ use ecow_calls::watch::Watch;
 use ecow_tool::{End, run_counted, run_store};
 use std::alloc::Global;
 
-/// Three lines and their answers: the change's, the value's behind it, and the value's without it.
-type Part = (&'static str, &'static str, &'static str, &'static str);
+/// What the first two of three lines answer, what the third shows behind them, and what it shows
+/// without the change.
+type Part = (&'static str, &'static str, &'static str);
 
 const LISTS: &[u8] = b"vec from_list a [1,2,3,4]
 vec push a 5
@@ -18,9 +19,9 @@ vec contents c
 ";
 
 const LIST_ANSWERS: [Part; 3] = [
-    ("ok", "ok", "[1,2,3,4,5]", "[1,2,3,4]"),
-    ("ok", "[]", "[7,8,9]", "[]"),
-    ("ok", "[5]", "[5,5]", "[5,5,5]"),
+    ("ok\nok\n", "[1,2,3,4,5]\n", "[1,2,3,4]\n"),
+    ("ok\n[]\n", "[7,8,9]\n", "[]\n"),
+    ("ok\n[5]\n", "[5,5]\n", "[5,5,5]\n"),
 ];
 
 const OTHERS: &[u8] = b"bytes from_list d [1,2,3,4,5,6,7,8,9,10,11,12,13,14,15,16]
@@ -39,143 +40,110 @@ text contents u
 
 const OTHER_ANSWERS: [Part; 4] = [
     (
-        "ok",
-        "ok",
-        "[1,2,3,4,5,6,7,8,9,10,11,12,13,14,15,16,255]",
-        "[1,2,3,4,5,6,7,8,9,10,11,12,13,14,15,16]",
+        "ok\nok\n",
+        "[1,2,3,4,5,6,7,8,9,10,11,12,13,14,15,16,255]\n",
+        "[1,2,3,4,5,6,7,8,9,10,11,12,13,14,15,16]\n",
     ),
-    ("ok", "ok", "[1,9,2]", "[1,2]"),
+    ("ok\nok\n", "[1,9,2]\n", "[1,2]\n"),
     (
-        "ok",
-        "ok",
-        "\"more than 15 bytes!\"",
-        "\"more than 15 bytes\"",
+        "ok\nok\n",
+        "\"more than 15 bytes!\"\n",
+        "\"more than 15 bytes\"\n",
     ),
-    ("ok", "ok", "\"longer than 15 bytes: u\"", "\"u\""),
+    ("ok\nok\n", "\"longer than 15 bytes: u\"\n", "\"u\"\n"),
 ];
 
-const NO_NAME: &str = "refused no-name";
-
-/// What stands before the next line feed, and what behind it.
-fn cut(answers: &[u8]) -> (&[u8], &[u8]) {
-    let mut len = 0usize;
-    for byte in answers {
-        if *byte == b'\n' {
-            break;
-        }
-        len = len.saturating_add(1);
-    }
-    match (answers.get(..len), answers.get(len.saturating_add(1)..)) {
-        (Some(line), Some(rest)) => (line, rest),
-        _ => (answers, &[]),
-    }
-}
-
-/// What three answers show: all done, or the one that was refused.
+/// The line that lacks memory.
 #[derive(Clone, Copy, PartialEq, Eq)]
-enum Shown {
-    Done,
-    NotMade,
-    NotChanged,
-    NotShown,
-    Wrong,
+enum Lacking {
+    None,
+    First,
+    Second,
+    Third,
 }
 
-fn told(part: &Part, made: &[u8], changed: &[u8], contents: &[u8]) -> Shown {
-    let (make, change, after, before) = *part;
-    let memory = b"refused memory".as_slice();
-    let is_made = made == make.as_bytes();
-    let is_changed = changed == change.as_bytes();
-    if made == memory && changed == NO_NAME.as_bytes() && contents == NO_NAME.as_bytes() {
-        Shown::NotMade
-    } else if is_made && changed == memory && contents == before.as_bytes() {
-        Shown::NotChanged
-    } else if is_made && is_changed && contents == memory {
-        Shown::NotShown
-    } else if is_made && is_changed && contents == after.as_bytes() {
-        Shown::Done
-    } else {
-        Shown::Wrong
+/// What stands behind two texts.
+fn behind<'a>(answers: &'a [u8], first: &str, second: &str) -> Option<&'a [u8]> {
+    let rest = answers.strip_prefix(first.as_bytes())?;
+    rest.strip_prefix(second.as_bytes())
+}
+
+/// Which of three lines lacks memory, and what stands behind their answers.
+fn told<'a>(part: &Part, answers: &'a [u8]) -> Option<(Lacking, &'a [u8])> {
+    let (done, after, before) = *part;
+    let (memory, no_name) = ("refused memory\n", "refused no-name\nrefused no-name\n");
+    if let Some(rest) = behind(answers, done, after) {
+        return Some((Lacking::None, rest));
     }
+    if let Some(rest) = behind(answers, memory, no_name) {
+        return Some((Lacking::First, rest));
+    }
+    if let Some(rest) = behind(answers, "ok\nrefused memory\n", before) {
+        return Some((Lacking::Second, rest));
+    }
+    let rest = behind(answers, done, memory)?;
+    Some((Lacking::Third, rest))
 }
 
-/// Whether the answers are those of the parts; what is left behind them, and what is refused.
-fn parts_hold<'a>(
+/// What the answers to a script say behind those of its parts, and what the last line of a run with
+/// counts is to say there: `None` where an answer is wrong.
+fn last_lines<'a>(
     watch: &Watch,
     parts: &[Part],
     answers: &'a [u8],
-) -> Option<(&'a [u8], Shown, usize)> {
-    let (mut rest, mut refused, mut place) = (answers, Shown::Done, 0);
-    for (number, part) in parts.iter().enumerate() {
-        let (made, behind) = cut(rest);
-        let (changed, behind) = cut(behind);
-        let (contents, behind) = cut(behind);
-        rest = behind;
-        let said = told(part, made, changed, contents);
-        if said != Shown::Done {
-            if said == Shown::Wrong || !watch.may_refuse() {
-                return None;
-            }
-            refused = said;
-            place = number;
+) -> Option<(&'a [u8], &'static str)> {
+    let mut rest = answers;
+    let mut totals = "blocks 3 copied 0 moved 4\n";
+    for (place, part) in parts.iter().enumerate() {
+        let (lacking, left) = told(part, rest)?;
+        rest = left;
+        if lacking != Lacking::None && !watch.may_refuse() {
+            return None;
+        }
+        // The push of the first part moves four elements.
+        match (lacking, place) {
+            (Lacking::First, 0) => totals = "blocks 2 copied 0 moved 0\n",
+            (Lacking::First, _) => totals = "blocks 2 copied 0 moved 4\n",
+            (Lacking::Second, 0) => totals = "blocks 3 copied 0 moved 0\n",
+            _ => {}
         }
     }
-    Some((rest, refused, place))
-}
-
-/// Whether a run lacked memory and wrote nothing. One that was done is judged by its answers.
-fn lacks(watch: &Watch, end: End, written: &[u8]) -> Option<bool> {
-    match end {
-        End::Done => None,
-        End::Memory => Some(written.is_empty() && watch.may_refuse()),
-        _ => Some(false),
-    }
-}
-
-/// What the program runs a script on.
-#[derive(Clone, Copy)]
-enum RunOn {
-    Store,
-    /// A last line tells the blocks and the costs. The push moves four elements.
-    Counted,
+    Some((rest, totals))
 }
 
 pub(crate) fn store_holds(alloc: Global, watch: &Watch) -> bool {
-    script_holds(alloc, watch, RunOn::Store, LISTS, &LIST_ANSWERS)
-        && script_holds(alloc, watch, RunOn::Store, OTHERS, &OTHER_ANSWERS)
+    script_holds(alloc, watch, false, LISTS, &LIST_ANSWERS)
+        && script_holds(alloc, watch, false, OTHERS, &OTHER_ANSWERS)
 }
 
 pub(crate) fn counted_holds(alloc: Global, watch: &Watch) -> bool {
-    script_holds(alloc, watch, RunOn::Counted, LISTS, &LIST_ANSWERS)
+    script_holds(alloc, watch, true, LISTS, &LIST_ANSWERS)
 }
 
-fn script_holds(alloc: Global, watch: &Watch, on: RunOn, script: &[u8], parts: &[Part]) -> bool {
+/// A script without room for its answers writes nothing.
+fn script_holds(
+    alloc: Global,
+    watch: &Watch,
+    counted: bool,
+    script: &[u8],
+    parts: &[Part],
+) -> bool {
     let Ok(mut written) = Vec::with_capacity(alloc, 1000) else {
         return watch.may_refuse();
     };
     let mut rest = script;
-    let end = match on {
-        RunOn::Store => run_store(alloc, &mut rest, &mut written),
-        RunOn::Counted => run_counted(alloc, &mut rest, &mut written),
+    let end = if counted {
+        run_counted(alloc, &mut rest, &mut written)
+    } else {
+        run_store(alloc, &mut rest, &mut written)
     };
-    if let Some(holds) = lacks(watch, end, written.as_slice()) {
-        return holds;
-    }
-    let Some((rest, refused, place)) = parts_hold(watch, parts, written.as_slice()) else {
-        return false;
-    };
-    match on {
-        RunOn::Store => rest.is_empty(),
-        RunOn::Counted => rest == totals(refused, place),
-    }
-}
-
-/// The last line where a command of a part was refused.
-fn totals(refused: Shown, part: usize) -> &'static [u8] {
-    match (refused, part) {
-        (Shown::NotMade, 0) => b"blocks 2 copied 0 moved 0\n",
-        (Shown::NotMade, _) => b"blocks 2 copied 0 moved 4\n",
-        (Shown::NotChanged, 0) => b"blocks 3 copied 0 moved 0\n",
-        _ => b"blocks 3 copied 0 moved 4\n",
+    match end {
+        End::Memory => written.is_empty() && watch.may_refuse(),
+        End::Done => match last_lines(watch, parts, written.as_slice()) {
+            Some((rest, totals)) if counted => rest == totals.as_bytes(),
+            Some((rest, _)) => rest.is_empty(),
+            None => false,
+        },
+        _ => false,
     }
 }

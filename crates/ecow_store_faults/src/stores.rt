@@ -1,11 +1,10 @@
 //! The commands of both stores, each in each state of its value. The test keeps the same names
 //! by itself, and compares.
 use crate::model::{Entry, Model, Want};
-use crate::orders::{FromOrder, Kind, MAKERS, OTHERS, Order, Verb};
-use ecow_counted::Counted;
-use ecow_calls::steps::{Row, Step, Word, step_of};
+use crate::orders::{FromOrder, Order, command_of};
+use crate::table::{Kind, Part, ROWS, Word};
 use ecow_calls::watch::Watch;
-use ecow_calls::{bytes, texts, vectors};
+use ecow_counted::Counted;
 use ecow_list::{EcoError, Rejected};
 use ecow_model::{BytesCommand, Command, Outcome, Refusal, TextCommand, VecCommand};
 use ecow_store::SmallStore;
@@ -16,23 +15,17 @@ const NAMES: [u32; 4] = [0, 1, 2, 3];
 /// What a store says of its blocks.
 type Account = [(Option<usize>, Option<usize>); 4];
 
-/// What a command answers; `None` where the store has no such one. An error says that the test
-/// itself lacks memory.
+/// What a command answers; `None` where no command stands for the order. An error says that the
+/// test itself lacks memory.
 type Answer = Result<Option<Outcome<i64>>, AllocError>;
 
-/// What a run of several commands came to.
-pub(crate) enum Run {
-    /// Why, and how many commands came back.
-    Refused(EcoError, usize),
-    Done(Vec<Outcome<i64>>),
-}
+/// What a run of several commands answers; or why it is refused, and how many come back.
+pub(crate) type Ran = Result<Vec<Outcome<i64>>, (EcoError, usize)>;
 
-impl Run {
-    fn of<C: Drop>(ran: Result<Vec<Outcome<i64>>, Rejected<Vec<C>>>) -> Self {
-        match ran {
-            Ok(outcomes) => Run::Done(outcomes),
-            Err(rejected) => Run::Refused(rejected.error, rejected.value.len()),
-        }
+fn ran<C: Drop>(ran: Result<Vec<Outcome<i64>>, Rejected<Vec<C>>>) -> Ran {
+    match ran {
+        Ok(outcomes) => Ok(outcomes),
+        Err(rejected) => Err((rejected.error, rejected.value.len())),
     }
 }
 
@@ -45,7 +38,7 @@ pub(crate) trait NamedStore: Drop {
 
     fn carry_out(&mut self, alloc: Global, order: &Order) -> Answer;
 
-    fn run_orders(&mut self, alloc: Global, orders: &[Order]) -> Result<Run, AllocError>;
+    fn run_orders(&mut self, alloc: Global, orders: &[Order]) -> Result<Ran, AllocError>;
 
     /// For how many items there is room under a name, and how many names share it, where a store
     /// tells that.
@@ -63,7 +56,7 @@ pub(crate) trait NamedStore: Drop {
 fn commands<C: FromOrder>(alloc: Global, orders: &[Order]) -> Result<Vec<C>, AllocError> {
     let mut commands = Vec::new(alloc);
     for order in orders {
-        if let Some(command) = C::from_order(alloc, order)? {
+        if let Some(command) = command_of(alloc, order)? {
             commands.push(command)?;
         }
     }
@@ -94,14 +87,14 @@ impl<const N: usize> NamedStore for SmallStore<i64, N> {
     }
 
     fn carry_out(&mut self, alloc: Global, order: &Order) -> Answer {
-        match Command::from_order(alloc, order)? {
+        match command_of(alloc, order)? {
             Some(command) => Ok(Some(self.step(command))),
             None => Ok(None),
         }
     }
 
-    fn run_orders(&mut self, alloc: Global, orders: &[Order]) -> Result<Run, AllocError> {
-        Ok(Run::of(self.run(commands(alloc, orders)?)))
+    fn run_orders(&mut self, alloc: Global, orders: &[Order]) -> Result<Ran, AllocError> {
+        Ok(ran(self.run(commands(alloc, orders)?)))
     }
 
     fn room(&mut self, name: u32) -> (Option<usize>, Option<usize>) {
@@ -126,28 +119,20 @@ impl<const N: usize> NamedStore for SmallStore<i64, N> {
     }
 
     fn is_held(&mut self, name: u32, held: &Entry) -> bool {
-        match held.kind {
-            Kind::List => match self.get(name) {
-                Some(items) => held.items.is(items),
-                None => false,
-            },
-            Kind::Bytes => {
-                let inline = flag_of(self.step(Command::Bytes(BytesCommand::IsInline { name })));
-                match self.get_bytes(name) {
-                    Some(bytes) => held.items.is_bytes(bytes) && inline == Some(held.inline),
-                    None => false,
-                }
+        let (is_same, question) = match held.kind {
+            Kind::List => {
+                return matches!(self.get(name), Some(items) if held.items.is(items));
             }
-            Kind::Text => {
-                let inline = flag_of(self.step(Command::Text(TextCommand::IsInline { name })));
-                match self.get_str(name) {
-                    Some(text) => {
-                        held.items.is_bytes(text.as_bytes()) && inline == Some(held.inline)
-                    }
-                    None => false,
-                }
-            }
-        }
+            Kind::Bytes => (
+                matches!(self.get_bytes(name), Some(bytes) if held.items.is_bytes(bytes)),
+                Command::Bytes(BytesCommand::IsInline { name }),
+            ),
+            Kind::Text => (
+                matches!(self.get_str(name), Some(text) if held.items.is_bytes(text.as_bytes())),
+                Command::Text(TextCommand::IsInline { name }),
+            ),
+        };
+        is_same && flag_of(self.step(question)) == Some(held.inline)
     }
 
     fn has_totals(&self, _model: &Model) -> bool {
@@ -164,10 +149,10 @@ impl NamedStore for Counted<i64> {
         0
     }
 
-    /// Every second name is given by `share`, which is the command `Clone`.
+    /// Some names are given by `share`, which is the command `Clone`.
     fn carry_out(&mut self, alloc: Global, order: &Order) -> Answer {
-        match VecCommand::from_order(alloc, order)? {
-            Some(VecCommand::Clone { from, to }) if order.count > 0 => {
+        match command_of(alloc, order)? {
+            Some(VecCommand::Clone { from, to }) if order.count > 1 => {
                 Ok(Some(self.share(from, to)))
             }
             Some(command) => Ok(Some(self.step(command))),
@@ -175,8 +160,8 @@ impl NamedStore for Counted<i64> {
         }
     }
 
-    fn run_orders(&mut self, alloc: Global, orders: &[Order]) -> Result<Run, AllocError> {
-        Ok(Run::of(self.run(commands(alloc, orders)?)))
+    fn run_orders(&mut self, alloc: Global, orders: &[Order]) -> Result<Ran, AllocError> {
+        Ok(ran(self.run(commands(alloc, orders)?)))
     }
 
     fn room(&mut self, name: u32) -> (Option<usize>, Option<usize>) {
@@ -190,10 +175,7 @@ impl NamedStore for Counted<i64> {
     }
 
     fn is_held(&mut self, name: u32, held: &Entry) -> bool {
-        match self.get(name) {
-            Some(items) => held.items.is(items),
-            None => false,
-        }
+        matches!(self.get(name), Some(items) if held.items.is(items))
     }
 
     fn has_totals(&self, model: &Model) -> bool {
@@ -224,8 +206,9 @@ fn lacks_memory(outcome: &Outcome<i64>) -> bool {
     matches!(outcome, Outcome::Refused(Refusal::Memory))
 }
 
-/// Whether an outcome is what the command is to answer. `room` is the room under the name.
-pub(crate) fn fits(want: &Want, outcome: &Outcome<i64>, limit: usize, room: Option<usize>) -> bool {
+/// Whether an outcome is what the command is to answer. `room` is the room under the name, where
+/// it is known.
+pub(crate) fn fits(want: &Want, outcome: &Outcome<i64>, room: Option<usize>) -> bool {
     match (want, outcome) {
         (Want::Done, Outcome::Done) => true,
         (Want::Item(item), Outcome::Element(element)) => *item == *element,
@@ -235,8 +218,7 @@ pub(crate) fn fits(want: &Want, outcome: &Outcome<i64>, limit: usize, room: Opti
         (Want::Items(items), Outcome::Bytes(bytes)) => items.is_bytes(bytes.as_slice()),
         (Want::Items(items), Outcome::Text(text)) => items.is_bytes(text.as_str().as_bytes()),
         (Want::Count(count), Outcome::Count(counted)) => *count == *counted,
-        (Want::Room(held), Outcome::Count(counted)) if held.inline => *counted == limit,
-        (Want::Room(_), Outcome::Count(counted)) => Some(*counted) == room,
+        (Want::Room, Outcome::Count(counted)) => room.unwrap_or(*counted) == *counted,
         (Want::Flag(flag), Outcome::Flag(said)) => *flag == *said,
         (Want::Refused(refusal), Outcome::Refused(said)) => *refusal == *said,
         (Want::Popped(item), popped) => is_popped(*item, popped),
@@ -257,7 +239,7 @@ fn is_popped(item: Option<i64>, outcome: &Outcome<i64>) -> bool {
 
 /// Carries a command out, again where memory was refused; says whether all is then as it is to be.
 /// `None` where the test itself lacks memory.
-fn order_holds<K: NamedStore>(
+pub(crate) fn order_holds<K: NamedStore>(
     alloc: Global,
     watch: &Watch,
     store: &mut K,
@@ -271,7 +253,7 @@ fn order_holds<K: NamedStore>(
     let before = account(store);
     let (room, _) = store.room(order.name);
     let Some(outcome) = store.carry_out(alloc, order).ok()? else {
-        return Some(true);
+        return Some(false);
     };
     let mut outcome = outcome;
     if lacks_memory(&outcome) {
@@ -291,14 +273,17 @@ fn order_holds<K: NamedStore>(
     if !matches!(&want, Want::Refused(_)) {
         *model = next;
     }
-    Some(fits(&want, &outcome, K::limit(), room) && agrees(store, model))
+    Some(fits(&want, &outcome, room) && agrees(store, model))
 }
 
 /// Carries commands out, one by one, on a new store.
-pub(crate) fn orders_hold<K: NamedStore>(alloc: Global, watch: &Watch, orders: &[Order]) -> bool {
+fn orders_hold<K: NamedStore>(alloc: Global, watch: &Watch, orders: &[Option<Order>]) -> bool {
     let mut store = K::start(alloc);
     let mut model = Model::new(K::limit());
     for order in orders {
+        let Some(order) = order else {
+            continue;
+        };
         match order_holds(alloc, watch, &mut store, &mut model, order) {
             Some(true) => {}
             Some(false) => return false,
@@ -308,132 +293,99 @@ pub(crate) fn orders_hold<K: NamedStore>(alloc: Global, watch: &Watch, orders: &
     true
 }
 
-/// The commands that make a value in the state with a number.
-fn setup(kind: Kind, state: usize, limit: usize) -> [Order; 3] {
-    let (verb, count) = match (kind, state) {
-        (_, 0) => (Verb::New, 0),
-        (Kind::List, 1) => (Verb::WithCapacity, 3),
-        (Kind::List, 2) => (Verb::WithCapacity, 8),
-        (Kind::List, _) => (Verb::FromItems, 4),
-        (_, 1) => (Verb::FromItems, limit.saturating_sub(1)),
-        (_, 2) => (Verb::FromItems, limit),
-        (_, 3) => (Verb::FromItems, limit.saturating_add(5)),
-        (_, 4) => (Verb::WithCapacity, limit.saturating_add(8)),
+/// The commands that make a value under the name 0, in the state with a number.
+fn setup(kind: Kind, state: usize, limit: usize) -> [Option<Order>; 3] {
+    let (word, count) = match (kind, state) {
+        (_, 0) => (Word::New, 0),
+        (Kind::List, 1) => (Word::WithCapacity, 3),
+        (Kind::List, 2) => (Word::WithCapacity, 8),
+        (Kind::List, _) => (Word::FromItems, 4),
+        (_, 1) => (Word::FromItems, limit.saturating_sub(1)),
+        (_, 2) => (Word::FromItems, limit),
+        (_, 3) => (Word::FromItems, limit.saturating_add(5)),
+        (_, 4) => (Word::WithCapacity, limit.saturating_add(8)),
         _ => return spilled(kind, limit),
     };
-    let none = Order::of(kind, Verb::Len, 3, 0);
     let filled = match (kind, state) {
-        (Kind::List, 2) => extended(kind, 4),
-        (Kind::Bytes | Kind::Text, 4) => extended(kind, limit.min(12)),
-        _ => none,
+        (Kind::List, 2) => Some(4),
+        (Kind::Bytes | Kind::Text, 4) => Some(limit.min(12)),
+        _ => None,
     };
-    [Order::of(kind, verb, 0, count), filled, none]
-}
-
-fn extended(kind: Kind, count: usize) -> Order {
-    let mut order = Order::of(kind, Verb::Edit(Word::Extend), 0, count);
-    order.start = 0;
-    order
+    let extended = filled.map(|count| Order::counted(kind, Word::Extend, count));
+    [Some(Order::counted(kind, word, count)), extended, None]
 }
 
 /// Spilled bytes that would fit inline, or the text of such.
-fn spilled(kind: Kind, limit: usize) -> [Order; 3] {
-    let none = Order::of(kind, Verb::Len, 3, 0);
+fn spilled(kind: Kind, limit: usize) -> [Option<Order>; 3] {
+    let mut bytes = Order::counted(Kind::Bytes, Word::FromEcoVec, limit);
     if kind == Kind::Bytes {
-        return [Order::of(kind, Verb::FromEcoVec, 0, limit), none, none];
+        return [Some(bytes), None, None];
     }
-    let bytes = Order::of(Kind::Bytes, Verb::FromEcoVec, 3, limit);
-    let mut text = Order::of(Kind::Text, Verb::FromOther, 3, 0);
+    let mut text = Order::counted(Kind::Text, Word::FromOther, 0);
+    let mut dropped = Order::counted(Kind::Bytes, Word::Drop, 0);
     text.to = 0;
-    [bytes, text, Order::of(Kind::Bytes, Verb::Drop, 3, 0)]
+    (bytes.name, text.name, dropped.name) = (3, 3, 3);
+    [Some(bytes), Some(text), Some(dropped)]
 }
 
-/// Makes values in each state, shared or not, and carries one command out on each.
+/// Makes values in each state, shared or not, and carries each command of the table out on each.
 pub(crate) fn kind_holds<K: NamedStore>(alloc: Global, watch: &Watch, kind: Kind) -> bool {
     let states = if kind == Kind::List { 4 } else { 6 };
     let mut hold = true;
     for state in 0..states {
         for shared in [false, true] {
             // An inline value shares nothing.
-            if shared && kind != Kind::List && state < 3 {
-                continue;
+            if !shared || kind == Kind::List || state > 2 {
+                hold = state_holds::<K>(alloc, watch, (kind, state, shared)) && hold;
             }
-            let made = (kind, state, shared);
-            hold = match kind {
-                Kind::List => state_holds::<K>(alloc, watch, made, &vectors::STEPS),
-                Kind::Bytes => state_holds::<K>(alloc, watch, made, &bytes::STEPS),
-                Kind::Text => state_holds::<K>(alloc, watch, made, &texts::STEPS),
-            } && hold;
         }
     }
     hold
 }
 
-fn state_holds<K: NamedStore>(
-    alloc: Global,
-    watch: &Watch,
-    made: (Kind, usize, bool),
-    rows: &[Row],
-) -> bool {
+fn state_holds<K: NamedStore>(alloc: Global, watch: &Watch, made: (Kind, usize, bool)) -> bool {
     let (kind, _, _) = made;
     let mut hold = true;
-    for (word, calls) in rows {
-        for arguments in *calls {
-            let step = step_of(*word, arguments);
-            if is_command(kind, &step) {
-                let mut order = Order::edit(kind, step);
-                if step.word == Word::Retain {
-                    order.count = 4;
-                }
+    for (word, _, kinds, _, arguments) in &ROWS {
+        for arguments in *arguments {
+            if kinds.contains(&kind) {
+                let order = Order::of(kind, *word, arguments);
                 hold = case_holds::<K>(alloc, watch, made, order) && hold;
             }
         }
     }
-    for (verb, counts) in OTHERS {
-        for count in counts {
-            let order = Order::of(kind, verb, 0, *count);
-            hold = case_holds::<K>(alloc, watch, made, order) && hold;
-        }
-    }
     hold
-}
-
-/// Whether a step says a command; of those that bring several items the shortest and the longest
-/// do.
-fn is_command(kind: Kind, step: &Step) -> bool {
-    match step.word {
-        Word::MakeMut | Word::Rewrite => false,
-        Word::ExtendEach | Word::ExtendPieces | Word::Put => false,
-        Word::Reserve | Word::InsertSlice => kind == Kind::List || step.count != 2,
-        _ => true,
-    }
 }
 
 /// Makes a value in a state, and carries a command out on it.
 fn case_holds<K: NamedStore>(
     alloc: Global,
     watch: &Watch,
-    made: (Kind, usize, bool),
+    (kind, state, shared): (Kind, usize, bool),
     order: Order,
 ) -> bool {
-    let (kind, state, shared) = made;
     let [first, second, third] = setup(kind, state, K::limit());
-    let mut twin = Order::of(kind, Verb::Len, 3, 0);
-    if shared {
-        twin = Order::of(kind, Verb::Clone, 0, state % 2);
-        twin.to = 1;
-    }
-    orders_hold::<K>(alloc, watch, &[first, second, third, twin, order])
+    let mut twin = Order::counted(kind, Word::Clone, state);
+    twin.to = 1;
+    let twin = if shared { Some(twin) } else { None };
+    orders_hold::<K>(alloc, watch, &[first, second, third, twin, Some(order)])
 }
 
 /// The makers, at lengths about the inline limit.
 pub(crate) fn makers_hold<K: NamedStore>(alloc: Global, watch: &Watch, kind: Kind) -> bool {
-    let mut hold = true;
     let limit = K::limit();
-    for verb in MAKERS {
-        for count in [0, limit, limit.saturating_add(1), limit.saturating_add(7)] {
-            let order = Order::of(kind, verb, 0, count);
-            hold = orders_hold::<K>(alloc, watch, &[order]) && hold;
+    let lengths = [0, limit, limit.saturating_add(1), limit.saturating_add(7)];
+    let mut hold = true;
+    for (word, part, kinds, _, arguments) in &ROWS {
+        if *part == Part::Makes && kinds.contains(&kind) {
+            for count in lengths {
+                let order = Order::counted(kind, *word, count);
+                hold = orders_hold::<K>(alloc, watch, &[Some(order)]) && hold;
+            }
+            for arguments in *arguments {
+                let order = Order::of(kind, *word, arguments);
+                hold = orders_hold::<K>(alloc, watch, &[Some(order)]) && hold;
+            }
         }
     }
     hold

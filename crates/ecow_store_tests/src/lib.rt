@@ -1,16 +1,12 @@
-//! Tests of both stores: what is cloned and dropped, and what a refusal leaves. Scripts
-//! with their answers stand in `ecow_cases`.
+//! Tests of both stores and of the program: what is cloned and dropped, and readers and writers that
+//! are slow or fail. What commands answer, scripts in `ecow_cases` and `ecow_store_faults` say.
 #![tactic(auto)]
 
 #[cfg(test)]
-mod calls;
+mod large;
 #[cfg(test)]
-mod counted;
+mod lists;
 #[cfg(test)]
-mod counted_refusals;
+mod program;
 #[cfg(test)]
-mod drops;
-#[cfg(test)]
-mod limits;
-#[cfg(test)]
-mod store;
+mod streams;

@@ -1,45 +1,13 @@
 //! Scripts of more names, numbers and bytes than other tests have: how often a reader and a writer
 //! are asked, and how long names take that lie close together in a map that hashes.
-use ecow_tool::{End, run_counted, run_store};
+use crate::streams::{Reader, Writer, answered, ended};
+use ecow_tool::End;
 use std::alloc::Global;
 use std::hash::{BuildHasher, BuildHasherDefault, FoldHasher};
 use std::io;
-use std::io::{Read, Write};
+use std::io::Write;
 use std::test::Fail;
 use std::time::CpuClock;
-
-/// A reader of one byte at a time.
-#[derive(Drop)]
-struct ByBytes<'a> {
-    left: &'a [u8],
-}
-
-impl<'a> Read for ByBytes<'a> {
-    fn read(&mut self, buf: &mut [u8]) -> io::Result<usize> {
-        let count = self.left.len().min(buf.len()).min(1);
-        buf[..count].copy_from_slice(&self.left[..count]);
-        self.left = &self.left[count..];
-        Ok(count)
-    }
-}
-
-/// A writer of one byte at a time.
-#[derive(Drop)]
-struct Taken {
-    bytes: Vec<u8>,
-}
-
-impl Write for Taken {
-    fn write(&mut self, buf: &[u8]) -> io::Result<usize> {
-        let count = buf.len().min(1);
-        self.bytes.extend_from_slice(&buf[..count])?;
-        Ok(count)
-    }
-
-    fn flush(&mut self) -> io::Result<()> {
-        Ok(())
-    }
-}
 
 /// How many names a large script has, more than have a slot each.
 const NAMES: u32 = 70_000;
@@ -82,15 +50,20 @@ fn add_text(script: &mut Vec<u8>, answers: &mut Vec<u8>) -> io::Result<()> {
     Ok(())
 }
 
-/// Appends the lines that make so many lists and ask their lengths, and what they answer.
+/// What a name begins with, of which every second is long.
+fn front(number: u32) -> &'static str {
+    if number % 2 == 0 { "n" } else { "a_long_name_" }
+}
+
+/// Appends the lines that make a list of each number, and show it, and what they answer.
 fn add_names(script: &mut Vec<u8>, answers: &mut Vec<u8>) -> io::Result<()> {
     for number in 0..NAMES {
-        writeln!(script, "vec new n{number}")?;
+        writeln!(script, "vec from_list {}{number} [{number}]", front(number))?;
         writeln!(answers, "ok")?;
     }
     for number in 0..NAMES {
-        writeln!(script, "vec len n{number}")?;
-        writeln!(answers, "0")?;
+        writeln!(script, "vec contents {}{number}", front(number))?;
+        writeln!(answers, "[{number}]")?;
     }
     Ok(())
 }
@@ -101,7 +74,7 @@ fn large(alloc: Global, counted: bool) -> io::Result<(Vec<u8>, Vec<u8>)> {
     add_list(alloc, &mut script, &mut answers)?;
     add_names(&mut script, &mut answers)?;
     if counted {
-        writeln!(answers, "blocks 1 copied 0 moved 0")?;
+        writeln!(answers, "blocks 70001 copied 0 moved 0")?;
     } else {
         add_text(&mut script, &mut answers)?;
     }
@@ -111,18 +84,10 @@ fn large(alloc: Global, counted: bool) -> io::Result<(Vec<u8>, Vec<u8>)> {
 /// Whether a large script that comes and goes byte by byte is answered whole.
 fn is_answered_by_bytes(alloc: Global, counted: bool) -> io::Result<bool> {
     let (script, answers) = large(alloc, counted)?;
-    let mut reader = ByBytes {
-        left: script.as_slice(),
-    };
-    let mut writer = Taken {
-        bytes: Vec::new(alloc),
-    };
-    let end = if counted {
-        run_counted(alloc, &mut reader, &mut writer)
-    } else {
-        run_store(alloc, &mut reader, &mut writer)
-    };
-    Ok(end == End::Done && writer.bytes == answers)
+    let mut reader = Reader::new(script.as_slice(), 1);
+    let mut writer = Writer::new(alloc, 1, 0);
+    let end = ended(alloc, counted, &mut reader, &mut writer);
+    Ok(end == End::Done && writer.taken == answers)
 }
 
 #[test]
@@ -183,9 +148,8 @@ fn time_of(
     close: bool,
 ) -> io::Result<Option<u128>> {
     let script = named(rt.alloc(), front, close)?;
-    let mut answers = Vec::new(rt.alloc());
     let began = rt.thread_cpu_time()?;
-    let end = run_store(rt.alloc(), &mut script.as_slice(), &mut answers);
+    let (end, answers) = answered(rt.alloc(), false, script.as_slice());
     let ended = rt.thread_cpu_time()?;
     if end != End::Done || answers.len() != "ok\n".len() * TIMED as usize {
         return Ok(None);

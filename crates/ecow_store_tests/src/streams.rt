@@ -1,0 +1,126 @@
+//! Readers and writers that are slow, fail or lose what they take.
+use ecow_tool::{End, run_counted, run_store};
+use std::alloc::Global;
+use std::io;
+use std::io::{ErrorKind, Read, Write};
+
+/// A reader of so many bytes at a time, which counts how often it says that it is at its end. It may
+/// give all again, so often, be interrupted before each piece, and fail at one read, counted from 1.
+#[derive(Drop)]
+pub(crate) struct Reader<'a> {
+    all: &'a [u8],
+    pub(crate) left: &'a [u8],
+    pub(crate) again: usize,
+    size: usize,
+    pub(crate) interrupts: bool,
+    interrupted: bool,
+    pub(crate) failing: usize,
+    pub(crate) ends: usize,
+}
+
+impl<'a> Reader<'a> {
+    pub(crate) fn new(all: &'a [u8], size: usize) -> Self {
+        Reader {
+            all,
+            left: all,
+            again: 0,
+            size,
+            interrupts: false,
+            interrupted: false,
+            failing: 0,
+            ends: 0,
+        }
+    }
+}
+
+impl<'a> Read for Reader<'a> {
+    fn read(&mut self, buf: &mut [u8]) -> io::Result<usize> {
+        if self.interrupts && !self.interrupted {
+            self.interrupted = true;
+            return Err(ErrorKind::Interrupted.into());
+        }
+        self.interrupted = false;
+        self.failing = self.failing.wrapping_sub(1);
+        if self.failing == 0 {
+            return Err(ErrorKind::Other.into());
+        }
+        if self.left.is_empty() && self.again > 0 {
+            self.again -= 1;
+            self.left = self.all;
+        }
+        let count = self.size.min(self.left.len()).min(buf.len());
+        buf[..count].copy_from_slice(&self.left[..count]);
+        self.left = &self.left[count..];
+        if count == 0 {
+            self.ends = self.ends.wrapping_add(1);
+        }
+        Ok(count)
+    }
+}
+
+/// A writer that takes so many bytes at a time, and refuses one write, counted from 1. It may lose
+/// all where it is flushed.
+#[derive(Drop)]
+pub(crate) struct Writer {
+    pub(crate) taken: Vec<u8>,
+    size: usize,
+    refused: usize,
+    pub(crate) loses: bool,
+}
+
+impl Writer {
+    pub(crate) fn new(alloc: Global, size: usize, refused: usize) -> Self {
+        Writer {
+            taken: Vec::new(alloc),
+            size,
+            refused,
+            loses: false,
+        }
+    }
+}
+
+impl Write for Writer {
+    fn write(&mut self, buf: &[u8]) -> io::Result<usize> {
+        self.refused = self.refused.wrapping_sub(1);
+        if self.refused == 0 {
+            return Err(ErrorKind::Other.into());
+        }
+        let count = self.size.min(buf.len());
+        self.taken.extend_from_slice(&buf[..count])?;
+        Ok(count)
+    }
+
+    fn flush(&mut self) -> io::Result<()> {
+        if self.loses {
+            return Err(ErrorKind::Other.into());
+        }
+        Ok(())
+    }
+}
+
+/// Runs what a reader gives, with `--counted` or without.
+pub(crate) fn ended(
+    alloc: Global,
+    counted: bool,
+    reader: &mut Reader<'_>,
+    writer: &mut Writer,
+) -> End {
+    if counted {
+        run_counted(alloc, reader, writer)
+    } else {
+        run_store(alloc, reader, writer)
+    }
+}
+
+/// How the program ends on a script that comes whole, and what it writes.
+pub(crate) fn answered(alloc: Global, counted: bool, script: &[u8]) -> (End, Vec<u8>) {
+    let mut writer = Writer::new(alloc, usize::MAX, 0);
+    let end = ended(
+        alloc,
+        counted,
+        &mut Reader::new(script, usize::MAX),
+        &mut writer,
+    );
+    let Writer { taken, .. } = writer;
+    (end, taken)
+}
