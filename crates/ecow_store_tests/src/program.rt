@@ -217,3 +217,29 @@ fn answers_may_be_taken_in_pieces_and_be_refused(rt: HostRuntime) {
         }
     }
 }
+
+/// Whether the script that is cut there ends well with a front of its answers, or has an unreadable
+/// last line and answers nothing.
+fn is_run_or_unreadable(alloc: Global, counted: bool, end: usize) -> bool {
+    let (script, answers) = script(counted);
+    let mut reader = Reader::new(script.get(..end).unwrap_or(script), 1000);
+    let mut writer = Writer::new(alloc, usize::MAX, 0);
+    match ended(alloc, counted, &mut reader, &mut writer) {
+        End::Done => counted || answers.starts_with(writer.taken.as_slice()),
+        End::Unreadable(..) => writer.taken.as_slice().is_empty(),
+        _ => false,
+    }
+}
+
+#[test]
+fn a_script_that_is_cut_is_run_or_unreadable(rt: HostRuntime) {
+    for counted in [false, true] {
+        let (script, _) = script(counted);
+        for end in 0..=script.len() {
+            assert!(rt;
+                is_run_or_unreadable(rt.alloc(), counted, end),
+                "{counted} {end}"
+            );
+        }
+    }
+}
