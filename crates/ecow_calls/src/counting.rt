@@ -4,10 +4,11 @@ use std::alloc::{AllocError, Global};
 use std::cell::Cell;
 use std::rc::Rc;
 
-/// How often elements were cloned, refused clones among them, and how often dropped. The clone with
-/// this number, counted from 1, is refused.
+/// How often elements were made, clones among them; how often one was cloned, refused clones among
+/// them, and how often dropped. The clone with this number, counted from 1, is refused.
 #[derive(Drop)]
 struct Counts {
+    made: Cell<u64>,
     clones: Cell<u64>,
     drops: Cell<u64>,
     refused: u64,
@@ -27,6 +28,7 @@ impl Tally {
     /// Elements that count here refuse the clone with this number, counted from 1.
     pub fn refusing(alloc: Global, refused: u64) -> Result<Self, AllocError> {
         let counts = Counts {
+            made: Cell::new(0),
             clones: Cell::new(0),
             drops: Cell::new(0),
             refused,
@@ -49,6 +51,11 @@ impl Tally {
         self.clones() == clones && self.drops() == drops
     }
 
+    /// Whether each element that was made was dropped, once.
+    pub fn is_settled(&self) -> bool {
+        self.counts.made.get() == self.drops()
+    }
+
     /// How many clones were made, and how many elements dropped, once the value is dropped.
     pub fn counts_without<V: Drop>(&self, value: V) -> (u64, u64) {
         drop(value);
@@ -62,10 +69,7 @@ impl Tally {
 
     /// An element that counts here, with a number.
     pub fn numbered(&self, number: i64) -> Result<Counting, AllocError> {
-        Ok(Counting {
-            number,
-            counts: self.counts.clone()?,
-        })
+        one_more(number, &self.counts)
     }
 
     /// Elements that count here.
@@ -96,11 +100,15 @@ impl Clone for Counting {
         if number == self.counts.refused {
             return Err(AllocError);
         }
-        Ok(Counting {
-            number: self.number,
-            counts: self.counts.clone()?,
-        })
+        one_more(self.number, &self.counts)
     }
+}
+
+/// One more element that counts there.
+fn one_more(number: i64, counts: &Rc<Counts>) -> Result<Counting, AllocError> {
+    let counts = counts.clone()?;
+    counts.made.set(counts.made.get().wrapping_add(1));
+    Ok(Counting { number, counts })
 }
 
 impl Drop for Counting {

@@ -11,7 +11,7 @@ pub trait Element: Clone + Drop {
     /// What it is made of, beside memory.
     type Source: Drop;
 
-    /// Five elements, or a thousand.
+    /// Five elements, or a thousand. Not all elements are tried in arrays.
     type Array: Drop;
 
     fn of(alloc: Global, source: &Self::Source, number: i64) -> Result<Self, AllocError>;
@@ -19,25 +19,44 @@ pub trait Element: Clone + Drop {
     fn number(&self) -> i64;
 
     /// The number of an element that is made of this one.
-    fn shown(number: i64) -> i64;
+    fn shown(number: i64) -> i64 {
+        number
+    }
 
     /// Whether a clone is a copy, which takes no memory.
     fn is_plain() -> bool;
 
     /// How often elements were cloned so far, and how often dropped, where that is counted.
-    fn counts(source: &Self::Source) -> Option<(u64, u64)>;
+    fn counts(_source: &Self::Source) -> Option<(u64, u64)> {
+        None
+    }
 
-    fn into_array(list: EcoVec<Self>) -> Result<Self::Array, IntoArray<Self>>;
+    /// Whether each element was dropped once, where that is counted.
+    fn is_settled(_source: &Self::Source) -> bool {
+        true
+    }
 
-    fn in_array(array: &Self::Array, place: usize) -> Option<i64>;
+    fn into_array(list: EcoVec<Self>) -> Result<Self::Array, IntoArray<Self>> {
+        Err(IntoArray::Length(list))
+    }
 
-    fn from_array(alloc: Global, elements: Vec<Self>) -> Result<EcoVec<Self>, EcoError>;
+    fn in_array(_array: &Self::Array, _place: usize) -> Option<i64> {
+        None
+    }
+
+    fn from_array(_alloc: Global, _elements: Vec<Self>) -> Result<EcoVec<Self>, EcoError> {
+        Err(EcoError::Capacity)
+    }
 
     /// Makes a vector by a call that takes elements as memory.
-    fn from_copied(alloc: Global, elements: &[Self]) -> Result<EcoVec<Self>, EcoError>;
+    fn from_copied(_alloc: Global, _elements: &[Self]) -> Result<EcoVec<Self>, EcoError> {
+        Err(EcoError::Capacity)
+    }
 
     /// Makes a call that takes elements as memory, or compares them.
-    fn copy(list: &mut EcoVec<Self>, row: &Row, given: &[Self]) -> Result<(), EcoError>;
+    fn copy(_list: &mut EcoVec<Self>, _row: &Row, _given: &[Self]) -> Result<(), EcoError> {
+        Err(EcoError::Capacity)
+    }
 }
 
 /// Why a value came back. It is let go.
@@ -80,7 +99,7 @@ fn copied<T: Copy>(list: &mut EcoVec<T>, row: &Row, given: &[T]) -> Result<(), E
 impl Element for i64 {
     type Source = ();
 
-    type Array = [i64; 5];
+    type Array = ();
 
     fn of(_alloc: Global, _source: &(), number: i64) -> Result<Self, AllocError> {
         Ok(number)
@@ -90,34 +109,8 @@ impl Element for i64 {
         *self
     }
 
-    fn shown(number: i64) -> i64 {
-        number
-    }
-
     fn is_plain() -> bool {
         true
-    }
-
-    fn counts(_source: &()) -> Option<(u64, u64)> {
-        None
-    }
-
-    fn into_array(list: EcoVec<i64>) -> Result<[i64; 5], IntoArray<i64>> {
-        list.into_array::<5>()
-    }
-
-    fn in_array(array: &[i64; 5], place: usize) -> Option<i64> {
-        array.get(place).copied()
-    }
-
-    fn from_array(alloc: Global, elements: Vec<i64>) -> Result<EcoVec<i64>, EcoError> {
-        match elements.try_into() {
-            Ok(array) => {
-                let array: [i64; 5] = array;
-                EcoVec::from_array(alloc, array).map_err(error_of)
-            }
-            Err(_) => EcoVec::from_array(alloc, []).map_err(error_of),
-        }
     }
 
     fn from_copied(alloc: Global, elements: &[i64]) -> Result<EcoVec<i64>, EcoError> {
@@ -132,7 +125,7 @@ impl Element for i64 {
 impl Element for u8 {
     type Source = ();
 
-    type Array = [u8; 5];
+    type Array = ();
 
     fn of(_alloc: Global, _source: &(), number: i64) -> Result<Self, AllocError> {
         Ok(u8::try_from(number.wrapping_rem(256)).unwrap_or(0))
@@ -148,28 +141,6 @@ impl Element for u8 {
 
     fn is_plain() -> bool {
         true
-    }
-
-    fn counts(_source: &()) -> Option<(u64, u64)> {
-        None
-    }
-
-    fn into_array(list: EcoVec<u8>) -> Result<[u8; 5], IntoArray<u8>> {
-        list.into_array::<5>()
-    }
-
-    fn in_array(array: &[u8; 5], place: usize) -> Option<i64> {
-        array.get(place).map(|byte| i64::from(*byte))
-    }
-
-    fn from_array(alloc: Global, elements: Vec<u8>) -> Result<EcoVec<u8>, EcoError> {
-        match elements.try_into() {
-            Ok(array) => {
-                let array: [u8; 5] = array;
-                EcoVec::from_array(alloc, array).map_err(error_of)
-            }
-            Err(_) => EcoVec::from_array(alloc, []).map_err(error_of),
-        }
     }
 
     fn from_copied(alloc: Global, elements: &[u8]) -> Result<EcoVec<u8>, EcoError> {
@@ -219,16 +190,8 @@ impl Element for Named {
         }
     }
 
-    fn shown(number: i64) -> i64 {
-        number
-    }
-
     fn is_plain() -> bool {
         false
-    }
-
-    fn counts(_source: &()) -> Option<(u64, u64)> {
-        None
     }
 
     fn into_array(list: EcoVec<Named>) -> Result<[Named; 5], IntoArray<Named>> {
@@ -247,14 +210,6 @@ impl Element for Named {
             }
             Err(_) => EcoVec::from_array(alloc, []).map_err(error_of),
         }
-    }
-
-    fn from_copied(_alloc: Global, _elements: &[Named]) -> Result<EcoVec<Named>, EcoError> {
-        Err(EcoError::Capacity)
-    }
-
-    fn copy(_list: &mut EcoVec<Named>, _row: &Row, _given: &[Named]) -> Result<(), EcoError> {
-        Err(EcoError::Capacity)
     }
 }
 
@@ -278,16 +233,16 @@ impl Element for Counting {
         self.number
     }
 
-    fn shown(number: i64) -> i64 {
-        number
-    }
-
     fn is_plain() -> bool {
         false
     }
 
     fn counts(tally: &Tally) -> Option<(u64, u64)> {
         Some((tally.clones(), tally.drops()))
+    }
+
+    fn is_settled(tally: &Tally) -> bool {
+        tally.is_settled()
     }
 
     fn into_array(list: EcoVec<Counting>) -> Result<Counted, IntoArray<Counting>> {
@@ -311,14 +266,6 @@ impl Element for Counting {
             5 => array_of::<5>(alloc, elements),
             _ => array_of::<1000>(alloc, elements),
         }
-    }
-
-    fn from_copied(_alloc: Global, _elements: &[Counting]) -> Result<EcoVec<Counting>, EcoError> {
-        Err(EcoError::Capacity)
-    }
-
-    fn copy(_list: &mut EcoVec<Counting>, _row: &Row, _given: &[Counting]) -> Result<(), EcoError> {
-        Err(EcoError::Capacity)
     }
 }
 

@@ -6,7 +6,7 @@ use crate::bytes::{block_of, given, letter_at, letters};
 use crate::calls::{Call, LAST, Role, Row};
 use crate::elements::{compare, or_memory};
 use crate::states::State;
-use crate::value::{Asked, Value};
+use crate::value::Value;
 use ecow_bytes::SmallBytes;
 use ecow_list::{EcoError, EcoVec, Rejected};
 use ecow_string::SmallText;
@@ -256,14 +256,6 @@ impl<const N: usize> Value for SmallText<N> {
         true
     }
 
-    fn is_plain() -> bool {
-        true
-    }
-
-    fn counts(_source: &()) -> Option<(u64, u64)> {
-        None
-    }
-
     fn owner(role: Role, row: &Row) -> &'static str {
         match role {
             Role::Make if N == 15 => "EcoString",
@@ -405,10 +397,6 @@ impl<const N: usize> Value for SmallText<N> {
             }
             None => None,
         }
-    }
-
-    fn asked(_gift: &Gift<N>) -> Asked {
-        Asked::Unseen
     }
 
     fn into_block(self) -> Option<EcoVec<u8>> {

@@ -284,7 +284,7 @@ pub fn trial<V: Value>(
         Role::Derive => derive_trial::<V>(alloc, source, watch, &case),
         Role::Make => make_trial::<V>(alloc, source, watch, &case),
     };
-    watch.sees(hold, row, state)
+    watch.sees(hold && V::is_settled(source), row, state)
 }
 
 /// Whether each call of a table holds in each of the states.

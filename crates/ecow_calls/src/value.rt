@@ -33,13 +33,24 @@ pub trait Value: Clone + Drop {
     /// How many items stand in the value itself; vectors have none there.
     fn limit() -> Option<usize>;
 
-    fn is_text() -> bool;
+    fn is_text() -> bool {
+        false
+    }
 
     /// Whether a clone of an item can't be refused.
-    fn is_plain() -> bool;
+    fn is_plain() -> bool {
+        true
+    }
 
     /// How often elements were cloned so far, and how often dropped, where that is counted.
-    fn counts(source: &Self::Source) -> Option<(u64, u64)>;
+    fn counts(_source: &Self::Source) -> Option<(u64, u64)> {
+        None
+    }
+
+    /// Whether each element was dropped once, where that is counted.
+    fn is_settled(_source: &Self::Source) -> bool {
+        true
+    }
 
     /// What stands before a call's name in the tables of costs.
     fn owner(role: Role, row: &Row) -> &'static str;
@@ -73,7 +84,9 @@ pub trait Value: Clone + Drop {
 
     fn handed(out: &Self::Out, place: usize) -> Option<i64>;
 
-    fn asked(gift: &Self::Gift) -> Asked;
+    fn asked(_gift: &Self::Gift) -> Asked {
+        Asked::Unseen
+    }
 
     /// The block of a value; none of an inline one.
     fn into_block(self) -> Option<Self::Block>;

@@ -269,16 +269,16 @@ impl<T: Element> Value for EcoVec<T> {
         None
     }
 
-    fn is_text() -> bool {
-        false
-    }
-
     fn is_plain() -> bool {
         T::is_plain()
     }
 
     fn counts(source: &T::Source) -> Option<(u64, u64)> {
         T::counts(source)
+    }
+
+    fn is_settled(source: &T::Source) -> bool {
+        T::is_settled(source)
     }
 
     fn owner(role: Role, row: &Row) -> &'static str {

@@ -204,7 +204,8 @@ pub(crate) fn add_vectors(meter: Meter, rows: &mut Rows) {
     let (makers, more) = (tables::vector_makers(), tables::vector_makers_of_many());
     for states in [few.as_slice(), &many] {
         add::<Vector>(meter, rows, &tally, Role::Change, (&changes, states));
-        let derivations = tables::vector_derivations();
+        let (derivations, arrays) = (tables::vector_derivations(), tables::into_arrays());
+        add::<Vector>(meter, rows, &tally, Role::Change, (&arrays, states));
         add::<Vector>(meter, rows, &tally, Role::Derive, (&derivations, states));
     }
     add::<Vector>(
@@ -216,6 +217,13 @@ pub(crate) fn add_vectors(meter: Meter, rows: &mut Rows) {
     );
     add::<Vector>(meter, rows, &tally, Role::Make, (&makers, none));
     add::<Vector>(meter, rows, &tally, Role::Make, (&more, none));
+    add::<Vector>(
+        meter,
+        rows,
+        &tally,
+        Role::Make,
+        (&tables::array_makers(), none),
+    );
 }
 
 /// The rows of calls that take elements as memory, of bytes.

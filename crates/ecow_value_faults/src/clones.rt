@@ -51,4 +51,12 @@ pub(crate) fn clones_hold(alloc: Global, watch: &Watch) -> bool {
             )
             && rows_hold(alloc, watch, Role::Make, &makers, &states[..1])
             && rows_hold(alloc, watch, Role::Make, &more, &states[..1])
+            && rows_hold(alloc, watch, Role::Change, &tables::into_arrays(), &states)
+            && rows_hold(
+                alloc,
+                watch,
+                Role::Make,
+                &tables::array_makers(),
+                &states[..1],
+            )
 }

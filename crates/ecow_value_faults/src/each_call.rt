@@ -15,10 +15,11 @@ pub(crate) fn many_hold(alloc: Global, watch: &Watch) -> bool {
     let Ok(tally) = Tally::new(alloc) else {
         return watch.may_refuse();
     };
-    let (changes, many) = (tables::vector_changes(), thousand());
+    let (changes, arrays, many) = (tables::vector_changes(), tables::into_arrays(), thousand());
     let (makers, first) = (tables::vector_makers_of_many(), &many[..1]);
     !watch.is_strict()
         || table_holds::<EcoVec<Counting>>(alloc, &tally, watch, Role::Change, (&changes, &many))
+            && table_holds::<EcoVec<Counting>>(alloc, &tally, watch, Role::Change, (&arrays, &many))
             && table_holds::<EcoVec<Counting>>(alloc, &tally, watch, Role::Make, (&makers, first))
 }
 
@@ -34,6 +35,15 @@ pub(crate) fn vectors_hold<T: Element<Source = ()>>(alloc: Global, watch: &Watch
         && table_holds::<EcoVec<T>>(alloc, source, watch, Role::Derive, (&derivations, &states))
         && table_holds::<EcoVec<T>>(alloc, source, watch, Role::Make, (&makers, first))
         && table_holds::<EcoVec<T>>(alloc, source, watch, Role::Make, (&more, first))
+}
+
+/// Arrays of elements whose clones take memory, and vectors of such.
+pub(crate) fn arrays_hold<T: Element<Source = ()>>(alloc: Global, watch: &Watch) -> bool {
+    let (arrays, others) = (tables::into_arrays(), tables::into_other_arrays());
+    let (makers, states) = (tables::array_makers(), few_elements());
+    table_holds::<EcoVec<T>>(alloc, &(), watch, Role::Change, (&arrays, &states))
+        && table_holds::<EcoVec<T>>(alloc, &(), watch, Role::Change, (&others, &states))
+        && table_holds::<EcoVec<T>>(alloc, &(), watch, Role::Make, (&makers, &states[..1]))
 }
 
 /// Calls of vectors that take elements as memory. Those behind the first eleven are of bytes alone.

@@ -9,7 +9,7 @@ mod owners;
 mod seeds;
 mod units;
 
-use crate::each_call::{bytes_hold, copies_hold, many_hold, texts_hold, vectors_hold};
+use crate::each_call::{arrays_hold, bytes_hold, copies_hold, many_hold, texts_hold, vectors_hold};
 use ecow_bytes::SmallBytes;
 use ecow_calls::elements::Named;
 use ecow_calls::parts::{Parts, run};
@@ -50,7 +50,7 @@ impl Parts for Values {
         match part {
             0 => vectors_hold::<i64>(alloc, watch) && copies_hold::<i64>(alloc, watch, 11),
             1 => vectors_hold::<u8>(alloc, watch) && copies_hold::<u8>(alloc, watch, 15),
-            2 => vectors_hold::<Named>(alloc, watch),
+            2 => vectors_hold::<Named>(alloc, watch) && arrays_hold::<Named>(alloc, watch),
             3 => many_hold(alloc, watch),
             4 => bytes_hold::<SmallBytes<0>>(alloc, watch),
             5 => bytes_hold::<SmallBytes<1>>(alloc, watch),

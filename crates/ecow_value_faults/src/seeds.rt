@@ -86,10 +86,6 @@ fn rows_hold<V: Value>(
 ) -> bool {
     let mut hold = true;
     for row in rows {
-        // An array has a length of its own.
-        if matches!(row.call, Call::IntoArray | Call::IntoOtherArray) {
-            continue;
-        }
         for _ in 0..ROUNDS {
             let state = state(numbers, V::limit());
             let row = drawn(numbers, row, state.len);
