@@ -3,6 +3,8 @@ ghost use Rattle.std.specs.Iterator.{at_most};
 
 use crate::calls::{Call, Role, Row};
 use crate::elements::{compare, or_memory};
+use crate::letters;
+use crate::letters::in_turn;
 use crate::states::State;
 use crate::value::{Asked, Value};
 use ecow_bytes::SmallBytes;
@@ -36,59 +38,15 @@ impl Iterator for &mut Gift {
             return None;
         }
         self.left -= 1;
-        let byte = self.bytes.as_slice().get(self.next).copied();
+        let byte = in_turn(b'.', 12, self.next);
         self.next = self.next.wrapping_add(1);
-        byte
+        Some(byte)
     }
 
     fn size_hint(&self) -> (usize, Option<usize>) {
         self.is_hint_asked.set(true);
         (0, None)
     }
-}
-
-/// Where the bytes of a value stand that a call asks for again.
-fn number_at(place: usize, first: u8, count: usize) -> i64 {
-    let shift = place.checked_rem(count).unwrap_or(0);
-    i64::from(first).wrapping_add(i64::try_from(shift).unwrap_or(0))
-}
-
-/// A letter: those of a plain value are an A and then b alone.
-pub(crate) fn letter_at(is_plain: bool, place: usize) -> i64 {
-    match (is_plain, place) {
-        (true, 0) => 65,
-        (true, _) => 98,
-        (false, _) => number_at(place, b'a', 26),
-    }
-}
-
-fn byte_of(number: i64) -> u8 {
-    u8::try_from(number).unwrap_or(0)
-}
-
-pub(crate) fn letters<V: Value>(alloc: Global, state: &State) -> Result<Vec<u8>, AllocError> {
-    let mut bytes = Vec::with_capacity(alloc, state.len)?;
-    for place in 0..state.len {
-        bytes.push(byte_of(V::letter(state, place)))?;
-    }
-    Ok(bytes)
-}
-
-/// How many bytes a call is given.
-pub(crate) fn gift_len(row: &Row) -> usize {
-    match row.call {
-        Call::Truncate | Call::Reserve | Call::Rewrite | Call::Repeat | Call::WithCapacity => 0,
-        _ => row.count,
-    }
-}
-
-pub(crate) fn given<V: Value>(alloc: Global, row: &Row) -> Result<Vec<u8>, AllocError> {
-    let len = gift_len(row);
-    let mut bytes = Vec::with_capacity(alloc, len)?;
-    for place in 0..len {
-        bytes.push(byte_of(V::given(row, place)))?;
-    }
-    Ok(bytes)
 }
 
 /// The letters in a block with so much room.
@@ -151,7 +109,7 @@ fn put<const N: usize>(value: &mut SmallBytes<N>, row: &Row, byte: u8) -> Result
     match row.call {
         Call::Push => value.push(byte),
         Call::PushReserved => push_reserved(value, byte),
-        Call::Insert => value.insert(start, byte),
+        Call::Insert if start <= value.len() => value.insert(start, byte),
         Call::Set if start < value.len() => value.set(start, byte),
         _ => Err(EcoError::Capacity),
     }
@@ -162,7 +120,7 @@ fn add<const N: usize>(value: &mut SmallBytes<N>, row: &Row, bytes: &[u8]) -> Re
     let (start, end) = (row.start_in(value.len()), row.end_in(value.len()));
     match row.call {
         Call::ExtendFromSlice => value.extend_from_slice(bytes),
-        Call::InsertSlice => value.insert_slice(start, bytes),
+        Call::InsertSlice if start <= value.len() => value.insert_slice(start, bytes),
         Call::ReplaceRange if range_in(&(start..end), value.len()) => {
             value.replace_range(start..end, bytes)
         }
@@ -232,15 +190,15 @@ impl<const N: usize> Value for SmallBytes<N> {
     }
 
     fn letter(state: &State, place: usize) -> i64 {
-        letter_at(state.is_plain, place)
+        i64::from(letters::letter(false, state, place))
     }
 
-    fn given(_row: &Row, place: usize) -> i64 {
-        number_at(place, b'.', 12)
+    fn given(row: &Row, place: usize) -> i64 {
+        i64::from(letters::given(false, row, place))
     }
 
     fn made(alloc: Global, _source: &(), state: &State) -> Result<Self, EcoError> {
-        let letters = letters::<Self>(alloc, state)?;
+        let letters = letters::letters(alloc, false, state)?;
         match state.room {
             None => SmallBytes::from_slice(alloc, letters.as_slice()),
             Some(room) => Ok(SmallBytes::from(block_of(alloc, letters.as_slice(), room)?)),
@@ -248,7 +206,7 @@ impl<const N: usize> Value for SmallBytes<N> {
     }
 
     fn gift(alloc: Global, _source: &(), row: &Row) -> Result<Gift, AllocError> {
-        let bytes = given::<Self>(alloc, row)?;
+        let bytes = letters::gift(alloc, false, row)?;
         let mut list = EcoVec::new(alloc);
         if row.call == Call::FromEcoVec && list.extend_from_slice(bytes.as_slice()).is_err() {
             return Err(AllocError);

@@ -85,7 +85,7 @@ fn copied<T: Copy>(list: &mut EcoVec<T>, row: &Row, given: &[T]) -> Result<(), E
     let (start, end) = (row.start_in(list.len()), row.end_in(list.len()));
     match row.call {
         Call::ExtendFromCopied => list.extend_from_copied(given),
-        Call::InsertSlice => list.insert_slice(start, given),
+        Call::InsertSlice if start <= list.len() => list.insert_slice(start, given),
         Call::ExtendFromWithin if range_in(&(start..end), list.len()) => {
             list.extend_from_within(start..end)
         }

@@ -7,6 +7,7 @@ pub mod bytes;
 pub mod calls;
 pub mod counting;
 pub mod elements;
+mod letters;
 pub mod model;
 pub mod numbers;
 pub mod parts;

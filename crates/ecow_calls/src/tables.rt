@@ -125,7 +125,7 @@ pub fn into_arrays() -> [Row; 1] {
     [row_of(Call::IntoArray, "into_array()", 0).at(5)]
 }
 
-/// No array has seven places where a vector has five elements.
+/// What makes no array, of a vector of none.
 pub fn into_other_arrays() -> [Row; 1] {
     [row_of(Call::IntoOtherArray, "into_array of another length", 0)]
 }

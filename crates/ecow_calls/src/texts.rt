@@ -2,9 +2,10 @@
 ghost use Rattle.std.specs.Prelude.{◌≡◌, ◌≤◌, true, IsTrue};
 ghost use Rattle.ecow_base.specs.Utf8.{is_boundary, utf8_len};
 
-use crate::bytes::{block_of, given, letter_at, letters};
+use crate::bytes::block_of;
 use crate::calls::{Call, LAST, Role, Row};
 use crate::elements::{compare, or_memory};
+use crate::letters;
 use crate::states::State;
 use crate::value::Value;
 use ecow_bytes::SmallBytes;
@@ -17,37 +18,14 @@ use std::{fmt, mem};
 
 /// A text that a call is given, and two texts where it takes such.
 #[derive(Drop)]
-pub struct Gift<const N: usize> {
+pub struct Gift<V> {
     alloc: Global,
     text: String,
-    texts: Vec<SmallText<N>>,
+    texts: Vec<V>,
 }
 
 /// What a call answers that took a character out.
 type Out = Option<char>;
-
-/// Two bytes, or four, of the one character that they are.
-const TWO: &str = "é";
-
-const FOUR: &str = "😀";
-
-fn byte_at(text: &str, place: usize) -> i64 {
-    i64::from(text.as_bytes().get(place).copied().unwrap_or(0))
-}
-
-/// Whether a call is given one character.
-fn is_given_a_char(row: &Row) -> bool {
-    matches!(row.call, Call::Push | Call::PushReserved | Call::Insert)
-}
-
-/// Whether a text of four bytes is given as one character.
-fn may_be_given_a_char(row: &Row) -> bool {
-    match row.call {
-        Call::Extend | Call::ExtendStrs | Call::ExtendHalves | Call::ExtendManyStrs(_) => false,
-        Call::FromIter | Call::Collect | Call::FromStrs | Call::FromManyStrs(_) => false,
-        _ => true,
-    }
-}
 
 fn string_of(bytes: Vec<u8>) -> Result<String, AllocError> {
     match String::from_utf8(bytes) {
@@ -242,7 +220,7 @@ fn collected<const N: usize>(
 impl<const N: usize> Value for SmallText<N> {
     type Source = ();
 
-    type Gift = Gift<N>;
+    type Gift = Gift<SmallText<N>>;
 
     type Out = Out;
 
@@ -265,24 +243,16 @@ impl<const N: usize> Value for SmallText<N> {
         }
     }
 
-    /// Of letters that differ the fourth is `é`, where there are more than five bytes.
     fn letter(state: &State, place: usize) -> i64 {
-        if !state.is_plain && state.len > 5 && (place == 3 || place == 4) {
-            return byte_at(TWO, place - 3);
-        }
-        letter_at(state.is_plain, place)
+        i64::from(letters::letter(true, state, place))
     }
 
     fn given(row: &Row, place: usize) -> i64 {
-        match row.count {
-            2 if is_given_a_char(row) => byte_at(TWO, place),
-            4 if may_be_given_a_char(row) => byte_at(FOUR, place),
-            _ => 46,
-        }
+        i64::from(letters::given(true, row, place))
     }
 
     fn made(alloc: Global, _source: &(), state: &State) -> Result<Self, EcoError> {
-        let letters = letters::<Self>(alloc, state)?;
+        let letters = letters::letters(alloc, true, state)?;
         match state.room {
             None => SmallText::from_str(alloc, string_of(letters)?.as_str()),
             Some(room) => {
@@ -295,8 +265,8 @@ impl<const N: usize> Value for SmallText<N> {
         }
     }
 
-    fn gift(alloc: Global, _source: &(), row: &Row) -> Result<Gift<N>, AllocError> {
-        let text = string_of(given::<Self>(alloc, row)?)?;
+    fn gift(alloc: Global, _source: &(), row: &Row) -> Result<Gift<SmallText<N>>, AllocError> {
+        let text = string_of(letters::gift(alloc, true, row)?)?;
         let mut texts = Vec::new(alloc);
         if row.call == Call::FromEcoStrings {
             for part in [text.as_str(), "12345678"] {
@@ -309,7 +279,7 @@ impl<const N: usize> Value for SmallText<N> {
         Ok(Gift { alloc, text, texts })
     }
 
-    fn change(&mut self, row: &Row, gift: &mut Gift<N>) -> Result<Out, EcoError> {
+    fn change(&mut self, row: &Row, gift: &mut Gift<SmallText<N>>) -> Result<Out, EcoError> {
         let more = gift.text.as_str();
         match row.call {
             Call::Push | Call::PushReserved | Call::Insert => match more.chars().next() {
@@ -341,7 +311,7 @@ impl<const N: usize> Value for SmallText<N> {
         derived(self, row).map(|copy| Some(copy))
     }
 
-    fn make(row: &Row, gift: &mut Gift<N>) -> Result<Self, EcoError> {
+    fn make(row: &Row, gift: &mut Gift<SmallText<N>>) -> Result<Self, EcoError> {
         let alloc = gift.alloc;
         let text = gift.text.as_str();
         match row.call {

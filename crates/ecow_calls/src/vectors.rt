@@ -63,7 +63,10 @@ pub enum Out<T: Element> {
 type Outcome<T> = Result<Out<T>, EcoError>;
 
 fn nothing<T: Element>(done: Result<(), EcoError>) -> Outcome<T> {
-    done.map(|()| Out::Nothing)
+    match done {
+        Ok(()) => Ok(Out::Nothing),
+        Err(error) => Err(error),
+    }
 }
 
 /// Whether elements are taken one by one, the last first.
@@ -144,11 +147,12 @@ fn put<T: Element>(list: &mut EcoVec<T>, row: &Row, value: T) -> Outcome<T> {
             list.reserve(1)?;
             returned(list.push(value))
         }
-        Call::Insert => returned(list.insert(start, value)),
+        Call::Insert if start <= list.len() => returned(list.insert(start, value)),
         Call::Set if start < list.len() => returned(list.set(start, value)),
-        Call::Update if start < list.len() => list
-            .update(start, |place| mem::replace(place, value))
-            .map(|old| Out::One(old)),
+        Call::Update if start < list.len() => {
+            let old = list.update(start, |place| mem::replace(place, value))?;
+            Ok(Out::One(old))
+        }
         Call::Push => returned(list.push(value)),
         _ => Err(EcoError::Capacity),
     }
@@ -207,13 +211,18 @@ fn take<T: Element>(list: &mut EcoVec<T>, row: &Row, gift: &mut Gift<T>) -> Outc
             Some(last) => Ok(Out::One(last)),
             None => Ok(Out::Nothing),
         },
-        Call::Remove if start < list.len() => list.remove(start).map(|one| Out::One(one)),
-        Call::Drain if range_in(&(start..end), list.len()) => {
-            list.drain(start..end).map(|drained| Out::Drained(drained))
+        Call::Remove if start < list.len() => {
+            let one = list.remove(start)?;
+            Ok(Out::One(one))
         }
-        Call::Splice if range_in(&(start..end), list.len()) => list
-            .splice(start..end, gift)
-            .map(|spliced| Out::Spliced(spliced)),
+        Call::Drain if range_in(&(start..end), list.len()) => {
+            let drained = list.drain(start..end)?;
+            Ok(Out::Drained(drained))
+        }
+        Call::Splice if range_in(&(start..end), list.len()) => {
+            let spliced = list.splice(start..end, gift)?;
+            Ok(Out::Spliced(spliced))
+        }
         _ => Err(EcoError::Capacity),
     }
 }
@@ -244,10 +253,10 @@ fn give<T: Element>(list: &mut EcoVec<T>, row: &Row, alloc: Global) -> Outcome<T
     Err(error)
 }
 
-/// No array has one place more than the vector has elements. It comes back at once.
+/// An array of another length than the vector's. The vector comes back at once.
 fn refuse_array<T: Element>(list: &mut EcoVec<T>, alloc: Global) -> Outcome<T> {
     let whole = mem::replace(list, EcoVec::new(alloc));
-    match whole.into_array::<7>() {
+    match T::into_array(whole) {
         Err(IntoArray::Length(back)) => {
             *list = back;
             Ok(Out::Nothing)

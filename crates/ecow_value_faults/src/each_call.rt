@@ -42,7 +42,7 @@ pub(crate) fn arrays_hold<T: Element<Source = ()>>(alloc: Global, watch: &Watch)
     let (arrays, others) = (tables::into_arrays(), tables::into_other_arrays());
     let (makers, states) = (tables::array_makers(), few_elements());
     table_holds::<EcoVec<T>>(alloc, &(), watch, Role::Change, (&arrays, &states))
-        && table_holds::<EcoVec<T>>(alloc, &(), watch, Role::Change, (&others, &states))
+        && table_holds::<EcoVec<T>>(alloc, &(), watch, Role::Change, (&others, &states[..2]))
         && table_holds::<EcoVec<T>>(alloc, &(), watch, Role::Make, (&makers, &states[..1]))
 }
 

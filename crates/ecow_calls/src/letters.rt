@@ -1,0 +1,76 @@
+//! The letters of bytes and texts: those that stand in a value, and those that a call is given.
+use crate::calls::{Call, Row};
+use crate::states::State;
+use std::alloc::{AllocError, Global};
+
+/// Two bytes, or four, of the one character that they are.
+const TWO: &str = "é";
+
+const FOUR: &str = "😀";
+
+fn byte_at(text: &str, place: usize) -> u8 {
+    text.as_bytes().get(place).copied().unwrap_or(0)
+}
+
+/// One of so many bytes from the first on, again and again.
+pub(crate) fn in_turn(first: u8, count: usize, place: usize) -> u8 {
+    let shift = place.checked_rem(count).unwrap_or(0);
+    first.wrapping_add(u8::try_from(shift).unwrap_or(0))
+}
+
+/// The byte at a place. Those of a plain value are an A and then b alone; of a text's letters that
+/// differ the fourth is `é`, where there are more than five bytes.
+pub(crate) fn letter(is_text: bool, state: &State, place: usize) -> u8 {
+    if state.is_plain {
+        return if place == 0 { b'A' } else { b'b' };
+    }
+    if is_text && state.len > 5 && (place == 3 || place == 4) {
+        return byte_at(TWO, place - 3);
+    }
+    in_turn(b'a', 26, place)
+}
+
+pub(crate) fn letters(alloc: Global, is_text: bool, state: &State) -> Result<Vec<u8>, AllocError> {
+    let mut bytes = Vec::with_capacity(alloc, state.len)?;
+    for place in 0..state.len {
+        bytes.push(letter(is_text, state, place))?;
+    }
+    Ok(bytes)
+}
+
+/// Whether a call of a text is given one character.
+fn is_given_a_char(row: &Row) -> bool {
+    matches!(row.call, Call::Push | Call::PushReserved | Call::Insert)
+}
+
+/// Whether a call of a text is given four bytes one by one, or as it is printed.
+fn is_given_pieces(row: &Row) -> bool {
+    match row.call {
+        Call::Extend | Call::ExtendStrs | Call::ExtendHalves | Call::ExtendManyStrs(_) => true,
+        Call::FromIter | Call::Collect | Call::FromStrs | Call::FromManyStrs(_) => true,
+        _ => false,
+    }
+}
+
+/// A byte that a call is given. Of texts two or four bytes may be one character.
+pub(crate) fn given(is_text: bool, row: &Row, place: usize) -> u8 {
+    match row.count {
+        _ if !is_text => in_turn(b'.', 12, place),
+        2 if is_given_a_char(row) => byte_at(TWO, place),
+        4 if !is_given_pieces(row) => byte_at(FOUR, place),
+        _ => b'.',
+    }
+}
+
+/// The bytes that a call is given.
+pub(crate) fn gift(alloc: Global, is_text: bool, row: &Row) -> Result<Vec<u8>, AllocError> {
+    let len = match row.call {
+        Call::Truncate | Call::Reserve | Call::Rewrite | Call::Repeat | Call::WithCapacity => 0,
+        _ => row.count,
+    };
+    let mut bytes = Vec::with_capacity(alloc, len)?;
+    for place in 0..len {
+        bytes.push(given(is_text, row, place))?;
+    }
+    Ok(bytes)
+}
