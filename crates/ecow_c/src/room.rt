@@ -5,7 +5,7 @@ ghost use Rattle.ecow_base.specs.Utf8.{utf8_len};
 ghost use Rattle.ecow_c.specs.Answers.{AltersBytes, AltersList, AltersText, AltersTexts, IsAmong, RefusesPast, bytes_at, chars_at, numbers_at, texts_at};
 
 use crate::pointer::{BytesPointer, ListPointer, TextPointer, TextsPointer};
-use crate::status::{CAPACITY, MEMORY, NULL, OK, ok_or_status, some_or, status};
+use crate::status::{CAPACITY, IntoStatus, MEMORY, NULL, OK, ok_or_status, some_or, status};
 use ecow_list::EcoVec;
 use std::alloc::Global;
 
