@@ -5,9 +5,9 @@ ghost use Rattle.std.specs.Iterator.{at_most};
 
 use crate::calls::{is_unique, shared};
 use ecow_bytes::EcoBytes;
+use ecow_calls::counting::{Counting, Refusing, Tally};
 use ecow_list::{EcoError, EcoVec, range_in};
 use ecow_string::EcoString;
-use ecow_calls::counting::{Counting, Refusing, Tally};
 use std::alloc::{AllocError, Global};
 use std::cell::Cell;
 use std::rc::Rc;

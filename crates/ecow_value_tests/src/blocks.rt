@@ -1,8 +1,8 @@
 //! A block over raw memory: its edits, and what is dropped and cloned.
 use ecow_base::MAX_LEN;
 use ecow_block::Block;
-use ecow_shared::Shared;
 use ecow_calls::counting::{Counting, Tally};
+use ecow_shared::Shared;
 use std::alloc::{AllocError, Global};
 use std::process::Abort;
 

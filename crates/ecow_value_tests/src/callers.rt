@@ -4,8 +4,8 @@ ghost use Rattle.std.specs.Prelude.{◌≡◌, ◌+◌, [], ◌∷◌, ◌++◌,
 ghost use Rattle.ecow_base.specs.Clones.{ClonesAreEqual};
 
 use crate::calls::{error_of, of, push, shared};
-use ecow_list::{EcoError, EcoVec};
 use ecow_calls::counting::Tally;
+use ecow_list::{EcoError, EcoVec};
 use std::test::Fail;
 
 /// The elements of `list` and one more, in a vector of their own.

@@ -1,7 +1,7 @@
 //! When elements are dropped that calls hand out, or don't keep.
 use crate::calls::{error_of, push, shared};
-use ecow_list::{Drain, EcoError, EcoVec, IntoIter, Splice, range_in};
 use ecow_calls::counting::{Counting, Tally};
+use ecow_list::{Drain, EcoError, EcoVec, IntoIter, Splice, range_in};
 use std::alloc::Global;
 use std::mem;
 use std::test::Fail;

@@ -1,9 +1,9 @@
 //! Values with more owners than two bytes count.
 use crate::calls::{error_of, is_unique, push, shared};
 use ecow_bytes::EcoBytes;
+use ecow_calls::counting::{Counting, Tally};
 use ecow_list::{EcoError, EcoVec};
 use ecow_string::EcoString;
-use ecow_calls::counting::{Counting, Tally};
 use std::alloc::{AllocError, Global};
 use std::test::Fail;
 

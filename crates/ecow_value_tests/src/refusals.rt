@@ -2,8 +2,8 @@
 //! and so on. Each leaves both vectors as they were, sharing their block, and hands its value back.
 //! Once all clones succeed, the call is done and the other vector is as it was.
 use crate::calls::{drain, insert, is_unique, push, remove, reverse, shared, splice, write};
-use ecow_list::{EcoError, EcoVec, IntoArray, Rejected};
 use ecow_calls::counting::Refusing;
+use ecow_list::{EcoError, EcoVec, IntoArray, Rejected};
 use std::alloc::{AllocError, Global};
 use std::cell::Cell;
 use std::process::Abort;

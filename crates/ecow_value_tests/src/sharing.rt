@@ -2,9 +2,9 @@
 use crate::calls::{error_of, is_unique, reverse, shared};
 use ecow_block::Block;
 use ecow_bytes::EcoBytes;
+use ecow_calls::counting::{Single, Tally};
 use ecow_list::{EcoError, EcoVec};
 use ecow_string::EcoString;
-use ecow_calls::counting::{Single, Tally};
 use std::alloc::Global;
 use std::test::Fail;
 

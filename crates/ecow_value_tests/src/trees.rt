@@ -2,9 +2,9 @@
 //! and how deep a tree may be that is dropped.
 use crate::calls::{push, write};
 use ecow_bytes::EcoBytes;
+use ecow_calls::counting::{Counting, Tally};
 use ecow_list::{EcoError, EcoVec};
 use ecow_string::EcoString;
-use ecow_calls::counting::{Counting, Tally};
 use std::alloc::{AllocError, Global};
 use std::test::Fail;
 
