@@ -10,7 +10,7 @@ use std::str;
 const MAX: usize = 9223372036854775807;
 
 /// Longer values are left to others.
-pub(crate) const LONGEST: usize = 200;
+pub(crate) const LONGEST: usize = 150;
 
 /// What stands under a name.
 #[derive(Clone, Copy)]
@@ -255,7 +255,7 @@ fn repeated(items: &Line, times: usize) -> Line {
 }
 
 fn is_utf8(items: &Line) -> bool {
-    let mut bytes = [0u8; 256];
+    let mut bytes = [0u8; 192];
     for (byte, item) in bytes.iter_mut().zip(items.as_slice()) {
         *byte = u8::try_from(*item).unwrap_or(0);
     }

@@ -6,7 +6,7 @@ use std::alloc::{AllocError, Global};
 use std::ops::Bound;
 
 /// The items of a value, or those that a command brings.
-pub(crate) type Line = List<256>;
+pub(crate) type Line = List<192>;
 
 const FEW: &str = "abcd";
 

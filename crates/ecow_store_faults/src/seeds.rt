@@ -118,7 +118,7 @@ pub(crate) fn seeds_hold<K: NamedStore>(alloc: Global, watch: &Watch, kinds: usi
     if !watch.is_strict() {
         return seed_holds::<K>(alloc, watch, (7, 200, kinds));
     }
-    for seed in 0..60 {
+    for seed in 0..30 {
         if !seed_holds::<K>(alloc, watch, (seed, 400, kinds)) {
             return false;
         }
