@@ -181,6 +181,22 @@ impl<const N: usize> Value for SmallBytes<N> {
         Some(N)
     }
 
+    fn is_text() -> bool {
+        false
+    }
+
+    fn is_plain() -> bool {
+        true
+    }
+
+    fn counts(_source: &()) -> Option<(u64, u64)> {
+        None
+    }
+
+    fn is_settled(_source: &()) -> bool {
+        true
+    }
+
     fn owner(role: Role, _row: &Row) -> &'static str {
         match role {
             Role::Make if N == 15 => "EcoBytes",

@@ -7,7 +7,7 @@ use crate::calls::{Call, LAST, Role, Row};
 use crate::elements::{compare, or_memory};
 use crate::letters;
 use crate::states::State;
-use crate::value::Value;
+use crate::value::{Asked, Value};
 use ecow_bytes::SmallBytes;
 use ecow_list::{EcoError, EcoVec, Rejected};
 use ecow_string::SmallText;
@@ -234,6 +234,18 @@ impl<const N: usize> Value for SmallText<N> {
         true
     }
 
+    fn is_plain() -> bool {
+        true
+    }
+
+    fn counts(_source: &()) -> Option<(u64, u64)> {
+        None
+    }
+
+    fn is_settled(_source: &()) -> bool {
+        true
+    }
+
     fn owner(role: Role, row: &Row) -> &'static str {
         match role {
             Role::Make if N == 15 => "EcoString",
@@ -367,6 +379,10 @@ impl<const N: usize> Value for SmallText<N> {
             }
             None => None,
         }
+    }
+
+    fn asked(_gift: &Gift<SmallText<N>>) -> Asked {
+        Asked::Unseen
     }
 
     fn into_block(self) -> Option<EcoVec<u8>> {

@@ -33,24 +33,16 @@ pub trait Value: Clone + Drop {
     /// How many items stand in the value itself; vectors have none there.
     fn limit() -> Option<usize>;
 
-    fn is_text() -> bool {
-        false
-    }
+    fn is_text() -> bool;
 
     /// Whether a clone of an item can't be refused.
-    fn is_plain() -> bool {
-        true
-    }
+    fn is_plain() -> bool;
 
     /// How often elements were cloned so far, and how often dropped, where that is counted.
-    fn counts(_source: &Self::Source) -> Option<(u64, u64)> {
-        None
-    }
+    fn counts(source: &Self::Source) -> Option<(u64, u64)>;
 
     /// Whether each element was dropped once, where that is counted.
-    fn is_settled(_source: &Self::Source) -> bool {
-        true
-    }
+    fn is_settled(source: &Self::Source) -> bool;
 
     /// What stands before a call's name in the tables of costs.
     fn owner(role: Role, row: &Row) -> &'static str;
@@ -84,9 +76,7 @@ pub trait Value: Clone + Drop {
 
     fn handed(out: &Self::Out, place: usize) -> Option<i64>;
 
-    fn asked(_gift: &Self::Gift) -> Asked {
-        Asked::Unseen
-    }
+    fn asked(gift: &Self::Gift) -> Asked;
 
     /// The block of a value; none of an inline one.
     fn into_block(self) -> Option<Self::Block>;

@@ -278,6 +278,10 @@ impl<T: Element> Value for EcoVec<T> {
         None
     }
 
+    fn is_text() -> bool {
+        false
+    }
+
     fn is_plain() -> bool {
         T::is_plain()
     }
