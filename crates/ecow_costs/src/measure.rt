@@ -193,62 +193,63 @@ fn add<V: Value>(
     }
 }
 
+/// The rows of vectors of elements that count, in these states.
+fn add_vectors_in(meter: Meter, rows: &mut Rows, tally: &Tally, states: &[State]) {
+    let (changes, arrays) = (tables::vector_changes(), tables::into_arrays());
+    let derivations = tables::vector_derivations();
+    add::<EcoVec<Counting>>(meter, rows, tally, Role::Change, (&changes, states));
+    add::<EcoVec<Counting>>(meter, rows, tally, Role::Change, (&arrays, states));
+    add::<EcoVec<Counting>>(meter, rows, tally, Role::Derive, (&derivations, states));
+}
+
 /// The rows of vectors of elements that count.
 pub(crate) fn add_vectors(meter: Meter, rows: &mut Rows) {
-    type Vector = EcoVec<Counting>;
     let Ok(tally) = Tally::new(meter.alloc) else {
         return;
     };
-    let (few, many) = (few_elements(), thousand());
-    let (none, changes) = (&few[..1], tables::vector_changes());
+    let (few, growth) = (few_elements(), tables::vector_growth());
     let (makers, more) = (tables::vector_makers(), tables::vector_makers_of_many());
-    for states in [few.as_slice(), &many] {
-        add::<Vector>(meter, rows, &tally, Role::Change, (&changes, states));
-        let (derivations, arrays) = (tables::vector_derivations(), tables::into_arrays());
-        add::<Vector>(meter, rows, &tally, Role::Change, (&arrays, states));
-        add::<Vector>(meter, rows, &tally, Role::Derive, (&derivations, states));
-    }
-    add::<Vector>(
-        meter,
-        rows,
-        &tally,
-        Role::Change,
-        (&tables::vector_growth(), none),
-    );
-    add::<Vector>(meter, rows, &tally, Role::Make, (&makers, none));
-    add::<Vector>(meter, rows, &tally, Role::Make, (&more, none));
-    add::<Vector>(
-        meter,
-        rows,
-        &tally,
-        Role::Make,
-        (&tables::array_makers(), none),
-    );
+    let (none, arrays) = (&few[..1], tables::array_makers());
+    add_vectors_in(meter, rows, &tally, &few);
+    add_vectors_in(meter, rows, &tally, &thousand());
+    add::<EcoVec<Counting>>(meter, rows, &tally, Role::Change, (&growth, none));
+    add::<EcoVec<Counting>>(meter, rows, &tally, Role::Make, (&makers, none));
+    add::<EcoVec<Counting>>(meter, rows, &tally, Role::Make, (&more, none));
+    add::<EcoVec<Counting>>(meter, rows, &tally, Role::Make, (&arrays, none));
 }
 
 /// The rows of calls that take elements as memory, of bytes.
 pub(crate) fn add_copies(meter: Meter, rows: &mut Rows) {
-    type Vector = EcoVec<u8>;
     let (few, many, copies) = (few_elements(), thousand(), tables::copies());
-    let (none, within) = (&few[..1], tables::copies_within());
-    for states in [few.as_slice(), &many] {
-        add::<Vector>(meter, rows, &(), Role::Change, (&copies, states));
-        add::<Vector>(meter, rows, &(), Role::Change, (&within, states));
-    }
-    add::<Vector>(
+    let (growth, within, makers) = (
+        tables::copies_growth(),
+        tables::copies_within(),
+        tables::copies_makers(),
+    );
+    add::<EcoVec<u8>>(meter, rows, &(), Role::Change, (&copies, &few));
+    add::<EcoVec<u8>>(meter, rows, &(), Role::Change, (&copies, &many));
+    add::<EcoVec<u8>>(meter, rows, &(), Role::Change, (&within, &many));
+    add::<EcoVec<u8>>(meter, rows, &(), Role::Change, (&growth, &few[..1]));
+    add::<EcoVec<u8>>(meter, rows, &(), Role::Make, (&makers, &few[..1]));
+}
+
+/// The rows of changes and derivations of bytes or texts in these states.
+fn add_in<V: Value<Source = ()>>(
+    meter: Meter,
+    rows: &mut Rows,
+    changes: &[Row],
+    derivations: &[Row],
+    states: &[State],
+) {
+    add::<V>(meter, rows, &(), Role::Change, (changes, states));
+    add::<V>(
         meter,
         rows,
         &(),
         Role::Change,
-        (&tables::copies_growth(), none),
+        (&tables::reductions(), states),
     );
-    add::<Vector>(
-        meter,
-        rows,
-        &(),
-        Role::Make,
-        (&tables::copies_makers(), none),
-    );
+    add::<V>(meter, rows, &(), Role::Derive, (derivations, states));
 }
 
 /// The rows of changes and derivations of bytes or texts at their limit.
@@ -259,18 +260,13 @@ fn add_states<V: Value<Source = ()>>(
     derivations: &[Row],
 ) {
     let limit = V::limit().unwrap_or(0);
-    let (usual, edge, many, few) = (few_bytes(), edge(limit), thousand(), few_spilled(limit));
-    let states = match limit {
-        USUAL => usual.as_slice(),
-        0 => &edge[..1],
-        _ => &edge,
-    };
-    let reductions = tables::reductions();
-    for states in [states, &many] {
-        add::<V>(meter, rows, &(), Role::Change, (changes, states));
-        add::<V>(meter, rows, &(), Role::Change, (&reductions, states));
-        add::<V>(meter, rows, &(), Role::Derive, (derivations, states));
+    match limit {
+        USUAL => add_in::<V>(meter, rows, changes, derivations, &few_bytes()),
+        0 => add_in::<V>(meter, rows, changes, derivations, &edge(limit)[..1]),
+        _ => add_in::<V>(meter, rows, changes, derivations, &edge(limit)),
     }
+    add_in::<V>(meter, rows, changes, derivations, &thousand());
+    let few = few_spilled(limit);
     add::<V>(meter, rows, &(), Role::Change, (&tables::shrinking(), &few));
 }
 

@@ -73,7 +73,7 @@ pub(crate) fn copies_hold<T: Element<Source = ()>>(
 }
 
 /// Letters that differ, in each of the states.
-fn varied<const M: usize>(states: [State; M]) -> [State; M] {
+fn varied(states: [State; 7]) -> [State; 7] {
     let mut states = states;
     for state in &mut states {
         *state = state.varied();
@@ -81,75 +81,62 @@ fn varied<const M: usize>(states: [State; M]) -> [State; M] {
     states
 }
 
-/// Bytes or texts whose changes, derivations and makers these are, on both sides of their limit.
-fn small_hold<V: Value<Source = ()>>(
-    alloc: Global,
-    watch: &Watch,
-    changes: [&[Row]; 2],
-    further: [&[Row]; 2],
-    derivations: [&[Row]; 2],
-    makers: [&[Row]; 2],
-) -> bool {
+/// Changes of bytes or texts on both sides of their limit, and of many.
+fn changes_hold<V: Value<Source = ()>>(alloc: Global, watch: &Watch, rows: &[Row]) -> bool {
+    let few = few_spilled(V::limit().unwrap_or(0));
+    further_hold::<V>(alloc, watch, rows)
+        && table_holds::<V>(alloc, &(), watch, Role::Change, (rows, &few))
+        && table_holds::<V>(alloc, &(), watch, Role::Change, (rows, &thousand()))
+}
+
+/// Changes of letters that differ, on both sides of the limit.
+fn further_hold<V: Value<Source = ()>>(alloc: Global, watch: &Watch, rows: &[Row]) -> bool {
+    let states = varied(around(V::limit().unwrap_or(0)));
+    table_holds::<V>(alloc, &(), watch, Role::Change, (rows, &states))
+}
+
+fn derivations_hold<V: Value<Source = ()>>(alloc: Global, watch: &Watch, rows: &[Row]) -> bool {
+    let states = around(V::limit().unwrap_or(0));
+    table_holds::<V>(alloc, &(), watch, Role::Derive, (rows, &states))
+}
+
+fn makers_hold<V: Value<Source = ()>>(alloc: Global, watch: &Watch, rows: &[Row]) -> bool {
+    let states = around(V::limit().unwrap_or(0));
+    table_holds::<V>(alloc, &(), watch, Role::Make, (rows, &states[..1]))
+}
+
+/// What bytes and texts have in common.
+fn small_hold<V: Value<Source = ()>>(alloc: Global, watch: &Watch) -> bool {
     let limit = V::limit().unwrap_or(0);
-    let (states, few, many) = (around(limit), few_spilled(limit), thousand());
-    let differ = varied(states);
-    let mut hold = true;
-    for rows in changes {
-        hold = table_holds::<V>(alloc, &(), watch, Role::Change, (rows, &differ))
-            && table_holds::<V>(alloc, &(), watch, Role::Change, (rows, &few))
-            && table_holds::<V>(alloc, &(), watch, Role::Change, (rows, &many))
-            && hold;
-    }
-    for rows in further {
-        hold = table_holds::<V>(alloc, &(), watch, Role::Change, (rows, &differ)) && hold;
-    }
-    for rows in derivations {
-        hold = table_holds::<V>(alloc, &(), watch, Role::Derive, (rows, &states)) && hold;
-    }
-    for rows in makers {
-        hold = table_holds::<V>(alloc, &(), watch, Role::Make, (rows, &states[..1])) && hold;
-    }
-    hold
+    changes_hold::<V>(alloc, watch, &tables::reductions())
+        && further_hold::<V>(alloc, watch, &tables::further_reductions())
+        && makers_hold::<V>(alloc, watch, &tables::first_makers_at(limit))
 }
 
 pub(crate) fn bytes_hold<V: Value<Source = ()>>(alloc: Global, watch: &Watch) -> bool {
     let limit = V::limit().unwrap_or(0);
-    small_hold::<V>(
-        alloc,
-        watch,
-        [&tables::bytes_changes(), &tables::reductions()],
-        [
-            &tables::further_bytes_changes(),
-            &tables::further_reductions(),
-        ],
-        [&tables::bytes_derivations(), &[]],
-        [
-            &tables::first_makers_at(limit),
-            &tables::bytes_makers_at(limit),
-        ],
-    )
+    small_hold::<V>(alloc, watch)
+        && changes_hold::<V>(alloc, watch, &tables::bytes_changes())
+        && further_hold::<V>(alloc, watch, &tables::further_bytes_changes())
+        && derivations_hold::<V>(alloc, watch, &tables::bytes_derivations())
+        && makers_hold::<V>(alloc, watch, &tables::bytes_makers_at(limit))
 }
 
 pub(crate) fn texts_hold<V: Value<Source = ()>>(alloc: Global, watch: &Watch) -> bool {
-    let limit = V::limit().unwrap_or(0);
-    let small = small_hold::<V>(
-        alloc,
-        watch,
-        [&tables::text_changes(), &tables::reductions()],
-        [
-            &tables::further_text_changes(),
-            &tables::further_reductions(),
-        ],
-        [
-            &tables::text_derivations(),
-            &tables::further_text_derivations(),
-        ],
-        [
-            &tables::first_makers_at(limit),
-            &tables::text_makers_at(limit),
-        ],
-    );
+    let (limit, derivations) = (V::limit().unwrap_or(0), tables::text_derivations());
     // Past ASCII the case of letters asks for std's text besides.
-    let (differ, rows) = (varied(around(limit)), tables::text_derivations());
-    small && table_holds::<V>(alloc, &(), watch, Role::Derive, (&rows[9..], &differ))
+    let differ = varied(around(limit));
+    small_hold::<V>(alloc, watch)
+        && changes_hold::<V>(alloc, watch, &tables::text_changes())
+        && further_hold::<V>(alloc, watch, &tables::further_text_changes())
+        && derivations_hold::<V>(alloc, watch, &derivations)
+        && derivations_hold::<V>(alloc, watch, &tables::further_text_derivations())
+        && table_holds::<V>(
+            alloc,
+            &(),
+            watch,
+            Role::Derive,
+            (&derivations[9..], &differ),
+        )
+        && makers_hold::<V>(alloc, watch, &tables::text_makers_at(limit))
 }
