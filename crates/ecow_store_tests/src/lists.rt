@@ -10,29 +10,13 @@ use std::ops::Bound;
 use std::process::Abort;
 use std::test::Fail;
 
-/// A number that counts its clones and its drop.
-#[derive(Drop)]
-struct Numbered {
-    number: u64,
-    counting: Counting,
-}
-
-impl Clone for Numbered {
-    fn clone(&self) -> Result<Self, AllocError> {
-        Ok(Numbered {
-            number: self.number,
-            counting: self.counting.clone()?,
-        })
-    }
-}
-
 /// A store of lists.
 trait Lists: Drop + Sized {
     fn new(alloc: Global) -> Self;
 
-    fn carry_out(&mut self, command: VecCommand<Numbered>) -> Outcome<Numbered>;
+    fn carry_out(&mut self, command: VecCommand<Counting>) -> Outcome<Counting>;
 
-    fn elements(&self, name: u32) -> Option<&[Numbered]>;
+    fn elements(&self, name: u32) -> Option<&[Counting]>;
 
     /// Whether so many elements were copied, where the store tells that.
     fn has_copied(&self, count: u64) -> bool;
@@ -42,16 +26,16 @@ trait Lists: Drop + Sized {
     fn account(&self, name: u32) -> [u64; 5];
 }
 
-impl Lists for Counted<Numbered> {
+impl Lists for Counted<Counting> {
     fn new(alloc: Global) -> Self {
         Counted::new(alloc)
     }
 
-    fn carry_out(&mut self, command: VecCommand<Numbered>) -> Outcome<Numbered> {
+    fn carry_out(&mut self, command: VecCommand<Counting>) -> Outcome<Counting> {
         self.step(command)
     }
 
-    fn elements(&self, name: u32) -> Option<&[Numbered]> {
+    fn elements(&self, name: u32) -> Option<&[Counting]> {
         self.get(name)
     }
 
@@ -72,16 +56,16 @@ impl Lists for Counted<Numbered> {
     }
 }
 
-impl Lists for Store<Numbered> {
+impl Lists for Store<Counting> {
     fn new(alloc: Global) -> Self {
         Store::new(alloc)
     }
 
-    fn carry_out(&mut self, command: VecCommand<Numbered>) -> Outcome<Numbered> {
+    fn carry_out(&mut self, command: VecCommand<Counting>) -> Outcome<Counting> {
         self.step(Command::Vec(command))
     }
 
-    fn elements(&self, name: u32) -> Option<&[Numbered]> {
+    fn elements(&self, name: u32) -> Option<&[Counting]> {
         self.get(name)
     }
 
@@ -94,18 +78,16 @@ impl Lists for Store<Numbered> {
     }
 }
 
-/// The elements with the numbers from one on.
+/// So many elements with the numbers from the first on.
 fn elements(
     alloc: Global,
     tally: &Tally,
-    first: u64,
-    count: usize,
-) -> Result<Items<Numbered>, AllocError> {
+    first: i64,
+    count: i64,
+) -> Result<Items<Counting>, AllocError> {
     let mut elements = Vec::new(alloc);
-    let mut number = first;
-    for counting in tally.elements(alloc, count)? {
-        elements.push(Numbered { number, counting })?;
-        number = number.wrapping_add(1);
+    for place in 0..count {
+        elements.push(tally.numbered(first.wrapping_add(place))?)?;
     }
     Ok(Items::new(elements))
 }
@@ -131,7 +113,7 @@ fn seen<L: Lists>(alloc: Global, lists: &L) -> Result<Vec<u64>, AllocError> {
         if let Some(elements) = lists.elements(name) {
             seen.push(100)?;
             for element in elements {
-                seen.push(element.number)?;
+                seen.push(element.number.unsigned_abs())?;
             }
         }
     }
@@ -140,7 +122,7 @@ fn seen<L: Lists>(alloc: Global, lists: &L) -> Result<Vec<u64>, AllocError> {
 
 /// How many elements a command copies as it leaves a shared block, how many others it clones, and
 /// how many it brings.
-type Row = (u64, u64, usize);
+type Row = (u64, u64, i64);
 
 /// The commands that bring one element, and then the others, in the order of both functions below.
 const ROWS: [Row; 17] = [
@@ -170,7 +152,7 @@ fn row_at(row: usize) -> Row {
     }
 }
 
-fn with_value(row: usize, name: u32, index: usize, value: Numbered) -> VecCommand<Numbered> {
+fn with_value(row: usize, name: u32, index: usize, value: Counting) -> VecCommand<Counting> {
     match row {
         0 => VecCommand::Push { name, value },
         1 => VecCommand::Insert { name, index, value },
@@ -183,8 +165,8 @@ fn with_items(
     row: usize,
     name: u32,
     index: usize,
-    (items, marks): (Items<Numbered>, Items<bool>),
-) -> VecCommand<Numbered> {
+    (items, marks): (Items<Counting>, Items<bool>),
+) -> VecCommand<Counting> {
     let (bounds, additional) = ((Bound::Unbounded, Bound::Excluded(index)), 0);
     match row {
         4 => VecCommand::Splice {
@@ -213,7 +195,7 @@ fn command_of(
     tally: &Tally,
     row: usize,
     (name, index): (u32, usize),
-) -> Result<VecCommand<Numbered>, AllocError> {
+) -> Result<VecCommand<Counting>, AllocError> {
     let (_, _, count) = row_at(row);
     let items = elements(alloc, tally, 4, count)?;
     if row < 4 {
@@ -257,7 +239,7 @@ fn expected(&(row, place, shared, refused): &Case) -> (Option<Refusal>, u64, u64
     }
 }
 
-fn refusal_in(outcome: Outcome<Numbered>) -> Option<Refusal> {
+fn refusal_in(outcome: Outcome<Counting>) -> Option<Refusal> {
     match &outcome {
         Outcome::Refused(refusal) => Some(*refusal),
         _ => None,
@@ -277,7 +259,7 @@ fn holds<L: Lists>(alloc: Global, case: Case) -> Result<bool, AllocError> {
     let is_unchanged = seen(alloc, &lists)? == before;
     let (wanted, clones, copied) = expected(&case);
     let (_, _, brought) = row_at(row);
-    let all = clones.wrapping_add(brought as u64);
+    let all = clones.wrapping_add(brought.unsigned_abs());
     let lacking = u64::from(wanted == Some(Refusal::Memory));
     let is_right = match wanted {
         None => lists.has_copied(copied),
@@ -308,12 +290,12 @@ fn rows_hold<L: Lists>(rt: &(impl Abort + AllocGlobal)) -> Result<(), Fail> {
 
 #[test]
 fn a_store_clones_and_drops_what_it_must(rt: HostRuntime) -> Result<(), Fail> {
-    rows_hold::<Store<Numbered>>(&rt)
+    rows_hold::<Store<Counting>>(&rt)
 }
 
 #[test]
 fn counted_lists_clone_and_drop_what_they_must(rt: HostRuntime) -> Result<(), Fail> {
-    rows_hold::<Counted<Numbered>>(&rt)
+    rows_hold::<Counted<Counting>>(&rt)
 }
 
 /// How many elements are dropped as three names of a block go, by `Drop`, `Clear` and `Drop`.
@@ -331,9 +313,9 @@ fn dropped_in_turn<L: Lists>(alloc: Global) -> Result<[u64; 3], AllocError> {
 
 #[test]
 fn elements_go_with_the_last_name_of_their_block(rt: HostRuntime) -> Result<(), Fail> {
-    assert_eq!(rt; dropped_in_turn::<Store<Numbered>>(rt.alloc())?, [0, 0, 3]);
+    assert_eq!(rt; dropped_in_turn::<Store<Counting>>(rt.alloc())?, [0, 0, 3]);
     assert_eq!(rt;
-        dropped_in_turn::<Counted<Numbered>>(rt.alloc())?,
+        dropped_in_turn::<Counted<Counting>>(rt.alloc())?,
         [0, 0, 3]
     );
     Ok(())
