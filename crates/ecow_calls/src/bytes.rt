@@ -1,51 +1,30 @@
 //! The calls of `SmallBytes`.
-ghost use Rattle.std.specs.Iterator.{at_most};
-
 use crate::calls::{Call, Role, Row};
 use crate::elements::{compare, or_memory};
 use crate::letters;
-use crate::letters::in_turn;
 use crate::states::State;
-use crate::value::{Asked, Value};
+use crate::value::Value;
+use crate::watched::{Asks, Watched};
 use ecow_bytes::SmallBytes;
 use ecow_list::{EcoError, EcoVec, Rejected, range_in};
 use std::alloc::{AllocError, Global};
-use std::cell::Cell;
 use std::io::Write;
-use std::mem;
+use std::iter::Copied;
+use std::{mem, slice};
 
-/// Bytes that a call is given, in each form that one takes. As an iterator it gives them in order,
-/// and counts how often it is asked. Its hint is of no use.
+/// Bytes that a call is given, in each form that one takes.
 #[derive(Drop)]
 pub struct Gift {
     alloc: Global,
     bytes: Vec<u8>,
     list: EcoVec<u8>,
-    next: usize,
-    left: usize,
-    asked: usize,
-    is_hint_asked: Cell<bool>,
+    asks: Asks,
 }
 
-impl Iterator for &mut Gift {
-    type Item = u8;
-
-    ghost remaining = { λ it. at_most it.now.left };
-
-    fn next(&mut self) -> Option<u8> {
-        self.asked = self.asked.wrapping_add(1);
-        if self.left == 0 {
-            return None;
-        }
-        self.left -= 1;
-        let byte = in_turn(b'.', 12, self.next);
-        self.next = self.next.wrapping_add(1);
-        Some(byte)
-    }
-
-    fn size_hint(&self) -> (usize, Option<usize>) {
-        self.is_hint_asked.set(true);
-        (0, None)
+impl Gift {
+    /// The bytes, one by one.
+    fn items(&self) -> Watched<'_, Copied<slice::Iter<'_, u8>>> {
+        self.asks.of(self.bytes.as_slice().iter().copied())
     }
 }
 
@@ -189,14 +168,6 @@ impl<const N: usize> Value for SmallBytes<N> {
         true
     }
 
-    fn counts(_source: &()) -> Option<(u64, u64)> {
-        None
-    }
-
-    fn is_settled(_source: &()) -> bool {
-        true
-    }
-
     fn owner(role: Role, _row: &Row) -> &'static str {
         match role {
             Role::Make if N == 15 => "EcoBytes",
@@ -231,16 +202,11 @@ impl<const N: usize> Value for SmallBytes<N> {
             alloc,
             bytes,
             list,
-            next: 0,
-            left: 0,
-            asked: 0,
-            is_hint_asked: Cell::new(false),
+            asks: Asks::new(),
         })
     }
 
     fn change(&mut self, row: &Row, gift: &mut Gift) -> Result<Option<u8>, EcoError> {
-        gift.left = row.count;
-        gift.next = 0;
         match row.call {
             Call::Push | Call::PushReserved | Call::Insert | Call::Set => {
                 put(
@@ -252,7 +218,7 @@ impl<const N: usize> Value for SmallBytes<N> {
             Call::ExtendFromSlice | Call::InsertSlice | Call::ReplaceRange | Call::Write => {
                 add(self, row, gift.bytes.as_slice())?
             }
-            Call::Extend => self.extend(gift)?,
+            Call::Extend => self.extend(gift.items())?,
             Call::Pop | Call::Remove => return take(self, row),
             Call::IntoEcoVec => give(self, gift.alloc)?,
             _ => settle(self, row)?,
@@ -276,7 +242,6 @@ impl<const N: usize> Value for SmallBytes<N> {
 
     fn make(row: &Row, gift: &mut Gift) -> Result<Self, EcoError> {
         let alloc = gift.alloc;
-        gift.left = row.count;
         match row.call {
             Call::Inline if gift.bytes.len() <= N => {
                 Ok(SmallBytes::inline(alloc, gift.bytes.as_slice()))
@@ -293,8 +258,8 @@ impl<const N: usize> Value for SmallBytes<N> {
                     |rejected| error_of_vec(rejected, row),
                 )
             }
-            Call::FromIter => SmallBytes::from_iter(alloc, gift),
-            Call::Collect => or_memory(gift.collect(alloc)),
+            Call::FromIter => SmallBytes::from_iter(alloc, gift.items()),
+            Call::Collect => or_memory(gift.items().collect(alloc)),
             Call::FromEcoVec => {
                 Ok(SmallBytes::from(mem::replace(&mut gift.list, EcoVec::new(alloc))))
             }
@@ -325,12 +290,12 @@ impl<const N: usize> Value for SmallBytes<N> {
         }
     }
 
-    fn asked(gift: &Gift) -> Asked {
-        if gift.is_hint_asked.get() {
-            Asked::ForHint
-        } else {
-            Asked::ForItems(gift.asked)
-        }
+    fn ends(_out: &mut Option<u8>) -> Option<(Option<i64>, Option<i64>)> {
+        None
+    }
+
+    fn asks(gift: &Gift) -> &Asks {
+        &gift.asks
     }
 
     fn into_block(self) -> Option<EcoVec<u8>> {

@@ -23,6 +23,8 @@ pub enum Call {
     MakeMut,
     /// The block is lent, and its items reversed.
     OwnMut,
+    /// It is lent with room for more, and its items reversed.
+    OwnWithRoom,
     /// The items are lent and reversed, and so many of them kept.
     Rewrite,
     Drain,

@@ -14,6 +14,29 @@ struct Counts {
     refused: u64,
 }
 
+/// What elements are made of, beside memory. It may count them.
+pub trait Source: Drop {
+    /// How often elements were cloned so far, and how often dropped.
+    fn counts(&self) -> Option<(u64, u64)> {
+        None
+    }
+
+    /// Whether there are so many elements.
+    fn has_live(&self, _count: u64) -> bool {
+        true
+    }
+
+    /// Whether so many elements were cloned since.
+    fn has_cloned(&self, before: Option<(u64, u64)>, count: u64) -> bool {
+        match (before, self.counts()) {
+            (Some((before, _)), Some((after, _))) => after.wrapping_sub(before) == count,
+            _ => true,
+        }
+    }
+}
+
+impl Source for () {}
+
 /// What was done to the elements that count here.
 #[derive(Drop)]
 pub struct Tally {
@@ -51,11 +74,6 @@ impl Tally {
         self.clones() == clones && self.drops() == drops
     }
 
-    /// Whether each element that was made was dropped, once.
-    pub fn is_settled(&self) -> bool {
-        self.counts.made.get() == self.drops()
-    }
-
     /// How many clones were made, and how many elements dropped, once the value is dropped.
     pub fn counts_without<V: Drop>(&self, value: V) -> (u64, u64) {
         drop(value);
@@ -84,6 +102,16 @@ impl Tally {
     /// A vector of elements that count here.
     pub fn list(&self, alloc: Global, n: usize) -> Result<EcoVec<Counting>, EcoError> {
         EcoVec::from_vec(alloc, self.elements(alloc, n)?).map_err(|rejected| rejected.error)
+    }
+}
+
+impl Source for Tally {
+    fn counts(&self) -> Option<(u64, u64)> {
+        Some((self.clones(), self.drops()))
+    }
+
+    fn has_live(&self, count: u64) -> bool {
+        self.counts.made.get().wrapping_sub(self.drops()) == count
     }
 }
 
@@ -118,63 +146,6 @@ impl Drop for Counting {
             number: _number,
         } = self;
         counts.drops.set(counts.drops.get().wrapping_add(1));
-    }
-}
-
-/// A number of which only so many clones succeed.
-#[derive(Drop)]
-pub struct Refusing {
-    pub value: i64,
-    left: Rc<Cell<u64>>,
-}
-
-impl Refusing {
-    pub fn new(value: i64, left: &Rc<Cell<u64>>) -> Result<Self, AllocError> {
-        Ok(Refusing {
-            value,
-            left: left.clone()?,
-        })
-    }
-
-    /// Numbers that share what is left of their clones.
-    pub fn several(
-        alloc: Global,
-        values: &[i64],
-        left: &Rc<Cell<u64>>,
-    ) -> Result<Vec<Self>, AllocError> {
-        let mut elements = Vec::new(alloc);
-        for value in values {
-            elements.push(Refusing::new(*value, left)?)?;
-        }
-        Ok(elements)
-    }
-
-    /// A vector of such numbers.
-    pub fn list(
-        alloc: Global,
-        values: &[i64],
-        left: &Rc<Cell<u64>>,
-    ) -> Result<EcoVec<Self>, EcoError> {
-        let elements = Refusing::several(alloc, values, left)?;
-        EcoVec::from_vec(alloc, elements).map_err(|rejected| rejected.error)
-    }
-
-    /// A number of which no clone succeeds.
-    pub fn never(alloc: Global, value: i64) -> Result<Self, AllocError> {
-        Ok(Refusing {
-            value,
-            left: Rc::new(alloc, Cell::new(0))?,
-        })
-    }
-}
-
-impl Clone for Refusing {
-    fn clone(&self) -> Result<Self, AllocError> {
-        let Some(left) = self.left.get().checked_sub(1) else {
-            return Err(AllocError);
-        };
-        self.left.set(left);
-        Refusing::new(self.value, &self.left)
     }
 }
 

@@ -1,6 +1,6 @@
 //! Elements of vectors: numbers, bytes, such whose clones take memory, and such that count.
 use crate::calls::{Call, Row};
-use crate::counting::{Counting, Tally};
+use crate::counting::{Counting, Source, Tally};
 use ecow_list::{EcoError, EcoVec, IntoArray, Rejected, range_in};
 use std::alloc::{AllocError, Global};
 use std::hash::{DefaultHasher, Hash};
@@ -9,7 +9,7 @@ use std::io::Write;
 /// An element that is known by a number.
 pub trait Element: Clone + Drop {
     /// What it is made of, beside memory.
-    type Source: Drop;
+    type Source: Source;
 
     /// Five elements, or a thousand. Not all elements are tried in arrays.
     type Array: Drop;
@@ -25,16 +25,6 @@ pub trait Element: Clone + Drop {
 
     /// Whether a clone is a copy, which takes no memory.
     fn is_plain() -> bool;
-
-    /// How often elements were cloned so far, and how often dropped, where that is counted.
-    fn counts(_source: &Self::Source) -> Option<(u64, u64)> {
-        None
-    }
-
-    /// Whether each element was dropped once, where that is counted.
-    fn is_settled(_source: &Self::Source) -> bool {
-        true
-    }
 
     fn into_array(list: EcoVec<Self>) -> Result<Self::Array, IntoArray<Self>> {
         Err(IntoArray::Length(list))
@@ -163,6 +153,29 @@ impl Element for u8 {
     }
 }
 
+/// It has no bytes, and no number of its own.
+impl Element for () {
+    type Source = ();
+
+    type Array = ();
+
+    fn of(_alloc: Global, _source: &(), _number: i64) -> Result<Self, AllocError> {
+        Ok(())
+    }
+
+    fn number(&self) -> i64 {
+        0
+    }
+
+    fn shown(_number: i64) -> i64 {
+        0
+    }
+
+    fn is_plain() -> bool {
+        true
+    }
+}
+
 /// A number with a name, so that its clone takes memory.
 #[derive(Clone, Drop)]
 pub struct Named {
@@ -235,14 +248,6 @@ impl Element for Counting {
 
     fn is_plain() -> bool {
         false
-    }
-
-    fn counts(tally: &Tally) -> Option<(u64, u64)> {
-        Some((tally.clones(), tally.drops()))
-    }
-
-    fn is_settled(tally: &Tally) -> bool {
-        tally.is_settled()
     }
 
     fn into_array(list: EcoVec<Counting>) -> Result<Counted, IntoArray<Counting>> {

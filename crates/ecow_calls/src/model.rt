@@ -114,6 +114,7 @@ impl Row {
             Call::ExtendFromSlice | Call::Extend | Call::ExtendStrs | Call::ExtendHalves => true,
             Call::ExtendManyStrs(_) | Call::ExtendFromCopied | Call::ExtendFromWithin => true,
             Call::Write | Call::Add | Call::Reserve | Call::ReplaceRange => true,
+            Call::OwnWithRoom => true,
             _ => false,
         }
     }
@@ -124,6 +125,18 @@ impl Row {
             Call::Extend => Some(1),
             Call::ExtendHalves => Some(self.count / 2),
             Call::ExtendManyStrs(_) => Some(self.count),
+            _ => None,
+        }
+    }
+
+    /// How many items the iterator gives that a call is given.
+    pub fn items(&self) -> Option<usize> {
+        match self.call {
+            Call::Extend | Call::Splice | Call::FromIter | Call::Collect => Some(self.count),
+            Call::ExtendStrs | Call::FromStrs => Some(1),
+            Call::ExtendHalves => Some(3),
+            Call::ExtendManyStrs(times) | Call::FromManyStrs(times) => Some(times),
+            Call::FromEcoStrings => Some(2),
             _ => None,
         }
     }
@@ -163,7 +176,7 @@ impl Row {
     pub fn origin(&self, len: usize, place: usize) -> Origin {
         let Edit { start, end, count } = self.edit(len);
         match self.call {
-            Call::MakeMut | Call::OwnMut | Call::Rewrite => {
+            Call::MakeMut | Call::OwnMut | Call::OwnWithRoom | Call::Rewrite => {
                 Origin::Before(len.saturating_sub(1).saturating_sub(place))
             }
             Call::ExtendFromWithin if place >= len => {
@@ -229,6 +242,8 @@ impl Case {
     fn needed(&self) -> usize {
         match self.row.call {
             Call::Reserve => self.state.len.saturating_add(self.row.count),
+            // A vector always has a block then.
+            Call::OwnWithRoom => self.state.len.saturating_add(self.row.count).max(1),
             _ => self.len_after(),
         }
     }

@@ -17,14 +17,4 @@ impl Numbers {
             .wrapping_add(1442695040888963407);
         (self.0 >> 33).checked_rem(limit).unwrap_or(0)
     }
-
-    /// An index or a count below 7.
-    pub fn index(&mut self) -> usize {
-        usize::try_from(self.below(7)).unwrap_or(0)
-    }
-
-    /// An element below 100.
-    pub fn value(&mut self) -> i64 {
-        i64::try_from(self.below(100)).unwrap_or(0)
-    }
 }

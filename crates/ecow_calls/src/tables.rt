@@ -6,7 +6,7 @@ use crate::calls::{Call, LAST, Row, part_row, row_of};
 pub const TIMES: usize = 14286;
 
 /// Calls that change a vector, read it or give it away.
-pub fn vector_changes() -> [Row; 36] {
+pub fn vector_changes() -> [Row; 38] {
     [
         row_of(
             Call::Read,
@@ -26,6 +26,8 @@ pub fn vector_changes() -> [Row; 36] {
         part_row(Call::Retain, "retain(all but 2)", (0, 2), 0).at(0),
         row_of(Call::MakeMut, "make_mut()", 0),
         row_of(Call::OwnMut, "own_mut()", 0),
+        row_of(Call::OwnWithRoom, "own_with_room(1)", 1),
+        row_of(Call::OwnWithRoom, "own_with_room(20)", 20),
         row_of(Call::Reserve, "reserve(0)", 0),
         row_of(Call::Reserve, "reserve(1)", 1),
         row_of(Call::Reserve, "reserve(20)", 20),
@@ -52,7 +54,7 @@ pub fn vector_changes() -> [Row; 36] {
 }
 
 /// Further changes, on few elements.
-pub fn further_vector_changes() -> [Row; 25] {
+pub fn further_vector_changes() -> [Row; 27] {
     [
         part_row(Call::Insert, "insert(3, x)", (3, 3), 1),
         part_row(Call::Insert, "insert(len, x)", (LAST, LAST), 1),
@@ -79,6 +81,8 @@ pub fn further_vector_changes() -> [Row; 25] {
         part_row(Call::Splice, "splice(0..0, 9)", (0, 0), 9),
         part_row(Call::Splice, "splice(0..2, 40)", (0, 2), 40),
         row_of(Call::PushReserved, "reserve(1), push(x)", 1),
+        row_of(Call::OwnWithRoom, "own_with_room(0)", 0),
+        row_of(Call::OwnWithRoom, "own_with_room(4)", 4),
     ]
 }
 
@@ -92,6 +96,23 @@ pub fn vector_growth() -> [Row; 7] {
         row_of(Call::ExtendFromSlice, "extend_from_slice(7)", 7).repeated(TIMES),
         row_of(Call::Extend, "extend(100000)", 100000),
         part_row(Call::Splice, "splice(0..0, 100000)", (0, 0), 100000),
+    ]
+}
+
+/// Calls by which a vector of elements of no bytes grows.
+pub fn unit_growth() -> [Row; 3] {
+    [
+        row_of(Call::Push, "push(())", 1).repeated(100000),
+        row_of(Call::PushReserved, "reserve(1), push(())", 1).repeated(100000),
+        row_of(Call::ExtendFromSlice, "extend_from_slice(7 of ())", 7).repeated(TIMES),
+    ]
+}
+
+/// What makes such a vector.
+pub fn unit_makers() -> [Row; 2] {
+    [
+        row_of(Call::FromElem, "::from_elem((), 1)", 1),
+        row_of(Call::FromElem, "::from_elem((), 100000)", 100000),
     ]
 }
 

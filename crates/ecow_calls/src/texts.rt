@@ -7,7 +7,8 @@ use crate::calls::{Call, LAST, Role, Row};
 use crate::elements::{compare, or_memory};
 use crate::letters;
 use crate::states::State;
-use crate::value::{Asked, Value};
+use crate::value::Value;
+use crate::watched::Asks;
 use ecow_bytes::SmallBytes;
 use ecow_list::{EcoError, EcoVec, Rejected};
 use ecow_string::SmallText;
@@ -22,6 +23,7 @@ pub struct Gift<V> {
     alloc: Global,
     text: String,
     texts: Vec<V>,
+    asks: Asks,
 }
 
 /// What a call answers that took a character out.
@@ -93,21 +95,24 @@ fn add<const N: usize>(text: &mut SmallText<N>, row: &Row, more: &str) -> Result
         Call::InsertSlice if text.is_char_boundary(start) => text.insert_str(start, more),
         Call::ReplaceRange if has_part(text, start, end) => text.replace_range(start..end, more),
         Call::Write => write(text, more),
-        _ => extend(text, row, more),
+        _ => Err(EcoError::Capacity),
     }
 }
 
 /// Makes a call that adds the pieces of an iterator.
-fn extend<const N: usize>(text: &mut SmallText<N>, row: &Row, more: &str) -> Result<(), EcoError> {
+fn extend<const N: usize>(
+    text: &mut SmallText<N>,
+    row: &Row,
+    (more, asks): (&str, &Asks),
+) -> Result<(), EcoError> {
     match row.call {
-        Call::Extend => text.extend_chars(more.chars()),
-        Call::ExtendStrs => text.extend_strs(Some(more)),
+        Call::Extend => text.extend_chars(asks.of(more.chars())),
         Call::ExtendHalves => {
             let half = more.get(..more.len() / 2).unwrap_or("");
-            text.extend_strs([half, "", half])
+            text.extend_strs(asks.of([half, "", half].into_iter()))
         }
-        Call::ExtendManyStrs(times) => text.extend_strs(repeat_n(more, times)),
-        _ => Err(EcoError::Capacity),
+        Call::ExtendManyStrs(times) => text.extend_strs(asks.of(repeat_n(more, times))),
+        _ => text.extend_strs(asks.of(repeat_n(more, 1))),
     }
 }
 
@@ -206,13 +211,13 @@ fn error_of_string(rejected: Rejected<String>, row: &Row) -> EcoError {
 fn collected<const N: usize>(
     alloc: Global,
     row: &Row,
-    text: &str,
+    (text, asks): (&str, &Asks),
 ) -> Result<SmallText<N>, EcoError> {
     match row.call {
-        Call::FromIter => SmallText::from_chars(alloc, text.chars()),
-        Call::FromStrs => SmallText::from_strs(alloc, Some(text)),
-        Call::FromManyStrs(times) => SmallText::from_strs(alloc, repeat_n(text, times)),
-        Call::Collect => or_memory(text.chars().collect(alloc)),
+        Call::FromIter => SmallText::from_chars(alloc, asks.of(text.chars())),
+        Call::FromStrs => SmallText::from_strs(alloc, asks.of(repeat_n(text, 1))),
+        Call::FromManyStrs(times) => SmallText::from_strs(alloc, asks.of(repeat_n(text, times))),
+        Call::Collect => or_memory(asks.of(text.chars()).collect(alloc)),
         _ => Err(EcoError::Capacity),
     }
 }
@@ -235,14 +240,6 @@ impl<const N: usize> Value for SmallText<N> {
     }
 
     fn is_plain() -> bool {
-        true
-    }
-
-    fn counts(_source: &()) -> Option<(u64, u64)> {
-        None
-    }
-
-    fn is_settled(_source: &()) -> bool {
         true
     }
 
@@ -288,7 +285,12 @@ impl<const N: usize> Value for SmallText<N> {
                 }
             }
         }
-        Ok(Gift { alloc, text, texts })
+        Ok(Gift {
+            alloc,
+            text,
+            texts,
+            asks: Asks::new(),
+        })
     }
 
     fn change(&mut self, row: &Row, gift: &mut Gift<SmallText<N>>) -> Result<Out, EcoError> {
@@ -302,7 +304,7 @@ impl<const N: usize> Value for SmallText<N> {
                 add(self, row, more)?
             }
             Call::Extend | Call::ExtendStrs | Call::ExtendHalves | Call::ExtendManyStrs(_) => {
-                extend(self, row, more)?
+                extend(self, row, (more, &gift.asks))?
             }
             Call::Add => sum(self, more, gift.alloc)?,
             Call::Pop | Call::Remove => return take(self, row),
@@ -343,11 +345,11 @@ impl<const N: usize> Value for SmallText<N> {
             }
             Call::FromEcoStrings => {
                 let texts = mem::replace(&mut gift.texts, Vec::new(alloc));
-                SmallText::from_eco_strings(alloc, texts)
+                SmallText::from_eco_strings(alloc, gift.asks.of(texts.into_iter()))
             }
             Call::Format => printed(SmallText::format(alloc, text)),
             Call::New => Ok(SmallText::new(alloc)),
-            _ => collected(alloc, row, text),
+            _ => collected(alloc, row, (text, &gift.asks)),
         }
     }
 
@@ -381,8 +383,12 @@ impl<const N: usize> Value for SmallText<N> {
         }
     }
 
-    fn asked(_gift: &Gift<SmallText<N>>) -> Asked {
-        Asked::Unseen
+    fn ends(_out: &mut Out) -> Option<(Option<i64>, Option<i64>)> {
+        None
+    }
+
+    fn asks(gift: &Gift<SmallText<N>>) -> &Asks {
+        &gift.asks
     }
 
     fn into_block(self) -> Option<EcoVec<u8>> {

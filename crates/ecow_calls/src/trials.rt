@@ -1,9 +1,10 @@
 //! A call on a value in a state, seen from outside: it does what the model says, or is refused where
 //! that may be, and leaves all as it was.
 use crate::calls::{Call, Role, Row};
-use crate::model::{Case, Origin};
+use crate::counting::Source;
+use crate::model::{Case, Edit, Origin};
 use crate::states::State;
-use crate::value::{Asked, Value, case_of};
+use crate::value::{Value, case_of};
 use crate::watch::Watch;
 use ecow_list::EcoError;
 use std::alloc::Global;
@@ -77,24 +78,27 @@ fn hands_out<V: Value>(case: &Case, out: &V::Out) -> bool {
     hold
 }
 
-/// Whether an iterator was asked for each item that went in, and once more.
-fn is_asked<V: Value>(case: &Case, gift: &V::Gift, count: usize) -> bool {
-    let takes_items = match case.row.call {
-        Call::Extend | Call::Splice | Call::FromIter | Call::Collect => true,
-        _ => false,
-    };
-    match V::asked(gift) {
-        Asked::ForItems(times) => !takes_items || times == count.saturating_add(1),
-        Asked::ForHint => false,
-        Asked::Unseen => true,
+/// Whether what is handed out gives its first item and its last, where it has more than two. It is
+/// dropped with the others.
+fn gives_ends<V: Value>(case: &Case, out: &mut V::Out) -> bool {
+    let Edit { start, end, .. } = case.edit();
+    if !case.row.hands_out() || end.saturating_sub(start) < 3 {
+        return true;
     }
+    let (first, last) = (
+        V::letter(&case.state, start),
+        V::letter(&case.state, end - 1),
+    );
+    V::ends(out).is_none_or(|ends| ends == (Some(first), Some(last)))
 }
 
-/// Whether so many elements were cloned, where that is counted.
-fn is_cloned<V: Value>(source: &V::Source, before: Option<(u64, u64)>, clones: usize) -> bool {
-    match (before, V::counts(source)) {
-        (Some((before, _)), Some((after, _))) => after.wrapping_sub(before) == clones as u64,
-        _ => true,
+/// Whether an iterator was asked for so many items and once more, where a call is given one, and for
+/// no hint.
+fn is_asked<V: Value>(gift: &V::Gift, items: Option<usize>) -> bool {
+    match (V::asks(gift).times(), items) {
+        (Some(times), Some(items)) => times == items.saturating_add(1),
+        (times, None) => times.is_some(),
+        (None, _) => false,
     }
 }
 
@@ -135,15 +139,16 @@ fn change_holds<V: Value>(
                 && hands_out::<V>(case, out)
                 && value.is_inline() == case.is_inline_after()
                 && value.capacity() == case.room_after()
-                && is_asked::<V>(case, gift, case.row.count);
+                && is_asked::<V>(gift, case.row.items());
             (hold, case.leaves())
         }
         Err(EcoError::Memory) if !case.is_free() && watch.may_refuse() => {
             let count = value.len().saturating_sub(case.state.len);
+            let asked = (case.row.call == Call::Extend).then_some(count);
             let hold = is_cut(case, count)
                 && holds_front(case, value, count)
                 && is_room_left(case, count, value.capacity())
-                && (case.row.call != Call::Extend || is_asked::<V>(case, gift, count));
+                && is_asked::<V>(gift, asked);
             (hold, count > 0)
         }
         Err(_) => (false, false),
@@ -199,11 +204,15 @@ fn change_trial<V: Value>(alloc: Global, source: &V::Source, watch: &Watch, case
             Err(_) => return false,
         }
     }
-    let counts = V::counts(source);
-    let done = value.change(&case.row, &mut gift);
-    let is_cloned = done.is_err() || is_cloned::<V>(source, counts, case.clones(Role::Change));
+    let counts = source.counts();
+    let mut done = value.change(&case.row, &mut gift);
+    let is_cloned = done.is_err() || source.has_cloned(counts, case.clones(Role::Change) as u64);
     let (hold, has_left) = change_holds(watch, case, &done, &value, &gift);
-    hold && is_cloned && twin_holds(case, twin, has_left)
+    let gives_ends = match &mut done {
+        Ok(out) => gives_ends::<V>(case, out),
+        Err(_) => true,
+    };
+    hold && is_cloned && gives_ends && twin_holds(case, twin, has_left)
 }
 
 /// Makes a value of a value in a state, which stays as it was.
@@ -218,14 +227,14 @@ fn derive_trial<V: Value>(alloc: Global, source: &V::Source, watch: &Watch, case
             Err(_) => return false,
         }
     }
-    let counts = V::counts(source);
+    let counts = source.counts();
     let hold = match value.derive(&case.row) {
         Ok(Some(made)) => is_made(case, &made) && is_shared_by_clones(case, made),
         Ok(None) => case.row.call == Call::ToStd,
         Err(EcoError::Memory) => !case.is_made_free() && watch.may_refuse(),
         Err(_) => false,
     };
-    let is_cloned = is_cloned::<V>(source, counts, 0);
+    let is_cloned = source.has_cloned(counts, 0);
     hold && is_cloned && is_before(case, &value) && twin_holds(case, twin, false)
 }
 
@@ -255,12 +264,12 @@ fn make_trial<V: Value>(alloc: Global, source: &V::Source, watch: &Watch, case: 
     let Ok(mut gift) = V::gift(alloc, source, &case.row) else {
         return watch.may_refuse();
     };
-    let counts = V::counts(source);
+    let counts = source.counts();
     match V::make(&case.row, &mut gift) {
         Ok(made) => {
             is_made(case, &made)
-                && is_cloned::<V>(source, counts, case.clones(Role::Make))
-                && is_asked::<V>(case, &gift, case.row.count)
+                && source.has_cloned(counts, case.clones(Role::Make) as u64)
+                && is_asked::<V>(&gift, case.row.items())
         }
         Err(EcoError::Memory) => !case.is_made_free() && watch.may_refuse(),
         Err(_) => false,
@@ -284,7 +293,7 @@ pub fn trial<V: Value>(
         Role::Derive => derive_trial::<V>(alloc, source, watch, &case),
         Role::Make => make_trial::<V>(alloc, source, watch, &case),
     };
-    watch.sees(hold && V::is_settled(source), row, state)
+    watch.sees(hold && source.has_live(0), row, state)
 }
 
 /// Whether each call of a table holds in each of the states.

@@ -1,25 +1,17 @@
 //! What those see of a value that watch its calls.
 use crate::calls::{Role, Row};
+use crate::counting::Source;
 use crate::model::Case;
 use crate::states::State;
+use crate::watched::Asks;
 use ecow_list::EcoError;
 use std::alloc::{AllocError, Global};
-
-/// What the iterator of a gift was asked.
-#[derive(Clone, Copy)]
-pub enum Asked {
-    /// For an item, so often, and for nothing else.
-    ForItems(usize),
-    ForHint,
-    /// It counts nothing.
-    Unseen,
-}
 
 /// A vector, bytes or a text. A call that hands back another value than it was given answers
 /// `Capacity`, which none is refused for here.
 pub trait Value: Clone + Drop {
     /// What elements are made of, beside memory.
-    type Source: Drop;
+    type Source: Source;
 
     /// What a call is given, made before it.
     type Gift: Drop;
@@ -37,12 +29,6 @@ pub trait Value: Clone + Drop {
 
     /// Whether a clone of an item can't be refused.
     fn is_plain() -> bool;
-
-    /// How often elements were cloned so far, and how often dropped, where that is counted.
-    fn counts(source: &Self::Source) -> Option<(u64, u64)>;
-
-    /// Whether each element was dropped once, where that is counted.
-    fn is_settled(source: &Self::Source) -> bool;
 
     /// What stands before a call's name in the tables of costs.
     fn owner(role: Role, row: &Row) -> &'static str;
@@ -76,7 +62,11 @@ pub trait Value: Clone + Drop {
 
     fn handed(out: &Self::Out, place: usize) -> Option<i64>;
 
-    fn asked(gift: &Self::Gift) -> Asked;
+    /// Takes one item from each end of what is handed out, where that goes by steps.
+    fn ends(out: &mut Self::Out) -> Option<(Option<i64>, Option<i64>)>;
+
+    /// What the iterator was asked that a call is given.
+    fn asks(gift: &Self::Gift) -> &Asks;
 
     /// The block of a value; none of an inline one.
     fn into_block(self) -> Option<Self::Block>;

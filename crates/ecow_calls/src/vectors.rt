@@ -1,44 +1,20 @@
 //! The calls of `EcoVec`.
-ghost use Rattle.std.specs.Iterator.{at_most};
-
 use crate::calls::{Call, Role, Row};
 use crate::elements::{Element, or_memory};
 use crate::states::State;
-use crate::value::{Asked, Value};
+use crate::value::Value;
+use crate::watched::Asks;
 use ecow_list::{Drain, EcoError, EcoVec, IntoArray, IntoIter, Rejected, Splice, range_in};
 use std::alloc::{AllocError, Global};
-use std::cell::Cell;
-use std::mem;
+use std::{mem, vec};
 
-/// What a call is given: elements, of which calls that take them one by one take the last first. As
-/// an iterator it gives so many of them, and counts how often it is asked. Its hint is of no use.
+/// What a call is given: elements, or such as it takes one by one.
 #[derive(Drop)]
 pub struct Gift<T> {
     alloc: Global,
     elements: Vec<T>,
-    left: usize,
-    asked: usize,
-    is_hint_asked: Cell<bool>,
-}
-
-impl<T> Iterator for &mut Gift<T> {
-    type Item = T;
-
-    ghost remaining = { λ it. at_most it.now.left };
-
-    fn next(&mut self) -> Option<T> {
-        self.asked = self.asked.wrapping_add(1);
-        if self.left == 0 {
-            return None;
-        }
-        self.left -= 1;
-        self.elements.pop()
-    }
-
-    fn size_hint(&self) -> (usize, Option<usize>) {
-        self.is_hint_asked.set(true);
-        (0, None)
-    }
+    items: vec::IntoIter<T>,
+    asks: Asks,
 }
 
 impl<T: Drop> Gift<T> {
@@ -69,14 +45,6 @@ fn nothing<T: Element>(done: Result<(), EcoError>) -> Outcome<T> {
     }
 }
 
-/// Whether elements are taken one by one, the last first.
-fn is_taken_last_first(call: Call) -> bool {
-    matches!(
-        call,
-        Call::Extend | Call::Splice | Call::FromIter | Call::Collect
-    )
-}
-
 /// How many elements a call is given.
 fn gift_len(row: &Row) -> usize {
     match row.call {
@@ -84,7 +52,8 @@ fn gift_len(row: &Row) -> usize {
             row.count.saturating_mul(row.times)
         }
         Call::Extend => row.count.saturating_mul(row.times),
-        Call::Truncate | Call::Reserve | Call::WithCapacity | Call::Rewrite => 0,
+        Call::Truncate | Call::Reserve | Call::OwnWithRoom => 0,
+        Call::WithCapacity | Call::Rewrite => 0,
         Call::FromElem => 1,
         _ => row.count,
     }
@@ -194,6 +163,7 @@ fn settle<T: Element>(list: &mut EcoVec<T>, row: &Row) -> Result<(), EcoError> {
         Call::Reserve => list.reserve(row.count)?,
         Call::MakeMut => list.make_mut()?.reverse(),
         Call::OwnMut => own_and_reverse(list)?,
+        Call::OwnWithRoom => list.own_with_room(row.count)?.as_mut_slice().reverse(),
         Call::Read => {
             let _seen = list.as_slice().len() == list.iter().count() && list.is_empty();
             let _room = list.capacity() > 0 && list.is_unique();
@@ -220,7 +190,8 @@ fn take<T: Element>(list: &mut EcoVec<T>, row: &Row, gift: &mut Gift<T>) -> Outc
             Ok(Out::Drained(drained))
         }
         Call::Splice if range_in(&(start..end), list.len()) => {
-            let spliced = list.splice(start..end, gift)?;
+            let items = gift.items.by_ref().take(row.count);
+            let spliced = list.splice(start..end, gift.asks.of(items))?;
             Ok(Out::Spliced(spliced))
         }
         _ => Err(EcoError::Capacity),
@@ -286,14 +257,6 @@ impl<T: Element> Value for EcoVec<T> {
         T::is_plain()
     }
 
-    fn counts(source: &T::Source) -> Option<(u64, u64)> {
-        T::counts(source)
-    }
-
-    fn is_settled(source: &T::Source) -> bool {
-        T::is_settled(source)
-    }
-
     fn owner(role: Role, row: &Row) -> &'static str {
         match (role, row.call) {
             (Role::Make, Call::Collect) => "",
@@ -318,21 +281,21 @@ impl<T: Element> Value for EcoVec<T> {
     }
 
     fn gift(alloc: Global, source: &T::Source, row: &Row) -> Result<Gift<T>, AllocError> {
-        let mut elements = elements(alloc, source, FIRST_GIVEN, gift_len(row))?;
-        if is_taken_last_first(row.call) {
-            elements.reverse();
-        }
+        let elements = elements(alloc, source, FIRST_GIVEN, gift_len(row))?;
+        let (elements, items) = if row.items().is_some() {
+            (Vec::new(alloc), elements)
+        } else {
+            (elements, Vec::new(alloc))
+        };
         Ok(Gift {
             alloc,
             elements,
-            left: 0,
-            asked: 0,
-            is_hint_asked: Cell::new(false),
+            items: items.into_iter(),
+            asks: Asks::new(),
         })
     }
 
     fn change(&mut self, row: &Row, gift: &mut Gift<T>) -> Outcome<T> {
-        gift.left = row.count;
         match row.call {
             Call::Push | Call::PushReserved | Call::Insert | Call::Set | Call::Update => {
                 match gift.elements.pop() {
@@ -341,7 +304,10 @@ impl<T: Element> Value for EcoVec<T> {
                 }
             }
             Call::ExtendFromSlice => nothing(self.extend_from_slice(gift.elements.as_slice())),
-            Call::Extend => nothing(self.extend(gift)),
+            Call::Extend => {
+                let items = gift.items.by_ref().take(row.count);
+                nothing(self.extend(gift.asks.of(items)))
+            }
             Call::Pop | Call::Remove | Call::Drain | Call::Splice => take(self, row, gift),
             Call::IntoVec | Call::IntoIter | Call::IntoArray | Call::Drop => {
                 give(self, row, gift.alloc)
@@ -363,7 +329,6 @@ impl<T: Element> Value for EcoVec<T> {
 
     fn make(row: &Row, gift: &mut Gift<T>) -> Result<Self, EcoError> {
         let alloc = gift.alloc;
-        gift.left = row.count;
         match row.call {
             Call::WithCapacity => EcoVec::with_capacity(alloc, row.count),
             Call::FromVec => EcoVec::from_vec(alloc, gift.take()).map_err(|rejected| error_beside(
@@ -380,8 +345,8 @@ impl<T: Element> Value for EcoVec<T> {
                 ),
                 None => Err(EcoError::Capacity),
             },
-            Call::FromIter => EcoVec::from_iter(alloc, gift),
-            Call::Collect => or_memory(gift.collect(alloc)),
+            Call::FromIter => EcoVec::from_iter(alloc, gift.asks.of(gift.items.by_ref())),
+            Call::Collect => or_memory(gift.asks.of(gift.items.by_ref()).collect(alloc)),
             _ => Ok(EcoVec::new(alloc)),
         }
     }
@@ -416,12 +381,21 @@ impl<T: Element> Value for EcoVec<T> {
         handed.map(|element| element.number())
     }
 
-    fn asked(gift: &Gift<T>) -> Asked {
-        if gift.is_hint_asked.get() {
-            Asked::ForHint
-        } else {
-            Asked::ForItems(gift.asked)
-        }
+    fn ends(out: &mut Out<T>) -> Option<(Option<i64>, Option<i64>)> {
+        let (first, last) = match out {
+            Out::Drained(rest) => (rest.next(), rest.next_back()),
+            Out::Spliced(rest) => (rest.next(), rest.next_back()),
+            Out::Rest(rest) => (rest.next(), rest.next_back()),
+            _ => return None,
+        };
+        Some((
+            first.map(|element| element.number()),
+            last.map(|element| element.number()),
+        ))
+    }
+
+    fn asks(gift: &Gift<T>) -> &Asks {
+        &gift.asks
     }
 
     fn into_block(self) -> Option<Self> {

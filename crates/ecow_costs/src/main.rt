@@ -8,10 +8,9 @@ mod marks;
 mod measure;
 mod prints;
 mod rows;
-mod units;
 
 use crate::marks::Meter;
-use crate::measure::{add_bytes, add_copies, add_texts, add_vectors};
+use crate::measure::{add_bytes, add_copies, add_texts, add_units, add_vectors};
 use crate::rows::Rows;
 use ecow_bytes::SmallBytes;
 use ecow_string::SmallText;
@@ -48,7 +47,7 @@ fn main(rt: HostRuntime) -> io::Result<()> {
     let mut rows = Rows::new(rt.alloc());
     add_vectors(meter, &mut rows);
     add_copies(meter, &mut rows);
-    units::add_rows(meter, &mut rows);
+    add_units(meter, &mut rows);
     add_small(meter, &mut rows);
     prints::add_rows(meter, &mut rows);
     if is_marked {

@@ -2,7 +2,7 @@
 use crate::marks::Meter;
 use crate::rows::{Cost, Form, Rows, Standing, USUAL};
 use ecow_calls::calls::{Role, Row};
-use ecow_calls::counting::{Counting, Tally};
+use ecow_calls::counting::{Counting, Source, Tally};
 use ecow_calls::elements::or_memory;
 use ecow_calls::states::{State, edge, few_bytes, few_elements, few_spilled, no_byte, thousand};
 use ecow_calls::tables;
@@ -122,12 +122,12 @@ fn cost_of_change<V: Value>(
     let mut value = V::made(meter.alloc, source, state)?;
     let twin = twin_of(&value, state)?;
     let mut gift = V::gift(meter.alloc, source, row)?;
-    let (counted, _begun) = (V::counts(source), meter.begin());
+    let (counted, _begun) = (source.counts(), meter.begin());
     let mut out = None;
     for _ in 0..row.times {
         out = Some(value.change(row, &mut gift)?);
     }
-    let (_ended, counts) = (meter.end(), since(counted, V::counts(source)));
+    let (_ended, counts) = (meter.end(), since(counted, source.counts()));
     drop(out);
     Ok(Cost {
         after: after_change(row, value, twin),
@@ -143,9 +143,9 @@ fn cost_of_derivation<V: Value>(
 ) -> Result<Cost, EcoError> {
     let value = V::made(meter.alloc, source, state)?;
     let twin = twin_of(&value, state)?;
-    let (counted, _begun) = (V::counts(source), meter.begin());
+    let (counted, _begun) = (source.counts(), meter.begin());
     let made = value.derive(row)?;
-    let (_ended, counts) = (meter.end(), since(counted, V::counts(source)));
+    let (_ended, counts) = (meter.end(), since(counted, source.counts()));
     let after = after_making(made, Some(value));
     drop(twin);
     Ok(Cost {
@@ -161,9 +161,9 @@ fn cost_of_making<V: Value>(
     (row, state): (&Row, &State),
 ) -> Result<Cost, EcoError> {
     let mut gift = V::gift(meter.alloc, source, row)?;
-    let (counted, _begun) = (V::counts(source), meter.begin());
+    let (counted, _begun) = (source.counts(), meter.begin());
     let made = V::make(row, &mut gift)?;
-    let (_ended, counts) = (meter.end(), since(counted, V::counts(source)));
+    let (_ended, counts) = (meter.end(), since(counted, source.counts()));
     Ok(Cost {
         after: after_making(Some(made), None),
         counts,
@@ -231,6 +231,17 @@ pub(crate) fn add_copies(meter: Meter, rows: &mut Rows) {
     add::<EcoVec<u8>>(meter, rows, &(), Role::Change, (&within, &many));
     add::<EcoVec<u8>>(meter, rows, &(), Role::Change, (&growth, &few[..1]));
     add::<EcoVec<u8>>(meter, rows, &(), Role::Make, (&makers, &few[..1]));
+}
+
+/// The rows of elements of no bytes.
+pub(crate) fn add_units(meter: Meter, rows: &mut Rows) {
+    let (none, growth, makers) = (
+        &few_elements()[..1],
+        tables::unit_growth(),
+        tables::unit_makers(),
+    );
+    add::<EcoVec<()>>(meter, rows, &(), Role::Change, (&growth, none));
+    add::<EcoVec<()>>(meter, rows, &(), Role::Make, (&makers, none));
 }
 
 /// The rows of changes and derivations of bytes or texts in these states.

@@ -2,15 +2,17 @@
 //! gate. A command does its work, or is refused and leaves all names as they were.
 #![tactic(auto)]
 
+mod commands;
+mod line;
 mod model;
-mod orders;
 mod scripts;
 mod seeds;
 mod stores;
-mod table;
 
-use crate::stores::NamedStore;
-use crate::table::Kind;
+use crate::commands::Kind;
+use crate::seeds::{filling_holds, run_holds, seeds_hold};
+use crate::stores::{NamedStore, Trial, clones_hold, kind_holds, makers_hold};
+use ecow_calls::counting::{Counting, Tally};
 use ecow_calls::parts::{Parts, run};
 use ecow_calls::watch::Watch;
 use ecow_counted::Counted;
@@ -18,26 +20,39 @@ use ecow_store::SmallStore;
 use std::alloc::Global;
 use std::io;
 
-fn store_holds<const N: usize>(alloc: Global, watch: &Watch, _none: &SmallStore<i64, N>) -> bool {
-    stores::kind_holds::<SmallStore<i64, N>>(alloc, watch, Kind::Bytes)
-        && stores::kind_holds::<SmallStore<i64, N>>(alloc, watch, Kind::Text)
-        && stores::makers_hold::<SmallStore<i64, N>>(alloc, watch, Kind::Bytes)
-        && stores::makers_hold::<SmallStore<i64, N>>(alloc, watch, Kind::Text)
+/// The commands on bytes and texts.
+fn store_holds<K: NamedStore>(trial: &Trial<'_, K::Element>) -> bool {
+    kind_holds::<K>(trial, Kind::Bytes)
+        && kind_holds::<K>(trial, Kind::Text)
+        && makers_hold::<K>(trial, Kind::Bytes)
+        && makers_hold::<K>(trial, Kind::Text)
 }
 
-fn lists_hold<K: NamedStore>(alloc: Global, watch: &Watch) -> bool {
-    stores::kind_holds::<K>(alloc, watch, Kind::List)
-        && stores::makers_hold::<K>(alloc, watch, Kind::List)
+fn lists_hold<K: NamedStore>(trial: &Trial<'_, K::Element>) -> bool {
+    kind_holds::<K>(trial, Kind::List) && makers_hold::<K>(trial, Kind::List)
 }
 
-fn runs_hold(alloc: Global, watch: &Watch) -> bool {
-    seeds::run_holds::<SmallStore<i64, 15>>(alloc, watch, Kind::List)
-        && seeds::run_holds::<SmallStore<i64, 15>>(alloc, watch, Kind::Bytes)
-        && seeds::run_holds::<SmallStore<i64, 15>>(alloc, watch, Kind::Text)
-        && seeds::run_holds::<Counted<i64>>(alloc, watch, Kind::List)
+/// Elements that count.
+fn counting_hold<K: NamedStore<Element = Counting>>(alloc: Global, watch: &Watch) -> bool {
+    let Ok(tally) = Tally::new(alloc) else {
+        return watch.may_refuse();
+    };
+    let trial = Trial {
+        alloc,
+        source: &tally,
+        watch,
+    };
+    clones_hold::<K>(&trial) && (!watch.is_strict() || seeds_hold::<K>(&trial, 1))
 }
 
-const NAMES: [&str; 12] = [
+fn runs_hold(trial: &Trial<'_, i64>) -> bool {
+    run_holds::<SmallStore<i64, 15>>(trial, Kind::List)
+        && run_holds::<SmallStore<i64, 15>>(trial, Kind::Bytes)
+        && run_holds::<SmallStore<i64, 15>>(trial, Kind::Text)
+        && run_holds::<Counted<i64>>(trial, Kind::List)
+}
+
+const NAMES: [&str; 14] = [
     "lists of a store",
     "counted lists",
     "a store, none inline",
@@ -50,25 +65,34 @@ const NAMES: [&str; 12] = [
     "runs",
     "filled lists",
     "scripts",
+    "clones in a store",
+    "clones in counted lists",
 ];
 
 struct Both;
 
 impl Parts for Both {
     fn holds(part: usize, alloc: Global, watch: &Watch) -> bool {
+        let trial = Trial {
+            alloc,
+            source: &(),
+            watch,
+        };
         match part {
-            0 => lists_hold::<SmallStore<i64, 15>>(alloc, watch),
-            1 => lists_hold::<Counted<i64>>(alloc, watch),
-            2 => store_holds::<0>(alloc, watch, &SmallStore::new(alloc)),
-            3 => store_holds::<4>(alloc, watch, &SmallStore::new(alloc)),
-            4 => store_holds::<15>(alloc, watch, &SmallStore::new(alloc)),
-            5 => store_holds::<23>(alloc, watch, &SmallStore::new(alloc)),
-            6 => seeds::seeds_hold::<SmallStore<i64, 4>>(alloc, watch, 3),
-            7 => seeds::seeds_hold::<SmallStore<i64, 15>>(alloc, watch, 3),
-            8 => seeds::seeds_hold::<Counted<i64>>(alloc, watch, 1),
-            9 => runs_hold(alloc, watch),
-            10 => seeds::filling_holds(alloc, watch),
-            _ => scripts::store_holds(alloc, watch) && scripts::counted_holds(alloc, watch),
+            0 => lists_hold::<SmallStore<i64, 15>>(&trial),
+            1 => lists_hold::<Counted<i64>>(&trial),
+            2 => store_holds::<SmallStore<i64, 0>>(&trial),
+            3 => store_holds::<SmallStore<i64, 4>>(&trial),
+            4 => store_holds::<SmallStore<i64, 15>>(&trial),
+            5 => store_holds::<SmallStore<i64, 23>>(&trial),
+            6 => seeds_hold::<SmallStore<i64, 4>>(&trial, 3),
+            7 => seeds_hold::<SmallStore<i64, 15>>(&trial, 3),
+            8 => seeds_hold::<Counted<i64>>(&trial, 1),
+            9 => runs_hold(&trial),
+            10 => filling_holds(&trial),
+            11 => scripts::store_holds(alloc, watch) && scripts::counted_holds(alloc, watch),
+            12 => counting_hold::<SmallStore<Counting, 15>>(alloc, watch),
+            _ => counting_hold::<Counted<Counting>>(alloc, watch),
         }
     }
 }

@@ -1,7 +1,7 @@
 //! Named values as the test keeps them by itself: what each holds, and in which form; which names
 //! share a block, and its room; how many elements were copied and moved.
-use crate::orders::{Line, Order};
-use crate::table::{Kind, Part, Word};
+use crate::commands::{Kind, Order, Part, Word};
+use crate::line::Line;
 use ecow_model::{Bounds, Refusal};
 use std::ops::Bound;
 use std::str;
@@ -56,6 +56,8 @@ pub(crate) struct Model {
     last_block: u32,
     pub(crate) copied: u64,
     pub(crate) moved: u64,
+    /// How many elements were cloned, those that were copied among them.
+    pub(crate) cloned: u64,
 }
 
 /// Whether a byte stands in a character behind its first.
@@ -172,8 +174,8 @@ impl Entry {
         items.append(change.added.as_slice());
         items.append(self.items.part(change.end, self.items.len()).as_slice());
         match order.word {
-            Word::Upper => items.ascii_uppercase(),
-            Word::Lower => items.ascii_lowercase(),
+            Word::Upper => upper(&items),
+            Word::Lower => lower(&items),
             Word::Retain => kept(&items, order),
             _ => items,
         }
@@ -190,6 +192,14 @@ impl Entry {
             _ => Want::Done,
         }
     }
+}
+
+fn upper(items: &Line) -> Line {
+    items.shifted(97, 122, -32)
+}
+
+fn lower(items: &Line) -> Line {
+    items.shifted(65, 90, 32)
 }
 
 /// The items that are marked.
@@ -273,6 +283,7 @@ impl Model {
             last_block: 0,
             copied: 0,
             moved: 0,
+            cloned: 0,
         }
     }
 
@@ -301,9 +312,9 @@ impl Model {
         self.owners(held) > 1
     }
 
-    /// The number of blocks of lists.
-    pub(crate) fn blocks(&self) -> usize {
-        let (mut blocks, mut count) = ([0u32; 4], 0usize);
+    /// The number of blocks of lists, and of the elements in them.
+    pub(crate) fn blocks(&self) -> (usize, u64) {
+        let (mut blocks, mut count, mut elements) = ([0u32; 4], 0usize, 0u64);
         for held in &self.names {
             if let Some(held) = held
                 && held.block > 0
@@ -312,9 +323,14 @@ impl Model {
             {
                 *place = held.block;
                 count = count.saturating_add(1);
+                elements = elements.saturating_add(held.items.len() as u64);
             }
         }
-        count
+        (count, elements)
+    }
+
+    fn clone_elements(&mut self, count: usize) {
+        self.cloned = self.cloned.saturating_add(count as u64);
     }
 
     fn new_block(&mut self, capacity: usize) -> u32 {
@@ -357,19 +373,29 @@ impl Model {
         Ok(Some(Want::Done))
     }
 
-    fn asked(&self, order: &Order) -> Result<Option<Want>, Refusal> {
+    fn asked(&mut self, order: &Order) -> Result<Option<Want>, Refusal> {
         let held = self.found(order, order.kind)?;
-        Ok(Some(match order.word {
+        let answered = self.answered(order, &held);
+        match &answered {
+            Want::Item(_) if held.kind == Kind::List => self.clone_elements(1),
+            Want::Items(items) if held.kind == Kind::List => self.clone_elements(items.len()),
+            _ => {}
+        }
+        Ok(Some(answered))
+    }
+
+    fn answered(&self, order: &Order, held: &Entry) -> Want {
+        match order.word {
             Word::Len => Want::Count(held.items.len()),
             Word::Contents => Want::Items(held.items),
             Word::Capacity => Want::Room,
-            Word::Unique => Want::Flag(!self.is_shared(&held)),
+            Word::Unique => Want::Flag(!self.is_shared(held)),
             Word::IsInline => Want::Flag(held.inline),
             _ => match held.items.as_slice().get(order.start) {
                 Some(item) => Want::Item(*item),
                 None => Want::Refused(Refusal::Index),
             },
-        }))
+        }
     }
 
     fn make(&mut self, order: &Order) -> Result<Option<Want>, Refusal> {
@@ -393,10 +419,11 @@ impl Model {
         if is_tried && room > self.limit {
             return Ok(Some(Want::Flag(false)));
         }
-        let items = match word {
-            Word::FromElem => repeated(&Line::of(&[order.first]), room),
-            _ => given,
-        };
+        let mut items = given;
+        if word == Word::FromElem {
+            items = repeated(&Line::of(&[order.first]), room);
+            self.clone_elements(room);
+        }
         let is_list = kind == Kind::List;
         let held = Entry {
             kind,
@@ -435,8 +462,8 @@ impl Model {
             }
             Word::Repeat => repeated(&held.items, order.count),
             Word::Replace => replaced(&held, order),
-            Word::ToUpper => held.items.ascii_uppercase(),
-            Word::ToLower => held.items.ascii_lowercase(),
+            Word::ToUpper => upper(&held.items),
+            Word::ToLower => lower(&held.items),
             _ => held.items,
         };
         if matches!(order.word, Word::Repeat | Word::Replace) {
@@ -459,6 +486,9 @@ impl Model {
         }
         if held.kind == Kind::List {
             self.pay(order, &change, &held, &mut after);
+            if order.word == Word::Extend {
+                self.clone_elements(change.added.len());
+            }
         } else {
             after.inline = self.is_inline_after(order, &held, after.items.len());
         }
@@ -497,6 +527,7 @@ impl Model {
         if shared {
             let copies = if is_cut { left } else { len };
             self.copied = self.copied.saturating_add(copies as u64);
+            self.clone_elements(copies);
             after.block = self.new_block(capacity);
         } else if capacity > held.capacity {
             let moves = if word == Word::Splice { left } else { len };

@@ -1,8 +1,9 @@
 //! Commands that a seed decides, runs of several commands, and lists that are filled.
+use crate::commands::{Kind, Order, ROWS, Row, Word};
+use crate::line::Line;
 use crate::model::{LONGEST, Model, Want};
-use crate::orders::{Line, Order};
-use crate::stores::{NamedStore, agrees, fits, order_holds};
-use crate::table::{Kind, ROWS, Row, Word};
+use crate::stores::{NamedStore, Trial, agrees, fits, order_holds};
+use ecow_calls::elements::Element;
 use ecow_calls::numbers::Numbers;
 use ecow_calls::watch::Watch;
 use ecow_counted::{Counted, Filled};
@@ -95,31 +96,30 @@ fn drawn(numbers: &mut Numbers, kinds: usize, model: &Model) -> Order {
 
 /// Carries out commands on so many kinds of value that a seed decides.
 fn seed_holds<K: NamedStore>(
-    alloc: Global,
-    watch: &Watch,
+    trial: &Trial<'_, K::Element>,
     (seed, count, kinds): (u64, usize, usize),
 ) -> bool {
     let mut numbers = Numbers::new(seed);
-    let mut store = K::start(alloc);
+    let mut store = K::start(trial.alloc);
     let mut model = Model::new(K::limit());
     for _ in 0..count {
         let order = drawn(&mut numbers, kinds, &model);
-        match order_holds(alloc, watch, &mut store, &mut model, &order) {
+        match order_holds(trial, &mut store, &mut model, &order) {
             Some(true) => {}
             Some(false) => return false,
-            None => return watch.may_refuse(),
+            None => return trial.watch.may_refuse(),
         }
     }
     true
 }
 
 /// Carries out commands of one seed; of many, and more of them, where no request is refused.
-pub(crate) fn seeds_hold<K: NamedStore>(alloc: Global, watch: &Watch, kinds: usize) -> bool {
-    if !watch.is_strict() {
-        return seed_holds::<K>(alloc, watch, (7, 200, kinds));
+pub(crate) fn seeds_hold<K: NamedStore>(trial: &Trial<'_, K::Element>, kinds: usize) -> bool {
+    if !trial.watch.is_strict() {
+        return seed_holds::<K>(trial, (7, 200, kinds));
     }
-    for seed in 0..30 {
-        if !seed_holds::<K>(alloc, watch, (seed, 400, kinds)) {
+    for seed in 0..100 {
+        if !seed_holds::<K>(trial, (seed, 400, kinds)) {
             return false;
         }
     }
@@ -144,11 +144,12 @@ fn run_of(kind: Kind) -> [Order; 40] {
 
 /// A run without room for its outcomes hands its commands back, and runs nothing. Else each
 /// command is done; or it is refused, and the later ones answer as they do without it.
-pub(crate) fn run_holds<K: NamedStore>(alloc: Global, watch: &Watch, kind: Kind) -> bool {
+pub(crate) fn run_holds<K: NamedStore>(trial: &Trial<'_, K::Element>, kind: Kind) -> bool {
+    let (alloc, watch) = (trial.alloc, trial.watch);
     let orders = run_of(kind);
     let mut store = K::start(alloc);
     let mut model = Model::new(K::limit());
-    let Ok(ran) = store.run_orders(alloc, &orders) else {
+    let Ok(ran) = store.run_orders(trial, &orders) else {
         return watch.may_refuse();
     };
     let outcomes = match ran {
@@ -156,18 +157,23 @@ pub(crate) fn run_holds<K: NamedStore>(alloc: Global, watch: &Watch, kind: Kind)
         Err(refused) => {
             return refused == (EcoError::Memory, orders.len())
                 && watch.may_refuse()
-                && agrees(&mut store, &model);
+                && agrees(trial, &mut store, &model);
         }
     };
     let mut hold = outcomes.len() == orders.len();
     for (order, outcome) in orders.iter().zip(outcomes.as_slice()) {
         hold = hold && follows(watch, &mut model, order, outcome);
     }
-    hold && agrees(&mut store, &model)
+    hold && agrees(trial, &mut store, &model)
 }
 
 /// Whether an outcome is right behind those before it.
-fn follows(watch: &Watch, model: &mut Model, order: &Order, outcome: &Outcome<i64>) -> bool {
+fn follows<E: Element>(
+    watch: &Watch,
+    model: &mut Model,
+    order: &Order,
+    outcome: &Outcome<E>,
+) -> bool {
     let mut next = *model;
     let Some(want) = next.carry_out(order) else {
         return false;
@@ -190,12 +196,12 @@ const FILLED: [(usize, u64, usize); 6] = [
 ];
 
 /// A list is filled up to the item that is refused: no earlier than where its block is full.
-pub(crate) fn filling_holds(alloc: Global, watch: &Watch) -> bool {
+pub(crate) fn filling_holds(trial: &Trial<'_, i64>) -> bool {
     let mut hold = true;
     for filled in FILLED {
-        hold = filled_holds(alloc, watch, filled) && hold;
+        hold = filled_holds(trial, filled) && hold;
     }
-    hold && units_hold(alloc, watch)
+    hold && units_hold(trial.alloc, trial.watch)
 }
 
 /// Elements of no bytes ask for the name and the first block alone.
@@ -214,11 +220,8 @@ fn units_hold(alloc: Global, watch: &Watch) -> bool {
     }
 }
 
-fn filled_holds(
-    alloc: Global,
-    watch: &Watch,
-    (count, moved, capacity): (usize, u64, usize),
-) -> bool {
+fn filled_holds(trial: &Trial<'_, i64>, (count, moved, capacity): (usize, u64, usize)) -> bool {
+    let (alloc, watch) = (trial.alloc, trial.watch);
     let mut items = Vec::new(alloc);
     for item in Line::from(91, count).as_slice() {
         if items.push(*item).is_err() {
@@ -248,5 +251,5 @@ fn filled_holds(
         model.carry_out(&push);
         push.first = push.first.wrapping_add(1);
     }
-    is_right && agrees(&mut counted, &model)
+    is_right && agrees(trial, &mut counted, &model)
 }

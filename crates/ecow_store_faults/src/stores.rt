@@ -1,8 +1,10 @@
 //! The commands of both stores, each in each state of its value. The test keeps the same names
 //! by itself, and compares.
+use crate::commands::{FromOrder, Kind, Order, Part, ROWS, Word, command_of};
+use crate::line::Line;
 use crate::model::{Entry, Model, Want};
-use crate::orders::{FromOrder, Order, command_of};
-use crate::table::{Kind, Part, ROWS, Word};
+use ecow_calls::counting::{Counting, Source, Tally};
+use ecow_calls::elements::Element;
 use ecow_calls::watch::Watch;
 use ecow_counted::Counted;
 use ecow_list::{EcoError, Rejected};
@@ -17,12 +19,20 @@ type Account = [(Option<usize>, Option<usize>); 4];
 
 /// What a command answers; `None` where no command stands for the order. An error says that the
 /// test itself lacks memory.
-type Answer = Result<Option<Outcome<i64>>, AllocError>;
+type Answer<E> = Result<Option<Outcome<E>>, AllocError>;
 
 /// What a run of several commands answers; or why it is refused, and how many come back.
-pub(crate) type Ran = Result<Vec<Outcome<i64>>, (EcoError, usize)>;
+pub(crate) type Ran<E> = Result<Vec<Outcome<E>>, (EcoError, usize)>;
 
-fn ran<C: Drop>(ran: Result<Vec<Outcome<i64>>, Rejected<Vec<C>>>) -> Ran {
+/// Who watches a store, and what its elements are made of.
+#[derive(Drop)]
+pub(crate) struct Trial<'a, E: Element> {
+    pub(crate) alloc: Global,
+    pub(crate) source: &'a E::Source,
+    pub(crate) watch: &'a Watch,
+}
+
+fn ran<C: Drop, E: Drop>(ran: Result<Vec<Outcome<E>>, Rejected<Vec<C>>>) -> Ran<E> {
     match ran {
         Ok(outcomes) => Ok(outcomes),
         Err(rejected) => Err((rejected.error, rejected.value.len())),
@@ -31,14 +41,27 @@ fn ran<C: Drop>(ran: Result<Vec<Outcome<i64>>, Rejected<Vec<C>>>) -> Ran {
 
 /// A store of named values.
 pub(crate) trait NamedStore: Drop {
+    type Element: Element;
+
     fn start(alloc: Global) -> Self;
 
     /// How many bytes stand inline.
     fn limit() -> usize;
 
-    fn carry_out(&mut self, alloc: Global, order: &Order) -> Answer;
+    /// Whether a refusal leaves each room as it was.
+    fn keeps_rooms() -> bool;
 
-    fn run_orders(&mut self, alloc: Global, orders: &[Order]) -> Result<Ran, AllocError>;
+    fn carry_out(
+        &mut self,
+        trial: &Trial<'_, Self::Element>,
+        order: &Order,
+    ) -> Answer<Self::Element>;
+
+    fn run_orders(
+        &mut self,
+        trial: &Trial<'_, Self::Element>,
+        orders: &[Order],
+    ) -> Result<Ran<Self::Element>, AllocError>;
 
     /// For how many items there is room under a name, and how many names share it, where a store
     /// tells that.
@@ -53,31 +76,47 @@ pub(crate) trait NamedStore: Drop {
     fn has_totals(&self, model: &Model) -> bool;
 }
 
-fn commands<C: FromOrder>(alloc: Global, orders: &[Order]) -> Result<Vec<C>, AllocError> {
+fn commands<C: FromOrder>(
+    alloc: Global,
+    source: &C::Source,
+    orders: &[Order],
+) -> Result<Vec<C>, AllocError> {
     let mut commands = Vec::new(alloc);
     for order in orders {
-        if let Some(command) = command_of(alloc, order)? {
+        if let Some(command) = command_of(alloc, source, order)? {
             commands.push(command)?;
         }
     }
     Ok(commands)
 }
 
-fn count_of(outcome: Outcome<i64>) -> Option<usize> {
+fn count_of<E: Drop>(outcome: Outcome<E>) -> Option<usize> {
     match outcome {
         Outcome::Count(count) => Some(count),
         _ => None,
     }
 }
 
-fn flag_of(outcome: Outcome<i64>) -> Option<bool> {
+fn flag_of<E: Drop>(outcome: Outcome<E>) -> Option<bool> {
     match outcome {
         Outcome::Flag(flag) => Some(flag),
         _ => None,
     }
 }
 
-impl<const N: usize> NamedStore for SmallStore<i64, N> {
+/// Whether elements are those of a line.
+fn are<E: Element>(elements: &[E], line: &Line) -> bool {
+    let numbers = line.as_slice();
+    elements.len() == numbers.len()
+        && elements
+            .iter()
+            .zip(numbers)
+            .all(|(element, number)| element.number() == *number)
+}
+
+impl<E: Element, const N: usize> NamedStore for SmallStore<E, N> {
+    type Element = E;
+
     fn start(alloc: Global) -> Self {
         SmallStore::new(alloc)
     }
@@ -86,15 +125,20 @@ impl<const N: usize> NamedStore for SmallStore<i64, N> {
         N
     }
 
-    fn carry_out(&mut self, alloc: Global, order: &Order) -> Answer {
-        match command_of(alloc, order)? {
+    /// A vector that extends has grown before an element's clone is refused.
+    fn keeps_rooms() -> bool {
+        E::is_plain()
+    }
+
+    fn carry_out(&mut self, trial: &Trial<'_, E>, order: &Order) -> Answer<E> {
+        match command_of(trial.alloc, trial.source, order)? {
             Some(command) => Ok(Some(self.step(command))),
             None => Ok(None),
         }
     }
 
-    fn run_orders(&mut self, alloc: Global, orders: &[Order]) -> Result<Ran, AllocError> {
-        Ok(ran(self.run(commands(alloc, orders)?)))
+    fn run_orders(&mut self, trial: &Trial<'_, E>, orders: &[Order]) -> Result<Ran<E>, AllocError> {
+        Ok(ran(self.run(commands(trial.alloc, trial.source, orders)?)))
     }
 
     fn room(&mut self, name: u32) -> (Option<usize>, Option<usize>) {
@@ -121,7 +165,7 @@ impl<const N: usize> NamedStore for SmallStore<i64, N> {
     fn is_held(&mut self, name: u32, held: &Entry) -> bool {
         let (is_same, question) = match held.kind {
             Kind::List => {
-                return matches!(self.get(name), Some(items) if held.items.is(items));
+                return matches!(self.get(name), Some(items) if are(items, &held.items));
             }
             Kind::Bytes => (
                 matches!(self.get_bytes(name), Some(bytes) if held.items.is_bytes(bytes)),
@@ -140,7 +184,9 @@ impl<const N: usize> NamedStore for SmallStore<i64, N> {
     }
 }
 
-impl NamedStore for Counted<i64> {
+impl<E: Element> NamedStore for Counted<E> {
+    type Element = E;
+
     fn start(alloc: Global) -> Self {
         Counted::new(alloc)
     }
@@ -149,9 +195,13 @@ impl NamedStore for Counted<i64> {
         0
     }
 
+    fn keeps_rooms() -> bool {
+        true
+    }
+
     /// Some names are given by `share`, which is the command `Clone`.
-    fn carry_out(&mut self, alloc: Global, order: &Order) -> Answer {
-        match command_of(alloc, order)? {
+    fn carry_out(&mut self, trial: &Trial<'_, E>, order: &Order) -> Answer<E> {
+        match command_of(trial.alloc, trial.source, order)? {
             Some(VecCommand::Clone { from, to }) if order.count > 1 => {
                 Ok(Some(self.share(from, to)))
             }
@@ -160,8 +210,8 @@ impl NamedStore for Counted<i64> {
         }
     }
 
-    fn run_orders(&mut self, alloc: Global, orders: &[Order]) -> Result<Ran, AllocError> {
-        Ok(ran(self.run(commands(alloc, orders)?)))
+    fn run_orders(&mut self, trial: &Trial<'_, E>, orders: &[Order]) -> Result<Ran<E>, AllocError> {
+        Ok(ran(self.run(commands(trial.alloc, trial.source, orders)?)))
     }
 
     fn room(&mut self, name: u32) -> (Option<usize>, Option<usize>) {
@@ -175,13 +225,12 @@ impl NamedStore for Counted<i64> {
     }
 
     fn is_held(&mut self, name: u32, held: &Entry) -> bool {
-        matches!(self.get(name), Some(items) if held.items.is(items))
+        matches!(self.get(name), Some(items) if are(items, &held.items))
     }
 
     fn has_totals(&self, model: &Model) -> bool {
-        self.blocks() == model.blocks()
-            && self.copied() == model.copied
-            && self.moved() == model.moved
+        let (blocks, _) = model.blocks();
+        self.blocks() == blocks && self.copied() == model.copied && self.moved() == model.moved
     }
 }
 
@@ -189,9 +238,14 @@ fn account<K: NamedStore>(store: &mut K) -> Account {
     [store.room(0), store.room(1), store.room(2), store.room(3)]
 }
 
-/// Whether the store has under each name what the test keeps there.
-pub(crate) fn agrees<K: NamedStore>(store: &mut K, model: &Model) -> bool {
-    let mut hold = store.has_totals(model);
+/// Whether the store has under each name what the test keeps there, and no element elsewhere.
+pub(crate) fn agrees<K: NamedStore>(
+    trial: &Trial<'_, K::Element>,
+    store: &mut K,
+    model: &Model,
+) -> bool {
+    let (_, elements) = model.blocks();
+    let mut hold = store.has_totals(model) && trial.source.has_live(elements);
     for name in NAMES {
         hold = hold
             && match model.held(name) {
@@ -202,19 +256,19 @@ pub(crate) fn agrees<K: NamedStore>(store: &mut K, model: &Model) -> bool {
     hold
 }
 
-fn lacks_memory(outcome: &Outcome<i64>) -> bool {
+fn lacks_memory<E>(outcome: &Outcome<E>) -> bool {
     matches!(outcome, Outcome::Refused(Refusal::Memory))
 }
 
 /// Whether an outcome is what the command is to answer. `room` is the room under the name, where
 /// it is known.
-pub(crate) fn fits(want: &Want, outcome: &Outcome<i64>, room: Option<usize>) -> bool {
+pub(crate) fn fits<E: Element>(want: &Want, outcome: &Outcome<E>, room: Option<usize>) -> bool {
     match (want, outcome) {
         (Want::Done, Outcome::Done) => true,
-        (Want::Item(item), Outcome::Element(element)) => *item == *element,
+        (Want::Item(item), Outcome::Element(element)) => *item == element.number(),
         (Want::Item(item), Outcome::Byte(byte)) => *item == i64::from(*byte),
         (Want::Item(item), Outcome::Char(c)) => *item == i64::from(u32::from(*c)),
-        (Want::Items(items), Outcome::Elements(elements)) => items.is(elements.as_slice()),
+        (Want::Items(items), Outcome::Elements(elements)) => are(elements.as_slice(), items),
         (Want::Items(items), Outcome::Bytes(bytes)) => items.is_bytes(bytes.as_slice()),
         (Want::Items(items), Outcome::Text(text)) => items.is_bytes(text.as_str().as_bytes()),
         (Want::Count(count), Outcome::Count(counted)) => *count == *counted,
@@ -226,9 +280,10 @@ pub(crate) fn fits(want: &Want, outcome: &Outcome<i64>, room: Option<usize>) -> 
     }
 }
 
-fn is_popped(item: Option<i64>, outcome: &Outcome<i64>) -> bool {
+fn is_popped<E: Element>(item: Option<i64>, outcome: &Outcome<E>) -> bool {
     match outcome {
-        Outcome::Popped(popped) => *popped == item,
+        Outcome::Popped(None) => item.is_none(),
+        Outcome::Popped(Some(element)) => item == Some(element.number()),
         Outcome::PoppedByte(None) => item.is_none(),
         Outcome::PoppedByte(Some(byte)) => item == Some(i64::from(*byte)),
         Outcome::PoppedChar(None) => item.is_none(),
@@ -240,8 +295,7 @@ fn is_popped(item: Option<i64>, outcome: &Outcome<i64>) -> bool {
 /// Carries a command out, again where memory was refused; says whether all is then as it is to be.
 /// `None` where the test itself lacks memory.
 pub(crate) fn order_holds<K: NamedStore>(
-    alloc: Global,
-    watch: &Watch,
+    trial: &Trial<'_, K::Element>,
     store: &mut K,
     model: &mut Model,
     order: &Order,
@@ -252,45 +306,52 @@ pub(crate) fn order_holds<K: NamedStore>(
     };
     let before = account(store);
     let (room, _) = store.room(order.name);
-    let Some(outcome) = store.carry_out(alloc, order).ok()? else {
+    let mut counts = trial.source.counts();
+    let Some(outcome) = store.carry_out(trial, order).ok()? else {
         return Some(false);
     };
     let mut outcome = outcome;
     if lacks_memory(&outcome) {
         let is_free = model.is_free(order, room.unwrap_or(0));
         let is_refused = matches!(&want, Want::Refused(_));
-        if is_free || is_refused || !watch.may_refuse() {
+        if is_free || is_refused || !trial.watch.may_refuse() {
             return Some(false);
         }
-        if account(store) != before || !agrees(store, model) {
+        let has_rooms = account(store) == before || !K::keeps_rooms();
+        if !has_rooms || !agrees(trial, store, model) {
             return Some(false);
         }
-        match store.carry_out(alloc, order).ok()? {
+        counts = trial.source.counts();
+        match store.carry_out(trial, order).ok()? {
             Some(again) => outcome = again,
             None => return Some(false),
         }
     }
+    let cloned = next.cloned.wrapping_sub(model.cloned);
     if !matches!(&want, Want::Refused(_)) {
         *model = next;
     }
-    Some(fits(&want, &outcome, room) && agrees(store, model))
+    let is_right = fits(&want, &outcome, room) && trial.source.has_cloned(counts, cloned);
+    drop(outcome);
+    Some(is_right && agrees(trial, store, model))
 }
 
 /// Carries commands out, one by one, on a new store.
-fn orders_hold<K: NamedStore>(alloc: Global, watch: &Watch, orders: &[Option<Order>]) -> bool {
-    let mut store = K::start(alloc);
+fn orders_hold<K: NamedStore>(trial: &Trial<'_, K::Element>, orders: &[Option<Order>]) -> bool {
+    let mut store = K::start(trial.alloc);
     let mut model = Model::new(K::limit());
     for order in orders {
         let Some(order) = order else {
             continue;
         };
-        match order_holds(alloc, watch, &mut store, &mut model, order) {
+        match order_holds(trial, &mut store, &mut model, order) {
             Some(true) => {}
             Some(false) => return false,
-            None => return watch.may_refuse(),
+            None => return trial.watch.may_refuse(),
         }
     }
-    true
+    drop(store);
+    trial.source.has_live(0)
 }
 
 /// The commands that make a value under the name 0, in the state with a number.
@@ -328,51 +389,96 @@ fn spilled(kind: Kind, limit: usize) -> [Option<Order>; 3] {
     [Some(bytes), Some(text), Some(dropped)]
 }
 
-/// Makes values in each state, shared or not, and carries each command of the table out on each.
-pub(crate) fn kind_holds<K: NamedStore>(alloc: Global, watch: &Watch, kind: Kind) -> bool {
-    let states = if kind == Kind::List { 4 } else { 6 };
-    let mut hold = true;
-    for state in 0..states {
-        for shared in [false, true] {
-            // An inline value shares nothing.
-            if !shared || kind == Kind::List || state > 2 {
-                hold = state_holds::<K>(alloc, watch, (kind, state, shared)) && hold;
-            }
-        }
-    }
-    hold
+/// A value in a state by its number, shared or not, and a command on it.
+type Case = (usize, bool, Order);
+
+/// What is seen of each case.
+trait Check<K: NamedStore> {
+    fn holds(trial: &Trial<'_, K::Element>, case: &Case) -> bool;
 }
 
-fn state_holds<K: NamedStore>(alloc: Global, watch: &Watch, made: (Kind, usize, bool)) -> bool {
-    let (kind, _, _) = made;
+/// Whether each command of the table holds on values in each state, shared or not.
+fn cases_hold<K: NamedStore, C: Check<K>>(trial: &Trial<'_, K::Element>, kind: Kind) -> bool {
+    let states = if kind == Kind::List { 4 } else { 6 };
     let mut hold = true;
     for (word, _, kinds, _, arguments) in &ROWS {
         for arguments in *arguments {
-            if kinds.contains(&kind) {
-                let order = Order::of(kind, *word, arguments);
-                hold = case_holds::<K>(alloc, watch, made, order) && hold;
+            let order = Order::of(kind, *word, arguments);
+            for state in 0..states {
+                // An inline value shares nothing.
+                let may_share = kind == Kind::List || state > 2;
+                if kinds.contains(&kind) {
+                    hold = C::holds(trial, &(state, false, order)) && hold;
+                    hold = (!may_share || C::holds(trial, &(state, true, order))) && hold;
+                }
             }
         }
     }
     hold
 }
 
+/// A value in its state, on which the command is carried out.
+struct Once;
+
+impl<K: NamedStore> Check<K> for Once {
+    fn holds(trial: &Trial<'_, K::Element>, case: &Case) -> bool {
+        case_holds::<K>(trial, case)
+    }
+}
+
 /// Makes a value in a state, and carries a command out on it.
-fn case_holds<K: NamedStore>(
-    alloc: Global,
-    watch: &Watch,
-    (kind, state, shared): (Kind, usize, bool),
-    order: Order,
-) -> bool {
-    let [first, second, third] = setup(kind, state, K::limit());
-    let mut twin = Order::counted(kind, Word::Clone, state);
+fn case_holds<K: NamedStore>(trial: &Trial<'_, K::Element>, case: &Case) -> bool {
+    let (state, shared, order) = *case;
+    let [first, second, third] = setup(order.kind, state, K::limit());
+    let mut twin = Order::counted(order.kind, Word::Clone, state);
     twin.to = 1;
-    let twin = if shared { Some(twin) } else { None };
-    orders_hold::<K>(alloc, watch, &[first, second, third, twin, Some(order)])
+    let twin = shared.then_some(twin);
+    orders_hold::<K>(trial, &[first, second, third, twin, Some(order)])
+}
+
+/// Makes values in each state, and carries each command of the table out on each.
+pub(crate) fn kind_holds<K: NamedStore>(trial: &Trial<'_, K::Element>, kind: Kind) -> bool {
+    cases_hold::<K, Once>(trial, kind)
+}
+
+/// The same, in which each clone of an element is refused in turn, until none is.
+struct EachClone;
+
+impl<K: NamedStore<Element = Counting>> Check<K> for EachClone {
+    fn holds(trial: &Trial<'_, Counting>, case: &Case) -> bool {
+        each_clone_is_refused::<K>(trial.alloc, case) == Some(true)
+    }
+}
+
+/// Refuses each clone in turn. `None` where the test itself lacks memory.
+fn each_clone_is_refused<K: NamedStore<Element = Counting>>(
+    alloc: Global,
+    case: &Case,
+) -> Option<bool> {
+    for refused in 1..100 {
+        let (tally, watch) = (Tally::refusing(alloc, refused).ok()?, Watch::new(false));
+        let trial = Trial {
+            alloc,
+            source: &tally,
+            watch: &watch,
+        };
+        if !case_holds::<K>(&trial, case) {
+            return Some(false);
+        }
+        if watch.is_untouched() {
+            return Some(true);
+        }
+    }
+    Some(false)
+}
+
+/// Does so with elements that count, where no request is refused.
+pub(crate) fn clones_hold<K: NamedStore<Element = Counting>>(trial: &Trial<'_, Counting>) -> bool {
+    !trial.watch.is_strict() || cases_hold::<K, EachClone>(trial, Kind::List)
 }
 
 /// The makers, at lengths about the inline limit.
-pub(crate) fn makers_hold<K: NamedStore>(alloc: Global, watch: &Watch, kind: Kind) -> bool {
+pub(crate) fn makers_hold<K: NamedStore>(trial: &Trial<'_, K::Element>, kind: Kind) -> bool {
     let limit = K::limit();
     let lengths = [0, limit, limit.saturating_add(1), limit.saturating_add(7)];
     let mut hold = true;
@@ -380,11 +486,11 @@ pub(crate) fn makers_hold<K: NamedStore>(alloc: Global, watch: &Watch, kind: Kin
         if *part == Part::Makes && kinds.contains(&kind) {
             for count in lengths {
                 let order = Order::counted(kind, *word, count);
-                hold = orders_hold::<K>(alloc, watch, &[Some(order)]) && hold;
+                hold = orders_hold::<K>(trial, &[Some(order)]) && hold;
             }
             for arguments in *arguments {
                 let order = Order::of(kind, *word, arguments);
-                hold = orders_hold::<K>(alloc, watch, &[Some(order)]) && hold;
+                hold = orders_hold::<K>(trial, &[Some(order)]) && hold;
             }
         }
     }

@@ -5,12 +5,10 @@ use std::io;
 use std::io::{ErrorKind, Read, Write};
 
 /// A reader of so many bytes at a time, which counts how often it says that it is at its end. It may
-/// give all again, so often, be interrupted before each piece, and fail at one read, counted from 1.
+/// be interrupted before each piece, and fail at one read, counted from 1.
 #[derive(Drop)]
 pub(crate) struct Reader<'a> {
-    all: &'a [u8],
-    pub(crate) left: &'a [u8],
-    pub(crate) again: usize,
+    left: &'a [u8],
     size: usize,
     pub(crate) interrupts: bool,
     interrupted: bool,
@@ -19,11 +17,9 @@ pub(crate) struct Reader<'a> {
 }
 
 impl<'a> Reader<'a> {
-    pub(crate) fn new(all: &'a [u8], size: usize) -> Self {
+    pub(crate) fn new(left: &'a [u8], size: usize) -> Self {
         Reader {
-            all,
-            left: all,
-            again: 0,
+            left,
             size,
             interrupts: false,
             interrupted: false,
@@ -43,10 +39,6 @@ impl<'a> Read for Reader<'a> {
         self.failing = self.failing.wrapping_sub(1);
         if self.failing == 0 {
             return Err(ErrorKind::Other.into());
-        }
-        if self.left.is_empty() && self.again > 0 {
-            self.again -= 1;
-            self.left = self.all;
         }
         let count = self.size.min(self.left.len()).min(buf.len());
         buf[..count].copy_from_slice(&self.left[..count]);
@@ -110,17 +102,4 @@ pub(crate) fn ended(
     } else {
         run_store(alloc, reader, writer)
     }
-}
-
-/// How the program ends on a script that comes whole, and what it writes.
-pub(crate) fn answered(alloc: Global, counted: bool, script: &[u8]) -> (End, Vec<u8>) {
-    let mut writer = Writer::new(alloc, usize::MAX, 0);
-    let end = ended(
-        alloc,
-        counted,
-        &mut Reader::new(script, usize::MAX),
-        &mut writer,
-    );
-    let Writer { taken, .. } = writer;
-    (end, taken)
 }

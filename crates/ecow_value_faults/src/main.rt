@@ -19,7 +19,7 @@ use ecow_string::SmallText;
 use std::alloc::Global;
 use std::io;
 
-const NAMES: [&str; 21] = [
+const NAMES: [&str; 22] = [
     "vectors of numbers",
     "vectors of bytes",
     "vectors of names",
@@ -40,7 +40,8 @@ const NAMES: [&str; 21] = [
     "clones of elements",
     "values by a seed",
     "many owners",
-    "elements of no bytes",
+    "vectors of elements of no bytes",
+    "elements of no bytes, again and again",
 ];
 
 struct Values;
@@ -68,6 +69,7 @@ impl Parts for Values {
             17 => clones::clones_hold(alloc, watch),
             18 => seeds::values_hold(alloc, watch),
             19 => owners::owners_hold(alloc, watch),
+            20 => vectors_hold::<()>(alloc, watch),
             _ => units::units_hold(alloc, watch),
         }
     }

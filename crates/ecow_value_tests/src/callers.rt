@@ -3,7 +3,6 @@
 ghost use Rattle.std.specs.Prelude.{◌≡◌, ◌+◌, [], ◌∷◌, ◌++◌, length, take, IfOk};
 ghost use Rattle.ecow_base.specs.Clones.{ClonesAreEqual};
 
-use crate::calls::{error_of, of, push, shared};
 use ecow_calls::counting::Tally;
 use ecow_list::{EcoError, EcoVec};
 use std::test::Fail;
@@ -41,39 +40,17 @@ fn empty_clones<T: Drop>(list: EcoVec<T>) -> Result<(EcoVec<T>, EcoVec<T>), EcoE
 }
 
 #[test]
-fn at_numbers(rt: HostRuntime) -> Result<(), Fail> {
-    let list = of(rt.alloc(), &[1i64, 2])?;
-    let longer = with_last(&list, 3)?;
-    let (part, len) = front(&list, 1)?;
-    let parted = part.as_slice() == [1].as_slice() && len == 1;
-    assert!(rt; longer.as_slice() == [1, 2, 3].as_slice() && parted && list.len() == 2);
-    Ok(())
-}
-
-#[test]
-fn at_vectors(rt: HostRuntime) -> Result<(), Fail> {
-    let mut inner = of(rt.alloc(), &[1u8, 2])?;
-    let list = of(rt.alloc(), &[shared(&inner)?, shared(&inner)?])?;
-    let longer = with_last(&list, of(rt.alloc(), &[3u8])?)?;
-    push(&mut inner, 9).map_err(error_of)?;
-    assert!(rt; longer.iter().map(EcoVec::len).eq([2, 2, 1]));
-    assert!(rt;
-        list.iter()
-            .all(|part| part.as_slice() == [1u8, 2].as_slice())
-    );
-    Ok(())
-}
-
-#[test]
 fn at_counting_elements(rt: HostRuntime) -> Result<(), Fail> {
     let tally = Tally::new(rt.alloc())?;
     let list = tally.list(rt.alloc(), 3)?;
+    let longer = with_last(&list, tally.element()?)?;
     let (part, len) = front(&list, 2)?;
     let (none, all) = empty_clones(list)?;
-    assert!(rt; (none.len(), all.len(), len) == (0, 3, 2) && tally.has(2, 0));
+    let lens = (longer.len(), none.len(), all.len(), len);
+    assert!(rt; lens == (4, 0, 3, 2) && tally.has(5, 0));
     drop(all);
-    assert!(rt; tally.has(2, 3));
-    drop(part);
-    assert!(rt; tally.has(2, 5));
+    assert!(rt; tally.has(5, 3));
+    drop((longer, part));
+    assert!(rt; tally.has(5, 9));
     Ok(())
 }

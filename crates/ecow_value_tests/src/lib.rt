@@ -1,20 +1,11 @@
-//! Tests of vectors, bytes and texts: what no contract says and no script can. What is cloned and
-//! dropped, what a refusal leaves, iterators, writers and elements of other kinds. Scripts with
-//! their answers stand in `ecow_cases`.
+//! Tests of vectors, bytes and texts: what no contract says, and the programs over `ecow_calls`
+//! don't see. What a splice clones and when, what values print, and elements of other kinds.
 #![tactic(auto)]
 
-#[cfg(test)]
-mod asked;
-#[cfg(test)]
-mod blocks;
-#[cfg(test)]
-mod bytes;
 #[cfg(test)]
 mod callers;
 #[cfg(test)]
 mod calls;
-#[cfg(test)]
-mod drops;
 #[cfg(test)]
 mod paths;
 #[cfg(test)]
@@ -23,10 +14,8 @@ mod printing;
 mod sharing;
 mod sizes;
 #[cfg(test)]
-mod texts;
+mod splices;
 #[cfg(test)]
 mod trees;
 #[cfg(test)]
-mod twins;
-#[cfg(test)]
-mod vectors;
+mod units;

@@ -20,14 +20,27 @@ fn changed(list: EcoVec<u8>) -> Result<EcoVec<u8>, EcoError> {
     Ok(list)
 }
 
+/// By the paths of `ecow_list`: the elements are written to in their block.
+fn reversed(
+    list: ecow_list::vec::EcoVec<u8>,
+) -> Result<ecow_list::vec::EcoVec<u8>, ecow_list::error::EcoError> {
+    let mut list = list;
+    let owned: Result<&mut ecow_list::block::Block<u8>, Option<EcoError>> = list.own_mut();
+    if let Ok(block) = owned {
+        block.as_mut_slice().reverse();
+    }
+    Ok(list)
+}
+
 #[test]
 fn vectors_and_their_iterators_are_found(rt: HostRuntime) -> Result<(), Fail> {
-    let list = changed(ecow::eco_vec![in rt.alloc(); 1u8, 2, 3]?)?;
-    assert_eq!(rt; list.as_slice(), [7u8, 8, 3].as_slice());
+    let list = reversed(changed(ecow::eco_vec![in rt.alloc(); 1u8, 2, 3]?)?)?;
+    assert_eq!(rt; list.as_slice(), [3u8, 8, 7].as_slice());
+    assert_eq!(rt; ecow_list::range::resolve(&(1..), list.len()), Some((1, 3)));
     let array: Result<[u8; 3], IntoArray<u8>> = list.clone()?.into_array::<3>();
-    assert!(rt; array.is_ok());
-    let items: Result<IntoIter<u8>, Rejected<EcoVec<u8>>> = list.into_iter();
-    assert!(rt; items.is_ok());
+    let items: Result<ecow_list::iter::IntoIter<u8>, Rejected<EcoVec<u8>>> = list.into_iter();
+    let items: Result<IntoIter<u8>, Rejected<EcoVec<u8>>> = items;
+    assert!(rt; array.is_ok() && items.is_ok());
     Ok(())
 }
 
@@ -47,30 +60,5 @@ fn printed<const N: usize>(alloc: Global, none: &ecow::SmallText<N>) -> Result<b
 fn bytes_and_texts_are_found(rt: HostRuntime) -> Result<(), Fail> {
     assert_eq!(rt; ecow::INLINE_LIMIT, 15);
     assert!(rt; printed(rt.alloc(), &ecow::SmallText::<3>::new(rt.alloc()))?);
-    Ok(())
-}
-
-/// By the paths of `ecow_list`: the first element is taken, and the others are written to in their
-/// block.
-fn by_modules(
-    list: ecow_list::vec::EcoVec<u8>,
-) -> Result<ecow_list::vec::EcoVec<u8>, ecow_list::error::EcoError> {
-    let mut list = list;
-    if ecow_list::range::range_in(&(..1), list.len()) {
-        let first: ecow_list::iter::Drain<u8> = list.drain(..1)?;
-        drop(first);
-    }
-    let owned: Result<&mut ecow_list::block::Block<u8>, Option<EcoError>> = list.own_mut();
-    if let Ok(block) = owned {
-        block.as_mut_slice().reverse();
-    }
-    Ok(list)
-}
-
-#[test]
-fn modules_of_vectors_are_found(rt: HostRuntime) -> Result<(), Fail> {
-    let list = by_modules(ecow_list::eco_vec![in rt.alloc(); 1u8, 2, 3]?)?;
-    assert_eq!(rt; list.as_slice(), [3u8, 2].as_slice());
-    assert_eq!(rt; ecow_list::range::resolve(&(1..), list.len()), Some((1, 2)));
     Ok(())
 }

@@ -83,15 +83,3 @@ fn bytes_and_texts_of_a_vector_share_its_block(rt: HostRuntime) -> Result<(), Fa
     assert!(rt; is_block_of(&mut list, EcoBytes::from(text)) && is_unique(&mut list));
     Ok(())
 }
-
-#[test]
-fn no_memory_is_a_capacity_within_the_limit(rt: HostRuntime) {
-    for (capacity, want) in [
-        (9223372036854775807, EcoError::Memory),
-        (9223372036854775808, EcoError::Capacity),
-        (18446744073709551615, EcoError::Capacity),
-    ] {
-        let list = EcoVec::<u8>::with_capacity(rt.alloc(), capacity);
-        assert!(rt; matches!(&list, Err(error) if *error == want));
-    }
-}

@@ -1,9 +1,9 @@
 //! Types that hold a vector of themselves: which shapes there may be, what a change below copies,
 //! and how deep a tree may be that is dropped.
-use crate::calls::{push, write};
+use crate::calls::push;
 use ecow_bytes::EcoBytes;
 use ecow_calls::counting::{Counting, Tally};
-use ecow_list::{EcoError, EcoVec};
+use ecow_list::{EcoError, EcoVec, Rejected};
 use ecow_string::EcoString;
 use std::alloc::{AllocError, Global};
 use std::test::Fail;
@@ -71,40 +71,22 @@ fn has_equal_clone<T: Clone + Drop + PartialEq>(value: &T) -> Result<bool, Alloc
 }
 
 #[test]
-fn texts_and_bytes_stand_beside_nodes(rt: HostRuntime) -> Result<(), Fail> {
+fn nodes_hold_vectors_of_nodes(rt: HostRuntime) -> Result<(), Fail> {
     let alloc = rt.alloc();
     let leaf = syntax_of(alloc, "x", EcoVec::new(alloc))?;
     let tree = syntax_of(alloc, "f", one(alloc, leaf)?)?;
     assert!(rt; has_equal_clone(&tree)?);
-    Ok(())
-}
-
-#[test]
-fn vectors_may_be_missing(rt: HostRuntime) -> Result<(), Fail> {
-    let lazy = Lazy {
-        below: Some(one(rt.alloc(), Lazy { below: None })?),
-    };
-    assert!(rt; has_equal_clone(&lazy)?);
-    Ok(())
-}
-
-#[test]
-fn vectors_stand_in_vectors_and_pairs(rt: HostRuntime) -> Result<(), Fail> {
-    let alloc = rt.alloc();
-    let none = Rows {
-        rows: EcoVec::new(alloc),
-    };
-    let rows = Rows {
-        rows: one(alloc, one(alloc, none)?)?,
-    };
-    assert!(rt; has_equal_clone(&rows)?);
-    let none = Numbered {
-        below: EcoVec::new(alloc),
-    };
-    let numbered = Numbered {
-        below: one(alloc, (7, none))?,
-    };
-    assert!(rt; has_equal_clone(&numbered)?);
+    let below = Some(one(alloc, Lazy { below: None })?);
+    assert!(rt; has_equal_clone(&Lazy { below })?);
+    let rows = one(alloc, EcoVec::new(alloc))?;
+    let rows = one(alloc, one(alloc, Rows { rows })?)?;
+    assert!(rt; has_equal_clone(&Rows { rows })?);
+    let (label, below) = (2u8, EcoVec::new(alloc));
+    let below = one(alloc, Rose { label, below })?;
+    assert!(rt; has_equal_clone(&Rose { label: 1, below })?);
+    let below = EcoVec::new(alloc);
+    let below = one(alloc, (7, Numbered { below }))?;
+    assert!(rt; has_equal_clone(&Numbered { below })?);
     Ok(())
 }
 
@@ -121,21 +103,6 @@ fn variants_hold_vectors(rt: HostRuntime) -> Result<(), Fail> {
     let second = Some(one(alloc, a_list(alloc)?)?);
     let pair = Datum::Pair(one(alloc, Datum::Number(1))?, second);
     assert!(rt; has_equal_clone(&pair)? && pair > list);
-    Ok(())
-}
-
-#[test]
-fn labels_stand_beside_vectors(rt: HostRuntime) -> Result<(), Fail> {
-    let alloc = rt.alloc();
-    let leaf = Rose {
-        label: 2u8,
-        below: EcoVec::new(alloc),
-    };
-    let rose = Rose {
-        label: 1u8,
-        below: one(alloc, leaf)?,
-    };
-    assert!(rt; has_equal_clone(&rose)?);
     Ok(())
 }
 
@@ -173,12 +140,20 @@ fn nodes(tally: &Tally, alloc: Global, n: usize, each: usize) -> Result<EcoVec<N
     Ok(nodes)
 }
 
+/// Puts another node in the place of the third.
+fn write(list: &mut EcoVec<Node>, node: Node) -> Result<(), Rejected<Node>> {
+    if list.len() < 3 {
+        return Ok(());
+    }
+    list.set(2, node)
+}
+
 /// Puts another node in the place of the third below the second.
 fn replace_below(list: &mut EcoVec<Node>, node: Node) -> Result<(), EcoError> {
     if list.len() < 2 {
         return Ok(());
     }
-    list.update(1, |second| write(&mut second.below, 2, node))??;
+    list.update(1, |second| write(&mut second.below, node))??;
     Ok(())
 }
 

@@ -1,14 +1,213 @@
-//! Commands as data, and the commands that they stand for.
-use crate::table::{Arguments, Kind, Part, Word};
-use ecow_calls::short::List;
+//! The commands of both stores, as one table: a row for each word, and the commands that stand for
+//! it with arguments.
+use crate::line::Line;
+use ecow_calls::elements::Element;
 use ecow_model::{Bounds, BytesCommand, Command, Items, Text, TextCommand, VecCommand};
 use std::alloc::{AllocError, Global};
 use std::ops::Bound;
 
-/// The items of a value, or those that a command brings.
-pub(crate) type Line = List<192>;
+/// A kind of value.
+#[derive(Clone, Copy, PartialEq, Eq)]
+pub(crate) enum Kind {
+    List,
+    Bytes,
+    Text,
+}
 
-const FEW: &str = "abcd";
+/// What a command does with the name that it uses.
+#[derive(Clone, Copy, PartialEq, Eq)]
+pub(crate) enum Part {
+    Makes,
+    /// Another name gets a value that is made of this one's.
+    Derives,
+    Changes,
+    Asks,
+    Drops,
+}
+
+/// The word of a command, whatever kind of value it is about. The rows stand in the same order.
+#[derive(Clone, Copy, PartialEq, Eq)]
+pub(crate) enum Word {
+    New,
+    WithCapacity,
+    FromItems,
+    TryInline,
+    FromElem,
+    FromEcoVec,
+    FromChar,
+    Clone,
+    FromOther,
+    Repeat,
+    Replace,
+    ToUpper,
+    ToLower,
+    Push,
+    Pop,
+    Insert,
+    Remove,
+    Write,
+    Truncate,
+    Clear,
+    Retain,
+    Drain,
+    Splice,
+    Extend,
+    InsertSlice,
+    Reserve,
+    Shrink,
+    Upper,
+    Lower,
+    Read,
+    Len,
+    Contents,
+    Capacity,
+    Unique,
+    IsInline,
+    /// The last word, so that there are as many rows as words.
+    Drop,
+}
+
+/// Start, end and count of a command.
+pub(crate) type Arguments = (usize, usize, usize);
+
+/// A word, what its command does, the kinds of value that have it, how often a seed draws it, and
+/// the arguments with which it is tried in each state.
+pub(crate) type Row = (Word, Part, &'static [Kind], u64, &'static [Arguments]);
+
+const ALL: &[Kind] = &[Kind::List, Kind::Bytes, Kind::Text];
+
+const LISTS: &[Kind] = &[Kind::List];
+
+const BYTES: &[Kind] = &[Kind::Bytes];
+
+const TEXTS: &[Kind] = &[Kind::Text];
+
+/// The kinds that may stand inline.
+const SMALL: &[Kind] = &[Kind::Bytes, Kind::Text];
+
+/// The kinds whose items have indexes that follow each other.
+const PLAIN: &[Kind] = &[Kind::List, Kind::Bytes];
+
+/// More than any value may have.
+const TOO_MANY: usize = usize::MAX;
+
+const NONE: &[Arguments] = &[(0, 0, 0)];
+
+/// One item: a character of one byte or of four.
+const ONE: &[Arguments] = &[(0, 0, 1), (0, 0, 4)];
+
+const FEW: &[Arguments] = &[(0, 0, 4)];
+
+const ROOMS: &[Arguments] = &[(0, 0, 3), (0, 0, TOO_MANY)];
+
+const TIMES: &[Arguments] = &[
+    (0, 0, 0),
+    (0, 0, 1),
+    (0, 0, 2),
+    (0, 0, 20),
+    (0, 0, TOO_MANY),
+];
+
+const PLACES: &[Arguments] = &[
+    (0, 0, 1),
+    (2, 2, 1),
+    (2, 2, 4),
+    (3, 3, 1),
+    (4, 4, 1),
+    (100, 0, 1),
+];
+
+const RANGES: &[Arguments] = &[
+    (0, 0, 0),
+    (1, 3, 1),
+    (0, 4, 0),
+    (1, 2, 3),
+    (0, 0, 9),
+    (2, 1, 0),
+];
+
+const MARKS: &[Arguments] = &[(0, 0, 0), (0, 0, 4), (1, 3, 4), (0, 4, 4)];
+
+const PIECES: &[Arguments] = &[
+    (0, 0, 0),
+    (0, 0, 1),
+    (0, 0, 2),
+    (0, 0, 4),
+    (0, 0, 6),
+    (0, 0, 12),
+];
+
+const SLICES: &[Arguments] = &[
+    (0, 0, 0),
+    (0, 0, 1),
+    (2, 2, 1),
+    (2, 2, 2),
+    (2, 2, 4),
+    (0, 0, 12),
+    (2, 2, 12),
+];
+
+/// From the start 1 on another pattern is replaced.
+const PATTERNS: &[Arguments] = &[(0, 0, 9), (1, 0, 2), (1, 0, TOO_MANY)];
+
+pub(crate) const ROWS: [Row; Word::Drop as usize + 1] = [
+    (Word::New, Part::Makes, ALL, 1, NONE),
+    (Word::WithCapacity, Part::Makes, ALL, 1, ROOMS),
+    (Word::FromItems, Part::Makes, ALL, 4, FEW),
+    (Word::TryInline, Part::Makes, SMALL, 1, FEW),
+    (Word::FromElem, Part::Makes, LISTS, 1, ROOMS),
+    (Word::FromEcoVec, Part::Makes, BYTES, 1, FEW),
+    (Word::FromChar, Part::Makes, TEXTS, 1, ONE),
+    (Word::Clone, Part::Derives, ALL, 3, ONE),
+    (Word::FromOther, Part::Derives, SMALL, 2, NONE),
+    (Word::Repeat, Part::Derives, SMALL, 1, TIMES),
+    (Word::Replace, Part::Derives, TEXTS, 1, PATTERNS),
+    (Word::ToUpper, Part::Derives, TEXTS, 1, NONE),
+    (Word::ToLower, Part::Derives, TEXTS, 1, NONE),
+    (Word::Push, Part::Changes, ALL, 3, ONE),
+    (Word::Pop, Part::Changes, ALL, 1, NONE),
+    (Word::Insert, Part::Changes, ALL, 2, PLACES),
+    (Word::Remove, Part::Changes, ALL, 1, PLACES),
+    (Word::Write, Part::Changes, PLAIN, 1, PLACES),
+    (Word::Truncate, Part::Changes, ALL, 1, PLACES),
+    (Word::Clear, Part::Changes, ALL, 1, NONE),
+    (Word::Retain, Part::Changes, LISTS, 2, MARKS),
+    (Word::Drain, Part::Changes, LISTS, 1, RANGES),
+    (Word::Splice, Part::Changes, LISTS, 3, RANGES),
+    (Word::Extend, Part::Changes, ALL, 4, PIECES),
+    (Word::InsertSlice, Part::Changes, SMALL, 3, SLICES),
+    (Word::Reserve, Part::Changes, ALL, 1, TIMES),
+    (Word::Shrink, Part::Changes, SMALL, 1, NONE),
+    (Word::Upper, Part::Changes, TEXTS, 1, NONE),
+    (Word::Lower, Part::Changes, TEXTS, 1, NONE),
+    (Word::Read, Part::Asks, PLAIN, 1, PLACES),
+    (Word::Len, Part::Asks, ALL, 1, NONE),
+    (Word::Contents, Part::Asks, ALL, 1, NONE),
+    (Word::Capacity, Part::Asks, ALL, 1, NONE),
+    (Word::Unique, Part::Asks, LISTS, 1, NONE),
+    (Word::IsInline, Part::Asks, SMALL, 1, NONE),
+    (Word::Drop, Part::Drops, ALL, 2, NONE),
+];
+
+impl Word {
+    /// The row of the word, where it stands in its place.
+    pub(crate) fn row(&self) -> Option<Row> {
+        match ROWS.get(*self as usize) {
+            Some(row) if row.0 == *self => Some(*row),
+            _ => None,
+        }
+    }
+
+    /// What a command of this word does.
+    pub(crate) fn part(&self) -> Part {
+        match self.row() {
+            Some((_, part, _, _, _)) => part,
+            None => Part::Drops,
+        }
+    }
+}
+
+const ABCD: &str = "abcd";
 
 const LETTERS: &str = "abécDefghijklmnopqrstuvwxyz{|}~{|}~{|}~\
     bcdefghijklmnopqrstuvwxyz{|}~{|}~{|}~{|}\
@@ -79,7 +278,7 @@ impl Order {
         let is_change = self.word.part() == Part::Changes;
         let letters = match self.several() {
             2..=4 if is_change => Some(self.character()),
-            count if count < 5 => FEW.get(..count),
+            count if count < 5 => ABCD.get(..count),
             count if is_change => LETTERS.get(40..count.saturating_add(40)),
             count => LETTERS.get(..count),
         };
@@ -124,9 +323,12 @@ impl Order {
         Ok(Items::new(marks))
     }
 
-    fn items(&self, alloc: Global) -> Result<Items<i64>, AllocError> {
-        let given = Line::from(self.first, self.several());
-        Items::from_slice(alloc, given.as_slice())
+    fn items<E: Element>(&self, alloc: Global, source: &E::Source) -> Result<Items<E>, AllocError> {
+        let mut items = Vec::new(alloc);
+        for number in Line::from(self.first, self.several()).as_slice() {
+            items.push(E::of(alloc, source, *number)?)?;
+        }
+        Ok(Items::new(items))
     }
 
     fn byte_items(&self, alloc: Global) -> Result<Items<u8>, AllocError> {
@@ -144,8 +346,15 @@ fn text_of(alloc: Global, text: &str) -> Result<Text, AllocError> {
 
 /// A command that an order may stand for.
 pub(crate) trait FromOrder: Drop + Sized {
+    /// What its elements are made of.
+    type Source: Drop;
+
     /// The command that stands for an order, where there is one of its kind.
-    fn from_order(alloc: Global, order: &Order) -> Result<Option<Self>, AllocError>;
+    fn from_order(
+        alloc: Global,
+        source: &Self::Source,
+        order: &Order,
+    ) -> Result<Option<Self>, AllocError>;
 
     /// The word of the command. Each has one, which a row must have.
     fn word(&self) -> Word;
@@ -154,9 +363,10 @@ pub(crate) trait FromOrder: Drop + Sized {
 /// The command that stands for an order; `None` where it isn't that of its row.
 pub(crate) fn command_of<C: FromOrder>(
     alloc: Global,
+    source: &C::Source,
     order: &Order,
 ) -> Result<Option<C>, AllocError> {
-    let command: Option<C> = C::from_order(alloc, order)?;
+    let command: Option<C> = C::from_order(alloc, source, order)?;
     Ok(match command {
         Some(command) if command.word() == order.word && order.word.row().is_some() => Some(
             command,
@@ -165,12 +375,27 @@ pub(crate) fn command_of<C: FromOrder>(
     })
 }
 
-impl FromOrder for Command<i64> {
-    fn from_order(alloc: Global, order: &Order) -> Result<Option<Self>, AllocError> {
+impl<E: Element> FromOrder for Command<E> {
+    type Source = E::Source;
+
+    fn from_order(
+        alloc: Global,
+        source: &E::Source,
+        order: &Order,
+    ) -> Result<Option<Self>, AllocError> {
         Ok(match order.kind {
-            Kind::List => VecCommand::from_order(alloc, order)?.map(Command::Vec),
-            Kind::Bytes => BytesCommand::from_order(alloc, order)?.map(Command::Bytes),
-            Kind::Text => TextCommand::from_order(alloc, order)?.map(Command::Text),
+            Kind::List => match VecCommand::from_order(alloc, source, order)? {
+                Some(command) => Some(Command::Vec(command)),
+                None => None,
+            },
+            Kind::Bytes => match BytesCommand::from_order(alloc, &(), order)? {
+                Some(command) => Some(Command::Bytes(command)),
+                None => None,
+            },
+            Kind::Text => match TextCommand::from_order(alloc, &(), order)? {
+                Some(command) => Some(Command::Text(command)),
+                None => None,
+            },
         })
     }
 
@@ -193,17 +418,24 @@ macro_rules! word_of {
     };
 }
 
-impl FromOrder for VecCommand<i64> {
-    fn from_order(alloc: Global, order: &Order) -> Result<Option<Self>, AllocError> {
+impl<E: Element> FromOrder for VecCommand<E> {
+    type Source = E::Source;
+
+    fn from_order(
+        alloc: Global,
+        source: &E::Source,
+        order: &Order,
+    ) -> Result<Option<Self>, AllocError> {
         let Order {
             name,
             to,
             bounds,
             ..
         } = *order;
-        let (from, index, target, value) = (name, order.start, order.start, order.first);
+        let (from, index, target) = (name, order.start, order.start);
+        let value = E::of(alloc, source, order.first)?;
         let (n, capacity, additional) = (order.count, order.count, order.count);
-        let (items, marks) = (order.items(alloc)?, order.marks(alloc)?);
+        let (items, marks) = (order.items(alloc, source)?, order.marks(alloc)?);
         Ok(Some(match order.word {
             Word::New => VecCommand::New { name },
             Word::WithCapacity => VecCommand::WithCapacity { name, capacity },
@@ -247,7 +479,9 @@ impl FromOrder for VecCommand<i64> {
 }
 
 impl FromOrder for BytesCommand {
-    fn from_order(alloc: Global, order: &Order) -> Result<Option<Self>, AllocError> {
+    type Source = ();
+
+    fn from_order(alloc: Global, _: &(), order: &Order) -> Result<Option<Self>, AllocError> {
         let Order { name, to, .. } = *order;
         let (from, index, target) = (name, order.start, order.start);
         let (n, capacity, additional) = (order.count, order.count, order.count);
@@ -294,7 +528,9 @@ impl FromOrder for BytesCommand {
 }
 
 impl FromOrder for TextCommand {
-    fn from_order(alloc: Global, order: &Order) -> Result<Option<Self>, AllocError> {
+    type Source = ();
+
+    fn from_order(alloc: Global, _: &(), order: &Order) -> Result<Option<Self>, AllocError> {
         let Order {
             name,
             to,
