@@ -4,6 +4,7 @@
 
 use crate::elements::Element;
 use crate::pairs;
+use crate::rounds::sum_of;
 use ecow_list::{EcoVec, range_in};
 use std::alloc::Global;
 
@@ -16,15 +17,13 @@ fn list_of<T: Element>(alloc: Global, items: &[T]) -> EcoVec<T> {
 
 /// Fills a new vector by pushes.
 pub(crate) fn push<T: Element + Copy>(alloc: Global, items: &[T], count: u64) -> u64 {
-    let mut sum = 0u64;
-    for _ in 0..count {
+    sum_of(count, |_| {
         let mut list = EcoVec::new(alloc);
         for item in items {
             let _done = list.push(*item);
         }
-        sum = sum.wrapping_add(list.len() as u64);
-    }
-    sum
+        list.len() as u64
+    })
 }
 
 #[inline(never)]
@@ -35,13 +34,7 @@ fn cloned<T: Element>(list: &EcoVec<T>) -> Option<EcoVec<T>> {
 /// Makes a clone and drops it.
 pub(crate) fn clone<T: Element>(alloc: Global, items: &[T], count: u64) -> u64 {
     let list = list_of(alloc, items);
-    let mut sum = 0u64;
-    for _ in 0..count {
-        if let Some(copy) = cloned(&list) {
-            sum = sum.wrapping_add(copy.len() as u64);
-        }
-    }
-    sum
+    sum_of(count, |_| cloned(&list).map_or(0, |copy| copy.len() as u64))
 }
 
 /// Makes a clone, pushes one element to it and drops it.
@@ -109,35 +102,27 @@ pub(crate) fn remove_first<T: Element>(alloc: Global, items: &[T], count: u64) -
 
 /// Makes a vector of the slice.
 pub(crate) fn from_slice<T: Element>(alloc: Global, items: &[T], count: u64) -> u64 {
-    let mut sum = 0u64;
-    for _ in 0..count {
-        sum = sum.wrapping_add(list_of(alloc, items).len() as u64);
-    }
-    sum
+    sum_of(count, |_| list_of(alloc, items).len() as u64)
 }
 
 /// Appends the slice to a new vector.
 pub(crate) fn extend<T: Element>(alloc: Global, items: &[T], count: u64) -> u64 {
-    let mut sum = 0u64;
-    for _ in 0..count {
+    sum_of(count, |_| {
         let mut list = EcoVec::new(alloc);
         let _done = list.extend_from_slice(items);
-        sum = sum.wrapping_add(list.len() as u64);
-    }
-    sum
+        list.len() as u64
+    })
 }
 
 /// Appends the slice to a new vector in pieces of at most eight.
 pub(crate) fn extend_pieces<T: Element>(alloc: Global, items: &[T], count: u64) -> u64 {
-    let mut sum = 0u64;
-    for _ in 0..count {
+    sum_of(count, |_| {
         let mut list = EcoVec::new(alloc);
         for piece in items.chunks(8) {
             let _done = list.extend_from_slice(piece);
         }
-        sum = sum.wrapping_add(list.len() as u64);
-    }
-    sum
+        list.len() as u64
+    })
 }
 
 /// Appends the slice to a vector of at most a thousand elements, which is emptied now and then.
@@ -183,24 +168,19 @@ pub(crate) fn sort<T: Element>(alloc: Global, items: &[T], count: u64) -> u64 {
 /// Makes a clone and writes to it.
 pub(crate) fn write<T: Element>(alloc: Global, items: &[T], count: u64) -> u64 {
     let list = list_of(alloc, items);
-    let mut sum = 0u64;
-    for _ in 0..count {
-        if let Some(copy) = written(&list) {
-            sum = sum.wrapping_add(copy.as_slice().first().map_or(0, |item| item.seen()));
-        }
-    }
-    sum
+    sum_of(count, |_| match written(&list) {
+        Some(copy) => copy.as_slice().first().map_or(0, |item| item.seen()),
+        None => 0,
+    })
 }
 
 /// Fills a vector from the slice and keeps the odd elements.
 pub(crate) fn retain<T: Element>(alloc: Global, items: &[T], count: u64) -> u64 {
-    let mut sum = 0u64;
-    for _ in 0..count {
+    sum_of(count, |_| {
         let mut list = list_of(alloc, items);
         let _done = list.retain(|item| item.seen() % 2 == 1);
-        sum = sum.wrapping_add(list.len() as u64);
-    }
-    sum
+        list.len() as u64
+    })
 }
 
 /// Fills a vector from the slice, and puts the last third of the slice in place of the quarter of
@@ -259,12 +239,10 @@ fn total<T: Element>(list: &EcoVec<T>) -> u64 {
 /// Adds up the elements of the one and of the other of two vectors by reference, by turns.
 pub(crate) fn iter<T: Element>(alloc: Global, items: &[T], count: u64) -> u64 {
     let (even, odd) = (list_of(alloc, items), list_of(alloc, items));
-    let mut sum = 0u64;
-    for round in 0..count {
-        let list = if round % 2 == 0 { &even } else { &odd };
-        sum = sum.wrapping_add(total(list));
-    }
-    sum
+    sum_of(
+        count,
+        |round| total(if round % 2 == 0 { &even } else { &odd }),
+    )
 }
 
 /// Fills a vector from the slice and adds its elements up by value.

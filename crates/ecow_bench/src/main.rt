@@ -1,7 +1,7 @@
 //! What `make bench` times: `ecow_bench CALL ELEMENT LENGTH COUNT` goes round one loop on a list of
 //! so many elements, or on so many bytes or letters where CALL begins with `bytes_` or `text_`, and
 //! prints a sum of what it saw. `ecow_bench NAME workload SIZE COUNT` runs a whole program. Without
-//! arguments it goes three times round each loop, and runs each program on little.
+//! arguments it runs each program on little.
 #![tactic(auto)]
 
 mod bytes;
@@ -21,54 +21,6 @@ use elements::Element;
 use std::alloc::{AllocError, Global};
 use std::env::Env;
 use std::{env, io};
-
-const CALLS: [&str; 45] = [
-    "push",
-    "clone",
-    "clone_push",
-    "pop",
-    "insert_remove",
-    "remove_first",
-    "from_slice",
-    "extend",
-    "extend_pieces",
-    "extend_few",
-    "sort",
-    "write",
-    "retain",
-    "splice",
-    "drain",
-    "iter",
-    "into_iter",
-    "eq",
-    "cmp",
-    "hash",
-    "bytes_from_slice",
-    "bytes_push",
-    "bytes_clone",
-    "bytes_extend",
-    "bytes_eq",
-    "bytes_cmp",
-    "bytes_repeat",
-    "bytes_insert_slice",
-    "bytes_hash",
-    "text_from_str",
-    "text_clone",
-    "text_push_a",
-    "text_push_e",
-    "text_push_str",
-    "text_pop",
-    "text_insert_str",
-    "text_eq",
-    "text_cmp",
-    "text_hash",
-    "text_replace_rare",
-    "text_replace_often",
-    "text_to_uppercase",
-    "text_repeat",
-    "text_format",
-    "text_to_eco_string",
-];
 
 /// Each whole program, and two small sizes.
 const WORKLOADS: [(&str, usize, u64); 4] = [
@@ -101,14 +53,8 @@ fn workload(alloc: Global, name: &str, length: usize, count: u64) -> u64 {
     seen.unwrap_or(0)
 }
 
-/// Prints what the loop of each call saw, three times on eight numbers, and what each whole program
-/// saw of little.
+/// Prints what each whole program saw of little.
 fn print_all(rt: &HostRuntime) -> io::Result<()> {
-    let numbers = numbers(rt.alloc(), 8)?;
-    for call in CALLS {
-        let seen = sum(rt.alloc(), call, "u64", numbers.as_slice(), 3)?;
-        println!(rt; "{call} {seen}")?;
-    }
     for (name, length, count) in WORKLOADS {
         println!(rt; "{name} {}", workload(rt.alloc(), name, length, count))?;
     }
@@ -173,35 +119,14 @@ fn sum(
         let text = prose(alloc, numbers)?;
         return Ok(sum_of_texts(alloc, call, text.as_str(), count));
     }
-    Ok(match element {
-        "u8" => sum_of_copies::<u8>(alloc, call, elements_of(alloc, numbers)?.as_slice(), count),
-        "u64" => sum_of_numbers(alloc, call, numbers, count),
-        "[u64;3]" => sum_of_copies::<[u64; 3]>(
-            alloc,
-            call,
-            elements_of(alloc, numbers)?.as_slice(),
-            count,
-        ),
-        "[u64;8]" => sum_of_copies::<[u64; 8]>(
-            alloc,
-            call,
-            elements_of(alloc, numbers)?.as_slice(),
-            count,
-        ),
-        "vector" => sum_of_items::<EcoVec<u64>>(
-            alloc,
-            call,
-            elements_of(alloc, numbers)?.as_slice(),
-            count,
-        ),
-        "String" => sum_of_items::<String>(
-            alloc,
-            call,
-            elements_of(alloc, numbers)?.as_slice(),
-            count,
-        ),
-        _ => 0,
-    })
+    match element {
+        "u8" => sum_of_copies::<u8>(alloc, call, numbers, count),
+        "[u64;3]" => sum_of_copies::<[u64; 3]>(alloc, call, numbers, count),
+        "[u64;8]" => sum_of_copies::<[u64; 8]>(alloc, call, numbers, count),
+        "vector" => sum_of_items::<EcoVec<u64>>(alloc, call, numbers, count),
+        "String" => sum_of_items::<String>(alloc, call, numbers, count),
+        _ => sum_of_numbers(alloc, call, numbers, count),
+    }
 }
 
 /// As many lower case letters as there are numbers.
@@ -268,8 +193,13 @@ fn elements_of<T: Element>(alloc: Global, numbers: &[u64]) -> Result<Vec<T>, All
     Ok(items)
 }
 
-fn sum_of_numbers(alloc: Global, call: &str, numbers: &[u64], count: u64) -> u64 {
-    match call {
+fn sum_of_numbers(
+    alloc: Global,
+    call: &str,
+    numbers: &[u64],
+    count: u64,
+) -> Result<u64, AllocError> {
+    Ok(match call {
         "push" => loops::push(alloc, numbers, count),
         "clone" => loops::clone(alloc, numbers, count),
         "clone_push" => loops::clone_push(alloc, numbers, count),
@@ -284,24 +214,37 @@ fn sum_of_numbers(alloc: Global, call: &str, numbers: &[u64], count: u64) -> u64
         "into_iter" => loops::into_iter(alloc, numbers, count),
         "cmp" => loops::cmp(alloc, numbers, count),
         "hash" => loops::hash(alloc, numbers, count),
-        _ => sum_of_copies(alloc, call, numbers, count),
-    }
+        _ => return sum_of_copies::<u64>(alloc, call, numbers, count),
+    })
 }
 
-fn sum_of_copies<T: Element + Copy>(alloc: Global, call: &str, items: &[T], count: u64) -> u64 {
-    match call {
-        "splice" => loops::splice(alloc, items, count),
-        _ => sum_of_items(alloc, call, items, count),
+fn sum_of_copies<T: Element + Copy>(
+    alloc: Global,
+    call: &str,
+    numbers: &[u64],
+    count: u64,
+) -> Result<u64, AllocError> {
+    if call == "splice" {
+        let items: Vec<T> = elements_of(alloc, numbers)?;
+        return Ok(loops::splice(alloc, items.as_slice(), count));
     }
+    sum_of_items::<T>(alloc, call, numbers, count)
 }
 
-fn sum_of_items<T: Element>(alloc: Global, call: &str, items: &[T], count: u64) -> u64 {
-    match call {
+fn sum_of_items<T: Element>(
+    alloc: Global,
+    call: &str,
+    numbers: &[u64],
+    count: u64,
+) -> Result<u64, AllocError> {
+    let items: Vec<T> = elements_of(alloc, numbers)?;
+    let items = items.as_slice();
+    Ok(match call {
         "insert_remove" => loops::insert_remove(alloc, items, count),
         "remove_first" => loops::remove_first(alloc, items, count),
         "write" => loops::write(alloc, items, count),
         "drain" => loops::drain(alloc, items, count),
         "eq" => loops::eq(alloc, items, count),
         _ => 0,
-    }
+    })
 }

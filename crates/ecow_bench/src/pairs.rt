@@ -1,6 +1,7 @@
 //! Loops of calls that vectors, bytes and texts have alike, and that leave their values as they
 //! are: two of them, `even` and `odd`, take turns.
 
+use crate::rounds::sum_of;
 use ecow_bytes::EcoBytes;
 use ecow_string::EcoString;
 use std::cmp::Ordering;
@@ -13,14 +14,10 @@ fn same<V: PartialEq>(left: &V, right: &V) -> bool {
 
 /// Compares a value with one and with another that equals it, by turns.
 pub(crate) fn eq<V: PartialEq>(one: &V, even: &V, odd: &V, count: u64) -> u64 {
-    let mut sum = 0u64;
-    for round in 0..count {
+    sum_of(count, |round| {
         let other = if round % 2 == 0 { even } else { odd };
-        if same(one, other) {
-            sum = sum.wrapping_add(round);
-        }
-    }
-    sum
+        if same(one, other) { round } else { 0 }
+    })
 }
 
 #[inline(never)]
@@ -30,14 +27,14 @@ fn compared<V: Ord>(left: &V, right: &V) -> Ordering {
 
 /// Orders a value and one or another that equals it, by turns.
 pub(crate) fn cmp<V: Ord>(one: &V, even: &V, odd: &V, count: u64) -> u64 {
-    let mut sum = 0u64;
-    for round in 0..count {
+    sum_of(count, |round| {
         let other = if round % 2 == 0 { even } else { odd };
         if compared(one, other).is_eq() {
-            sum = sum.wrapping_add(round);
+            round
+        } else {
+            0
         }
-    }
-    sum
+    })
 }
 
 #[inline(never)]
@@ -49,12 +46,10 @@ fn hashed<V: Hash>(value: &V) -> u64 {
 
 /// Hashes one value and another that equals it, by turns.
 pub(crate) fn hash<V: Hash>(even: &V, odd: &V, count: u64) -> u64 {
-    let mut sum = 0u64;
-    for round in 0..count {
-        let value = if round % 2 == 0 { even } else { odd };
-        sum = sum.wrapping_add(hashed(value));
-    }
-    sum
+    sum_of(
+        count,
+        |round| hashed(if round % 2 == 0 { even } else { odd }),
+    )
 }
 
 /// A value of which something is seen that stands in memory.
@@ -86,12 +81,8 @@ impl Seen for EcoString {
 
 /// Makes a clone of one value or another, by turns, and drops it.
 pub(crate) fn clone<V: Clone + Drop + Seen>(even: &V, odd: &V, count: u64) -> u64 {
-    let mut sum = 0u64;
-    for round in 0..count {
+    sum_of(count, |round| {
         let one = if round % 2 == 0 { even } else { odd };
-        if let Ok(copy) = one.clone() {
-            sum = sum.wrapping_add(copy.seen());
-        }
-    }
-    sum
+        one.clone().map_or(0, |copy| copy.seen())
+    })
 }
