@@ -1,5 +1,6 @@
 -- What a caller wants to know of a command: what a fork reads, what a write sets, and that all other names stay.
-use Rattle.std.proofs.Common.{◌≡◌, ◌≢◌, ℕ, Bool, true, false, cond, if◌then◌else◌, List, Option, Some, None, Result, Ok, Err, IfOk, refl, sym, ap, subst, ◌∙◌, arith, inl, inr, slice_get, slice_set}
+use Rattle.std.proofs.Common.{◌≡◌, ◌≢◌, ℕ, Bool, true, false, cond, if◌then◌else◌, List, [], ◌∷◌, ◌++◌, All, length, take, drop, Option, Some, None, Result, Ok, Err, IfOk, refl, sym, ap, subst, ◌∙◌, arith, inl, inr, slice_get, slice_set}
+use Rattle.std.proofs.lemmas.List.Elements.{All-head, All-tail}
 use Rattle.std.specs.FinMap.{get, insert, remove, contains_key, get-insert, get-remove, gets}
 use Rattle.std.specs.Cmp.{nat_cmp_total}
 use Rattle.std.specs.Option.{option_map, ok_or}
@@ -7,16 +8,20 @@ use Rattle.std.specs.Ordering.{nat_cmp, eq_by_cmp}
 use Rattle.std.specs.Result.{result_ok}
 use Rattle.std.proofs.lemmas.Map.Views.{tells_apart}
 use Rattle.std.proofs.lemmas.Map.Lookups.{exact_unsigned}
-use Rattle.ecow_model.specs.CountedRun.{CountedStep}
+use Rattle.ecow_model.specs.CountedRun.{CountedRun, CountedStep}
+use Rattle.ecow_model.specs.Bytes.{bytes_rules, bytes_usage}
+use Rattle.ecow_model.specs.Texts.{text_rules, text_usage}
 use Rattle.ecow_model.specs.Vecs.{vec_rules, vec_usage}
 use Rattle.ecow_model.specs.Names.{Holding, Names, contents, list_of}
 use Rattle.ecow_model.specs.Refusing.{◌>>=◌, becomes}
-use Rattle.ecow_model.specs.Run.{IsVecStep}
+use Rattle.ecow_model.specs.Run.{IsVecStep, Run, RunBy, Step}
 use Rattle.ecow_model.specs.State.{State, Plain}
 use Rattle.ecow_model.specs.Uses.{Gives, Observation, Rules, put_made, observation_in, carry_out, value_at}
 use Rattle.ecow_model.specs.Values.{Named, as_vec, vec_at, there, unused}
 use Rattle.ecow_model.specs.declared.command.Outcome.{Outcome}
 use Rattle.ecow_model.specs.declared.command.Outcome.TheVariants.{Done}
+use Rattle.ecow_model.specs.declared.command.Command.{Command}
+use Rattle.ecow_model.specs.declared.command.Command.TheVariants.{Vec, Bytes, Text}
 use Rattle.ecow_model.specs.declared.command.Refusal.{Refusal}
 use Rattle.ecow_model.specs.declared.command.Refusal.TheVariants.{NoName, Taken, Index}
 use Rattle.ecow_model.specs.declared.vecs.VecDerive.TheVariants.{Clone}
@@ -29,7 +34,7 @@ use Rattle.ecow_model.specs.declared.usage.Usage.{Usage}
 use Rattle.ecow_model.specs.declared.usage.Usage.TheVariants.{Make, Derive, Drop, Edit, Ask}
 use Rattle.ecow_model.specs.declared.value.Value.TheVariants.{Vec as VecValue, Bytes as BytesValue, Text as TextValue}
 use Rattle.ecow_model.proofs.Contents.{get-contents, step_of_contents}
-use Rattle.ecow_model.specs.Callers.{LeavesName}
+use Rattle.ecow_model.specs.Callers.{Leaves, LeavesName}
 
 abbrev nothing : Unit {0}
 nothing = tt
@@ -211,3 +216,40 @@ module _ {T : Type 0} (old new : Names T) (outcome : Outcome T) where
   pub other_lists_stay : (c : VecCommand T) (q : ℕ) → CountedStep old c outcome new → LeavesName (vec_usage c) q → list_of new q ≡ list_of old q
   other_lists_stay c q step differ =
       same_lists q q (name_stays vec_rules _ (contents old) q (vec_usage c) _ outcome (contents new) differ (step_of_contents c old outcome new step))
+
+module _ {T : Type 0} where
+  -- in shared blocks: a name that no command of a run makes, changes or drops keeps its list
+  pub shared_run_stays : (commands : List (VecCommand T)) (outcomes : List (Outcome T)) (old new : Names T) (q : ℕ)
+      → CountedRun old commands outcomes new → All (λ c. LeavesName (vec_usage c) q) commands → list_of new q ≡ list_of old q
+  shared_run_stays [] [] old new q run all = ap (λ names. list_of names q) run
+  shared_run_stays [] (o ∷ os) old new q run all = absurd run
+  shared_run_stays (c ∷ cs) [] old new q run all = absurd run
+  shared_run_stays (c ∷ cs) (o ∷ os) old new q (mid, step, rest) all =
+      shared_run_stays cs os mid new q rest (All-tail (λ c. LeavesName (vec_usage c) q) c cs all)
+      ∙ other_lists_stay old mid o c q step (All-head (λ c. LeavesName (vec_usage c) q) c cs all)
+
+module _ {T : Type 0} (limit : ℕ) where
+  -- what stands under a name that a command leaves stays, whatever its kind
+  pub left_alone : (c : Command T) (old new : State T) (outcome : Outcome T) (q : ℕ) → Step limit old c outcome new → Leaves c q → get new q ≡ get old q
+  left_alone (Vec c) old new outcome q step differ = others_stay old new outcome c q step differ
+  left_alone (Bytes c) old new outcome q step differ = name_stays (bytes_rules limit) (observation_in outcome) old q (bytes_usage c) _ outcome new differ step
+  left_alone (Text c) old new outcome q step differ = name_stays (text_rules limit) (observation_in outcome) old q (text_usage c) _ outcome new differ step
+
+  -- a name that no command of a run makes, changes or drops keeps what stands under it
+  pub run_stays : (commands : List (Command T)) (outcomes : List (Outcome T)) (old new : State T) (q : ℕ)
+      → Run limit old commands outcomes new → All (λ c. Leaves c q) commands → get new q ≡ get old q
+  run_stays [] [] old new q run all = ap (λ names. get names q) run
+  run_stays [] (o ∷ os) old new q run all = absurd run
+  run_stays (c ∷ cs) [] old new q run all = absurd run
+  run_stays (c ∷ cs) (o ∷ os) old new q (mid, step, rest) all =
+      run_stays cs os mid new q rest (All-tail (λ c. Leaves c q) c cs all) ∙ left_alone c old mid o q step (All-head (λ c. Leaves c q) c cs all)
+
+-- a run is one of its first commands, and then one of the others
+pub run_splits : {C T S : Type 0} (step : S → C → Outcome T → S → Type 0) (first rest : List C) (outcomes : List (Outcome T)) (old new : S)
+    → RunBy step old (first ++ rest) outcomes new
+    → (mid : S) × RunBy step old first (take (length first) outcomes) mid × RunBy step mid rest (drop (length first) outcomes) new
+run_splits step [] rest outcomes old new run = (old, refl, run)
+run_splits step (c ∷ first) rest [] old new run = absurd run
+run_splits step (c ∷ first) rest (o ∷ outcomes) old new (next, one, run) =
+    let (mid, front, back) = run_splits step first rest outcomes next new run in
+    (mid, (next, one, front), back)

@@ -1,7 +1,11 @@
 -- What a caller asks of a command.
 use Rattle.std.specs.Prelude.{◌≡◌, ◌≢◌, ℕ, List, Option, slice_set}
 use Rattle.std.specs.Option.{option_map}
+use Rattle.ecow_model.specs.Bytes.{bytes_usage}
+use Rattle.ecow_model.specs.Texts.{text_usage}
 use Rattle.ecow_model.specs.Vecs.{vec_usage}
+use Rattle.ecow_model.specs.declared.command.Command.{Command}
+use Rattle.ecow_model.specs.declared.command.Command.TheVariants.{Vec, Bytes, Text}
 use Rattle.ecow_model.specs.declared.command.Outcome.{Outcome}
 use Rattle.ecow_model.specs.declared.command.Outcome.TheVariants.{Done}
 use Rattle.ecow_model.specs.declared.usage.Usage.{Usage}
@@ -16,6 +20,12 @@ LeavesName (Derive from to how) q = q ≢ to
 LeavesName (Drop name) q = q ≢ name
 LeavesName (Edit name edit) q = q ≢ name
 LeavesName (Ask name question) q = Unit {0}
+
+-- the same of a command on any kind of value
+abbrev pub Leaves : {T : Type 0} → Command T → ℕ → Type 0
+Leaves (Vec c) q = LeavesName (vec_usage c) q
+Leaves (Bytes c) q = LeavesName (bytes_usage c) q
+Leaves (Text c) q = LeavesName (text_usage c) q
 
 -- commands on lists, by the values before, the command, its outcome and the values after; and what
 -- a name reads as among some values
