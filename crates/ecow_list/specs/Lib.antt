@@ -1,5 +1,6 @@
 pub mod Edits
 pub mod IntoArray
+pub mod Leaves
 pub mod Lends
 pub mod Ranges
 pub mod Refusals

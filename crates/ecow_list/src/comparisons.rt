@@ -1,6 +1,6 @@
 //! Equality, order, hash and debug text of an `EcoVec`: those of its elements in order, shared or
 //! not. A front comes before what it begins.
-ghost use Rattle.std.specs.Prelude.{◌≡◌, ◌≤◌, IsTrue};
+ghost use Rattle.std.specs.Prelude.{◌≡◌, ◌*◌, ◌≤◌, IsTrue, length};
 ghost use Rattle.std.specs.Mem.{type_size};
 ghost use Rattle.std.specs.Cmp.Lexicographic.{pointwise, slice_cmp, slice_partial_cmp, lists_per, lists_equiv, lists_po, lists_total, lists_agrees, lists_ties};
 ghost use Rattle.std.specs.Hash as fed;
@@ -16,13 +16,13 @@ use std::mem::size_of_val;
 const GROUP: usize = 16;
 
 /// Whether the elements of two groups are equal, with no branch between them.
-fn groups_equal<T: PartialEq>(left: &[T; GROUP], right: &[T; GROUP]) -> bool
+fn groups_equal<T: PartialEq, const G: usize>(left: &[T; G], right: &[T; G]) -> bool
     requires { type_size T.row ≤ 8 }
     ensures { result ≡ pointwise T.eq left.now right.now }
 {
     let mut equal = true;
     let mut i = 0;
-    while i < GROUP {
+    while i < G {
         equal &= left[i] == right[i];
         i += 1;
     }
@@ -37,6 +37,23 @@ fn are_words<T>(elements: &[T]) -> bool
         Some(first) => size_of_val(first) == 8,
         None => false,
     }
+}
+
+/// Whether as many elements are equal, `G` to twice as many: the first `G` and the last.
+fn ends_equal<T: PartialEq, const G: usize>(left: &[T], right: &[T]) -> bool
+    requires words { type_size T.row ≤ 8 }
+    requires as_many { length left.now ≡ length right.now }
+    requires covered { (G ≤ length left.now) × (length left.now ≤ 2 * G) }
+    ensures { result ≡ pointwise T.eq left.now right.now }
+{
+    if let Some(first) = left.first_chunk::<G>()
+        && let Some(other_first) = right.first_chunk::<G>()
+        && let Some(last) = left.last_chunk::<G>()
+        && let Some(other_last) = right.last_chunk::<G>()
+    {
+        return groups_equal(first, other_first) & groups_equal(last, other_last);
+    }
+    unreachable!()
 }
 
 /// Whether the elements are equal: group by group while there are some of each.
@@ -62,7 +79,16 @@ fn words_equal<T: PartialEq>(left: &[T], right: &[T]) -> bool
 fn all_equal<T: PartialEq>(left: &[T], right: &[T]) -> bool
     ensures { result ≡ pointwise T.eq left.now right.now }
 {
-    if left.len() == right.len() && left.len() >= GROUP && are_words(left) {
+    if left.len() != right.len() {
+        return false;
+    }
+    if left.len() >= 4 && are_words(left) {
+        if left.len() <= 8 {
+            return ends_equal::<T, 4>(left, right);
+        }
+        if left.len() < GROUP {
+            return ends_equal::<T, 8>(left, right);
+        }
         return words_equal(left, right);
     }
     left == right

@@ -1,10 +1,11 @@
 //! The calls that change a vector's elements in place. Each says what becomes of the elements of
 //! its own block: `edit` makes the block its own first.
-ghost use Rattle.std.specs.Prelude.{◌≡◌, ◌+◌, ◌-◌, ◌<◌, ◌≤◌, ◌↔◌, [], ◌++◌, length, take, IsOk, IfOk, OnOk, IsSome, Some, insert, remove, slice_get, slice_set, min};
+ghost use Rattle.std.specs.Prelude.{◌≡◌, ◌+◌, ◌-◌, ◌<◌, ◌≤◌, ◌↔◌, [], ◌∷◌, ◌++◌, length, take, IsOk, IfOk, OnOk, IsSome, MatchOption, Some, insert, remove, slice_get, slice_set, min};
 ghost use Rattle.std.specs.Fn.{CalledAtMut};
 ghost use Rattle.std.specs.List.Retain.{RetainsInTurn};
 ghost use Rattle.ecow_base.specs.Clones.{ClonesAreEqual};
 ghost use Rattle.ecow_block.specs.Updates.{TakesKeptAt, UpdatesAt};
+ghost use Rattle.ecow_list.specs.Leaves.{LeavesAt};
 ghost use Rattle.ecow_list.specs.Refusals.{RefusesForMemory, RefusesPast, RejectsForMemory, RejectsPast};
 ghost use Rattle.ecow_list.specs.Vectors.{Changes, ChangesBy, IsKept, IsKeptBefore};
 
@@ -46,11 +47,15 @@ impl<T: Clone> EcoVec<T> {
     /// Takes the last element: `None` where there is none. A shared vector copies all its elements
     /// first.
     #[inline]
+    #[tactic(auto, using(crate::proofs::Popped::taken))]
     pub fn pop(&mut self) -> Result<Option<T>, EcoError>
         ensures change { ChangesBy T.is_clone self.old
             (λ xs last ys.
             (last ≡ slice_get xs (length xs - 1)) × (ys ≡ take (length xs - 1) xs))
             result self.new }
+        ensures taken { ClonesAreEqual T.is_clone
+            → IfOk result (λ taken.
+            MatchOption taken (self.old ≡ []) (λ last. self.old ≡ self.new ++ last ∷ [])) }
         ensures some { IfOk result (λ last. IsSome last ↔ (0 < length self.old)) }
         ensures len { OnOk result (length self.new ≡ length self.old - 1) }
 
@@ -124,6 +129,10 @@ impl<T: Clone> EcoVec<T> {
             (λ xs answer ys. UpdatesAt F.FnOnce f index xs ys answer)
             result self.new }
         ensures len { OnOk result (length self.new ≡ length self.old) }
+
+        // Where `f` leaves the element as it was whenever it gives this answer, nothing has changed.
+        ensures stays { ClonesAreEqual T.is_clone
+            → IfOk result (λ answer. LeavesAt F.FnOnce f answer → self.new ≡ self.old) }
         ensures refused { RefusesForMemory self.old result self.new }
     {
         Ok(self.edit(Clones, Least::Fresh, 0, (), |block, ()| {

@@ -1,12 +1,13 @@
 //! The elements of a vector, borrowed for writing.
-ghost use Rattle.std.specs.Prelude.{◌≡◌, ◌<◌, [], length, IfOk, IfErr, IsOk, OnOk, OnErr, MatchOption};
+ghost use Rattle.std.specs.Prelude.{◌≡◌, ◌+◌, ◌<◌, ◌≤◌, ◌↔◌, [], length, IfOk, IfErr, IsErrOf, IsOk, OnOk, OnErr, MatchOption};
 ghost use Rattle.std.specs.Borrow.{sem};
 ghost use Rattle.ecow_base.specs.Clones.{ClonesAreEqual};
 ghost use Rattle.ecow_list.specs.Vectors.{IsKept};
 
 use crate::error::EcoError;
 use crate::vec::EcoVec;
-use crate::vec::own::{Clones, Least};
+use crate::vec::own::{Clones, Least, enlarge};
+use ecow_base::MAX_LEN;
 use ecow_block::Block;
 use ecow_shared::Shared;
 
@@ -73,6 +74,46 @@ impl<T: Clone> EcoVec<T> {
         match self.sole_block() {
             Some(block) => Ok(block),
             None => Err(Some(EcoError::Memory)),
+        }
+    }
+
+    /// The block of the elements, which no other vector shares any more, with room for `additional`
+    /// more elements: as many as that `push_within_capacity` takes through this borrow, and none is
+    /// refused. A vector without a block gets one, also where `additional` is 0. `Capacity` says
+    /// that the length and `additional` pass 2^63 - 1; the one other error is `Memory`.
+    ///
+    /// So a change of several vectors can be made whole: first borrow each with the room that it
+    /// needs, and then write, which can't be refused.
+    ///
+    /// This project's own.
+    pub fn own_with_room(&mut self, additional: usize) -> Result<&mut Block<T>, EcoError>
+        ensures* writes_back { sem 𝓛 (lends_own_block T.row T.is_clone self.entry result) }
+        ensures value { ClonesAreEqual T.is_clone
+            → IfOk result (λ block. block.now.items ≡ self.old) }
+        ensures kept { IfOk result (λ block. IsKept T.is_clone self.old block.now.items) }
+        ensures len { IfOk result (λ block. length block.now.items ≡ length self.old) }
+
+        // There is the room that was asked for, unless that passes the limit or memory was lacking.
+        ensures room { IfOk result
+            (λ block. length block.now.items + additional ≤ block.now.capacity) }
+        ensures capacity { IsErrOf result EcoError.Capacity
+            ↔ (MAX_LEN < length self.old + additional) }
+    {
+        let least = if self.is_empty() {
+            additional.max(1)
+        } else {
+            additional
+        };
+        self.edit(Clones, Least::Same, least, (), |_block, ()| Ok(()))?;
+        match self.sole_block() {
+            Some(block) => {
+                // There is room already, which no contract of a shared block says.
+                if additional > block.capacity() - block.len() {
+                    enlarge(block, additional)?;
+                }
+                Ok(block)
+            }
+            None => Err(EcoError::Memory),
         }
     }
 }

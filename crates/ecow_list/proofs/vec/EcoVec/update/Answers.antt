@@ -1,6 +1,7 @@
 use Rattle.std.proofs.Common.{◌<◌, rules, arith, length, subst}
 use Rattle.ecow_block.specs.Updates.{UpdatesAt}
 use Rattle.ecow_list.proofs.Kept.{takes_kept}
+use Rattle.ecow_list.proofs.Popped.{stayed}
 use Rattle.ecow_list.proofs.vec.EcoVec.update.Goals as goal
 
 pub edit-requires-clause-callable : goal.edit-requires-clause-callable
@@ -16,3 +17,8 @@ returns-clause-change g c = record {
       (subst (λ ys. UpdatesAt g.F.FnOnce c.args.f c.args.index e.shown.now.items ys c.in_ok-edit.field-0) e.leaves (search (rules, e.met)));
   kept = search rules;
 }
+
+pub returns-clause-stays : goal.returns-clause-stays
+returns-clause-stays g c = λ equal leaves.
+    let changed = returns-clause-change g c in
+    stayed g.F.FnOnce c.args.f c.args.index c.args.self.now c.edit.new.self c.in_ok-edit.field-0 (changed.ok equal) leaves
