@@ -6,3 +6,4 @@ mod Moves
 mod Repeats
 mod Rewritten
 mod Variants
+mod Digits

@@ -4,3 +4,4 @@ pub mod Hashes
 pub mod Lends
 pub mod Makes
 pub mod Rewrites
+pub mod Digits

@@ -1,5 +1,5 @@
 //! The memory of inline bytes.
-ghost use Rattle.std.specs.Prelude.{◌≡◌, ◌<◌, ◌≤◌, length, take};
+ghost use Rattle.std.specs.Prelude.{◌≡◌, ◌+◌, ◌*◌, ◌^◌, ◌<◌, ◌≤◌, length, take};
 ghost use Rattle.std.specs.Borrow.{sem};
 ghost use Rattle.ecow_bytes.specs.Lends.{lends_first};
 
@@ -20,6 +20,7 @@ const MANY: usize = u8::MAX as usize;
 impl<const N: usize> Cells<N> {
     ghost use Rattle.ecow_bytes.specs.Counts.{counted};
     ghost use Rattle.ecow_bytes.specs.Lends.{lends_all, lends_front};
+    ghost use Rattle.ecow_bytes.specs.Digits.{digits};
 
     /// Puts these bytes into the first cells.
     #[inline]
@@ -40,6 +41,23 @@ impl<const N: usize> Cells<N> {
         ensures bounded { N ≤ MAX_LEN }
     {
         self.bytes[..].len()
+    }
+
+    /// The lowest 15 bytes of two words, put in by the pieces that `copy` reads. Stores that overlap,
+    /// as those of an array of zeros, would keep the reads waiting.
+    #[inline(always)]
+    pub(crate) fn of_words(low: u64, high: u64) -> Self
+        requires cells { N ≡ 15 }
+        requires fits { high < 2 ^ 56 }
+        ensures bytes { result.bytes ≡ digits 15 (low + 2 ^ 64 * high) }
+    {
+        let mut cells = Cells { bytes: [0; N] };
+        let to = &mut cells.bytes[..];
+        to[0] = (low % (1 << 8)) as u8;
+        to[1..3].copy_from_slice(&(((low >> 8) % (1 << 16)) as u16).to_le_bytes());
+        to[3..7].copy_from_slice(&(((low >> 24) % (1 << 32)) as u32).to_le_bytes());
+        to[7..].copy_from_slice(&((low >> 56) + (high << 8)).to_le_bytes());
+        cells
     }
 
     /// A copy, in pieces of one, two, four and more bytes. In a `Form` the cells begin behind a tag

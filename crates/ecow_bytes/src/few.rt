@@ -1,5 +1,5 @@
 //! Fewer bytes than there are cells for.
-ghost use Rattle.std.specs.Prelude.{◌≡◌, ◌<◌, ◌≤◌, length, take};
+ghost use Rattle.std.specs.Prelude.{◌≡◌, ◌+◌, ◌*◌, ◌^◌, ◌<◌, ◌≤◌, length, take};
 
 use crate::cells::Cells;
 use ecow_base::MAX_LEN;
@@ -26,6 +26,7 @@ impl<const N: usize> Model for Few<N> {
 impl<const N: usize> Few<N> {
     ghost use Rattle.std.specs.Borrow.{sem};
     ghost use Rattle.ecow_bytes.specs.Lends.{lends_few};
+    ghost use Rattle.ecow_bytes.specs.Digits.{digits};
 
     /// The first `len` of these bytes.
     #[inline]
@@ -37,6 +38,19 @@ impl<const N: usize> Few<N> {
         cells.set_len(len);
         Few {
             cells: cells.copy(),
+        }
+    }
+
+    /// The lowest `len` bytes of two words.
+    #[inline(always)]
+    pub(crate) fn of_words(low: u64, high: u64, len: usize) -> Self
+        requires cells { N ≡ 15 }
+        requires len { len < 15 }
+        requires fits { high < 2 ^ 48 }
+        ensures { result ≡ digits len (low + 2 ^ 64 * high) }
+    {
+        Few {
+            cells: Cells::of_words(low, high + ((len as u64) << 48)).copy(),
         }
     }
 

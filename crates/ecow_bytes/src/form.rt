@@ -6,6 +6,7 @@ ghost use Rattle.ecow_base.specs.Plain.{plain_bytes};
 
 use crate::cells::Cells;
 use crate::few::Few;
+use crate::words::words_of;
 use ecow_base::MAX_LEN;
 use ecow_list::{EcoError, EcoVec};
 
@@ -34,13 +35,20 @@ impl<const N: usize> Form<N> {
     }
 
     /// A copy of `bytes`, inline: `None` where there are more than `N`.
-    #[inline]
+    #[inline(always)]
     pub(crate) fn inline(bytes: &[u8]) -> Option<Self>
         ensures fits { IsSome result ↔ (length bytes.now ≤ N) }
         ensures bytes { IfSome result (λ form. plain_of form ≡ plain_bytes bytes.now true) }
     {
         if bytes.len() > N {
             return None;
+        }
+        if N == 15 {
+            let (low, high) = words_of(bytes);
+            if bytes.len() == N {
+                return Some(Form::Full(Cells::of_words(low, high).copy()));
+            }
+            return Some(Form::Short(Few::of_words(low, high, bytes.len())));
         }
         let mut cells = Cells { bytes: [0; N] };
         cells.put(bytes);

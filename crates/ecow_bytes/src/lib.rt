@@ -9,6 +9,7 @@ mod form;
 pub mod laws;
 mod threads;
 pub mod traits;
+mod words;
 pub mod write;
 
 pub use bytes::{EcoBytes, INLINE_LIMIT, SmallBytes};

@@ -50,7 +50,7 @@ impl<const N: usize> SmallBytes<N> {
     }
 
     /// A copy of `bytes`.
-    #[inline]
+    #[inline(always)]
     pub fn from_slice(alloc: Global, bytes: &[u8]) -> Result<Self, EcoError>
         ensures { MakesBytes N (length bytes.now) bytes.now result }
     {
