@@ -9,12 +9,14 @@ mod symbols;
 mod template;
 mod tree;
 mod undo;
+mod versions;
 mod writing;
 
 use crate::nested::{Step, Value};
 use crate::symbols::{Interner, Scope};
 use crate::tree::Node;
 use crate::undo::History;
+use crate::versions::Versions;
 use anyhow::Result;
 use ecow_bytes::EcoBytes;
 use ecow_counted::Counted;
@@ -30,6 +32,7 @@ fn main(rt: HostRuntime) -> Result<()> {
     replace_a_node(&rt)?;
     set_a_value(&rt)?;
     write_in_place(&rt)?;
+    go_back(&rt)?;
     append_to_lines(&rt)?;
     collect_items(&rt)?;
     collect_texts(&rt)
@@ -190,6 +193,14 @@ fn write_in_place(rt: &HostRuntime) -> Result<()> {
         writing::count_up(&mut list, 0)?;
     }
     println!(rt; "sorted and counted up: {list:?}, before: {kept:?}")?;
+    Ok(())
+}
+
+fn go_back(rt: &HostRuntime) -> Result<()> {
+    let mut versions = Versions::new(rt.alloc(), 1u64);
+    versions.set(2)?;
+    let undone = versions.undo()?;
+    println!(rt; "went back: {undone}, to {}", versions.present())?;
     Ok(())
 }
 

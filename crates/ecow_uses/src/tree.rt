@@ -103,7 +103,8 @@ impl Node {
             (IsRenamed index name.chars (children_of self.old) (children_of self.new)) }
         ensures unchanged { OnErr result (self.new ≡ self.old) }
     {
-        self.children.update(index, |child| child.name = name)
+        self.children.update(index, |child| child.name = name)?;
+        Ok(())
     }
 
     /// The tree with `child` in place of the child at `index`.
