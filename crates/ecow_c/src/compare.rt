@@ -17,8 +17,8 @@ use ecow_string::EcoString;
 use std::alloc::Global;
 use std::hash::{DefaultHasher, Hash, Hasher};
 
-/// Whether two lists hold the same numbers. A null pointer equals a null pointer
-/// alone.
+/// Whether two lists hold the same numbers. A null pointer equals a null
+/// pointer alone.
 #[unsafe(no_mangle)]
 pub extern "C" fn ecow_proved_list_equal(left: &mut ListPointer, right: &mut ListPointer) -> bool
     ensures equal { result
@@ -32,11 +32,11 @@ pub extern "C" fn ecow_proved_list_equal(left: &mut ListPointer, right: &mut Lis
         };
     };
     let right = some_or!(right.list(), false);
-    left.as_slice() == right.as_slice()
+    *left == *right
 }
 
-/// Whether two values hold the same bytes. A null pointer equals a null pointer
-/// alone.
+/// Whether two values hold the same bytes. A null pointer equals a null
+/// pointer alone.
 #[unsafe(no_mangle)]
 pub extern "C" fn ecow_proved_bytes_equal(left: &mut BytesPointer, right: &mut BytesPointer) -> bool
     ensures equal { result
@@ -53,8 +53,8 @@ pub extern "C" fn ecow_proved_bytes_equal(left: &mut BytesPointer, right: &mut B
     left.as_slice() == right.as_slice()
 }
 
-/// Whether two texts are equal. A null pointer equals a null pointer
-/// alone.
+/// Whether two texts are equal. A null pointer equals a null
+/// pointer alone.
 #[unsafe(no_mangle)]
 pub extern "C" fn ecow_proved_text_equal(left: &mut TextPointer, right: &mut TextPointer) -> bool
     ensures equal { result ≡ are_equal text_eq left.old.value right.old.value }
@@ -70,8 +70,8 @@ pub extern "C" fn ecow_proved_text_equal(left: &mut TextPointer, right: &mut Tex
     left.as_str() == right.as_str()
 }
 
-/// Whether two lists hold the same texts. A null pointer equals a null pointer
-/// alone.
+/// Whether two lists hold the same texts. A null pointer equals a null
+/// pointer alone.
 #[unsafe(no_mangle)]
 pub extern "C" fn ecow_proved_texts_equal(left: &mut TextsPointer, right: &mut TextsPointer) -> bool
     ensures equal { result
@@ -88,8 +88,8 @@ pub extern "C" fn ecow_proved_texts_equal(left: &mut TextsPointer, right: &mut T
     left.as_slice() == right.as_slice()
 }
 
-/// Whether two values are equal. A null pointer equals a null pointer
-/// alone.
+/// Whether two values are equal. A null pointer equals a null
+/// pointer alone.
 #[unsafe(no_mangle)]
 pub extern "C" fn ecow_proved_value_equal(left: &mut ValuePointer, right: &mut ValuePointer) -> bool
     ensures equal { result ≡ are_equal value_eq left.old.value right.old.value }
