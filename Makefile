@@ -124,6 +124,7 @@ agree:
 	@tools/agree_statuses.sh
 	@tools/agree_docs.sh
 	@tools/agree_calls.sh
+	@tools/agree_shipped.sh
 	@tools/agree_edits.sh
 	@tools/agree_c.sh
 

@@ -200,7 +200,8 @@ function texts(    i, count, letters, bytes, upper) {
 
 BEGIN {
     if (part == "names") names()
-    if (part == "owners") owners()
-    if (part == "list") list()
-    if (part == "texts") texts()
+    else if (part == "owners") owners()
+    else if (part == "list") list()
+    else if (part == "texts") texts()
+    else { print "there is no part " part > "/dev/stderr"; exit 1 }
 }
