@@ -1,16 +1,15 @@
 //! Bytes, beside values that are worked out by hand or by slices.
 
-mod common;
-
-use common::LENGTHS;
-use ecow_proved::{EcoBytes, Error};
+use ecow::{EcoBytes, Error};
 use std::borrow::{Borrow, Cow};
-use std::collections::hash_map::DefaultHasher;
 use std::collections::HashMap;
+use std::collections::hash_map::DefaultHasher;
 use std::hash::{Hash, Hasher};
 use std::io::Write;
 use std::mem::size_of;
 use std::panic::catch_unwind;
+
+const LENGTHS: [usize; 10] = [0, 1, 14, 15, 16, 17, 1023, 1024, 1025, 3000];
 
 fn hash<T: Hash + ?Sized>(value: &T) -> u64 {
     let mut hasher = DefaultHasher::new();
@@ -28,10 +27,7 @@ fn up_to_15_are_inline_and_more_are_shared() {
     for len in LENGTHS {
         let all: Vec<u8> = (0..len).map(|index| index as u8).collect();
         let bytes = EcoBytes::from(all.as_slice());
-        assert_eq!(
-            (bytes.len(), bytes.is_empty(), bytes.is_inline()),
-            (len, len == 0, len <= 15)
-        );
+        assert_eq!((bytes.len(), bytes.is_empty(), bytes.is_inline()), (len, len == 0, len <= 15));
         assert_eq!(bytes, all);
         assert_eq!(EcoBytes::try_inline(&all).is_some(), len <= 15);
         assert_eq!(catch_unwind(|| EcoBytes::inline(&all)).is_ok(), len <= 15);
@@ -108,10 +104,7 @@ fn refused() {
         assert!(panics(|bytes, _| bytes.reserve(usize::MAX)));
         assert!(!panics(|bytes, len| bytes.insert(len, 1)));
     }
-    assert_eq!(
-        EcoBytes::from(b"ab").try_repeat(usize::MAX),
-        Err(Error::Capacity)
-    );
+    assert_eq!(EcoBytes::from(b"ab").try_repeat(usize::MAX), Err(Error::Capacity));
 }
 
 #[test]
@@ -126,13 +119,7 @@ fn made_of_others_read_and_compared() {
     let bytes = EcoBytes::from(&all);
     assert_eq!(EcoBytes::from(&bytes).as_ptr(), bytes.as_ptr());
     assert_eq!((bytes[3], &bytes[18..]), (3, &[18, 19][..]));
-    assert_eq!(
-        (&bytes)
-            .into_iter()
-            .map(|byte| u32::from(*byte))
-            .sum::<u32>(),
-        190
-    );
+    assert_eq!((&bytes).into_iter().map(|byte| u32::from(*byte)).sum::<u32>(), 190);
     assert_eq!(AsRef::<[u8]>::as_ref(&bytes), all);
     assert_eq!(Borrow::<[u8]>::borrow(&bytes), all);
     assert_eq!(format!("{:?}", EcoBytes::from(b"\x01\xff")), "[1, 255]");
@@ -175,11 +162,10 @@ fn room_is_told_and_given_up() {
         let second = first.clone();
         assert_eq!((second.capacity(), second.is_inline()), (room, false));
         first.shrink_to_fit();
-        assert_eq!(first.try_shrink_to_fit(), Ok(()));
         assert_eq!(first.is_inline(), inline);
         assert_eq!(first.capacity(), if inline { 15 } else { room });
         assert_eq!((&first, second.capacity()), (&second, room));
-        assert_eq!(first.shares_with(&second), !inline);
+        assert_eq!(first.as_ptr() == second.as_ptr(), !inline);
     }
 }
 
@@ -198,23 +184,4 @@ fn a_small_block_is_not_inline() {
     small.shrink_to_fit();
     assert_eq!((small.capacity(), small.is_inline()), (15, true));
     assert_eq!(shared.len(), 16);
-}
-
-#[test]
-fn clones_share_until_one_is_changed() {
-    for len in LENGTHS {
-        let first = EcoBytes::from(vec![7; len]);
-        let mut second = first.clone();
-        let spilled = len > 15;
-        assert!(first.shares_with(&second) == spilled && second.shares_with(&first) == spilled);
-        assert_eq!(first.shares_with(&first), spilled);
-        assert!(
-            !first.shares_with(&EcoBytes::from(vec![7; len])),
-            "equal, in another block"
-        );
-        second.push(1);
-        assert!(!first.shares_with(&second));
-        assert_eq!(second.pop(), Some(1));
-        assert!(first == second && !first.shares_with(&second));
-    }
 }
