@@ -90,8 +90,16 @@ TACTIC = re.compile(r"#!?\[(?:tactic|cycle)\(")
 GENERICS = r"(?:<(?:[^<>]|<[^<>]*>)*>)?"
 
 
-def stop(path, text, at, why):
-    sys.exit("%s:%d: %s" % (path, text.count("\n", 0, at) + 1, why))
+SOURCES = {}
+
+
+def stop(path, text, at, word, why="no rule for %s"):
+    """Ends with the line of the source that has the word, of several the one nearest to where it stands by now."""
+    near = text.count("\n", 0, at) + 1
+    lines = [number for number, line in enumerate(SOURCES[path].split("\n"), 1) if word in line]
+    crate, file = path.split("/", 1)
+    sys.exit("crates/%s/src/%s:%d: %s" % (
+        CRATES[crate], file, min(lines or [near], key=lambda number: abs(number - near)), why % word))
 
 
 def behind(text, at, marks="{}"):
@@ -116,17 +124,17 @@ def without_proofs(text):
             out.append(piece)
             at += len(piece)
             continue
-        at = found.end()
+        begin, at, gone = at, found.end(), ""
         if found.re is TACTIC:
             at = behind(text, at - 1, "()") + 1
         else:
             while out and (out[-1].isspace() or re.match(r"//(?!!)", out[-1])):
-                out.pop()
+                gone += out.pop()
         if text.startswith("{", at):
             at = behind(text, at)
             if found.re is GHOST:
                 at += re.match(r"\s*[;,]?", text[at:]).end()
-        out.append("\n")
+        out.append("\n" * max(1, (gone + text[begin:at]).count("\n")))
     return "".join(out)
 
 
@@ -163,13 +171,13 @@ def attributes(text, path):
         if m[1].startswith("derive("):
             names = re.findall(r"\w+", m[1][6:])
             if unknown := set(names) - DERIVES - {"Drop", "Error"}:
-                stop(path, text, m.start(), "no rule for a derive of %s" % unknown)
+                stop(path, text, m.start(), sorted(unknown)[0], "no rule for a derive of %s")
             kept = [name for name in names if name in DERIVES]
             return "#[derive(%s)]" % ", ".join(kept) if kept else ""
         if re.match(r"error\(\x01\d+\x02\)$", m[1]):
             return ""
         if m[1] not in ATTRIBUTES:
-            stop(path, text, m.start(), "no rule for the attribute %s" % m[1])
+            stop(path, text, m.start(), m[1], "no rule for the attribute %s")
         return m.group()
 
     return re.sub(r"#!?\[([^\]]*)\]", one, text)
@@ -178,7 +186,8 @@ def attributes(text, path):
 def drops(text):
     """No type needs leave to be dropped. `fn drop(self)` of an impl becomes `dispose(self)`, which Rust's drop calls."""
     text = re.sub(r"\bwhere\s+T: Drop,\s*(?=\{)", "", text)
-    text = re.sub(r"\bDrop \+ | \+ Drop\b|: Drop\b(?! for)", "", text)
+    text = re.sub(r"(?<=: )Drop \+ | \+ Drop(?=[>,])|: Drop(?=[>,])", "", text)
+    text = re.sub(r"\b(trait \w+(?:<\w+>)?): Drop(?= \{)", r"\1", text)
     text = re.sub(
         r"impl(%s) Drop for ([^{]*?) \{" % GENERICS,
         r"impl\1 Drop for \2 {\n#[inline]\nfn drop(&mut self) {\n// SAFETY: the value is not used again.\n"
@@ -272,7 +281,7 @@ def imports(text, path):
             place, _, name = leaf.rpartition("::")
             if place.split("::")[0] in ("std", "core", "std_alloc", "memchr", "thiserror"):
                 if name not in IMPORTS.get(place, {}):
-                    stop(path, text, m.start(), "no rule for the import %s" % leaf)
+                    stop(path, text, m.start(), name, "no rule for the import %s")
                 place = IMPORTS[place][name]
             if place and ("pub" in m[1] or re.search(r"\b%s\b" % name, code)):
                 kept.setdefault(place, []).append(name)
@@ -291,23 +300,26 @@ def consts(text, names, path):
     for name in names:
         text, count = re.subn(r"(?=\bfn %s\b)" % name, "const ", text, count=1)
         if count != 1:
-            stop(path, text, 0, "there is no function %s to be `const`" % name)
+            stop(path, text, 0, name, "there is no function %s to be `const`")
     return text
 
 
-def checked(text, path, named):
+def checked(text, path):
     """Stops at what no rule knows."""
     for m in FOREIGN.finditer(text):
-        stop(path, text, m.start(), "no rule for %s" % m.group())
+        stop(path, text, m.start(), m.group())
     for m in re.finditer(r"(?<!\.)\b(\w+)!(?=[ ({\[])", text):
         if m[1] not in MACROS:
-            stop(path, text, m.start(), "no rule for the macro %s" % m[1])
+            stop(path, text, m.start(), m[1], "no rule for the macro %s")
     for m in re.finditer(r"\bimpl%s ([\w:]+)(?:<[^{]*?>)? for " % GENERICS, text):
         if m[1].split("::")[-1] not in TRAITS | {"Drop", "Clone", "Deref"}:
-            stop(path, text, m.start(), "no rule for the trait %s" % m[1])
-    for m in re.finditer(r"(?<![\w:])(?:std|core|alloc)::(\w+)", text):
-        if m[1] not in named:
-            stop(path, text, m.start(), "no rule for %s" % m.group())
+            stop(path, text, m.start(), m[1], "no rule for the trait %s")
+    known = re.compile(r"(?:core|alloc|std)::(?:%s)\b" % "|".join(
+        {place.split("::")[1] for names in IMPORTS.values() for place in names.values() if place and "::" in place}
+        | set(IMPORTS["std"]) | {"ops", "mem", "ptr", "vec", "string"}))
+    for m in re.finditer(r"(?<![\w:])(?:std|core|alloc|std_alloc|memchr|thiserror)::\w+", text):
+        if not known.match(m.group()):
+            stop(path, text, m.start(), m.group())
 
 
 def erase(source, path, dropped):
@@ -325,15 +337,12 @@ def erase(source, path, dropped):
             text = re.sub(r"^pub use %s::[^;]*;\n" % file, "", text, flags=re.M)
     text = imports(text, path)
     text = re.sub(r"^(?=(?:pub )?mod write;)", '#[cfg(feature = \x01w\x02)]\n', text, flags=re.M)
-    checked(re.sub("\x01\\w+\x02", "", text), path,
-            {"alloc", "marker", "ops", "mem", "ptr", "iter", "cmp", "fmt", "hash", "str", "sync", "slice", "io", "vec",
-             "string", "AllocError"})
+    checked(re.sub("\x01\\w+\x02", "", text), path)
     return unmasked(text.replace("\x01w\x02", '"std"'), held)
 
 
 def main():
     folder, to = os.path.join(os.path.dirname(__file__), "..", "crates"), sys.argv[1]
-    sources = {}
     for crate, read in CRATES.items():
         top = os.path.join(folder, read, "src")
         for at, _, files in os.walk(top):
@@ -341,11 +350,11 @@ def main():
                 path = "%s/%s" % (crate, os.path.relpath(os.path.join(at, file), top))
                 if path not in LEFT_OUT:
                     with open(os.path.join(at, file), encoding="utf-8") as text:
-                        sources[path] = text.read()
-    dropped = sorted({m[1] for text in sources.values()
+                        SOURCES[path] = text.read()
+    dropped = sorted({m[1] for text in SOURCES.values()
                       for m in re.finditer(r"impl%s Drop for (\w+)" % GENERICS, without_proofs(text))})
     written = []
-    for path, source in sorted(sources.items()):
+    for path, source in sorted(SOURCES.items()):
         text = erase(source, path, dropped)
         file = os.path.join(to, path[:-6] + "mod.rs" if path.endswith("/lib.rt") else path[:-3] + ".rs")
         os.makedirs(os.path.dirname(file), exist_ok=True)

@@ -12,6 +12,7 @@ for program in python3 cargo rustfmt; do
         exit 0
     }
 done
+tools/erase_test.sh
 crate=$(pwd)/bin/rust
 rm -rf "$crate"
 tools/rust_crate.sh "$crate"

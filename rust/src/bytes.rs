@@ -307,13 +307,6 @@ impl<const N: usize> SmallBytes<N> {
 
 small!(SmallBytes, [u8], as_slice, try_from_slice);
 
-impl<const N: usize> AsRef<[u8]> for SmallBytes<N> {
-    #[inline]
-    fn as_ref(&self) -> &[u8] {
-        self
-    }
-}
-
 equal_to! {
     [const N: usize] SmallBytes<N>, [u8];
     [const N: usize] SmallBytes<N>, &[u8];

@@ -36,29 +36,25 @@ impl fmt::Display for Error {
 
 impl core::error::Error for Error {}
 
-impl From<EcoError> for Error {
-    fn from(error: EcoError) -> Self {
-        match error {
-            EcoError::Capacity => Error::Capacity,
-            EcoError::Memory => Error::Memory,
+macro_rules! from_proved {
+    ($($proved:ident: $($variant:ident)*;)*) => { $(
+        impl From<$proved> for Error {
+            fn from(error: $proved) -> Self {
+                match error {
+                    $($proved::$variant => Error::$variant,)*
+                }
+            }
         }
-    }
+    )* };
+}
+from_proved! {
+    EcoError: Capacity Memory;
+    Refusal: Kind Index Capacity Memory;
 }
 
 impl From<AllocError> for Error {
     fn from(_: AllocError) -> Self {
         Error::Memory
-    }
-}
-
-impl From<Refusal> for Error {
-    fn from(refusal: Refusal) -> Self {
-        match refusal {
-            Refusal::Kind => Error::Kind,
-            Refusal::Index => Error::Index,
-            Refusal::Capacity => Error::Capacity,
-            Refusal::Memory => Error::Memory,
-        }
     }
 }
 

@@ -379,7 +379,7 @@ macro_rules! as_ref {
         }
     )* };
 }
-as_ref! { str [u8] }
+as_ref! { [u8] }
 #[cfg(feature = "std")]
 as_ref! { std::ffi::OsStr std::path::Path }
 

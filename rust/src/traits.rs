@@ -12,6 +12,41 @@ macro_rules! equal_to {
     )* };
 }
 
+/// What lends its slice, and is empty at first.
+macro_rules! slice_of {
+    ($([$($params:tt)*] $type:ty, $slice:ty, $as_slice:ident;)*) => { $(
+        impl<$($params)*> core::ops::Deref for $type {
+            type Target = $slice;
+
+            #[inline]
+            fn deref(&self) -> &$slice {
+                self.0.$as_slice()
+            }
+        }
+
+        impl<$($params)*> core::borrow::Borrow<$slice> for $type {
+            #[inline]
+            fn borrow(&self) -> &$slice {
+                self
+            }
+        }
+
+        impl<$($params)*> AsRef<$slice> for $type {
+            #[inline]
+            fn as_ref(&self) -> &$slice {
+                self
+            }
+        }
+
+        impl<$($params)*> Default for $type {
+            #[inline]
+            fn default() -> Self {
+                Self::new()
+            }
+        }
+    )* };
+}
+
 /// What `SmallBytes` and `SmallText` have by the proved type in them, and by the slice that they are.
 macro_rules! small {
     ($type:ident, $slice:ty, $as_slice:ident, $copy:ident) => {
@@ -22,28 +57,7 @@ macro_rules! small {
             }
         }
 
-        impl<const N: usize> core::ops::Deref for $type<N> {
-            type Target = $slice;
-
-            #[inline]
-            fn deref(&self) -> &$slice {
-                self.0.$as_slice()
-            }
-        }
-
-        impl<const N: usize> core::borrow::Borrow<$slice> for $type<N> {
-            #[inline]
-            fn borrow(&self) -> &$slice {
-                self
-            }
-        }
-
-        impl<const N: usize> Default for $type<N> {
-            #[inline]
-            fn default() -> Self {
-                Self::new()
-            }
-        }
+        slice_of! { [const N: usize] $type<N>, $slice, $as_slice; }
 
         impl<const N: usize> core::fmt::Debug for $type<N> {
             fn fmt(&self, f: &mut core::fmt::Formatter<'_>) -> core::fmt::Result {

@@ -8,7 +8,6 @@ use crate::string::{EcoString, SmallText};
 use alloc::string::String;
 use alloc::vec::Vec;
 use core::fmt::{self, Debug};
-use core::ops::Range;
 
 pub use proved::Kind;
 
@@ -180,8 +179,8 @@ impl Value {
     }
 
     /// Clones of the items of a list, or of the fields' values, in order: none of another kind.
-    pub fn items(&self) -> Items<'_> {
-        Items { value: self, left: 0..self.len() }
+    pub fn items(&self) -> impl DoubleEndedIterator<Item = Value> + ExactSizeIterator + Clone + '_ {
+        (0..self.len()).map(|index| granted(self.get(index)))
     }
 
     /// Clones of the fields' names and values, in order: none of another kind.
@@ -382,31 +381,3 @@ impl<N: AsRef<str>> FromIterator<(N, Value)> for Value {
         fields
     }
 }
-
-/// Clones of the items of a list, or of the fields' values.
-#[derive(Clone, Debug)]
-pub struct Items<'a> {
-    value: &'a Value,
-    /// The indices of those that are left.
-    left: Range<usize>,
-}
-
-impl Iterator for Items<'_> {
-    type Item = Value;
-
-    fn next(&mut self) -> Option<Value> {
-        self.left.next().and_then(|index| self.value.get(index).ok())
-    }
-
-    fn size_hint(&self) -> (usize, Option<usize>) {
-        self.left.size_hint()
-    }
-}
-
-impl DoubleEndedIterator for Items<'_> {
-    fn next_back(&mut self) -> Option<Value> {
-        self.left.next_back().and_then(|index| self.value.get(index).ok())
-    }
-}
-
-impl ExactSizeIterator for Items<'_> {}

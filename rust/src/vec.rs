@@ -5,13 +5,12 @@ use crate::proved::ecow_list as proved;
 use crate::shim::alloc::Global;
 use crate::shim::granted;
 use alloc::vec::Vec;
-use core::borrow::Borrow;
 use core::cmp::Ordering;
 use core::fmt::{self, Debug};
 use core::hash::{Hash, Hasher};
 use core::iter::FusedIterator;
 use core::marker::PhantomData;
-use core::ops::{Deref, RangeBounds};
+use core::ops::RangeBounds;
 
 /// A vector of the elements listed, of `n` clones of one, or of none, as `vec!` of std has them.
 ///
@@ -365,35 +364,7 @@ impl<T: Clone> Clone for EcoVec<T> {
     }
 }
 
-impl<T> Deref for EcoVec<T> {
-    type Target = [T];
-
-    #[inline]
-    fn deref(&self) -> &[T] {
-        self.0.as_slice()
-    }
-}
-
-impl<T> Borrow<[T]> for EcoVec<T> {
-    #[inline]
-    fn borrow(&self) -> &[T] {
-        self
-    }
-}
-
-impl<T> AsRef<[T]> for EcoVec<T> {
-    #[inline]
-    fn as_ref(&self) -> &[T] {
-        self
-    }
-}
-
-impl<T> Default for EcoVec<T> {
-    #[inline]
-    fn default() -> Self {
-        Self::new()
-    }
-}
+slice_of! { [T] EcoVec<T>, [T], as_slice; }
 
 impl<T: Debug> Debug for EcoVec<T> {
     fn fmt(&self, f: &mut fmt::Formatter<'_>) -> fmt::Result {

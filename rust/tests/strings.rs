@@ -8,7 +8,6 @@ use std::collections::{BTreeMap, HashMap};
 use std::ffi::OsStr;
 use std::fmt::Write;
 use std::hash::{Hash, Hasher};
-use std::mem::size_of;
 use std::panic::catch_unwind;
 use std::path::Path;
 
@@ -29,11 +28,6 @@ fn spilled(text: &str) -> EcoString {
 }
 
 #[test]
-fn size_is_16() {
-    assert_eq!(size_of::<EcoString>(), 16);
-}
-
-#[test]
 fn up_to_15_bytes_are_inline() {
     for len in LENGTHS {
         let text = "x".repeat(len);
@@ -50,37 +44,6 @@ fn up_to_15_bytes_are_inline() {
     assert_eq!(EcoString::with_capacity(2000), "");
     const EMPTY: EcoString = EcoString::new();
     assert!(EMPTY.is_empty() && EMPTY.is_inline());
-}
-
-#[test]
-fn clones_share_and_edits_do_not_show() {
-    for len in [16, 1023, 1024, 1025, 3000] {
-        let first = EcoString::from("y".repeat(len));
-        let mut second = first.clone();
-        let third = EcoString::from(&second);
-        assert_eq!(first.as_ptr(), second.as_ptr());
-        assert_eq!(first.as_ptr(), third.as_ptr());
-        second.push('!');
-        assert_eq!(first, "y".repeat(len));
-        assert_eq!(second, "y".repeat(len) + "!");
-        assert_ne!(first.as_ptr(), second.as_ptr());
-        let place = second.as_ptr();
-        second.pop();
-        assert_eq!(second.as_ptr(), place, "a sole string is edited in its place");
-        assert_eq!(first, second);
-        drop(first);
-        assert_eq!(third, "y".repeat(len));
-    }
-}
-
-#[test]
-fn an_inline_string_may_be_moved() {
-    let strings: Vec<EcoString> = (0..100).map(|len| EcoString::from("z".repeat(len % 20))).collect();
-    let boxed = Box::new(strings[15].clone());
-    assert_eq!(*boxed, "zzzzzzzzzzzzzzz");
-    for (len, string) in strings.into_iter().enumerate() {
-        assert_eq!(string, "z".repeat(len % 20));
-    }
 }
 
 #[test]

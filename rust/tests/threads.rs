@@ -1,31 +1,8 @@
 //! Clones that several threads share, write to and drop.
 
 use ecow::{EcoBytes, EcoString, EcoVec, Value};
-use std::sync::atomic::{AtomicI64, Ordering::SeqCst};
+use std::sync::Arc;
 use std::thread;
-
-static LIVE: AtomicI64 = AtomicI64::new(0);
-
-struct Counted(u64);
-
-impl Counted {
-    fn new(number: u64) -> Self {
-        LIVE.fetch_add(1, SeqCst);
-        Counted(number)
-    }
-}
-
-impl Clone for Counted {
-    fn clone(&self) -> Self {
-        Counted::new(self.0)
-    }
-}
-
-impl Drop for Counted {
-    fn drop(&mut self) {
-        LIVE.fetch_sub(1, SeqCst);
-    }
-}
 
 fn crosses<T: Send + Sync>() {}
 
@@ -33,17 +10,19 @@ fn crosses<T: Send + Sync>() {}
 fn threads_share_clones() {
     crosses::<(EcoVec<String>, EcoString, EcoBytes, Value, ecow::vec::IntoIter<String>, ecow::vec::Drain<String>)>();
     for round in 0..std::env::var("ROUNDS").ok().and_then(|rounds| rounds.parse().ok()).unwrap_or(300) {
-        let first: EcoVec<Counted> = (0..20).map(Counted::new).collect();
+        // It tells how many elements there are.
+        let probe = Arc::new(());
+        let first: EcoVec<(u64, Arc<()>)> = (0..20).map(|number| (number, probe.clone())).collect();
         let (text, value) = (EcoString::from("a text that is spilled, and so is shared"), Value::from([1, 2]));
         thread::scope(|scope| {
             for number in 0..4 {
                 let (mut own, mut said, mut held) = (first.clone(), text.clone(), value.clone());
-                let (seen, read) = (&first, &text);
+                let (seen, read, probe) = (&first, &text, &probe);
                 scope.spawn(move || {
                     for _ in 0..5 {
                         let other = seen.clone();
-                        assert_eq!(other.iter().map(|counted| counted.0).sum::<u64>(), 190);
-                        own.push(Counted::new(number));
+                        assert_eq!(other.iter().map(|item| item.0).sum::<u64>(), 190);
+                        own.push((number, probe.clone()));
                         let third = own.clone();
                         drop(other);
                         said.push('x');
@@ -56,6 +35,6 @@ fn threads_share_clones() {
             }
         });
         drop(first);
-        assert_eq!((LIVE.load(SeqCst), value.len()), (0, 2), "round {round}");
+        assert_eq!((Arc::strong_count(&probe), value.len()), (1, 2), "round {round}");
     }
 }

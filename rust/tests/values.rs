@@ -1,13 +1,7 @@
 //! Nested values, beside values that are worked out by hand.
 
 use ecow::{EcoString, Error, Kind, Value};
-use std::mem::size_of;
 use std::panic::{AssertUnwindSafe, catch_unwind};
-
-#[test]
-fn size_is_16() {
-    assert_eq!(size_of::<Value>(), 16);
-}
 
 #[test]
 fn each_kind_reads_as_itself_alone() {
