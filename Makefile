@@ -171,6 +171,7 @@ hostile: bin/ecow-run
 
 bench:
 	COUNT=$(COUNT) tools/bench.sh $(ECOW)
+	tools/rust_bench.sh $(ECOW)
 
 clean:
 	rm -rf bin crates/*/out "$$(tools/for_threads.sh)"

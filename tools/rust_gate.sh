@@ -41,10 +41,12 @@ run() { "$@" >> "$log" 2>&1 || { cat "$log"; exit 1; }; }
 run env EDITS=${EDITS:-5000} cargo test --offline -- $skipped
 run cargo test --offline --release -- $skipped
 run cargo build --offline --no-default-features
+rm -f tests/original_*.rs
+cargo doc --offline --quiet > warned 2>&1
 if cargo clippy --version > /dev/null 2>&1; then
-    run cargo clippy --offline --tests --examples
-    ! grep -q '^warning' "$log" || { cat "$log"; echo "the crate for Rust has warnings"; exit 1; }
+    cargo clippy --offline --quiet --tests --examples >> warned 2>&1
 fi
+[ ! -s warned ] || { cat warned; echo "the crate for Rust has warnings"; exit 1; }
 cargo run --offline --quiet --example first > first.out
 for file in examples/first.rs first.out; do
     case "$(cat README.md)" in *"$(cat "$file")"*) ;; *) echo "rust/README.md quotes another $file"; exit 1 ;; esac

@@ -48,10 +48,22 @@ pub(crate) const fn laid_out<const N: usize>(bytes: &[u8]) -> proved::SmallBytes
     proved::SmallBytes { form: Form::Short(Few { cells: Cells { bytes: cells } }), alloc: Global }
 }
 
-impl<const N: usize> SmallBytes<N> {
-    /// The greatest number of bytes that stand in the value itself.
-    pub const INLINE_LIMIT: usize = N;
+/// Bytes `n` times over. What stays inline is written piece by piece.
+pub(crate) fn repeated<const N: usize>(
+    bytes: &proved::SmallBytes<N>,
+    n: usize,
+) -> Result<proved::SmallBytes<N>, Error> {
+    match bytes.len().checked_mul(n) {
+        Some(total) if total <= N && total > 0 => {
+            let mut cells = [0; N];
+            cells[..total].chunks_exact_mut(bytes.len()).for_each(|piece| piece.copy_from_slice(bytes.as_slice()));
+            Ok(proved::SmallBytes::inline(Global, &cells[..total]))
+        }
+        _ => Ok(bytes.repeat(n)?),
+    }
+}
 
+impl<const N: usize> SmallBytes<N> {
     /// No bytes, inline. Asks for no memory.
     #[inline]
     pub const fn new() -> Self {
@@ -70,16 +82,6 @@ impl<const N: usize> SmallBytes<N> {
         if bytes.len() > N { None } else { Some(SmallBytes(laid_out(bytes))) }
     }
 
-    /// No bytes, with room for `capacity`. It panics where that is more than memory can hold.
-    pub fn with_capacity(capacity: usize) -> Self {
-        granted(Self::try_with_capacity(capacity))
-    }
-
-    /// As `with_capacity`: `Error::Capacity` past 2^63 - 1, `Error::Memory` where there is none.
-    pub fn try_with_capacity(capacity: usize) -> Result<Self, Error> {
-        Ok(SmallBytes(proved::SmallBytes::with_capacity(Global, capacity)?))
-    }
-
     /// A copy of the bytes: `Error::Memory` where there is none.
     #[inline]
     pub fn try_from_slice(bytes: &[u8]) -> Result<Self, Error> {
@@ -96,39 +98,10 @@ impl<const N: usize> SmallBytes<N> {
         Ok(SmallBytes(proved::SmallBytes::from_iter(Global, iter)?))
     }
 
-    /// Whether there is no byte.
-    #[inline]
-    pub fn is_empty(&self) -> bool {
-        self.0.is_empty()
-    }
-
-    /// The number of bytes.
-    #[inline]
-    pub fn len(&self) -> usize {
-        self.0.len()
-    }
-
-    /// Whether the bytes stand in the value itself.
-    #[inline]
-    pub fn is_inline(&self) -> bool {
-        self.0.is_inline()
-    }
-
-    /// For how many bytes there is room: `N` where they are inline.
-    #[inline]
-    pub fn capacity(&self) -> usize {
-        self.0.capacity()
-    }
-
     /// The bytes, in order.
     #[inline]
     pub fn as_slice(&self) -> &[u8] {
         self.0.as_slice()
-    }
-
-    /// Bytes that share these ones' block. It is refused past 2^63 - 1 owners alone, with `Error::Memory`.
-    pub fn try_clone(&self) -> Result<Self, Error> {
-        Ok(SmallBytes(self.0.try_clone()?))
     }
 
     /// The bytes, for writing. Spilled ones that are shared are copied first.
@@ -259,11 +232,6 @@ impl<const N: usize> SmallBytes<N> {
         Ok(self.0.replace_range(range, bytes)?)
     }
 
-    /// Keeps no byte. Inline bytes stay inline and spilled ones spilled.
-    pub fn clear(&mut self) {
-        self.0.clear()
-    }
-
     /// Keeps the first `target` bytes, or all where there are fewer.
     pub fn truncate(&mut self, target: usize) {
         granted(self.try_truncate(target))
@@ -274,21 +242,6 @@ impl<const N: usize> SmallBytes<N> {
         Ok(self.0.truncate(target)?)
     }
 
-    /// Makes room for `additional` more bytes. It panics where these are more than memory can hold.
-    pub fn reserve(&mut self, additional: usize) {
-        granted(self.try_reserve(additional))
-    }
-
-    /// As `reserve`: `Error::Capacity` past 2^63 - 1, `Error::Memory` where there is none.
-    pub fn try_reserve(&mut self, additional: usize) -> Result<(), Error> {
-        Ok(self.0.reserve(additional)?)
-    }
-
-    /// Brings at most `N` spilled bytes back inline. Those that share them stay as they are. This crate's own.
-    pub fn shrink_to_fit(&mut self) {
-        self.0.shrink_to_fit()
-    }
-
     /// The bytes `n` times over. It panics where these are more than memory can hold.
     pub fn repeat(&self, n: usize) -> Self {
         granted(self.try_repeat(n))
@@ -296,7 +249,7 @@ impl<const N: usize> SmallBytes<N> {
 
     /// As `repeat`: `Error::Capacity` past 2^63 - 1, `Error::Memory` where there is none.
     pub fn try_repeat(&self, n: usize) -> Result<Self, Error> {
-        Ok(SmallBytes(self.0.repeat(n)?))
+        Ok(SmallBytes(repeated(&self.0, n)?))
     }
 
     /// The bytes in a vector: that of spilled bytes as it is. A refusal hands inline ones back, with `Error::Memory`.

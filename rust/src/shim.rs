@@ -276,23 +276,38 @@ pub(crate) mod memmem {
     /// Looks for a pattern, which isn't empty.
     pub struct Finder<'a> {
         pattern: &'a str,
-        /// The pattern, where it is one character: `str` looks for that faster.
-        sole: Option<char>,
+        /// Where the pattern's ASCII byte stands that is likely the rarest, where it has one.
+        rare: Option<usize>,
     }
 
     impl<'a> Finder<'a> {
         pub fn new(pattern: &'a str) -> Self {
-            let mut chars = pattern.chars();
-            let first = chars.next();
-            Finder { pattern, sole: first.filter(|_| chars.next().is_none()) }
+            let often = |byte: u8| if b"etaoinshrdlu ".contains(&byte) { 2 } else { byte.is_ascii_lowercase() as u8 };
+            let ascii = pattern.bytes().enumerate().filter(|(_, byte)| byte.is_ascii());
+            Finder { pattern, rare: ascii.min_by_key(|(_, byte)| often(*byte)).map(|(at, _)| at) }
         }
 
-        /// Where it stands first.
+        /// Where it stands first. `str` finds a character fast, and a pattern in time that grows with the text alone: so
+        /// that takes over where the rare byte isn't.
         pub fn find(&self, text: &str) -> Option<usize> {
-            match self.sole {
-                Some(c) => text.find(c),
-                None => text.find(self.pattern),
+            let Some(at) = self.rare else { return text.find(self.pattern) };
+            let (bytes, pattern) = (text.as_bytes(), self.pattern.as_bytes());
+            let (byte, mut from, mut tried) = (pattern[at], 0, 0);
+            while tried <= 8 + from / 32 {
+                // What is near is found without a call. An ASCII byte ends where a character does.
+                let near = bytes[from..].iter().take(12).position(|other| *other == byte);
+                let found = from + near.or_else(|| text[from..].find(byte as char))?;
+                if found >= at && bytes[found - at..].starts_with(pattern) {
+                    return Some(found - at);
+                }
+                (from, tried) = (found + 1, tried + 1);
             }
+            // One that begins before `from` would have its rare byte there or behind.
+            let mut start = from.saturating_sub(at);
+            while !text.is_char_boundary(start) {
+                start -= 1;
+            }
+            text[start..].find(self.pattern).map(|found| start + found)
         }
     }
 }

@@ -33,9 +33,6 @@ pub struct SmallText<const N: usize>(pub(crate) proved::SmallText<N>);
 pub type EcoString = SmallText<15>;
 
 impl<const N: usize> SmallText<N> {
-    /// The greatest number of bytes that stand in the value itself.
-    pub const INLINE_LIMIT: usize = N;
-
     /// No text, inline. Asks for no memory.
     #[inline]
     pub const fn new() -> Self {
@@ -55,16 +52,6 @@ impl<const N: usize> SmallText<N> {
         if text.len() > N { None } else { Some(Self::inline(text)) }
     }
 
-    /// No text, with room for `capacity` bytes. It panics where that is more than memory can hold.
-    pub fn with_capacity(capacity: usize) -> Self {
-        granted(Self::try_with_capacity(capacity))
-    }
-
-    /// As `with_capacity`: `Error::Capacity` past 2^63 - 1, `Error::Memory` where there is none.
-    pub fn try_with_capacity(capacity: usize) -> Result<Self, Error> {
-        Ok(SmallText(proved::SmallText::with_capacity(Global, capacity)?))
-    }
-
     /// A copy of the text: `Error::Memory` where there is none.
     #[inline]
     pub fn try_from_str(text: &str) -> Result<Self, Error> {
@@ -76,39 +63,10 @@ impl<const N: usize> SmallText<N> {
         proved::SmallText::format(Global, value).ok().map(SmallText)
     }
 
-    /// Whether there is no character.
-    #[inline]
-    pub fn is_empty(&self) -> bool {
-        self.0.is_empty()
-    }
-
-    /// The number of bytes.
-    #[inline]
-    pub fn len(&self) -> usize {
-        self.0.len()
-    }
-
-    /// For how many bytes there is room: `N` where they are inline.
-    #[inline]
-    pub fn capacity(&self) -> usize {
-        self.0.capacity()
-    }
-
-    /// Whether the bytes stand in the value itself.
-    #[inline]
-    pub fn is_inline(&self) -> bool {
-        self.0.is_inline()
-    }
-
     /// The text.
     #[inline]
     pub fn as_str(&self) -> &str {
         self.0.as_str()
-    }
-
-    /// A text that shares this one's block. It is refused past 2^63 - 1 owners alone, with `Error::Memory`.
-    pub fn try_clone(&self) -> Result<Self, Error> {
-        Ok(SmallText(self.0.try_clone()?))
     }
 
     /// The text, for writing. A spilled one that is shared is copied first.
@@ -237,11 +195,6 @@ impl<const N: usize> SmallText<N> {
         Ok(SmallText(self.0.replacen(pat, to, count)?))
     }
 
-    /// Keeps no character. An inline text stays inline and a spilled one spilled.
-    pub fn clear(&mut self) {
-        self.0.clear()
-    }
-
     /// Keeps the first `target` bytes, or all where there are fewer. It panics where the text ends inside a character then.
     #[track_caller]
     pub fn truncate(&mut self, target: usize) {
@@ -254,21 +207,6 @@ impl<const N: usize> SmallText<N> {
             self.at_boundary(target)?;
         }
         Ok(self.0.truncate(target)?)
-    }
-
-    /// Makes room for `additional` more bytes. It panics where these are more than memory can hold.
-    pub fn reserve(&mut self, additional: usize) {
-        granted(self.try_reserve(additional))
-    }
-
-    /// As `reserve`: `Error::Capacity` past 2^63 - 1, `Error::Memory` where there is none.
-    pub fn try_reserve(&mut self, additional: usize) -> Result<(), Error> {
-        Ok(self.0.reserve(additional)?)
-    }
-
-    /// Brings a spilled text of at most `N` bytes back inline. Those that share it stay as they are. This crate's own.
-    pub fn shrink_to_fit(&mut self) {
-        self.0.shrink_to_fit()
     }
 
     /// The text in lower case, as `str` has it.
@@ -298,7 +236,7 @@ impl<const N: usize> SmallText<N> {
 
     /// As `repeat`: `Error::Capacity` past 2^63 - 1 bytes, `Error::Memory` where there is none.
     pub fn try_repeat(&self, n: usize) -> Result<Self, Error> {
-        Ok(SmallText(self.0.repeat(n)?))
+        Ok(SmallText(proved::SmallText { bytes: crate::bytes::repeated(&self.0.bytes, n)? }))
     }
 
     /// The bytes in a vector: that of a spilled text as it is. A refusal hands an inline one back, with `Error::Memory`.

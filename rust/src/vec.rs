@@ -4,12 +4,14 @@ use crate::error::{Error, Rejected, indices, indices_or_panic, out_of_bounds};
 use crate::proved::ecow_list as proved;
 use crate::shim::alloc::Global;
 use crate::shim::granted;
+use crate::shim::vec::with_capacity;
 use alloc::vec::Vec;
 use core::cmp::Ordering;
 use core::fmt::{self, Debug};
 use core::hash::{Hash, Hasher};
 use core::iter::FusedIterator;
 use core::marker::PhantomData;
+use core::mem::needs_drop;
 use core::ops::RangeBounds;
 
 /// A vector of the elements listed, of `n` clones of one, or of none, as `vec!` of std has them.
@@ -118,10 +120,17 @@ impl<T: Clone> EcoVec<T> {
 
     /// As `from_elem`: a refusal hands `value` back, with `Error::Capacity` or `Error::Memory`.
     pub fn try_from_elem(value: T, n: usize) -> Result<Self, Rejected<T>> {
-        match fits::<T>(n) {
-            Ok(()) => Ok(EcoVec(proved::EcoVec::from_elem(Global, value, n)?)),
-            Err(error) => Err(Rejected { error, value }),
+        if let Err(error) = fits::<T>(n) {
+            return Err(Rejected { error, value });
         }
+        // std fills a vector at once where an element has no drop, and a copy of all takes one move.
+        if !needs_drop::<T>()
+            && let Ok(mut all) = with_capacity(Global, n)
+        {
+            all.resize(n, value.clone());
+            return Self::try_from_slice(&all).map_err(|error| Rejected { error, value });
+        }
+        Ok(EcoVec(proved::EcoVec::from_elem(Global, value, n)?))
     }
 
     /// Clones of the elements of a slice: `Error::Memory` where there is none.
@@ -384,7 +393,7 @@ impl<T: Eq> Eq for EcoVec<T> {}
 impl<T: PartialEq> PartialEq for EcoVec<T> {
     #[inline]
     fn eq(&self, other: &Self) -> bool {
-        self.0 == other.0
+        self[..] == other[..]
     }
 }
 

@@ -331,3 +331,16 @@ fn texts() {
         assert_eq!(format!("{:>30}", ours[i]), format!("{:>30}", std[i]));
     }
 }
+
+/// Patterns of few letters in texts of few: each place at which one begins is found, and no other.
+#[test]
+fn patterns() {
+    const LETTERS: [&str; 5] = ["a", "b", "z", "é", " "];
+    let mut random = Random(41);
+    for _ in 0..edits() {
+        let letters = 1 + random.below(5);
+        let mut some = |most| (0..random.below(most)).map(|_| LETTERS[random.below(letters)]).collect::<String>();
+        let (text, pattern) = (some(300), some(5));
+        assert_eq!(EcoString::from(&text).replace(&pattern, "-+"), text.replace(&pattern, "-+"), "{pattern} in {text}");
+    }
+}
