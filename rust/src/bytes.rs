@@ -93,11 +93,6 @@ impl<const N: usize> SmallBytes<N> {
         Ok(SmallBytes(proved::SmallBytes::from_vec(Global, bytes)?))
     }
 
-    /// The bytes of an iterator: `Error::Memory` where there is none, at which they are dropped.
-    pub fn try_from_iter(iter: impl IntoIterator<Item = u8>) -> Result<Self, Error> {
-        Ok(SmallBytes(proved::SmallBytes::from_iter(Global, iter)?))
-    }
-
     /// The bytes, in order.
     #[inline]
     pub fn as_slice(&self) -> &[u8] {
@@ -150,11 +145,6 @@ impl<const N: usize> SmallBytes<N> {
     #[inline]
     pub fn try_extend_from_slice(&mut self, bytes: &[u8]) -> Result<(), Error> {
         Ok(self.0.extend_from_slice(bytes)?)
-    }
-
-    /// Appends the bytes of an iterator. At a refused one `Error::Capacity` or `Error::Memory`: those before it stay.
-    pub fn try_extend(&mut self, iter: impl IntoIterator<Item = u8>) -> Result<(), Error> {
-        Ok(self.0.extend(iter)?)
     }
 
     /// Puts a byte in at `index`. It panics where that passes the length.
@@ -273,55 +263,23 @@ equal_to! {
     [const N: usize] EcoVec<u8>, SmallBytes<N>;
 }
 
-small! { SmallBytes from
-    [const M: usize] [u8; M];
-    [const M: usize] &[u8; M];
-    [] &Vec<u8>;
-    [] Cow<'_, [u8]>;
-}
-
-impl<const N: usize> From<Vec<u8>> for SmallBytes<N> {
-    fn from(bytes: Vec<u8>) -> Self {
-        granted(Self::try_from_vec(bytes))
-    }
-}
-
-impl<const N: usize> From<EcoVec<u8>> for SmallBytes<N> {
-    /// The bytes in the vector's block, spilled.
-    fn from(vec: EcoVec<u8>) -> Self {
-        SmallBytes(vec.0.into())
-    }
-}
-
-impl<const N: usize> From<SmallBytes<N>> for EcoVec<u8> {
-    /// Spilled bytes keep their block.
-    fn from(bytes: SmallBytes<N>) -> Self {
-        granted(bytes.try_into_eco_vec())
-    }
-}
-
-impl<const N: usize> From<&SmallBytes<N>> for EcoVec<u8> {
-    /// Spilled bytes keep their block.
-    fn from(bytes: &SmallBytes<N>) -> Self {
-        bytes.clone().into()
-    }
-}
-
-impl<const N: usize> From<SmallBytes<N>> for Vec<u8> {
-    fn from(bytes: SmallBytes<N>) -> Self {
-        bytes.to_vec()
-    }
-}
-
-impl<const N: usize> From<&SmallBytes<N>> for Vec<u8> {
-    fn from(bytes: &SmallBytes<N>) -> Self {
-        bytes.to_vec()
-    }
+// Spilled bytes and a vector pass their block on.
+from! {
+    [const N: usize, const M: usize] [u8; M] => SmallBytes<N>: |bytes| Self::from(&bytes[..]);
+    [const N: usize, const M: usize] &[u8; M] => SmallBytes<N>: |bytes| Self::from(&bytes[..]);
+    [const N: usize] &Vec<u8> => SmallBytes<N>: |bytes| Self::from(&bytes[..]);
+    [const N: usize] Cow<'_, [u8]> => SmallBytes<N>: |bytes| Self::from(&bytes[..]);
+    [const N: usize] Vec<u8> => SmallBytes<N>: |bytes| granted(Self::try_from_vec(bytes));
+    [const N: usize] EcoVec<u8> => SmallBytes<N>: |vec| SmallBytes(vec.0.into());
+    [const N: usize] SmallBytes<N> => EcoVec<u8>: |bytes| granted(bytes.try_into_eco_vec());
+    [const N: usize] &SmallBytes<N> => EcoVec<u8>: |bytes| bytes.clone().into();
+    [const N: usize] SmallBytes<N> => Vec<u8>: |bytes| bytes.to_vec();
+    [const N: usize] &SmallBytes<N> => Vec<u8>: |bytes| bytes.to_vec();
 }
 
 impl<const N: usize> FromIterator<u8> for SmallBytes<N> {
     fn from_iter<I: IntoIterator<Item = u8>>(iter: I) -> Self {
-        granted(Self::try_from_iter(iter))
+        SmallBytes(granted(proved::SmallBytes::from_iter(Global, iter)))
     }
 }
 

@@ -273,41 +273,34 @@ pub(crate) mod simd {
 }
 
 pub(crate) mod memmem {
-    /// Looks for a pattern, which isn't empty.
+    use core::cell::Cell;
+
+    /// Looks for a pattern, which isn't empty, in a text and in ends of it.
     pub struct Finder<'a> {
         pattern: &'a str,
-        /// Where the pattern's ASCII byte stands that is likely the rarest, where it has one.
-        rare: Option<usize>,
+        /// How many bytes the end has that is known not to hold it.
+        without: Cell<usize>,
     }
 
     impl<'a> Finder<'a> {
         pub fn new(pattern: &'a str) -> Self {
-            let often = |byte: u8| if b"etaoinshrdlu ".contains(&byte) { 2 } else { byte.is_ascii_lowercase() as u8 };
-            let ascii = pattern.bytes().enumerate().filter(|(_, byte)| byte.is_ascii());
-            Finder { pattern, rare: ascii.min_by_key(|(_, byte)| often(*byte)).map(|(at, _)| at) }
+            Finder { pattern, without: Cell::new(0) }
         }
 
-        /// Where it stands first. `str` finds a character fast, and a pattern in time that grows with the text alone: so
-        /// that takes over where the rare byte isn't.
+        /// Where it stands first.
         pub fn find(&self, text: &str) -> Option<usize> {
-            let Some(at) = self.rare else { return text.find(self.pattern) };
-            let (bytes, pattern) = (text.as_bytes(), self.pattern.as_bytes());
-            let (byte, mut from, mut tried) = (pattern[at], 0, 0);
-            while tried <= 8 + from / 32 {
-                // What is near is found without a call. An ASCII byte ends where a character does.
-                let near = bytes[from..].iter().take(12).position(|other| *other == byte);
-                let found = from + near.or_else(|| text[from..].find(byte as char))?;
-                if found >= at && bytes[found - at..].starts_with(pattern) {
-                    return Some(found - at);
-                }
-                (from, tried) = (found + 1, tried + 1);
+            if text.len() <= self.without.get() {
+                return None;
             }
-            // One that begins before `from` would have its rare byte there or behind.
-            let mut start = from.saturating_sub(at);
-            while !text.is_char_boundary(start) {
-                start -= 1;
+            let found = match self.pattern.as_bytes() {
+                // What is near is found without a call.
+                [byte] => text.bytes().take(12).position(|other| other == *byte).or_else(|| text.find(*byte as char)),
+                _ => text.find(self.pattern),
+            };
+            if found.is_none() {
+                self.without.set(text.len());
             }
-            text[start..].find(self.pattern).map(|found| start + found)
+            found
         }
     }
 }

@@ -19,7 +19,7 @@ use core::str::{FromStr, Utf8Error};
 /// ```
 #[macro_export]
 macro_rules! eco_format {
-    ($($arg:tt)*) => { $crate::string::ToEcoString::to_eco_string(&::core::format_args!($($arg)*)) };
+    ($($arg:tt)*) => { $crate::string::format(::core::format_args!($($arg)*)) };
 }
 
 /// Text: its UTF-8 bytes are inline, in the value itself, where they are at most `N`, and else spilled, in a vector whose
@@ -112,11 +112,6 @@ impl<const N: usize> SmallText<N> {
     #[inline]
     pub fn try_push_str(&mut self, text: &str) -> Result<(), Error> {
         Ok(self.0.push_str(text)?)
-    }
-
-    /// Appends the characters of an iterator. At a refused one `Error::Capacity` or `Error::Memory`: those before it stay.
-    pub fn try_extend(&mut self, chars: impl IntoIterator<Item = char>) -> Result<(), Error> {
-        Ok(self.0.extend_chars(chars)?)
     }
 
     /// Puts a character in at `index`. It panics where that isn't the boundary of a character.
@@ -321,41 +316,16 @@ as_ref! { [u8] }
 #[cfg(feature = "std")]
 as_ref! { std::ffi::OsStr std::path::Path }
 
-impl<const N: usize> From<char> for SmallText<N> {
-    fn from(c: char) -> Self {
-        SmallText(granted(proved::SmallText::from_char(Global, c)))
-    }
-}
-
-small! { SmallText from
-    [] String;
-    [] &String;
-    [] Cow<'_, str>;
-}
-
-impl<const N: usize> From<SmallText<N>> for String {
-    fn from(text: SmallText<N>) -> Self {
-        text.as_str().into()
-    }
-}
-
-impl<const N: usize> From<&SmallText<N>> for String {
-    fn from(text: &SmallText<N>) -> Self {
-        text.as_str().into()
-    }
-}
-
-impl<const N: usize> From<SmallText<N>> for SmallBytes<N> {
-    fn from(text: SmallText<N>) -> Self {
-        SmallBytes(text.0.into())
-    }
-}
-
-impl<const N: usize> From<SmallText<N>> for EcoVec<u8> {
-    /// A spilled text keeps its block.
-    fn from(text: SmallText<N>) -> Self {
-        granted(text.try_into_eco_vec())
-    }
+// A spilled text passes its block on.
+from! {
+    [const N: usize] char => SmallText<N>: |c| SmallText(granted(proved::SmallText::from_char(Global, c)));
+    [const N: usize] String => SmallText<N>: |text| Self::from(&text[..]);
+    [const N: usize] &String => SmallText<N>: |text| Self::from(&text[..]);
+    [const N: usize] Cow<'_, str> => SmallText<N>: |text| Self::from(&text[..]);
+    [const N: usize] SmallText<N> => String: |text| text.as_str().into();
+    [const N: usize] &SmallText<N> => String: |text| text.as_str().into();
+    [const N: usize] SmallText<N> => SmallBytes<N>: |text| SmallBytes(text.0.into());
+    [const N: usize] SmallText<N> => EcoVec<u8>: |text| granted(text.try_into_eco_vec());
 }
 
 impl<const N: usize> TryFrom<SmallBytes<N>> for SmallText<N> {
@@ -422,9 +392,13 @@ pub trait ToEcoString {
 
 impl<T: Display + ?Sized> ToEcoString for T {
     fn to_eco_string(&self) -> EcoString {
-        match EcoString::try_format(self) {
-            Some(text) => text,
-            None => panic!("a formatting trait implementation returned an error"),
-        }
+        format(format_args!("{self}"))
     }
+}
+
+/// What `eco_format!` makes. It panics where a value answers an error.
+pub fn format(args: fmt::Arguments<'_>) -> EcoString {
+    let mut text = EcoString::new();
+    text.write_fmt(args).expect("a formatting trait implementation returned an error");
+    text
 }

@@ -12,6 +12,18 @@ macro_rules! equal_to {
     )* };
 }
 
+/// Conversions.
+macro_rules! from {
+    ($([$($params:tt)*] $from:ty => $to:ty: |$value:ident| $made:expr;)*) => { $(
+        impl<$($params)*> From<$from> for $to {
+            #[inline]
+            fn from($value: $from) -> Self {
+                $made
+            }
+        }
+    )* };
+}
+
 /// What lends its slice, and is empty at first.
 macro_rules! slice_of {
     ($([$($params:tt)*] $type:ty, $slice:ty, $as_slice:ident;)*) => { $(
@@ -141,14 +153,14 @@ macro_rules! small {
         impl<const N: usize> PartialEq for $type<N> {
             #[inline]
             fn eq(&self, other: &Self) -> bool {
-                self.0 == other.0
+                self[..] == other[..]
             }
         }
 
         impl<const N: usize> Ord for $type<N> {
             #[inline]
             fn cmp(&self, other: &Self) -> core::cmp::Ordering {
-                self.0.cmp(&other.0)
+                self[..].cmp(&other[..])
             }
         }
 
@@ -159,25 +171,9 @@ macro_rules! small {
             }
         }
 
-        impl<const N: usize> From<&$type<N>> for $type<N> {
-            fn from(value: &$type<N>) -> Self {
-                value.clone()
-            }
-        }
-
-        impl<const N: usize> From<&$slice> for $type<N> {
-            #[inline]
-            fn from(slice: &$slice) -> Self {
-                crate::shim::granted(Self::$copy(slice))
-            }
+        from! {
+            [const N: usize] &$type<N> => $type<N>: |value| value.clone();
+            [const N: usize] &$slice => $type<N>: |slice| granted(Self::$copy(slice));
         }
     };
-    // What lends the slice.
-    ($type:ident from $([$($params:tt)*] $from:ty;)*) => { $(
-        impl<const N: usize, $($params)*> From<$from> for $type<N> {
-            fn from(from: $from) -> Self {
-                Self::from(&from[..])
-            }
-        }
-    )* };
 }

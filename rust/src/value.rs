@@ -308,60 +308,18 @@ impl PartialEq for Value {
     }
 }
 
-impl From<bool> for Value {
-    fn from(truth: bool) -> Self {
-        Value(proved::Value::Truth(truth))
-    }
-}
-
-impl From<i64> for Value {
-    fn from(number: i64) -> Self {
-        Value(proved::Value::Number(number))
-    }
-}
-
-impl From<f64> for Value {
-    fn from(real: f64) -> Self {
-        Value(proved::Value::Real(real))
-    }
-}
-
-impl From<EcoString> for Value {
-    /// A value that has the string's memory.
-    fn from(text: EcoString) -> Self {
-        Value(proved::Value::Text(text.0))
-    }
-}
-
-macro_rules! from_text {
-    ($($type:ty)*) => { $(
-        impl From<$type> for Value {
-            fn from(text: $type) -> Self {
-                EcoString::from(text).into()
-            }
-        }
-    )* };
-}
-from_text! { &EcoString &str String }
-
-impl From<&Value> for Value {
-    fn from(value: &Value) -> Self {
-        value.clone()
-    }
-}
-
-impl<T: Into<Value>, const N: usize> From<[T; N]> for Value {
-    /// A list of the items.
-    fn from(items: [T; N]) -> Self {
-        items.into_iter().map(T::into).collect()
-    }
-}
-
-impl<T: Into<Value>> From<Vec<T>> for Value {
-    /// A list of the items.
-    fn from(items: Vec<T>) -> Self {
-        items.into_iter().map(T::into).collect()
-    }
+// A text has the string's memory, and a value that of the other.
+from! {
+    [] bool => Value: |truth| Value(proved::Value::Truth(truth));
+    [] i64 => Value: |number| Value(proved::Value::Number(number));
+    [] f64 => Value: |real| Value(proved::Value::Real(real));
+    [] EcoString => Value: |text| Value(proved::Value::Text(text.0));
+    [] &EcoString => Value: |text| text.clone().into();
+    [] &str => Value: |text| EcoString::from(text).into();
+    [] String => Value: |text| EcoString::from(text).into();
+    [] &Value => Value: |value| value.clone();
+    [T: Into<Value>, const N: usize] [T; N] => Value: |items| items.into_iter().map(T::into).collect();
+    [T: Into<Value>] Vec<T> => Value: |items| items.into_iter().map(T::into).collect();
 }
 
 impl FromIterator<Value> for Value {

@@ -1,6 +1,7 @@
 //! Vectors whose clones share their elements until one of them is written to.
 
 use crate::error::{Error, Rejected, indices, indices_or_panic, out_of_bounds};
+use crate::proved::ecow_base::fresh_capacity;
 use crate::proved::ecow_list as proved;
 use crate::shim::alloc::Global;
 use crate::shim::granted;
@@ -12,7 +13,7 @@ use core::hash::{Hash, Hasher};
 use core::iter::FusedIterator;
 use core::marker::PhantomData;
 use core::mem::needs_drop;
-use core::ops::RangeBounds;
+use core::ops::{Range, RangeBounds};
 
 /// A vector of the elements listed, of `n` clones of one, or of none, as `vec!` of std has them.
 ///
@@ -71,11 +72,6 @@ impl<T> EcoVec<T> {
         Ok(EcoVec(proved::EcoVec::from_vec(Global, vec)?))
     }
 
-    /// The elements of an array, none of them cloned. A refusal hands it back, with `Error::Memory`.
-    pub fn try_from_array<const N: usize>(array: [T; N]) -> Result<Self, Rejected<[T; N]>> {
-        Ok(EcoVec(proved::EcoVec::from_array(Global, array)?))
-    }
-
     /// Whether there is no element.
     #[inline]
     pub fn is_empty(&self) -> bool {
@@ -123,14 +119,30 @@ impl<T: Clone> EcoVec<T> {
         if let Err(error) = fits::<T>(n) {
             return Err(Rejected { error, value });
         }
-        // std fills a vector at once where an element has no drop, and a copy of all takes one move.
+        // Elements without a drop go in some at a time, which the compiler knows as moves of memory.
+        let most = n.min(128);
         if !needs_drop::<T>()
-            && let Ok(mut all) = with_capacity(Global, n)
+            && let (Ok(mut some), Ok(mut vec)) = (with_capacity(Global, most), Self::try_with_capacity(n))
         {
-            all.resize(n, value.clone());
-            return Self::try_from_slice(&all).map_err(|error| Rejected { error, value });
+            some.resize(most, value);
+            while vec.len() < n {
+                granted(vec.0.extend_from_slice(&some[..most.min(n - vec.len())]));
+            }
+            return Ok(vec);
         }
         Ok(EcoVec(proved::EcoVec::from_elem(Global, value, n)?))
+    }
+
+    /// The elements of an array, none of them cloned. A refusal hands it back, with `Error::Memory`.
+    #[inline]
+    pub fn try_from_array<const N: usize>(array: [T; N]) -> Result<Self, Rejected<[T; N]>> {
+        match Self::try_with_capacity(fresh_capacity(N)) {
+            Ok(mut vec) => {
+                granted(vec.0.extend(array));
+                Ok(vec)
+            }
+            Err(error) => Err(Rejected { error, value: array }),
+        }
     }
 
     /// Clones of the elements of a slice: `Error::Memory` where there is none.
@@ -321,11 +333,6 @@ impl<T: Clone> EcoVec<T> {
         Ok(self.0.extend(iter)?)
     }
 
-    /// The elements by value. A refusal hands the vector back, with `Error::Memory`: a shared one clones its elements.
-    pub fn try_into_iter(self) -> Result<IntoIter<T>, Rejected<Self>> {
-        self.0.into_iter().map(IntoIter).map_err(|rejected| Rejected::of(rejected, EcoVec))
-    }
-
     /// The elements in a `Vec`. A refusal hands the vector back, with `Error::Memory`.
     pub fn try_into_vec(self) -> Result<Vec<T>, Rejected<Self>> {
         self.0.into_vec().map_err(|rejected| Rejected::of(rejected, EcoVec))
@@ -334,16 +341,6 @@ impl<T: Clone> EcoVec<T> {
 
 /// Of elements that are copied as memory. These calls are this crate's own.
 impl<T: Copy> EcoVec<T> {
-    /// Copies of the elements of a slice: `Error::Memory` where there is none.
-    pub fn try_from_copied(slice: &[T]) -> Result<Self, Error> {
-        Ok(EcoVec(proved::EcoVec::from_copied(Global, slice)?))
-    }
-
-    /// Appends copies of the elements of a slice: all, or none with `Error::Capacity` or `Error::Memory`.
-    pub fn try_extend_from_copied(&mut self, slice: &[T]) -> Result<(), Error> {
-        Ok(self.0.extend_from_copied(slice)?)
-    }
-
     /// Appends copies of the elements of a range: `Error::Index` of another range, `Error::Capacity`, `Error::Memory`.
     pub fn try_extend_from_within(&mut self, range: impl RangeBounds<usize>) -> Result<(), Error> {
         let range = indices(range, self.len())?;
@@ -491,15 +488,25 @@ impl<T: Clone> IntoIterator for EcoVec<T> {
     type Item = T;
     type IntoIter = IntoIter<T>;
 
-    /// The elements by value. A sole vector moves them, and a shared one clones them all first.
+    /// The elements by value. A sole vector moves them, and a shared one clones each when it is asked for.
     #[inline]
-    fn into_iter(self) -> IntoIter<T> {
-        granted(self.try_into_iter())
+    fn into_iter(mut self) -> IntoIter<T> {
+        if self.is_unique() {
+            IntoIter(Left::Moved(granted(self.0.into_iter())))
+        } else {
+            IntoIter(Left::Cloned(0..self.len(), self))
+        }
     }
 }
 
 /// The elements of a vector by value.
-pub struct IntoIter<T>(proved::IntoIter<T>);
+pub struct IntoIter<T>(Left<T>);
+
+/// Those that are still to come: of a sole vector, or of one that is shared.
+enum Left<T> {
+    Moved(proved::IntoIter<T>),
+    Cloned(Range<usize>, EcoVec<T>),
+}
 
 /// The elements that `drain` took out. The vector is final already, and borrowed until this is dropped.
 pub struct Drain<'a, T> {
@@ -518,9 +525,51 @@ impl<T> IntoIter<T> {
     /// The elements that are still to come.
     #[inline]
     pub fn as_slice(&self) -> &[T] {
-        self.0.as_slice()
+        match &self.0 {
+            Left::Moved(rest) => rest.as_slice(),
+            Left::Cloned(left, vec) => &vec[left.clone()],
+        }
     }
 }
+
+impl<T: Clone> Iterator for IntoIter<T> {
+    type Item = T;
+
+    #[inline]
+    fn next(&mut self) -> Option<T> {
+        match &mut self.0 {
+            Left::Moved(rest) => rest.next(),
+            Left::Cloned(left, vec) => left.next().map(|at| vec[at].clone()),
+        }
+    }
+
+    #[inline]
+    fn size_hint(&self) -> (usize, Option<usize>) {
+        (self.as_slice().len(), Some(self.as_slice().len()))
+    }
+
+    #[inline]
+    fn fold<A, F: FnMut(A, T) -> A>(self, first: A, f: F) -> A {
+        match self.0 {
+            Left::Moved(rest) => rest.fold(first, f),
+            Left::Cloned(left, vec) => vec[left].iter().cloned().fold(first, f),
+        }
+    }
+}
+
+impl<T: Clone> DoubleEndedIterator for IntoIter<T> {
+    #[inline]
+    fn next_back(&mut self) -> Option<T> {
+        match &mut self.0 {
+            Left::Moved(rest) => rest.next_back(),
+            Left::Cloned(left, vec) => left.next_back().map(|at| vec[at].clone()),
+        }
+    }
+}
+
+impl<T: Clone> ExactSizeIterator for IntoIter<T> {}
+
+impl<T: Clone> FusedIterator for IntoIter<T> {}
 
 impl<T: Debug> Debug for IntoIter<T> {
     fn fmt(&self, f: &mut fmt::Formatter<'_>) -> fmt::Result {
@@ -569,7 +618,6 @@ macro_rules! iterators {
     )* };
 }
 iterators! {
-    [T] IntoIter<T>, 0, T;
     [T] Drain<'_, T>, removed, T;
     [I: Iterator] Splice<'_, I>, replaced, I::Item;
 }
