@@ -126,10 +126,11 @@ def without_proofs(text):
             continue
         begin, at, gone = at, found.end(), ""
         if found.re is TACTIC:
-            at = behind(text, at - 1, "()") + 1
-        else:
-            while out and (out[-1].isspace() or re.match(r"//(?!!)", out[-1])):
-                gone += out.pop()
+            # Its line goes.
+            at = re.compile(r"\]\s*").match(text, behind(text, at - 1, "()")).end()
+            continue
+        while out and (out[-1].isspace() or re.match(r"//(?!!)", out[-1])):
+            gone += out.pop()
         if text.startswith("{", at):
             at = behind(text, at)
             if found.re is GHOST:
@@ -173,14 +174,14 @@ def attributes(text, path):
             if unknown := set(names) - DERIVES - {"Drop", "Error"}:
                 stop(path, text, m.start(), sorted(unknown)[0], "no rule for a derive of %s")
             kept = [name for name in names if name in DERIVES]
-            return "#[derive(%s)]" % ", ".join(kept) if kept else ""
+            return "#[derive(%s)]\n" % ", ".join(kept) if kept else ""
         if re.match(r"error\(\x01\d+\x02\)$", m[1]):
             return ""
         if m[1] not in ATTRIBUTES:
             stop(path, text, m.start(), m[1], "no rule for the attribute %s")
         return m.group()
 
-    return re.sub(r"#!?\[([^\]]*)\]", one, text)
+    return re.sub(r"#!?\[([^\]]*)\]\s*", one, text)
 
 
 def drops(text):

@@ -1,5 +1,6 @@
 # The pieces of code of a file, one on a line, without comments, commas and imports. Of a file of Rattle what proofs alone
-# read is left out and counted. Variables: imports and counts, files to which those are appended.
+# read is left out and counted. Variables: imports, counts and asks, files to which those, and the public functions that ask
+# something of their caller, are appended.
 
 # The index behind the marks that open at the piece i.
 function behind(i, open, close_, depth) {
@@ -36,6 +37,10 @@ function list_imports(i, end, path, front) {
 END {
     for (i = 1; i <= n; ) {
         word = piece[i]
+        if (word == "fn") {
+            name = piece[i + 1]
+            public = piece[i - 1] == "pub" || piece[i - 1] == "unsafe" && piece[i - 2] == "pub"
+        }
         if (word == "use") {
             for (end = i; piece[end] != ";"; end++) { }
             list_imports(i + 1, end)
@@ -60,6 +65,7 @@ END {
             if (piece[at] == "*") at++
             if (piece[at] ~ /^[a-z_]/) at++
             if (piece[at] == "{") {
+                if (word == "requires" && public) print FILENAME ": " name >> asks
                 i = behind(at, "{", "}")
                 print "clauses" >> counts
                 continue

@@ -13,6 +13,7 @@ export LC_ALL=C
 : > "$work/old-imports"
 : > "$work/new-imports"
 : > "$work/none"
+: > "$work/asks"
 
 (cd "$folder" && find . -name '*.rs' | sort) > "$work/files"
 while read -r file; do
@@ -23,10 +24,10 @@ while read -r file; do
     [ "$path" != mod.rs ] || path=lib.rs
     source=crates/$crate/src/${path%.rs}.rt
     echo "$source" >> "$work/sources"
-    awk -v imports="$work/i" -v counts="$work/counts" -f tools/erased_audit.awk "$source" > "$work/old"
+    awk -v imports="$work/i" -v counts="$work/counts" -v asks="$work/asks" -f tools/erased_audit.awk "$source" > "$work/old"
     sed "s|^crate::|$crate::|" "$work/i" >> "$work/old-imports" 2> /dev/null || :
     rm -f "$work/i"
-    awk -v imports="$work/i" -v counts="$work/none" -f tools/erased_audit.awk "$folder/$file" > "$work/new"
+    awk -v imports="$work/i" -v counts="$work/none" -v asks="$work/none" -f tools/erased_audit.awk "$folder/$file" > "$work/new"
     sed "s|^crate::proved::||; s|^ecow_shared::|&|" "$work/i" >> "$work/new-imports" 2> /dev/null || :
     rm -f "$work/i"
     wc -l < "$work/old" >> "$work/sizes"
@@ -62,3 +63,7 @@ echo
 echo "Imports that the Rust has and the source hasn't:"
 echo
 comm -13 "$work/old-names" "$work/new-names"
+echo
+echo "Public calls of the values that ask something of their caller:"
+echo
+grep -E '^crates/ecow_(list|bytes|string|nested)/' "$work/asks" | sort -u

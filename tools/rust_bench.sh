@@ -1,6 +1,6 @@
 #!/bin/sh
 # Times the crate for Rust beside the original in a folder, in one program: tools/rust_bench.sh FOLDER [SAMPLES [WORD]].
-# SAMPLES (9) are taken of each call whose name holds WORD. Needs python3 and cargo. What cargo makes stays below bin/.
+# SAMPLES (15) are taken of each call whose name holds WORD. Needs python3 and cargo. What cargo makes stays below bin/.
 set -eu
 root=$(cd "$(dirname "$0")/.." && pwd)
 original=$(cd "${1:?the folder of the original crate is missing}" && pwd)

@@ -1,8 +1,26 @@
-//! The same calls of the original and of the proved crate, by turns: nanoseconds a call, the medians, and the median of the
-//! ratios of neighbouring samples. `rust-bench [SAMPLES [WORD]]`.
+//! The same calls of the original and of the proved crate, by turns: nanoseconds of the processor a call, the least of the
+//! samples of each, and the ratio of these: so other programs disturb little. `rust-bench [SAMPLES [WORD]]`, on Linux.
 
 use std::hint::black_box;
-use std::time::{Duration, Instant};
+use std::time::Duration;
+
+#[repr(C)]
+struct Time {
+    seconds: i64,
+    nanoseconds: i64,
+}
+
+unsafe extern "C" {
+    fn clock_gettime(clock: i32, time: *mut Time) -> i32;
+}
+
+/// For how long this thread has run.
+fn now() -> Duration {
+    let mut time = Time { seconds: 0, nanoseconds: 0 };
+    // SAFETY: the clock 3 of Linux is the thread's, and there is room for the time.
+    assert_eq!(unsafe { clock_gettime(3, &mut time) }, 0);
+    Duration::new(time.seconds as u64, time.nanoseconds as u32)
+}
 
 type Row = (&'static str, Box<dyn FnMut(Duration) -> f64>);
 
@@ -11,14 +29,14 @@ fn fresh<S: 'static>(name: &'static str, per: usize, mut make: impl FnMut() -> S
     let timed = move |span| {
         let (mut spent, mut done) = (Duration::ZERO, 0);
         while spent < span {
-            let start = Instant::now();
+            let start = now();
             let mut state = make();
             call(&mut state);
-            let batch = (200_000 / start.elapsed().as_nanos().max(1)).clamp(1, 256) as usize;
+            let batch = (200_000 / (now() - start).as_nanos().max(1)).clamp(1, 256) as usize;
             let mut states: Vec<S> = (0..batch).map(|_| make()).collect();
-            let start = Instant::now();
+            let start = now();
             states.iter_mut().for_each(&mut call);
-            spent += start.elapsed();
+            spent += now() - start;
             done += batch;
             black_box(&states);
         }
@@ -32,11 +50,11 @@ fn again<S: 'static, R>(name: &'static str, per: usize, mut state: S, mut call: 
     let timed = move |span| {
         let mut count = 64usize;
         loop {
-            let start = Instant::now();
+            let start = now();
             for _ in 0..count {
                 black_box(call(black_box(&mut state)));
             }
-            let spent = start.elapsed();
+            let spent = now() - start;
             if spent >= span / 2 {
                 return spent.as_nanos() as f64 / (count * per) as f64;
             }
@@ -137,33 +155,23 @@ macro_rules! rows {
 rows!(of_original, original);
 rows!(of_proved, proved);
 
-fn median(mut numbers: Vec<f64>) -> f64 {
-    numbers.sort_by(f64::total_cmp);
-    numbers[numbers.len() / 2]
-}
-
 fn main() {
     let mut words = std::env::args().skip(1);
-    let samples = words.next().map_or(9, |count| count.parse().expect("SAMPLES is a number"));
+    let samples = words.next().map_or(15, |count| count.parse().expect("SAMPLES is a number"));
     let word = words.next().unwrap_or_default();
-    let span = Duration::from_millis(12);
+    let span = Duration::from_millis(4);
     println!("| Call | The original, ns | This | Ratio |\n|---|---|---|---|");
     let (mut logs, mut most) = (Vec::new(), 0f64);
     for ((name, mut theirs), (_, mut ours)) in of_original::rows().into_iter().zip(of_proved::rows()) {
         if !name.contains(&word) {
             continue;
         }
-        let mut taken = [Vec::new(), Vec::new(), Vec::new()];
-        for sample in 0..=samples {
-            let first = if sample % 2 == 0 { theirs(span) } else { 0.0 };
-            let own = ours(span);
-            let other = if sample % 2 == 0 { first } else { theirs(span) };
-            // The first warms up.
-            if sample > 0 {
-                taken.iter_mut().zip([other, own, own / other]).for_each(|(all, one)| all.push(one));
-            }
+        let (mut other, mut own) = (f64::INFINITY, f64::INFINITY);
+        for _ in 0..samples {
+            other = other.min(theirs(span));
+            own = own.min(ours(span));
         }
-        let [other, own, ratio] = taken.map(median);
+        let ratio = own / other;
         println!("| {name} | {other:.2} | {own:.2} | {ratio:.2} |");
         logs.push(ratio.ln());
         most = most.max(ratio);

@@ -577,9 +577,22 @@ impl<T: Debug> Debug for IntoIter<T> {
     }
 }
 
+impl<T> Drain<'_, T> {
+    /// The elements that are still to come.
+    pub fn as_slice(&self) -> &[T] {
+        self.removed.as_slice()
+    }
+}
+
+impl<T> AsRef<[T]> for Drain<'_, T> {
+    fn as_ref(&self) -> &[T] {
+        self.as_slice()
+    }
+}
+
 impl<T: Debug> Debug for Drain<'_, T> {
     fn fmt(&self, f: &mut fmt::Formatter<'_>) -> fmt::Result {
-        f.debug_tuple("Drain").field(&self.removed.as_slice()).finish()
+        f.debug_tuple("Drain").field(&self.as_slice()).finish()
     }
 }
 

@@ -115,7 +115,10 @@ fn arrays_and_iterators() {
     let mut left = eco_vec![String::from("a"), String::new()].into_iter();
     assert_eq!((format!("{left:?}").as_str(), left.next().as_deref()), (r#"IntoIter(["a", ""])"#, Some("a")));
     let mut vec: EcoVec<i32> = (0..5).collect();
-    assert_eq!(vec.drain(1..3).rev().collect::<Vec<_>>(), [2, 1]);
+    assert_eq!(
+        (vec.clone().drain(1..3).as_slice(), vec.drain(1..3).rev().collect::<Vec<_>>()),
+        (&[1, 2][..], vec![2, 1])
+    );
     assert_eq!(vec.splice(..1, [7, 8].into_iter()).len(), 1);
     assert_eq!(vec, [7, 8, 3, 4]);
     assert!(vec.is_unique());
