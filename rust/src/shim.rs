@@ -356,3 +356,25 @@ pub(crate) mod string {
         Ok(text.to_uppercase())
     }
 }
+
+#[cfg(test)]
+mod tests {
+    use core::sync::atomic::Ordering::SeqCst;
+
+    #[test]
+    fn a_count_ends_at_the_greatest_number_of_owners() {
+        for (before, after) in [(1, 2), (i64::MAX as u64 - 1, i64::MAX as u64), (i64::MAX as u64, i64::MAX as u64)] {
+            let count = core::cell::UnsafeCell::new(before);
+            // SAFETY: the word is there, and this thread's alone.
+            let said = unsafe { super::atomic::raw::saturating_increment(count.get(), SeqCst) };
+            assert_eq!((said, count.into_inner()), (before, after));
+        }
+    }
+
+    #[test]
+    fn memory_for_no_more_than_an_address_reaches_is_asked_for() {
+        let most = isize::MAX as usize;
+        assert!(super::room::may_hold::<()>(most) && !super::room::may_hold::<()>(most + 1));
+        assert!(super::room::may_hold::<u64>(most / 8) && !super::room::may_hold::<u64>(most / 8 + 1));
+    }
+}
