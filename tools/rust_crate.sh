@@ -5,7 +5,7 @@ set -eu
 cd "$(dirname "$0")/.."
 to=$1
 mkdir -p "$to"
-git ls-files rust > "$to/files"
+git ls-files rust | grep -v "/\.gitignore$" > "$to/files"
 while read -r file; do
     mkdir -p "$to/$(dirname "${file#rust/}")"
     cp "$file" "$to/${file#rust/}"
