@@ -12,6 +12,11 @@ for program in python3 cargo rustfmt; do
         exit 0
     }
 done
+oldest=$(sed -n 's/^rust-version = "1\.\(.*\)"$/\1/p' rust/Cargo.toml)
+[ "$(rustc --version | sed -n 's/^rustc 1\.\([0-9]*\).*/\1/p')" -ge "$oldest" ] || {
+    echo "the crate for Rust was not tested: this machine has $(rustc --version), and it needs 1.$oldest"
+    exit 0
+}
 tools/erase_test.sh
 crate=$(pwd)/bin/rust
 rm -rf "$crate"
