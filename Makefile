@@ -1,12 +1,12 @@
-# Proves, builds, runs and tests. Everything but `make lib`, `make dist`, `make python`, `make c-test`, `make c-fuzz`,
-# `make fuzz`, `make hostile`, `make bench` and `make edits` needs the kit's `rt` on the path, make, git and the usual
-# POSIX tools, and nothing else.
+# Proves, builds, runs and tests. Everything but `make lib`, `make dist`, `make python`, `make rust`, `make c-test`,
+# `make c-fuzz`, `make fuzz`, `make hostile`, `make bench` and `make edits` needs the kit's `rt` on the path, make, git and
+# the usual POSIX tools, and nothing else.
 
 SOURCES := $(shell find crates -path '*/out' -prune -o \( -name '*.rt' -o -name '*.antt' \) -print) crates.txt
 
 PREFIX := /usr/local
 
-.PHONY: help try build run lib install dist python c-test c-fuzz test agree costs vendor vendor-test contracts edits faults fuzz hostile bench clean
+.PHONY: help try build run lib install dist python rust c-test c-fuzz test agree costs vendor vendor-test contracts edits faults fuzz hostile bench clean
 
 help:
 	@echo "To use it:"
@@ -21,13 +21,16 @@ help:
 	@echo "                           a C compiler). COUNT=plain: owners are counted for one thread"
 	@echo "  make install             puts it below PREFIX=$(PREFIX)"
 	@echo "  make dist                packs it for a machine without the kit, in bin/, with the package and the crate for"
-	@echo "                           each language (needs GNU tar); COUNT as above"
+	@echo "                           each language (needs GNU tar, python3 and rustfmt); COUNT as above"
 	@echo "  make python              builds the package for Python, a wheel in bin/ (needs Python 3.11, its headers and pip)"
+	@echo "  make rust                writes the crate for Rust from the proved source, in bin/rust, and tests it (needs"
+	@echo "                           python3 and cargo). ORIGINAL=FOLDER: runs the original's tests in FOLDER too"
 	@echo
 	@echo "To change it:"
 	@echo "  make test                the whole gate: every proof from nothing, must-fail edits, tests, programs, costs,"
 	@echo "                           each request for memory refused in turn, command lines, large scripts, and the"
-	@echo "                           library for C where there is a C compiler"
+	@echo "                           library for C where there is a C compiler; writes the crate for Rust, and tests it"
+	@echo "                           where there is a Rust compiler"
 	@echo "  make agree               compares documents, examples and edits with the code"
 	@echo "  make contracts           writes every public call with its clauses, and where their words come from, into"
 	@echo "                           bin/contracts"
@@ -35,8 +38,8 @@ help:
 	@echo "                           CRATES=\"NAME ..\": those of some crates"
 	@echo "  make costs               counts what each call costs, and compares the tables of costs"
 	@echo "  make faults              refuses each request for memory in turn, without the rest of the gate"
-	@echo "  make c-test              tests the library for C from C, C++, Python and Rust, and the archive (needs gcc,"
-	@echo "                           clang, valgrind, cargo, and what make python needs)"
+	@echo "  make c-test              tests the library for C from C, C++ and Python, and the archive (needs gcc, clang,"
+	@echo "                           valgrind, cargo, and what make python needs)"
 	@echo "  make c-fuzz SECONDS=60   fuzzes it, each kind of value for so long (needs clang with libFuzzer)"
 	@echo "  make vendor-test         tries make vendor on a new repository, whose gate it runs; KIND and COUNT as above"
 	@echo "  make fuzz SECONDS=60     runs the program on changed examples (needs python3)"
@@ -93,6 +96,11 @@ dist: lib
 python: lib
 	python3 -m pip wheel --disable-pip-version-check --no-index --no-deps -w bin ./python
 
+ORIGINAL :=
+export ORIGINAL
+rust:
+	@tools/rust_gate.sh
+
 c-test: lib bin/libecow_c-plain.a
 	tools/lib.sh plain bin/plain
 	tools/c_short.sh
@@ -114,6 +122,7 @@ test: agree
 	tools/large.sh $(RUN)
 	tools/threads_gate.sh
 	tools/c_gate.sh
+	tools/rust_gate.sh
 
 # The examples are cases too, and the gate runs the program on the first, of which there is a theorem. The kit takes no
 # linked file.
@@ -163,6 +172,7 @@ hostile: bin/ecow-run
 
 bench:
 	COUNT=$(COUNT) tools/bench.sh $(ECOW)
+	tools/rust_bench.sh $(ECOW)
 
 clean:
 	rm -rf bin crates/*/out "$$(tools/for_threads.sh)"

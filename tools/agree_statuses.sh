@@ -1,6 +1,6 @@
 #!/bin/sh
-# Compares the statuses, names and numbers, of the crate `ecow_c`, of the header and of the crate for Rust with those
-# that callers have compiled in. The functions of C and C++ that take any status have a case for each.
+# Compares the statuses, names and numbers, of the crate `ecow_c` and of the header with those that callers have compiled
+# in. The functions of C and C++ that take any status have a case for each.
 set -eu
 cd "$(dirname "$0")/.."
 work=$(mktemp -d)
@@ -31,7 +31,6 @@ constants() { # FILE, the name of what it has to have, what stands before a name
 constants crates/ecow_c/src/status.rt proved 'pub const ' ': u32'
 sed '/^typedef enum ecow_status/,/^}/!d' include/ecow.h > "$work/ecow.h"
 constants "$work/ecow.h" statuses ' *ECOW_' ''
-constants rust/src/sys.rs statuses 'pub const ' ': Status'
 cases include/ecow.hpp
 cases c/ecow.c
 echo "$(grep -c '' "$work/compared") files have the $(grep -c '' "$work/statuses") statuses"

@@ -1,5 +1,5 @@
 #!/bin/sh
-# The gate's last step: tests the library for C that tools/threads_gate.sh has proved, where there is a C compiler
+# Tests the library for C that tools/threads_gate.sh has proved, where there is a C compiler
 # ($CC, or cc).
 set -eu
 cd "$(dirname "$0")/.."

@@ -1,5 +1,5 @@
 #!/bin/sh
-# Tests the library for C, which `make lib` has left in bin/, from C, C++, Python and Rust, beside what
+# Tests the library for C, which `make lib` has left in bin/, from C, C++ and Python, beside what
 # tools/c_short.sh does, and sees that helgrind tells its atomic count from the plain one in bin/plain/. It packs the
 # library twice, which has to give the same bytes, and tests the archive: tools/c_test.sh [EDITS]. Needs gcc and clang
 # with g++ and clang++, valgrind, Python 3.11 with its headers and pip, and cargo.
@@ -68,8 +68,6 @@ for quoted in c/examples/settings.cpp c/examples/settings.out; do
 done
 
 ECOW_EDITS=$((edits / 50)) tools/python.sh
-ECOW_EDITS=$((edits / 50)) tools/rust.sh
-ECOW_EDITS=$((edits / 50)) tools/rust.sh bin/plain
 archive=$(tools/dist.sh atomic)
 cp "$archive" "$out/packed"
 tools/dist.sh atomic | xargs cmp "$out/packed"

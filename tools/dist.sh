@@ -1,7 +1,7 @@
 #!/bin/sh
 # Packs the library for a machine without the kit: tools/dist.sh COUNT. It takes what `make lib` left in bin/, and
 # leaves bin/ecow-VERSION-x86_64-linux.tar.gz (with -plain behind the version for that count). Its bytes are the same
-# from run to run. Needs git and GNU tar.
+# from run to run. Needs git, GNU tar, python3 and rustfmt.
 set -eu
 cd "$(dirname "$0")/.."
 version=$(cat VERSION)
@@ -25,11 +25,12 @@ sed 's|^prefix=.*|prefix=${pcfiledir}/../..|' bin/ecow.pc > "$to/lib/pkgconfig/e
 cp include/ecow.h include/ecow.hpp "$to/include"
 git ls-files c/examples > "$work/examples"
 while read -r file; do cp "$file" "$to/examples"; done < "$work/examples"
-git ls-files c/README.md c/CPP.md python rust > "$work/files"
+git ls-files c/README.md c/CPP.md python > "$work/files"
 while read -r file; do
     mkdir -p "$to/${file%/*}"
     cp "$file" "$to/$file"
 done < "$work/files"
+tools/rust_crate.sh "$to/rust" > "$work/said"
 tools/contracts.sh "$to/contracts" > "$work/said"
 cp LICENSE-APACHE LICENSE-MIT VERSION CHANGELOG.md "$to"
 # It stands above the pages there, and beside those for C here.

@@ -76,7 +76,10 @@ fi
 if has C++17 c++ -std=c++17 -fsyntax-only -include string_view -x c++ /dev/null; then
     run "$pages/c/CPP.md" 1 "$here"
 fi
-if has Rust cargo --version; then run "$pages/rust/README.md" 1 "$here"; fi
+if has Rust cargo --version; then
+    run "$pages/rust/README.md" 1 "$here"
+    (cd "$here/rust" && cargo package --offline --quiet)
+fi
 
 # pip and the headers of Python 3.11, in an environment of its own.
 if has Python python3 -c 'import ensurepip, os, sys, sysconfig, venv

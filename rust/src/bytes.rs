@@ -1,560 +1,317 @@
-//! Bytes whose clones share memory.
+//! Bytes that stand in the value itself up to a limit, and past it in a vector that clones share.
 
-use std::borrow::{Borrow, Cow};
-use std::cmp::Ordering;
-use std::fmt::{self, Debug};
-use std::hash::{Hash, Hasher};
-use std::io;
-use std::marker::PhantomData;
-use std::mem::size_of;
-use std::ops::{Deref, RangeBounds};
+use crate::error::{Error, Rejected, indices, indices_or_panic, out_of_bounds};
+use crate::proved::ecow_bytes as proved;
+use crate::shim::alloc::Global;
+use crate::shim::granted;
+use crate::vec::EcoVec;
+use alloc::borrow::Cow;
+use alloc::vec::Vec;
+use core::ops::RangeBounds;
+use proved::cells::Cells;
+use proved::few::Few;
+use proved::form::Form;
 
-use crate::error::{done, granted, indices, indices_or_panic, out_of_bounds, Error};
-use crate::sys::{self, RawBytes};
+/// Bytes: inline, in the value itself, where they are at most `N`, and else spilled, in a vector whose block clones share
+/// until one of them is written to.
+///
+/// Bytes that come to more than `N`, or get room for more, spill. Spilled ones stay so until `shrink_to_fit`.
+pub struct SmallBytes<const N: usize>(pub(crate) proved::SmallBytes<N>);
 
-/// At most 15 bytes inline, or bytes in memory that clones share.
-///
-/// It takes 16 bytes, and is read as a slice.
-///
-/// ```
-/// use ecow_proved::EcoBytes;
-///
-/// let first = EcoBytes::from(b"more than fifteen bytes");
-/// let mut second = first.clone();
-/// assert_eq!(first.as_ptr(), second.as_ptr());
-/// second.set(0, b'M');
-/// assert_eq!((first[0], second[0]), (b'm', b'M'));
-/// ```
-///
-/// It isn't `Sync`:
-///
-/// ```compile_fail,E0277
-/// fn shared<T: Sync>(_: &T) {}
-/// shared(&ecow_proved::EcoBytes::new());
-/// ```
-pub struct EcoBytes {
-    raw: RawBytes,
-    threads: PhantomData<*const ()>,
+/// Bytes of which at most 15 stand in the value itself.
+pub type EcoBytes = SmallBytes<15>;
+
+/// Few bytes as the proved calls lay them out, for constants, in which those can't be called.
+pub(crate) const fn laid_out<const N: usize>(bytes: &[u8]) -> proved::SmallBytes<N> {
+    let (mut cells, mut at, len) = ([0; N], 0, bytes.len());
+    while at < len {
+        cells[at] = bytes[at];
+        at += 1;
+    }
+    if len == N {
+        return proved::SmallBytes { form: Form::Full(Cells { bytes: cells }), alloc: Global };
+    }
+    // As `Cells::set_len`.
+    if N <= 256 {
+        cells[N - 1] = len as u8;
+    } else if N - 1 - len < 255 {
+        cells[N - 1] = (N - 1 - len) as u8;
+    } else {
+        cells[N - 1] = 255;
+        let count = len.to_le_bytes();
+        at = 0;
+        while at < 8 {
+            cells[N - 9 + at] = count[at];
+            at += 1;
+        }
+    }
+    proved::SmallBytes { form: Form::Short(Few { cells: Cells { bytes: cells } }), alloc: Global }
 }
 
-impl EcoBytes {
-    /// How many bytes take no memory beside the value.
-    pub const INLINE_LIMIT: usize = 15;
+/// Bytes `n` times over. What stays inline is written piece by piece.
+pub(crate) fn repeated<const N: usize>(
+    bytes: &proved::SmallBytes<N>,
+    n: usize,
+) -> Result<proved::SmallBytes<N>, Error> {
+    match bytes.len().checked_mul(n) {
+        Some(total) if total <= N && total > 0 => {
+            let mut cells = [0; N];
+            cells[..total].chunks_exact_mut(bytes.len()).for_each(|piece| piece.copy_from_slice(bytes.as_slice()));
+            Ok(proved::SmallBytes::inline(Global, &cells[..total]))
+        }
+        _ => Ok(bytes.repeat(n)?),
+    }
+}
 
-    /// No bytes.
+impl<const N: usize> SmallBytes<N> {
+    /// No bytes, inline. Asks for no memory.
+    #[inline]
     pub const fn new() -> Self {
-        Self {
-            raw: RawBytes::EMPTY,
-            threads: PhantomData,
-        }
+        SmallBytes(laid_out(&[]))
     }
 
-    /// Bytes that take no memory beside the value. It panics past [`Self::INLINE_LIMIT`].
+    /// A copy of at most `N` bytes, inline. It panics where there are more.
     #[track_caller]
-    pub fn inline(bytes: &[u8]) -> Self {
-        match Self::try_inline(bytes) {
-            Some(inline) => inline,
-            None => panic!("exceeded inline capacity"),
-        }
+    pub const fn inline(bytes: &[u8]) -> Self {
+        assert!(bytes.len() <= N, "exceeded inline capacity");
+        SmallBytes(laid_out(bytes))
     }
 
-    /// Bytes that take no memory beside the value: none past [`Self::INLINE_LIMIT`].
-    pub fn try_inline(bytes: &[u8]) -> Option<Self> {
-        (bytes.len() <= Self::INLINE_LIMIT).then(|| Self::from(bytes))
+    /// A copy of the bytes, inline: `None` where there are more than `N`.
+    pub const fn try_inline(bytes: &[u8]) -> Option<Self> {
+        if bytes.len() > N { None } else { Some(SmallBytes(laid_out(bytes))) }
     }
 
-    /// No bytes, with room for `capacity` of them.
-    #[track_caller]
-    pub fn with_capacity(capacity: usize) -> Self {
-        granted::<u8, _>(Self::try_with_capacity(capacity), || capacity)
-    }
-
-    /// [`Self::with_capacity`], or `Error::Memory` or `Error::Capacity` where there is no such
-    /// room.
-    pub fn try_with_capacity(capacity: usize) -> Result<Self, Error> {
-        let mut bytes = Self::new();
-        bytes.try_reserve(capacity)?;
-        Ok(bytes)
-    }
-
-    /// A copy of a slice: `Error::Memory` where there is none for it.
+    /// A copy of the bytes: `Error::Memory` where there is none.
+    #[inline]
     pub fn try_from_slice(bytes: &[u8]) -> Result<Self, Error> {
-        let mut copy = Self::new();
-        // SAFETY: bytes lie at the first pointer, and a slice of `len` of them at the second.
-        done(unsafe { sys::ecow_bytes_assign(&mut copy.raw, bytes.as_ptr(), bytes.len()) })?;
-        Ok(copy)
+        Ok(SmallBytes(proved::SmallBytes::from_slice(Global, bytes)?))
     }
 
-    /// A clone, as [`Clone::clone`] makes it: `Error::Memory` where owners can't be counted.
-    pub fn try_clone(&self) -> Result<Self, Error> {
-        let mut clone = Self::new();
-        // SAFETY: bytes lie at both pointers.
-        done(unsafe { sys::ecow_bytes_clone(&mut clone.raw, &self.raw) })?;
-        Ok(clone)
+    /// The bytes of a `Vec`. A refusal hands it back, with `Error::Memory`.
+    pub fn try_from_vec(bytes: Vec<u8>) -> Result<Self, Rejected<Vec<u8>>> {
+        Ok(SmallBytes(proved::SmallBytes::from_vec(Global, bytes)?))
     }
 
-    /// Whether there are no bytes.
-    pub fn is_empty(&self) -> bool {
-        self.len() == 0
-    }
-
-    /// How many bytes there are.
-    pub fn len(&self) -> usize {
-        // SAFETY: bytes lie at the pointer.
-        unsafe { sys::ecow_bytes_len(&self.raw) }
-    }
-
-    /// Whether both stand in the same memory, and so are equal: not so where they are empty or
-    /// inline.
-    pub fn shares_with(&self, other: &Self) -> bool {
-        // SAFETY: bytes lie at both pointers.
-        unsafe { sys::ecow_bytes_shares(&self.raw, &other.raw) }
-    }
-
-    /// Whether the bytes stand in the value itself.
-    pub fn is_inline(&self) -> bool {
-        if self.capacity() != Self::INLINE_LIMIT {
-            return false;
-        }
-        if self.is_empty() {
-            // A block may have room for 15 bytes too, and nothing says where no bytes stand. So a
-            // clone gets one, which takes no memory inline.
-            return self.try_clone().map_or(false, |mut clone| {
-                clone.try_push(0).is_ok() && clone.is_inline()
-            });
-        }
-        let place = self as *const Self as usize;
-        (self.as_ptr() as usize).wrapping_sub(place) < size_of::<Self>()
-    }
-
-    /// The bytes as a slice.
+    /// The bytes, in order.
+    #[inline]
     pub fn as_slice(&self) -> &[u8] {
-        let mut len = 0;
-        // SAFETY: bytes lie at the first pointer, and a number at the second.
-        let start = unsafe { sys::ecow_bytes_slice(&self.raw, &mut len) };
-        // SAFETY: `len` bytes stand there until the value is changed, dropped or moved. The borrow
-        // of `self` ends before that.
-        unsafe { std::slice::from_raw_parts(start, len) }
+        self.0.as_slice()
     }
 
-    /// Writes the byte at `index`. It panics from the end on.
-    #[track_caller]
-    pub fn set(&mut self, index: usize, byte: u8) {
-        if index >= self.len() {
-            out_of_bounds(index, self.len());
-        }
-        granted::<u8, _>(self.try_set(index, byte), || self.len())
+    /// The bytes, for writing. Spilled ones that are shared are copied first.
+    #[inline]
+    pub fn make_mut(&mut self) -> &mut [u8] {
+        granted(self.try_make_mut())
     }
 
-    /// [`Self::set`], or `Error::Index` from the end on, `Error::Memory` where shared bytes can't
-    /// be copied.
-    pub fn try_set(&mut self, index: usize, byte: u8) -> Result<(), Error> {
-        // SAFETY: bytes lie at the pointer.
-        done(unsafe { sys::ecow_bytes_set(&mut self.raw, index, byte) })
+    /// As `make_mut`: `Error::Memory` where the copy is refused.
+    #[inline]
+    pub fn try_make_mut(&mut self) -> Result<&mut [u8], Error> {
+        Ok(self.0.make_mut()?)
     }
 
     /// Appends a byte.
-    #[track_caller]
+    #[inline]
     pub fn push(&mut self, byte: u8) {
-        granted::<u8, _>(self.try_push(byte), || self.len() + 1)
+        granted(self.0.push(byte))
     }
 
-    /// [`Self::push`], or `Error::Memory` where there is no room.
+    /// As `push`: `Error::Capacity`, `Error::Memory`.
+    #[inline]
     pub fn try_push(&mut self, byte: u8) -> Result<(), Error> {
-        // SAFETY: bytes lie at the pointer.
-        done(unsafe { sys::ecow_bytes_push(&mut self.raw, byte) })
+        Ok(self.0.push(byte)?)
     }
 
-    /// Takes the last byte: none where there are none.
-    #[track_caller]
+    /// Takes the last byte: `None` where there is none.
+    #[inline]
     pub fn pop(&mut self) -> Option<u8> {
-        granted::<u8, _>(self.try_pop(), || self.len())
+        granted(self.try_pop())
     }
 
-    /// [`Self::pop`], or `Error::Memory` where shared bytes can't be copied.
+    /// As `pop`: `Error::Memory` where shared bytes can't be copied.
+    #[inline]
     pub fn try_pop(&mut self) -> Result<Option<u8>, Error> {
-        let mut byte = 0;
-        // SAFETY: bytes lie at the first pointer, and one at the second.
-        match done(unsafe { sys::ecow_bytes_pop(&mut self.raw, &mut byte) }) {
-            Ok(()) => Ok(Some(byte)),
-            Err(Error::Index) => Ok(None),
-            Err(error) => Err(error),
-        }
-    }
-
-    /// Puts a byte in at `index`. It panics past the end.
-    #[track_caller]
-    pub fn insert(&mut self, index: usize, byte: u8) {
-        if index > self.len() {
-            out_of_bounds(index, self.len());
-        }
-        granted::<u8, _>(self.try_insert(index, byte), || self.len() + 1)
-    }
-
-    /// [`Self::insert`], or `Error::Index` past the end, `Error::Memory` where there is no room.
-    pub fn try_insert(&mut self, index: usize, byte: u8) -> Result<(), Error> {
-        // SAFETY: bytes lie at the pointer.
-        done(unsafe { sys::ecow_bytes_insert(&mut self.raw, index, byte) })
-    }
-
-    /// Takes the byte at `index`. It panics from the end on.
-    #[track_caller]
-    pub fn remove(&mut self, index: usize) -> u8 {
-        if index >= self.len() {
-            out_of_bounds(index, self.len());
-        }
-        granted::<u8, _>(self.try_remove(index), || self.len())
-    }
-
-    /// [`Self::remove`], or `Error::Index` from the end on, `Error::Memory` where shared bytes
-    /// can't be copied.
-    pub fn try_remove(&mut self, index: usize) -> Result<u8, Error> {
-        let mut byte = 0;
-        // SAFETY: bytes lie at the first pointer, and one at the second.
-        done(unsafe { sys::ecow_bytes_remove(&mut self.raw, index, &mut byte) })?;
-        Ok(byte)
+        Ok(self.0.pop()?)
     }
 
     /// Appends the bytes of a slice.
-    #[track_caller]
+    #[inline]
     pub fn extend_from_slice(&mut self, bytes: &[u8]) {
-        granted::<u8, _>(self.try_extend_from_slice(bytes), || {
-            self.len() + bytes.len()
-        })
+        granted(self.0.extend_from_slice(bytes))
     }
 
-    /// [`Self::extend_from_slice`], or `Error::Memory` where there is no room, and then nothing is
-    /// appended.
+    /// As `extend_from_slice`: all, or none with `Error::Capacity` or `Error::Memory`.
+    #[inline]
     pub fn try_extend_from_slice(&mut self, bytes: &[u8]) -> Result<(), Error> {
-        // SAFETY: bytes lie at the first pointer, and a slice of `len` of them at the second.
-        done(unsafe { sys::ecow_bytes_extend(&mut self.raw, bytes.as_ptr(), bytes.len()) })
+        Ok(self.0.extend_from_slice(bytes)?)
     }
 
-    /// Puts the bytes of a slice in at `index`. It panics past the end.
+    /// Puts a byte in at `index`. It panics where that passes the length.
+    #[track_caller]
+    pub fn insert(&mut self, index: usize, byte: u8) {
+        self.insert_slice(index, &[byte])
+    }
+
+    /// As `insert`: `Error::Index`, `Error::Capacity`, `Error::Memory`.
+    pub fn try_insert(&mut self, index: usize, byte: u8) -> Result<(), Error> {
+        if index > self.len() {
+            return Err(Error::Index);
+        }
+        Ok(self.0.insert(index, byte)?)
+    }
+
+    /// Puts bytes in at `index`. It panics where that passes the length.
     #[track_caller]
     pub fn insert_slice(&mut self, index: usize, bytes: &[u8]) {
         if index > self.len() {
             out_of_bounds(index, self.len());
         }
-        self.replace_range(index..index, bytes);
+        granted(self.0.insert_slice(index, bytes))
     }
 
-    /// [`Self::insert_slice`], or `Error::Index` past the end, `Error::Memory` where there is no
-    /// room.
+    /// As `insert_slice`: `Error::Index`, `Error::Capacity`, `Error::Memory`.
     pub fn try_insert_slice(&mut self, index: usize, bytes: &[u8]) -> Result<(), Error> {
-        self.try_replace_range(index..index, bytes)
+        if index > self.len() {
+            return Err(Error::Index);
+        }
+        Ok(self.0.insert_slice(index, bytes)?)
     }
 
-    /// Puts the bytes of a slice in place of a range, as `String::replace_range` does of a string.
-    /// It panics where the range passes the end or ends before it starts.
+    /// Takes the byte at `index`. It panics where there is none.
     #[track_caller]
-    pub fn replace_range(&mut self, range: impl RangeBounds<usize>, with: &[u8]) {
-        let range = indices_or_panic(&range, self.len());
-        granted::<u8, _>(self.try_replace_range(range, with), || {
-            self.len() + with.len()
-        })
+    pub fn remove(&mut self, index: usize) -> u8 {
+        if index >= self.len() {
+            out_of_bounds(index, self.len());
+        }
+        granted(self.0.remove(index))
     }
 
-    /// [`Self::replace_range`], or `Error::Index` where the range passes the end or ends before it
-    /// starts, `Error::Memory` where there is no room.
-    pub fn try_replace_range(
-        &mut self,
-        range: impl RangeBounds<usize>,
-        with: &[u8],
-    ) -> Result<(), Error> {
-        let range = indices(&range, self.len())?;
-        let (bytes, count) = (with.as_ptr(), with.len());
-        // SAFETY: bytes lie at the first pointer, and a slice of `count` of them at the second.
-        done(unsafe { sys::ecow_bytes_splice(&mut self.raw, range.start, range.end, bytes, count) })
+    /// As `remove`: `Error::Index`, or `Error::Memory` where shared bytes can't be copied.
+    pub fn try_remove(&mut self, index: usize) -> Result<u8, Error> {
+        if index >= self.len() {
+            return Err(Error::Index);
+        }
+        Ok(self.0.remove(index)?)
     }
 
-    /// Keeps none. Memory that no clone shares is kept for what comes.
+    /// Puts a byte in place of the one at `index`. It panics where there is none. This crate's own.
     #[track_caller]
-    pub fn clear(&mut self) {
-        granted::<u8, _>(self.try_clear(), || 0)
+    pub fn set(&mut self, index: usize, byte: u8) {
+        granted(self.try_set(index, byte))
     }
 
-    /// [`Self::clear`] as a `Result`; no refusal is known.
-    pub fn try_clear(&mut self) -> Result<(), Error> {
-        // SAFETY: bytes lie at the pointer.
-        done(unsafe { sys::ecow_bytes_clear(&mut self.raw) })
+    /// As `set`: `Error::Index`, or `Error::Memory` where shared bytes can't be copied.
+    pub fn try_set(&mut self, index: usize, byte: u8) -> Result<(), Error> {
+        if index >= self.len() {
+            return Err(Error::Index);
+        }
+        Ok(self.0.set(index, byte)?)
+    }
+
+    /// Puts bytes in place of those of a range. It panics where the range isn't in there. This crate's own.
+    #[track_caller]
+    pub fn replace_range(&mut self, range: impl RangeBounds<usize>, bytes: &[u8]) {
+        let range = indices_or_panic(range, self.len());
+        granted(self.0.replace_range(range, bytes))
+    }
+
+    /// As `replace_range`: `Error::Index` of another range, `Error::Capacity`, `Error::Memory`.
+    pub fn try_replace_range(&mut self, range: impl RangeBounds<usize>, bytes: &[u8]) -> Result<(), Error> {
+        let range = indices(range, self.len())?;
+        Ok(self.0.replace_range(range, bytes)?)
     }
 
     /// Keeps the first `target` bytes, or all where there are fewer.
-    #[track_caller]
     pub fn truncate(&mut self, target: usize) {
-        granted::<u8, _>(self.try_truncate(target), || target)
+        granted(self.try_truncate(target))
     }
 
-    /// [`Self::truncate`], or `Error::Memory` where what stays of shared bytes can't be copied.
+    /// As `truncate`: `Error::Memory` where what stays of shared bytes can't be copied.
     pub fn try_truncate(&mut self, target: usize) -> Result<(), Error> {
-        // SAFETY: bytes lie at the pointer.
-        done(unsafe { sys::ecow_bytes_truncate(&mut self.raw, target) })
+        Ok(self.0.truncate(target)?)
     }
 
-    /// Makes room for `additional` more bytes, in memory that no clone shares.
-    #[track_caller]
-    pub fn reserve(&mut self, additional: usize) {
-        granted::<u8, _>(self.try_reserve(additional), || {
-            self.len().saturating_add(additional)
-        })
-    }
-
-    /// [`Self::reserve`], or `Error::Memory` or `Error::Capacity` where there is no such room.
-    pub fn try_reserve(&mut self, additional: usize) -> Result<(), Error> {
-        // SAFETY: bytes lie at the pointer.
-        done(unsafe { sys::ecow_bytes_reserve(&mut self.raw, additional) })
-    }
-
-    /// How many bytes there is room for: 15 where they stand in the value.
-    pub fn capacity(&self) -> usize {
-        // SAFETY: bytes lie at the pointer.
-        unsafe { sys::ecow_bytes_capacity(&self.raw) }
-    }
-
-    /// Brings at most 15 bytes back into the value, and gives their memory up. More stay where they
-    /// are, with their room.
-    #[track_caller]
-    pub fn shrink_to_fit(&mut self) {
-        granted::<u8, _>(self.try_shrink_to_fit(), || self.len())
-    }
-
-    /// [`Self::shrink_to_fit`] as a `Result`; no refusal is known.
-    pub fn try_shrink_to_fit(&mut self) -> Result<(), Error> {
-        // SAFETY: bytes lie at the pointer.
-        done(unsafe { sys::ecow_bytes_shrink_to_fit(&mut self.raw) })
-    }
-
-    /// The bytes, `n` times.
-    #[track_caller]
+    /// The bytes `n` times over. It panics where these are more than memory can hold.
     pub fn repeat(&self, n: usize) -> Self {
-        granted::<u8, _>(self.try_repeat(n), || self.len().saturating_mul(n))
+        granted(self.try_repeat(n))
     }
 
-    /// [`Self::repeat`], or `Error::Memory` or `Error::Capacity` where there is none for it.
+    /// As `repeat`: `Error::Capacity` past 2^63 - 1, `Error::Memory` where there is none.
     pub fn try_repeat(&self, n: usize) -> Result<Self, Error> {
-        let mut repeated = Self::try_with_capacity(self.len().saturating_mul(n))?;
-        if !self.is_empty() {
-            for _ in 0..n {
-                repeated.try_extend_from_slice(self)?;
-            }
-        }
-        Ok(repeated)
+        Ok(SmallBytes(repeated(&self.0, n)?))
+    }
+
+    /// The bytes in a vector: that of spilled bytes as it is. A refusal hands inline ones back, with `Error::Memory`.
+    pub fn try_into_eco_vec(self) -> Result<EcoVec<u8>, Rejected<Self>> {
+        self.0.into_eco_vec().map(EcoVec).map_err(|rejected| Rejected::of(rejected, SmallBytes))
     }
 }
 
-impl Drop for EcoBytes {
-    fn drop(&mut self) {
-        // SAFETY: bytes lie at the pointer.
-        unsafe { sys::ecow_bytes_drop(&mut self.raw) }
+small!(SmallBytes, [u8], as_slice, try_from_slice);
+
+equal_to! {
+    [const N: usize] SmallBytes<N>, [u8];
+    [const N: usize] SmallBytes<N>, &[u8];
+    [const N: usize, const M: usize] SmallBytes<N>, [u8; M];
+    [const N: usize, const M: usize] SmallBytes<N>, &[u8; M];
+    [const N: usize] SmallBytes<N>, Vec<u8>;
+    [const N: usize] SmallBytes<N>, EcoVec<u8>;
+    [const N: usize] [u8], SmallBytes<N>;
+    [const N: usize, const M: usize] [u8; M], SmallBytes<N>;
+    [const N: usize] Vec<u8>, SmallBytes<N>;
+    [const N: usize] EcoVec<u8>, SmallBytes<N>;
+}
+
+// Spilled bytes and a vector pass their block on.
+from! {
+    [const N: usize, const M: usize] [u8; M] => SmallBytes<N>: |bytes| Self::from(&bytes[..]);
+    [const N: usize, const M: usize] &[u8; M] => SmallBytes<N>: |bytes| Self::from(&bytes[..]);
+    [const N: usize] &Vec<u8> => SmallBytes<N>: |bytes| Self::from(&bytes[..]);
+    [const N: usize] Cow<'_, [u8]> => SmallBytes<N>: |bytes| Self::from(&bytes[..]);
+    [const N: usize] Vec<u8> => SmallBytes<N>: |bytes| granted(Self::try_from_vec(bytes));
+    [const N: usize] EcoVec<u8> => SmallBytes<N>: |vec| SmallBytes(vec.0.into());
+    [const N: usize] SmallBytes<N> => EcoVec<u8>: |bytes| granted(bytes.try_into_eco_vec());
+    [const N: usize] &SmallBytes<N> => EcoVec<u8>: |bytes| bytes.clone().into();
+    [const N: usize] SmallBytes<N> => Vec<u8>: |bytes| bytes.to_vec();
+    [const N: usize] &SmallBytes<N> => Vec<u8>: |bytes| bytes.to_vec();
+}
+
+impl<const N: usize> FromIterator<u8> for SmallBytes<N> {
+    fn from_iter<I: IntoIterator<Item = u8>>(iter: I) -> Self {
+        SmallBytes(granted(proved::SmallBytes::from_iter(Global, iter)))
     }
 }
 
-impl Clone for EcoBytes {
-    /// Bytes that share this value's memory. It takes the same time however many there are.
-    fn clone(&self) -> Self {
-        granted::<u8, _>(self.try_clone(), || self.len())
+impl<const N: usize> Extend<u8> for SmallBytes<N> {
+    fn extend<I: IntoIterator<Item = u8>>(&mut self, iter: I) {
+        granted(self.0.extend(iter))
     }
 }
 
-impl Deref for EcoBytes {
-    type Target = [u8];
-
-    fn deref(&self) -> &[u8] {
-        self.as_slice()
+impl<'a, const N: usize> Extend<&'a u8> for SmallBytes<N> {
+    fn extend<I: IntoIterator<Item = &'a u8>>(&mut self, iter: I) {
+        self.extend(iter.into_iter().copied())
     }
 }
 
-impl Default for EcoBytes {
-    fn default() -> Self {
-        Self::new()
-    }
-}
-
-impl Debug for EcoBytes {
-    fn fmt(&self, f: &mut fmt::Formatter<'_>) -> fmt::Result {
-        Debug::fmt(self.as_slice(), f)
-    }
-}
-
-impl Eq for EcoBytes {}
-
-impl PartialEq for EcoBytes {
-    fn eq(&self, other: &Self) -> bool {
-        // SAFETY: bytes lie at both pointers.
-        unsafe { sys::ecow_bytes_equal(&self.raw, &other.raw) }
-    }
-}
-
-impl PartialEq<[u8]> for EcoBytes {
-    fn eq(&self, other: &[u8]) -> bool {
-        self.as_slice() == other
-    }
-}
-
-impl PartialEq<&[u8]> for EcoBytes {
-    fn eq(&self, other: &&[u8]) -> bool {
-        self.as_slice() == *other
-    }
-}
-
-impl<const N: usize> PartialEq<[u8; N]> for EcoBytes {
-    fn eq(&self, other: &[u8; N]) -> bool {
-        self.as_slice() == other
-    }
-}
-
-impl<const N: usize> PartialEq<&[u8; N]> for EcoBytes {
-    fn eq(&self, other: &&[u8; N]) -> bool {
-        self.as_slice() == *other
-    }
-}
-
-impl PartialEq<Vec<u8>> for EcoBytes {
-    fn eq(&self, other: &Vec<u8>) -> bool {
-        self.as_slice() == other
-    }
-}
-
-impl PartialEq<EcoBytes> for [u8] {
-    fn eq(&self, other: &EcoBytes) -> bool {
-        self == other.as_slice()
-    }
-}
-
-impl<const N: usize> PartialEq<EcoBytes> for [u8; N] {
-    fn eq(&self, other: &EcoBytes) -> bool {
-        self == other.as_slice()
-    }
-}
-
-impl PartialEq<EcoBytes> for Vec<u8> {
-    fn eq(&self, other: &EcoBytes) -> bool {
-        self == other.as_slice()
-    }
-}
-
-impl Ord for EcoBytes {
-    fn cmp(&self, other: &Self) -> Ordering {
-        // SAFETY: bytes lie at both pointers.
-        unsafe { sys::ecow_bytes_compare(&self.raw, &other.raw) }.cmp(&0)
-    }
-}
-
-impl PartialOrd for EcoBytes {
-    fn partial_cmp(&self, other: &Self) -> Option<Ordering> {
-        Some(self.cmp(other))
-    }
-}
-
-impl Hash for EcoBytes {
-    fn hash<H: Hasher>(&self, state: &mut H) {
-        self.as_slice().hash(state);
-    }
-}
-
-impl AsRef<[u8]> for EcoBytes {
-    fn as_ref(&self) -> &[u8] {
-        self
-    }
-}
-
-impl Borrow<[u8]> for EcoBytes {
-    fn borrow(&self) -> &[u8] {
-        self
-    }
-}
-
-impl From<&[u8]> for EcoBytes {
-    fn from(bytes: &[u8]) -> Self {
-        granted::<u8, _>(Self::try_from_slice(bytes), || bytes.len())
-    }
-}
-
-impl<const N: usize> From<&[u8; N]> for EcoBytes {
-    fn from(bytes: &[u8; N]) -> Self {
-        Self::from(bytes.as_slice())
-    }
-}
-
-impl<const N: usize> From<[u8; N]> for EcoBytes {
-    fn from(bytes: [u8; N]) -> Self {
-        Self::from(bytes.as_slice())
-    }
-}
-
-impl From<Vec<u8>> for EcoBytes {
-    fn from(bytes: Vec<u8>) -> Self {
-        Self::from(bytes.as_slice())
-    }
-}
-
-impl From<&Vec<u8>> for EcoBytes {
-    fn from(bytes: &Vec<u8>) -> Self {
-        Self::from(bytes.as_slice())
-    }
-}
-
-impl From<&EcoBytes> for EcoBytes {
-    fn from(bytes: &EcoBytes) -> Self {
-        bytes.clone()
-    }
-}
-
-impl From<Cow<'_, [u8]>> for EcoBytes {
-    fn from(bytes: Cow<'_, [u8]>) -> Self {
-        Self::from(&*bytes)
-    }
-}
-
-impl From<EcoBytes> for Vec<u8> {
-    fn from(bytes: EcoBytes) -> Self {
-        bytes.as_slice().into()
-    }
-}
-
-impl From<&EcoBytes> for Vec<u8> {
-    fn from(bytes: &EcoBytes) -> Self {
-        bytes.as_slice().into()
-    }
-}
-
-impl FromIterator<u8> for EcoBytes {
-    fn from_iter<I: IntoIterator<Item = u8>>(bytes: I) -> Self {
-        let mut collected = Self::new();
-        collected.extend(bytes);
-        collected
-    }
-}
-
-impl Extend<u8> for EcoBytes {
-    fn extend<I: IntoIterator<Item = u8>>(&mut self, bytes: I) {
-        bytes.into_iter().for_each(|byte| self.push(byte));
-    }
-}
-
-impl<'a> Extend<&'a u8> for EcoBytes {
-    fn extend<I: IntoIterator<Item = &'a u8>>(&mut self, bytes: I) {
-        self.extend(bytes.into_iter().copied());
-    }
-}
-
-impl<'a> IntoIterator for &'a EcoBytes {
-    type IntoIter = std::slice::Iter<'a, u8>;
+impl<'a, const N: usize> IntoIterator for &'a SmallBytes<N> {
     type Item = &'a u8;
+    type IntoIter = core::slice::Iter<'a, u8>;
 
+    #[inline]
     fn into_iter(self) -> Self::IntoIter {
-        self.as_slice().iter()
+        self.iter()
     }
 }
 
-impl io::Write for EcoBytes {
-    fn write(&mut self, bytes: &[u8]) -> io::Result<usize> {
-        self.extend_from_slice(bytes);
-        Ok(bytes.len())
+#[cfg(feature = "std")]
+impl<const N: usize> std::io::Write for SmallBytes<N> {
+    fn write(&mut self, bytes: &[u8]) -> std::io::Result<usize> {
+        std::io::Write::write(&mut self.0, bytes)
     }
 
-    fn flush(&mut self) -> io::Result<()> {
+    fn flush(&mut self) -> std::io::Result<()> {
         Ok(())
     }
 }

@@ -1,10 +1,10 @@
-//! Why a call was refused, and how a call without `try_` in its name ends then.
+//! Why a call was refused.
 
-use std::alloc::{handle_alloc_error, Layout};
-use std::fmt;
-use std::ops::{Bound, Range, RangeBounds};
-
-use crate::sys::{self, Status};
+use crate::proved::ecow_list::{EcoError, Rejected as ProvedRejected};
+use crate::proved::ecow_nested::Refusal;
+use crate::shim::alloc::AllocError;
+use core::fmt;
+use core::ops::{Range, RangeBounds};
 
 /// Why a call was refused. The value is then as it was.
 #[derive(Clone, Copy, Debug, PartialEq, Eq, Hash)]
@@ -12,7 +12,7 @@ use crate::sys::{self, Status};
 pub enum Error {
     /// There was no memory.
     Memory,
-    /// The length would pass 2^63 - 1.
+    /// The length or the capacity would pass 2^63 - 1, or what memory can hold.
     Capacity,
     /// An index or a range passes the end, or no field has that name.
     Index,
@@ -34,76 +34,91 @@ impl fmt::Display for Error {
     }
 }
 
-impl std::error::Error for Error {}
+impl core::error::Error for Error {}
 
-/// What the status of a call says.
-pub(crate) fn done(status: Status) -> Result<(), Error> {
-    match status {
-        sys::OK => Ok(()),
-        sys::MEMORY => Err(Error::Memory),
-        sys::CAPACITY => Err(Error::Capacity),
-        sys::INDEX => Err(Error::Index),
-        sys::BOUNDARY => Err(Error::Boundary),
-        sys::KIND => Err(Error::Kind),
-        _ => unreachable!("a reference isn't null, and a `str` is UTF-8: {status}"),
+macro_rules! from_proved {
+    ($($proved:ident: $($variant:ident)*;)*) => { $(
+        impl From<$proved> for Error {
+            fn from(error: $proved) -> Self {
+                match error {
+                    $($proved::$variant => Error::$variant,)*
+                }
+            }
+        }
+    )* };
+}
+from_proved! {
+    EcoError: Capacity Memory;
+    Refusal: Kind Index Capacity Memory;
+}
+
+impl From<AllocError> for Error {
+    fn from(_: AllocError) -> Self {
+        Error::Memory
     }
 }
 
-/// What a call answered, where a refusal ends the program or the thread: `len` is how many items of
-/// type `T` there would be.
+/// A call that was refused, with the value that was handed in.
+#[derive(Clone, Copy, Debug, PartialEq, Eq, Hash)]
+pub struct Rejected<V> {
+    /// Why.
+    pub error: Error,
+    /// What was handed in.
+    pub value: V,
+}
+
+impl<V> Rejected<V> {
+    pub(crate) fn of<W>(rejected: ProvedRejected<W>, own: impl FnOnce(W) -> V) -> Self {
+        Rejected { error: rejected.error.into(), value: own(rejected.value) }
+    }
+}
+
+impl<V> fmt::Display for Rejected<V> {
+    fn fmt(&self, f: &mut fmt::Formatter<'_>) -> fmt::Result {
+        self.error.fmt(f)
+    }
+}
+
+impl<V: fmt::Debug> core::error::Error for Rejected<V> {}
+
+impl<V> From<Rejected<V>> for Error {
+    fn from(rejected: Rejected<V>) -> Self {
+        rejected.error
+    }
+}
+
+impl<V> From<ProvedRejected<V>> for Rejected<V> {
+    fn from(rejected: ProvedRejected<V>) -> Self {
+        Rejected::of(rejected, |value| value)
+    }
+}
+
+impl<V> From<ProvedRejected<V>> for Error {
+    fn from(rejected: ProvedRejected<V>) -> Self {
+        rejected.error.into()
+    }
+}
+
+/// The indices of a range of `len` items, which is asked for its bounds once.
+pub(crate) fn indices(range: impl RangeBounds<usize>, len: usize) -> Result<Range<usize>, Error> {
+    let (start, end) = crate::proved::ecow_base::resolve(&range, len).ok_or(Error::Index)?;
+    Ok(start..end)
+}
+
+/// The same, with a panic where the range isn't in there.
 #[track_caller]
-pub(crate) fn granted<T, R>(result: Result<R, Error>, len: impl FnOnce() -> usize) -> R {
-    match result {
-        Ok(answer) => answer,
-        Err(error) => refuse::<T>(error, len()),
+pub(crate) fn indices_or_panic(range: impl RangeBounds<usize>, len: usize) -> Range<usize> {
+    let (start, end) = (range.start_bound().cloned(), range.end_bound().cloned());
+    match indices((start, end), len) {
+        Ok(indices) => indices,
+        Err(_) => panic!("range ({start:?}, {end:?}) is out of bounds of length {len}"),
     }
 }
 
+/// Panics with an index that passes the end, in the words of the original.
 #[cold]
-#[track_caller]
-fn refuse<T>(error: Error, len: usize) -> ! {
-    match (error, Layout::array::<T>(len)) {
-        (Error::Memory, Ok(layout)) => handle_alloc_error(layout),
-        (Error::Memory, Err(_)) => panic!("{}", Error::Capacity),
-        (error, _) => panic!("{error}"),
-    }
-}
-
-/// Panics with an index that passes the end.
-#[cold]
+#[inline(never)]
 #[track_caller]
 pub(crate) fn out_of_bounds(index: usize, len: usize) -> ! {
     panic!("index is out bounds (index: {index}, len: {len})")
-}
-
-/// The indices of a range of `len` items: `Error::Index` where it passes the end, or ends before it
-/// starts.
-pub(crate) fn indices(range: &impl RangeBounds<usize>, len: usize) -> Result<Range<usize>, Error> {
-    let start = match range.start_bound() {
-        Bound::Included(&start) => Some(start),
-        Bound::Excluded(&before) => before.checked_add(1),
-        Bound::Unbounded => Some(0),
-    };
-    let end = match range.end_bound() {
-        Bound::Included(&last) => last.checked_add(1),
-        Bound::Excluded(&end) => Some(end),
-        Bound::Unbounded => Some(len),
-    };
-    match (start, end) {
-        (Some(start), Some(end)) if start <= end && end <= len => Ok(start..end),
-        _ => Err(Error::Index),
-    }
-}
-
-/// The indices of a range of `len` items. It panics where the range passes the end, or ends before
-/// it starts.
-#[track_caller]
-pub(crate) fn indices_or_panic(range: &impl RangeBounds<usize>, len: usize) -> Range<usize> {
-    match indices(range, len) {
-        Ok(indices) => indices,
-        Err(_) => {
-            let (start, end) = (range.start_bound(), range.end_bound());
-            panic!("range ({start:?}, {end:?}) is out of bounds of length {len}")
-        }
-    }
 }

@@ -1,39 +1,49 @@
-//! Strings, bytes, vectors and nested values whose clones share memory until one of them is
-//! changed, over a library whose calls are proved.
+//! Vectors, bytes, strings and nested values whose clones share memory until one of them is written to.
 //!
-//! [`EcoString`], [`EcoBytes`] and [`EcoVec`] have the names and signatures of the crate `ecow`.
-//! `README.md` beside the crate says what differs.
+//! [`EcoVec`], [`EcoBytes`] and [`EcoString`] have the names and signatures of the original crate `ecow`. What they do is
+//! proved: the modules below `proved` are written from proved source, and this crate gives their calls the original's
+//! signatures. `README.md` says what is proved, what one trusts, and what differs from the original.
 //!
 //! ```
-//! use ecow_proved::EcoString;
+//! use ecow::{EcoString, EcoVec, eco_vec};
+//!
+//! let first = eco_vec![1, 2, 3];
+//! let mut second = first.clone(); // asks for no memory, and clones no element
+//! second.push(4); // copies the elements into a block of its own
+//! assert_eq!((first.len(), second.len()), (3, 4));
 //!
 //! let title = EcoString::from("Copies share memory");
-//! let mut longer = title.clone();
-//! longer.push_str(" until one is changed");
-//! assert_eq!(title, "Copies share memory");
-//! assert_eq!(longer.replace("memory", "a block"), "Copies share a block until one is changed");
+//! assert_eq!(title.replace("memory", "a block"), "Copies share a block");
 //! ```
 //!
-//! **Refusals.** A method ends as the original's: memory that is refused aborts the program, a
-//! length past 2^63 - 1 and an index past the end panic. Beside it stands one whose name begins
-//! with `try_`, which answers an [`Error`] and leaves the value as it was. Methods of [`Value`]
-//! answer errors only.
+//! **Refusals.** A call ends as the original's: memory that is refused aborts the program, a length past 2^63 - 1 and an
+//! index past the end panic. Beside it stands one whose name begins with `try_`. It answers an [`Error`], or a
+//! [`Rejected`] that hands a value back, and leaves what it was called on as it was. Calls of [`Value`] answer errors
+//! only.
 //!
-//! **Threads.** Values are [`Send`] over a library with the atomic count of owners, and over the
-//! plain one they are not. They are never [`Sync`]: give each thread a clone of its own.
+//! **Threads.** Owners are counted atomically. A vector is [`Send`] and [`Sync`] where its elements are both.
 
+#![cfg_attr(not(feature = "std"), no_std)]
 #![deny(missing_docs, unsafe_op_in_unsafe_fn)]
 
-pub mod bytes;
+extern crate alloc;
+
 mod error;
+mod guards;
+#[allow(dead_code, missing_docs, unused_imports, unused_variables, clippy::all)]
+#[rustfmt::skip]
+mod proved;
+mod shim;
+#[macro_use]
+mod traits;
+
+pub mod bytes;
 pub mod string;
-mod sys;
-mod threads;
 pub mod value;
 pub mod vec;
 
-pub use bytes::EcoBytes;
-pub use error::Error;
-pub use string::EcoString;
+pub use bytes::{EcoBytes, SmallBytes};
+pub use error::{Error, Rejected};
+pub use string::{EcoString, SmallText};
 pub use value::{Kind, Value};
 pub use vec::EcoVec;

@@ -1,753 +1,404 @@
-//! Strings whose clones share memory.
+//! Texts that stand in the value itself up to a limit, and past it in a vector that clones share.
 
-use std::borrow::{Borrow, Cow};
-use std::cmp::Ordering;
-use std::convert::Infallible;
-use std::ffi::OsStr;
-use std::fmt::{self, Debug, Display, Write};
-use std::hash::{Hash, Hasher};
-use std::marker::PhantomData;
-use std::mem::size_of;
-use std::ops::{Add, AddAssign, Deref, RangeBounds};
-use std::path::Path;
-use std::str::{FromStr, Utf8Error};
+use crate::bytes::SmallBytes;
+use crate::error::{Error, Rejected, indices, indices_or_panic};
+use crate::proved::ecow_string as proved;
+use crate::shim::alloc::Global;
+use crate::shim::{granted, text_mut};
+use crate::vec::EcoVec;
+use alloc::borrow::Cow;
+use alloc::string::String;
+use core::fmt::{self, Display, Write};
+use core::ops::{Add, AddAssign, RangeBounds};
+use core::str::{FromStr, Utf8Error};
 
-use crate::bytes::EcoBytes;
-use crate::error::{done, granted, indices, indices_or_panic, Error};
-use crate::sys::{self, RawText};
-
-/// Makes an [`EcoString`] as `format!` makes a `String`.
+/// A text of what is printed, as `format!` of std makes it.
 ///
 /// ```
-/// assert_eq!(ecow_proved::eco_format!("{} of {}", 3, "four"), "3 of four");
+/// assert_eq!(ecow::eco_format!("Hello {}!", 123), "Hello 123!");
 /// ```
 #[macro_export]
 macro_rules! eco_format {
-    ($($argument:tt)*) => {
-        $crate::string::format(::core::format_args!($($argument)*))
-    };
+    ($($arg:tt)*) => { $crate::string::format(::core::format_args!($($arg)*)) };
 }
 
-/// What `eco_format!` calls. It panics where a formatting trait answers an error.
-#[doc(hidden)]
-pub fn format(arguments: fmt::Arguments<'_>) -> EcoString {
-    let mut string = EcoString::new();
-    string
-        .write_fmt(arguments)
-        .expect("a formatting trait answered an error");
-    string
-}
+/// Text: its UTF-8 bytes are inline, in the value itself, where they are at most `N`, and else spilled, in a vector whose
+/// block clones share until one of them is written to.
+///
+/// Lengths and indices are of bytes. A text that comes to more than `N`, or gets room for more, spills. A spilled one stays
+/// so until `shrink_to_fit`.
+pub struct SmallText<const N: usize>(pub(crate) proved::SmallText<N>);
 
-/// A string of at most 15 bytes inline, or in memory that its clones share.
-///
-/// It takes 16 bytes, and is read as a `str`. Lengths and indices count bytes.
-///
-/// ```
-/// use ecow_proved::EcoString;
-///
-/// let first = EcoString::from("a text of more than 15 bytes");
-/// let mut second = first.clone();
-/// assert_eq!(first.as_ptr(), second.as_ptr());
-/// assert_eq!(second.pop(), Some('s'));
-/// assert_eq!(first, "a text of more than 15 bytes");
-/// ```
-///
-/// It isn't `Sync`:
-///
-/// ```compile_fail,E0277
-/// fn shared<T: Sync>(_: &T) {}
-/// shared(&ecow_proved::EcoString::new());
-/// ```
-///
-/// A `str` that it lends doesn't outlive a change:
-///
-/// ```compile_fail,E0502
-/// let mut string = ecow_proved::EcoString::from("lent");
-/// let lent: &str = &string;
-/// string.push('!');
-/// assert_eq!(lent, "lent");
-/// ```
-pub struct EcoString {
-    pub(crate) raw: RawText,
-    threads: PhantomData<*const ()>,
-}
+/// Text of which at most 15 bytes stand in the value itself.
+pub type EcoString = SmallText<15>;
 
-impl EcoString {
-    /// How many bytes a string may have that takes no memory beside the value.
-    pub const INLINE_LIMIT: usize = 15;
-
-    /// An empty string.
+impl<const N: usize> SmallText<N> {
+    /// No text, inline. Asks for no memory.
+    #[inline]
     pub const fn new() -> Self {
-        Self {
-            raw: RawText::EMPTY,
-            threads: PhantomData,
-        }
+        Self::inline("")
     }
 
-    /// A string that takes no memory beside the value. It panics past [`Self::INLINE_LIMIT`].
+    /// A copy of a text of at most `N` bytes, inline. It panics where there are more.
+    #[inline]
     #[track_caller]
-    pub fn inline(string: &str) -> Self {
-        match Self::try_inline(string) {
-            Some(inline) => inline,
-            None => panic!("exceeded inline capacity"),
-        }
+    pub const fn inline(text: &str) -> Self {
+        assert!(text.len() <= N, "exceeded inline capacity");
+        SmallText(proved::SmallText { bytes: crate::bytes::laid_out(text.as_bytes()) })
     }
 
-    /// A string that takes no memory beside the value: none past [`Self::INLINE_LIMIT`].
-    pub fn try_inline(string: &str) -> Option<Self> {
-        (string.len() <= Self::INLINE_LIMIT).then(|| Self::from(string))
+    /// A copy of the text, inline: `None` where there are more than `N` bytes.
+    pub const fn try_inline(text: &str) -> Option<Self> {
+        if text.len() > N { None } else { Some(Self::inline(text)) }
     }
 
-    /// An empty string with room for `capacity` bytes.
-    #[track_caller]
-    pub fn with_capacity(capacity: usize) -> Self {
-        granted::<u8, _>(Self::try_with_capacity(capacity), || capacity)
+    /// A copy of the text: `Error::Memory` where there is none.
+    #[inline]
+    pub fn try_from_str(text: &str) -> Result<Self, Error> {
+        Ok(SmallText(proved::SmallText::from_str(Global, text)?))
     }
 
-    /// [`Self::with_capacity`], or `Error::Memory` or `Error::Capacity` where there is no such
-    /// room.
-    pub fn try_with_capacity(capacity: usize) -> Result<Self, Error> {
-        let mut string = Self::new();
-        string.try_reserve(capacity)?;
-        Ok(string)
+    /// What a value prints. `None` where it answers an error, or there is no memory.
+    pub fn try_format(value: impl Display) -> Option<Self> {
+        proved::SmallText::format(Global, value).ok().map(SmallText)
     }
 
-    /// A copy of a `str`: `Error::Memory` where there is none for it.
-    pub fn try_from_str(string: &str) -> Result<Self, Error> {
-        let mut copy = Self::new();
-        // SAFETY: a text lies at the first pointer, and `len` bytes at the second.
-        done(unsafe { sys::ecow_text_assign(&mut copy.raw, string.as_ptr(), string.len()) })?;
-        Ok(copy)
-    }
-
-    /// A clone, as [`Clone::clone`] makes it: `Error::Memory` where owners can't be counted.
-    pub fn try_clone(&self) -> Result<Self, Error> {
-        let mut clone = Self::new();
-        // SAFETY: texts lie at both pointers.
-        done(unsafe { sys::ecow_text_clone(&mut clone.raw, &self.raw) })?;
-        Ok(clone)
-    }
-
-    /// Whether there are no bytes.
-    pub fn is_empty(&self) -> bool {
-        self.len() == 0
-    }
-
-    /// How many bytes there are.
-    pub fn len(&self) -> usize {
-        // SAFETY: a text lies at the pointer.
-        unsafe { sys::ecow_text_len(&self.raw) }
-    }
-
-    /// Whether both stand in the same memory, and so are equal: not so where they are empty or
-    /// inline.
-    pub fn shares_with(&self, other: &Self) -> bool {
-        // SAFETY: texts lie at both pointers.
-        unsafe { sys::ecow_text_shares(&self.raw, &other.raw) }
-    }
-
-    /// Whether the bytes stand in the value itself.
-    pub fn is_inline(&self) -> bool {
-        if self.capacity() != Self::INLINE_LIMIT {
-            return false;
-        }
-        if self.is_empty() {
-            // A block may have room for 15 bytes too, and nothing says where no bytes stand. So a
-            // clone gets one, which takes no memory inline.
-            return self.try_clone().map_or(false, |mut clone| {
-                clone.try_push('x').is_ok() && clone.is_inline()
-            });
-        }
-        let place = self as *const Self as usize;
-        (self.as_ptr() as usize).wrapping_sub(place) < size_of::<Self>()
-    }
-
-    /// The string as a `str`.
+    /// The text.
+    #[inline]
     pub fn as_str(&self) -> &str {
-        let mut len = 0;
-        // SAFETY: a text lies at the first pointer, and a number at the second.
-        let start = unsafe { sys::ecow_text_slice(&self.raw, &mut len) };
-        // SAFETY: `len` bytes of UTF-8 stand there until the text is changed, dropped or moved. The
-        // borrow of `self` ends before that.
-        unsafe { std::str::from_utf8_unchecked(std::slice::from_raw_parts(start, len)) }
+        self.0.as_str()
+    }
+
+    /// The text, for writing. A spilled one that is shared is copied first.
+    pub fn make_mut(&mut self) -> &mut str {
+        granted(self.try_make_mut())
+    }
+
+    /// As `make_mut`: `Error::Memory` where the copy is refused.
+    pub fn try_make_mut(&mut self) -> Result<&mut str, Error> {
+        let bytes = self.0.bytes.make_mut()?;
+        Ok(text_mut(bytes))
     }
 
     /// Appends a character.
-    #[track_caller]
+    #[inline]
     pub fn push(&mut self, c: char) {
-        granted::<u8, _>(self.try_push(c), || self.len() + c.len_utf8())
+        granted(self.0.push(c))
     }
 
-    /// [`Self::push`], or `Error::Memory` where there is no room.
+    /// As `push`: `Error::Capacity`, `Error::Memory`.
+    #[inline]
     pub fn try_push(&mut self, c: char) -> Result<(), Error> {
-        // SAFETY: a text lies at the pointer.
-        done(unsafe { sys::ecow_text_push(&mut self.raw, c as u32) })
+        Ok(self.0.push(c)?)
     }
 
-    /// Takes the last character: none of an empty string.
-    #[track_caller]
+    /// Takes the last character: `None` where there is none.
     pub fn pop(&mut self) -> Option<char> {
-        granted::<u8, _>(self.try_pop(), || self.len())
+        granted(self.try_pop())
     }
 
-    /// [`Self::pop`], or `Error::Memory` where a shared string can't be copied.
+    /// As `pop`: `Error::Memory` where a shared text can't be copied.
     pub fn try_pop(&mut self) -> Result<Option<char>, Error> {
-        let mut character = 0;
-        // SAFETY: a text lies at the first pointer, and a number at the second.
-        match done(unsafe { sys::ecow_text_pop(&mut self.raw, &mut character) }) {
-            Ok(()) => Ok(char::from_u32(character)),
-            Err(Error::Index) => Ok(None),
-            Err(error) => Err(error),
-        }
+        Ok(self.0.pop()?)
     }
 
-    /// Appends a `str`.
-    #[track_caller]
-    pub fn push_str(&mut self, string: &str) {
-        granted::<u8, _>(self.try_push_str(string), || self.len() + string.len())
+    /// Appends a text.
+    #[inline]
+    pub fn push_str(&mut self, text: &str) {
+        granted(self.0.push_str(text))
     }
 
-    /// [`Self::push_str`], or `Error::Memory` where there is no room, and then nothing is appended.
-    pub fn try_push_str(&mut self, string: &str) -> Result<(), Error> {
-        // SAFETY: a text lies at the first pointer, and `len` bytes at the second.
-        done(unsafe { sys::ecow_text_extend(&mut self.raw, string.as_ptr(), string.len()) })
+    /// As `push_str`: all, or nothing with `Error::Capacity` or `Error::Memory`.
+    #[inline]
+    pub fn try_push_str(&mut self, text: &str) -> Result<(), Error> {
+        Ok(self.0.push_str(text)?)
     }
 
-    /// Puts a character in at `index`. It panics past the end and inside a character.
+    /// Puts a character in at `index`. It panics where that isn't the boundary of a character.
     #[track_caller]
     pub fn insert(&mut self, index: usize, c: char) {
-        self.insert_str(index, c.encode_utf8(&mut [0; 4]));
+        granted(self.try_insert(index, c))
     }
 
-    /// [`Self::insert`], or `Error::Index` past the end, `Error::Boundary` inside a character,
-    /// `Error::Memory` where there is no room.
+    /// As `insert`: `Error::Index` past the length, `Error::Boundary`, `Error::Capacity`, `Error::Memory`.
     pub fn try_insert(&mut self, index: usize, c: char) -> Result<(), Error> {
-        self.try_insert_str(index, c.encode_utf8(&mut [0; 4]))
+        self.at_boundary(index)?;
+        Ok(self.0.insert(index, c)?)
     }
 
-    /// Puts a `str` in at `index`. It panics past the end and inside a character.
+    /// Puts a text in at `index`. It panics where that isn't the boundary of a character.
     #[track_caller]
-    pub fn insert_str(&mut self, index: usize, string: &str) {
-        granted::<u8, _>(self.try_insert_str(index, string), || {
-            self.len() + string.len()
-        })
+    pub fn insert_str(&mut self, index: usize, text: &str) {
+        granted(self.try_insert_str(index, text))
     }
 
-    /// [`Self::insert_str`], or `Error::Index` past the end, `Error::Boundary` inside a character,
-    /// `Error::Memory` where there is no room.
-    pub fn try_insert_str(&mut self, index: usize, string: &str) -> Result<(), Error> {
-        let (bytes, count) = (string.as_ptr(), string.len());
-        // SAFETY: a text lies at the first pointer, and `count` bytes at the second.
-        done(unsafe { sys::ecow_text_insert(&mut self.raw, index, bytes, count) })
+    /// As `insert_str`: `Error::Index` past the length, `Error::Boundary`, `Error::Capacity`, `Error::Memory`.
+    pub fn try_insert_str(&mut self, index: usize, text: &str) -> Result<(), Error> {
+        self.at_boundary(index)?;
+        Ok(self.0.insert_str(index, text)?)
     }
 
-    /// Takes the character that begins at `index`. It panics from the end on, and inside a
-    /// character.
+    /// Takes the character at `index`. It panics where none begins there.
     #[track_caller]
     pub fn remove(&mut self, index: usize) -> char {
-        granted::<u8, _>(self.try_remove(index), || self.len())
+        granted(self.try_remove(index))
     }
 
-    /// [`Self::remove`], or `Error::Index` from the end on, `Error::Boundary` inside a character,
-    /// `Error::Memory` where a shared string can't be copied.
+    /// As `remove`: `Error::Index` from the length on, `Error::Boundary`, or `Error::Memory` where a shared text can't be
+    /// copied.
     pub fn try_remove(&mut self, index: usize) -> Result<char, Error> {
-        let mut character = 0;
-        // SAFETY: a text lies at the first pointer, and a number at the second.
-        done(unsafe { sys::ecow_text_remove(&mut self.raw, index, &mut character) })?;
-        Ok(char::from_u32(character).expect("a text has characters"))
+        if index >= self.len() {
+            return Err(Error::Index);
+        }
+        self.at_boundary(index)?;
+        Ok(self.0.remove(index)?)
     }
 
-    /// Puts a `str` in place of a range, as `String::replace_range` does. It panics where the range
-    /// passes the end, ends before it starts, or cuts a character.
+    /// Puts a text in place of that of a range. It panics where the range isn't in it, or ends inside a character. This
+    /// crate's own, with the signature of std's `String`.
     #[track_caller]
-    pub fn replace_range(&mut self, range: impl RangeBounds<usize>, with: &str) {
-        let range = indices_or_panic(&range, self.len());
-        granted::<u8, _>(self.try_replace_range(range, with), || {
-            self.len() + with.len()
-        })
+    pub fn replace_range(&mut self, range: impl RangeBounds<usize>, text: &str) {
+        let range = indices_or_panic(range, self.len());
+        granted(self.try_replace_range(range, text))
     }
 
-    /// [`Self::replace_range`], or `Error::Index` where the range passes the end or ends before it
-    /// starts, `Error::Boundary` where it cuts a character, `Error::Memory` where there is no room.
-    pub fn try_replace_range(
-        &mut self,
-        range: impl RangeBounds<usize>,
-        with: &str,
-    ) -> Result<(), Error> {
-        let range = indices(&range, self.len())?;
-        let (bytes, count) = (with.as_ptr(), with.len());
-        // SAFETY: a text lies at the first pointer, and `count` bytes at the second.
-        done(unsafe { sys::ecow_text_splice(&mut self.raw, range.start, range.end, bytes, count) })
+    /// As `replace_range`: `Error::Index` of another range, `Error::Boundary`, `Error::Capacity`, `Error::Memory`.
+    pub fn try_replace_range(&mut self, range: impl RangeBounds<usize>, text: &str) -> Result<(), Error> {
+        let range = indices(range, self.len())?;
+        self.at_boundary(range.start)?;
+        self.at_boundary(range.end)?;
+        Ok(self.0.replace_range(range, text)?)
     }
 
-    /// A string with `to` in place of each `pat`, from the left and without overlap. An empty `pat`
-    /// is found at each boundary.
-    #[track_caller]
+    /// The text with `to` in place of each `pat`.
     pub fn replace(&self, pat: &str, to: &str) -> Self {
-        granted::<u8, _>(self.try_replace(pat, to), || {
-            self.len()
-                .saturating_add(self.matches(pat).count().saturating_mul(to.len()))
-        })
+        granted(self.try_replace(pat, to))
     }
 
-    /// [`Self::replace`], or `Error::Memory` where there is none for it.
+    /// As `replace`: `Error::Capacity` past 2^63 - 1 bytes, `Error::Memory` where there is none.
     pub fn try_replace(&self, pat: &str, to: &str) -> Result<Self, Error> {
-        let mut replaced = self.try_clone()?;
-        let (from, count) = (pat.as_ptr(), pat.len());
-        // SAFETY: a text lies at the first pointer, and as many bytes as are said at the others.
-        done(unsafe {
-            sys::ecow_text_replace(&mut replaced.raw, from, count, to.as_ptr(), to.len())
-        })?;
-        Ok(replaced)
+        Ok(SmallText(self.0.replace(pat, to)?))
     }
 
-    /// A string with `to` in place of the first `count` of `pat`, as [`Self::replace`] finds them.
-    #[track_caller]
+    /// The text with `to` in place of the first `count` `pat`.
     pub fn replacen(&self, pat: &str, to: &str, count: usize) -> Self {
-        granted::<u8, _>(self.try_replacen(pat, to, count), || {
-            self.len().saturating_add(count.saturating_mul(to.len()))
-        })
+        granted(self.try_replacen(pat, to, count))
     }
 
-    /// [`Self::replacen`], or `Error::Memory` where there is none for it.
+    /// As `replacen`: `Error::Capacity` past 2^63 - 1 bytes, `Error::Memory` where there is none.
     pub fn try_replacen(&self, pat: &str, to: &str, count: usize) -> Result<Self, Error> {
-        let mut replaced = Self::new();
-        let mut rest = 0;
-        for (start, found) in self.match_indices(pat).take(count) {
-            replaced.try_push_str(&self[rest..start])?;
-            replaced.try_push_str(to)?;
-            rest = start + found.len();
+        Ok(SmallText(self.0.replacen(pat, to, count)?))
+    }
+
+    /// Keeps the first `target` bytes, or all where there are fewer. It panics where the text ends inside a character then.
+    #[track_caller]
+    pub fn truncate(&mut self, target: usize) {
+        granted(self.try_truncate(target))
+    }
+
+    /// As `truncate`: `Error::Boundary`, or `Error::Memory` where what stays of a shared text can't be copied.
+    pub fn try_truncate(&mut self, target: usize) -> Result<(), Error> {
+        if target < self.len() {
+            self.at_boundary(target)?;
         }
-        replaced.try_push_str(&self[rest..])?;
-        Ok(replaced)
+        Ok(self.0.truncate(target)?)
     }
 
-    /// Keeps nothing. Memory that no clone shares is kept for what comes.
-    #[track_caller]
-    pub fn clear(&mut self) {
-        granted::<u8, _>(self.try_clear(), || 0)
-    }
-
-    /// [`Self::clear`] as a `Result`; no refusal is known.
-    pub fn try_clear(&mut self) -> Result<(), Error> {
-        // SAFETY: a text lies at the pointer.
-        done(unsafe { sys::ecow_text_clear(&mut self.raw) })
-    }
-
-    /// Keeps the first `new_len` bytes, or all where there are fewer. It panics inside a character.
-    #[track_caller]
-    pub fn truncate(&mut self, new_len: usize) {
-        granted::<u8, _>(self.try_truncate(new_len), || new_len)
-    }
-
-    /// [`Self::truncate`], or `Error::Boundary` inside a character, `Error::Memory` where what
-    /// stays of a shared string can't be copied.
-    pub fn try_truncate(&mut self, new_len: usize) -> Result<(), Error> {
-        // SAFETY: a text lies at the pointer.
-        done(unsafe { sys::ecow_text_truncate(&mut self.raw, new_len) })
-    }
-
-    /// Makes room for `additional` more bytes, in memory that no clone shares.
-    #[track_caller]
-    pub fn reserve(&mut self, additional: usize) {
-        granted::<u8, _>(self.try_reserve(additional), || {
-            self.len().saturating_add(additional)
-        })
-    }
-
-    /// [`Self::reserve`], or `Error::Memory` or `Error::Capacity` where there is no such room.
-    pub fn try_reserve(&mut self, additional: usize) -> Result<(), Error> {
-        // SAFETY: a text lies at the pointer.
-        done(unsafe { sys::ecow_text_reserve(&mut self.raw, additional) })
-    }
-
-    /// How many bytes there is room for: 15 where they stand in the value.
-    pub fn capacity(&self) -> usize {
-        // SAFETY: a text lies at the pointer.
-        unsafe { sys::ecow_text_capacity(&self.raw) }
-    }
-
-    /// Brings at most 15 bytes back into the value, and gives their memory up. More stay where they
-    /// are, with their room.
-    #[track_caller]
-    pub fn shrink_to_fit(&mut self) {
-        granted::<u8, _>(self.try_shrink_to_fit(), || self.len())
-    }
-
-    /// [`Self::shrink_to_fit`] as a `Result`; no refusal is known.
-    pub fn try_shrink_to_fit(&mut self) -> Result<(), Error> {
-        // SAFETY: a text lies at the pointer.
-        done(unsafe { sys::ecow_text_shrink_to_fit(&mut self.raw) })
-    }
-
-    /// The string in lower case, by Unicode.
-    #[track_caller]
+    /// The text in lower case, as `str` has it.
     pub fn to_lowercase(&self) -> Self {
-        granted::<u8, _>(self.try_to_lowercase(), || self.len())
+        SmallText(granted(self.0.to_lowercase()))
     }
 
-    /// [`Self::to_lowercase`], or `Error::Memory` where there is none for it.
-    pub fn try_to_lowercase(&self) -> Result<Self, Error> {
-        let mut lower = self.try_clone()?;
-        // SAFETY: a text lies at the pointer.
-        done(unsafe { sys::ecow_text_to_lowercase(&mut lower.raw) })?;
-        Ok(lower)
-    }
-
-    /// The string in upper case, by Unicode.
-    #[track_caller]
+    /// The text in upper case, as `str` has it.
     pub fn to_uppercase(&self) -> Self {
-        granted::<u8, _>(self.try_to_uppercase(), || self.len())
+        SmallText(granted(self.0.to_uppercase()))
     }
 
-    /// [`Self::to_uppercase`], or `Error::Memory` where there is none for it.
-    pub fn try_to_uppercase(&self) -> Result<Self, Error> {
-        let mut upper = self.try_clone()?;
-        // SAFETY: a text lies at the pointer.
-        done(unsafe { sys::ecow_text_to_uppercase(&mut upper.raw) })?;
-        Ok(upper)
-    }
-
-    /// The string with its ASCII letters in lower case. It is inline where this one is.
-    #[track_caller]
+    /// The text with the letters `A` to `Z` in lower case.
     pub fn to_ascii_lowercase(&self) -> Self {
-        granted::<u8, _>(self.try_to_ascii_lowercase(), || self.len())
+        SmallText(granted(self.0.to_ascii_lowercase()))
     }
 
-    /// [`Self::to_ascii_lowercase`], or `Error::Memory` where there is none for it.
-    pub fn try_to_ascii_lowercase(&self) -> Result<Self, Error> {
-        self.try_map(|c| c.to_ascii_lowercase())
-    }
-
-    /// The string with its ASCII letters in upper case. It is inline where this one is.
-    #[track_caller]
+    /// The text with the letters `a` to `z` in upper case.
     pub fn to_ascii_uppercase(&self) -> Self {
-        granted::<u8, _>(self.try_to_ascii_uppercase(), || self.len())
+        SmallText(granted(self.0.to_ascii_uppercase()))
     }
 
-    /// [`Self::to_ascii_uppercase`], or `Error::Memory` where there is none for it.
-    pub fn try_to_ascii_uppercase(&self) -> Result<Self, Error> {
-        self.try_map(|c| c.to_ascii_uppercase())
-    }
-
-    /// A string of the characters that `map` answers, which are as long. It is inline where this
-    /// one is.
-    fn try_map(&self, map: impl Fn(char) -> char) -> Result<Self, Error> {
-        let mut mapped = Self::new();
-        if !self.is_inline() {
-            mapped.try_reserve(self.len().max(Self::INLINE_LIMIT + 1))?;
-        }
-        for c in self.chars() {
-            mapped.try_push(map(c))?;
-        }
-        Ok(mapped)
-    }
-
-    /// The string, `n` times.
-    #[track_caller]
+    /// The text `n` times over. It panics where that is more than memory can hold.
     pub fn repeat(&self, n: usize) -> Self {
-        granted::<u8, _>(self.try_repeat(n), || self.len().saturating_mul(n))
+        granted(self.try_repeat(n))
     }
 
-    /// [`Self::repeat`], or `Error::Memory` or `Error::Capacity` where there is none for it.
+    /// As `repeat`: `Error::Capacity` past 2^63 - 1 bytes, `Error::Memory` where there is none.
     pub fn try_repeat(&self, n: usize) -> Result<Self, Error> {
-        let mut repeated = self.try_clone()?;
-        // SAFETY: a text lies at the pointer.
-        done(unsafe { sys::ecow_text_repeat(&mut repeated.raw, n) })?;
-        Ok(repeated)
+        Ok(SmallText(proved::SmallText { bytes: crate::bytes::repeated(&self.0.bytes, n)? }))
+    }
+
+    /// The bytes in a vector: that of a spilled text as it is. A refusal hands an inline one back, with `Error::Memory`.
+    pub fn try_into_eco_vec(self) -> Result<EcoVec<u8>, Rejected<Self>> {
+        self.0.into_eco_vec().map(EcoVec).map_err(|rejected| Rejected::of(rejected, SmallText))
+    }
+
+    /// `Error::Index` past the length, `Error::Boundary` inside a character.
+    #[inline]
+    fn at_boundary(&self, index: usize) -> Result<(), Error> {
+        if self.0.is_char_boundary(index) {
+            return Ok(());
+        }
+        Err(if index > self.len() { Error::Index } else { Error::Boundary })
     }
 }
 
-impl Drop for EcoString {
-    fn drop(&mut self) {
-        // SAFETY: a text lies at the pointer.
-        unsafe { sys::ecow_text_drop(&mut self.raw) }
-    }
-}
+small!(SmallText, str, as_str, try_from_str);
 
-impl Clone for EcoString {
-    /// A string that shares this one's memory. It takes the same time however long the string is.
-    fn clone(&self) -> Self {
-        granted::<u8, _>(self.try_clone(), || self.len())
-    }
-}
-
-impl Deref for EcoString {
-    type Target = str;
-
-    fn deref(&self) -> &str {
-        self.as_str()
-    }
-}
-
-impl Default for EcoString {
-    fn default() -> Self {
-        Self::new()
-    }
-}
-
-impl Debug for EcoString {
+impl<const N: usize> Display for SmallText<N> {
     fn fmt(&self, f: &mut fmt::Formatter<'_>) -> fmt::Result {
-        Debug::fmt(self.as_str(), f)
+        Display::fmt(&self.0, f)
     }
 }
 
-impl Display for EcoString {
-    fn fmt(&self, f: &mut fmt::Formatter<'_>) -> fmt::Result {
-        Display::fmt(self.as_str(), f)
-    }
+equal_to! {
+    [const N: usize] SmallText<N>, str;
+    [const N: usize] SmallText<N>, &str;
+    [const N: usize] SmallText<N>, String;
+    [const N: usize] str, SmallText<N>;
+    [const N: usize] &str, SmallText<N>;
+    [const N: usize] String, SmallText<N>;
 }
 
-impl Eq for EcoString {}
-
-impl PartialEq for EcoString {
-    fn eq(&self, other: &Self) -> bool {
-        // SAFETY: texts lie at both pointers.
-        unsafe { sys::ecow_text_equal(&self.raw, &other.raw) }
-    }
-}
-
-impl PartialEq<str> for EcoString {
-    fn eq(&self, other: &str) -> bool {
-        self.as_str() == other
-    }
-}
-
-impl PartialEq<&str> for EcoString {
-    fn eq(&self, other: &&str) -> bool {
-        self.as_str() == *other
-    }
-}
-
-impl PartialEq<String> for EcoString {
-    fn eq(&self, other: &String) -> bool {
-        self.as_str() == other
-    }
-}
-
-impl PartialEq<EcoString> for str {
-    fn eq(&self, other: &EcoString) -> bool {
-        self == other.as_str()
-    }
-}
-
-impl PartialEq<EcoString> for &str {
-    fn eq(&self, other: &EcoString) -> bool {
-        *self == other.as_str()
-    }
-}
-
-impl PartialEq<EcoString> for String {
-    fn eq(&self, other: &EcoString) -> bool {
-        self == other.as_str()
-    }
-}
-
-impl Ord for EcoString {
-    fn cmp(&self, other: &Self) -> Ordering {
-        // SAFETY: texts lie at both pointers.
-        unsafe { sys::ecow_text_compare(&self.raw, &other.raw) }.cmp(&0)
-    }
-}
-
-impl PartialOrd for EcoString {
-    fn partial_cmp(&self, other: &Self) -> Option<Ordering> {
-        Some(self.cmp(other))
-    }
-}
-
-impl Hash for EcoString {
-    fn hash<H: Hasher>(&self, state: &mut H) {
-        self.as_str().hash(state);
-    }
-}
-
-impl Write for EcoString {
-    fn write_str(&mut self, string: &str) -> fmt::Result {
-        self.push_str(string);
-        Ok(())
-    }
-
-    fn write_char(&mut self, c: char) -> fmt::Result {
-        self.push(c);
+impl<const N: usize> Write for SmallText<N> {
+    #[inline]
+    fn write_str(&mut self, text: &str) -> fmt::Result {
+        self.push_str(text);
         Ok(())
     }
 }
 
-impl Add for EcoString {
+impl<const N: usize> Add for SmallText<N> {
     type Output = Self;
 
-    fn add(mut self, other: Self) -> Self {
-        self.push_str(&other);
-        self
+    fn add(self, other: Self) -> Self {
+        self + other.as_str()
     }
 }
 
-impl Add<&str> for EcoString {
+impl<const N: usize> Add<&str> for SmallText<N> {
     type Output = Self;
 
-    fn add(mut self, other: &str) -> Self {
-        self.push_str(other);
-        self
+    fn add(self, text: &str) -> Self {
+        SmallText(granted(self.0.add(text)))
     }
 }
 
-impl AddAssign for EcoString {
+impl<const N: usize> AddAssign for SmallText<N> {
     fn add_assign(&mut self, other: Self) {
-        self.push_str(&other);
+        self.push_str(other.as_str())
     }
 }
 
-impl AddAssign<&str> for EcoString {
-    fn add_assign(&mut self, other: &str) {
-        self.push_str(other);
+impl<const N: usize> AddAssign<&str> for SmallText<N> {
+    fn add_assign(&mut self, text: &str) {
+        self.push_str(text)
     }
 }
 
-impl AsRef<str> for EcoString {
-    fn as_ref(&self) -> &str {
-        self
-    }
+macro_rules! as_ref {
+    ($($type:ty)*) => { $(
+        impl<const N: usize> AsRef<$type> for SmallText<N> {
+            #[inline]
+            fn as_ref(&self) -> &$type {
+                self.as_str().as_ref()
+            }
+        }
+    )* };
+}
+as_ref! { [u8] }
+#[cfg(feature = "std")]
+as_ref! { std::ffi::OsStr std::path::Path }
+
+// A spilled text passes its block on.
+from! {
+    [const N: usize] char => SmallText<N>: |c| SmallText(granted(proved::SmallText::from_char(Global, c)));
+    [const N: usize] String => SmallText<N>: |text| Self::from(&text[..]);
+    [const N: usize] &String => SmallText<N>: |text| Self::from(&text[..]);
+    [const N: usize] Cow<'_, str> => SmallText<N>: |text| Self::from(&text[..]);
+    [const N: usize] SmallText<N> => String: |text| text.as_str().into();
+    [const N: usize] &SmallText<N> => String: |text| text.as_str().into();
+    [const N: usize] SmallText<N> => SmallBytes<N>: |text| SmallBytes(text.0.into());
+    [const N: usize] SmallText<N> => EcoVec<u8>: |text| granted(text.try_into_eco_vec());
 }
 
-impl Borrow<str> for EcoString {
-    fn borrow(&self) -> &str {
-        self
-    }
-}
-
-impl AsRef<[u8]> for EcoString {
-    fn as_ref(&self) -> &[u8] {
-        self.as_bytes()
-    }
-}
-
-impl AsRef<OsStr> for EcoString {
-    fn as_ref(&self) -> &OsStr {
-        self.as_str().as_ref()
-    }
-}
-
-impl AsRef<Path> for EcoString {
-    fn as_ref(&self) -> &Path {
-        self.as_str().as_ref()
-    }
-}
-
-impl From<char> for EcoString {
-    fn from(c: char) -> Self {
-        Self::from(&*c.encode_utf8(&mut [0; 4]))
-    }
-}
-
-impl From<&str> for EcoString {
-    fn from(string: &str) -> Self {
-        granted::<u8, _>(Self::try_from_str(string), || string.len())
-    }
-}
-
-impl From<String> for EcoString {
-    fn from(string: String) -> Self {
-        Self::from(string.as_str())
-    }
-}
-
-impl From<&String> for EcoString {
-    fn from(string: &String) -> Self {
-        Self::from(string.as_str())
-    }
-}
-
-impl From<&EcoString> for EcoString {
-    fn from(string: &EcoString) -> Self {
-        string.clone()
-    }
-}
-
-impl From<Cow<'_, str>> for EcoString {
-    fn from(string: Cow<'_, str>) -> Self {
-        Self::from(&*string)
-    }
-}
-
-impl From<EcoString> for String {
-    fn from(string: EcoString) -> Self {
-        string.as_str().into()
-    }
-}
-
-impl From<&EcoString> for String {
-    fn from(string: &EcoString) -> Self {
-        string.as_str().into()
-    }
-}
-
-impl From<EcoString> for EcoBytes {
-    /// The bytes of the string, which are copied.
-    fn from(string: EcoString) -> Self {
-        Self::from(string.as_bytes())
-    }
-}
-
-impl TryFrom<EcoBytes> for EcoString {
+impl<const N: usize> TryFrom<SmallBytes<N>> for SmallText<N> {
     type Error = Utf8Error;
 
-    /// The string that the bytes spell, which are copied: an error where they aren't UTF-8.
-    fn try_from(bytes: EcoBytes) -> Result<Self, Utf8Error> {
-        std::str::from_utf8(&bytes).map(Self::from)
+    /// The text of bytes that are UTF-8, where they stand.
+    fn try_from(bytes: SmallBytes<N>) -> Result<Self, Utf8Error> {
+        proved::SmallText::try_from(bytes.0).map(SmallText)
     }
 }
 
-impl FromIterator<char> for EcoString {
-    fn from_iter<I: IntoIterator<Item = char>>(characters: I) -> Self {
-        let mut string = Self::new();
-        string.extend(characters);
-        string
+impl<const N: usize> TryFrom<EcoVec<u8>> for SmallText<N> {
+    type Error = Utf8Error;
+
+    /// The text of bytes that are UTF-8, in the vector's block.
+    fn try_from(vec: EcoVec<u8>) -> Result<Self, Utf8Error> {
+        proved::SmallText::try_from(vec.0).map(SmallText)
     }
 }
 
-impl<'a> FromIterator<&'a str> for EcoString {
-    fn from_iter<I: IntoIterator<Item = &'a str>>(pieces: I) -> Self {
-        let mut string = Self::new();
-        string.extend(pieces);
-        string
+impl<const N: usize> FromStr for SmallText<N> {
+    type Err = core::convert::Infallible;
+
+    fn from_str(text: &str) -> Result<Self, Self::Err> {
+        Ok(Self::from(text))
     }
 }
 
-impl FromIterator<Self> for EcoString {
-    fn from_iter<I: IntoIterator<Item = Self>>(pieces: I) -> Self {
-        pieces.into_iter().fold(Self::new(), Self::add)
+impl<const N: usize> FromIterator<char> for SmallText<N> {
+    fn from_iter<I: IntoIterator<Item = char>>(iter: I) -> Self {
+        SmallText(granted(proved::SmallText::from_chars(Global, iter)))
     }
 }
 
-impl Extend<char> for EcoString {
-    fn extend<I: IntoIterator<Item = char>>(&mut self, characters: I) {
-        characters.into_iter().for_each(|c| self.push(c));
+impl<'a, const N: usize> FromIterator<&'a str> for SmallText<N> {
+    fn from_iter<I: IntoIterator<Item = &'a str>>(iter: I) -> Self {
+        SmallText(granted(proved::SmallText::from_strs(Global, iter)))
     }
 }
 
-impl<'a> Extend<&'a str> for EcoString {
-    fn extend<I: IntoIterator<Item = &'a str>>(&mut self, pieces: I) {
-        pieces.into_iter().for_each(|piece| self.push_str(piece));
+impl<const N: usize> FromIterator<SmallText<N>> for SmallText<N> {
+    fn from_iter<I: IntoIterator<Item = SmallText<N>>>(iter: I) -> Self {
+        SmallText(granted(proved::SmallText::from_eco_strings(Global, iter.into_iter().map(|text| text.0))))
     }
 }
 
-impl FromStr for EcoString {
-    type Err = Infallible;
-
-    fn from_str(string: &str) -> Result<Self, Infallible> {
-        Ok(Self::from(string))
+impl<const N: usize> Extend<char> for SmallText<N> {
+    fn extend<I: IntoIterator<Item = char>>(&mut self, iter: I) {
+        granted(self.0.extend_chars(iter))
     }
 }
 
-/// Makes an [`EcoString`] of what `Display` prints.
+impl<'a, const N: usize> Extend<&'a str> for SmallText<N> {
+    fn extend<I: IntoIterator<Item = &'a str>>(&mut self, iter: I) {
+        granted(self.0.extend_strs(iter))
+    }
+}
+
+/// Texts of what values print.
 pub trait ToEcoString {
-    /// What `Display` prints, as an [`EcoString`].
+    /// The text that the value prints. It panics where the value answers an error, or memory is refused.
     fn to_eco_string(&self) -> EcoString;
 }
 
 impl<T: Display + ?Sized> ToEcoString for T {
     fn to_eco_string(&self) -> EcoString {
-        eco_format!("{self}")
+        format(format_args!("{self}"))
     }
+}
+
+/// What `eco_format!` makes. It panics where a value answers an error.
+pub fn format(args: fmt::Arguments<'_>) -> EcoString {
+    let mut text = EcoString::new();
+    text.write_fmt(args).expect("a formatting trait implementation returned an error");
+    text
 }

@@ -1,31 +1,15 @@
 //! Nested values whose clones share memory part by part.
 
-use std::fmt::{self, Debug};
-use std::marker::PhantomData;
-use std::ops::Range;
+use crate::error::Error;
+use crate::proved::ecow_nested as proved;
+use crate::shim::alloc::Global;
+use crate::shim::granted;
+use crate::string::{EcoString, SmallText};
+use alloc::string::String;
+use alloc::vec::Vec;
+use core::fmt::{self, Debug};
 
-use crate::error::{done, granted, Error};
-use crate::string::EcoString;
-use crate::sys::{self, RawValue, Status};
-
-/// What a [`Value`] is.
-#[derive(Clone, Copy, Debug, PartialEq, Eq, Hash)]
-pub enum Kind {
-    /// Nothing.
-    Nothing,
-    /// A truth value.
-    Truth,
-    /// An `i64`.
-    Number,
-    /// An `f64`.
-    Real,
-    /// A text.
-    Text,
-    /// A list of values.
-    List,
-    /// Values by name, in order.
-    Fields,
-}
+pub use proved::Kind;
 
 /// A step into a value: to an item by its index, or to a field by its name.
 #[derive(Clone, Copy, Debug, PartialEq, Eq, Hash)]
@@ -50,12 +34,12 @@ impl<'a> From<&'a str> for Step<'a> {
 
 /// Nothing, a truth value, a number, a text, a list of values, or fields by name in order.
 ///
-/// It takes 24 bytes. Parts go in and out as clones, which share memory: a change of what lies deep
-/// copies the lists on the way that are shared, and what lies beside the way stays shared. A value
-/// is dropped by recursion, so the stack bounds how deep one may be.
+/// It takes 16 bytes. Parts go in and out as clones, which share memory: a change of what lies deep copies the lists on the
+/// way that are shared, and what lies beside the way stays shared. A value is dropped by recursion, so the stack bounds how
+/// deep one may be.
 ///
 /// ```
-/// use ecow_proved::{Error, Kind, Value};
+/// use ecow::{Error, Kind, Value};
 ///
 /// # fn main() -> Result<(), Error> {
 /// let mut first = Value::new_fields();
@@ -73,111 +57,52 @@ impl<'a> From<&'a str> for Step<'a> {
 /// # Ok(())
 /// # }
 /// ```
-///
-/// It isn't `Sync`:
-///
-/// ```compile_fail,E0277
-/// fn shared<T: Sync>(_: &T) {}
-/// shared(&ecow_proved::Value::new());
-/// ```
-pub struct Value {
-    raw: RawValue,
-    threads: PhantomData<*const ()>,
-}
+pub struct Value(proved::Value);
 
 impl Value {
     /// Nothing.
     pub const fn new() -> Self {
-        Self {
-            raw: RawValue::EMPTY,
-            threads: PhantomData,
-        }
+        Value(proved::Value::Nothing)
     }
 
     /// A list of no items.
-    pub fn new_list() -> Self {
-        // SAFETY: a value lies at the pointer.
-        Self::made(|raw| unsafe { sys::ecow_value_set_list(raw) })
+    pub const fn new_list() -> Self {
+        Value(proved::Value::List(crate::proved::ecow_list::EcoVec::new(Global)))
     }
 
     /// A value with no fields.
-    pub fn new_fields() -> Self {
-        // SAFETY: a value lies at the pointer.
-        Self::made(|raw| unsafe { sys::ecow_value_set_fields(raw) })
+    pub const fn new_fields() -> Self {
+        Value(proved::Value::Fields(crate::proved::ecow_list::EcoVec::new(Global)))
     }
 
-    /// What a call makes of nothing. No call that makes a value asks for memory.
-    fn made(make: impl FnOnce(&mut RawValue) -> Status) -> Self {
-        let mut value = Self::new();
-        granted::<Self, _>(done(make(&mut value.raw)), || 1);
-        value
-    }
-
-    /// What a call makes of a part of this value.
-    fn part(&self, make: impl FnOnce(&RawValue, &mut RawValue) -> Status) -> Result<Self, Error> {
-        let mut part = Self::new();
-        done(make(&self.raw, &mut part.raw))?;
-        Ok(part)
-    }
-
-    /// A clone, as [`Clone::clone`] makes it: `Error::Memory` where owners can't be counted.
+    /// A clone, as [`Clone::clone`] makes it: `Error::Memory` past 2^63 - 1 owners.
     pub fn try_clone(&self) -> Result<Self, Error> {
-        // SAFETY: values lie at both pointers.
-        self.part(|value, clone| unsafe { sys::ecow_value_clone(clone, value) })
-    }
-
-    /// Whether both are of one kind and their text, items or fields stand in the same memory, and so
-    /// are equal: not so where these are empty or inline.
-    pub fn shares_with(&self, other: &Self) -> bool {
-        // SAFETY: values lie at both pointers.
-        unsafe { sys::ecow_value_shares(&self.raw, &other.raw) }
+        Ok(Value(self.0.try_clone()?))
     }
 
     /// What the value is.
     pub fn kind(&self) -> Kind {
-        // SAFETY: a value lies at the pointer.
-        match unsafe { sys::ecow_value_kind(&self.raw) } {
-            sys::KIND_NOTHING => Kind::Nothing,
-            sys::KIND_TRUTH => Kind::Truth,
-            sys::KIND_NUMBER => Kind::Number,
-            sys::KIND_REAL => Kind::Real,
-            sys::KIND_TEXT => Kind::Text,
-            sys::KIND_LIST => Kind::List,
-            sys::KIND_FIELDS => Kind::Fields,
-            other => unreachable!("no kind has the number {other}"),
-        }
+        self.0.kind()
     }
 
     /// The truth value: `Error::Kind` of another kind.
     pub fn truth(&self) -> Result<bool, Error> {
-        let mut truth = false;
-        // SAFETY: a value lies at the first pointer, and a truth value at the second.
-        done(unsafe { sys::ecow_value_truth(&self.raw, &mut truth) })?;
-        Ok(truth)
+        self.0.truth().ok_or(Error::Kind)
     }
 
     /// The number: `Error::Kind` of another kind.
     pub fn number(&self) -> Result<i64, Error> {
-        let mut number = 0;
-        // SAFETY: a value lies at the first pointer, and a number at the second.
-        done(unsafe { sys::ecow_value_number(&self.raw, &mut number) })?;
-        Ok(number)
+        self.0.number().ok_or(Error::Kind)
     }
 
     /// The floating-point number: `Error::Kind` of another kind.
     pub fn real(&self) -> Result<f64, Error> {
-        let mut real = 0.0;
-        // SAFETY: a value lies at the first pointer, and a number at the second.
-        done(unsafe { sys::ecow_value_real(&self.raw, &mut real) })?;
-        Ok(real)
+        self.0.real().ok_or(Error::Kind)
     }
 
     /// A clone of the text: `Error::Kind` of another kind.
     pub fn text(&self) -> Result<EcoString, Error> {
-        let mut text = EcoString::new();
-        // SAFETY: a value lies at the first pointer, and a text at the second.
-        done(unsafe { sys::ecow_value_text(&self.raw, &mut text.raw) })?;
-        Ok(text)
+        self.0.text().cloned().map(SmallText).ok_or(Error::Kind)
     }
 
     /// Whether it has no items and no fields.
@@ -187,129 +112,95 @@ impl Value {
 
     /// How many items a list has, or how many fields there are: 0 of another kind.
     pub fn len(&self) -> usize {
-        // SAFETY: a value lies at the pointer.
-        unsafe { sys::ecow_value_len(&self.raw) }
+        self.0.len().unwrap_or(0)
     }
 
-    /// A clone of the item of a list, or of a field's value, at `index`: `Error::Kind` of another
-    /// kind, `Error::Index` from the end on.
+    /// A clone of the item of a list, or of a field's value, at `index`: `Error::Kind` of another kind, `Error::Index` from
+    /// the end on.
     pub fn get(&self, index: usize) -> Result<Self, Error> {
-        // SAFETY: values lie at both pointers.
-        self.part(|value, item| unsafe { sys::ecow_value_get(value, index, item) })
+        Ok(Value(self.0.part(index)?.clone()))
     }
 
-    /// Puts an item in place of the one at `index` of a list: `Error::Kind` of another kind,
-    /// `Error::Index` from the end on, `Error::Memory` where a shared list can't be copied.
+    /// Puts an item in place of the one at `index` of a list: `Error::Kind` of another kind, `Error::Index` from the end on,
+    /// `Error::Memory` where a shared list can't be copied.
     pub fn set(&mut self, index: usize, item: impl Into<Self>) -> Result<(), Error> {
-        let item = item.into();
-        // SAFETY: values lie at both pointers.
-        done(unsafe { sys::ecow_value_set(&mut self.raw, index, &item.raw) })
+        Ok(self.0.set(index, item.into().0)?)
     }
 
-    /// Appends an item to a list: `Error::Kind` of another kind, `Error::Memory` where there is no
-    /// room.
+    /// Appends an item to a list: `Error::Kind` of another kind, `Error::Memory` where there is no room.
     pub fn push(&mut self, item: impl Into<Self>) -> Result<(), Error> {
-        let item = item.into();
-        // SAFETY: values lie at both pointers.
-        done(unsafe { sys::ecow_value_push(&mut self.raw, &item.raw) })
+        Ok(self.0.push(item.into().0)?)
     }
 
-    /// Takes the last item of a list: `Error::Kind` of another kind, `Error::Index` where there is
-    /// none, `Error::Memory` where a shared list can't be copied.
+    /// Takes the last item of a list: `Error::Kind` of another kind, `Error::Index` where there is none, `Error::Memory`
+    /// where a shared list can't be copied.
     pub fn pop(&mut self) -> Result<Self, Error> {
-        let mut item = Self::new();
-        // SAFETY: values lie at both pointers.
-        done(unsafe { sys::ecow_value_pop(&mut self.raw, &mut item.raw) })?;
-        Ok(item)
+        Ok(Value(self.0.pop()?))
     }
 
-    /// Puts an item in at `index` of a list: `Error::Kind` of another kind, `Error::Index` past the
-    /// end, `Error::Memory` where there is no room.
+    /// Puts an item in at `index` of a list: `Error::Kind` of another kind, `Error::Index` past the end, `Error::Memory`
+    /// where there is no room.
     pub fn insert(&mut self, index: usize, item: impl Into<Self>) -> Result<(), Error> {
-        let item = item.into();
-        // SAFETY: values lie at both pointers.
-        done(unsafe { sys::ecow_value_insert(&mut self.raw, index, &item.raw) })
+        Ok(self.0.insert(index, item.into().0)?)
     }
 
-    /// Takes the item at `index` of a list: `Error::Kind` of another kind, `Error::Index` from the
-    /// end on, `Error::Memory` where a shared list can't be copied.
+    /// Takes the item at `index` of a list: `Error::Kind` of another kind, `Error::Index` from the end on, `Error::Memory`
+    /// where a shared list can't be copied.
     pub fn remove(&mut self, index: usize) -> Result<Self, Error> {
-        let mut item = Self::new();
-        // SAFETY: values lie at both pointers.
-        done(unsafe { sys::ecow_value_remove(&mut self.raw, index, &mut item.raw) })?;
-        Ok(item)
+        Ok(Value(self.0.remove(index)?))
     }
 
-    /// Keeps the first `len` items of a list, or all where there are fewer: `Error::Kind` of
-    /// another kind, `Error::Memory` where what stays of a shared list can't be copied.
+    /// Keeps the first `len` items of a list, or all where there are fewer: `Error::Kind` of another kind, `Error::Memory`
+    /// where what stays of a shared list can't be copied.
     pub fn truncate(&mut self, len: usize) -> Result<(), Error> {
-        // SAFETY: a value lies at the pointer.
-        done(unsafe { sys::ecow_value_truncate(&mut self.raw, len) })
+        Ok(self.0.truncate(len)?)
     }
 
-    /// A clone of the value of the field of that name: `Error::Kind` of another kind,
-    /// `Error::Index` where there is none.
+    /// A clone of the value of the field of that name: `Error::Kind` of another kind, `Error::Index` where there is none.
     pub fn get_field(&self, name: &str) -> Result<Self, Error> {
-        let (bytes, count) = (name.as_ptr(), name.len());
-        // SAFETY: values lie at two pointers, and `count` bytes at the other.
-        self.part(|value, item| unsafe { sys::ecow_value_get_field(value, bytes, count, item) })
+        Ok(Value(self.0.field(name)?.clone()))
     }
 
-    /// Puts a value in place of that of the field of that name, or appends a field where there is
-    /// none: `Error::Kind` of another kind, `Error::Memory` where there is no room.
+    /// Puts a value in place of that of the field of that name, or appends a field where there is none: `Error::Kind` of
+    /// another kind, `Error::Memory` where there is no room.
     pub fn set_field(&mut self, name: &str, item: impl Into<Self>) -> Result<(), Error> {
-        let (item, bytes, count) = (item.into(), name.as_ptr(), name.len());
-        // SAFETY: values lie at two pointers, and `count` bytes at the other.
-        done(unsafe { sys::ecow_value_set_field(&mut self.raw, bytes, count, &item.raw) })
+        Ok(self.0.set_field(name, item.into().0)?)
     }
 
-    /// Takes the field of that name, and answers its value: `Error::Kind` of another kind,
-    /// `Error::Index` where there is none, `Error::Memory` where shared fields can't be copied.
+    /// Takes the field of that name, and answers its value: `Error::Kind` of another kind, `Error::Index` where there is
+    /// none, `Error::Memory` where shared fields can't be copied.
     pub fn remove_field(&mut self, name: &str) -> Result<Self, Error> {
-        let (mut item, bytes, count) = (Self::new(), name.as_ptr(), name.len());
-        // SAFETY: values lie at two pointers, and `count` bytes at the other.
-        done(unsafe { sys::ecow_value_remove_field(&mut self.raw, bytes, count, &mut item.raw) })?;
-        Ok(item)
+        Ok(Value(self.0.remove_field(name)?))
     }
 
-    /// A clone of the name of the field at `index`: `Error::Kind` of another kind, `Error::Index`
-    /// from the end on.
+    /// A clone of the name of the field at `index`: `Error::Kind` of another kind, `Error::Index` from the end on.
     pub fn field_name(&self, index: usize) -> Result<EcoString, Error> {
-        let mut name = EcoString::new();
-        // SAFETY: a value lies at the first pointer, and a text at the second.
-        done(unsafe { sys::ecow_value_field_name(&self.raw, index, &mut name.raw) })?;
-        Ok(name)
+        Ok(SmallText(self.0.name(index)?.clone()))
     }
 
     /// Clones of the items of a list, or of the fields' values, in order: none of another kind.
-    pub fn items(&self) -> Items<'_> {
-        Items {
-            value: self,
-            left: 0..self.len(),
-        }
+    pub fn items(&self) -> impl DoubleEndedIterator<Item = Value> + ExactSizeIterator + Clone + '_ {
+        (0..self.len()).map(|index| granted(self.get(index)))
     }
 
     /// Clones of the fields' names and values, in order: none of another kind.
     pub fn fields(&self) -> impl Iterator<Item = (EcoString, Value)> + '_ {
-        self.items()
-            .enumerate()
-            .filter_map(|(index, item)| Some((self.field_name(index).ok()?, item)))
+        self.items().enumerate().filter_map(|(index, item)| Some((self.field_name(index).ok()?, item)))
     }
 
-    /// A clone of what lies at the end of a path, which is the value itself where there are no
-    /// steps: `Error::Kind` and `Error::Index` of a step that leads nowhere.
+    /// A clone of what lies at the end of a path, which is the value itself where there are no steps: `Error::Kind` and
+    /// `Error::Index` of a step that leads nowhere.
     pub fn get_path(&self, path: &[Step<'_>]) -> Result<Self, Error> {
-        path.iter()
-            .try_fold(self.try_clone()?, |value, &step| value.at(step))
+        path.iter().try_fold(self.try_clone()?, |value, &step| value.at(step))
     }
 
-    /// Puts a value in place of what lies at the end of a path, or appends a field where the last
-    /// step names none: `Error::Kind` and `Error::Index` of a step that leads nowhere,
-    /// `Error::Memory` where a shared list on the way can't be copied.
+    /// Puts a value in place of what lies at the end of a path, or appends a field where the last step names none:
+    /// `Error::Kind` and `Error::Index` of a step that leads nowhere, `Error::Memory` where a shared list on the way can't
+    /// be copied.
     pub fn set_path(&mut self, path: &[Step<'_>], item: impl Into<Self>) -> Result<(), Error> {
         let item = item.into();
         match path.split_last() {
-            Some((&last, way)) => self.update_path(way, |value| value.put(last, &item)),
+            Some((&last, way)) => self.update_path(way, |value| value.put(last, item)),
             None => {
                 *self = item;
                 Ok(())
@@ -317,10 +208,9 @@ impl Value {
         }
     }
 
-    /// Changes what lies at the end of a path, and answers what `change` does. Lists on the way are
-    /// copied where they are shared. The errors are those of `change`, `Error::Kind` and
-    /// `Error::Index` of a step that leads nowhere, and `Error::Memory` where a list can't be
-    /// copied. What `change` has done before an error or a panic stays.
+    /// Changes what lies at the end of a path, and answers what `change` does. Lists on the way are copied where they are
+    /// shared. The errors are those of `change`, `Error::Kind` and `Error::Index` of a step that leads nowhere, and
+    /// `Error::Memory` where a list can't be copied. What `change` has done before an error or a panic stays.
     pub fn update_path<R>(
         &mut self,
         path: &[Step<'_>],
@@ -344,7 +234,7 @@ impl Value {
     }
 
     /// Puts a value one step into this one.
-    fn put(&mut self, step: Step<'_>, item: &Self) -> Result<(), Error> {
+    fn put(&mut self, step: Step<'_>, item: Self) -> Result<(), Error> {
         match step {
             Step::Index(index) if self.kind() == Kind::Fields => {
                 let name = self.field_name(index)?;
@@ -356,8 +246,8 @@ impl Value {
     }
 }
 
-/// A part that is taken out of a value, which has nothing in its place: so the part isn't shared by
-/// the value, and a change of it copies nothing. It goes back when this is dropped.
+/// A part that is taken out of a value, which has nothing in its place: so the part isn't shared by the value, and a change
+/// of it copies nothing. It goes back when this is dropped.
 struct Taken<'a> {
     whole: &'a mut Value,
     step: Step<'a>,
@@ -367,29 +257,22 @@ struct Taken<'a> {
 impl<'a> Taken<'a> {
     fn new(whole: &'a mut Value, step: Step<'a>) -> Result<Self, Error> {
         let part = whole.at(step)?;
-        whole.put(step, &Value::new())?;
+        whole.put(step, Value::new())?;
         Ok(Self { whole, step, part })
     }
 }
 
 impl Drop for Taken<'_> {
     fn drop(&mut self) {
-        // The way is not shared since nothing was put there, so this asks for no memory.
-        granted::<Value, _>(self.whole.put(self.step, &self.part), || 1);
-    }
-}
-
-impl Drop for Value {
-    fn drop(&mut self) {
-        // SAFETY: a value lies at the pointer.
-        unsafe { sys::ecow_value_drop(&mut self.raw) }
+        // The way isn't shared since nothing was put there, so this asks for no memory.
+        granted(self.whole.put(self.step, core::mem::take(&mut self.part)));
     }
 }
 
 impl Clone for Value {
     /// A value that shares this one's memory. It takes the same time however large the value is.
     fn clone(&self) -> Self {
-        granted::<Self, _>(self.try_clone(), || 1)
+        Value(self.0.clone())
     }
 }
 
@@ -400,118 +283,49 @@ impl Default for Value {
 }
 
 impl Debug for Value {
-    /// Prints the value as JSON has it, except that a text is escaped as a `str` is by `Debug`, and
-    /// that infinity and NaN are printed too.
+    /// Prints the value as JSON has it, except that a text is escaped as a `str` is by `Debug`, and that infinity and NaN
+    /// are printed too.
     fn fmt(&self, f: &mut fmt::Formatter<'_>) -> fmt::Result {
-        match self.kind() {
-            Kind::Nothing => f.write_str("null"),
-            Kind::Truth => self.truth().fmt_ok(f),
-            Kind::Number => self.number().fmt_ok(f),
-            Kind::Real => self.real().fmt_ok(f),
-            Kind::Text => self.text().fmt_ok(f),
-            Kind::List => f.debug_list().entries(self.items()).finish(),
-            Kind::Fields => f.debug_map().entries(self.fields()).finish(),
+        match &self.0 {
+            proved::Value::Nothing => f.write_str("null"),
+            proved::Value::Truth(truth) => truth.fmt(f),
+            proved::Value::Number(number) => number.fmt(f),
+            proved::Value::Real(real) => real.fmt(f),
+            proved::Value::Text(text) => text.fmt(f),
+            proved::Value::List(_) => f.debug_list().entries(self.items()).finish(),
+            proved::Value::Fields(_) => f.debug_map().entries(self.fields()).finish(),
         }
-    }
-}
-
-/// Prints what a call answered that can't be refused.
-trait FmtOk {
-    fn fmt_ok(&self, f: &mut fmt::Formatter<'_>) -> fmt::Result;
-}
-
-impl<T: Debug> FmtOk for Result<T, Error> {
-    fn fmt_ok(&self, f: &mut fmt::Formatter<'_>) -> fmt::Result {
-        self.as_ref().map_err(|_| fmt::Error)?.fmt(f)
     }
 }
 
 impl Eq for Value {}
 
 impl PartialEq for Value {
-    /// Whether both are of one kind and hold the same, items and fields in order. A NaN equals each
-    /// NaN, so that a value equals its clones.
+    /// Whether both are of one kind and hold the same, items and fields in order. A NaN equals each NaN, so that a value
+    /// equals its clones.
     fn eq(&self, other: &Self) -> bool {
-        // SAFETY: values lie at both pointers.
-        unsafe { sys::ecow_value_equal(&self.raw, &other.raw) }
+        self.0.equals(&other.0)
     }
 }
 
-impl From<bool> for Value {
-    fn from(truth: bool) -> Self {
-        // SAFETY: a value lies at the pointer.
-        Self::made(|raw| unsafe { sys::ecow_value_set_truth(raw, truth) })
-    }
-}
-
-impl From<i64> for Value {
-    fn from(number: i64) -> Self {
-        // SAFETY: a value lies at the pointer.
-        Self::made(|raw| unsafe { sys::ecow_value_set_number(raw, number) })
-    }
-}
-
-impl From<f64> for Value {
-    fn from(real: f64) -> Self {
-        // SAFETY: a value lies at the pointer.
-        Self::made(|raw| unsafe { sys::ecow_value_set_real(raw, real) })
-    }
-}
-
-impl From<&EcoString> for Value {
-    /// A value that shares the string's memory.
-    fn from(text: &EcoString) -> Self {
-        // SAFETY: a value lies at the first pointer, and a text at the second.
-        Self::made(|raw| unsafe { sys::ecow_value_set_text(raw, &text.raw) })
-    }
-}
-
-impl From<EcoString> for Value {
-    fn from(text: EcoString) -> Self {
-        Self::from(&text)
-    }
-}
-
-impl From<&str> for Value {
-    fn from(text: &str) -> Self {
-        Self::from(EcoString::from(text))
-    }
-}
-
-impl From<String> for Value {
-    fn from(text: String) -> Self {
-        Self::from(text.as_str())
-    }
-}
-
-impl From<&Value> for Value {
-    fn from(value: &Value) -> Self {
-        value.clone()
-    }
-}
-
-impl<T: Into<Value>, const N: usize> From<[T; N]> for Value {
-    /// A list of the items.
-    fn from(items: [T; N]) -> Self {
-        items.into_iter().map(T::into).collect()
-    }
-}
-
-impl<T: Into<Value>> From<Vec<T>> for Value {
-    /// A list of the items.
-    fn from(items: Vec<T>) -> Self {
-        items.into_iter().map(T::into).collect()
-    }
+// A text has the string's memory, and a value that of the other.
+from! {
+    [] bool => Value: |truth| Value(proved::Value::Truth(truth));
+    [] i64 => Value: |number| Value(proved::Value::Number(number));
+    [] f64 => Value: |real| Value(proved::Value::Real(real));
+    [] EcoString => Value: |text| Value(proved::Value::Text(text.0));
+    [] &EcoString => Value: |text| text.clone().into();
+    [] &str => Value: |text| EcoString::from(text).into();
+    [] String => Value: |text| EcoString::from(text).into();
+    [] &Value => Value: |value| value.clone();
+    [T: Into<Value>, const N: usize] [T; N] => Value: |items| items.into_iter().map(T::into).collect();
+    [T: Into<Value>] Vec<T> => Value: |items| items.into_iter().map(T::into).collect();
 }
 
 impl FromIterator<Value> for Value {
     /// A list of the values.
     fn from_iter<I: IntoIterator<Item = Value>>(items: I) -> Self {
-        let mut list = Self::new_list();
-        for item in items {
-            granted::<Self, _>(list.push(item), || list.len() + 1);
-        }
-        list
+        Value(proved::Value::List(items.into_iter().map(|item| item.0).collect::<crate::EcoVec<_>>().0))
     }
 }
 
@@ -520,40 +334,8 @@ impl<N: AsRef<str>> FromIterator<(N, Value)> for Value {
     fn from_iter<I: IntoIterator<Item = (N, Value)>>(items: I) -> Self {
         let mut fields = Self::new_fields();
         for (name, item) in items {
-            granted::<Self, _>(fields.set_field(name.as_ref(), item), || fields.len() + 1);
+            granted(fields.set_field(name.as_ref(), item));
         }
         fields
     }
 }
-
-/// Clones of the items of a list, or of the fields' values.
-#[derive(Clone, Debug)]
-pub struct Items<'a> {
-    value: &'a Value,
-    /// The indices of those that are left.
-    left: Range<usize>,
-}
-
-impl Iterator for Items<'_> {
-    type Item = Value;
-
-    fn next(&mut self) -> Option<Value> {
-        self.left
-            .next()
-            .and_then(|index| self.value.get(index).ok())
-    }
-
-    fn size_hint(&self) -> (usize, Option<usize>) {
-        self.left.size_hint()
-    }
-}
-
-impl DoubleEndedIterator for Items<'_> {
-    fn next_back(&mut self) -> Option<Value> {
-        self.left
-            .next_back()
-            .and_then(|index| self.value.get(index).ok())
-    }
-}
-
-impl ExactSizeIterator for Items<'_> {}

@@ -1,651 +1,647 @@
-//! Vectors whose clones share memory.
+//! Vectors whose clones share their elements until one of them is written to.
 
-mod elements;
-mod iterators;
+use crate::error::{Error, Rejected, indices, indices_or_panic, out_of_bounds};
+use crate::proved::ecow_base::fresh_capacity;
+use crate::proved::ecow_list as proved;
+use crate::shim::alloc::Global;
+use crate::shim::granted;
+use crate::shim::vec::with_capacity;
+use alloc::vec::Vec;
+use core::cmp::Ordering;
+use core::fmt::{self, Debug};
+use core::hash::{Hash, Hasher};
+use core::iter::FusedIterator;
+use core::marker::PhantomData;
+use core::mem::needs_drop;
+use core::ops::{Range, RangeBounds};
 
-use std::borrow::Borrow;
-use std::cmp::Ordering;
-use std::fmt::{self, Debug};
-use std::hash::{Hash, Hasher};
-use std::marker::PhantomData;
-use std::ops::{Deref, Index, RangeBounds};
-
-use crate::error::{done, granted, indices, indices_or_panic, out_of_bounds, Error};
-use crate::string::EcoString;
-use crate::sys;
-
-pub use elements::Element;
-pub use iterators::{Drain, IntoIter, Iter, Splice};
-
-/// Makes an [`EcoVec`] as `vec!` makes a `Vec`.
+/// A vector of the elements listed, of `n` clones of one, or of none, as `vec!` of std has them.
 ///
 /// ```
-/// use ecow_proved::{eco_vec, EcoString};
-///
-/// assert_eq!(eco_vec![1, 2, 3], [1, 2, 3]);
-/// assert_eq!(eco_vec![EcoString::from("a"); 2].iter().collect::<String>(), "aa");
+/// # use ecow::eco_vec;
+/// assert_eq!(eco_vec![1; 4], [1, 1, 1, 1]);
+/// assert_eq!(eco_vec![1, 2, 3], vec![1, 2, 3]);
 /// ```
 #[macro_export]
 macro_rules! eco_vec {
-    () => {
-        $crate::EcoVec::new()
-    };
-    ($element:expr; $n:expr) => {
-        $crate::EcoVec::from_elem($element, $n)
-    };
-    ($($element:expr),+ $(,)?) => {
-        $crate::EcoVec::from([$($element),+])
-    };
+    () => { $crate::EcoVec::new() };
+    ($value:expr; $n:expr) => { $crate::EcoVec::from_elem($value, $n) };
+    ($($value:expr),+ $(,)?) => { $crate::EcoVec::from([$($value),+]) };
 }
 
-/// A vector in memory that its clones share: of `i64`, or of [`EcoString`].
+/// A vector whose clones share its elements until one of them is written to.
 ///
-/// It takes 8 bytes. One of numbers is read as a slice, one of strings by [`EcoVec::iter`],
-/// [`EcoVec::get`] and by index, which give a `str`.
-///
-/// ```
-/// use ecow_proved::{eco_vec, EcoString, EcoVec};
-///
-/// let first = eco_vec![1, 2, 3];
-/// let mut second = first.clone();
-/// assert_eq!(first.as_ptr(), second.as_ptr());
-/// second.push(4);
-/// assert_eq!((first.len(), second.len()), (3, 4));
-///
-/// let words: EcoVec<EcoString> = "by word and deed".split(' ').map(EcoString::from).collect();
-/// assert_eq!(&words[3], "deed");
-/// ```
-///
-/// It isn't `Sync`:
-///
-/// ```compile_fail,E0277
-/// fn shared<T: Sync>(_: &T) {}
-/// shared(&ecow_proved::EcoVec::<i64>::new());
-/// ```
-///
-/// There is none of other elements:
-///
-/// ```compile_fail,E0277
-/// ecow_proved::EcoVec::<u8>::new();
-/// ```
-pub struct EcoVec<T: Element> {
-    raw: T::Raw,
-    threads: PhantomData<*const T>,
+/// It takes one word. A clone asks for no memory and clones no element. A write to a vector that shares its block copies
+/// the elements into a block of its own first, so no other vector sees the change.
+pub struct EcoVec<T>(pub(crate) proved::EcoVec<T>);
+
+/// `Error::Capacity` where so many elements are more than memory can hold.
+fn fits<T>(count: usize) -> Result<(), Error> {
+    match core::alloc::Layout::array::<T>(count) {
+        Ok(_) => Ok(()),
+        Err(_) => Err(Error::Capacity),
+    }
 }
 
-impl<T: Element> EcoVec<T> {
-    /// An empty vector.
+impl<T> EcoVec<T> {
+    /// An empty vector. Asks for no memory.
+    #[inline]
     pub const fn new() -> Self {
-        Self {
-            raw: T::EMPTY,
-            threads: PhantomData,
-        }
+        EcoVec(proved::EcoVec::new(Global))
     }
 
-    /// An empty vector with room for `capacity` elements.
-    #[track_caller]
+    /// An empty vector with room for `capacity` elements. It panics where that is more than memory can hold.
     pub fn with_capacity(capacity: usize) -> Self {
-        granted::<T, _>(Self::try_with_capacity(capacity), || capacity)
+        granted(Self::try_with_capacity(capacity))
     }
 
-    /// [`Self::with_capacity`], or `Error::Memory` or `Error::Capacity` where there is no such
-    /// room.
+    /// As `with_capacity`: `Error::Capacity` for more than memory can hold, `Error::Memory` where there is none.
     pub fn try_with_capacity(capacity: usize) -> Result<Self, Error> {
-        let mut vec = Self::new();
-        vec.try_reserve(capacity)?;
-        Ok(vec)
+        fits::<T>(capacity)?;
+        Ok(EcoVec(proved::EcoVec::with_capacity(Global, capacity)?))
     }
 
-    /// A vector of `n` clones of `value`.
-    #[track_caller]
-    pub fn from_elem(value: T, n: usize) -> Self {
-        granted::<T, _>(Self::try_from_elem(value, n), || n)
+    /// The items of an iterator, none of them cloned, and without its hint being asked. `Error::Capacity` at the item past
+    /// 2^63 - 1, and else `Error::Memory`: the items so far are dropped then.
+    pub fn try_from_iter(iter: impl IntoIterator<Item = T>) -> Result<Self, Error> {
+        Ok(EcoVec(proved::EcoVec::from_iter(Global, iter)?))
     }
 
-    /// [`Self::from_elem`], or `Error::Memory` or `Error::Capacity` where there is none for it.
-    pub fn try_from_elem(value: T, n: usize) -> Result<Self, Error> {
-        let mut vec = Self::try_with_capacity(n)?;
-        for _ in 0..n {
-            done(T::push(&mut vec.raw, &value))?;
-        }
-        Ok(vec)
+    /// The elements of a `Vec`, none of them cloned. A refusal hands it back, with `Error::Memory`.
+    pub fn try_from_vec(vec: Vec<T>) -> Result<Self, Rejected<Vec<T>>> {
+        Ok(EcoVec(proved::EcoVec::from_vec(Global, vec)?))
     }
 
-    /// A copy of a slice, with clones of its elements: `Error::Memory` where there is none for it.
-    pub fn try_from_slice(slice: &[T]) -> Result<Self, Error> {
-        T::collect(slice)
-    }
-
-    /// A clone, as [`Clone::clone`] makes it: `Error::Memory` where owners can't be counted.
-    pub fn try_clone(&self) -> Result<Self, Error> {
-        let mut clone = Self::new();
-        // SAFETY: vectors lie at both pointers.
-        done(unsafe { (T::CALLS.clone)(&mut clone.raw, &self.raw) })?;
-        Ok(clone)
-    }
-
-    /// Whether there are no elements.
+    /// Whether there is no element.
+    #[inline]
     pub fn is_empty(&self) -> bool {
-        self.len() == 0
+        self.0.is_empty()
     }
 
-    /// How many elements there are.
+    /// The number of elements.
+    #[inline]
     pub fn len(&self) -> usize {
-        // SAFETY: a vector lies at the pointer.
-        unsafe { (T::CALLS.len)(&self.raw) }
+        self.0.len()
     }
 
-    /// Whether both stand in the same memory, and so are equal: not so where they are empty.
-    pub fn shares_with(&self, other: &Self) -> bool {
-        // SAFETY: vectors lie at both pointers.
-        unsafe { (T::CALLS.shares)(&self.raw, &other.raw) }
+    /// For how many elements there is room, never fewer than there are.
+    #[inline]
+    pub fn capacity(&self) -> usize {
+        self.0.capacity()
     }
 
-    /// A clone of the element at `index`, which stands before the end.
-    fn at(&self, index: usize) -> Result<T, Error> {
-        let mut item = T::default();
-        done(T::read(&self.raw, index, &mut item))?;
-        Ok(item)
+    /// The elements, in order.
+    #[inline]
+    pub fn as_slice(&self) -> &[T] {
+        self.0.as_slice()
     }
 
-    /// Writes the element at `index`. It panics from the end on.
-    #[track_caller]
-    pub fn set(&mut self, index: usize, value: T) {
-        if index >= self.len() {
-            out_of_bounds(index, self.len());
+    /// Drops the elements. A shared block is given up, with nothing copied, and a sole one is kept.
+    pub fn clear(&mut self) {
+        self.0.clear()
+    }
+
+    /// Whether no other vector shares the block; a vector without one shares none.
+    #[inline]
+    pub fn is_unique(&mut self) -> bool {
+        self.0.is_unique()
+    }
+}
+
+impl<T: Clone> EcoVec<T> {
+    /// `n` clones of `value`. It panics where these are more than memory can hold.
+    pub fn from_elem(value: T, n: usize) -> Self {
+        granted(Self::try_from_elem(value, n))
+    }
+
+    /// As `from_elem`: a refusal hands `value` back, with `Error::Capacity` or `Error::Memory`.
+    pub fn try_from_elem(value: T, n: usize) -> Result<Self, Rejected<T>> {
+        if let Err(error) = fits::<T>(n) {
+            return Err(Rejected { error, value });
         }
-        granted::<T, _>(self.try_set(index, value), || self.len())
+        // Elements without a drop go in some at a time, which the compiler knows as moves of memory.
+        let most = n.min(128);
+        if !needs_drop::<T>()
+            && let (Ok(mut some), Ok(mut vec)) = (with_capacity(Global, most), Self::try_with_capacity(n))
+        {
+            some.resize(most, value);
+            while vec.len() < n {
+                granted(vec.0.extend_from_slice(&some[..most.min(n - vec.len())]));
+            }
+            return Ok(vec);
+        }
+        Ok(EcoVec(proved::EcoVec::from_elem(Global, value, n)?))
     }
 
-    /// [`Self::set`], or `Error::Index` from the end on, `Error::Memory` where a shared vector
-    /// can't be copied.
-    pub fn try_set(&mut self, index: usize, value: T) -> Result<(), Error> {
-        done(T::set(&mut self.raw, index, &value))
+    /// The elements of an array, none of them cloned. A refusal hands it back, with `Error::Memory`.
+    #[inline]
+    pub fn try_from_array<const N: usize>(array: [T; N]) -> Result<Self, Rejected<[T; N]>> {
+        match Self::try_with_capacity(fresh_capacity(N)) {
+            Ok(mut vec) => {
+                granted(vec.0.extend(array));
+                Ok(vec)
+            }
+            Err(error) => Err(Rejected { error, value: array }),
+        }
     }
 
-    /// Appends an element.
-    #[track_caller]
+    /// Clones of the elements of a slice: `Error::Memory` where there is none.
+    pub fn try_from_slice(slice: &[T]) -> Result<Self, Error> {
+        Ok(EcoVec(proved::EcoVec::from_slice(Global, slice)?))
+    }
+
+    /// A vector that shares this one's elements. It is refused past 2^63 - 1 owners alone, with `Error::Memory`.
+    pub fn try_clone(&self) -> Result<Self, Error> {
+        Ok(EcoVec(self.0.try_clone()?))
+    }
+
+    /// The elements, for writing. A shared vector copies them first.
+    #[inline]
+    pub fn make_mut(&mut self) -> &mut [T] {
+        granted(self.try_make_mut())
+    }
+
+    /// As `make_mut`: `Error::Memory` where the copy is refused.
+    #[inline]
+    pub fn try_make_mut(&mut self) -> Result<&mut [T], Error> {
+        Ok(self.0.make_mut()?)
+    }
+
+    /// Appends `value`.
+    #[inline]
     pub fn push(&mut self, value: T) {
-        granted::<T, _>(self.try_push(value), || self.len() + 1)
+        granted(self.0.push(value))
     }
 
-    /// [`Self::push`], or `Error::Memory` where there is no room.
-    pub fn try_push(&mut self, value: T) -> Result<(), Error> {
-        done(T::push(&mut self.raw, &value))
+    /// As `push`: a refusal hands `value` back, with `Error::Capacity` or `Error::Memory`.
+    #[inline]
+    pub fn try_push(&mut self, value: T) -> Result<(), Rejected<T>> {
+        Ok(self.0.push(value)?)
     }
 
-    /// Takes the last element: none of an empty vector.
-    #[track_caller]
+    /// Takes the last element: `None` where there is none.
+    #[inline]
     pub fn pop(&mut self) -> Option<T> {
-        granted::<T, _>(self.try_pop(), || self.len())
+        granted(self.try_pop())
     }
 
-    /// [`Self::pop`], or `Error::Memory` where a shared vector can't be copied.
+    /// As `pop`: `Error::Memory` where a shared vector can't be copied.
+    #[inline]
     pub fn try_pop(&mut self) -> Result<Option<T>, Error> {
-        let mut item = T::default();
-        match done(T::pop(&mut self.raw, &mut item)) {
-            Ok(()) => Ok(Some(item)),
-            Err(Error::Index) => Ok(None),
-            Err(error) => Err(error),
-        }
+        Ok(self.0.pop()?)
     }
 
-    /// Puts an element in at `index`. It panics past the end.
+    /// Puts `value` in at `index`, before the element there. It panics where `index` passes the length.
+    #[inline]
     #[track_caller]
     pub fn insert(&mut self, index: usize, value: T) {
         if index > self.len() {
             out_of_bounds(index, self.len());
         }
-        granted::<T, _>(self.try_insert(index, value), || self.len() + 1)
+        granted(self.0.insert(index, value))
     }
 
-    /// [`Self::insert`], or `Error::Index` past the end, `Error::Memory` where there is no room.
-    pub fn try_insert(&mut self, index: usize, value: T) -> Result<(), Error> {
-        done(T::insert(&mut self.raw, index, &value))
+    /// As `insert`: a refusal hands `value` back, with `Error::Index`, `Error::Capacity` or `Error::Memory`.
+    pub fn try_insert(&mut self, index: usize, value: T) -> Result<(), Rejected<T>> {
+        if index > self.len() {
+            return Err(Rejected { error: Error::Index, value });
+        }
+        Ok(self.0.insert(index, value)?)
     }
 
-    /// Takes the element at `index`. It panics from the end on.
+    /// Takes the element at `index`. It panics where there is none.
     #[track_caller]
     pub fn remove(&mut self, index: usize) -> T {
         if index >= self.len() {
             out_of_bounds(index, self.len());
         }
-        granted::<T, _>(self.try_remove(index), || self.len())
+        granted(self.0.remove(index))
     }
 
-    /// [`Self::remove`], or `Error::Index` from the end on, `Error::Memory` where a shared vector
-    /// can't be copied.
+    /// As `remove`: `Error::Index`, or `Error::Memory` where a shared vector can't be copied.
     pub fn try_remove(&mut self, index: usize) -> Result<T, Error> {
-        let mut item = T::default();
-        done(T::remove(&mut self.raw, index, &mut item))?;
-        Ok(item)
+        if index >= self.len() {
+            return Err(Error::Index);
+        }
+        Ok(self.0.remove(index)?)
     }
 
-    /// Keeps the elements of which `keep` says so, as it left them. The vector changes when `keep`
-    /// has seen all, so a panic of `keep` leaves it as it was.
+    /// Puts `value` in place of the element at `index`. It panics where there is none. This crate's own.
     #[track_caller]
-    pub fn retain<F: FnMut(&mut T) -> bool>(&mut self, keep: F) {
-        granted::<T, _>(self.try_retain(keep), || self.len())
+    pub fn set(&mut self, index: usize, value: T) {
+        granted(self.try_set(index, value))
     }
 
-    /// [`Self::retain`], or `Error::Memory` where there is none for the elements that stay.
-    pub fn try_retain<F: FnMut(&mut T) -> bool>(&mut self, mut keep: F) -> Result<(), Error> {
-        let mut kept = Self::new();
-        for index in 0..self.len() {
-            let mut item = self.at(index)?;
-            if keep(&mut item) {
-                kept.try_push(item)?;
-            }
+    /// As `set`: a refusal hands `value` back, with `Error::Index` or `Error::Memory`.
+    pub fn try_set(&mut self, index: usize, value: T) -> Result<(), Rejected<T>> {
+        if index >= self.len() {
+            return Err(Rejected { error: Error::Index, value });
         }
-        *self = kept;
-        Ok(())
+        Ok(self.0.set(index, value)?)
     }
 
-    /// A vector of clones of the elements of a range that is there.
-    fn part(&self, start: usize, end: usize) -> Result<Self, Error> {
-        let mut part = Self::try_with_capacity(end - start)?;
-        for index in start..end {
-            part.try_push(self.at(index)?)?;
+    /// Lends the element at `index` to `change`, and gives its answer: `Error::Index`, or `Error::Memory` where a shared
+    /// vector can't be copied; `change` isn't called then. This crate's own.
+    pub fn try_update<R>(&mut self, index: usize, change: impl FnOnce(&mut T) -> R) -> Result<R, Error> {
+        if index >= self.len() {
+            return Err(Error::Index);
         }
-        Ok(part)
+        Ok(self.0.update(index, change)?)
     }
 
-    /// Takes the elements of a range out, at once, and iterates over them. It panics where the
-    /// range passes the end or ends before it starts.
+    /// Lends each element to `f`, in order, and keeps those at which it answers `true`.
+    pub fn retain<F: FnMut(&mut T) -> bool>(&mut self, f: F) {
+        granted(self.try_retain(f))
+    }
+
+    /// As `retain`: `Error::Memory` where a shared vector can't be copied; `f` isn't called then.
+    pub fn try_retain<F: FnMut(&mut T) -> bool>(&mut self, f: F) -> Result<(), Error> {
+        Ok(self.0.retain(f)?)
+    }
+
+    /// Takes out the elements of `range`. The vector is final when the call answers. It panics where the range isn't in it.
     #[track_caller]
     pub fn drain<R: RangeBounds<usize>>(&mut self, range: R) -> Drain<'_, T> {
-        let range = indices_or_panic(&range, self.len());
-        let drained = self.take(range.start, range.end, &Self::new());
-        Drain::new(granted::<T, _>(drained, || range.len()))
+        let range = indices_or_panic(range, self.len());
+        Drain { removed: granted(self.0.drain(range)), vec: PhantomData }
     }
 
-    /// [`Self::drain`], or `Error::Index` where the range passes the end or ends before it starts,
-    /// `Error::Memory` where there is none for what is taken.
+    /// As `drain`: `Error::Index` of another range, `Error::Memory` where there is none for what is taken out.
     pub fn try_drain<R: RangeBounds<usize>>(&mut self, range: R) -> Result<Drain<'_, T>, Error> {
-        let range = indices(&range, self.len())?;
-        self.take(range.start, range.end, &Self::new())
-            .map(Drain::new)
+        let range = indices(range, self.len())?;
+        Ok(Drain { removed: self.0.drain(range)?, vec: PhantomData })
     }
 
-    /// Puts what `replace_with` gives in place of a range, at once, and iterates over the elements
-    /// that stood there. It panics where the range passes the end or ends before it starts.
+    /// Puts the items of `replace_with` in place of the elements of `range`, and gives these. The vector is final when the
+    /// call answers. It panics where the range isn't in it.
     #[track_caller]
     pub fn splice<R, I>(&mut self, range: R, replace_with: I) -> Splice<'_, I::IntoIter>
     where
         R: RangeBounds<usize>,
         I: IntoIterator<Item = T>,
     {
-        let range = indices_or_panic(&range, self.len());
-        let added: Self = replace_with.into_iter().collect();
-        let taken = self.take(range.start, range.end, &added);
-        Splice::new(granted::<T, _>(taken, || self.len() + added.len()))
+        let range = indices_or_panic(range, self.len());
+        Splice { replaced: granted(self.0.splice(range, replace_with)), vec: PhantomData }
     }
 
-    /// [`Self::splice`], or `Error::Index` where the range passes the end or ends before it starts,
-    /// `Error::Memory` where there is no room, or none for what is taken.
-    pub fn try_splice<R, I>(
-        &mut self,
-        range: R,
-        replace_with: I,
-    ) -> Result<Splice<'_, I::IntoIter>, Error>
+    /// As `splice`: `Error::Index` of another range, `Error::Capacity` and `Error::Memory`, with which the items so far are
+    /// dropped.
+    pub fn try_splice<R, I>(&mut self, range: R, replace_with: I) -> Result<Splice<'_, I::IntoIter>, Error>
     where
         R: RangeBounds<usize>,
         I: IntoIterator<Item = T>,
     {
-        let range = indices(&range, self.len())?;
-        let mut added = Self::new();
-        for item in replace_with {
-            added.try_push(item)?;
-        }
-        self.take(range.start, range.end, &added).map(Splice::new)
-    }
-
-    /// Puts the elements of `added` in place of a range that is there, and answers those that stood
-    /// there.
-    fn take(&mut self, start: usize, end: usize, added: &Self) -> Result<IntoIter<T>, Error> {
-        let taken = self.part(start, end)?;
-        done(T::splice(&mut self.raw, start, end, &added.raw))?;
-        Ok(taken.into_iter())
-    }
-
-    /// Keeps none. Memory that no clone shares is kept for what comes.
-    #[track_caller]
-    pub fn clear(&mut self) {
-        granted::<T, _>(self.try_clear(), || 0)
-    }
-
-    /// [`Self::clear`] as a `Result`; no refusal is known.
-    pub fn try_clear(&mut self) -> Result<(), Error> {
-        // SAFETY: a vector lies at the pointer.
-        done(unsafe { (T::CALLS.clear)(&mut self.raw) })
+        let range = indices(range, self.len())?;
+        Ok(Splice { replaced: self.0.splice(range, replace_with)?, vec: PhantomData })
     }
 
     /// Keeps the first `target` elements, or all where there are fewer.
-    #[track_caller]
     pub fn truncate(&mut self, target: usize) {
-        granted::<T, _>(self.try_truncate(target), || target)
+        granted(self.try_truncate(target))
     }
 
-    /// [`Self::truncate`], or `Error::Memory` where what stays of a shared vector can't be copied.
+    /// As `truncate`: `Error::Memory` where what stays of a shared vector can't be copied.
     pub fn try_truncate(&mut self, target: usize) -> Result<(), Error> {
-        // SAFETY: a vector lies at the pointer.
-        done(unsafe { (T::CALLS.truncate)(&mut self.raw, target) })
+        Ok(self.0.truncate(target)?)
     }
 
-    /// Makes room for `additional` more elements, in memory that no clone shares.
-    #[track_caller]
+    /// Makes room for `additional` more elements. It panics where these are more than memory can hold.
     pub fn reserve(&mut self, additional: usize) {
-        granted::<T, _>(self.try_reserve(additional), || {
-            self.len().saturating_add(additional)
-        })
+        granted(self.try_reserve(additional))
     }
 
-    /// [`Self::reserve`], or `Error::Memory` or `Error::Capacity` where there is no such room.
+    /// As `reserve`: `Error::Capacity` for more than memory can hold, `Error::Memory` where there is none.
     pub fn try_reserve(&mut self, additional: usize) -> Result<(), Error> {
-        // SAFETY: a vector lies at the pointer.
-        done(unsafe { (T::CALLS.reserve)(&mut self.raw, additional) })
-    }
-
-    /// How many elements there is room for, never fewer than there are.
-    pub fn capacity(&self) -> usize {
-        // SAFETY: a vector lies at the pointer.
-        unsafe { (T::CALLS.capacity)(&self.raw) }
-    }
-
-    /// Gives up room that isn't used, unless a clone shares the memory.
-    #[track_caller]
-    pub fn shrink_to_fit(&mut self) {
-        granted::<T, _>(self.try_shrink_to_fit(), || self.len())
-    }
-
-    /// [`Self::shrink_to_fit`], or `Error::Memory` where there is none for the smaller block.
-    pub fn try_shrink_to_fit(&mut self) -> Result<(), Error> {
-        // SAFETY: a vector lies at the pointer.
-        done(unsafe { (T::CALLS.shrink_to_fit)(&mut self.raw) })
+        fits::<T>(self.len().saturating_add(additional))?;
+        Ok(self.0.reserve(additional)?)
     }
 
     /// Appends clones of the elements of a slice.
-    #[track_caller]
+    #[inline]
     pub fn extend_from_slice(&mut self, slice: &[T]) {
-        granted::<T, _>(self.try_extend_from_slice(slice), || {
-            self.len() + slice.len()
-        })
+        granted(self.0.extend_from_slice(slice))
     }
 
-    /// [`Self::extend_from_slice`], or `Error::Memory` where there is no room, and then nothing is
-    /// appended.
+    /// As `extend_from_slice`: all, or none with `Error::Capacity` or `Error::Memory`.
     pub fn try_extend_from_slice(&mut self, slice: &[T]) -> Result<(), Error> {
-        T::append(&mut self.raw, slice)
+        Ok(self.0.extend_from_slice(slice)?)
     }
 
-    /// Appends what an iterator gives, as [`Extend::extend`] does.
-    ///
-    /// # Safety
-    ///
-    /// Nothing is asked: the original's caller promises that the iterator tells its length.
-    #[track_caller]
-    pub unsafe fn extend_from_trusted<I>(&mut self, iter: I)
-    where
-        I: IntoIterator<Item = T>,
-        I::IntoIter: ExactSizeIterator,
-    {
-        self.extend(iter);
+    /// Appends the items of an iterator, without its hint being asked. At a refused item `Error::Capacity` or
+    /// `Error::Memory`: those before it stay.
+    pub fn try_extend(&mut self, iter: impl IntoIterator<Item = T>) -> Result<(), Error> {
+        Ok(self.0.extend(iter)?)
+    }
+
+    /// The elements in a `Vec`. A refusal hands the vector back, with `Error::Memory`.
+    pub fn try_into_vec(self) -> Result<Vec<T>, Rejected<Self>> {
+        self.0.into_vec().map_err(|rejected| Rejected::of(rejected, EcoVec))
     }
 }
 
-impl EcoVec<i64> {
-    /// The numbers as a slice.
-    pub fn as_slice(&self) -> &[i64] {
-        let mut len = 0;
-        // SAFETY: a list lies at the first pointer, and a number at the second.
-        let start = unsafe { sys::ecow_list_slice(&self.raw, &mut len) };
-        // SAFETY: `len` numbers stand there until the list is changed, dropped or moved. The borrow
-        // of `self` ends before that.
-        unsafe { std::slice::from_raw_parts(start, len) }
+/// Of elements that are copied as memory. These calls are this crate's own.
+impl<T: Copy> EcoVec<T> {
+    /// Appends copies of the elements of a range: `Error::Index` of another range, `Error::Capacity`, `Error::Memory`.
+    pub fn try_extend_from_within(&mut self, range: impl RangeBounds<usize>) -> Result<(), Error> {
+        let range = indices(range, self.len())?;
+        Ok(self.0.extend_from_within(range)?)
     }
-}
 
-impl EcoVec<EcoString> {
-    /// The string at `index`: none from the end on.
-    pub fn get(&self, index: usize) -> Option<&str> {
-        let mut len = 0;
-        // SAFETY: a list of texts lies at the first pointer, and a number at the second.
-        let start = unsafe { sys::ecow_texts_at(&self.raw, index, &mut len) };
-        if start.is_null() {
-            return None;
+    /// Puts copies of the elements of a slice in at `index`: `Error::Index`, `Error::Capacity`, `Error::Memory`.
+    pub fn try_insert_slice(&mut self, index: usize, slice: &[T]) -> Result<(), Error> {
+        if index > self.len() {
+            return Err(Error::Index);
         }
-        // SAFETY: `len` bytes of UTF-8 stand there until the list is changed, dropped or moved. The
-        // borrow of `self` ends before that.
-        Some(unsafe { std::str::from_utf8_unchecked(std::slice::from_raw_parts(start, len)) })
+        Ok(self.0.insert_slice(index, slice)?)
     }
 
-    /// A clone of the string at `index`, which shares its memory: none from the end on.
-    pub fn get_clone(&self, index: usize) -> Option<EcoString> {
-        self.at(index).ok()
-    }
-
-    /// The first string: none of an empty vector.
-    pub fn first(&self) -> Option<&str> {
-        self.get(0)
-    }
-
-    /// The last string: none of an empty vector.
-    pub fn last(&self) -> Option<&str> {
-        self.len().checked_sub(1).and_then(|index| self.get(index))
-    }
-
-    /// The strings, in order.
-    pub fn iter(&self) -> Iter<'_> {
-        Iter::new(self)
-    }
-
-    /// Whether one of the strings is `string`.
-    pub fn contains(&self, string: &str) -> bool {
-        self.iter().any(|each| each == string)
+    /// Puts copies of the elements of a slice in place of those of a range: `Error::Index` of another range,
+    /// `Error::Capacity`, `Error::Memory`.
+    pub fn try_replace_range(&mut self, range: impl RangeBounds<usize>, slice: &[T]) -> Result<(), Error> {
+        let range = indices(range, self.len())?;
+        Ok(self.0.replace_range(range, slice)?)
     }
 }
 
-impl<T: Element> Drop for EcoVec<T> {
-    fn drop(&mut self) {
-        // SAFETY: a vector lies at the pointer.
-        unsafe { (T::CALLS.drop)(&mut self.raw) }
-    }
-}
-
-impl<T: Element> Clone for EcoVec<T> {
-    /// A vector that shares this one's memory. It takes the same time however long the vector is.
+impl<T: Clone> Clone for EcoVec<T> {
+    #[inline]
     fn clone(&self) -> Self {
-        granted::<T, _>(self.try_clone(), || self.len())
+        EcoVec(self.0.clone())
     }
 }
 
-impl Deref for EcoVec<i64> {
-    type Target = [i64];
+slice_of! { [T] EcoVec<T>, [T], as_slice; }
 
-    fn deref(&self) -> &[i64] {
-        self.as_slice()
-    }
-}
-
-impl Borrow<[i64]> for EcoVec<i64> {
-    fn borrow(&self) -> &[i64] {
-        self
-    }
-}
-
-impl AsRef<[i64]> for EcoVec<i64> {
-    fn as_ref(&self) -> &[i64] {
-        self
-    }
-}
-
-impl Index<usize> for EcoVec<EcoString> {
-    type Output = str;
-
-    /// The string at `index`. It panics from the end on.
-    fn index(&self, index: usize) -> &str {
-        self.get(index)
-            .unwrap_or_else(|| out_of_bounds(index, self.len()))
-    }
-}
-
-impl<T: Element> Default for EcoVec<T> {
-    fn default() -> Self {
-        Self::new()
-    }
-}
-
-impl<T: Element> Debug for EcoVec<T> {
+impl<T: Debug> Debug for EcoVec<T> {
     fn fmt(&self, f: &mut fmt::Formatter<'_>) -> fmt::Result {
-        T::debug(self, f)
+        self.0.fmt(f)
     }
 }
 
-impl<T: Element> Hash for EcoVec<T> {
-    /// Hashes as a slice of the elements does.
+impl<T: Hash> Hash for EcoVec<T> {
+    #[inline]
     fn hash<H: Hasher>(&self, state: &mut H) {
-        T::hash_all(self, state);
+        self.0.hash(state)
     }
 }
 
-impl<T: Element> Eq for EcoVec<T> {}
+impl<T: Eq> Eq for EcoVec<T> {}
 
-impl<T: Element> PartialEq for EcoVec<T> {
+impl<T: PartialEq> PartialEq for EcoVec<T> {
+    #[inline]
     fn eq(&self, other: &Self) -> bool {
-        // SAFETY: vectors lie at both pointers.
-        unsafe { (T::CALLS.equal)(&self.raw, &other.raw) }
+        self[..] == other[..]
     }
 }
 
-impl<T: Element> PartialEq<[T]> for EcoVec<T> {
-    fn eq(&self, other: &[T]) -> bool {
-        T::equals(self, other)
-    }
+equal_to! {
+    [T: PartialEq] EcoVec<T>, [T];
+    [T: PartialEq] EcoVec<T>, &[T];
+    [T: PartialEq, const N: usize] EcoVec<T>, [T; N];
+    [T: PartialEq, const N: usize] EcoVec<T>, &[T; N];
+    [T: PartialEq] EcoVec<T>, Vec<T>;
+    [T: PartialEq] [T], EcoVec<T>;
+    [T: PartialEq, const N: usize] [T; N], EcoVec<T>;
+    [T: PartialEq] Vec<T>, EcoVec<T>;
 }
 
-impl<T: Element> PartialEq<&[T]> for EcoVec<T> {
-    fn eq(&self, other: &&[T]) -> bool {
-        T::equals(self, other)
-    }
-}
-
-impl<T: Element, const N: usize> PartialEq<[T; N]> for EcoVec<T> {
-    fn eq(&self, other: &[T; N]) -> bool {
-        T::equals(self, other)
-    }
-}
-
-impl<T: Element, const N: usize> PartialEq<&[T; N]> for EcoVec<T> {
-    fn eq(&self, other: &&[T; N]) -> bool {
-        T::equals(self, *other)
-    }
-}
-
-impl<T: Element> PartialEq<Vec<T>> for EcoVec<T> {
-    fn eq(&self, other: &Vec<T>) -> bool {
-        T::equals(self, other)
-    }
-}
-
-impl<T: Element> PartialEq<EcoVec<T>> for [T] {
-    fn eq(&self, other: &EcoVec<T>) -> bool {
-        T::equals(other, self)
-    }
-}
-
-impl<T: Element, const N: usize> PartialEq<EcoVec<T>> for [T; N] {
-    fn eq(&self, other: &EcoVec<T>) -> bool {
-        T::equals(other, self)
-    }
-}
-
-impl<T: Element> PartialEq<EcoVec<T>> for Vec<T> {
-    fn eq(&self, other: &EcoVec<T>) -> bool {
-        T::equals(other, self)
-    }
-}
-
-impl<T: Element> Ord for EcoVec<T> {
+impl<T: Ord> Ord for EcoVec<T> {
+    #[inline]
     fn cmp(&self, other: &Self) -> Ordering {
-        // SAFETY: vectors lie at both pointers.
-        unsafe { (T::CALLS.compare)(&self.raw, &other.raw) }.cmp(&0)
+        self.0.cmp(&other.0)
     }
 }
 
-impl<T: Element> PartialOrd for EcoVec<T> {
+impl<T: PartialOrd> PartialOrd for EcoVec<T> {
+    #[inline]
     fn partial_cmp(&self, other: &Self) -> Option<Ordering> {
-        Some(self.cmp(other))
+        self.0.partial_cmp(&other.0)
     }
 }
 
-impl<T: Element> From<&[T]> for EcoVec<T> {
+impl<T: Clone> From<&[T]> for EcoVec<T> {
+    #[inline]
     fn from(slice: &[T]) -> Self {
-        granted::<T, _>(Self::try_from_slice(slice), || slice.len())
+        granted(Self::try_from_slice(slice))
     }
 }
 
-impl<T: Element, const N: usize> From<[T; N]> for EcoVec<T> {
+impl<T: Clone, const N: usize> From<[T; N]> for EcoVec<T> {
+    #[inline]
     fn from(array: [T; N]) -> Self {
-        Self::from(array.as_slice())
+        granted(Self::try_from_array(array))
     }
 }
 
-impl<T: Element> From<Vec<T>> for EcoVec<T> {
+impl<T: Clone> From<Vec<T>> for EcoVec<T> {
+    /// The elements, moved into a block of their own.
     fn from(vec: Vec<T>) -> Self {
-        Self::from(vec.as_slice())
+        granted(Self::try_from_vec(vec))
     }
 }
 
-impl<T: Element, const N: usize> TryFrom<EcoVec<T>> for [T; N] {
+impl<T: Clone, const N: usize> TryFrom<EcoVec<T>> for [T; N] {
     type Error = EcoVec<T>;
 
-    /// An array of all elements: the vector comes back where there aren't `N`.
+    /// The elements of a vector of `N`. One of another length comes back.
     fn try_from(vec: EcoVec<T>) -> Result<Self, EcoVec<T>> {
-        if vec.len() != N {
-            return Err(vec);
+        match vec.0.into_array() {
+            Ok(array) => Ok(array),
+            Err(proved::IntoArray::Length(vec)) => Err(EcoVec(vec)),
+            Err(proved::IntoArray::Refused(error, _)) => granted(Err(error)),
         }
-        let item = |index| granted::<T, _>(vec.at(index), || 1);
-        Ok(std::array::from_fn(item))
     }
 }
 
-impl<T: Element> FromIterator<T> for EcoVec<T> {
+impl<T: Clone> FromIterator<T> for EcoVec<T> {
     fn from_iter<I: IntoIterator<Item = T>>(iter: I) -> Self {
-        let mut vec = Self::new();
+        let iter = iter.into_iter();
+        let mut vec = Self::with_capacity(iter.size_hint().0);
         vec.extend(iter);
         vec
     }
 }
 
-impl<T: Element> Extend<T> for EcoVec<T> {
+impl<T: Clone> Extend<T> for EcoVec<T> {
+    /// Appends the items, with room for as many as the iterator says that there are at least.
     fn extend<I: IntoIterator<Item = T>>(&mut self, iter: I) {
-        iter.into_iter().for_each(|item| self.push(item));
+        let iter = iter.into_iter();
+        let hint = iter.size_hint().0;
+        if hint > 0 {
+            self.reserve(hint);
+        }
+        granted(self.0.extend(iter))
     }
 }
 
-impl<'a> IntoIterator for &'a EcoVec<i64> {
-    type IntoIter = std::slice::Iter<'a, i64>;
-    type Item = &'a i64;
+impl<'a, T> IntoIterator for &'a EcoVec<T> {
+    type Item = &'a T;
+    type IntoIter = core::slice::Iter<'a, T>;
 
-    fn into_iter(self) -> Self::IntoIter {
-        self.as_slice().iter()
-    }
-}
-
-impl<'a> IntoIterator for &'a EcoVec<EcoString> {
-    type IntoIter = Iter<'a>;
-    type Item = &'a str;
-
+    #[inline]
     fn into_iter(self) -> Self::IntoIter {
         self.iter()
     }
 }
 
-impl<T: Element> IntoIterator for EcoVec<T> {
+impl<T: Clone> IntoIterator for EcoVec<T> {
+    type Item = T;
     type IntoIter = IntoIter<T>;
+
+    /// The elements by value. A sole vector moves them, and a shared one clones each when it is asked for.
+    #[inline]
+    fn into_iter(mut self) -> IntoIter<T> {
+        if self.is_unique() {
+            IntoIter(Left::Moved(granted(self.0.into_iter())))
+        } else {
+            IntoIter(Left::Cloned(0..self.len(), self))
+        }
+    }
+}
+
+/// The elements of a vector by value.
+pub struct IntoIter<T>(Left<T>);
+
+/// Those that are still to come: of a sole vector, or of one that is shared.
+enum Left<T> {
+    Moved(proved::IntoIter<T>),
+    Cloned(Range<usize>, EcoVec<T>),
+}
+
+/// The elements that `drain` took out. The vector is final already, and borrowed until this is dropped.
+pub struct Drain<'a, T> {
+    removed: proved::Drain<T>,
+    vec: PhantomData<&'a mut EcoVec<T>>,
+}
+
+/// The elements in whose place `splice` put those of an iterator. The vector is final already, and borrowed until this is
+/// dropped.
+pub struct Splice<'a, I: Iterator + 'a> {
+    replaced: proved::Splice<I::Item>,
+    vec: PhantomData<&'a mut EcoVec<I::Item>>,
+}
+
+impl<T> IntoIter<T> {
+    /// The elements that are still to come.
+    #[inline]
+    pub fn as_slice(&self) -> &[T] {
+        match &self.0 {
+            Left::Moved(rest) => rest.as_slice(),
+            Left::Cloned(left, vec) => &vec[left.clone()],
+        }
+    }
+}
+
+impl<T: Clone> Iterator for IntoIter<T> {
     type Item = T;
 
-    fn into_iter(self) -> IntoIter<T> {
-        IntoIter::new(self)
+    #[inline]
+    fn next(&mut self) -> Option<T> {
+        match &mut self.0 {
+            Left::Moved(rest) => rest.next(),
+            Left::Cloned(left, vec) => left.next().map(|at| vec[at].clone()),
+        }
+    }
+
+    #[inline]
+    fn size_hint(&self) -> (usize, Option<usize>) {
+        (self.as_slice().len(), Some(self.as_slice().len()))
+    }
+
+    #[inline]
+    fn fold<A, F: FnMut(A, T) -> A>(self, first: A, f: F) -> A {
+        match self.0 {
+            Left::Moved(rest) => rest.fold(first, f),
+            Left::Cloned(left, vec) => vec[left].iter().cloned().fold(first, f),
+        }
+    }
+}
+
+impl<T: Clone> DoubleEndedIterator for IntoIter<T> {
+    #[inline]
+    fn next_back(&mut self) -> Option<T> {
+        match &mut self.0 {
+            Left::Moved(rest) => rest.next_back(),
+            Left::Cloned(left, vec) => left.next_back().map(|at| vec[at].clone()),
+        }
+    }
+}
+
+impl<T: Clone> ExactSizeIterator for IntoIter<T> {}
+
+impl<T: Clone> FusedIterator for IntoIter<T> {}
+
+impl<T: Debug> Debug for IntoIter<T> {
+    fn fmt(&self, f: &mut fmt::Formatter<'_>) -> fmt::Result {
+        f.debug_tuple("IntoIter").field(&self.as_slice()).finish()
+    }
+}
+
+impl<T> Drain<'_, T> {
+    /// The elements that are still to come.
+    pub fn as_slice(&self) -> &[T] {
+        self.removed.as_slice()
+    }
+}
+
+impl<T> AsRef<[T]> for Drain<'_, T> {
+    fn as_ref(&self) -> &[T] {
+        self.as_slice()
+    }
+}
+
+impl<T: Debug> Debug for Drain<'_, T> {
+    fn fmt(&self, f: &mut fmt::Formatter<'_>) -> fmt::Result {
+        f.debug_tuple("Drain").field(&self.as_slice()).finish()
+    }
+}
+
+impl<I: Iterator<Item: Debug>> Debug for Splice<'_, I> {
+    fn fmt(&self, f: &mut fmt::Formatter<'_>) -> fmt::Result {
+        f.debug_tuple("Splice").field(&self.replaced.as_slice()).finish()
+    }
+}
+
+macro_rules! iterators {
+    ($([$($params:tt)*] $type:ty, $field:tt, $item:ty;)*) => { $(
+        impl<$($params)*> Iterator for $type {
+            type Item = $item;
+
+            #[inline]
+            fn next(&mut self) -> Option<$item> {
+                self.$field.next()
+            }
+
+            #[inline]
+            fn size_hint(&self) -> (usize, Option<usize>) {
+                self.$field.size_hint()
+            }
+        }
+
+        impl<$($params)*> DoubleEndedIterator for $type {
+            #[inline]
+            fn next_back(&mut self) -> Option<$item> {
+                self.$field.next_back()
+            }
+        }
+
+        impl<$($params)*> ExactSizeIterator for $type {}
+
+        impl<$($params)*> FusedIterator for $type {}
+    )* };
+}
+iterators! {
+    [T] Drain<'_, T>, removed, T;
+    [I: Iterator] Splice<'_, I>, replaced, I::Item;
+}
+
+#[cfg(feature = "std")]
+impl std::io::Write for EcoVec<u8> {
+    fn write(&mut self, bytes: &[u8]) -> std::io::Result<usize> {
+        std::io::Write::write(&mut self.0, bytes)
+    }
+
+    fn flush(&mut self) -> std::io::Result<()> {
+        Ok(())
     }
 }

@@ -1,16 +1,14 @@
 //! Bytes, beside values that are worked out by hand or by slices.
 
-mod common;
-
-use common::LENGTHS;
-use ecow_proved::{EcoBytes, Error};
+use ecow::{EcoBytes, EcoVec, Error};
 use std::borrow::{Borrow, Cow};
-use std::collections::hash_map::DefaultHasher;
 use std::collections::HashMap;
+use std::collections::hash_map::DefaultHasher;
 use std::hash::{Hash, Hasher};
 use std::io::Write;
-use std::mem::size_of;
 use std::panic::catch_unwind;
+
+const LENGTHS: [usize; 10] = [0, 1, 14, 15, 16, 17, 1023, 1024, 1025, 3000];
 
 fn hash<T: Hash + ?Sized>(value: &T) -> u64 {
     let mut hasher = DefaultHasher::new();
@@ -19,19 +17,11 @@ fn hash<T: Hash + ?Sized>(value: &T) -> u64 {
 }
 
 #[test]
-fn size_is_16() {
-    assert_eq!(size_of::<EcoBytes>(), 16);
-}
-
-#[test]
 fn up_to_15_are_inline_and_more_are_shared() {
     for len in LENGTHS {
         let all: Vec<u8> = (0..len).map(|index| index as u8).collect();
         let bytes = EcoBytes::from(all.as_slice());
-        assert_eq!(
-            (bytes.len(), bytes.is_empty(), bytes.is_inline()),
-            (len, len == 0, len <= 15)
-        );
+        assert_eq!((bytes.len(), bytes.is_empty(), bytes.is_inline()), (len, len == 0, len <= 15));
         assert_eq!(bytes, all);
         assert_eq!(EcoBytes::try_inline(&all).is_some(), len <= 15);
         assert_eq!(catch_unwind(|| EcoBytes::inline(&all)).is_ok(), len <= 15);
@@ -45,38 +35,6 @@ fn up_to_15_are_inline_and_more_are_shared() {
         assert_eq!(clone, bytes);
     }
     assert!(EcoBytes::with_capacity(15).is_inline() && !EcoBytes::with_capacity(16).is_inline());
-}
-
-#[test]
-fn edits() {
-    let mut bytes = EcoBytes::from([1, 2, 3]);
-    bytes.insert(1, 9);
-    bytes.set(0, 7);
-    assert_eq!(bytes, [7, 9, 2, 3]);
-    assert_eq!((bytes.remove(1), bytes.pop()), (9, Some(3)));
-    bytes.extend_from_slice(&[4; 20]);
-    bytes.insert_slice(2, b"xyz");
-    assert_eq!(bytes, [&[7, 2][..], b"xyz", &[4; 20]].concat());
-    let kept = bytes.clone();
-    bytes.replace_range(1..24, b"q");
-    assert_eq!(bytes, [7, b'q', 4]);
-    bytes.truncate(5);
-    bytes.truncate(1);
-    assert_eq!(bytes, [7]);
-    bytes.clear();
-    assert_eq!((bytes.is_empty(), bytes.pop()), (true, None));
-    bytes.write_all(b"written").unwrap();
-    bytes.flush().unwrap();
-    bytes.extend(*b" more");
-    bytes.extend(b" yet");
-    assert_eq!(bytes, b"written more yet");
-    assert_eq!(kept.len(), 25);
-    for (count, inline) in [(0, true), (7, true), (8, false), (600, false)] {
-        let repeated = EcoBytes::from(b"ab").repeat(count);
-        assert_eq!(repeated, b"ab".repeat(count));
-        assert_eq!(repeated.is_inline(), inline);
-    }
-    assert_eq!(EcoBytes::new().repeat(usize::MAX), []);
 }
 
 #[test]
@@ -108,10 +66,7 @@ fn refused() {
         assert!(panics(|bytes, _| bytes.reserve(usize::MAX)));
         assert!(!panics(|bytes, len| bytes.insert(len, 1)));
     }
-    assert_eq!(
-        EcoBytes::from(b"ab").try_repeat(usize::MAX),
-        Err(Error::Capacity)
-    );
+    assert_eq!(EcoBytes::from(b"ab").try_repeat(usize::MAX), Err(Error::Capacity));
 }
 
 #[test]
@@ -126,13 +81,7 @@ fn made_of_others_read_and_compared() {
     let bytes = EcoBytes::from(&all);
     assert_eq!(EcoBytes::from(&bytes).as_ptr(), bytes.as_ptr());
     assert_eq!((bytes[3], &bytes[18..]), (3, &[18, 19][..]));
-    assert_eq!(
-        (&bytes)
-            .into_iter()
-            .map(|byte| u32::from(*byte))
-            .sum::<u32>(),
-        190
-    );
+    assert_eq!((&bytes).into_iter().map(|byte| u32::from(*byte)).sum::<u32>(), 190);
     assert_eq!(AsRef::<[u8]>::as_ref(&bytes), all);
     assert_eq!(Borrow::<[u8]>::borrow(&bytes), all);
     assert_eq!(format!("{:?}", EcoBytes::from(b"\x01\xff")), "[1, 255]");
@@ -152,69 +101,13 @@ fn made_of_others_read_and_compared() {
             assert_eq!(hash(&other), hash(right));
         }
     }
+    let (mut written, mut bytes_written) = (EcoBytes::from(b"wr"), EcoVec::<u8>::new());
+    written.write_all(b"itten, and more than fits").unwrap();
+    bytes_written.write_all(&written).unwrap();
+    assert_eq!((&written[..7], bytes_written == written), (&b"written"[..], true));
     let two = EcoBytes::from([1, 2]);
     assert_eq!([1, 2], two);
     assert_eq!(two, [1, 2]);
     assert_eq!(two, &[1, 2]);
     assert_eq!(HashMap::from([(bytes, 1)]).get(&all[..]), Some(&1));
-}
-
-#[test]
-fn room_is_told_and_given_up() {
-    for len in LENGTHS {
-        let mut first = EcoBytes::from(vec![7; len]);
-        let inline = len <= 15;
-        assert!(first.capacity() >= len && (first.capacity() == 15) == inline);
-        assert_eq!(first.is_inline(), inline);
-        first.reserve(5000);
-        assert!(first.capacity() >= len + 5000 && !first.is_inline());
-        let (room, place) = (first.capacity(), first.as_ptr());
-        first.push(1);
-        assert_eq!((first.pop(), first.capacity()), (Some(1), room));
-        assert_eq!(first.as_ptr(), place, "the room that is told is there");
-        let second = first.clone();
-        assert_eq!((second.capacity(), second.is_inline()), (room, false));
-        first.shrink_to_fit();
-        assert_eq!(first.try_shrink_to_fit(), Ok(()));
-        assert_eq!(first.is_inline(), inline);
-        assert_eq!(first.capacity(), if inline { 15 } else { room });
-        assert_eq!((&first, second.capacity()), (&second, room));
-        assert_eq!(first.shares_with(&second), !inline);
-    }
-}
-
-/// A block of room for 15 bytes is told from what stands in the value.
-#[test]
-fn a_small_block_is_not_inline() {
-    let len = 16;
-    let mut small = EcoBytes::from(vec![7; len]);
-    let shared = small.clone();
-    small.truncate(15);
-    for _ in 0..2 {
-        assert_eq!((small.capacity(), small.is_inline()), (15, false));
-        assert!(!small.clone().is_inline());
-        small.clear();
-    }
-    small.shrink_to_fit();
-    assert_eq!((small.capacity(), small.is_inline()), (15, true));
-    assert_eq!(shared.len(), 16);
-}
-
-#[test]
-fn clones_share_until_one_is_changed() {
-    for len in LENGTHS {
-        let first = EcoBytes::from(vec![7; len]);
-        let mut second = first.clone();
-        let spilled = len > 15;
-        assert!(first.shares_with(&second) == spilled && second.shares_with(&first) == spilled);
-        assert_eq!(first.shares_with(&first), spilled);
-        assert!(
-            !first.shares_with(&EcoBytes::from(vec![7; len])),
-            "equal, in another block"
-        );
-        second.push(1);
-        assert!(!first.shares_with(&second));
-        assert_eq!(second.pop(), Some(1));
-        assert!(first == second && !first.shares_with(&second));
-    }
 }

@@ -245,8 +245,8 @@ impl<T> Block<T> {
         let all = self.len();
         if all > len {
             let base = fields(&self.title, self.top).base;
-            self.room.drop_last(base, len, all - len);
             put_len(&mut self.title, self.top, len);
+            self.room.drop_last(base, len, all - len);
         }
     }
 
@@ -633,6 +633,9 @@ impl<T: Drop> Block<T> {
             &self.alloc,
         );
         let len = self.len();
+        if len > 0 {
+            put_len(&mut self.title, self.top, 0);
+        }
         let count = self.room.retain(base, 0, len, f);
         if len > 0 {
             put_len(&mut self.title, self.top, count);

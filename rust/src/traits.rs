@@ -1,0 +1,179 @@
+//! Traits that several types have alike.
+
+/// Equality with what has the same slice.
+macro_rules! equal_to {
+    ($([$($params:tt)*] $left:ty, $right:ty;)*) => { $(
+        impl<$($params)*> PartialEq<$right> for $left {
+            #[inline]
+            fn eq(&self, other: &$right) -> bool {
+                self[..] == other[..]
+            }
+        }
+    )* };
+}
+
+/// Conversions.
+macro_rules! from {
+    ($([$($params:tt)*] $from:ty => $to:ty: |$value:ident| $made:expr;)*) => { $(
+        impl<$($params)*> From<$from> for $to {
+            #[inline]
+            fn from($value: $from) -> Self {
+                $made
+            }
+        }
+    )* };
+}
+
+/// What lends its slice, and is empty at first.
+macro_rules! slice_of {
+    ($([$($params:tt)*] $type:ty, $slice:ty, $as_slice:ident;)*) => { $(
+        impl<$($params)*> core::ops::Deref for $type {
+            type Target = $slice;
+
+            #[inline]
+            fn deref(&self) -> &$slice {
+                self.0.$as_slice()
+            }
+        }
+
+        impl<$($params)*> core::borrow::Borrow<$slice> for $type {
+            #[inline]
+            fn borrow(&self) -> &$slice {
+                self
+            }
+        }
+
+        impl<$($params)*> AsRef<$slice> for $type {
+            #[inline]
+            fn as_ref(&self) -> &$slice {
+                self
+            }
+        }
+
+        impl<$($params)*> Default for $type {
+            #[inline]
+            fn default() -> Self {
+                Self::new()
+            }
+        }
+    )* };
+}
+
+/// What `SmallBytes` and `SmallText` have by the proved type in them, and by the slice that they are.
+macro_rules! small {
+    ($type:ident, $slice:ty, $as_slice:ident, $copy:ident) => {
+        impl<const N: usize> $type<N> {
+            /// The greatest number of bytes that stand in the value itself.
+            pub const INLINE_LIMIT: usize = N;
+
+            /// Nothing, with room for `capacity` bytes. It panics where that is more than memory can hold.
+            pub fn with_capacity(capacity: usize) -> Self {
+                granted(Self::try_with_capacity(capacity))
+            }
+
+            /// As `with_capacity`: `Error::Capacity` past 2^63 - 1, `Error::Memory` where there is none.
+            pub fn try_with_capacity(capacity: usize) -> Result<Self, Error> {
+                Ok($type(proved::$type::with_capacity(Global, capacity)?))
+            }
+
+            /// Whether there is no byte.
+            #[inline]
+            pub fn is_empty(&self) -> bool {
+                self.0.is_empty()
+            }
+
+            /// The number of bytes.
+            #[inline]
+            pub fn len(&self) -> usize {
+                self.0.len()
+            }
+
+            /// Whether the bytes stand in the value itself.
+            #[inline]
+            pub fn is_inline(&self) -> bool {
+                self.0.is_inline()
+            }
+
+            /// For how many bytes there is room: `N` where they are inline.
+            #[inline]
+            pub fn capacity(&self) -> usize {
+                self.0.capacity()
+            }
+
+            /// A value that shares this one's block. It is refused past 2^63 - 1 owners alone, with `Error::Memory`.
+            pub fn try_clone(&self) -> Result<Self, Error> {
+                Ok($type(self.0.try_clone()?))
+            }
+
+            /// Keeps nothing. An inline value stays inline and a spilled one spilled.
+            pub fn clear(&mut self) {
+                self.0.clear()
+            }
+
+            /// Makes room for `additional` more bytes. It panics where these are more than memory can hold.
+            pub fn reserve(&mut self, additional: usize) {
+                granted(self.try_reserve(additional))
+            }
+
+            /// As `reserve`: `Error::Capacity` past 2^63 - 1, `Error::Memory` where there is none.
+            pub fn try_reserve(&mut self, additional: usize) -> Result<(), Error> {
+                Ok(self.0.reserve(additional)?)
+            }
+
+            /// Brings at most `N` spilled bytes back inline. Those that share them stay as they are. This crate's own.
+            pub fn shrink_to_fit(&mut self) {
+                self.0.shrink_to_fit()
+            }
+        }
+
+        impl<const N: usize> Clone for $type<N> {
+            #[inline]
+            fn clone(&self) -> Self {
+                $type(self.0.clone())
+            }
+        }
+
+        slice_of! { [const N: usize] $type<N>, $slice, $as_slice; }
+
+        impl<const N: usize> core::fmt::Debug for $type<N> {
+            fn fmt(&self, f: &mut core::fmt::Formatter<'_>) -> core::fmt::Result {
+                core::fmt::Debug::fmt(&self.0, f)
+            }
+        }
+
+        impl<const N: usize> core::hash::Hash for $type<N> {
+            #[inline]
+            fn hash<H: core::hash::Hasher>(&self, state: &mut H) {
+                self.0.hash(state)
+            }
+        }
+
+        impl<const N: usize> Eq for $type<N> {}
+
+        impl<const N: usize> PartialEq for $type<N> {
+            #[inline]
+            fn eq(&self, other: &Self) -> bool {
+                self[..] == other[..]
+            }
+        }
+
+        impl<const N: usize> Ord for $type<N> {
+            #[inline]
+            fn cmp(&self, other: &Self) -> core::cmp::Ordering {
+                self[..].cmp(&other[..])
+            }
+        }
+
+        impl<const N: usize> PartialOrd for $type<N> {
+            #[inline]
+            fn partial_cmp(&self, other: &Self) -> Option<core::cmp::Ordering> {
+                Some(self.cmp(other))
+            }
+        }
+
+        from! {
+            [const N: usize] &$type<N> => $type<N>: |value| value.clone();
+            [const N: usize] &$slice => $type<N>: |slice| granted(Self::$copy(slice));
+        }
+    };
+}

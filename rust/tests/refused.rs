@@ -1,0 +1,165 @@
+//! What is left where a request for memory is refused: each request of each call in turn.
+
+use ecow::{EcoBytes, EcoString, EcoVec, Error, Value};
+use std::alloc::{GlobalAlloc, Layout, System};
+use std::cell::Cell;
+use std::fmt::Debug;
+
+/// std's allocator, which counts, and refuses one request of a thread.
+struct Refusing;
+
+thread_local! {
+    /// How many requests were made, and how many blocks are held.
+    static REQUESTS: Cell<usize> = const { Cell::new(0) };
+    static HELD: Cell<isize> = const { Cell::new(0) };
+    /// Which of the next requests is refused: the first is 1, and 0 is none.
+    static REFUSED: Cell<usize> = const { Cell::new(0) };
+}
+
+fn grants() -> bool {
+    REQUESTS.set(REQUESTS.get() + 1);
+    REFUSED.replace(REFUSED.get().saturating_sub(1)) != 1
+}
+
+unsafe impl GlobalAlloc for Refusing {
+    unsafe fn alloc(&self, layout: Layout) -> *mut u8 {
+        if !grants() {
+            return std::ptr::null_mut();
+        }
+        HELD.set(HELD.get() + 1);
+        unsafe { System.alloc(layout) }
+    }
+
+    unsafe fn dealloc(&self, place: *mut u8, layout: Layout) {
+        HELD.set(HELD.get() - 1);
+        unsafe { System.dealloc(place, layout) }
+    }
+
+    unsafe fn realloc(&self, place: *mut u8, layout: Layout, size: usize) -> *mut u8 {
+        if grants() { unsafe { System.realloc(place, layout, size) } } else { std::ptr::null_mut() }
+    }
+}
+
+#[global_allocator]
+static ALLOCATOR: Refusing = Refusing;
+
+/// Makes a call on a value, sole and shared, with each of its requests refused in turn. A refusal is for memory, and leaves
+/// the value, the block and the other owner. Answers how many requests were refused.
+fn refused<T: Clone + PartialEq + Debug, E: Into<Error>>(
+    make: impl Fn() -> T,
+    call: impl Fn(&mut T) -> Result<(), E>,
+) -> usize {
+    let mut count = 0;
+    for shared in [false, true] {
+        for which in 1.. {
+            let held = HELD.get();
+            let mut value = make();
+            let (same, other) = (make(), shared.then(|| value.clone()));
+            REFUSED.set(which);
+            let error = call(&mut value).err().map(Into::into);
+            let came = REFUSED.replace(0) == 0;
+            assert!(other.is_none_or(|other| other == same));
+            if came {
+                assert_eq!((&value, error), (&same, Some(Error::Memory)));
+                count += 1;
+            } else {
+                assert_eq!(error, None);
+            }
+            drop((value, same));
+            assert_eq!(HELD.get(), held, "each block is given back");
+            if !came {
+                break;
+            }
+        }
+    }
+    count
+}
+
+fn text(len: usize) -> EcoString {
+    EcoString::from("t".repeat(len))
+}
+
+#[test]
+fn vectors() {
+    // At 1,024 a block of elements passes from one request to two.
+    for len in [0, 1, 4, 1023, 1024, 1025, 3000] {
+        let (few, word, two) = (usize::from(len > 0), EcoString::from("word"), [text(2), text(3)]);
+        let words = || (0..len).map(|n| EcoString::from(n.to_string())).collect::<EcoVec<_>>();
+        assert!(refused(words, |vec| vec.try_push(word.clone())) >= 1);
+        assert!(refused(words, |vec| vec.try_insert(len / 2, word.clone())) >= 1);
+        assert!(refused(words, |vec| vec.try_extend_from_slice(&[const { EcoString::new() }; 9])) >= 1);
+        assert!(refused(words, |vec| vec.try_reserve(5000)) >= 2);
+        assert!(refused(words, |vec| vec.try_make_mut().map(drop)) >= few);
+        assert!(refused(words, |vec| vec.try_pop().map(drop)) >= few);
+        assert!(refused(words, |vec| vec.try_retain(|_| false)) >= few);
+        assert!(refused(words, |vec| vec.try_truncate(len - few)) >= (len > 1) as usize);
+        assert!(refused(words, |vec| vec.try_drain(..).map(drop)) >= few);
+        assert!(refused(words, |vec| vec.try_splice(.., two.clone()).map(drop)) >= 1);
+        assert!(refused(words, |vec| vec.clone().try_into_vec().map(drop)) >= few);
+        if len > 0 {
+            assert!(refused(words, |vec| vec.try_remove(0).map(drop)) >= 1);
+            assert!(refused(words, |vec| vec.try_set(0, word.clone())) >= 1);
+            assert!(refused(words, |vec| vec.try_update(0, |word| word.push('x'))) >= 1);
+        }
+        let (bytes, more) = (|| EcoVec::from(vec![7u8; len]), vec![2; 2 * len + 1]);
+        assert!(refused(bytes, |vec| vec.try_extend_from_within(..)) >= few);
+        assert!(refused(bytes, |vec| vec.try_insert_slice(0, &[1; 9])) >= 1);
+        assert!(refused(bytes, |vec| vec.try_replace_range(.., &more)) >= 1);
+    }
+    // What is handed in comes back.
+    REFUSED.set(1);
+    let back = EcoVec::try_from_elem(String::new(), 3).unwrap_err();
+    assert_eq!((back.error, back.value), (Error::Memory, String::new()));
+    let words = vec![String::from("a"); 3];
+    REFUSED.set(1);
+    assert_eq!(EcoVec::try_from_vec(words).unwrap_err().value, ["a"; 3]);
+    let vec = EcoVec::from([String::from("b")]);
+    let other = vec.clone();
+    REFUSED.set(1);
+    assert_eq!(vec.try_into_vec().unwrap_err().value, other);
+    REFUSED.set(1);
+    assert_eq!(EcoVec::try_from_iter(0..9).unwrap_err(), Error::Memory);
+}
+
+#[test]
+fn texts_bytes_and_values() {
+    for len in [0, 3, 15, 16, 17, 1024, 1025] {
+        let (spilled, shared, long) = ((len > 15) as usize, || text(len), "x".repeat(2 * len + 16));
+        assert!(refused(shared, |text| text.try_push_str("a text that does not fit inline")) >= 1);
+        assert!(refused(shared, |text| text.try_insert_str(0, "a text that does not fit inline")) >= 1);
+        assert!(refused(shared, |text| text.try_replace_range(.., &long)) >= 1);
+        assert!(refused(shared, |text| text.try_reserve(3000)) >= 1);
+        assert!(refused(shared, |text| text.try_make_mut().map(drop)) >= spilled);
+        assert!(refused(shared, |text| text.try_pop().map(drop)) >= spilled);
+        assert!(refused(shared, |text| text.try_replace("t", "long enough").map(drop)) >= (len > 1) as usize);
+        assert!(refused(shared, |text| text.try_repeat(20).map(drop)) >= few(len));
+        assert!(refused(shared, |text| text.clone().try_into_eco_vec().map(drop)) >= few(len) - spilled);
+        let bytes = || EcoBytes::from(vec![7; len]);
+        assert!(refused(bytes, |bytes| bytes.try_extend_from_slice(&[1; 20])) >= 1);
+        assert!(refused(bytes, |bytes| bytes.try_insert_slice(0, &[1; 20])) >= 1);
+        assert!(refused(bytes, |bytes| bytes.try_truncate(len.saturating_sub(1))) >= spilled);
+        let list = || (0..len as i64).map(Value::from).collect::<Value>();
+        let fields = || [("list", list())].into_iter().collect::<Value>();
+        assert!(refused(list, |list| list.push(1)) >= 1);
+        assert!(refused(list, |list| list.truncate(len / 2)) >= (len > 1) as usize);
+        assert!(refused(fields, |fields| fields.set_field("a name of more than fifteen bytes", 1)) >= 1);
+        assert!(refused(fields, |fields| fields.set_path(&["list".into()], 1)) >= 1);
+    }
+}
+
+fn few(len: usize) -> usize {
+    (len > 0) as usize
+}
+
+#[test]
+fn clones_and_edits_in_place_ask_for_nothing() {
+    let mut vec: EcoVec<i64> = EcoVec::with_capacity(100);
+    let (long, value) = (text(40), Value::from([1, 2]));
+    let before = REQUESTS.get();
+    for number in 0..100 {
+        vec.push(number);
+    }
+    vec.insert(3, vec.len() as i64 - 1);
+    drop((vec.clone(), long.clone(), value.clone(), EcoString::from("inline"), EcoVec::<u8>::new()));
+    assert_eq!(REQUESTS.get() - before, 1, "the insertion alone grows");
+}
