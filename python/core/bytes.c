@@ -9,6 +9,8 @@
 #define NAME "Bytes"
 #define NOTE(to, from)
 #define FORGET(object)
+#define SPARED(state, type) NULL
+#define SPARE_IT(object) false
 #include "kind.h"
 
 #define ITEM uint8_t
@@ -42,7 +44,8 @@ static int bytes_read_item(core_state *Py_UNUSED(state), PyObject *given, uint8_
 
 static void bytes_drop_item(uint8_t *Py_UNUSED(byte)) {}
 
-static PyObject *bytes_item_object(core_state *Py_UNUSED(state), uint8_t *byte) {
+static PyObject *bytes_item_object(core_state *Py_UNUSED(state), uint8_t *byte,
+                                  bool Py_UNUSED(is_lent)) {
     return PyLong_FromLong(*byte);
 }
 

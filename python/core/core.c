@@ -47,10 +47,29 @@ int refuse(ecow_status status, const char *what) {
 }
 
 PyObject *none_or_error(ecow_status status, const char *what) {
-    if (check(status, what) < 0) {
-        return NULL;
+    return none_if(check(status, what));
+}
+
+PyObject *none_if(int done) {
+    return done < 0 ? NULL : Py_NewRef(Py_None);
+}
+
+bool refuse_change(const char *what) {
+    PyErr_Format(PyExc_TypeError,
+                 "a %s that a container has handed out can't be changed: change a copy() of it, "
+                 "and put that in",
+                 what);
+    return false;
+}
+
+bool read_source(const char *name, PyObject *arguments, PyObject *named, PyObject **source) {
+    Py_ssize_t count = PyTuple_Size(arguments);
+    *source = count == 1 ? PyTuple_GetItem(arguments, 0) : NULL;
+    if (named && PyDict_Size(named) > 0) {
+        PyErr_Format(PyExc_TypeError, "%s() takes no keyword arguments", name);
+        return false;
     }
-    Py_RETURN_NONE;
+    return takes(name, count, 0, 1);
 }
 
 PyObject *call_helper(PyObject *name, PyObject *first, PyObject *second) {
@@ -144,7 +163,10 @@ PyObject *compare_with_list(PyObject *sequence, PyObject *list, int operation) {
 }
 
 Py_ssize_t seek_object(PyObject *sequence, PyObject *object, Py_ssize_t start, Py_ssize_t stop) {
-    for (Py_ssize_t index = start; index < stop && index < PySequence_Size(sequence); index++) {
+    Py_ssize_t len = -1;
+    /* A comparison may run code that makes it of another kind, which has no length. */
+    for (Py_ssize_t index = start;
+         index < stop && index < (len = PySequence_Size(sequence)); index++) {
         PyObject *item = PySequence_GetItem(sequence, index);
         int same = item ? PyObject_RichCompareBool(item, object, Py_EQ) : -1;
         Py_XDECREF(item);
@@ -152,7 +174,7 @@ Py_ssize_t seek_object(PyObject *sequence, PyObject *object, Py_ssize_t start, P
             return same > 0 ? index : -2;
         }
     }
-    return -1;
+    return len < 0 && PyErr_Occurred() ? -2 : -1;
 }
 
 PyObject *named_repr(PyObject *self, PyObject *contents) {
@@ -186,6 +208,13 @@ static PyObject *address(PyObject *module, PyObject *given) {
     } else if (PyObject_TypeCheck(given, state->text)) {
         place = ecow_text_slice(&((text_object *)given)->value, &len);
         len = len <= INLINE ? 0 : len;
+    } else if (PyObject_TypeCheck(given, state->texts)) {
+        len = ecow_texts_len(&((texts_object *)given)->value);
+        place = (void *)(uintptr_t)((texts_object *)given)->value.word[0];
+    } else if (PyObject_TypeCheck(given, state->value)) {
+        /* The word of a list or of fields stands behind that with the kind. */
+        len = ecow_value_len(&((value_object *)given)->value);
+        place = (void *)(uintptr_t)((value_object *)given)->value.word[1];
     }
     return PyLong_FromVoidPtr(len ? (void *)place : NULL);
 }
@@ -262,6 +291,9 @@ static void release(void *module) {
         Py_CLEAR(state->texts);
         Py_CLEAR(state->value);
         Py_CLEAR(state->snapshot);
+        while (state->spares > 0) {
+            PyObject_Free(state->spare[--state->spares]);
+        }
 #define CLEAR_NAME(name) Py_CLEAR(state->names.name);
 #define CLEAR_OF_BYTES(name) Py_CLEAR(state->of_bytes.name);
 #define CLEAR_OF_STR(name) Py_CLEAR(state->of_str.name);

@@ -6,7 +6,9 @@
  *     TYPE                  the field of the state with the kind's type
  *     NAME                  the name of that type
  *     NOTE(to, from)        copies what an object notes beside its value
- *     FORGET(object)        forgets it */
+ *     FORGET(object)        forgets it
+ *     SPARED(state, type)   memory for a new object, or null
+ *     SPARE_IT(object)      whether the memory of one that is gone is kept for that */
 
 static inline OBJECT *OWN(cast)(PyObject *self) {
     return (OBJECT *)self;
@@ -18,7 +20,8 @@ static inline bool OWN(is)(core_state *state, PyObject *given) {
 
 /* A new empty object of a type. */
 static OBJECT *OWN(make)(core_state *state, PyTypeObject *type) {
-    OBJECT *made = (OBJECT *)PyType_GenericAlloc(type, 0);
+    OBJECT *made = SPARED(state, type);
+    made = made ? made : (OBJECT *)PyType_GenericAlloc(type, 0);
     if (made) {
         made->state = state;
     }
@@ -74,8 +77,11 @@ static void OWN(dealloc)(PyObject *self) {
     if (OWN(cast)(self)->weak_references) {
         PyObject_ClearWeakRefs(self);
     }
+    FORGET(OWN(cast)(self));
     CALL(drop)(&OWN(cast)(self)->value);
-    release(self);
+    if (!SPARE_IT(OWN(cast)(self))) {
+        release(self);
+    }
     Py_DECREF(type);
 }
 

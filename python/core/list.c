@@ -9,6 +9,8 @@
 #define NAME "List"
 #define NOTE(to, from)
 #define FORGET(object)
+#define SPARED(state, type) NULL
+#define SPARE_IT(object) false
 #include "kind.h"
 
 #define ITEM int64_t
@@ -46,7 +48,8 @@ static int list_read_item(core_state *Py_UNUSED(state), PyObject *given, int64_t
 
 static void list_drop_item(int64_t *Py_UNUSED(number)) {}
 
-static PyObject *list_item_object(core_state *Py_UNUSED(state), int64_t *number) {
+static PyObject *list_item_object(core_state *Py_UNUSED(state), int64_t *number,
+                                  bool Py_UNUSED(is_lent)) {
     return PyLong_FromLongLong(*number);
 }
 

@@ -7,16 +7,42 @@ Py_ssize_t find_first(const char *bytes, Py_ssize_t size, const char *part, Py_s
     return found ? found - bytes : -1;
 }
 
+/* Copies bytes from the last to the first. */
+static void turn(char *to, const char *bytes, Py_ssize_t size) {
+    while (size > 0) {
+        *to++ = bytes[--size];
+    }
+}
+
+/* The first search in all that is turned, which takes time by the size: -2 without memory. */
+static Py_ssize_t find_turned(const char *bytes, Py_ssize_t size, const char *part,
+                              Py_ssize_t count) {
+    char *turned = PyMem_Malloc((size_t)(size + count));
+    if (!turned) {
+        PyErr_NoMemory();
+        return -2;
+    }
+    turn(turned, bytes, size);
+    turn(turned + size, part, count);
+    Py_ssize_t found = find_first(turned, size, turned + size, count);
+    PyMem_Free(turned);
+    return found < 0 ? -1 : size - count - found;
+}
+
 Py_ssize_t find_last(const char *bytes, Py_ssize_t size, const char *part, Py_ssize_t count) {
     if (count == 0 || count > size) {
         return count == 0 ? size : -1;
     }
+    int tries = 0;
     for (Py_ssize_t left = size - count + 1; left > 0;) {
         const char *found = memrchr(bytes, part[0], (size_t)left);
         if (!found || memcmp(found, part, (size_t)count) == 0) {
             return found ? found - bytes : -1;
         }
         left = found - bytes;
+        if (++tries == 1000) {
+            return find_turned(bytes, left + count - 1, part, count);
+        }
     }
     return -1;
 }

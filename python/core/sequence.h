@@ -2,7 +2,8 @@
  *     ITEM                       the type of an item of the library's; `PASS(item)` goes to a call
  *     GIVEN                      the struct of items that a call was given, with their `count`
  *     OWN(read_item)             reads an item from an object of Python's; `OWN(drop_item)` ends it
- *     OWN(item_object)           makes an object of Python's of an item, which it takes over
+ *     OWN(item_object)           makes an object of Python's of an item, which it takes over; one
+ *                                that stays in its container is lent
  *     OWN(give)                  reads items from any iterable; `OWN(give_back)` ends them
  *     OWN(add_given)             appends given items to a value
  *     OWN(put_given)             puts them in place of a range
@@ -19,7 +20,7 @@ static PyObject *OWN(item)(PyObject *self, Py_ssize_t index) {
     if (check(CALL(get)(&object->value, (size_t)index, &item), NAME) < 0) {
         return NULL;
     }
-    return OWN(item_object)(object->state, &item);
+    return OWN(item_object)(object->state, &item, true);
 }
 
 /* Reads an index that counts from the end where it is below 0. One before the start passes the end
@@ -170,15 +171,10 @@ static int OWN(set_subscript)(PyObject *self, PyObject *key, PyObject *value) {
 
 static int OWN(init)(PyObject *self, PyObject *arguments, PyObject *named) {
     OBJECT *object = OWN(cast)(self);
-    Py_ssize_t count = PyTuple_Size(arguments);
-    if (named && PyDict_Size(named) > 0) {
-        PyErr_SetString(PyExc_TypeError, NAME "() takes no keyword arguments");
+    PyObject *source;
+    if (!read_source(NAME, arguments, named, &source)) {
         return -1;
     }
-    if (!takes(NAME, count, 0, 1)) {
-        return -1;
-    }
-    PyObject *source = count ? PyTuple_GetItem(arguments, 0) : NULL;
     if (!source) {
         return check(CALL(clear)(&object->value), NAME);
     }
@@ -256,7 +252,7 @@ static PyObject *OWN(pop)(PyObject *self, PyObject *const *arguments, Py_ssize_t
     }
     ecow_status status =
         count ? CALL(remove)(&object->value, index, &item) : CALL(pop)(&object->value, &item);
-    return check(status, NAME) < 0 ? NULL : OWN(item_object)(object->state, &item);
+    return check(status, NAME) < 0 ? NULL : OWN(item_object)(object->state, &item, false);
 }
 
 static PyObject *OWN(reverse)(PyObject *self, PyObject *Py_UNUSED(none)) {

@@ -7,9 +7,42 @@
 #define OWN(name) text_##name
 #define TYPE text
 #define NAME "Text"
-#define NOTE(to, from) \
-    ((to)->count = (from)->count, (to)->character = (from)->character, (to)->byte = (from)->byte)
-#define FORGET(object) ((object)->count = -1, (object)->character = (object)->byte = 0)
+#define NOTE(to, from) note(to, from)
+#define FORGET(object) forget(object)
+#define SPARED(state, type) spared(state, type)
+#define SPARE_IT(object) spare_it(object)
+
+static void forget(text_object *object) {
+    object->count = -1;
+    object->character = object->byte = object->passed = 0;
+    Py_CLEAR(object->plain);
+}
+
+static void note(text_object *to, const text_object *from) {
+    to->count = from->count;
+    to->character = from->character;
+    to->byte = from->byte;
+    to->plain = Py_XNewRef(from->plain);
+}
+
+static text_object *spared(core_state *state, PyTypeObject *type) {
+    if (type != state->text || state->spares == 0) {
+        return NULL;
+    }
+    text_object *made = state->spare[--state->spares];
+    memset(made, 0, sizeof *made);
+    return (text_object *)PyObject_Init((PyObject *)made, type);
+}
+
+static bool spare_it(text_object *object) {
+    core_state *state = object->state;
+    bool kept = Py_TYPE((PyObject *)object) == state->text && state->spares < SPARE;
+    if (kept) {
+        state->spare[state->spares++] = object;
+    }
+    return kept;
+}
+
 #include "kind.h"
 
 /* ---- Characters and bytes ---- */
@@ -66,6 +99,7 @@ static Py_ssize_t byte_of(text_object *object, Py_ssize_t character) {
         at = count;
         byte = size;
     }
+    object->passed += character < at ? at - character : character - at;
     for (; at < character; at++) {
         do {
             byte++;
@@ -136,8 +170,18 @@ PyObject *str_of(const ecow_text *text) {
     return PyUnicode_DecodeUTF8(bytes, (Py_ssize_t)size, NULL);
 }
 
+/* A text no longer than that keeps its `str`, and a longer one where it was passed that often. */
+enum { SHORT = 64, OFTEN_PASSED = 4 };
+
 static PyObject *text_str(PyObject *self) {
-    return str_of(&text_cast(self)->value);
+    text_object *object = text_cast(self);
+    PyObject *plain = object->plain ? Py_NewRef(object->plain) : str_of(&object->value);
+    Py_ssize_t size = (Py_ssize_t)ecow_text_len(&object->value);
+    bool often = object->passed > 0 && object->passed > OFTEN_PASSED * object->count;
+    if (plain && !object->plain && (size <= SHORT || often)) {
+        object->plain = Py_NewRef(plain);
+    }
+    return plain;
 }
 
 /* A `str` of texts, joined with `between`. */
@@ -163,9 +207,17 @@ static PyObject *one_text(core_state *state, PyObject *given) {
 
 /* ---- Changes ---- */
 
+/* Readies a text for a change: not one that a container has handed out. */
+static bool can_change(text_object *object) {
+    object->passed = 0;
+    Py_CLEAR(object->plain);
+    return !object->is_lent || refuse_change(NAME);
+}
+
 /* Appends UTF-8. */
 static int add(text_object *object, utf8 added) {
-    if (check(ecow_text_extend(&object->value, added.bytes, (size_t)added.size), NAME) < 0) {
+    if (!can_change(object)
+        || check(ecow_text_extend(&object->value, added.bytes, (size_t)added.size), NAME) < 0) {
         return -1;
     }
     object->count += object->count < 0 ? 0 : added.count;
@@ -175,7 +227,8 @@ static int add(text_object *object, utf8 added) {
 /* Puts UTF-8 in place of the characters from `start` up to `end`. */
 static int put(text_object *object, Py_ssize_t start, Py_ssize_t end, utf8 added) {
     Py_ssize_t count = count_of(object), to = byte_of(object, end), from = byte_of(object, start);
-    if (check(ecow_text_splice(&object->value, (size_t)from, (size_t)to, added.bytes,
+    if (!can_change(object)
+        || check(ecow_text_splice(&object->value, (size_t)from, (size_t)to, added.bytes,
                                (size_t)added.size),
               NAME)
         < 0) {
@@ -192,7 +245,7 @@ static const utf8 no_text = {"", 0, 0};
 /* Makes the text that of a `str`, which is given up. */
 static int become(text_object *object, PyObject *plain) {
     ecow_text text = {{0}};
-    int done = plain ? read_text(object->state, plain, &text) : -1;
+    int done = plain && can_change(object) ? read_text(object->state, plain, &text) : -1;
     if (done == 0) {
         text_take_over(object, &text);
         object->count = PyUnicode_GetLength(plain);
@@ -201,25 +254,13 @@ static int become(text_object *object, PyObject *plain) {
     return done;
 }
 
-static PyObject *none_if(int done) {
-    if (done < 0) {
-        return NULL;
-    }
-    Py_RETURN_NONE;
-}
-
 static int text_init(PyObject *self, PyObject *arguments, PyObject *named) {
     text_object *object = text_cast(self);
-    Py_ssize_t count = PyTuple_Size(arguments);
     ecow_text text = {{0}};
-    if (named && PyDict_Size(named) > 0) {
-        PyErr_SetString(PyExc_TypeError, "Text() takes no keyword arguments");
+    PyObject *given;
+    if (!read_source(NAME, arguments, named, &given) || !can_change(object)) {
         return -1;
     }
-    if (!takes(NAME, count, 0, 1)) {
-        return -1;
-    }
-    PyObject *given = count ? PyTuple_GetItem(arguments, 0) : NULL;
     if (given && PyObject_TypeCheck(given, object->state->value)) {
         if (check(ecow_value_text(&((value_object *)given)->value, &text), "the value") < 0) {
             return -1;
@@ -273,6 +314,13 @@ static PyObject *text_item(PyObject *self, Py_ssize_t index) {
         check(ECOW_INDEX, NAME);
         return NULL;
     }
+    if (!object->plain && object->passed > OFTEN_PASSED * object->count) {
+        Py_XDECREF(text_str(self));
+        PyErr_Clear();
+    }
+    if (object->plain) {
+        return PyUnicode_FromOrdinal((int)PyUnicode_ReadChar(object->plain, index));
+    }
     ecow_status status = ecow_text_get(&object->value, (size_t)byte_of(object, index), &character);
     return check(status, NAME) < 0 ? NULL : PyUnicode_FromOrdinal((int)character);
 }
@@ -313,7 +361,7 @@ static PyObject *text_pop(PyObject *self, PyObject *const *arguments, Py_ssize_t
 
 static PyObject *text_clear(PyObject *self, PyObject *Py_UNUSED(none)) {
     text_object *object = text_cast(self);
-    if (check(ecow_text_clear(&object->value), NAME) < 0) {
+    if (!can_change(object) || check(ecow_text_clear(&object->value), NAME) < 0) {
         return NULL;
     }
     FORGET(object);
@@ -335,7 +383,7 @@ static bool read_size(PyObject *given, Py_ssize_t *size) {
 static PyObject *text_truncate(PyObject *self, PyObject *length) {
     text_object *object = text_cast(self);
     Py_ssize_t len;
-    if (!read_size(length, &len)) {
+    if (!read_size(length, &len) || !can_change(object)) {
         return NULL;
     }
     if (len < count_of(object)) {
@@ -351,7 +399,7 @@ static PyObject *text_truncate(PyObject *self, PyObject *length) {
 
 static PyObject *text_reserve(PyObject *self, PyObject *additional) {
     Py_ssize_t size;
-    return read_size(additional, &size)
+    return read_size(additional, &size) && can_change(text_cast(self))
                ? none_or_error(ecow_text_reserve(&text_cast(self)->value, (size_t)size), NAME)
                : NULL;
 }
@@ -415,14 +463,16 @@ static int text_set_subscript(PyObject *self, PyObject *key, PyObject *value) {
     utf8 added = no_text;
     if (PyIndex_Check(key)) {
         Py_ssize_t index;
-        if (value && read_utf8(object->state, value, &added) < 0) {
+        /* An index is read first, since its code may change any text. */
+        if (!read_index(object, key, &index)
+            || (value && read_utf8(object->state, value, &added) < 0)) {
             return -1;
         }
         if (value && added.count != 1) {
             PyErr_SetString(PyExc_ValueError, "a character is a text of length 1");
             return -1;
         }
-        return read_index(object, key, &index) ? put(object, index, index + 1, added) : -1;
+        return put(object, index, index + 1, added);
     }
     if (!PySlice_Check(key)) {
         PyErr_Format(PyExc_TypeError, "Text indices must be integers or slices, not %R",
@@ -636,9 +686,13 @@ static PyObject *text_plus(PyObject *left, PyObject *right) {
     return (PyObject *)made;
 }
 
+/* As with a `str`, a text that may not be changed gives a new one. */
 static PyObject *text_plus_in_place(PyObject *self, PyObject *other) {
     text_object *object = text_cast(self);
     utf8 added;
+    if (object->is_lent) {
+        return text_plus(self, other);
+    }
     if (!is_text(object->state, other)) {
         Py_RETURN_NOTIMPLEMENTED;
     }
@@ -650,18 +704,20 @@ static PyObject *text_plus_in_place(PyObject *self, PyObject *other) {
 }
 
 static PyObject *text_repeat_in_place(PyObject *self, Py_ssize_t times) {
-    text_object *object = text_cast(self);
+    PyObject *made = text_cast(self)->is_lent ? text_cloned(self, text_cast(self)->state->text)
+                                              : Py_NewRef(self);
+    text_object *object = text_cast(made);
     times = times < 0 ? 0 : times;
-    if (times != 1) {
+    if (made && times != 1) {
         Py_ssize_t count = count_of(object);
         if (check(ecow_text_repeat(&object->value, (size_t)times), NAME) < 0) {
+            Py_CLEAR(made);
             return NULL;
         }
         FORGET(object);
         object->count = count * times;
     }
-    Py_INCREF(self);
-    return self;
+    return made;
 }
 
 static PyObject *text_repeat(PyObject *self, Py_ssize_t times) {
@@ -730,8 +786,35 @@ static PyObject *text_repr(PyObject *self) {
     return named_repr(self, text_str(self));
 }
 
-static PyObject *text_formatted(PyObject *self, PyObject *format) {
+static Py_hash_t text_hashed(PyObject *self) {
+    PyObject *plain = text_cast(self)->is_lent ? text_str(self) : NULL;
+    Py_hash_t hash = plain ? PyObject_Hash(plain) : -1;
+    Py_XDECREF(plain);
+    return text_cast(self)->is_lent ? hash : PyObject_HashNotImplemented(self);
+}
+
+/* Loops pass over the characters of the moment at which they begin. */
+static PyObject *text_iter(PyObject *self) {
     PyObject *plain = text_str(self);
+    PyObject *iterator = plain ? PyObject_GetIter(plain) : NULL;
+    Py_XDECREF(plain);
+    return iterator;
+}
+
+static PyObject *text_reversed(PyObject *self, PyObject *Py_UNUSED(none)) {
+    PyObject *iterator = (PyObject *)&PyReversed_Type;
+    return call_alone(text_str(self), iterator);
+}
+
+static PyObject *text_formatted(PyObject *self, PyObject *format) {
+    if (!PyUnicode_Check(format)) {
+        PyErr_SetString(PyExc_TypeError, "__format__() argument must be str");
+        return NULL;
+    }
+    PyObject *plain = text_str(self);
+    if (plain && PyUnicode_GetLength(format) == 0) {
+        return plain;
+    }
     PyObject *formatted = plain ? PyObject_Format(plain, format) : NULL;
     Py_XDECREF(plain);
     return formatted;
@@ -841,6 +924,7 @@ static PyMethodDef text_methods[] = {
      PyDoc_STR("hash($self, /)\n--\n\n"
                "A hash of the contents, from 0 to 2^64 - 1, the same in every process.")},
     {"__format__", text_formatted, METH_O, NULL},
+    {"__reversed__", text_reversed, METH_NOARGS, NULL},
     {NULL, NULL, 0, NULL},
 };
 /* clang-format on */
@@ -859,8 +943,8 @@ static PyType_Slot text_slots[] = {
     {Py_tp_dealloc, text_dealloc},
     {Py_tp_members, text_members},
     {Py_tp_methods, text_methods},
-    {Py_tp_iter, PySeqIter_New},
-    {Py_tp_hash, PyObject_HashNotImplemented},
+    {Py_tp_iter, text_iter},
+    {Py_tp_hash, text_hashed},
     {Py_tp_str, text_str},
     {Py_tp_repr, text_repr},
     {Py_tp_richcompare, text_compared},

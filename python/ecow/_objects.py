@@ -1,4 +1,5 @@
-"""How values go through `copy` and `pickle`. The extension module calls what it finds here.
+"""What the extension module leaves to Python: how values are read from objects of other classes,
+compared, hashed, copied and pickled, and the methods of dictionaries. It calls what it finds here.
 
 What a value holds is pickled as a block, an object of its own. Values that share memory have one
 block while they are pickled, so it is stored once, and they share memory again when loaded."""
@@ -7,14 +8,148 @@ from __future__ import annotations
 
 import array
 import copy
-import struct
+import dataclasses
+import operator
 import sys
 import weakref
+from collections.abc import Callable, Iterable, Mapping
 from typing import Any, Optional
 
 from ecow._core import Bytes, List, Text, Texts, Value, _address, _parts
 
 _KINDS = (List, Bytes, Text, Texts, Value)
+
+
+def plain(source: Any) -> Any:
+    """What an object of another class is read as: an int, a list, or a dict in the order of its
+    items."""
+    if isinstance(source, Mapping):
+        return dict(source.items())
+    if isinstance(source, (list, List, Texts)):
+        return list(source)
+    if dataclasses.is_dataclass(source) and not isinstance(source, type):
+        return {each.name: getattr(source, each.name) for each in dataclasses.fields(source)}
+    if hasattr(type(source), "__index__"):
+        return operator.index(source)
+    raise TypeError(f"a value can't hold {type(source)!r}")
+
+
+def _folded(value: Any, leaf: Callable[[Any], Any], branch: Callable[[Any, list[Any]], Any]) -> Any:
+    """What `leaf` makes of parts that have none, and `branch` of lists and fields with what their
+    parts became. Memory that parts share is visited once, and the stack doesn't grow."""
+    known: dict[int, Any] = {}
+    made: list[Any] = []
+    todo: list[Any] = [(value, None)]
+    while todo:
+        part, count = todo.pop()
+        if not isinstance(part, Value) or part.kind not in ("list", "fields"):
+            made.append(leaf(part))
+        elif count is not None:
+            inner = made[len(made) - count:]
+            del made[len(made) - count:]
+            made.append(branch(part, inner))
+            if count:
+                known[_address(part)] = made[-1]
+        elif _address(part) in known:
+            made.append(known[_address(part)])
+        else:
+            parts = _parts(part)
+            todo.append((part, len(parts)))
+            todo.extend((each, None) for each in reversed(parts))
+    return made[0]
+
+
+def depth(value: Any) -> Any:
+    """How deep lists and fields are nested."""
+    return _folded(value, lambda part: 0, lambda part, below: 1 + max(below, default=0))
+
+
+def hashed(value: Any) -> Any:
+    """The hash of what can't be changed: equal values have the same."""
+    return _folded(
+        value,
+        lambda part: hash(part) if part == part else 0,
+        lambda part, below: hash(tuple(below)) if part.kind == "list"
+        else hash(frozenset(zip(part.keys(), below))),
+    )
+
+
+def _opened(thing: Any) -> Any:
+    """The parts of a list or of fields, or another object as it is."""
+    if isinstance(thing, Value):
+        return dict(thing.items()) if thing.kind == "fields" else (
+            list(thing) if thing.kind == "list" else thing.to_python())
+    return thing
+
+
+def equal(value: Any, other: Any) -> bool:
+    """Whether a value equals another, or a list or a dict, as `to_python()` of both do; a NaN in
+    two values equals each NaN. Two parts are compared once, and the stack doesn't grow."""
+    both = isinstance(other, Value)
+    seen: dict[Any, Any] = {}
+    todo = [(value, other)]
+    while todo:
+        left, right = todo.pop()
+        key = tuple(isinstance(each, Value) and _address(each) or id(each) for each in (left, right))
+        if key[0] == key[1] or key in seen:
+            continue
+        one, two = _opened(left), _opened(right)
+        if isinstance(one, list) and isinstance(two, list):
+            pairs: Iterable[Any] = zip(one, two)
+        elif isinstance(one, dict) and isinstance(two, dict) and one.keys() == two.keys():
+            pairs = [(one[name], two[name]) for name in one]
+        elif isinstance(one, (list, dict)) or isinstance(two, (list, dict)):
+            return False
+        elif one == two or (both and one != one and two != two):
+            continue
+        else:
+            return False
+        if len(one) != len(two):
+            return False
+        # What is compared stays, so that no other object has its address.
+        seen[key] = left, right
+        todo.extend(pairs)
+    return True
+
+
+def _update(self: Any, /, *others: Any, **named: Any) -> None:
+    """Sets the fields of a mapping, or of pairs of names and values, and those that are named: all
+    or none."""
+    made = self.copy()
+    for name, part in dict(*others, **named).items():
+        made[name] = part
+    self.set([], made)
+
+
+def _setdefault(self: Any, name: Any, default: Any = None, /) -> Any:
+    """The value of a field, which is set where there is none."""
+    if name not in self:
+        self[name] = default
+    return self[name]
+
+
+def _joined(left: Any, right: Any) -> Any:
+    """A new value with the fields of both; the right ones count."""
+    if not isinstance(right, (Mapping, Value)):
+        return NotImplemented
+    made = Value(left)
+    _update(made, right)
+    return made
+
+
+def _joined_right(right: Any, left: Any) -> Any:
+    return _joined(left, right) if isinstance(left, Mapping) else NotImplemented
+
+
+def _joined_in_place(left: Any, right: Any) -> Any:
+    _update(left, right)
+    return left
+
+
+for _name, _method in (("update", _update), ("setdefault", _setdefault), ("__or__", _joined),
+                       ("__ror__", _joined_right), ("__ior__", _joined_in_place)):
+    _method.__name__, _method.__qualname__ = _name, f"Value.{_name}"
+    setattr(Value, _name, _method)
 
 
 class Block:
@@ -77,39 +212,33 @@ def _loaded(packed: Any) -> Any:
     return packed.value if isinstance(packed, Block) else packed
 
 
-def _block(key: Any, value: Any, parts: Optional[list[Any]] = None) -> Block:
-    """The block of a key, which holds what `value` does."""
-    block = _blocks.get(key)
+def _block(value: Any, held: Any, parts: Optional[list[Any]] = None) -> Block:
+    """The block of the memory of a value, which holds the same; one that has none has its own."""
+    kind = next(each for each in _KINDS if isinstance(value, each))
+    address = _address(value)
+    block = _blocks.get((kind, address)) if address else None
     if block is None:
-        block = _blocks[key] = Block(value, parts)
+        block = Block(held, parts)
+        if address:
+            _blocks[kind, address] = block
     return block
-
-
-def _exactly(part: Any) -> Any:
-    """What tells a part from others, where `==` takes some for the same: 1, 1.0 and True."""
-    return struct.pack("d", part) if isinstance(part, float) else (type(part), part)
 
 
 def _packed(value: Any) -> Any:
     """What a value is pickled as: a block, or an object of Python's where it is as small."""
     if isinstance(value, Value):
-        if value.kind == "text":
-            return _packed(Text(value))
-        if value.kind not in ("list", "fields"):
-            return value.to_python()
-        parts = [_packed(part) for part in _parts(value)]
-        names = tuple(value.keys()) if value.kind == "fields" else None
-        return _block((names, *map(_exactly, parts)), Value(value), parts)
+        return _folded(value, _packed_leaf, lambda part, parts: _block(part, Value(part), parts))
     if isinstance(value, Texts):
-        block = _blocks.get(value.hash())
-        if block is None or block.value != value:
-            block = Block(Texts(value), [_packed(text) for text in value])
-            _blocks[value.hash()] = block
-        return block
+        return _block(value, Texts(value), [_packed(text) for text in value])
+    return _packed_leaf(value)
+
+
+def _packed_leaf(value: Any) -> Any:
+    if isinstance(value, Value):
+        return _packed_leaf(Text(value)) if value.kind == "text" else value.to_python()
     for kind, plain in ((List, list), (Bytes, bytes), (Text, str)):
         if isinstance(value, kind):
-            address = _address(value)
-            return _block((kind, address), kind(value)) if address else plain(value)
+            return _block(value, kind(value)) if _address(value) else plain(value)
     return value
 
 

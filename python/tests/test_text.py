@@ -284,11 +284,17 @@ class Methods(unittest.TestCase):
         self.assertEqual(value, "a" + "axyzghi" * 2 + "xyzghi" + "axyzghi")
 
     def test_iteration_while_changing(self):
-        value = Text("\u00e9")
+        """A loop passes over the characters of the moment at which it begins."""
+        value, passed = Text("\u00e9bc"), []
         for character in value:
-            if len(value) < 100:
-                value.insert(0, "a\u20ac")
-        self.assertGreaterEqual(len(value), 100)
+            value.insert(0, "a\u20ac")
+            passed.append(character)
+        self.assertEqual(passed, ["\u00e9", "b", "c"])
+        self.assertEqual(len(value), 9)
+        for character in reversed(value):
+            value.clear()
+            passed.append(character)
+        self.assertEqual("".join(passed[3:]), "cb\u00e9" + "\u20aca" * 3)
 
     def test_in_place(self):
         """Names of `list` change the text; names of `str` give a new one."""
