@@ -29,8 +29,10 @@ static text_object *spared(core_state *state, PyTypeObject *type) {
     if (type != state->text || state->spares == 0) {
         return NULL;
     }
+    /* What is gone has forgotten everything else. */
     text_object *made = state->spare[--state->spares];
-    memset(made, 0, sizeof *made);
+    made->count = 0;
+    made->is_lent = false;
     return (text_object *)PyObject_Init((PyObject *)made, type);
 }
 

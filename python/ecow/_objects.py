@@ -234,6 +234,7 @@ def _packed(value: Any) -> Any:
 
 
 def _packed_leaf(value: Any) -> Any:
+    kind: Any
     if isinstance(value, Value):
         return _packed_leaf(Text(value)) if value.kind == "text" else value.to_python()
     for kind, plain in ((List, list), (Bytes, bytes), (Text, str)):
@@ -242,7 +243,7 @@ def _packed_leaf(value: Any) -> Any:
     return value
 
 
-def restored(kind: type[Any], packed: Any) -> Any:
+def restored(kind: Any, packed: Any) -> Any:
     """A value of a type, whose own `__init__` isn't called."""
     base = next(each for each in kind.__mro__ if each in _KINDS)
     value = kind.__new__(kind)
