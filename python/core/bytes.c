@@ -123,113 +123,36 @@ static int read_part(core_state *state, PyObject *object, uint8_t *byte, given_b
     return 0;
 }
 
-/* A search in bytes: the first place of a part, the last one, or how often it occurs. */
-typedef Py_ssize_t search(const char *bytes, Py_ssize_t size, const char *part, Py_ssize_t count);
-
-/* An empty part occurs between any two bytes, and at both ends. */
-static Py_ssize_t count_any(const char *bytes, Py_ssize_t size, const char *part,
-                            Py_ssize_t count) {
-    return count ? count_parts(bytes, size, part, count) : size + 1;
-}
-
-/* Searches a range: -1 where the part doesn't stand there, -2 where an error is raised. */
 static Py_ssize_t bytes_seek(PyObject *self, const char *name, PyObject *const *arguments,
-                             Py_ssize_t count, search *what) {
+                             Py_ssize_t count, search what) {
     bytes_object *object = bytes_cast(self);
     given_bytes given = {0};
     uint8_t byte;
     Py_ssize_t start, stop, found = -2;
+    if (what >= START && !PyObject_CheckBuffer(arguments[0])) {
+        PyErr_Format(PyExc_TypeError, "%s first arg must be bytes-like or a tuple of these", name);
+        return -2;
+    }
     /* Both may run code that changes the value, so its bytes are read behind them. */
     if (read_bounds(name, arguments, count, bytes_length(self), &start, &stop)
         && read_part(object->state, arguments[0], &byte, &given) == 0) {
         size_t size;
         const char *bytes = (const char *)ecow_bytes_slice(&object->value, &size);
         stop = stop < (Py_ssize_t)size ? stop : (Py_ssize_t)size;
-        found = start > stop
-                    ? -1
-                    : what(bytes + start, stop - start, (const char *)given.items, given.count);
-        found += found >= 0 && what != count_any ? start : 0;
+        if (start > stop) {
+            found = what == OFTEN ? 0 : -1;
+        } else {
+            found = search_bytes(bytes + start, stop - start, (const char *)given.items,
+                                 given.count, what);
+            found += found >= 0 && what != OFTEN ? start : 0;
+        }
     }
     bytes_give_back(&given);
     return found;
 }
 
-static int bytes_contains(PyObject *self, PyObject *part) {
-    Py_ssize_t found = bytes_seek(self, "in", &part, 1, find_first);
-    return found == -2 ? -1 : found >= 0;
-}
-
-static PyObject *bytes_find(PyObject *self, PyObject *const *arguments, Py_ssize_t count) {
-    Py_ssize_t found = bytes_seek(self, "find", arguments, count, find_first);
-    return found == -2 ? NULL : PyLong_FromSsize_t(found);
-}
-
-static PyObject *bytes_rfind(PyObject *self, PyObject *const *arguments, Py_ssize_t count) {
-    Py_ssize_t found = bytes_seek(self, "rfind", arguments, count, find_last);
-    return found == -2 ? NULL : PyLong_FromSsize_t(found);
-}
-
-static PyObject *place_or_error(Py_ssize_t found) {
-    if (found == -1) {
-        PyErr_SetString(PyExc_ValueError, "subsection not found");
-    }
-    return found < 0 ? NULL : PyLong_FromSsize_t(found);
-}
-
-static PyObject *bytes_index(PyObject *self, PyObject *const *arguments, Py_ssize_t count) {
-    return place_or_error(bytes_seek(self, "index", arguments, count, find_first));
-}
-
-static PyObject *bytes_rindex(PyObject *self, PyObject *const *arguments, Py_ssize_t count) {
-    return place_or_error(bytes_seek(self, "rindex", arguments, count, find_last));
-}
-
-static PyObject *bytes_count(PyObject *self, PyObject *const *arguments, Py_ssize_t count) {
-    Py_ssize_t times = bytes_seek(self, "count", arguments, count, count_any);
-    return times == -2 ? NULL : PyLong_FromSsize_t(times < 0 ? 0 : times);
-}
-
-/* Whether bytes begin or end with a part. */
-static Py_ssize_t at_start(const char *bytes, Py_ssize_t size, const char *part, Py_ssize_t count) {
-    return count <= size && memcmp(bytes, part, (size_t)count) == 0 ? 0 : -1;
-}
-
-static Py_ssize_t at_end(const char *bytes, Py_ssize_t size, const char *part, Py_ssize_t count) {
-    return count <= size ? at_start(bytes + (size - count), count, part, count) : -1;
-}
-
-/* The first argument is a part, or a tuple of parts of which one is enough. */
-static PyObject *meets(PyObject *self, const char *name, PyObject *const *arguments,
-                       Py_ssize_t count, search *what) {
-    if (!takes(name, count, 1, 3)) {
-        return NULL;
-    }
-    bool several = PyTuple_Check(arguments[0]);
-    Py_ssize_t parts = several ? PyTuple_Size(arguments[0]) : 1;
-    for (Py_ssize_t at = 0; at < parts; at++) {
-        PyObject *part = several ? PyTuple_GetItem(arguments[0], at) : arguments[0];
-        if (!PyObject_CheckBuffer(part)) {
-            PyErr_Format(PyExc_TypeError, "%s first arg must be bytes-like or a tuple of these",
-                         name);
-            return NULL;
-        }
-        PyObject *given[3] = {part, count > 1 ? arguments[1] : NULL,
-                              count > 2 ? arguments[2] : NULL};
-        Py_ssize_t found = bytes_seek(self, name, given, count, what);
-        if (found != -1) {
-            return found == -2 ? NULL : PyBool_FromLong(true);
-        }
-    }
-    return PyBool_FromLong(false);
-}
-
-static PyObject *bytes_startswith(PyObject *self, PyObject *const *arguments, Py_ssize_t count) {
-    return meets(self, "startswith", arguments, count, at_start);
-}
-
-static PyObject *bytes_endswith(PyObject *self, PyObject *const *arguments, Py_ssize_t count) {
-    return meets(self, "endswith", arguments, count, at_end);
-}
+#define ABSENT "subsection not found"
+#include "searching.h"
 
 static PyObject *bytes_remove(PyObject *self, PyObject *given) {
     bytes_object *object = bytes_cast(self);
@@ -239,7 +162,7 @@ static PyObject *bytes_remove(PyObject *self, PyObject *given) {
     }
     size_t size;
     const char *bytes = (const char *)ecow_bytes_slice(&object->value, &size);
-    Py_ssize_t found = find_first(bytes, (Py_ssize_t)size, (const char *)&byte, 1);
+    Py_ssize_t found = search_bytes(bytes, (Py_ssize_t)size, (const char *)&byte, 1, FIRST);
     if (found < 0) {
         PyErr_SetString(PyExc_ValueError, "value not found in Bytes");
         return NULL;

@@ -177,6 +177,18 @@ Py_ssize_t seek_object(PyObject *sequence, PyObject *object, Py_ssize_t start, P
     return len < 0 && PyErr_Occurred() ? -2 : -1;
 }
 
+PyObject *reverse(PyObject *self, PyObject *Py_UNUSED(none)) {
+    PyObject *back = PyLong_FromLong(-1), *all = PySlice_New(NULL, NULL, NULL);
+    PyObject *turn = back ? PySlice_New(NULL, NULL, back) : NULL;
+    PyObject *turned = turn && all ? PyObject_GetItem(self, turn) : NULL;
+    int done = turned ? PyObject_SetItem(self, all, turned) : -1;
+    Py_XDECREF(back);
+    Py_XDECREF(all);
+    Py_XDECREF(turn);
+    Py_XDECREF(turned);
+    return none_if(done);
+}
+
 PyObject *named_repr(PyObject *self, PyObject *contents) {
     PyObject *name = contents ? PyType_GetName(Py_TYPE(self)) : NULL;
     PyObject *result = name ? PyUnicode_FromFormat("%U(%R)", name, contents) : NULL;

@@ -40,7 +40,7 @@
     ALONE_OF_BOTH(X) ALONE_OF_STR(X) METHODS_OF_BOTH(X) METHODS_OF_STR(X) PLAIN_OF_STR(X)
 
 /* The names that are looked up in other objects. */
-#define NAMES(X) X(copied) X(deep_copied) X(depth) X(equal) X(hashed) X(plain) X(reduced) X(sort)
+#define NAMES(X) X(copied) X(depth) X(equal) X(hashed) X(plain) X(reduced)
 /* clang-format on */
 
 typedef struct text_object text_object;
@@ -157,6 +157,9 @@ PyObject *compare_with_list(PyObject *sequence, PyObject *list, int operation);
 /* Python's answer for an order: below 0, 0, or above. */
 PyObject *ordered(int order, int operation);
 
+/* Reverses the order of the items of a sequence. */
+PyObject *reverse(PyObject *self, PyObject *none);
+
 /* Where an item of a sequence equals another object: -1 where none does, -2 where an error is
  * raised. A range may pass the end. */
 Py_ssize_t seek_object(PyObject *sequence, PyObject *object, Py_ssize_t start, Py_ssize_t stop);
@@ -166,13 +169,13 @@ PyObject *named_repr(PyObject *self, PyObject *contents);
 
 /* ---- search.c ---- */
 
-/* Where `part` begins first or last in `size` bytes: -1 where it doesn't stand there, and -2 where
- * an error is raised. */
-Py_ssize_t find_first(const char *bytes, Py_ssize_t size, const char *part, Py_ssize_t count);
-Py_ssize_t find_last(const char *bytes, Py_ssize_t size, const char *part, Py_ssize_t count);
+/* What is sought: the first place, the last one, how often without overlap, or whether bytes begin
+ * or end so. */
+typedef enum search { FIRST, LAST, OFTEN, START, END } search;
 
-/* How often a part of at least one byte occurs without overlap. */
-Py_ssize_t count_parts(const char *bytes, Py_ssize_t size, const char *part, Py_ssize_t count);
+/* Where `part` stands in `size` bytes, or how often: -1 where it doesn't, -2 with an error. */
+Py_ssize_t search_bytes(const char *bytes, Py_ssize_t size, const char *part, Py_ssize_t count,
+                        search what);
 
 /* ---- snapshot.c ---- */
 

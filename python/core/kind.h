@@ -85,28 +85,22 @@ static void OWN(dealloc)(PyObject *self) {
     Py_DECREF(type);
 }
 
-static PyObject *OWN(copy)(PyObject *self, PyObject *Py_UNUSED(none)) {
+/* A copy; that of a subclass has the attributes too, or deep copies of them. */
+static PyObject *OWN(deepcopy)(PyObject *self, PyObject *memo) {
     core_state *state = OWN(cast)(self)->state;
     PyObject *made = OWN(cloned)(self, Py_TYPE(self));
     if (made && Py_TYPE(self) != state->TYPE) {
-        PyObject *both = call_helper(state->names.copied, self, made);
+        PyObject *pair = PyTuple_Pack(2, self, made);
+        PyObject *both = pair ? call_helper(state->names.copied, pair, memo) : NULL;
+        Py_XDECREF(pair);
         Py_DECREF(made);
         return both;
     }
     return made;
 }
 
-static PyObject *OWN(deepcopy)(PyObject *self, PyObject *memo) {
-    core_state *state = OWN(cast)(self)->state;
-    PyObject *made = OWN(cloned)(self, Py_TYPE(self));
-    if (made && Py_TYPE(self) != state->TYPE) {
-        PyObject *pair = PyTuple_Pack(2, self, made);
-        PyObject *both = pair ? call_helper(state->names.deep_copied, pair, memo) : NULL;
-        Py_XDECREF(pair);
-        Py_DECREF(made);
-        return both;
-    }
-    return made;
+static PyObject *OWN(copy)(PyObject *self, PyObject *Py_UNUSED(none)) {
+    return OWN(deepcopy)(self, Py_None);
 }
 
 static PyObject *OWN(reduce)(PyObject *self, PyObject *Py_UNUSED(none)) {

@@ -2,7 +2,7 @@
 #define _GNU_SOURCE
 #include "core.h"
 
-Py_ssize_t find_first(const char *bytes, Py_ssize_t size, const char *part, Py_ssize_t count) {
+static Py_ssize_t find_first(const char *bytes, Py_ssize_t size, const char *part, Py_ssize_t count) {
     const char *found = memmem(bytes, (size_t)size, part, (size_t)count);
     return found ? found - bytes : -1;
 }
@@ -29,7 +29,7 @@ static Py_ssize_t find_turned(const char *bytes, Py_ssize_t size, const char *pa
     return found < 0 ? -1 : size - count - found;
 }
 
-Py_ssize_t find_last(const char *bytes, Py_ssize_t size, const char *part, Py_ssize_t count) {
+static Py_ssize_t find_last(const char *bytes, Py_ssize_t size, const char *part, Py_ssize_t count) {
     if (count == 0 || count > size) {
         return count == 0 ? size : -1;
     }
@@ -47,12 +47,26 @@ Py_ssize_t find_last(const char *bytes, Py_ssize_t size, const char *part, Py_ss
     return -1;
 }
 
-Py_ssize_t count_parts(const char *bytes, Py_ssize_t size, const char *part, Py_ssize_t count) {
+Py_ssize_t search_bytes(const char *bytes, Py_ssize_t size, const char *part, Py_ssize_t count,
+                        search what) {
     Py_ssize_t times = 0, found;
-    while ((found = find_first(bytes, size, part, count)) >= 0) {
-        times++;
-        bytes += found + count;
-        size -= found + count;
+    switch (what) {
+    case FIRST:
+        return find_first(bytes, size, part, count);
+    case LAST:
+        return find_last(bytes, size, part, count);
+    case START:
+    case END:
+        if (count > size) {
+            return -1;
+        }
+        return memcmp(bytes + (what == END ? size - count : 0), part, (size_t)count) ? -1 : 0;
+    default:
+        while (count && (found = find_first(bytes, size, part, count)) >= 0) {
+            times++;
+            bytes += found + count;
+            size -= found + count;
+        }
+        return count ? times : size + 1;
     }
-    return times;
 }

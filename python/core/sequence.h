@@ -255,18 +255,6 @@ static PyObject *OWN(pop)(PyObject *self, PyObject *const *arguments, Py_ssize_t
     return check(status, NAME) < 0 ? NULL : OWN(item_object)(object->state, &item, false);
 }
 
-static PyObject *OWN(reverse)(PyObject *self, PyObject *Py_UNUSED(none)) {
-    OBJECT *object = OWN(cast)(self);
-    VALUE made = CALL(new)();
-    Py_ssize_t len = OWN(length)(self);
-    ecow_status status = OWN(add_part)(&made, &object->value, len - 1, -1, len);
-    if (status == ECOW_OK) {
-        OWN(take_over)(object, &made);
-    }
-    CALL(drop)(&made);
-    return none_or_error(status, NAME);
-}
-
 static PyObject *OWN(clear)(PyObject *self, PyObject *Py_UNUSED(none)) {
     return none_or_error(CALL(clear)(&OWN(cast)(self)->value), NAME);
 }
@@ -394,7 +382,7 @@ static PyObject *OWN(extend_in_place)(PyObject *self, PyObject *source) {
     {"pop", (PyCFunction)(void (*)(void))OWN(pop), METH_FASTCALL,                              \
      PyDoc_STR("pop($self, index=-1, /)\n--\n\n"                                               \
                "Takes the item at `index`: IndexError where there is none.")},                 \
-    {"reverse", OWN(reverse), METH_NOARGS,                                                     \
+    {"reverse", reverse, METH_NOARGS,                                                          \
      PyDoc_STR("reverse($self, /)\n--\n\nReverses the order of the items.")},                  \
     {"clear", OWN(clear), METH_NOARGS,                                                         \
      PyDoc_STR("clear($self, /)\n--\n\n"                                                       \

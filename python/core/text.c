@@ -499,17 +499,6 @@ static int text_set_subscript(PyObject *self, PyObject *key, PyObject *value) {
     return done;
 }
 
-static PyObject *text_reverse(PyObject *self, PyObject *Py_UNUSED(none)) {
-    PyObject *plain = text_str(self), *back = PyLong_FromLong(-1);
-    PyObject *slice = back ? PySlice_New(NULL, NULL, back) : NULL;
-    PyObject *reversed = plain && slice ? PyObject_GetItem(plain, slice) : NULL;
-    int done = become(text_cast(self), reversed);
-    Py_XDECREF(plain);
-    Py_XDECREF(back);
-    Py_XDECREF(slice);
-    return none_if(done);
-}
-
 static PyObject *text_byte_len(PyObject *self, PyObject *Py_UNUSED(none)) {
     return PyLong_FromSize_t(ecow_text_len(&text_cast(self)->value));
 }
@@ -547,29 +536,7 @@ static PyObject *text_index_of_byte(PyObject *self, PyObject *given) {
 
 /* ---- Searches ---- */
 
-/* What a search looks for in a range of characters. */
-typedef enum search { FIRST, LAST, OFTEN, START, END } search;
-
-static Py_ssize_t search_bytes(const char *bytes, Py_ssize_t size, utf8 part, search what) {
-    bool fits = part.size <= size;
-    switch (what) {
-    case FIRST:
-        return find_first(bytes, size, part.bytes, part.size);
-    case LAST:
-        return find_last(bytes, size, part.bytes, part.size);
-    case OFTEN:
-        return part.size ? count_parts(bytes, size, part.bytes, part.size)
-                         : count_characters(bytes, size) + 1;
-    case START:
-        return fits && memcmp(bytes, part.bytes, (size_t)part.size) == 0 ? 0 : -1;
-    default:
-        return fits && memcmp(bytes + size - part.size, part.bytes, (size_t)part.size) == 0 ? 0
-                                                                                            : -1;
-    }
-}
-
-/* Searches a range: -1 where the part doesn't stand there, -2 where an error is raised. Places are
- * indices of characters. */
+/* Places are indices of characters. */
 static Py_ssize_t text_seek(PyObject *self, const char *name, PyObject *const *arguments,
                             Py_ssize_t count, search what) {
     text_object *object = text_cast(self);
@@ -581,75 +548,19 @@ static Py_ssize_t text_seek(PyObject *self, const char *name, PyObject *const *a
     }
     stop = stop < count_of(object) ? stop : count_of(object);
     if (start > stop) {
-        return -1;
+        return what == OFTEN ? 0 : -1;
+    }
+    if (what == OFTEN && part.size == 0) {
+        return stop - start + 1;
     }
     Py_ssize_t to = byte_of(object, stop), from = byte_of(object, start);
     const char *bytes = contents(object, &size);
-    Py_ssize_t found = search_bytes(bytes + from, to - from, part, what);
+    Py_ssize_t found = search_bytes(bytes + from, to - from, part.bytes, part.size, what);
     return found >= 0 && what != OFTEN ? character_of(object, from + found) : found;
 }
 
-static int text_contains(PyObject *self, PyObject *part) {
-    Py_ssize_t found = text_seek(self, "in", &part, 1, FIRST);
-    return found == -2 ? -1 : found >= 0;
-}
-
-static PyObject *text_find(PyObject *self, PyObject *const *arguments, Py_ssize_t count) {
-    Py_ssize_t found = text_seek(self, "find", arguments, count, FIRST);
-    return found == -2 ? NULL : PyLong_FromSsize_t(found);
-}
-
-static PyObject *text_rfind(PyObject *self, PyObject *const *arguments, Py_ssize_t count) {
-    Py_ssize_t found = text_seek(self, "rfind", arguments, count, LAST);
-    return found == -2 ? NULL : PyLong_FromSsize_t(found);
-}
-
-static PyObject *place_or_error(Py_ssize_t found) {
-    if (found == -1) {
-        PyErr_SetString(PyExc_ValueError, "substring not found");
-    }
-    return found < 0 ? NULL : PyLong_FromSsize_t(found);
-}
-
-static PyObject *text_index(PyObject *self, PyObject *const *arguments, Py_ssize_t count) {
-    return place_or_error(text_seek(self, "index", arguments, count, FIRST));
-}
-
-static PyObject *text_rindex(PyObject *self, PyObject *const *arguments, Py_ssize_t count) {
-    return place_or_error(text_seek(self, "rindex", arguments, count, LAST));
-}
-
-static PyObject *text_count(PyObject *self, PyObject *const *arguments, Py_ssize_t count) {
-    Py_ssize_t times = text_seek(self, "count", arguments, count, OFTEN);
-    return times == -2 ? NULL : PyLong_FromSsize_t(times < 0 ? 0 : times);
-}
-
-/* The first argument is a text, or a tuple of texts of which one is enough. */
-static PyObject *meets(PyObject *self, const char *name, PyObject *const *arguments,
-                       Py_ssize_t count, search what) {
-    if (!takes(name, count, 1, 3)) {
-        return NULL;
-    }
-    bool several = PyTuple_Check(arguments[0]);
-    Py_ssize_t parts = several ? PyTuple_Size(arguments[0]) : 1;
-    for (Py_ssize_t at = 0; at < parts; at++) {
-        PyObject *given[3] = {several ? PyTuple_GetItem(arguments[0], at) : arguments[0],
-                              count > 1 ? arguments[1] : NULL, count > 2 ? arguments[2] : NULL};
-        Py_ssize_t found = text_seek(self, name, given, count, what);
-        if (found != -1) {
-            return found == -2 ? NULL : PyBool_FromLong(true);
-        }
-    }
-    return PyBool_FromLong(false);
-}
-
-static PyObject *text_startswith(PyObject *self, PyObject *const *arguments, Py_ssize_t count) {
-    return meets(self, "startswith", arguments, count, START);
-}
-
-static PyObject *text_endswith(PyObject *self, PyObject *const *arguments, Py_ssize_t count) {
-    return meets(self, "endswith", arguments, count, END);
-}
+#define ABSENT "substring not found"
+#include "searching.h"
 
 static PyObject *text_remove(PyObject *self, PyObject *given) {
     text_object *object = text_cast(self);
@@ -887,7 +798,7 @@ static PyMethodDef text_methods[] = {
     {"remove", text_remove, METH_O,
      PyDoc_STR("remove($self, part, /)\n--\n\n"
                "Takes the first such part out: ValueError where there is none.")},
-    {"reverse", text_reverse, METH_NOARGS,
+    {"reverse", reverse, METH_NOARGS,
      PyDoc_STR("reverse($self, /)\n--\n\nReverses the order of the characters.")},
     {"clear", text_clear, METH_NOARGS,
      PyDoc_STR("clear($self, /)\n--\n\n"

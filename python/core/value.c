@@ -574,34 +574,6 @@ static PyObject *value_append(PyObject *self, PyObject *given) {
     return put_in(value_cast(self), PY_SSIZE_T_MAX, given);
 }
 
-static PyObject *value_extend(PyObject *self, PyObject *source) {
-    value_object *object = value_cast(self);
-    ecow_value added = {{0}}, item = {{0}};
-    Py_ssize_t depth;
-    /* All items are read first: nothing is appended where one of them is no value. */
-    PyObject *items = PySequence_List(source);
-    int done = items ? read_value(object->state, items, &added, &depth, DEEPEST) : -1;
-    Py_XDECREF(items);
-    done = done == 0 && !can_change(object) ? -1 : done;
-    size_t len = ecow_value_len(&object->value);
-    ecow_status status = ecow_value_kind(&object->value) == ECOW_KIND_LIST ? ECOW_OK : ECOW_KIND;
-    for (size_t index = 0; done == 0 && status == ECOW_OK && index < ecow_value_len(&added);
-         index++) {
-        status = ecow_value_get(&added, index, &item);
-        if (status == ECOW_OK) {
-            status = ecow_value_push(&object->value, &item);
-        }
-    }
-    if (done == 0 && status == ECOW_OK) {
-        object->depth = depth > object->depth ? depth : object->depth;
-    } else if (status == ECOW_MEMORY) {
-        (void)ecow_value_truncate(&object->value, len);
-    }
-    ecow_value_drop(&added);
-    ecow_value_drop(&item);
-    return done < 0 ? NULL : none_or_error(status, NAME);
-}
-
 static PyObject *value_insert(PyObject *self, PyObject *const *arguments, Py_ssize_t count) {
     if (!takes("insert", count, 2, 2)) {
         return NULL;
@@ -638,37 +610,39 @@ static PyObject *value_clear(PyObject *self, PyObject *Py_UNUSED(none)) {
     return none_or_error(status, NAME);
 }
 
-/* What a list of the fields' names, their values, or both holds for one field. */
-typedef enum column { NAMES_ALONE, PARTS_ALONE, BOTH } column;
+/* What a list holds for one field or item: its name, its value, or that with a text as a `Text`. */
+typedef enum column { NAMES_ALONE, PARTS, PARTS_WITH_TEXTS } column;
 
-static PyObject *field(value_object *object, size_t index, column what) {
+static PyObject *cell(value_object *object, size_t index, column what) {
     ecow_value part = {{0}};
-    PyObject *name = what == PARTS_ALONE ? NULL : name_at(&object->value, index);
-    if (what == NAMES_ALONE || (what == BOTH && !name)) {
-        return name;
+    ecow_text text = {{0}};
+    if (what == NAMES_ALONE) {
+        return name_at(&object->value, index);
     }
-    PyObject *item = check(ecow_value_get(&object->value, index, &part), NAME) < 0
-                         ? NULL
-                         : part_object(object, &part, 1);
-    if (what == PARTS_ALONE) {
-        return item;
+    if (check(ecow_value_get(&object->value, index, &part), NAME) < 0) {
+        return NULL;
     }
-    PyObject *both = item ? PyTuple_Pack(2, name, item) : NULL;
-    Py_DECREF(name);
-    Py_XDECREF(item);
-    return both;
+    if (what == PARTS || ecow_value_text(&part, &text) != ECOW_OK) {
+        return part_object(object, &part, 1);
+    }
+    ecow_value_drop(&part);
+    text_object *made = (text_object *)text_own(object->state, &text);
+    if (made) {
+        made->is_lent = true;
+    }
+    return (PyObject *)made;
 }
 
-static PyObject *fields(PyObject *self, column what) {
+static PyObject *cells(PyObject *self, column what) {
     value_object *object = value_cast(self);
-    if (ecow_value_kind(&object->value) != ECOW_KIND_FIELDS) {
+    size_t len = ecow_value_len(&object->value);
+    if (what != PARTS_WITH_TEXTS && ecow_value_kind(&object->value) != ECOW_KIND_FIELDS) {
         check(ECOW_KIND, NAME);
         return NULL;
     }
-    size_t len = ecow_value_len(&object->value);
     PyObject *made = PyList_New((Py_ssize_t)len);
     for (size_t index = 0; made && index < len; index++) {
-        PyObject *item = field(object, index, what);
+        PyObject *item = cell(object, index, what);
         if (!item || PyList_SetItem(made, (Py_ssize_t)index, item) < 0) {
             Py_CLEAR(made);
         }
@@ -677,50 +651,25 @@ static PyObject *fields(PyObject *self, column what) {
 }
 
 PyObject *value_parts(PyObject *module, PyObject *value) {
-    core_state *state = PyModule_GetState(module);
-    value_object *object = value_cast(value);
-    if (!value_is(state, value)) {
+    if (!value_is(PyModule_GetState(module), value)) {
         PyErr_Format(PyExc_TypeError, "must be Value, not %R", Py_TYPE(value));
         return NULL;
     }
-    size_t len = ecow_value_len(&object->value);
-    PyObject *made = PyList_New((Py_ssize_t)len);
-    for (size_t index = 0; made && index < len; index++) {
-        ecow_value part = {{0}};
-        ecow_text text = {{0}};
-        PyObject *item = NULL;
-        if (check(ecow_value_get(&object->value, index, &part), NAME) == 0) {
-            item = ecow_value_text(&part, &text) == ECOW_OK ? text_own(object->state, &text)
-                                                            : part_object(object, &part, 1);
-        }
-        if (item && PyObject_TypeCheck(item, object->state->text)) {
-            ((text_object *)item)->is_lent = true;
-        }
-        ecow_value_drop(&part);
-        ecow_text_drop(&text);
-        if (!item || PyList_SetItem(made, (Py_ssize_t)index, item) < 0) {
-            Py_CLEAR(made);
-        }
-    }
-    return made;
+    return cells(value, PARTS_WITH_TEXTS);
 }
 
 static PyObject *value_keys(PyObject *self, PyObject *Py_UNUSED(none)) {
-    return fields(self, NAMES_ALONE);
+    return cells(self, NAMES_ALONE);
 }
 
 static PyObject *value_values(PyObject *self, PyObject *Py_UNUSED(none)) {
-    return fields(self, PARTS_ALONE);
-}
-
-static PyObject *value_items(PyObject *self, PyObject *Py_UNUSED(none)) {
-    return fields(self, BOTH);
+    return cells(self, PARTS);
 }
 
 static PyObject *value_iter(PyObject *self) {
     const ecow_value *value = &value_cast(self)->value;
     if (ecow_value_kind(value) == ECOW_KIND_FIELDS) {
-        PyObject *names = fields(self, NAMES_ALONE);
+        PyObject *names = cells(self, NAMES_ALONE);
         PyObject *iterator = names ? PyObject_GetIter(names) : NULL;
         Py_XDECREF(names);
         return iterator;
@@ -816,9 +765,6 @@ static PyMethodDef value_methods[] = {
          "KeyError, IndexError or TypeError where the way isn't there.")
     {"append", value_append, METH_O,
      PyDoc_STR("append($self, part, /)\n--\n\nAppends an item to a list.")},
-    {"extend", value_extend, METH_O,
-     PyDoc_STR("extend($self, parts, /)\n--\n\n"
-               "Appends all items of an iterable to a list, or none where it raises an error.")},
     FAST("insert", value_insert, "index, part", "Puts an item in before `index` of a list.")
     FAST("pop", value_pop, "key=-1, default=...",
          "Takes an item of a list or a field's value: `default`, or IndexError or KeyError,\n"
@@ -826,7 +772,6 @@ static PyMethodDef value_methods[] = {
     PLAIN("clear", value_clear, "Takes all items or fields.")
     PLAIN("keys", value_keys, "A list of the fields' names, in order.")
     PLAIN("values", value_values, "A list of the fields' values, in order.")
-    PLAIN("items", value_items, "A list of the fields as pairs of a name and a value, in order.")
     {NULL, NULL, 0, NULL},
 };
 /* clang-format on */

@@ -146,10 +146,40 @@ def _joined_in_place(left: Any, right: Any) -> Any:
     return left
 
 
-for _name, _method in (("update", _update), ("setdefault", _setdefault), ("__or__", _joined),
-                       ("__ror__", _joined_right), ("__ior__", _joined_in_place)):
-    _method.__name__, _method.__qualname__ = _name, f"Value.{_name}"
-    setattr(Value, _name, _method)
+def _extend(self: Any, parts: Iterable[Any], /) -> None:
+    """Appends all items of an iterable to a list, or none where it raises an error."""
+    made = Value(list(parts))
+    if self.kind != "list":
+        raise TypeError("Value is of another kind")
+    before = len(self)
+    try:
+        for part in _parts(made):
+            self.append(part)
+    except MemoryError:
+        while len(self) > before:
+            self.pop()
+        raise
+
+
+def _items(self: Any, /) -> list[tuple[str, Any]]:
+    """A list of the fields as pairs of a name and a value, in order."""
+    return list(zip(self.keys(), self.values()))
+
+
+def _sort(self: Any, /, *, key: Any = None, reverse: bool = False) -> None:
+    """Sorts as `list.sort`."""
+    self[:] = sorted(self, key=key, reverse=reverse)
+
+
+for _kinds, _name, _method in (
+    ((List, Texts), "sort", _sort), ((Value,), "extend", _extend), ((Value,), "items", _items),
+    ((Value,), "update", _update), ((Value,), "setdefault", _setdefault),
+    ((Value,), "__or__", _joined), ((Value,), "__ror__", _joined_right),
+    ((Value,), "__ior__", _joined_in_place),
+):
+    _method.__name__ = _method.__qualname__ = _name
+    for _kind in _kinds:
+        setattr(_kind, _name, _method)
 
 
 class Block:
@@ -268,19 +298,12 @@ def _set_state(made: Any, state: Any) -> None:
         setattr(made, name, attribute)
 
 
-def copied(source: Any, made: Any) -> Any:
-    """A copy, with the attributes of its source."""
-    state = source.__getstate__()
-    if state is not None:
-        _set_state(made, state)
-    return made
-
-
-def deep_copied(pair: tuple[Any, Any], memo: dict[int, Any]) -> Any:
-    """A copy, with deep copies of the attributes of its source."""
+def copied(pair: tuple[Any, Any], memo: Optional[dict[int, Any]]) -> Any:
+    """A copy, with the attributes of its source, or with deep copies of them."""
     source, made = pair
-    memo[id(source)] = made
+    if memo is not None:
+        memo[id(source)] = made
     state = source.__getstate__()
     if state is not None:
-        _set_state(made, copy.deepcopy(state, memo))
+        _set_state(made, state if memo is None else copy.deepcopy(state, memo))
     return made
