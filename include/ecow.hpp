@@ -1200,28 +1200,19 @@ public:
         return text(data() + index, end - index);
     }
 
-    size_type find(std::string_view pattern, size_type start = 0) const noexcept {
+    /* A pattern is a text, in any form, or a character. */
+    template <typename Pattern>
+    size_type find(const Pattern &pattern, size_type start = 0) const noexcept {
         return view().find(pattern, start);
     }
 
-    size_type find(char character, size_type start = 0) const noexcept {
-        return view().find(character, start);
-    }
-
-    size_type rfind(std::string_view pattern, size_type start = npos) const noexcept {
+    template <typename Pattern>
+    size_type rfind(const Pattern &pattern, size_type start = npos) const noexcept {
         return view().rfind(pattern, start);
     }
 
-    size_type rfind(char character, size_type start = npos) const noexcept {
-        return view().rfind(character, start);
-    }
-
-    bool contains(std::string_view pattern) const noexcept {
+    template <typename Pattern> bool contains(const Pattern &pattern) const noexcept {
         return find(pattern) != npos;
-    }
-
-    bool contains(char character) const noexcept {
-        return find(character) != npos;
     }
 
     bool starts_with(std::string_view pattern) const noexcept {
@@ -1986,25 +1977,15 @@ public:
 
     /* Equal values have the same. */
     std::size_t hash() const {
-        std::size_t sum = static_cast<std::size_t>(kind());
+        const ecow::kind held = kind();
+        std::size_t sum = static_cast<std::size_t>(held);
         const auto add = [&sum](std::size_t more) { sum = (sum ^ more) * 0x9E3779B97F4A7C15; };
-        add(size());
-        switch (kind()) {
-        case ecow::kind::truth:
-            add(truth());
-            break;
-        case ecow::kind::number:
-            add(static_cast<std::size_t>(number()));
-            break;
-        case ecow::kind::real:
-            add(real() == real() ? std::hash<double>()(real()) : 0);
-            break;
-        case ecow::kind::text:
-            add(text().hash());
-            break;
-        default:
-            break;
-        }
+        const double read = held == ecow::kind::real ? real() : 0;
+        add(held == ecow::kind::truth    ? truth()
+            : held == ecow::kind::number ? static_cast<std::size_t>(number())
+            : held == ecow::kind::text   ? text().hash()
+            : read == read               ? std::hash<double>()(read) + size()
+                                         : 0);
         for (size_type at = 0; at < size(); ++at) {
             add(kind() == ecow::kind::fields ? name(at).hash() : 0);
             add(get(at).hash());

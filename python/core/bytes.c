@@ -218,41 +218,22 @@ static PyObject *bytes_compared(PyObject *self, PyObject *other, int operation) 
     return ordered(order, operation);
 }
 
-static PyObject *plain_bytes(PyObject *self) {
+static PyObject *bytes_str(PyObject *self) {
     size_t size;
     const uint8_t *bytes = ecow_bytes_slice(&bytes_cast(self)->value, &size);
     return PyBytes_FromStringAndSize((const char *)bytes, (Py_ssize_t)size);
 }
 
 static PyObject *bytes_repr(PyObject *self) {
-    return named_repr(self, plain_bytes(self));
+    return named_repr(self, bytes_str(self));
 }
 
-/* Methods of `bytes`: of no argument, with arguments, and with a result that comes out as it is. */
-#define ALONE(name)                                                            \
-    static PyObject *bytes_##name(PyObject *self, PyObject *Py_UNUSED(none)) { \
-        PyObject *method = bytes_cast(self)->state->of_bytes.name;             \
-        return wrapped(self, call_alone(plain_bytes(self), method));           \
-    }
-#define PLAIN(name, finish)                                                               \
-    static PyObject *bytes_##name(PyObject *self, PyObject *arguments, PyObject *named) { \
-        PyObject *method = bytes_cast(self)->state->of_bytes.name;                        \
-        return finish(call_plain(self, plain_bytes(self), method, arguments, named));     \
-    }
-#define HANDED_ON(name) PLAIN(name, WRAPPED)
-#define AS_IT_IS(name) PLAIN(name, )
-#define WRAPPED(result) wrapped(self, result)
-/* clang-format off */
-ALONE_OF_BOTH(ALONE)
-METHODS_OF_BOTH(HANDED_ON)
-METHODS_OF_BYTES(HANDED_ON)
-PLAIN_OF_BYTES(AS_IT_IS)
-/* clang-format on */
-#undef ALONE
-#undef PLAIN
-#undef HANDED_ON
-#undef AS_IT_IS
-#undef WRAPPED
+#define OF of_bytes
+#define PLAIN_NAME "bytes"
+#define WITHOUT_ARGUMENTS(X) ALONE_OF_BOTH(X)
+#define WITH_ARGUMENTS(X) METHODS_OF_BOTH(X) METHODS_OF_BYTES(X)
+#define AS_THEY_ARE(X) PLAIN_OF_BYTES(X)
+#include "handed_on.h"
 
 static int bytes_buffer(PyObject *self, Py_buffer *view, int flags) {
     bytes_object *object = bytes_cast(self);
@@ -260,41 +241,16 @@ static int bytes_buffer(PyObject *self, Py_buffer *view, int flags) {
 }
 
 /* clang-format off */
-#define SEARCH(name, text)                                                                     \
-    {#name, (PyCFunction)(void (*)(void))bytes_##name, METH_FASTCALL,                          \
-     PyDoc_STR(#name "($self, part, start=0, stop=sys.maxsize, /)\n--\n\n" text)},
-#define ALONE(name)                                                                            \
-    {#name, bytes_##name, METH_NOARGS,                                                            \
-     PyDoc_STR(#name "($self, /)\n--\n\nAs `bytes." #name "`; it may give a new `Bytes`.")},
-#define HANDED_ON(name)                                                                        \
-    {#name, (PyCFunction)(void (*)(void))bytes_##name, METH_VARARGS | METH_KEYWORDS,           \
-     PyDoc_STR("As `bytes." #name "`; `bytes` that it gives are new `Bytes`.")},
-#define AS_IT_IS(name)                                                                         \
-    {#name, (PyCFunction)(void (*)(void))bytes_##name, METH_VARARGS | METH_KEYWORDS,           \
-     PyDoc_STR("As `bytes." #name "`.")},
 static PyMethodDef bytes_methods[] = {
     SEQUENCE_METHODS,
-    SEARCH(find, "Where a byte or bytes first stand, or -1.")
-    SEARCH(rfind, "Where a byte or bytes last stand, or -1.")
-    SEARCH(index, "Where a byte or bytes first stand: ValueError where they don't.")
-    SEARCH(rindex, "Where a byte or bytes last stand: ValueError where they don't.")
-    SEARCH(count, "How often a byte or bytes occur without overlap.")
-    SEARCH(startswith, "Whether the range begins with bytes, or with one of a tuple of them.")
-    SEARCH(endswith, "Whether the range ends with bytes, or with one of a tuple of them.")
-    ALONE_OF_BOTH(ALONE)
-    METHODS_OF_BOTH(HANDED_ON)
-    METHODS_OF_BYTES(HANDED_ON)
-    PLAIN_OF_BYTES(AS_IT_IS)
+    SEARCH_METHODS("a byte or bytes")
+    HANDED_ON_METHODS
     {"remove", bytes_remove, METH_O,
      PyDoc_STR("remove($self, byte, /)\n--\n\n"
                "Takes the first such byte out: ValueError where there is none.")},
     {NULL, NULL, 0, NULL},
 };
 /* clang-format on */
-#undef ALONE
-#undef HANDED_ON
-#undef AS_IT_IS
-#undef SEARCH
 
 static PyType_Slot bytes_slots[] = {
     {Py_tp_doc, "Bytes(data=b'', /)\n--\n\n"

@@ -239,6 +239,8 @@ static PyMethodDef functions[] = {
     {NULL, NULL, 0, NULL},
 };
 
+#define TYPES(X) X(list) X(bytes) X(text) X(texts) X(value) X(snapshot)
+
 static int add_type(PyObject *module, PyType_Spec *spec, PyTypeObject **type) {
     *type = (PyTypeObject *)PyType_FromModuleAndSpec(module, spec, NULL);
     return *type && PyModule_AddType(module, *type) == 0 ? 0 : -1;
@@ -270,26 +272,20 @@ static int look_names_up(core_state *state) {
 
 static int execute(PyObject *module) {
     core_state *state = PyModule_GetState(module);
-    if (look_names_up(state) < 0 || add_type(module, &list_spec, &state->list) < 0
-        || add_type(module, &bytes_spec, &state->bytes) < 0
-        || add_type(module, &text_spec, &state->text) < 0
-        || add_type(module, &texts_spec, &state->texts) < 0
-        || add_type(module, &value_spec, &state->value) < 0
-        || add_type(module, &snapshot_spec, &state->snapshot) < 0) {
+#define ADD(name) || add_type(module, &name##_spec, &state->name) < 0
+    if (look_names_up(state) < 0 TYPES(ADD)) {
         return -1;
     }
+#undef ADD
     return PyModule_AddStringConstant(module, "__version__", PACKAGE_VERSION);
 }
 
 static int visit(PyObject *module, visitproc visit, void *arg) {
     core_state *state = PyModule_GetState(module);
     if (state) {
-        Py_VISIT(state->list);
-        Py_VISIT(state->bytes);
-        Py_VISIT(state->text);
-        Py_VISIT(state->texts);
-        Py_VISIT(state->value);
-        Py_VISIT(state->snapshot);
+#define VISIT(name) Py_VISIT(state->name);
+        TYPES(VISIT)
+#undef VISIT
     }
     return 0;
 }
@@ -297,12 +293,9 @@ static int visit(PyObject *module, visitproc visit, void *arg) {
 static void release(void *module) {
     core_state *state = PyModule_GetState(module);
     if (state) {
-        Py_CLEAR(state->list);
-        Py_CLEAR(state->bytes);
-        Py_CLEAR(state->text);
-        Py_CLEAR(state->texts);
-        Py_CLEAR(state->value);
-        Py_CLEAR(state->snapshot);
+#define CLEAR(name) Py_CLEAR(state->name);
+        TYPES(CLEAR)
+#undef CLEAR
         while (state->spares > 0) {
             PyObject_Free(state->spare[--state->spares]);
         }

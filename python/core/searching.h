@@ -45,3 +45,17 @@ SEARCH(startswith, OWN(meets)(self, "startswith", arguments, count, START))
 SEARCH(endswith, OWN(meets)(self, "endswith", arguments, count, END))
 #undef SEARCH
 #undef SOUGHT
+
+/* clang-format off */
+#define SOUGHT(name, text)                                                                     \
+    {#name, (PyCFunction)(void (*)(void))OWN(name), METH_FASTCALL,                             \
+     PyDoc_STR(#name "($self, part, start=0, stop=sys.maxsize, /)\n--\n\n" text)},
+#define SEARCH_METHODS(part)                                                                   \
+    SOUGHT(find, "Where " part " first stands, or -1.")                                        \
+    SOUGHT(rfind, "Where " part " last stands, or -1.")                                        \
+    SOUGHT(index, "Where " part " first stands: ValueError where it doesn't.")                 \
+    SOUGHT(rindex, "Where " part " last stands: ValueError where it doesn't.")                 \
+    SOUGHT(count, "How often " part " occurs without overlap.")                                \
+    SOUGHT(startswith, "Whether the range begins so, or with one of a tuple.")                 \
+    SOUGHT(endswith, "Whether the range ends so, or with one of a tuple.")
+/* clang-format on */

@@ -336,27 +336,17 @@ static PyObject *OWN(repeat_in_place)(PyObject *self, Py_ssize_t times) {
 
 /* A new object of the items of two objects, each of this kind or of what `OWN(give)` takes. */
 static PyObject *OWN(joined)(core_state *state, PyObject *left, PyObject *right) {
-    OBJECT *made = OWN(make)(state, state->TYPE);
-    GIVEN first = {0}, second = {0};
-    int done = made ? 0 : -1;
-    if (made && OWN(is)(state, left)) {
-        done = check(CALL(clone)(&made->value, &OWN(cast)(left)->value), NAME);
-    } else if (made) {
-        done = OWN(give)(state, left, &first) < 0
-                   ? -1
-                   : check(OWN(add_given)(&made->value, &first), NAME);
-    }
-    if (done == 0) {
-        done = OWN(give)(state, right, &second) < 0
-                   ? -1
-                   : check(OWN(add_given)(&made->value, &second), NAME);
-    }
-    OWN(give_back)(&first);
-    OWN(give_back)(&second);
-    if (done < 0) {
+    bool is_own = OWN(is)(state, left);
+    PyObject *made = is_own ? OWN(cloned)(left, state->TYPE)
+                            : (PyObject *)OWN(make)(state, state->TYPE);
+    PyObject *first = made && !is_own ? OWN(extend)(made, left) : NULL;
+    PyObject *second = made && (is_own || first) ? OWN(extend)(made, right) : NULL;
+    Py_XDECREF(first);
+    if (!second) {
         Py_CLEAR(made);
     }
-    return (PyObject *)made;
+    Py_XDECREF(second);
+    return made;
 }
 
 static PyObject *OWN(extend_in_place)(PyObject *self, PyObject *source) {

@@ -745,47 +745,17 @@ static PyObject *text_hash(PyObject *self, PyObject *Py_UNUSED(none)) {
     return PyLong_FromUnsignedLongLong(ecow_text_hash(&text_cast(self)->value));
 }
 
-/* Methods of `str`: of no argument, with arguments, and with a result that comes out as it is. */
-#define ALONE(name)                                                           \
-    static PyObject *text_##name(PyObject *self, PyObject *Py_UNUSED(none)) { \
-        PyObject *method = text_cast(self)->state->of_str.name;               \
-        return wrapped(self, call_alone(text_str(self), method));             \
-    }
-#define PLAIN(name, finish)                                                              \
-    static PyObject *text_##name(PyObject *self, PyObject *arguments, PyObject *named) { \
-        PyObject *method = text_cast(self)->state->of_str.name;                          \
-        return finish(call_plain(self, text_str(self), method, arguments, named));       \
-    }
-#define HANDED_ON(name) PLAIN(name, WRAPPED)
-#define AS_IT_IS(name) PLAIN(name, )
-#define WRAPPED(result) wrapped(self, result)
-/* clang-format off */
-ALONE_OF_BOTH(ALONE)
-ALONE_OF_STR(ALONE)
-METHODS_OF_BOTH(HANDED_ON)
-METHODS_OF_STR(HANDED_ON)
-PLAIN_OF_STR(AS_IT_IS)
-/* clang-format on */
-#undef ALONE
-#undef PLAIN
-#undef HANDED_ON
-#undef AS_IT_IS
-#undef WRAPPED
+#define OF of_str
+#define PLAIN_NAME "str"
+#define WITHOUT_ARGUMENTS(X) ALONE_OF_BOTH(X) ALONE_OF_STR(X)
+#define WITH_ARGUMENTS(X) METHODS_OF_BOTH(X) METHODS_OF_STR(X)
+#define AS_THEY_ARE(X) PLAIN_OF_STR(X)
+#include "handed_on.h"
 
 /* clang-format off */
 #define FAST(name, arguments, text)                                                            \
     {#name, (PyCFunction)(void (*)(void))text_##name, METH_FASTCALL,                           \
      PyDoc_STR(#name "($self, " arguments ", /)\n--\n\n" text)},
-#define SEARCH(name, text) FAST(name, "part, start=0, stop=sys.maxsize", text)
-#define ALONE(name)                                                                            \
-    {#name, text_##name, METH_NOARGS,                                                            \
-     PyDoc_STR(#name "($self, /)\n--\n\nAs `str." #name "`; it may give a new `Text`.")},
-#define HANDED_ON(name)                                                                        \
-    {#name, (PyCFunction)(void (*)(void))text_##name, METH_VARARGS | METH_KEYWORDS,           \
-     PyDoc_STR("As `str." #name "`; `str` that it gives are new `Text`.")},
-#define AS_IT_IS(name)                                                                         \
-    {#name, (PyCFunction)(void (*)(void))text_##name, METH_VARARGS | METH_KEYWORDS,           \
-     PyDoc_STR("As `str." #name "`.")},
 static PyMethodDef text_methods[] = {
     COPY_METHODS,
     {"append", text_append, METH_O,
@@ -819,18 +789,8 @@ static PyMethodDef text_methods[] = {
      PyDoc_STR("index_of_byte($self, byte, /)\n--\n\n"
                "The index of the character that begins at a byte of its UTF-8: ValueError\n"
                "inside a character.")},
-    SEARCH(find, "Where a text first stands, or -1.")
-    SEARCH(rfind, "Where a text last stands, or -1.")
-    SEARCH(index, "Where a text first stands: ValueError where it doesn't.")
-    SEARCH(rindex, "Where a text last stands: ValueError where it doesn't.")
-    SEARCH(count, "How often a text occurs without overlap.")
-    SEARCH(startswith, "Whether the range begins with a text, or with one of a tuple of them.")
-    SEARCH(endswith, "Whether the range ends with a text, or with one of a tuple of them.")
-    ALONE_OF_BOTH(ALONE)
-    ALONE_OF_STR(ALONE)
-    METHODS_OF_BOTH(HANDED_ON)
-    METHODS_OF_STR(HANDED_ON)
-    PLAIN_OF_STR(AS_IT_IS)
+    SEARCH_METHODS("a text")
+    HANDED_ON_METHODS
     {"join", text_join, METH_O,
      PyDoc_STR("join($self, texts, /)\n--\n\nA new text: all texts, with this one between.")},
     {"hash", text_hash, METH_NOARGS,
@@ -841,10 +801,6 @@ static PyMethodDef text_methods[] = {
     {NULL, NULL, 0, NULL},
 };
 /* clang-format on */
-#undef ALONE
-#undef HANDED_ON
-#undef AS_IT_IS
-#undef SEARCH
 #undef FAST
 
 static PyType_Slot text_slots[] = {
