@@ -140,23 +140,23 @@ inline void check(ecow_status status) {
 
 /* Beside them stand `item`, which iterators pass over, and `given`, as which one item is taken. */
 
-#define ECOW_CALLS(kind, Item, Given)                              \
-    using type = ecow_##kind;                                      \
-    using item = Item;                                             \
-    using given = Given;                                           \
-    static constexpr auto drop = ecow_##kind##_drop;               \
-    static constexpr auto clone = ecow_##kind##_clone;             \
-    static constexpr auto len = ecow_##kind##_len;                 \
-    static constexpr auto shares = ecow_##kind##_shares;           \
-    static constexpr auto truncate = ecow_##kind##_truncate;       \
-    static constexpr auto clear = ecow_##kind##_clear;             \
-    static constexpr auto reserve = ecow_##kind##_reserve;         \
-    static constexpr auto capacity = ecow_##kind##_capacity;       \
+#define ECOW_CALLS(kind, Item, Given)                                  \
+    using type = ecow_##kind;                                          \
+    using item = Item;                                                 \
+    using given = Given;                                               \
+    static constexpr auto drop = ecow_##kind##_drop;                   \
+    static constexpr auto clone = ecow_##kind##_clone;                 \
+    static constexpr auto len = ecow_##kind##_len;                     \
+    static constexpr auto shares = ecow_##kind##_shares;               \
+    static constexpr auto truncate = ecow_##kind##_truncate;           \
+    static constexpr auto clear = ecow_##kind##_clear;                 \
+    static constexpr auto reserve = ecow_##kind##_reserve;             \
+    static constexpr auto capacity = ecow_##kind##_capacity;           \
     static constexpr auto shrink_to_fit = ecow_##kind##_shrink_to_fit; \
-    static constexpr auto extend = ecow_##kind##_extend;           \
-    static constexpr auto splice = ecow_##kind##_splice;           \
-    static constexpr auto equal = ecow_##kind##_equal;             \
-    static constexpr auto compare = ecow_##kind##_compare;         \
+    static constexpr auto extend = ecow_##kind##_extend;               \
+    static constexpr auto splice = ecow_##kind##_splice;               \
+    static constexpr auto equal = ecow_##kind##_equal;                 \
+    static constexpr auto compare = ecow_##kind##_compare;             \
     static constexpr auto hash = ecow_##kind##_hash
 #define ECOW_ARRAY_CALLS(kind, Item)                     \
     ECOW_CALLS(kind, Item, Item);                        \
@@ -177,7 +177,9 @@ template <> struct list_calls<std::int64_t> { ECOW_LIST_CALLS(list, std::int64_t
 
 template <> struct list_calls<std::uint8_t> { ECOW_LIST_CALLS(bytes, std::uint8_t); };
 
-struct text_calls { ECOW_ARRAY_CALLS(text, char); };
+struct text_calls {
+    ECOW_ARRAY_CALLS(text, char);
+};
 
 class text_item;
 
@@ -1215,12 +1217,8 @@ public:
         return find(pattern) != npos;
     }
 
-    bool starts_with(std::string_view pattern) const noexcept {
-        return view().substr(0, pattern.size()) == pattern;
-    }
-
-    bool starts_with(char character) const noexcept {
-        return starts_with(std::string_view(&character, 1));
+    template <typename Pattern> bool starts_with(const Pattern &pattern) const noexcept {
+        return rfind(pattern, 0) == 0;
     }
 
     bool ends_with(std::string_view pattern) const noexcept {
@@ -1525,34 +1523,21 @@ detail::comparison<Left, Right> operator>=(const Left &left, const Right &right)
 }
 #endif
 
-/* Takes the items of which `is_erased` is true, and returns how many they were. */
+/* Takes the items of which `is_erased` is true, and returns how many they were. Texts of a list that
+ * are kept share their memory. */
 template <typename Value, typename Predicate,
           std::enable_if_t<detail::is_container<Value>, int> = 0>
 typename Value::size_type erase_if(Value &value, Predicate is_erased) {
-    std::vector<typename Value::value_type> kept;
-    for (const auto &item : value) {
-        if (!is_erased(item)) {
-            kept.push_back(item);
+    std::conditional_t<std::is_same_v<Value, texts>, texts, std::vector<typename Value::value_type>>
+        kept;
+    for (auto place = value.begin(); place != value.end(); ++place) {
+        if (!is_erased(*place)) {
+            kept.push_back(detail::item_at(place));
         }
     }
     typename Value::size_type erased = value.size() - kept.size();
     if (erased) {
         value.assign(kept);
-    }
-    return erased;
-}
-
-/* The same of a list of texts: those that are kept share their memory. */
-template <typename Predicate> texts::size_type erase_if(texts &value, Predicate is_erased) {
-    texts kept;
-    for (auto place = value.begin(); place != value.end(); ++place) {
-        if (!is_erased(*place)) {
-            kept.push_back(place.get());
-        }
-    }
-    texts::size_type erased = value.size() - kept.size();
-    if (erased) {
-        value.swap(kept);
     }
     return erased;
 }
@@ -1829,8 +1814,8 @@ public:
      * If it throws, the value is as it was. */
     template <typename Change> void update(const std::vector<step> &path, Change change) & {
         /* A function that takes a `value` or a `const value &` takes a temporary one too. */
-        constexpr bool changes_it = std::is_invocable_v<Change &, value &>
-                                    && !std::is_invocable_v<Change &, value>;
+        constexpr bool changes_it =
+            std::is_invocable_v<Change &, value &> && !std::is_invocable_v<Change &, value>;
         static_assert(changes_it, "update takes a function that changes a `value &`");
         if constexpr (changes_it) {
             static_assert(std::is_void_v<std::invoke_result_t<Change &, value &>>,

@@ -630,11 +630,32 @@ static void values_refuse() {
 /* Each comes before those behind it, and equals itself alone. */
 static void values_have_an_order() {
     const double nan = std::nan(""), infinity = std::numeric_limits<double>::infinity();
-    const std::vector<value> sorted{
-        nullptr, false, true, std::numeric_limits<std::int64_t>::min(), -1, 7, nan, -infinity, -1.5,
-        0.0, infinity, "", "a", "aa", "b", value::list(), {1}, {1, 2}, {2}, {"a"},
-        value::list({value::list()}), value::fields({}), value::fields({{"a", 1}}), value::fields({{"a", 1}, {"b", 0}}),
-        value::fields({{"a", 2}}), value::fields({{"b", 0}})};
+    const std::vector<value> sorted{nullptr,
+                                    false,
+                                    true,
+                                    std::numeric_limits<std::int64_t>::min(),
+                                    -1,
+                                    7,
+                                    nan,
+                                    -infinity,
+                                    -1.5,
+                                    0.0,
+                                    infinity,
+                                    "",
+                                    "a",
+                                    "aa",
+                                    "b",
+                                    value::list(),
+                                    {1},
+                                    {1, 2},
+                                    {2},
+                                    {"a"},
+                                    value::list({value::list()}),
+                                    value::fields({}),
+                                    value::fields({{"a", 1}}),
+                                    value::fields({{"a", 1}, {"b", 0}}),
+                                    value::fields({{"a", 2}}),
+                                    value::fields({{"b", 0}})};
     std::unordered_set<value> all;
     for (std::size_t at = 0; at < sorted.size(); at++) {
         for (std::size_t other = 0; other < sorted.size(); other++) {
@@ -657,8 +678,9 @@ static void values_are_written() {
     std::ostringstream out;
     out << value::fields({{"size", {800, 1.5}}, {"full", false}, {"title", nullptr}}) << value()
         << value("a \"b\"\\\n\u00e9") << value::list() << value::fields({}) << value{{-1}, "x"};
-    CHECK(out.str() == "{\"size\": [800, 1.5], \"full\": false, \"title\": null}null"
-                       "\"a \\\"b\\\"\\\\\\n\u00e9\"[]{}[[-1], \"x\"]");
+    CHECK(out.str()
+          == "{\"size\": [800, 1.5], \"full\": false, \"title\": null}null"
+             "\"a \\\"b\\\"\\\\\\n\u00e9\"[]{}[[-1], \"x\"]");
 }
 
 /* A path holds its names, so it may be made of temporary ones. */

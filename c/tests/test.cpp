@@ -307,13 +307,14 @@ template <typename Value> static void items() {
 
 /* No number is cut: another type's numbers are taken where all of them fit. */
 template <typename Value, typename Item>
-constexpr bool takes = std::is_constructible_v<Value, std::vector<Item>>
-                       && std::is_constructible_v<Value, Item *, Item *>
-                       && std::is_assignable_v<Value &, std::deque<Item>>;
+constexpr bool takes = std::is_constructible_v<Value, std::vector<Item>> &&std::is_constructible_v<
+    Value, Item *, Item *> &&std::is_assignable_v<Value &, std::deque<Item>>;
 template <typename Value, typename Item>
-constexpr bool refuses = !std::is_constructible_v<Value, std::vector<Item>>
-                         && !std::is_constructible_v<Value, Item *, Item *>
-                         && !std::is_assignable_v<Value &, std::deque<Item>>;
+constexpr bool refuses =
+    !std::is_constructible_v<
+        Value,
+        std::vector<
+            Item>> && !std::is_constructible_v<Value, Item *, Item *> && !std::is_assignable_v<Value &, std::deque<Item>>;
 static_assert(takes<ecow::list, short> && takes<ecow::list, unsigned> && takes<ecow::list, long>);
 static_assert(takes<ecow::list, bool> && takes<ecow::list, unsigned char>);
 static_assert(refuses<ecow::list, unsigned long> && refuses<ecow::list, unsigned long long>);

@@ -45,7 +45,7 @@ static int bytes_read_item(core_state *Py_UNUSED(state), PyObject *given, uint8_
 static void bytes_drop_item(uint8_t *Py_UNUSED(byte)) {}
 
 static PyObject *bytes_item_object(core_state *Py_UNUSED(state), uint8_t *byte,
-                                  bool Py_UNUSED(is_lent)) {
+                                   bool Py_UNUSED(is_lent)) {
     return PyLong_FromLong(*byte);
 }
 

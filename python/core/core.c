@@ -91,6 +91,15 @@ bool takes(const char *name, Py_ssize_t count, Py_ssize_t least, Py_ssize_t most
     return false;
 }
 
+bool read_size(PyObject *given, size_t *size) {
+    Py_ssize_t number = PyNumber_AsSsize_t(given, NULL);
+    if (number < 0 && !PyErr_Occurred()) {
+        PyErr_SetString(PyExc_ValueError, "length below 0");
+    }
+    *size = (size_t)number;
+    return number >= 0;
+}
+
 bool read_bound(PyObject *given, Py_ssize_t len, Py_ssize_t *bound) {
     if (given == Py_None) {
         return true;
@@ -131,42 +140,21 @@ PyObject *ordered(int order, int operation) {
 }
 
 PyObject *compare_with_list(PyObject *sequence, PyObject *list, int operation) {
-    Py_ssize_t len = PySequence_Size(sequence), other = PyList_Size(list);
-    if (len < 0 || other < 0) {
-        return NULL;
-    }
-    if (len != other && (operation == Py_EQ || operation == Py_NE)) {
+    bool for_equality = operation == Py_EQ || operation == Py_NE;
+    if (for_equality && PySequence_Size(sequence) != PyList_Size(list)) {
         return PyBool_FromLong(operation == Py_NE);
     }
-    /* A comparison may run code that changes either, so both lengths are read again. */
-    for (Py_ssize_t index = 0; index < PySequence_Size(sequence) && index < PyList_Size(list);
-         index++) {
-        PyObject *right = PyList_GetItem(list, index);
-        Py_XINCREF(right);
-        PyObject *left = PySequence_GetItem(sequence, index);
-        int same = left && right ? PyObject_RichCompareBool(left, right, Py_EQ) : -1;
-        PyObject *result = NULL;
-        if (same == 0) {
-            result = operation == Py_EQ   ? PyBool_FromLong(false)
-                     : operation == Py_NE ? PyBool_FromLong(true)
-                                          : PyObject_RichCompare(left, right, operation);
-        }
-        Py_XDECREF(left);
-        Py_XDECREF(right);
-        if (same <= 0) {
-            return result;
-        }
-    }
-    len = PySequence_Size(sequence);
-    other = PyList_Size(list);
-    return ordered(len < other ? -1 : len > other, operation);
+    PyObject *items = PySequence_List(sequence);
+    PyObject *answer = items ? PyObject_RichCompare(items, list, operation) : NULL;
+    Py_XDECREF(items);
+    return answer;
 }
 
 Py_ssize_t seek_object(PyObject *sequence, PyObject *object, Py_ssize_t start, Py_ssize_t stop) {
     Py_ssize_t len = -1;
     /* A comparison may run code that makes it of another kind, which has no length. */
-    for (Py_ssize_t index = start;
-         index < stop && index < (len = PySequence_Size(sequence)); index++) {
+    for (Py_ssize_t index = start; index < stop && index < (len = PySequence_Size(sequence));
+         index++) {
         PyObject *item = PySequence_GetItem(sequence, index);
         int same = item ? PyObject_RichCompareBool(item, object, Py_EQ) : -1;
         Py_XDECREF(item);

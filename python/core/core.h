@@ -141,6 +141,9 @@ bool read_source(const char *name, PyObject *arguments, PyObject *named, PyObjec
 /* Calls a function of the module `ecow._objects` with one or two arguments. */
 PyObject *call_helper(PyObject *name, PyObject *first, PyObject *second);
 
+/* Reads a length or a count. One that no `Py_ssize_t` holds is the most that it holds. */
+bool read_size(PyObject *given, size_t *size);
+
 /* Reads an optional bound of a range of `len` items, as slices do. */
 bool read_bound(PyObject *given, Py_ssize_t len, Py_ssize_t *bound);
 
@@ -151,7 +154,7 @@ bool read_bounds(const char *name, PyObject *const *arguments, Py_ssize_t count,
 /* Raises a TypeError unless a call has between `least` and `most` arguments. */
 bool takes(const char *name, Py_ssize_t count, Py_ssize_t least, Py_ssize_t most);
 
-/* Compares a sequence with a list, item by item, as two lists are compared. */
+/* Compares a sequence with a list, as two lists are compared. */
 PyObject *compare_with_list(PyObject *sequence, PyObject *list, int operation);
 
 /* Python's answer for an order: below 0, 0, or above. */

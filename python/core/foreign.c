@@ -112,17 +112,12 @@ static PyObject *wrapped_members(PyObject *self, PyObject *members) {
 }
 
 PyObject *wrapped(PyObject *self, PyObject *result) {
-    PyObject *made = NULL;
     if (!result || PyBool_Check(result)) {
         return result;
     }
-    if (PyUnicode_Check(result)) {
-        made = wrapped_text(self, result);
-    } else if (PyBytes_Check(result)) {
-        made = wrapped_bytes(self, result);
-    } else {
-        made = wrapped_members(self, result);
-    }
+    PyObject *made = PyUnicode_Check(result) ? wrapped_text(self, result)
+                     : PyBytes_Check(result) ? wrapped_bytes(self, result)
+                                             : wrapped_members(self, result);
     Py_DECREF(result);
     return made;
 }

@@ -73,8 +73,8 @@ static int gather(core_state *state, PyObject *source, given_numbers *given) {
         done = -1;
     }
     for (; done == 0 && given->count < count; given->count++) {
-        done = list_read_item(state, PyTuple_GetItem(items, given->count),
-                              &given->made[given->count]);
+        done =
+            list_read_item(state, PyTuple_GetItem(items, given->count), &given->made[given->count]);
     }
     Py_XDECREF(items);
     return done;

@@ -2,7 +2,8 @@
 #define _GNU_SOURCE
 #include "core.h"
 
-static Py_ssize_t find_first(const char *bytes, Py_ssize_t size, const char *part, Py_ssize_t count) {
+static Py_ssize_t find_first(const char *bytes, Py_ssize_t size, const char *part,
+                             Py_ssize_t count) {
     const char *found = memmem(bytes, (size_t)size, part, (size_t)count);
     return found ? found - bytes : -1;
 }
@@ -29,7 +30,8 @@ static Py_ssize_t find_turned(const char *bytes, Py_ssize_t size, const char *pa
     return found < 0 ? -1 : size - count - found;
 }
 
-static Py_ssize_t find_last(const char *bytes, Py_ssize_t size, const char *part, Py_ssize_t count) {
+static Py_ssize_t find_last(const char *bytes, Py_ssize_t size, const char *part,
+                            Py_ssize_t count) {
     if (count == 0 || count > size) {
         return count == 0 ? size : -1;
     }

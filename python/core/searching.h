@@ -31,9 +31,9 @@ static PyObject *OWN(meets)(PyObject *self, const char *name, PyObject *const *a
     return found == -2 ? NULL : PyBool_FromLong(found >= 0);
 }
 
-#define SEARCH(name, answer)                                                                       \
-    static PyObject *OWN(name)(PyObject * self, PyObject *const *arguments, Py_ssize_t count) {    \
-        return answer;                                                                             \
+#define SEARCH(name, answer)                                                                    \
+    static PyObject *OWN(name)(PyObject * self, PyObject *const *arguments, Py_ssize_t count) { \
+        return answer;                                                                          \
     }
 #define SOUGHT(name, what) OWN(seek)(self, name, arguments, count, what)
 SEARCH(find, OWN(place)(SOUGHT("find", FIRST), false))

@@ -259,30 +259,16 @@ static PyObject *OWN(clear)(PyObject *self, PyObject *Py_UNUSED(none)) {
     return none_or_error(CALL(clear)(&OWN(cast)(self)->value), NAME);
 }
 
-/* Reads a length or a count of items. One that no `size_t` holds is the most that it holds. */
-static bool OWN(read_size)(PyObject *given, size_t *size) {
-    Py_ssize_t number = PyNumber_AsSsize_t(given, NULL);
-    if (number == -1 && PyErr_Occurred()) {
-        return false;
-    }
-    if (number < 0) {
-        PyErr_SetString(PyExc_ValueError, "length below 0");
-        return false;
-    }
-    *size = (size_t)number;
-    return true;
-}
-
 static PyObject *OWN(truncate)(PyObject *self, PyObject *length) {
     size_t len;
-    return OWN(read_size)(length, &len)
+    return read_size(length, &len)
                ? none_or_error(CALL(truncate)(&OWN(cast)(self)->value, len), NAME)
                : NULL;
 }
 
 static PyObject *OWN(reserve)(PyObject *self, PyObject *additional) {
     size_t count;
-    return OWN(read_size)(additional, &count)
+    return read_size(additional, &count)
                ? none_or_error(CALL(reserve)(&OWN(cast)(self)->value, count), NAME)
                : NULL;
 }
@@ -309,17 +295,6 @@ static int OWN(repeated)(PyObject *self, Py_ssize_t times, VALUE *made) {
     return check(status, NAME);
 }
 
-static PyObject *OWN(repeat)(PyObject *self, Py_ssize_t times) {
-    VALUE value = CALL(new)();
-    if (times == 1) {
-        return OWN(part)(self, 0, 1, OWN(length)(self));
-    }
-    PyObject *made =
-        OWN(repeated)(self, times, &value) < 0 ? NULL : OWN(own)(OWN(cast)(self)->state, &value);
-    CALL(drop)(&value);
-    return made;
-}
-
 static PyObject *OWN(repeat_in_place)(PyObject *self, Py_ssize_t times) {
     VALUE value = CALL(new)();
     int done = times == 1 ? 0 : OWN(repeated)(self, times, &value);
@@ -327,18 +302,21 @@ static PyObject *OWN(repeat_in_place)(PyObject *self, Py_ssize_t times) {
         OWN(take_over)(OWN(cast)(self), &value);
     }
     CALL(drop)(&value);
-    if (done < 0) {
-        return NULL;
-    }
-    Py_INCREF(self);
-    return self;
+    return done < 0 ? NULL : Py_NewRef(self);
+}
+
+static PyObject *OWN(repeat)(PyObject *self, Py_ssize_t times) {
+    PyObject *made = OWN(cloned)(self, OWN(cast)(self)->state->TYPE);
+    PyObject *repeated = made ? OWN(repeat_in_place)(made, times) : NULL;
+    Py_XDECREF(made);
+    return repeated;
 }
 
 /* A new object of the items of two objects, each of this kind or of what `OWN(give)` takes. */
 static PyObject *OWN(joined)(core_state *state, PyObject *left, PyObject *right) {
     bool is_own = OWN(is)(state, left);
-    PyObject *made = is_own ? OWN(cloned)(left, state->TYPE)
-                            : (PyObject *)OWN(make)(state, state->TYPE);
+    PyObject *made =
+        is_own ? OWN(cloned)(left, state->TYPE) : (PyObject *)OWN(make)(state, state->TYPE);
     PyObject *first = made && !is_own ? OWN(extend)(made, left) : NULL;
     PyObject *second = made && (is_own || first) ? OWN(extend)(made, right) : NULL;
     Py_XDECREF(first);

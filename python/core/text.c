@@ -231,9 +231,9 @@ static int put(text_object *object, Py_ssize_t start, Py_ssize_t end, utf8 added
     Py_ssize_t count = count_of(object), to = byte_of(object, end), from = byte_of(object, start);
     if (!can_change(object)
         || check(ecow_text_splice(&object->value, (size_t)from, (size_t)to, added.bytes,
-                               (size_t)added.size),
-              NAME)
-        < 0) {
+                                  (size_t)added.size),
+                 NAME)
+               < 0) {
         return -1;
     }
     object->count = count - (end - start) + added.count;
@@ -370,39 +370,27 @@ static PyObject *text_clear(PyObject *self, PyObject *Py_UNUSED(none)) {
     Py_RETURN_NONE;
 }
 
-/* Reads a length or a size, of which Python's numbers may be larger. */
-static bool read_size(PyObject *given, Py_ssize_t *size) {
-    *size = PyNumber_AsSsize_t(given, NULL);
-    if (*size == -1 && PyErr_Occurred()) {
-        return false;
-    }
-    if (*size < 0) {
-        PyErr_SetString(PyExc_ValueError, "length below 0");
-    }
-    return *size >= 0;
-}
-
 static PyObject *text_truncate(PyObject *self, PyObject *length) {
     text_object *object = text_cast(self);
-    Py_ssize_t len;
+    size_t len;
     if (!read_size(length, &len) || !can_change(object)) {
         return NULL;
     }
-    if (len < count_of(object)) {
-        Py_ssize_t byte = byte_of(object, len);
+    if (len < (size_t)count_of(object)) {
+        Py_ssize_t byte = byte_of(object, (Py_ssize_t)len);
         if (check(ecow_text_truncate(&object->value, (size_t)byte), NAME) < 0) {
             return NULL;
         }
-        object->count = object->character = len;
+        object->count = object->character = (Py_ssize_t)len;
         object->byte = byte;
     }
     Py_RETURN_NONE;
 }
 
 static PyObject *text_reserve(PyObject *self, PyObject *additional) {
-    Py_ssize_t size;
+    size_t size;
     return read_size(additional, &size) && can_change(text_cast(self))
-               ? none_or_error(ecow_text_reserve(&text_cast(self)->value, (size_t)size), NAME)
+               ? none_or_error(ecow_text_reserve(&text_cast(self)->value, size), NAME)
                : NULL;
 }
 

@@ -696,8 +696,9 @@ static int value_contains(PyObject *self, PyObject *object) {
     }
     int found = get_at(own, keys_of(own->state, object, false), &part) >= 0;
     ecow_value_drop(&part);
-    if (!found && (PyErr_ExceptionMatches(PyExc_KeyError)
-                   || PyErr_ExceptionMatches(PyExc_UnicodeEncodeError))) {
+    if (!found
+        && (PyErr_ExceptionMatches(PyExc_KeyError)
+            || PyErr_ExceptionMatches(PyExc_UnicodeEncodeError))) {
         PyErr_Clear();
     }
     return PyErr_Occurred() ? -1 : found;
@@ -711,9 +712,10 @@ static PyObject *value_compared(PyObject *self, PyObject *other, int operation) 
     }
     bool both = value_is(object->state, other);
     value_object *right = both ? value_cast(other) : object;
-    if (both && (ecow_value_shares(&object->value, &right->value)
-                 || (object->depth <= SHALLOW && right->depth <= SHALLOW
-                     && ecow_value_equal(&object->value, &right->value)))) {
+    if (both
+        && (ecow_value_shares(&object->value, &right->value)
+            || (object->depth <= SHALLOW && right->depth <= SHALLOW
+                && ecow_value_equal(&object->value, &right->value)))) {
         return PyBool_FromLong(operation == Py_EQ);
     }
     if (!both && !has_parts(&object->value)) {
