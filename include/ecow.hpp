@@ -1820,8 +1820,8 @@ public:
         if constexpr (changes_it) {
             static_assert(std::is_void_v<std::invoke_result_t<Change &, value &>>,
                           "update takes a function that returns nothing: it changes its argument");
+            update(path.data(), path.data() + path.size(), change);
         }
-        update(path.data(), path.data() + path.size(), change);
     }
 
     /* Puts an item in place of the one at `index` of a list. Throws std::out_of_range from the size

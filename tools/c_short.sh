@@ -149,7 +149,34 @@ test_cpp() { # STANDARD
     silent "$out/threads-cpp" 20000
 }
 
+# A line of C++ isn't compiled, for one reason, which is told in words.
+told=0
+refused() { # FLAGS WORDS CODE
+    printf '#include "ecow.hpp"\n%s\n' "$3" > "$out/refused.cpp"
+    if $cxx $1 -Iinclude -fsyntax-only "$out/refused.cpp" 2> "$out/said"; then
+        echo "compiled with $1: $3"
+        exit 1
+    fi
+    [ "$(grep -c 'error:' "$out/said")" -eq 1 ] && grep -q "error:.*$2" "$out/said" || {
+        echo "not refused for the reason \"$2\": $3"
+        cat "$out/said"
+        exit 1
+    }
+    told=$((told + 1))
+}
+
 if has C++17 $cxx -std=c++17 -fsyntax-only -include string_view -x c++ /dev/null; then
+    refused -std=c++14 'ecow.hpp needs C++17' ''
+    refused "-std=c++17 -fno-exceptions" 'ecow.hpp needs exceptions' ''
+    for function in '[](const ecow::value &part) { return part; }' '[](ecow::value part) { part = 7; }' \
+        '[](auto part) { part = 7; }' '[](const ecow::value &) {}' '[](int) {}'; do
+        refused -std=c++17 'update takes a function that changes a .value &' \
+            "void f(ecow::value &v) { v.update({\"a\"}, $function); }"
+    done
+    refused -std=c++17 'update takes a function that returns nothing' \
+        'void f(ecow::value &v) { v.update({"a"}, [](auto &part) { return part = 7; }); }'
+    refused -std=c++17 'no matching ' 'ecow::bytes f(const std::vector<int> &v) { return ecow::bytes(v); }'
+    echo "c++: $told lines refused with words that say why"
     test_cpp 17
     refuse_each test-cpp 0
     refuse_each nested-cpp 0

@@ -242,48 +242,50 @@ def _loaded(packed: Any) -> Any:
     return packed.value if isinstance(packed, Block) else packed
 
 
-def _block(value: Any, held: Any, parts: Optional[list[Any]] = None) -> Block:
-    """The block of the memory of a value, which holds the same; one that has none has its own."""
+def _block(value: Any, held: Any, new: list[Any], parts: Optional[list[Any]] = None) -> Block:
+    """The block of the memory of a value, which holds the same; one that has none has its own.
+    A new one is added to `new`."""
     kind = next(each for each in _KINDS if isinstance(value, each))
     address = _address(value)
     block = _blocks.get((kind, address)) if address else None
     if block is None:
         block = Block(held, parts)
+        new.append(block)
         if address:
             _blocks[kind, address] = block
     return block
 
 
-def _packed(value: Any) -> Any:
+def _packed(value: Any, new: list[Any]) -> Any:
     """What a value is pickled as: a block, or an object of Python's where it is as small."""
-    if isinstance(value, Value):
-        return _folded(value, _packed_leaf, lambda part, parts: _block(part, Value(part), parts))
-    if isinstance(value, Texts):
-        return _block(value, Texts(value), [_packed(text) for text in value])
-    return _packed_leaf(value)
-
-
-def _packed_leaf(value: Any) -> Any:
     kind: Any
+    if isinstance(value, Value) and value.kind in ("list", "fields"):
+        return _folded(value, lambda part: _packed(part, new),
+                       lambda part, parts: _block(part, Value(part), new, parts))
     if isinstance(value, Value):
-        return _packed_leaf(Text(value)) if value.kind == "text" else value.to_python()
+        return _packed(Text(value), new) if value.kind == "text" else value.to_python()
+    if isinstance(value, Texts):
+        return _block(value, Texts(value), new, [_packed(text, new) for text in value])
     for kind, plain in ((List, list), (Bytes, bytes), (Text, str)):
         if isinstance(value, kind):
-            return _block(value, kind(value)) if _address(value) else plain(value)
+            return _block(value, kind(value), new) if _address(value) else plain(value)
     return value
 
 
-def restored(kind: Any, packed: Any) -> Any:
-    """A value of a type, whose own `__init__` isn't called."""
+def restored(kind: Any, *packed: Any) -> Any:
+    """A value of a type, whose own `__init__` isn't called. What it is made of stands last."""
     base = next(each for each in kind.__mro__ if each in _KINDS)
     value = kind.__new__(kind)
-    base.__init__(value, _loaded(packed))
+    base.__init__(value, _loaded(packed[-1]))
     return value
 
 
 def reduced(value: Any) -> tuple[Any, ...]:
-    """What `__reduce__` gives."""
-    return restored, (type(value), _packed(value)), value.__getstate__()
+    """What `__reduce__` gives. Blocks are pickled before those that hold them, so that the stack
+    doesn't grow."""
+    new: list[Any] = []
+    packed = _packed(value, new)
+    return restored, (type(value), new, packed), value.__getstate__()
 
 
 def _set_state(made: Any, state: Any) -> None:
