@@ -27,7 +27,8 @@
  *     ecow::invalid_text      ECOW_BOUNDARY, ECOW_UTF8, ECOW_INNER_NUL
  *     ecow::wrong_kind        ECOW_KIND
  *     std::invalid_argument   ECOW_NULL
- * `what` says the words of `ecow_status_text`, unless std itself refused to copy an array.
+ * `what` says the words of `ecow_status_text`, or which field isn't there, unless std itself refused
+ * to copy an array.
  *
  * Lifetimes. Iterators, pointers, references and views into a value stay valid until it is changed,
  * moved, swapped or destroyed.
