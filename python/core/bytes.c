@@ -167,7 +167,7 @@ static PyObject *bytes_remove(PyObject *self, PyObject *given) {
         PyErr_SetString(PyExc_ValueError, "value not found in Bytes");
         return NULL;
     }
-    return none_or_error(ecow_bytes_remove(&object->value, (size_t)found, NULL), NAME);
+    return none_if(check(ecow_bytes_remove(&object->value, (size_t)found, NULL), NAME));
 }
 
 /* Whether an object is compared and joined with bytes. A `List` lends a buffer, but is of another
@@ -230,6 +230,9 @@ static PyObject *bytes_repr(PyObject *self) {
 
 #define OF of_bytes
 #define PLAIN_NAME "bytes"
+#define FILL "b' '"
+#define CHARS "bytes"
+#define DELETED ", delete=b''"
 #define WITHOUT_ARGUMENTS(X) ALONE_OF_BOTH(X)
 #define WITH_ARGUMENTS(X) METHODS_OF_BOTH(X) METHODS_OF_BYTES(X)
 #define AS_THEY_ARE(X) PLAIN_OF_BYTES(X)

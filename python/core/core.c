@@ -46,10 +46,6 @@ int refuse(ecow_status status, const char *what) {
     }
 }
 
-PyObject *none_or_error(ecow_status status, const char *what) {
-    return none_if(check(status, what));
-}
-
 PyObject *none_if(int done) {
     return done < 0 ? NULL : Py_NewRef(Py_None);
 }

@@ -126,9 +126,6 @@ static inline int check(ecow_status status, const char *what) {
     return status == ECOW_OK ? 0 : refuse(status, what);
 }
 
-/* Answers none, or raises the error of a status. */
-PyObject *none_or_error(ecow_status status, const char *what);
-
 /* None, unless an error was raised, which is below 0. */
 PyObject *none_if(int done);
 

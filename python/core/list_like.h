@@ -35,7 +35,7 @@ static PyObject *OWN(remove)(PyObject *self, PyObject *object) {
     }
     return found < 0
                ? NULL
-               : none_or_error(CALL(remove)(&OWN(cast)(self)->value, (size_t)found, NULL), NAME);
+               : none_if(check(CALL(remove)(&OWN(cast)(self)->value, (size_t)found, NULL), NAME));
 }
 
 static PyObject *OWN(plus)(PyObject *left, PyObject *right) {

@@ -204,7 +204,7 @@ static PyObject *OWN(append)(PyObject *self, PyObject *given) {
     }
     ecow_status status = CALL(push)(&object->value, PASS(item));
     OWN(drop_item)(&item);
-    return none_or_error(status, NAME);
+    return none_if(check(status, NAME));
 }
 
 static PyObject *OWN(extend)(PyObject *self, PyObject *source) {
@@ -236,7 +236,7 @@ static PyObject *OWN(insert)(PyObject *self, PyObject *const *arguments, Py_ssiz
     index = index < 0 ? 0 : index > len ? len : index;
     ecow_status status = CALL(insert)(&object->value, (size_t)index, PASS(item));
     OWN(drop_item)(&item);
-    return none_or_error(status, NAME);
+    return none_if(check(status, NAME));
 }
 
 static PyObject *OWN(pop)(PyObject *self, PyObject *const *arguments, Py_ssize_t count) {
@@ -256,20 +256,20 @@ static PyObject *OWN(pop)(PyObject *self, PyObject *const *arguments, Py_ssize_t
 }
 
 static PyObject *OWN(clear)(PyObject *self, PyObject *Py_UNUSED(none)) {
-    return none_or_error(CALL(clear)(&OWN(cast)(self)->value), NAME);
+    return none_if(check(CALL(clear)(&OWN(cast)(self)->value), NAME));
 }
 
 static PyObject *OWN(truncate)(PyObject *self, PyObject *length) {
     size_t len;
     return read_size(length, &len)
-               ? none_or_error(CALL(truncate)(&OWN(cast)(self)->value, len), NAME)
+               ? none_if(check(CALL(truncate)(&OWN(cast)(self)->value, len), NAME))
                : NULL;
 }
 
 static PyObject *OWN(reserve)(PyObject *self, PyObject *additional) {
     size_t count;
     return read_size(additional, &count)
-               ? none_or_error(CALL(reserve)(&OWN(cast)(self)->value, count), NAME)
+               ? none_if(check(CALL(reserve)(&OWN(cast)(self)->value, count), NAME))
                : NULL;
 }
 

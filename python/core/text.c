@@ -271,9 +271,7 @@ static int text_init(PyObject *self, PyObject *arguments, PyObject *named) {
         return -1;
     }
     text_take_over(object, &text);
-    if (given && text_is(object->state, given)) {
-        NOTE(object, text_cast(given));
-    } else if (given && PyUnicode_Check(given)) {
+    if (given && PyUnicode_Check(given)) {
         object->count = PyUnicode_GetLength(given);
     }
     return 0;
@@ -390,7 +388,7 @@ static PyObject *text_truncate(PyObject *self, PyObject *length) {
 static PyObject *text_reserve(PyObject *self, PyObject *additional) {
     size_t size;
     return read_size(additional, &size) && can_change(text_cast(self))
-               ? none_or_error(ecow_text_reserve(&text_cast(self)->value, size), NAME)
+               ? none_if(check(ecow_text_reserve(&text_cast(self)->value, size), NAME))
                : NULL;
 }
 
@@ -735,6 +733,9 @@ static PyObject *text_hash(PyObject *self, PyObject *Py_UNUSED(none)) {
 
 #define OF of_str
 #define PLAIN_NAME "str"
+#define FILL "' '"
+#define CHARS "chars"
+#define DELETED ""
 #define WITHOUT_ARGUMENTS(X) ALONE_OF_BOTH(X) ALONE_OF_STR(X)
 #define WITH_ARGUMENTS(X) METHODS_OF_BOTH(X) METHODS_OF_STR(X)
 #define AS_THEY_ARE(X) PLAIN_OF_STR(X)

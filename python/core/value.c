@@ -607,7 +607,7 @@ static PyObject *value_clear(PyObject *self, PyObject *Py_UNUSED(none)) {
                          : kind == ECOW_KIND_FIELDS ? ecow_value_set_fields(&object->value)
                                                     : ECOW_KIND;
     object->depth = status == ECOW_OK ? 1 : object->depth;
-    return none_or_error(status, NAME);
+    return none_if(check(status, NAME));
 }
 
 /* What a list holds for one field or item: its name, its value, or that with a text as a `Text`. */
