@@ -100,11 +100,11 @@ else
 fi
 cp c/examples/first.c "$out"
 # What needs the other count isn't linked or loaded.
-if LC_ALL=C $cc -DECOW_COUNT_$other "$out/first.c" -I"$prefix/include" "$prefix/lib/libecow.a" -o "$out/first" 2> "$out/said"; then
+if $cc -DECOW_COUNT_$other "$out/first.c" -I"$prefix/include" "$prefix/lib/libecow.a" -o "$out/first" 2> "$out/said"; then
     echo "a program that needs the count $other is linked with the count $count"
     exit 1
 fi
-grep -q "undefined reference to .ecow_library_counts_owners_" "$out/said" || { cat "$out/said"; exit 1; }
+grep -q "undefined.*ecow_library_counts_owners_" "$out/said" || { cat "$out/said"; exit 1; }
 $cc "$out/first.c" $flags -Wl,-rpath,"$prefix/lib" -o "$out/first-shared"
 $cc "$out/first.c" -I"$prefix/include" "$prefix/lib/libecow.a" -o "$out/first-static"
 for program in first-shared first-static; do "$out/$program" | cmp - c/examples/first.out; done
