@@ -676,6 +676,8 @@ static void values_have_an_order() {
 
 static void values_are_written() {
     std::ostringstream out;
+    /* A stream that lacks memory says so. */
+    out.exceptions(std::ios::badbit);
     out << value::fields({{"size", {800, 1.5}}, {"full", false}, {"title", nullptr}}) << value()
         << value("a \"b\"\\\n\u00e9") << value::list() << value::fields({}) << value{{-1}, "x"};
     CHECK(out.str()
