@@ -525,7 +525,7 @@ static PyObject *value_get_part(PyObject *self, PyObject *path) {
     return level < 0 ? NULL : part_value(object, &part, level);
 }
 
-/* What stands for a part that isn't there: a clone of `other`, unless another error was raised. */
+/* What stands for a part that isn't there: `other`, unless another error was raised. */
 static PyObject *instead(PyObject *other) {
     if (!other || !PyErr_ExceptionMatches(PyExc_LookupError)) {
         return NULL;
@@ -724,7 +724,9 @@ static PyObject *value_compared(PyObject *self, PyObject *other, int operation) 
         Py_XDECREF(plain);
         return answer;
     }
-    if (!both && !PyList_Check(other) && !PyDict_Check(other)) {
+    if (!both && !PyList_Check(other) && !PyDict_Check(other)
+        && !PyObject_TypeCheck(other, object->state->list)
+        && !PyObject_TypeCheck(other, object->state->texts)) {
         Py_RETURN_NOTIMPLEMENTED;
     }
     answer = call_helper(object->state->names.equal, self, other);

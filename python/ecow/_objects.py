@@ -79,7 +79,7 @@ def _opened(thing: Any) -> Any:
     if isinstance(thing, Value):
         return dict(thing.items()) if thing.kind == "fields" else (
             list(thing) if thing.kind == "list" else thing.to_python())
-    return thing
+    return list(thing) if isinstance(thing, (List, Texts)) else thing
 
 
 def equal(value: Any, other: Any) -> bool:

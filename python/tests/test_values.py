@@ -423,7 +423,13 @@ class Equality(unittest.TestCase):
                 self.assertEqual(Value(one) != Value(two), not alike)
                 self.assertEqual(Value([one])[:] == Value([two]), alike)
         self.assertFalse(Value((1,)) == (1,))
-        self.assertFalse(Value([1]) == List([1]))
+        # What equals the same list is equal too.
+        for one in (Value([1, 2]), List([1, 2]), [1, 2], collections.UserList([1, 2])):
+            for two in (Value([1, 2]), List([1, 2]), [1, 2]):
+                self.assertTrue(one == two and not one != two)
+            self.assertFalse(one == Value([1, 3]) or one == Value({"a": 1}) or one == Value(1))
+        self.assertTrue(Value(["a"]) == Texts(["a"]) and Texts(["a"]) == Value(["a"]))
+        self.assertTrue(Value([["a"], [1]]) == [Texts(["a"]), List([1])])
         self.assertEqual(Value(math.nan), Value(math.nan))
         self.assertEqual(Value([1, math.nan]), Value([1.0, math.nan]))
         self.assertNotEqual(Value(math.nan), math.nan)
