@@ -83,12 +83,13 @@ lib: bin/libecow_c-$(C_COUNT).a
 LIKE = $(basename $(shell cat VERSION))
 
 install: lib
-	install -d $(DESTDIR)$(PREFIX)/lib/pkgconfig $(DESTDIR)$(PREFIX)/include
+	install -d $(DESTDIR)$(PREFIX)/lib/pkgconfig $(DESTDIR)$(PREFIX)/lib/cmake/ecow $(DESTDIR)$(PREFIX)/include
 	install -m 644 bin/libecow.a $(DESTDIR)$(PREFIX)/lib
 	install -m 755 bin/libecow.so $(DESTDIR)$(PREFIX)/lib/libecow.so.$(LIKE)
 	ln -sf libecow.so.$(LIKE) $(DESTDIR)$(PREFIX)/lib/libecow.so
 	install -m 644 include/ecow.h include/ecow.hpp $(DESTDIR)$(PREFIX)/include
 	sed 's|^prefix=.*|prefix=$(PREFIX)|' bin/ecow.pc > $(DESTDIR)$(PREFIX)/lib/pkgconfig/ecow.pc
+	install -m 644 bin/ecow-config.cmake $(DESTDIR)$(PREFIX)/lib/cmake/ecow
 
 dist: lib
 	@tools/dist.sh $(C_COUNT)

@@ -44,6 +44,13 @@ const char *ecow_version(void) {
     return ECOW_VERSION;
 }
 
+/* The build says how the library beside this file counts owners. */
+#ifdef ECOW_COUNT_PLAIN
+const char ecow_library_counts_owners_for_one_thread = 1;
+#else
+const char ecow_library_counts_owners_atomically = 1;
+#endif
+
 #define VALUE ecow_list
 #define ITEM int64_t
 #define CALL(name) ecow_list_##name

@@ -68,6 +68,19 @@ extern "C" {
 /* The version of the library that is linked, as ECOW_VERSION. Never null. */
 const char *ecow_version(void);
 
+/* A library has one of these names, by how it counts owners. What is compiled with ECOW_COUNT_ATOMIC
+ * or ECOW_COUNT_PLAIN, as by the flags of ecow.pc, needs that one: linking or loading another
+ * library stops with the name. */
+extern const char ecow_library_counts_owners_atomically, ecow_library_counts_owners_for_one_thread;
+
+#ifdef ECOW_COUNT_ATOMIC
+static const char *const ecow_count_needed __attribute__((used)) =
+    &ecow_library_counts_owners_atomically;
+#elif defined ECOW_COUNT_PLAIN
+static const char *const ecow_count_needed __attribute__((used)) =
+    &ecow_library_counts_owners_for_one_thread;
+#endif
+
 /* What a call answers. */
 typedef enum ecow_status {
     ECOW_OK = 0,       /* It is done. */

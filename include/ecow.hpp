@@ -15,7 +15,7 @@
  * Arrays. An argument of type `array` is one of these, and may lie in the value that changes:
  *     a std::vector, std::array, std::span or C array of the items, which is read where it lies
  *     for bytes and texts an array of other bytes, a literal, std::string or std::string_view: too
- *     for lists and bytes a container of other whole numbers, which is copied first
+ *     for lists and bytes a container of whole numbers that all fit, which is copied first
  *     any other container of the items, which is copied first
  *     for lists of texts a container of texts, std::string, std::string_view or literals: texts and
  *     those of another list go in as clones, which share memory, and all others are copied
@@ -27,7 +27,8 @@
  *     ecow::invalid_text      ECOW_BOUNDARY, ECOW_UTF8, ECOW_INNER_NUL
  *     ecow::wrong_kind        ECOW_KIND
  *     std::invalid_argument   ECOW_NULL
- * `what` says the words of `ecow_status_text`, unless std itself refused to copy an array.
+ * `what` says the words of `ecow_status_text`, or which field isn't there, unless std itself refused
+ * to copy an array.
  *
  * Lifetimes. Iterators, pointers, references and views into a value stay valid until it is changed,
  * moved, swapped or destroyed.
@@ -38,20 +39,18 @@
 #ifndef ECOW_HPP
 #define ECOW_HPP
 
-#ifndef __cpp_if_constexpr
+#if !defined __cpp_if_constexpr
 #error "ecow.hpp needs C++17"
-#endif
+#elif !defined __cpp_exceptions
+#error "ecow.hpp needs exceptions: with -fno-exceptions, use ecow.h"
+#else
 
 #include "ecow.h"
 
-#include <algorithm>
 #include <cstddef>
 #include <cstdint>
-#include <functional>
 #include <initializer_list>
 #include <iosfwd>
-#include <iterator>
-#include <memory>
 #include <new>
 #include <optional>
 #include <stdexcept>
@@ -59,7 +58,6 @@
 #include <string_view>
 #include <type_traits>
 #include <utility>
-#include <variant>
 #include <vector>
 
 #ifdef __cpp_impl_three_way_comparison
@@ -143,107 +141,57 @@ inline void check(ecow_status status) {
 
 /* Beside them stand `item`, which iterators pass over, and `given`, as which one item is taken. */
 
+#define ECOW_CALLS(kind, Item, Given)                                  \
+    using type = ecow_##kind;                                          \
+    using item = Item;                                                 \
+    using given = Given;                                               \
+    static constexpr auto drop = ecow_##kind##_drop;                   \
+    static constexpr auto clone = ecow_##kind##_clone;                 \
+    static constexpr auto len = ecow_##kind##_len;                     \
+    static constexpr auto shares = ecow_##kind##_shares;               \
+    static constexpr auto truncate = ecow_##kind##_truncate;           \
+    static constexpr auto clear = ecow_##kind##_clear;                 \
+    static constexpr auto reserve = ecow_##kind##_reserve;             \
+    static constexpr auto capacity = ecow_##kind##_capacity;           \
+    static constexpr auto shrink_to_fit = ecow_##kind##_shrink_to_fit; \
+    static constexpr auto extend = ecow_##kind##_extend;               \
+    static constexpr auto splice = ecow_##kind##_splice;               \
+    static constexpr auto equal = ecow_##kind##_equal;                 \
+    static constexpr auto compare = ecow_##kind##_compare;             \
+    static constexpr auto hash = ecow_##kind##_hash
+#define ECOW_ARRAY_CALLS(kind, Item)                     \
+    ECOW_CALLS(kind, Item, Item);                        \
+    static constexpr auto assign = ecow_##kind##_assign; \
+    static constexpr auto slice = ecow_##kind##_slice
+#define ECOW_LIST_CALLS(kind, Item)                      \
+    ECOW_ARRAY_CALLS(kind, Item);                        \
+    static constexpr auto set = ecow_##kind##_set;       \
+    static constexpr auto push = ecow_##kind##_push;     \
+    static constexpr auto pop = ecow_##kind##_pop;       \
+    static constexpr auto insert = ecow_##kind##_insert; \
+    static constexpr auto remove = ecow_##kind##_remove
+
 /* Those on lists of such items. A kind that ecow.h doesn't have isn't defined here. */
 template <typename Item> struct list_calls;
 
-template <> struct list_calls<std::int64_t> {
-    using type = ecow_list;
-    using item = std::int64_t;
-    using given = std::int64_t;
-    static constexpr auto drop = ecow_list_drop;
-    static constexpr auto clone = ecow_list_clone;
-    static constexpr auto assign = ecow_list_assign;
-    static constexpr auto len = ecow_list_len;
-    static constexpr auto slice = ecow_list_slice;
-    static constexpr auto set = ecow_list_set;
-    static constexpr auto push = ecow_list_push;
-    static constexpr auto pop = ecow_list_pop;
-    static constexpr auto insert = ecow_list_insert;
-    static constexpr auto remove = ecow_list_remove;
-    static constexpr auto truncate = ecow_list_truncate;
-    static constexpr auto clear = ecow_list_clear;
-    static constexpr auto reserve = ecow_list_reserve;
-    static constexpr auto capacity = ecow_list_capacity;
-    static constexpr auto shrink_to_fit = ecow_list_shrink_to_fit;
-    static constexpr auto shares = ecow_list_shares;
-    static constexpr auto extend = ecow_list_extend;
-    static constexpr auto splice = ecow_list_splice;
-    static constexpr auto equal = ecow_list_equal;
-    static constexpr auto compare = ecow_list_compare;
-    static constexpr auto hash = ecow_list_hash;
-};
+template <> struct list_calls<std::int64_t> { ECOW_LIST_CALLS(list, std::int64_t); };
 
-template <> struct list_calls<std::uint8_t> {
-    using type = ecow_bytes;
-    using item = std::uint8_t;
-    using given = std::uint8_t;
-    static constexpr auto drop = ecow_bytes_drop;
-    static constexpr auto clone = ecow_bytes_clone;
-    static constexpr auto assign = ecow_bytes_assign;
-    static constexpr auto len = ecow_bytes_len;
-    static constexpr auto slice = ecow_bytes_slice;
-    static constexpr auto set = ecow_bytes_set;
-    static constexpr auto push = ecow_bytes_push;
-    static constexpr auto pop = ecow_bytes_pop;
-    static constexpr auto insert = ecow_bytes_insert;
-    static constexpr auto remove = ecow_bytes_remove;
-    static constexpr auto truncate = ecow_bytes_truncate;
-    static constexpr auto clear = ecow_bytes_clear;
-    static constexpr auto reserve = ecow_bytes_reserve;
-    static constexpr auto capacity = ecow_bytes_capacity;
-    static constexpr auto shrink_to_fit = ecow_bytes_shrink_to_fit;
-    static constexpr auto shares = ecow_bytes_shares;
-    static constexpr auto extend = ecow_bytes_extend;
-    static constexpr auto splice = ecow_bytes_splice;
-    static constexpr auto equal = ecow_bytes_equal;
-    static constexpr auto compare = ecow_bytes_compare;
-    static constexpr auto hash = ecow_bytes_hash;
-};
+template <> struct list_calls<std::uint8_t> { ECOW_LIST_CALLS(bytes, std::uint8_t); };
 
 struct text_calls {
-    using type = ecow_text;
-    using item = char;
-    using given = char;
-    static constexpr auto drop = ecow_text_drop;
-    static constexpr auto clone = ecow_text_clone;
-    static constexpr auto assign = ecow_text_assign;
-    static constexpr auto len = ecow_text_len;
-    static constexpr auto slice = ecow_text_slice;
-    static constexpr auto truncate = ecow_text_truncate;
-    static constexpr auto clear = ecow_text_clear;
-    static constexpr auto reserve = ecow_text_reserve;
-    static constexpr auto capacity = ecow_text_capacity;
-    static constexpr auto shrink_to_fit = ecow_text_shrink_to_fit;
-    static constexpr auto shares = ecow_text_shares;
-    static constexpr auto extend = ecow_text_extend;
-    static constexpr auto splice = ecow_text_splice;
-    static constexpr auto equal = ecow_text_equal;
-    static constexpr auto compare = ecow_text_compare;
-    static constexpr auto hash = ecow_text_hash;
+    ECOW_ARRAY_CALLS(text, char);
 };
 
 class text_item;
 
 struct texts_calls {
-    using type = ecow_texts;
-    using item = std::string_view;
-    using given = text_item;
-    static constexpr auto drop = ecow_texts_drop;
-    static constexpr auto clone = ecow_texts_clone;
+    ECOW_CALLS(texts, std::string_view, text_item);
     static constexpr auto assign = ecow_texts_clone;
-    static constexpr auto len = ecow_texts_len;
-    static constexpr auto truncate = ecow_texts_truncate;
-    static constexpr auto clear = ecow_texts_clear;
-    static constexpr auto reserve = ecow_texts_reserve;
-    static constexpr auto capacity = ecow_texts_capacity;
-    static constexpr auto shrink_to_fit = ecow_texts_shrink_to_fit;
-    static constexpr auto shares = ecow_texts_shares;
-    static constexpr auto extend = ecow_texts_extend;
-    static constexpr auto splice = ecow_texts_splice;
-    static constexpr auto equal = ecow_texts_equal;
-    static constexpr auto compare = ecow_texts_compare;
-    static constexpr auto hash = ecow_texts_hash;
 };
+
+#undef ECOW_LIST_CALLS
+#undef ECOW_ARRAY_CALLS
+#undef ECOW_CALLS
 
 struct value_calls {
     using type = ecow_value;
@@ -255,8 +203,32 @@ struct value_calls {
 
 /* ---- Iterators ---- */
 
+/* The operators that follow from `==` and from a function `compare`, which is below 0 where `left`
+ * comes first. */
+template <typename Self> class ordered {
+    friend bool operator!=(const Self &left, const Self &right) noexcept {
+        return !(left == right);
+    }
+
+    friend bool operator<(const Self &left, const Self &right) {
+        return compare(left, right) < 0;
+    }
+
+    friend bool operator<=(const Self &left, const Self &right) {
+        return compare(left, right) <= 0;
+    }
+
+    friend bool operator>(const Self &left, const Self &right) {
+        return compare(left, right) > 0;
+    }
+
+    friend bool operator>=(const Self &left, const Self &right) {
+        return compare(left, right) >= 0;
+    }
+};
+
 /* Where an iterator is, and how it moves. `Place` is a pointer or an index. */
-template <typename Self, typename Place> class position {
+template <typename Self, typename Place> class position : ordered<Self> {
 public:
     using difference_type = std::ptrdiff_t;
 
@@ -316,24 +288,8 @@ public:
         return left.place == right.place;
     }
 
-    friend bool operator!=(const Self &left, const Self &right) noexcept {
-        return left.place != right.place;
-    }
-
-    friend bool operator<(const Self &left, const Self &right) noexcept {
-        return left.place < right.place;
-    }
-
-    friend bool operator<=(const Self &left, const Self &right) noexcept {
-        return left.place <= right.place;
-    }
-
-    friend bool operator>(const Self &left, const Self &right) noexcept {
-        return left.place > right.place;
-    }
-
-    friend bool operator>=(const Self &left, const Self &right) noexcept {
-        return left.place >= right.place;
+    friend difference_type compare(const Self &left, const Self &right) noexcept {
+        return left.place - right.place;
     }
 
 protected:
@@ -440,13 +396,16 @@ template <typename Item, typename Other> constexpr bool are_alike() {
     return std::is_same_v<Item, Other> || (is_byte<Item> && is_byte<Other>);
 }
 
-/* Whether such an item may be a copy of the other. A character of more than a byte isn't cut. */
+/* Whether such an item may be a copy of the other: no number of its type is cut. */
 template <typename Item, typename Other> constexpr bool copies() {
     if constexpr (are_texts<Item>) {
         return is_view<Other>();
+    } else if constexpr (std::is_integral_v<Other> && !std::is_same_v<Item, char>) {
+        return are_alike<Item, Other>() || sizeof(Other) < sizeof(Item)
+               || (sizeof(Other) == sizeof(Item)
+                   && std::is_signed_v<Other> == std::is_signed_v<Item>);
     } else {
-        return are_alike<Item, Other>()
-               || (std::is_integral_v<Other> && !std::is_same_v<Item, char>);
+        return are_alike<Item, Other>();
     }
 }
 
@@ -566,8 +525,9 @@ public:
 
 private:
     template <typename Iterator> void copy(Iterator first, Iterator last) {
-        std::transform(first, last, std::back_inserter(copied),
-                       [](auto item) { return static_cast<Item>(item); });
+        for (; first != last; ++first) {
+            copied.push_back(static_cast<Item>(*first));
+        }
         lent = {copied.data(), copied.size()};
     }
 
@@ -603,12 +563,12 @@ template <typename Item> int compare_slices(slice<Item> left, slice<Item> right)
         return std::string_view(reinterpret_cast<const char *>(left.start), left.count)
             .compare(std::string_view(reinterpret_cast<const char *>(right.start), right.count));
     } else {
-        const Item *left_end = left.start + left.count, *right_end = right.start + right.count;
-        auto apart = std::mismatch(left.start, left_end, right.start, right_end);
-        if (apart.first == left_end || apart.second == right_end) {
-            return (apart.first != left_end) - (apart.second != right_end);
+        for (std::size_t at = 0; at < left.count && at < right.count; ++at) {
+            if (left.start[at] != right.start[at]) {
+                return left.start[at] < right.start[at] ? -1 : 1;
+            }
         }
-        return *apart.first < *apart.second ? -1 : 1;
+        return (left.count > right.count) - (left.count < right.count);
     }
 }
 
@@ -637,8 +597,7 @@ bool are_equal(const Left &left, const Right &right) noexcept {
     } else {
         auto all = lend<typename Left::value_type>(left);
         auto other = lend<typename Left::value_type>(right);
-        return all.count == other.count
-               && std::equal(all.start, all.start + all.count, other.start);
+        return all.count == other.count && compare_slices(all, other) == 0;
     }
 }
 
@@ -995,9 +954,11 @@ public:
     Self &append(size_type count, value_type item) {
         check(Calls::reserve(&raw, count));
         value_type part[64];
-        std::fill(std::begin(part), std::end(part), item);
+        for (value_type &each : part) {
+            each = item;
+        }
         while (count > 0) {
-            size_type added = std::min(count, std::size(part));
+            size_type added = count < std::size(part) ? count : std::size(part);
             check(Calls::extend(&raw, part, added));
             count -= added;
         }
@@ -1242,36 +1203,23 @@ public:
         return text(data() + index, end - index);
     }
 
-    size_type find(std::string_view pattern, size_type start = 0) const noexcept {
+    /* A pattern is a text, in any form, or a character. */
+    template <typename Pattern>
+    size_type find(const Pattern &pattern, size_type start = 0) const noexcept {
         return view().find(pattern, start);
     }
 
-    size_type find(char character, size_type start = 0) const noexcept {
-        return view().find(character, start);
-    }
-
-    size_type rfind(std::string_view pattern, size_type start = npos) const noexcept {
+    template <typename Pattern>
+    size_type rfind(const Pattern &pattern, size_type start = npos) const noexcept {
         return view().rfind(pattern, start);
     }
 
-    size_type rfind(char character, size_type start = npos) const noexcept {
-        return view().rfind(character, start);
-    }
-
-    bool contains(std::string_view pattern) const noexcept {
+    template <typename Pattern> bool contains(const Pattern &pattern) const noexcept {
         return find(pattern) != npos;
     }
 
-    bool contains(char character) const noexcept {
-        return find(character) != npos;
-    }
-
-    bool starts_with(std::string_view pattern) const noexcept {
-        return view().substr(0, pattern.size()) == pattern;
-    }
-
-    bool starts_with(char character) const noexcept {
-        return starts_with(std::string_view(&character, 1));
+    template <typename Pattern> bool starts_with(const Pattern &pattern) const noexcept {
+        return rfind(pattern, 0) == 0;
     }
 
     bool ends_with(std::string_view pattern) const noexcept {
@@ -1576,30 +1524,21 @@ detail::comparison<Left, Right> operator>=(const Left &left, const Right &right)
 }
 #endif
 
-/* Takes the items of which `is_erased` is true, and returns how many they were. */
+/* Takes the items of which `is_erased` is true, and returns how many they were. Texts of a list that
+ * are kept share their memory. */
 template <typename Value, typename Predicate,
           std::enable_if_t<detail::is_container<Value>, int> = 0>
 typename Value::size_type erase_if(Value &value, Predicate is_erased) {
-    std::vector<typename Value::value_type> kept;
-    std::remove_copy_if(value.begin(), value.end(), std::back_inserter(kept), is_erased);
+    std::conditional_t<std::is_same_v<Value, texts>, texts, std::vector<typename Value::value_type>>
+        kept;
+    for (auto place = value.begin(); place != value.end(); ++place) {
+        if (!is_erased(*place)) {
+            kept.push_back(detail::item_at(place));
+        }
+    }
     typename Value::size_type erased = value.size() - kept.size();
     if (erased) {
         value.assign(kept);
-    }
-    return erased;
-}
-
-/* The same of a list of texts: those that are kept share their memory. */
-template <typename Predicate> texts::size_type erase_if(texts &value, Predicate is_erased) {
-    texts kept;
-    for (auto place = value.begin(); place != value.end(); ++place) {
-        if (!is_erased(*place)) {
-            kept.push_back(place.get());
-        }
-    }
-    texts::size_type erased = value.size() - kept.size();
-    if (erased) {
-        value.swap(kept);
     }
     return erased;
 }
@@ -1695,11 +1634,11 @@ struct field_item {
  *
  * A member for another kind of value throws `wrong_kind`. A value is dropped by recursion, so the
  * stack bounds how deep one may be. */
-class value : public detail::owned<value, detail::value_calls> {
+class value : public detail::owned<value, detail::value_calls>, detail::ordered<value> {
     using base = detail::owned<value, detail::value_calls>;
 
 public:
-    /* A step into a value: an index of a list, or the name of a field. The name isn't copied. */
+    /* A step into a value: an index of a list, or the name of a field, which it holds. */
     class step {
     public:
         template <
@@ -1708,13 +1647,13 @@ public:
         step(Index number) noexcept : index(static_cast<size_type>(number)) {}
 
         template <typename Name, std::enable_if_t<detail::is_view<Name>(), int> = 0>
-        step(const Name &key) : name(std::string_view(key)) {}
+        step(const Name &key) : name(detail::text_item(key).get()) {}
 
     private:
         friend value;
 
         size_type index = 0;
-        std::optional<std::string_view> name;
+        std::optional<ecow::text> name;
     };
 
     /* A field as it is read. */
@@ -1735,8 +1674,6 @@ public:
     value &operator=(value &&) & = default;
 
     value(std::nullptr_t) noexcept {}
-
-    value(std::monostate) noexcept {}
 
     /* A bool is a truth value, a whole number a number, a float or double a floating-point
      * number. A pointer is none of these, nor is a type of whom some numbers wouldn't fit. */
@@ -1838,7 +1775,7 @@ public:
     /* The value of the field of that name. Throws std::out_of_range where there is none. */
     value get(std::string_view name) const {
         value item;
-        detail::check(ecow_value_get_field(&raw, name.data(), name.size(), &item.raw));
+        check_field(ecow_value_get_field(&raw, name.data(), name.size(), &item.raw), name);
         return item;
     }
 
@@ -1877,7 +1814,15 @@ public:
     /* Calls `change` with a copy of the part to which the steps lead, and puts that in its place.
      * If it throws, the value is as it was. */
     template <typename Change> void update(const std::vector<step> &path, Change change) & {
-        update(path.data(), path.data() + path.size(), change);
+        /* A function that takes a `value` or a `const value &` takes a temporary one too. */
+        constexpr bool changes_it =
+            std::is_invocable_v<Change &, value &> && !std::is_invocable_v<Change &, value>;
+        static_assert(changes_it, "update takes a function that changes a `value &`");
+        if constexpr (changes_it) {
+            static_assert(std::is_void_v<std::invoke_result_t<Change &, value &>>,
+                          "update takes a function that returns nothing: it changes its argument");
+            update(path.data(), path.data() + path.size(), change);
+        }
     }
 
     /* Puts an item in place of the one at `index` of a list. Throws std::out_of_range from the size
@@ -1922,7 +1867,7 @@ public:
      * none. */
     value take(std::string_view name) {
         value item;
-        detail::check(ecow_value_remove_field(&raw, name.data(), name.size(), &item.raw));
+        check_field(ecow_value_remove_field(&raw, name.data(), name.size(), &item.raw), name);
         return item;
     }
 
@@ -1944,12 +1889,106 @@ public:
         return ecow_value_equal(&left.raw, &right.raw);
     }
 
-    friend bool operator!=(const value &left, const value &right) noexcept {
-        return !(left == right);
+    /* Below 0 where `left` comes first: by kinds, then by contents, a NaN before other numbers. 0
+     * where they are equal. */
+    friend int compare(const value &left, const value &right) {
+        if (left.kind() != right.kind()) {
+            return left.kind() < right.kind() ? -1 : 1;
+        }
+        switch (left.shares(right) ? ecow::kind::nothing : left.kind()) {
+        case ecow::kind::nothing:
+            return 0;
+        case ecow::kind::truth:
+            return left.truth() - right.truth();
+        case ecow::kind::number:
+            return (left.number() > right.number()) - (left.number() < right.number());
+        case ecow::kind::real: {
+            const double one = left.real(), other = right.real();
+            return one == one && other == other ? (one > other) - (one < other)
+                                                : (one == one) - (other == other);
+        }
+        case ecow::kind::text:
+            return left.text().compare(right.text());
+        default:
+            break;
+        }
+        for (size_type at = 0; at < left.size() && at < right.size(); ++at) {
+            const bool named = left.kind() == ecow::kind::fields;
+            int order = named ? left.name(at).compare(right.name(at)) : 0;
+            order = order ? order : compare(left.get(at), right.get(at));
+            if (order) {
+                return order;
+            }
+        }
+        return (left.size() > right.size()) - (left.size() < right.size());
+    }
+
+    /* A line for people: `{"size": [800, 1.5], "full": false, "title": null}`. */
+    template <typename Traits>
+    friend std::basic_ostream<char, Traits> &operator<<(std::basic_ostream<char, Traits> &out,
+                                                        const value &written) {
+        const auto quote = [&out](const ecow::text &quoted) -> auto & {
+            out << '"';
+            for (char each : quoted) {
+                const bool is_plain = each != '"' && each != '\\' && (each < 0 || each >= ' ');
+                is_plain ? out << each : out << '\\' << (each == '\n' ? 'n' : each);
+            }
+            return out << '"';
+        };
+        switch (written.kind()) {
+        case ecow::kind::nothing:
+            return out << "null";
+        case ecow::kind::truth:
+            return out << (written.truth() ? "true" : "false");
+        case ecow::kind::number:
+            return out << written.number();
+        case ecow::kind::real:
+            return out << written.real();
+        case ecow::kind::text:
+            return quote(written.text());
+        default:
+            break;
+        }
+        const bool named = written.kind() == ecow::kind::fields;
+        out << (named ? '{' : '[');
+        for (size_type at = 0; at < written.size(); ++at) {
+            out << (at ? ", " : "");
+            if (named) {
+                quote(written.name(at)) << ": ";
+            }
+            out << written.get(at);
+        }
+        return out << (named ? '}' : ']');
+    }
+
+    /* Equal values have the same. */
+    std::size_t hash() const {
+        const ecow::kind held = kind();
+        std::size_t sum = static_cast<std::size_t>(held);
+        const auto add = [&sum](std::size_t more) { sum = (sum ^ more) * 0x9E3779B97F4A7C15; };
+        const double read = held == ecow::kind::real ? real() : 0;
+        add(held == ecow::kind::truth    ? truth()
+            : held == ecow::kind::number ? static_cast<std::size_t>(number())
+            : held == ecow::kind::text   ? text().hash()
+            : read == read               ? std::hash<double>()(read) + size()
+                                         : 0);
+        for (size_type at = 0; at < size(); ++at) {
+            add(kind() == ecow::kind::fields ? name(at).hash() : 0);
+            add(get(at).hash());
+        }
+        return sum;
     }
 
 private:
     friend detail::value_item;
+
+    /* As `detail::check`, but names the field that isn't there. */
+    static void check_field(ecow_status status, std::string_view name) {
+        if (status == ECOW_INDEX) {
+            throw std::out_of_range("no field \"" + std::string(name) + '"');
+        }
+        detail::check(status);
+    }
 
     value(const detail::value_item *items, size_type count) {
         if (count == 1 && items->is_value()) {
@@ -2093,4 +2132,11 @@ template <> struct std::hash<ecow::texts> {
     }
 };
 
+template <> struct std::hash<ecow::value> {
+    std::size_t operator()(const ecow::value &hashed) const {
+        return hashed.hash();
+    }
+};
+
+#endif
 #endif

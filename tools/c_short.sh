@@ -67,10 +67,15 @@ refuse_each() { # PROGRAM EDITS SETTING.., of the library that refuses
 }
 refuse_each edits 400 LEFT=1
 
+# The count of the library, and the other one, which comes second in the header.
+needed=1 count=ATOMIC other=PLAIN
+if grep -q '(plain count)' bin/ecow.pc; then needed=2 count=PLAIN other=ATOMIC; fi
+
 # The shared library's names are those that the header declares.
 if has nm nm --version; then
     {
         sed -n 's/^[a-zE].*[ *]\(ecow_[a-z0-9_]*\)(.*/\1/p' include/ecow.h
+        sed -n "s/^    &\(ecow_library_counts_.*\);/\1/p" include/ecow.h | sed "$needed!d"
         for kind in list bytes text texts value; do
             printf '%s\n' "ecow_proved_${kind}_clone" "ecow_proved_${kind}_drop"
         done
@@ -94,9 +99,38 @@ else
     eval "flags=\"$(sed -n 's/^Cflags: //p; s/^Libs: //p' "$described" | tr '\n' ' ')\""
 fi
 cp c/examples/first.c "$out"
+# What needs the other count isn't linked or loaded.
+if $cc -DECOW_COUNT_$other "$out/first.c" -I"$prefix/include" "$prefix/lib/libecow.a" -o "$out/first" 2> "$out/said"; then
+    echo "a program that needs the count $other is linked with the count $count"
+    exit 1
+fi
+grep -q "undefined.*ecow_library_counts_owners_" "$out/said" || { cat "$out/said"; exit 1; }
 $cc "$out/first.c" $flags -Wl,-rpath,"$prefix/lib" -o "$out/first-shared"
 $cc "$out/first.c" -I"$prefix/include" "$prefix/lib/libecow.a" -o "$out/first-static"
 for program in first-shared first-static; do "$out/$program" | cmp - c/examples/first.out; done
+if has CMake cmake --version; then
+    mkdir "$out/project"
+    cp c/examples/first.c "$out/project"
+    cat > "$out/project/CMakeLists.txt" << 'EOF'
+cmake_minimum_required(VERSION 3.13)
+project(first C)
+find_package(ecow CONFIG REQUIRED)
+foreach(kind ecow static)
+    add_executable(first-${kind} first.c)
+    target_link_libraries(first-${kind} ecow::${kind})
+endforeach()
+EOF
+    cmake -S "$out/project" -B "$out/built" -DCMAKE_PREFIX_PATH="$prefix" -DCMAKE_C_COMPILER="${cc%% *}" > "$out/said" 2>&1 \
+        && cmake --build "$out/built" >> "$out/said" 2>&1 || { cat "$out/said"; exit 1; }
+    for kind in ecow static; do "$out/built/first-$kind" | cmp - c/examples/first.out; done
+fi
+shared=$(echo "$prefix"/lib/libecow.so.*)
+$cc -std=c11 -fPIC -DECOW_COUNT_$other -Iinclude -c c/ecow.c -o "$out/other.o"
+$cc -shared -o "$shared" -Wl,--version-script,c/exports.map $(ls bin/lib/*.o | grep -v '/ecow.o') "$out/other.o"
+if "$out/first-shared" > /dev/null 2> "$out/said" || ! grep -q ecow_library_counts_owners_ "$out/said"; then
+    echo "a program that needs the count $count runs with the count $other"
+    exit 1
+fi
 rm "$prefix"/lib/libecow.so*
 if "$out/first-shared" > /dev/null 2>&1; then
     echo "the flags of ecow.pc don't link the shared library"
@@ -115,7 +149,34 @@ test_cpp() { # STANDARD
     silent "$out/threads-cpp" 20000
 }
 
+# A line of C++ isn't compiled, for one reason, which is told in words.
+told=0
+refused() { # FLAGS WORDS CODE
+    printf '#include "ecow.hpp"\n%s\n' "$3" > "$out/refused.cpp"
+    if $cxx $1 -Iinclude -fsyntax-only "$out/refused.cpp" 2> "$out/said"; then
+        echo "compiled with $1: $3"
+        exit 1
+    fi
+    [ "$(grep -c 'error:' "$out/said")" -eq 1 ] && grep -q "error:.*$2" "$out/said" || {
+        echo "not refused for the reason \"$2\": $3"
+        cat "$out/said"
+        exit 1
+    }
+    told=$((told + 1))
+}
+
 if has C++17 $cxx -std=c++17 -fsyntax-only -include string_view -x c++ /dev/null; then
+    refused -std=c++14 'ecow.hpp needs C++17' ''
+    refused "-std=c++17 -fno-exceptions" 'ecow.hpp needs exceptions' ''
+    for function in '[](const ecow::value &part) { return part; }' '[](ecow::value part) { part = 7; }' \
+        '[](auto part) { part = 7; }' '[](const ecow::value &) {}' '[](int) {}'; do
+        refused -std=c++17 'update takes a function that changes a .value &' \
+            "void f(ecow::value &v) { v.update({\"a\"}, $function); }"
+    done
+    refused -std=c++17 'update takes a function that returns nothing' \
+        'void f(ecow::value &v) { v.update({"a"}, [](auto &part) { return part = 7; }); }'
+    refused -std=c++17 'no matching ' 'ecow::bytes f(const std::vector<int> &v) { return ecow::bytes(v); }'
+    echo "c++: $told lines refused with words that say why"
     test_cpp 17
     refuse_each test-cpp 0
     refuse_each nested-cpp 0

@@ -68,6 +68,8 @@ for quoted in c/examples/settings.cpp c/examples/settings.out; do
 done
 
 ECOW_EDITS=$((edits / 50)) tools/python.sh
+# The system's own interpreter, where it is another.
+[ ! -x /usr/bin/python3 ] || PYTHON=/usr/bin/python3 ECOW_EDITS=$((edits / 500)) tools/python.sh
 archive=$(tools/dist.sh atomic)
 cp "$archive" "$out/packed"
 tools/dist.sh atomic | xargs cmp "$out/packed"

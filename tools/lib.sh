@@ -1,5 +1,5 @@
 #!/bin/sh
-# Leaves the library for C in bin/, libecow.a, libecow.so, the headers and ecow.pc, or in another folder:
+# Leaves the library for C in bin/, libecow.a, libecow.so, the headers, ecow.pc and ecow-config.cmake, or in another folder:
 # tools/lib.sh COUNT [FOLDER]. It takes the proved library bin/libecow_c-COUNT.a, and needs a C compiler ($CC, or cc)
 # and ar.
 set -eu
@@ -12,9 +12,13 @@ like=${version%.*}
 rm -rf "$to/lib"
 mkdir -p "$to/lib"
 for archive in "$(pwd)/bin/libecow_c-$1.a" "$kit/c/liblibc_c.a"; do (cd "$to/lib" && ar x "$archive"); done
-${CC:-cc} -std=c11 -Wall -Wextra -Wpedantic -O2 -fPIC -Iinclude -c c/ecow.c -o "$to/lib/ecow.o"
+count_name=$(echo "$1" | tr a-z A-Z)
+${CC:-cc} -std=c11 -Wall -Wextra -Wpedantic -O2 -fPIC -DECOW_COUNT_$count_name -Iinclude -c c/ecow.c -o "$to/lib/ecow.o"
 rm -f "$to/libecow.a"
 ar rcs "$to/libecow.a" "$to"/lib/*.o
 ${CC:-cc} -shared -o "$to/libecow.so" -Wl,-soname,libecow.so.$like -Wl,--version-script,c/exports.map "$to"/lib/*.o
 cp include/ecow.h include/ecow.hpp "$to"
-sed "s|@VERSION@|$version|; s|@COUNT@|$1|; s|@PREFIX@|/usr/local|" c/ecow.pc.in > "$to/ecow.pc"
+for description in ecow.pc ecow-config.cmake; do
+    sed "s|@VERSION@|$version|; s|@COUNT@|$1|; s|@COUNT_NAME@|$count_name|; s|@PREFIX@|/usr/local|" \
+        "c/$description.in" > "$to/$description"
+done

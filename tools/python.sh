@@ -60,7 +60,33 @@ cmp "$work/out" python/examples/versions.out
 "$run" -c 'import re
 for program in re.findall("```python\n(.*?)```", open("python/README.md").read(), re.S):
     exec(program, {})' > /dev/null
+# What types are told holds of the package, and of what is written with it.
+typed=
+if command -v mypy > /dev/null; then
+    (cd python && mypy --strict --cache-dir "$work/mypy" -p ecow) > "$work/types" || { cat "$work/types"; exit 1; }
+    MYPYPATH=python mypy --strict --cache-dir "$work/mypy" python/examples/*.py python/tests/typed.py > "$work/types" || {
+        cat "$work/types"
+        exit 1
+    }
+    typed=", types by mypy"
+fi
+# The random calls again with a module that sees memory that is read behind its end. The interpreter's own isn't freed.
+checked=
+asan=$(${CC:-cc} -print-file-name=libasan.so)
+if [ -f "$asan" ]; then
+    cp -r python/ecow "$work/ecow"
+    rm -f "$work/ecow/_core.abi3.so"
+    ${CC:-cc} -std=c11 -O1 -g -fsanitize=address -fPIC -shared -fvisibility=hidden -fwrapv -DPACKAGE_VERSION=\"0\" \
+        -Iinclude -I"$headers" python/core/*.c c/ecow.c "$bin/libecow.a" -Wl,--exclude-libs,ALL \
+        -o "$work/ecow/_core.abi3.so"
+    (cd "$work/tests" && LD_PRELOAD=$asan ASAN_OPTIONS=detect_leaks=0:allocator_may_return_null=1 PYTHONMALLOC=malloc \
+        PYTHONPATH=$work "$python" -m unittest test_hostile test_values > "$work/log_asan" 2>&1) || {
+        cat "$work/log_asan"
+        exit 1
+    }
+    checked=", hostile calls under AddressSanitizer"
+fi
 "$run" python/tests/speed.py 0.01 > "$work/speed" || { cat "$work/speed"; exit 1; }
 tests=$(sed -n 's/^Ran \([0-9]*\) tests.*/\1/p' "$work/log")
 [ "$tests" -gt 0 ] || { echo "no test of the package for Python ran"; exit 1; }
-echo "python: $tests tests of the installed package $version"
+echo "python: $tests tests of the installed package $version$typed$checked"

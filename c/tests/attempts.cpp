@@ -2,6 +2,7 @@
  * there. At the end stands what doesn't compile, and c/CPP.md says why. */
 #include "check.hpp"
 
+#include <algorithm>
 #include <cstring>
 #include <map>
 #include <set>

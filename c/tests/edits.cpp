@@ -3,7 +3,9 @@
  * refused leaves its value as it was, also where memory is refused. */
 #include "check.hpp"
 
+#include <algorithm>
 #include <array>
+#include <functional>
 #include <random>
 #include <variant>
 

@@ -2,15 +2,19 @@
  * ends well too, if the refusal came as std::bad_alloc. */
 #include "check.hpp"
 
+#include <algorithm>
 #include <array>
 #include <cmath>
 #include <deque>
 #include <filesystem>
+#include <functional>
 #include <limits>
 #include <list>
 #include <map>
 #include <set>
+#include <sstream>
 #include <unordered_map>
+#include <unordered_set>
 
 #ifdef __cpp_lib_span
 #include <span>
@@ -43,6 +47,16 @@ static bool holds(const texts &value, const words &model) {
                && value.get(index) == model[index];
     }
     return same;
+}
+
+/* Whether a call says that there is no field of that name. */
+template <typename Call> static bool no_field(const std::string &name, Call call) {
+    try {
+        call();
+    } catch (const out_of_range &error) {
+        return error.what() == "no field \"" + name + '"';
+    }
+    return false;
 }
 
 /* ---- Lists of texts ---- */
@@ -336,8 +350,8 @@ static void value_traits() {
 static void values_are_made() {
     const text shared(sixteen);
     const std::int64_t least = std::numeric_limits<std::int64_t>::min();
-    const value nothing, null = nullptr, mono = std::monostate(), braces = {};
-    CHECK(nothing.kind() == ecow::kind::nothing && nothing == null && null == mono);
+    const value nothing, null = nullptr, braces = {};
+    CHECK(nothing.kind() == ecow::kind::nothing && nothing == null);
     CHECK(braces == nothing && nothing.size() == 0 && nothing != value::list());
     const value yes = true, no = false;
     CHECK(yes.kind() == ecow::kind::truth && yes.truth() && !no.truth() && yes != no);
@@ -535,10 +549,10 @@ static void values_have_paths() {
     /* What is refused or throws leaves the value, whatever the function did before. */
     const value kept(settings);
     CHECK(throws<out_of_range>(ECOW_INDEX, [&] { (void)settings.at({"window", "size", 1}); }));
-    CHECK(throws<out_of_range>(ECOW_INDEX, [&] { (void)settings.at({"none"}); }));
+    CHECK(no_field("none", [&] { (void)settings.at({"none"}); }));
     CHECK(throws<out_of_range>(ECOW_INDEX, [&] { (void)settings.at({"window", "size", -1}); }));
     CHECK(throws<wrong_kind>(ECOW_KIND, [&] { (void)settings.at({"window", 1, 1}); }));
-    CHECK(throws<out_of_range>(ECOW_INDEX, [&] { settings.update({"none"}, [](value &) {}); }));
+    CHECK(no_field("none", [&] { settings.update({"none"}, [](value &) {}); }));
     CHECK(throws<wrong_kind>(ECOW_KIND, [&] { settings.update({0}, [](value &) {}); }));
     CHECK(throws<out_of_range>(ECOW_INDEX, [&] {
         settings.update({"window", "size"}, [](value &part) {
@@ -598,9 +612,9 @@ static void values_refuse() {
     CHECK(throws<out_of_range>(ECOW_INDEX, [&] { list.insert(3, 1); }));
     CHECK(throws<out_of_range>(ECOW_INDEX, [&] { list.take(2); }));
     CHECK(throws<out_of_range>(ECOW_INDEX, [] { value::list().pop_back(); }));
-    CHECK(throws<out_of_range>(ECOW_INDEX, [&] { (void)fields.get("b"); }));
+    CHECK(no_field("b", [&] { (void)fields.get("b"); }));
     CHECK(throws<out_of_range>(ECOW_INDEX, [&] { (void)fields.name(1); }));
-    CHECK(throws<out_of_range>(ECOW_INDEX, [&] { fields.take("b"); }));
+    CHECK(no_field("b", [&] { fields.take("b"); }));
     CHECK(throws<invalid_text>(ECOW_UTF8, [&] { (void)fields.get("\xff"); }));
     CHECK(throws<invalid_text>(ECOW_UTF8, [&] { (void)fields.find("\xff"); }));
     CHECK(throws<invalid_text>(ECOW_UTF8, [&] { fields.set("\xff", 1); }));
@@ -611,6 +625,79 @@ static void values_refuse() {
     } catch (const wrong_kind &error) {
         CHECK(error.status() == ECOW_KIND);
     }
+}
+
+/* Each comes before those behind it, and equals itself alone. */
+static void values_have_an_order() {
+    const double nan = std::nan(""), infinity = std::numeric_limits<double>::infinity();
+    const std::vector<value> sorted{nullptr,
+                                    false,
+                                    true,
+                                    std::numeric_limits<std::int64_t>::min(),
+                                    -1,
+                                    7,
+                                    nan,
+                                    -infinity,
+                                    -1.5,
+                                    0.0,
+                                    infinity,
+                                    "",
+                                    "a",
+                                    "aa",
+                                    "b",
+                                    value::list(),
+                                    {1},
+                                    {1, 2},
+                                    {2},
+                                    {"a"},
+                                    value::list({value::list()}),
+                                    value::fields({}),
+                                    value::fields({{"a", 1}}),
+                                    value::fields({{"a", 1}, {"b", 0}}),
+                                    value::fields({{"a", 2}}),
+                                    value::fields({{"b", 0}})};
+    std::unordered_set<value> all;
+    for (std::size_t at = 0; at < sorted.size(); at++) {
+        for (std::size_t other = 0; other < sorted.size(); other++) {
+            const value &one = sorted[at], &two = sorted[other];
+            CHECK((one < two) == (at < other) && (one <= two) == (at <= other));
+            CHECK((one > two) == (at > other) && (one >= two) == (at >= other));
+            CHECK((one == two) == (at == other) && (one != two) == (at != other));
+        }
+        CHECK(all.insert(sorted[at]).second && !all.insert(value(sorted[at])).second);
+    }
+    CHECK(!(value(0.0) < value(-0.0)) && !(value(-0.0) < value(0.0)));
+    CHECK((value(0.0) == value(-0.0)) <= (value(0.0).hash() == value(-0.0).hash()));
+    CHECK(value(nan).hash() == value(-nan).hash() && value{nan} == value{-nan});
+    std::map<value, int> table{{"b", 2}, {1, 1}, {value{1, 2}, 3}};
+    CHECK(table.begin()->second == 1 && table[value{1, 2}] == 3);
+    CHECK(value::fields({{"a", 1}, {"b", 2}}).hash() != value::fields({{"b", 2}, {"a", 1}}).hash());
+}
+
+static void values_are_written() {
+    std::ostringstream out;
+    /* A stream that lacks memory says so. */
+    out.exceptions(std::ios::badbit);
+    out << value::fields({{"size", {800, 1.5}}, {"full", false}, {"title", nullptr}}) << value()
+        << value("a \"b\"\\\n\u00e9") << value::list() << value::fields({}) << value{{-1}, "x"};
+    CHECK(out.str()
+          == "{\"size\": [800, 1.5], \"full\": false, \"title\": null}null"
+             "\"a \\\"b\\\"\\\\\\n\u00e9\"[]{}[[-1], \"x\"]");
+}
+
+/* A path holds its names, so it may be made of temporary ones. */
+static void paths_hold_names() {
+    std::vector<value::step> path;
+    for (const std::string name : {"a name that is too long for a struct", "b"}) {
+        path.push_back(name + "!");
+        path.push_back(0);
+    }
+    value inner = value::fields({{"b!", {5}}});
+    value outer = value::fields({{"a name that is too long for a struct!", value::list({inner})}});
+    CHECK(outer.at(path) == value(5));
+    outer.update(path, [](value &part) { part = 6; });
+    CHECK(outer.at(path) == value(6));
+    CHECK(throws<invalid_text>(ECOW_UTF8, [] { (void)value::step("\xff"); }));
 }
 
 int main() {
@@ -629,6 +716,9 @@ int main() {
         fields_are_changed();
         values_have_parts();
         values_have_paths();
+        values_have_an_order();
+        values_are_written();
+        paths_hold_names();
         values_refuse();
     } catch (const std::bad_alloc &) {
         std::puts("no memory");

@@ -2,8 +2,10 @@
  * refusal came as std::bad_alloc. */
 #include "check.hpp"
 
+#include <algorithm>
 #include <array>
 #include <deque>
+#include <functional>
 #include <iterator>
 #include <limits>
 #include <list>
@@ -270,9 +272,14 @@ template <typename Value> static void items() {
     CHECK(throws<out_of_range>(ECOW_INDEX, [&] { value.set(5, 1); }));
     CHECK(throws<out_of_range>(ECOW_INDEX, [] { Value().pop_back(); }));
     CHECK(Value(2) == Value{0, 0} && Value(0).empty());
-    given<Value>(std::vector<int>{1, 2, 3});
-    given<Value>(std::array<unsigned short, 3>{1, 2, 3});
-    given<Value>(std::set<long long>{1, 2, 3});
+    given<Value>(std::vector<signed char>{1, 2, 3});
+    given<Value>(std::set<char>{1, 2, 3});
+    if constexpr (sizeof(typename Value::value_type) > 1) {
+        given<Value>(std::vector<int>{1, 2, 3});
+        given<Value>(std::array<unsigned short, 3>{1, 2, 3});
+        given<Value>(std::set<long long>{1, 2, 3});
+        given<Value>(std::deque<unsigned>{1, 2, 3});
+    }
     std::vector<item> copied(value);
     CHECK(copied == std::vector<item>{8, 8, 2, 7, 4} && value == copied && copied == value);
     CHECK(static_cast<std::vector<item>>(kept).size() == 3);
@@ -297,6 +304,24 @@ template <typename Value> static void items() {
     CHECK(sorted.begin()->second == 2 && hashed[Value{3, 1, 2}] == 2 && hashed.size() == 2);
     CHECK(found.count(std::vector<item>{3, 1, 2}) == 1 && found.count(copied) == 0);
 }
+
+/* No number is cut: another type's numbers are taken where all of them fit. */
+template <typename Value, typename Item>
+constexpr bool takes = std::is_constructible_v<Value, std::vector<Item>> &&std::is_constructible_v<
+    Value, Item *, Item *> &&std::is_assignable_v<Value &, std::deque<Item>>;
+template <typename Value, typename Item>
+constexpr bool refuses =
+    !std::is_constructible_v<
+        Value,
+        std::vector<
+            Item>> && !std::is_constructible_v<Value, Item *, Item *> && !std::is_assignable_v<Value &, std::deque<Item>>;
+static_assert(takes<ecow::list, short> && takes<ecow::list, unsigned> && takes<ecow::list, long>);
+static_assert(takes<ecow::list, bool> && takes<ecow::list, unsigned char>);
+static_assert(refuses<ecow::list, unsigned long> && refuses<ecow::list, unsigned long long>);
+static_assert(refuses<ecow::list, double> && refuses<ecow::bytes, float>);
+static_assert(takes<ecow::bytes, unsigned char> && takes<ecow::bytes, char>);
+static_assert(refuses<ecow::bytes, int> && refuses<ecow::bytes, short>);
+static_assert(refuses<ecow::bytes, unsigned> && refuses<ecow::bytes, char16_t>);
 
 static void only_bytes() {
     using ecow::bytes;

@@ -9,6 +9,8 @@
 #define NAME "Bytes"
 #define NOTE(to, from)
 #define FORGET(object)
+#define SPARED(state, type) NULL
+#define SPARE_IT(object) false
 #include "kind.h"
 
 #define ITEM uint8_t
@@ -42,7 +44,8 @@ static int bytes_read_item(core_state *Py_UNUSED(state), PyObject *given, uint8_
 
 static void bytes_drop_item(uint8_t *Py_UNUSED(byte)) {}
 
-static PyObject *bytes_item_object(core_state *Py_UNUSED(state), uint8_t *byte) {
+static PyObject *bytes_item_object(core_state *Py_UNUSED(state), uint8_t *byte,
+                                   bool Py_UNUSED(is_lent)) {
     return PyLong_FromLong(*byte);
 }
 
@@ -120,113 +123,36 @@ static int read_part(core_state *state, PyObject *object, uint8_t *byte, given_b
     return 0;
 }
 
-/* A search in bytes: the first place of a part, the last one, or how often it occurs. */
-typedef Py_ssize_t search(const char *bytes, Py_ssize_t size, const char *part, Py_ssize_t count);
-
-/* An empty part occurs between any two bytes, and at both ends. */
-static Py_ssize_t count_any(const char *bytes, Py_ssize_t size, const char *part,
-                            Py_ssize_t count) {
-    return count ? count_parts(bytes, size, part, count) : size + 1;
-}
-
-/* Searches a range: -1 where the part doesn't stand there, -2 where an error is raised. */
 static Py_ssize_t bytes_seek(PyObject *self, const char *name, PyObject *const *arguments,
-                             Py_ssize_t count, search *what) {
+                             Py_ssize_t count, search what) {
     bytes_object *object = bytes_cast(self);
     given_bytes given = {0};
     uint8_t byte;
     Py_ssize_t start, stop, found = -2;
+    if (what >= START && !PyObject_CheckBuffer(arguments[0])) {
+        PyErr_Format(PyExc_TypeError, "%s first arg must be bytes-like or a tuple of these", name);
+        return -2;
+    }
     /* Both may run code that changes the value, so its bytes are read behind them. */
     if (read_bounds(name, arguments, count, bytes_length(self), &start, &stop)
         && read_part(object->state, arguments[0], &byte, &given) == 0) {
         size_t size;
         const char *bytes = (const char *)ecow_bytes_slice(&object->value, &size);
         stop = stop < (Py_ssize_t)size ? stop : (Py_ssize_t)size;
-        found = start > stop
-                    ? -1
-                    : what(bytes + start, stop - start, (const char *)given.items, given.count);
-        found += found >= 0 && what != count_any ? start : 0;
+        if (start > stop) {
+            found = what == OFTEN ? 0 : -1;
+        } else {
+            found = search_bytes(bytes + start, stop - start, (const char *)given.items,
+                                 given.count, what);
+            found += found >= 0 && what != OFTEN ? start : 0;
+        }
     }
     bytes_give_back(&given);
     return found;
 }
 
-static int bytes_contains(PyObject *self, PyObject *part) {
-    Py_ssize_t found = bytes_seek(self, "in", &part, 1, find_first);
-    return found == -2 ? -1 : found >= 0;
-}
-
-static PyObject *bytes_find(PyObject *self, PyObject *const *arguments, Py_ssize_t count) {
-    Py_ssize_t found = bytes_seek(self, "find", arguments, count, find_first);
-    return found == -2 ? NULL : PyLong_FromSsize_t(found);
-}
-
-static PyObject *bytes_rfind(PyObject *self, PyObject *const *arguments, Py_ssize_t count) {
-    Py_ssize_t found = bytes_seek(self, "rfind", arguments, count, find_last);
-    return found == -2 ? NULL : PyLong_FromSsize_t(found);
-}
-
-static PyObject *place_or_error(Py_ssize_t found) {
-    if (found == -1) {
-        PyErr_SetString(PyExc_ValueError, "subsection not found");
-    }
-    return found < 0 ? NULL : PyLong_FromSsize_t(found);
-}
-
-static PyObject *bytes_index(PyObject *self, PyObject *const *arguments, Py_ssize_t count) {
-    return place_or_error(bytes_seek(self, "index", arguments, count, find_first));
-}
-
-static PyObject *bytes_rindex(PyObject *self, PyObject *const *arguments, Py_ssize_t count) {
-    return place_or_error(bytes_seek(self, "rindex", arguments, count, find_last));
-}
-
-static PyObject *bytes_count(PyObject *self, PyObject *const *arguments, Py_ssize_t count) {
-    Py_ssize_t times = bytes_seek(self, "count", arguments, count, count_any);
-    return times == -2 ? NULL : PyLong_FromSsize_t(times < 0 ? 0 : times);
-}
-
-/* Whether bytes begin or end with a part. */
-static Py_ssize_t at_start(const char *bytes, Py_ssize_t size, const char *part, Py_ssize_t count) {
-    return count <= size && memcmp(bytes, part, (size_t)count) == 0 ? 0 : -1;
-}
-
-static Py_ssize_t at_end(const char *bytes, Py_ssize_t size, const char *part, Py_ssize_t count) {
-    return count <= size ? at_start(bytes + (size - count), count, part, count) : -1;
-}
-
-/* The first argument is a part, or a tuple of parts of which one is enough. */
-static PyObject *meets(PyObject *self, const char *name, PyObject *const *arguments,
-                       Py_ssize_t count, search *what) {
-    if (!takes(name, count, 1, 3)) {
-        return NULL;
-    }
-    bool several = PyTuple_Check(arguments[0]);
-    Py_ssize_t parts = several ? PyTuple_Size(arguments[0]) : 1;
-    for (Py_ssize_t at = 0; at < parts; at++) {
-        PyObject *part = several ? PyTuple_GetItem(arguments[0], at) : arguments[0];
-        if (!PyObject_CheckBuffer(part)) {
-            PyErr_Format(PyExc_TypeError, "%s first arg must be bytes-like or a tuple of these",
-                         name);
-            return NULL;
-        }
-        PyObject *given[3] = {part, count > 1 ? arguments[1] : NULL,
-                              count > 2 ? arguments[2] : NULL};
-        Py_ssize_t found = bytes_seek(self, name, given, count, what);
-        if (found != -1) {
-            return found == -2 ? NULL : PyBool_FromLong(true);
-        }
-    }
-    return PyBool_FromLong(false);
-}
-
-static PyObject *bytes_startswith(PyObject *self, PyObject *const *arguments, Py_ssize_t count) {
-    return meets(self, "startswith", arguments, count, at_start);
-}
-
-static PyObject *bytes_endswith(PyObject *self, PyObject *const *arguments, Py_ssize_t count) {
-    return meets(self, "endswith", arguments, count, at_end);
-}
+#define ABSENT "subsection not found"
+#include "searching.h"
 
 static PyObject *bytes_remove(PyObject *self, PyObject *given) {
     bytes_object *object = bytes_cast(self);
@@ -236,12 +162,12 @@ static PyObject *bytes_remove(PyObject *self, PyObject *given) {
     }
     size_t size;
     const char *bytes = (const char *)ecow_bytes_slice(&object->value, &size);
-    Py_ssize_t found = find_first(bytes, (Py_ssize_t)size, (const char *)&byte, 1);
+    Py_ssize_t found = search_bytes(bytes, (Py_ssize_t)size, (const char *)&byte, 1, FIRST);
     if (found < 0) {
         PyErr_SetString(PyExc_ValueError, "value not found in Bytes");
         return NULL;
     }
-    return none_or_error(ecow_bytes_remove(&object->value, (size_t)found, NULL), NAME);
+    return none_if(check(ecow_bytes_remove(&object->value, (size_t)found, NULL), NAME));
 }
 
 /* Whether an object is compared and joined with bytes. A `List` lends a buffer, but is of another
@@ -292,41 +218,25 @@ static PyObject *bytes_compared(PyObject *self, PyObject *other, int operation) 
     return ordered(order, operation);
 }
 
-static PyObject *plain_bytes(PyObject *self) {
+static PyObject *bytes_str(PyObject *self) {
     size_t size;
     const uint8_t *bytes = ecow_bytes_slice(&bytes_cast(self)->value, &size);
     return PyBytes_FromStringAndSize((const char *)bytes, (Py_ssize_t)size);
 }
 
 static PyObject *bytes_repr(PyObject *self) {
-    return named_repr(self, plain_bytes(self));
+    return named_repr(self, bytes_str(self));
 }
 
-/* Methods of `bytes`: of no argument, with arguments, and with a result that comes out as it is. */
-#define ALONE(name)                                                            \
-    static PyObject *bytes_##name(PyObject *self, PyObject *Py_UNUSED(none)) { \
-        PyObject *method = bytes_cast(self)->state->of_bytes.name;             \
-        return wrapped(self, call_alone(plain_bytes(self), method));           \
-    }
-#define PLAIN(name, finish)                                                               \
-    static PyObject *bytes_##name(PyObject *self, PyObject *arguments, PyObject *named) { \
-        PyObject *method = bytes_cast(self)->state->of_bytes.name;                        \
-        return finish(call_plain(self, plain_bytes(self), method, arguments, named));     \
-    }
-#define HANDED_ON(name) PLAIN(name, WRAPPED)
-#define AS_IT_IS(name) PLAIN(name, )
-#define WRAPPED(result) wrapped(self, result)
-/* clang-format off */
-ALONE_OF_BOTH(ALONE)
-METHODS_OF_BOTH(HANDED_ON)
-METHODS_OF_BYTES(HANDED_ON)
-PLAIN_OF_BYTES(AS_IT_IS)
-/* clang-format on */
-#undef ALONE
-#undef PLAIN
-#undef HANDED_ON
-#undef AS_IT_IS
-#undef WRAPPED
+#define OF of_bytes
+#define PLAIN_NAME "bytes"
+#define FILL "b' '"
+#define CHARS "bytes"
+#define DELETED ", delete=b''"
+#define WITHOUT_ARGUMENTS(X) ALONE_OF_BOTH(X)
+#define WITH_ARGUMENTS(X) METHODS_OF_BOTH(X) METHODS_OF_BYTES(X)
+#define AS_THEY_ARE(X) PLAIN_OF_BYTES(X)
+#include "handed_on.h"
 
 static int bytes_buffer(PyObject *self, Py_buffer *view, int flags) {
     bytes_object *object = bytes_cast(self);
@@ -334,41 +244,16 @@ static int bytes_buffer(PyObject *self, Py_buffer *view, int flags) {
 }
 
 /* clang-format off */
-#define SEARCH(name, text)                                                                     \
-    {#name, (PyCFunction)(void (*)(void))bytes_##name, METH_FASTCALL,                          \
-     PyDoc_STR(#name "($self, part, start=0, stop=sys.maxsize, /)\n--\n\n" text)},
-#define ALONE(name)                                                                            \
-    {#name, bytes_##name, METH_NOARGS,                                                            \
-     PyDoc_STR(#name "($self, /)\n--\n\nAs `bytes." #name "`; it may give a new `Bytes`.")},
-#define HANDED_ON(name)                                                                        \
-    {#name, (PyCFunction)(void (*)(void))bytes_##name, METH_VARARGS | METH_KEYWORDS,           \
-     PyDoc_STR("As `bytes." #name "`; `bytes` that it gives are new `Bytes`.")},
-#define AS_IT_IS(name)                                                                         \
-    {#name, (PyCFunction)(void (*)(void))bytes_##name, METH_VARARGS | METH_KEYWORDS,           \
-     PyDoc_STR("As `bytes." #name "`.")},
 static PyMethodDef bytes_methods[] = {
     SEQUENCE_METHODS,
-    SEARCH(find, "Where a byte or bytes first stand, or -1.")
-    SEARCH(rfind, "Where a byte or bytes last stand, or -1.")
-    SEARCH(index, "Where a byte or bytes first stand: ValueError where they don't.")
-    SEARCH(rindex, "Where a byte or bytes last stand: ValueError where they don't.")
-    SEARCH(count, "How often a byte or bytes occur without overlap.")
-    SEARCH(startswith, "Whether the range begins with bytes, or with one of a tuple of them.")
-    SEARCH(endswith, "Whether the range ends with bytes, or with one of a tuple of them.")
-    ALONE_OF_BOTH(ALONE)
-    METHODS_OF_BOTH(HANDED_ON)
-    METHODS_OF_BYTES(HANDED_ON)
-    PLAIN_OF_BYTES(AS_IT_IS)
+    SEARCH_METHODS("a byte or bytes")
+    HANDED_ON_METHODS
     {"remove", bytes_remove, METH_O,
      PyDoc_STR("remove($self, byte, /)\n--\n\n"
                "Takes the first such byte out: ValueError where there is none.")},
     {NULL, NULL, 0, NULL},
 };
 /* clang-format on */
-#undef ALONE
-#undef HANDED_ON
-#undef AS_IT_IS
-#undef SEARCH
 
 static PyType_Slot bytes_slots[] = {
     {Py_tp_doc, "Bytes(data=b'', /)\n--\n\n"

@@ -46,11 +46,26 @@ int refuse(ecow_status status, const char *what) {
     }
 }
 
-PyObject *none_or_error(ecow_status status, const char *what) {
-    if (check(status, what) < 0) {
-        return NULL;
+PyObject *none_if(int done) {
+    return done < 0 ? NULL : Py_NewRef(Py_None);
+}
+
+bool refuse_change(const char *what) {
+    PyErr_Format(PyExc_TypeError,
+                 "a %s that a container has handed out can't be changed: change a copy() of it, "
+                 "and put that in",
+                 what);
+    return false;
+}
+
+bool read_source(const char *name, PyObject *arguments, PyObject *named, PyObject **source) {
+    Py_ssize_t count = PyTuple_Size(arguments);
+    *source = count == 1 ? PyTuple_GetItem(arguments, 0) : NULL;
+    if (named && PyDict_Size(named) > 0) {
+        PyErr_Format(PyExc_TypeError, "%s() takes no keyword arguments", name);
+        return false;
     }
-    Py_RETURN_NONE;
+    return takes(name, count, 0, 1);
 }
 
 PyObject *call_helper(PyObject *name, PyObject *first, PyObject *second) {
@@ -70,6 +85,15 @@ bool takes(const char *name, Py_ssize_t count, Py_ssize_t least, Py_ssize_t most
     PyErr_Format(PyExc_TypeError, "%s() takes %zd to %zd arguments (%zd given)", name, least, most,
                  count);
     return false;
+}
+
+bool read_size(PyObject *given, size_t *size) {
+    Py_ssize_t number = PyNumber_AsSsize_t(given, NULL);
+    if (number < 0 && !PyErr_Occurred()) {
+        PyErr_SetString(PyExc_ValueError, "length below 0");
+    }
+    *size = (size_t)number;
+    return number >= 0;
 }
 
 bool read_bound(PyObject *given, Py_ssize_t len, Py_ssize_t *bound) {
@@ -112,39 +136,21 @@ PyObject *ordered(int order, int operation) {
 }
 
 PyObject *compare_with_list(PyObject *sequence, PyObject *list, int operation) {
-    Py_ssize_t len = PySequence_Size(sequence), other = PyList_Size(list);
-    if (len < 0 || other < 0) {
-        return NULL;
-    }
-    if (len != other && (operation == Py_EQ || operation == Py_NE)) {
+    bool for_equality = operation == Py_EQ || operation == Py_NE;
+    if (for_equality && PySequence_Size(sequence) != PyList_Size(list)) {
         return PyBool_FromLong(operation == Py_NE);
     }
-    /* A comparison may run code that changes either, so both lengths are read again. */
-    for (Py_ssize_t index = 0; index < PySequence_Size(sequence) && index < PyList_Size(list);
-         index++) {
-        PyObject *right = PyList_GetItem(list, index);
-        Py_XINCREF(right);
-        PyObject *left = PySequence_GetItem(sequence, index);
-        int same = left && right ? PyObject_RichCompareBool(left, right, Py_EQ) : -1;
-        PyObject *result = NULL;
-        if (same == 0) {
-            result = operation == Py_EQ   ? PyBool_FromLong(false)
-                     : operation == Py_NE ? PyBool_FromLong(true)
-                                          : PyObject_RichCompare(left, right, operation);
-        }
-        Py_XDECREF(left);
-        Py_XDECREF(right);
-        if (same <= 0) {
-            return result;
-        }
-    }
-    len = PySequence_Size(sequence);
-    other = PyList_Size(list);
-    return ordered(len < other ? -1 : len > other, operation);
+    PyObject *items = PySequence_List(sequence);
+    PyObject *answer = items ? PyObject_RichCompare(items, list, operation) : NULL;
+    Py_XDECREF(items);
+    return answer;
 }
 
 Py_ssize_t seek_object(PyObject *sequence, PyObject *object, Py_ssize_t start, Py_ssize_t stop) {
-    for (Py_ssize_t index = start; index < stop && index < PySequence_Size(sequence); index++) {
+    Py_ssize_t len = -1;
+    /* A comparison may run code that makes it of another kind, which has no length. */
+    for (Py_ssize_t index = start; index < stop && index < (len = PySequence_Size(sequence));
+         index++) {
         PyObject *item = PySequence_GetItem(sequence, index);
         int same = item ? PyObject_RichCompareBool(item, object, Py_EQ) : -1;
         Py_XDECREF(item);
@@ -152,7 +158,19 @@ Py_ssize_t seek_object(PyObject *sequence, PyObject *object, Py_ssize_t start, P
             return same > 0 ? index : -2;
         }
     }
-    return -1;
+    return len < 0 && PyErr_Occurred() ? -2 : -1;
+}
+
+PyObject *reverse(PyObject *self, PyObject *Py_UNUSED(none)) {
+    PyObject *back = PyLong_FromLong(-1), *all = PySlice_New(NULL, NULL, NULL);
+    PyObject *turn = back ? PySlice_New(NULL, NULL, back) : NULL;
+    PyObject *turned = turn && all ? PyObject_GetItem(self, turn) : NULL;
+    int done = turned ? PyObject_SetItem(self, all, turned) : -1;
+    Py_XDECREF(back);
+    Py_XDECREF(all);
+    Py_XDECREF(turn);
+    Py_XDECREF(turned);
+    return none_if(done);
 }
 
 PyObject *named_repr(PyObject *self, PyObject *contents) {
@@ -186,6 +204,13 @@ static PyObject *address(PyObject *module, PyObject *given) {
     } else if (PyObject_TypeCheck(given, state->text)) {
         place = ecow_text_slice(&((text_object *)given)->value, &len);
         len = len <= INLINE ? 0 : len;
+    } else if (PyObject_TypeCheck(given, state->texts)) {
+        len = ecow_texts_len(&((texts_object *)given)->value);
+        place = (void *)(uintptr_t)((texts_object *)given)->value.word[0];
+    } else if (PyObject_TypeCheck(given, state->value)) {
+        /* The word of a list or of fields stands behind that with the kind. */
+        len = ecow_value_len(&((value_object *)given)->value);
+        place = (void *)(uintptr_t)((value_object *)given)->value.word[1];
     }
     return PyLong_FromVoidPtr(len ? (void *)place : NULL);
 }
@@ -197,6 +222,8 @@ static PyMethodDef functions[] = {
      PyDoc_STR("is_utf8($module, data, /)\n--\n\nWhether the bytes are UTF-8.")},
     {NULL, NULL, 0, NULL},
 };
+
+#define TYPES(X) X(list) X(bytes) X(text) X(texts) X(value) X(snapshot)
 
 static int add_type(PyObject *module, PyType_Spec *spec, PyTypeObject **type) {
     *type = (PyTypeObject *)PyType_FromModuleAndSpec(module, spec, NULL);
@@ -229,26 +256,20 @@ static int look_names_up(core_state *state) {
 
 static int execute(PyObject *module) {
     core_state *state = PyModule_GetState(module);
-    if (look_names_up(state) < 0 || add_type(module, &list_spec, &state->list) < 0
-        || add_type(module, &bytes_spec, &state->bytes) < 0
-        || add_type(module, &text_spec, &state->text) < 0
-        || add_type(module, &texts_spec, &state->texts) < 0
-        || add_type(module, &value_spec, &state->value) < 0
-        || add_type(module, &snapshot_spec, &state->snapshot) < 0) {
+#define ADD(name) || add_type(module, &name##_spec, &state->name) < 0
+    if (look_names_up(state) < 0 TYPES(ADD)) {
         return -1;
     }
+#undef ADD
     return PyModule_AddStringConstant(module, "__version__", PACKAGE_VERSION);
 }
 
 static int visit(PyObject *module, visitproc visit, void *arg) {
     core_state *state = PyModule_GetState(module);
     if (state) {
-        Py_VISIT(state->list);
-        Py_VISIT(state->bytes);
-        Py_VISIT(state->text);
-        Py_VISIT(state->texts);
-        Py_VISIT(state->value);
-        Py_VISIT(state->snapshot);
+#define VISIT(name) Py_VISIT(state->name);
+        TYPES(VISIT)
+#undef VISIT
     }
     return 0;
 }
@@ -256,12 +277,12 @@ static int visit(PyObject *module, visitproc visit, void *arg) {
 static void release(void *module) {
     core_state *state = PyModule_GetState(module);
     if (state) {
-        Py_CLEAR(state->list);
-        Py_CLEAR(state->bytes);
-        Py_CLEAR(state->text);
-        Py_CLEAR(state->texts);
-        Py_CLEAR(state->value);
-        Py_CLEAR(state->snapshot);
+#define CLEAR(name) Py_CLEAR(state->name);
+        TYPES(CLEAR)
+#undef CLEAR
+        while (state->spares > 0) {
+            PyObject_Free(state->spare[--state->spares]);
+        }
 #define CLEAR_NAME(name) Py_CLEAR(state->names.name);
 #define CLEAR_OF_BYTES(name) Py_CLEAR(state->of_bytes.name);
 #define CLEAR_OF_STR(name) Py_CLEAR(state->of_str.name);

@@ -40,12 +40,20 @@
     ALONE_OF_BOTH(X) ALONE_OF_STR(X) METHODS_OF_BOTH(X) METHODS_OF_STR(X) PLAIN_OF_STR(X)
 
 /* The names that are looked up in other objects. */
-#define NAMES(X) X(copied) X(deep_copied) X(reduced) X(sort)
+#define NAMES(X) X(copied) X(depth) X(equal) X(hashed) X(plain) X(reduced)
 /* clang-format on */
+
+typedef struct text_object text_object;
+
+/* How many texts' memory is kept. */
+enum { SPARE = 64 };
 
 /* What a module object owns. */
 typedef struct core_state {
     PyTypeObject *list, *bytes, *text, *texts, *value, *snapshot;
+    /* Memory of texts that are gone, for those to come. */
+    text_object *spare[SPARE];
+    Py_ssize_t spares;
     /* Names, and methods of `bytes` and `str` that aren't bound to an object. */
 #define FIELD(name) PyObject *name;
     struct {
@@ -60,11 +68,13 @@ typedef struct core_state {
 #undef FIELD
 } core_state;
 
-/* The start of every object. The module outlives it, since its type holds the module. */
-#define VALUE_HEAD     \
-    PyObject ob_base;  \
-    core_state *state; \
-    PyObject *weak_references;
+/* The start of every object. The module outlives it, since its type holds the module. What a
+ * container hands out is lent: it isn't changed, and has a hash. */
+#define VALUE_HEAD             \
+    PyObject ob_base;          \
+    core_state *state;         \
+    PyObject *weak_references; \
+    bool is_lent;
 
 typedef struct list_object {
     VALUE_HEAD
@@ -76,14 +86,17 @@ typedef struct bytes_object {
     ecow_bytes value;
 } bytes_object;
 
-typedef struct text_object {
+struct text_object {
     VALUE_HEAD
     ecow_text value;
     /* How many characters there are, or -1 where they weren't counted yet. */
     Py_ssize_t count;
     /* A character's index, and that of its first byte. Both are 0, or were asked for last. */
     Py_ssize_t character, byte;
-} text_object;
+    /* A `str` of the text, or null, and how many bytes were passed while there was none. */
+    PyObject *plain;
+    Py_ssize_t passed;
+};
 
 typedef struct texts_object {
     VALUE_HEAD
@@ -93,7 +106,7 @@ typedef struct texts_object {
 typedef struct value_object {
     VALUE_HEAD
     ecow_value value;
-    /* At least how deep its lists and fields are nested: 0 without any. */
+    /* How deep its lists and fields are nested at most: 0 without any. */
     Py_ssize_t depth;
 } value_object;
 
@@ -113,11 +126,20 @@ static inline int check(ecow_status status, const char *what) {
     return status == ECOW_OK ? 0 : refuse(status, what);
 }
 
-/* Answers none, or raises the error of a status. */
-PyObject *none_or_error(ecow_status status, const char *what);
+/* None, unless an error was raised, which is below 0. */
+PyObject *none_if(int done);
+
+/* Raises the error of a change of what a container has handed out, and answers false. */
+bool refuse_change(const char *what);
+
+/* Reads the one argument of a constructor: null where there is none. */
+bool read_source(const char *name, PyObject *arguments, PyObject *named, PyObject **source);
 
 /* Calls a function of the module `ecow._objects` with one or two arguments. */
 PyObject *call_helper(PyObject *name, PyObject *first, PyObject *second);
+
+/* Reads a length or a count. One that no `Py_ssize_t` holds is the most that it holds. */
+bool read_size(PyObject *given, size_t *size);
 
 /* Reads an optional bound of a range of `len` items, as slices do. */
 bool read_bound(PyObject *given, Py_ssize_t len, Py_ssize_t *bound);
@@ -129,11 +151,14 @@ bool read_bounds(const char *name, PyObject *const *arguments, Py_ssize_t count,
 /* Raises a TypeError unless a call has between `least` and `most` arguments. */
 bool takes(const char *name, Py_ssize_t count, Py_ssize_t least, Py_ssize_t most);
 
-/* Compares a sequence with a list, item by item, as two lists are compared. */
+/* Compares a sequence with a list, as two lists are compared. */
 PyObject *compare_with_list(PyObject *sequence, PyObject *list, int operation);
 
 /* Python's answer for an order: below 0, 0, or above. */
 PyObject *ordered(int order, int operation);
+
+/* Reverses the order of the items of a sequence. */
+PyObject *reverse(PyObject *self, PyObject *none);
 
 /* Where an item of a sequence equals another object: -1 where none does, -2 where an error is
  * raised. A range may pass the end. */
@@ -144,12 +169,13 @@ PyObject *named_repr(PyObject *self, PyObject *contents);
 
 /* ---- search.c ---- */
 
-/* Where `part` begins first or last in `size` bytes: -1 where it doesn't stand there. */
-Py_ssize_t find_first(const char *bytes, Py_ssize_t size, const char *part, Py_ssize_t count);
-Py_ssize_t find_last(const char *bytes, Py_ssize_t size, const char *part, Py_ssize_t count);
+/* What is sought: the first place, the last one, how often without overlap, or whether bytes begin
+ * or end so. */
+typedef enum search { FIRST, LAST, OFTEN, START, END } search;
 
-/* How often a part of at least one byte occurs without overlap. */
-Py_ssize_t count_parts(const char *bytes, Py_ssize_t size, const char *part, Py_ssize_t count);
+/* Where `part` stands in `size` bytes, or how often: -1 where it doesn't, -2 with an error. */
+Py_ssize_t search_bytes(const char *bytes, Py_ssize_t size, const char *part, Py_ssize_t count,
+                        search what);
 
 /* ---- snapshot.c ---- */
 

@@ -20,13 +20,15 @@ PyObject *plain_list(core_state *state, PyObject *iterable) {
     return items;
 }
 
-/* Arguments for a method that isn't bound: what it is called on stands first. */
+/* Arguments for a method that isn't bound: what it is called on stands first. Buffers go in as
+ * `bytes`, since a separator comes out as it went in. */
 static PyObject *plain_arguments(core_state *state, PyObject *plain, PyObject *arguments) {
     Py_ssize_t count = PyTuple_Size(arguments);
     PyObject *made = PyTuple_New(count + 1);
     for (Py_ssize_t at = 0; made && at <= count; at++) {
-        PyObject *given =
-            at == 0 ? Py_NewRef(plain) : without_text(state, PyTuple_GetItem(arguments, at - 1));
+        PyObject *given = at == 0 ? plain : PyTuple_GetItem(arguments, at - 1);
+        bool is_buffer = at > 0 && PyBytes_Check(plain) && PyObject_CheckBuffer(given);
+        given = is_buffer ? PyBytes_FromObject(given) : without_text(state, given);
         if (!given || PyTuple_SetItem(made, at, given) < 0) {
             Py_CLEAR(made);
         }
@@ -110,17 +112,12 @@ static PyObject *wrapped_members(PyObject *self, PyObject *members) {
 }
 
 PyObject *wrapped(PyObject *self, PyObject *result) {
-    PyObject *made = NULL;
     if (!result || PyBool_Check(result)) {
         return result;
     }
-    if (PyUnicode_Check(result)) {
-        made = wrapped_text(self, result);
-    } else if (PyBytes_Check(result)) {
-        made = wrapped_bytes(self, result);
-    } else {
-        made = wrapped_members(self, result);
-    }
+    PyObject *made = PyUnicode_Check(result) ? wrapped_text(self, result)
+                     : PyBytes_Check(result) ? wrapped_bytes(self, result)
+                                             : wrapped_members(self, result);
     Py_DECREF(result);
     return made;
 }

@@ -6,7 +6,9 @@
  *     TYPE                  the field of the state with the kind's type
  *     NAME                  the name of that type
  *     NOTE(to, from)        copies what an object notes beside its value
- *     FORGET(object)        forgets it */
+ *     FORGET(object)        forgets it
+ *     SPARED(state, type)   memory for a new object, or null
+ *     SPARE_IT(object)      whether the memory of one that is gone is kept for that */
 
 static inline OBJECT *OWN(cast)(PyObject *self) {
     return (OBJECT *)self;
@@ -18,7 +20,8 @@ static inline bool OWN(is)(core_state *state, PyObject *given) {
 
 /* A new empty object of a type. */
 static OBJECT *OWN(make)(core_state *state, PyTypeObject *type) {
-    OBJECT *made = (OBJECT *)PyType_GenericAlloc(type, 0);
+    OBJECT *made = SPARED(state, type);
+    made = made ? made : (OBJECT *)PyType_GenericAlloc(type, 0);
     if (made) {
         made->state = state;
     }
@@ -74,33 +77,30 @@ static void OWN(dealloc)(PyObject *self) {
     if (OWN(cast)(self)->weak_references) {
         PyObject_ClearWeakRefs(self);
     }
+    FORGET(OWN(cast)(self));
     CALL(drop)(&OWN(cast)(self)->value);
-    release(self);
+    if (!SPARE_IT(OWN(cast)(self))) {
+        release(self);
+    }
     Py_DECREF(type);
 }
 
-static PyObject *OWN(copy)(PyObject *self, PyObject *Py_UNUSED(none)) {
-    core_state *state = OWN(cast)(self)->state;
-    PyObject *made = OWN(cloned)(self, Py_TYPE(self));
-    if (made && Py_TYPE(self) != state->TYPE) {
-        PyObject *both = call_helper(state->names.copied, self, made);
-        Py_DECREF(made);
-        return both;
-    }
-    return made;
-}
-
+/* A copy; that of a subclass has the attributes too, or deep copies of them. */
 static PyObject *OWN(deepcopy)(PyObject *self, PyObject *memo) {
     core_state *state = OWN(cast)(self)->state;
     PyObject *made = OWN(cloned)(self, Py_TYPE(self));
     if (made && Py_TYPE(self) != state->TYPE) {
         PyObject *pair = PyTuple_Pack(2, self, made);
-        PyObject *both = pair ? call_helper(state->names.deep_copied, pair, memo) : NULL;
+        PyObject *both = pair ? call_helper(state->names.copied, pair, memo) : NULL;
         Py_XDECREF(pair);
         Py_DECREF(made);
         return both;
     }
     return made;
+}
+
+static PyObject *OWN(copy)(PyObject *self, PyObject *Py_UNUSED(none)) {
+    return OWN(deepcopy)(self, Py_None);
 }
 
 static PyObject *OWN(reduce)(PyObject *self, PyObject *Py_UNUSED(none)) {

@@ -9,6 +9,8 @@
 #define NAME "List"
 #define NOTE(to, from)
 #define FORGET(object)
+#define SPARED(state, type) NULL
+#define SPARE_IT(object) false
 #include "kind.h"
 
 #define ITEM int64_t
@@ -46,7 +48,8 @@ static int list_read_item(core_state *Py_UNUSED(state), PyObject *given, int64_t
 
 static void list_drop_item(int64_t *Py_UNUSED(number)) {}
 
-static PyObject *list_item_object(core_state *Py_UNUSED(state), int64_t *number) {
+static PyObject *list_item_object(core_state *Py_UNUSED(state), int64_t *number,
+                                  bool Py_UNUSED(is_lent)) {
     return PyLong_FromLongLong(*number);
 }
 
@@ -61,32 +64,20 @@ static bool is_array(const Py_buffer *view) {
 
 /* Gathers the numbers of an iterable in an array. */
 static int gather(core_state *state, PyObject *source, given_numbers *given) {
-    PyObject *iterator = PyObject_GetIter(source), *object;
-    Py_ssize_t room = 0;
-    if (!iterator) {
-        return -1;
+    PyObject *items = PySequence_Tuple(source);
+    Py_ssize_t count = items ? PyTuple_Size(items) : 0;
+    int done = items ? 0 : -1;
+    given->items = given->made = PyMem_New(int64_t, (size_t)count);
+    if (done == 0 && !given->made) {
+        PyErr_NoMemory();
+        done = -1;
     }
-    while ((object = PyIter_Next(iterator))) {
-        if (given->count == room) {
-            room = room ? 2 * room : 64;
-            int64_t *larger = PyMem_Realloc(given->made, (size_t)room * sizeof(int64_t));
-            if (!larger) {
-                PyErr_NoMemory();
-                Py_DECREF(object);
-                break;
-            }
-            given->made = larger;
-        }
-        int read = list_read_item(state, object, &given->made[given->count]);
-        Py_DECREF(object);
-        if (read < 0) {
-            break;
-        }
-        given->count++;
+    for (; done == 0 && given->count < count; given->count++) {
+        done =
+            list_read_item(state, PyTuple_GetItem(items, given->count), &given->made[given->count]);
     }
-    Py_DECREF(iterator);
-    given->items = given->made;
-    return PyErr_Occurred() ? -1 : 0;
+    Py_XDECREF(items);
+    return done;
 }
 
 static int list_give(core_state *state, PyObject *source, given_numbers *given) {

@@ -35,31 +35,7 @@ static PyObject *OWN(remove)(PyObject *self, PyObject *object) {
     }
     return found < 0
                ? NULL
-               : none_or_error(CALL(remove)(&OWN(cast)(self)->value, (size_t)found, NULL), NAME);
-}
-
-/* Python's own sort decides the order, so that `key` and `reverse` mean what they mean there. */
-static PyObject *OWN(sort)(PyObject *self, PyObject *arguments, PyObject *named) {
-    OBJECT *object = OWN(cast)(self);
-    VALUE made = CALL(new)();
-    GIVEN given = {0};
-    PyObject *items = PySequence_List(self);
-    PyObject *sort = items ? PyObject_GetAttr(items, object->state->names.sort) : NULL;
-    PyObject *none = sort ? PyObject_Call(sort, arguments, named) : NULL;
-    int done = none && OWN(give)(object->state, items, &given) == 0
-                   ? check(OWN(add_given)(&made, &given), NAME)
-                   : -1;
-    OWN(give_back)(&given);
-    if (done == 0) {
-        OWN(take_over)(object, &made);
-    }
-    CALL(drop)(&made);
-    Py_XDECREF(items);
-    Py_XDECREF(sort);
-    if (done < 0) {
-        Py_CLEAR(none);
-    }
-    return none;
+               : none_if(check(CALL(remove)(&OWN(cast)(self)->value, (size_t)found, NULL), NAME));
 }
 
 static PyObject *OWN(plus)(PyObject *left, PyObject *right) {
@@ -96,9 +72,7 @@ static PyObject *OWN(compared)(PyObject *self, PyObject *other, int operation) {
      PyDoc_STR("count($self, item, /)\n--\n\nHow many such items there are.")},                \
     {"remove", OWN(remove), METH_O,                                                            \
      PyDoc_STR("remove($self, item, /)\n--\n\n"                                                \
-               "Takes the first such item out: ValueError where there is none.")},             \
-    {"sort", (PyCFunction)(void (*)(void))OWN(sort), METH_VARARGS | METH_KEYWORDS,             \
-     PyDoc_STR("sort($self, /, *, key=None, reverse=False)\n--\n\nSorts as `list.sort`.")}
+               "Takes the first such item out: ValueError where there is none.")}
 
 #define LIST_LIKE_SLOTS                                                                        \
     SEQUENCE_SLOTS, {Py_tp_richcompare, OWN(compared)}, {Py_sq_contains, OWN(contains)},       \

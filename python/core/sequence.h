@@ -2,7 +2,8 @@
  *     ITEM                       the type of an item of the library's; `PASS(item)` goes to a call
  *     GIVEN                      the struct of items that a call was given, with their `count`
  *     OWN(read_item)             reads an item from an object of Python's; `OWN(drop_item)` ends it
- *     OWN(item_object)           makes an object of Python's of an item, which it takes over
+ *     OWN(item_object)           makes an object of Python's of an item, which it takes over; one
+ *                                that stays in its container is lent
  *     OWN(give)                  reads items from any iterable; `OWN(give_back)` ends them
  *     OWN(add_given)             appends given items to a value
  *     OWN(put_given)             puts them in place of a range
@@ -19,7 +20,7 @@ static PyObject *OWN(item)(PyObject *self, Py_ssize_t index) {
     if (check(CALL(get)(&object->value, (size_t)index, &item), NAME) < 0) {
         return NULL;
     }
-    return OWN(item_object)(object->state, &item);
+    return OWN(item_object)(object->state, &item, true);
 }
 
 /* Reads an index that counts from the end where it is below 0. One before the start passes the end
@@ -170,15 +171,10 @@ static int OWN(set_subscript)(PyObject *self, PyObject *key, PyObject *value) {
 
 static int OWN(init)(PyObject *self, PyObject *arguments, PyObject *named) {
     OBJECT *object = OWN(cast)(self);
-    Py_ssize_t count = PyTuple_Size(arguments);
-    if (named && PyDict_Size(named) > 0) {
-        PyErr_SetString(PyExc_TypeError, NAME "() takes no keyword arguments");
+    PyObject *source;
+    if (!read_source(NAME, arguments, named, &source)) {
         return -1;
     }
-    if (!takes(NAME, count, 0, 1)) {
-        return -1;
-    }
-    PyObject *source = count ? PyTuple_GetItem(arguments, 0) : NULL;
     if (!source) {
         return check(CALL(clear)(&object->value), NAME);
     }
@@ -208,7 +204,7 @@ static PyObject *OWN(append)(PyObject *self, PyObject *given) {
     }
     ecow_status status = CALL(push)(&object->value, PASS(item));
     OWN(drop_item)(&item);
-    return none_or_error(status, NAME);
+    return none_if(check(status, NAME));
 }
 
 static PyObject *OWN(extend)(PyObject *self, PyObject *source) {
@@ -240,7 +236,7 @@ static PyObject *OWN(insert)(PyObject *self, PyObject *const *arguments, Py_ssiz
     index = index < 0 ? 0 : index > len ? len : index;
     ecow_status status = CALL(insert)(&object->value, (size_t)index, PASS(item));
     OWN(drop_item)(&item);
-    return none_or_error(status, NAME);
+    return none_if(check(status, NAME));
 }
 
 static PyObject *OWN(pop)(PyObject *self, PyObject *const *arguments, Py_ssize_t count) {
@@ -256,50 +252,24 @@ static PyObject *OWN(pop)(PyObject *self, PyObject *const *arguments, Py_ssize_t
     }
     ecow_status status =
         count ? CALL(remove)(&object->value, index, &item) : CALL(pop)(&object->value, &item);
-    return check(status, NAME) < 0 ? NULL : OWN(item_object)(object->state, &item);
-}
-
-static PyObject *OWN(reverse)(PyObject *self, PyObject *Py_UNUSED(none)) {
-    OBJECT *object = OWN(cast)(self);
-    VALUE made = CALL(new)();
-    Py_ssize_t len = OWN(length)(self);
-    ecow_status status = OWN(add_part)(&made, &object->value, len - 1, -1, len);
-    if (status == ECOW_OK) {
-        OWN(take_over)(object, &made);
-    }
-    CALL(drop)(&made);
-    return none_or_error(status, NAME);
+    return check(status, NAME) < 0 ? NULL : OWN(item_object)(object->state, &item, false);
 }
 
 static PyObject *OWN(clear)(PyObject *self, PyObject *Py_UNUSED(none)) {
-    return none_or_error(CALL(clear)(&OWN(cast)(self)->value), NAME);
-}
-
-/* Reads a length or a count of items. One that no `size_t` holds is the most that it holds. */
-static bool OWN(read_size)(PyObject *given, size_t *size) {
-    Py_ssize_t number = PyNumber_AsSsize_t(given, NULL);
-    if (number == -1 && PyErr_Occurred()) {
-        return false;
-    }
-    if (number < 0) {
-        PyErr_SetString(PyExc_ValueError, "length below 0");
-        return false;
-    }
-    *size = (size_t)number;
-    return true;
+    return none_if(check(CALL(clear)(&OWN(cast)(self)->value), NAME));
 }
 
 static PyObject *OWN(truncate)(PyObject *self, PyObject *length) {
     size_t len;
-    return OWN(read_size)(length, &len)
-               ? none_or_error(CALL(truncate)(&OWN(cast)(self)->value, len), NAME)
+    return read_size(length, &len)
+               ? none_if(check(CALL(truncate)(&OWN(cast)(self)->value, len), NAME))
                : NULL;
 }
 
 static PyObject *OWN(reserve)(PyObject *self, PyObject *additional) {
     size_t count;
-    return OWN(read_size)(additional, &count)
-               ? none_or_error(CALL(reserve)(&OWN(cast)(self)->value, count), NAME)
+    return read_size(additional, &count)
+               ? none_if(check(CALL(reserve)(&OWN(cast)(self)->value, count), NAME))
                : NULL;
 }
 
@@ -325,17 +295,6 @@ static int OWN(repeated)(PyObject *self, Py_ssize_t times, VALUE *made) {
     return check(status, NAME);
 }
 
-static PyObject *OWN(repeat)(PyObject *self, Py_ssize_t times) {
-    VALUE value = CALL(new)();
-    if (times == 1) {
-        return OWN(part)(self, 0, 1, OWN(length)(self));
-    }
-    PyObject *made =
-        OWN(repeated)(self, times, &value) < 0 ? NULL : OWN(own)(OWN(cast)(self)->state, &value);
-    CALL(drop)(&value);
-    return made;
-}
-
 static PyObject *OWN(repeat_in_place)(PyObject *self, Py_ssize_t times) {
     VALUE value = CALL(new)();
     int done = times == 1 ? 0 : OWN(repeated)(self, times, &value);
@@ -343,36 +302,29 @@ static PyObject *OWN(repeat_in_place)(PyObject *self, Py_ssize_t times) {
         OWN(take_over)(OWN(cast)(self), &value);
     }
     CALL(drop)(&value);
-    if (done < 0) {
-        return NULL;
-    }
-    Py_INCREF(self);
-    return self;
+    return done < 0 ? NULL : Py_NewRef(self);
+}
+
+static PyObject *OWN(repeat)(PyObject *self, Py_ssize_t times) {
+    PyObject *made = OWN(cloned)(self, OWN(cast)(self)->state->TYPE);
+    PyObject *repeated = made ? OWN(repeat_in_place)(made, times) : NULL;
+    Py_XDECREF(made);
+    return repeated;
 }
 
 /* A new object of the items of two objects, each of this kind or of what `OWN(give)` takes. */
 static PyObject *OWN(joined)(core_state *state, PyObject *left, PyObject *right) {
-    OBJECT *made = OWN(make)(state, state->TYPE);
-    GIVEN first = {0}, second = {0};
-    int done = made ? 0 : -1;
-    if (made && OWN(is)(state, left)) {
-        done = check(CALL(clone)(&made->value, &OWN(cast)(left)->value), NAME);
-    } else if (made) {
-        done = OWN(give)(state, left, &first) < 0
-                   ? -1
-                   : check(OWN(add_given)(&made->value, &first), NAME);
-    }
-    if (done == 0) {
-        done = OWN(give)(state, right, &second) < 0
-                   ? -1
-                   : check(OWN(add_given)(&made->value, &second), NAME);
-    }
-    OWN(give_back)(&first);
-    OWN(give_back)(&second);
-    if (done < 0) {
+    bool is_own = OWN(is)(state, left);
+    PyObject *made =
+        is_own ? OWN(cloned)(left, state->TYPE) : (PyObject *)OWN(make)(state, state->TYPE);
+    PyObject *first = made && !is_own ? OWN(extend)(made, left) : NULL;
+    PyObject *second = made && (is_own || first) ? OWN(extend)(made, right) : NULL;
+    Py_XDECREF(first);
+    if (!second) {
         Py_CLEAR(made);
     }
-    return (PyObject *)made;
+    Py_XDECREF(second);
+    return made;
 }
 
 static PyObject *OWN(extend_in_place)(PyObject *self, PyObject *source) {
@@ -398,7 +350,7 @@ static PyObject *OWN(extend_in_place)(PyObject *self, PyObject *source) {
     {"pop", (PyCFunction)(void (*)(void))OWN(pop), METH_FASTCALL,                              \
      PyDoc_STR("pop($self, index=-1, /)\n--\n\n"                                               \
                "Takes the item at `index`: IndexError where there is none.")},                 \
-    {"reverse", OWN(reverse), METH_NOARGS,                                                     \
+    {"reverse", reverse, METH_NOARGS,                                                          \
      PyDoc_STR("reverse($self, /)\n--\n\nReverses the order of the items.")},                  \
     {"clear", OWN(clear), METH_NOARGS,                                                         \
      PyDoc_STR("clear($self, /)\n--\n\n"                                                       \

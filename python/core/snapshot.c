@@ -59,26 +59,17 @@ static void fill(snapshot_object *snapshot, const void *items, size_t count, siz
     view->internal = NULL;
 }
 
-int lend_list(core_state *state, const ecow_list *list, Py_buffer *view, int flags) {
-    snapshot_object *snapshot = make(state, view, flags);
-    if (!snapshot || check(ecow_list_clone(&snapshot->list, list), "List") < 0) {
-        Py_XDECREF((PyObject *)snapshot);
-        return -1;
+#define LEND(kind, item, format)                                                               \
+    int lend_##kind(core_state *state, const ecow_##kind *given, Py_buffer *view, int flags) { \
+        snapshot_object *snapshot = make(state, view, flags);                                  \
+        if (!snapshot || check(ecow_##kind##_clone(&snapshot->kind, given), "a buffer") < 0) { \
+            Py_XDECREF((PyObject *)snapshot);                                                  \
+            return -1;                                                                         \
+        }                                                                                      \
+        size_t count;                                                                          \
+        const item *items = ecow_##kind##_slice(&snapshot->kind, &count);                      \
+        fill(snapshot, items, count, sizeof *items, format, view, flags);                      \
+        return 0;                                                                              \
     }
-    size_t count;
-    const int64_t *items = ecow_list_slice(&snapshot->list, &count);
-    fill(snapshot, items, count, sizeof *items, "q", view, flags);
-    return 0;
-}
-
-int lend_bytes(core_state *state, const ecow_bytes *bytes, Py_buffer *view, int flags) {
-    snapshot_object *snapshot = make(state, view, flags);
-    if (!snapshot || check(ecow_bytes_clone(&snapshot->bytes, bytes), "Bytes") < 0) {
-        Py_XDECREF((PyObject *)snapshot);
-        return -1;
-    }
-    size_t count;
-    const uint8_t *items = ecow_bytes_slice(&snapshot->bytes, &count);
-    fill(snapshot, items, count, sizeof *items, "B", view, flags);
-    return 0;
-}
+LEND(list, int64_t, "q")
+LEND(bytes, uint8_t, "B")

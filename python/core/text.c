@@ -7,9 +7,44 @@
 #define OWN(name) text_##name
 #define TYPE text
 #define NAME "Text"
-#define NOTE(to, from) \
-    ((to)->count = (from)->count, (to)->character = (from)->character, (to)->byte = (from)->byte)
-#define FORGET(object) ((object)->count = -1, (object)->character = (object)->byte = 0)
+#define NOTE(to, from) note(to, from)
+#define FORGET(object) forget(object)
+#define SPARED(state, type) spared(state, type)
+#define SPARE_IT(object) spare_it(object)
+
+static void forget(text_object *object) {
+    object->count = -1;
+    object->character = object->byte = object->passed = 0;
+    Py_CLEAR(object->plain);
+}
+
+static void note(text_object *to, const text_object *from) {
+    to->count = from->count;
+    to->character = from->character;
+    to->byte = from->byte;
+    to->plain = Py_XNewRef(from->plain);
+}
+
+static text_object *spared(core_state *state, PyTypeObject *type) {
+    if (type != state->text || state->spares == 0) {
+        return NULL;
+    }
+    /* What is gone has forgotten everything else. */
+    text_object *made = state->spare[--state->spares];
+    made->count = 0;
+    made->is_lent = false;
+    return (text_object *)PyObject_Init((PyObject *)made, type);
+}
+
+static bool spare_it(text_object *object) {
+    core_state *state = object->state;
+    bool kept = Py_TYPE((PyObject *)object) == state->text && state->spares < SPARE;
+    if (kept) {
+        state->spare[state->spares++] = object;
+    }
+    return kept;
+}
+
 #include "kind.h"
 
 /* ---- Characters and bytes ---- */
@@ -66,6 +101,7 @@ static Py_ssize_t byte_of(text_object *object, Py_ssize_t character) {
         at = count;
         byte = size;
     }
+    object->passed += character < at ? at - character : character - at;
     for (; at < character; at++) {
         do {
             byte++;
@@ -136,8 +172,18 @@ PyObject *str_of(const ecow_text *text) {
     return PyUnicode_DecodeUTF8(bytes, (Py_ssize_t)size, NULL);
 }
 
+/* A text no longer than that keeps its `str`, and a longer one where it was passed that often. */
+enum { SHORT = 64, OFTEN_PASSED = 4 };
+
 static PyObject *text_str(PyObject *self) {
-    return str_of(&text_cast(self)->value);
+    text_object *object = text_cast(self);
+    PyObject *plain = object->plain ? Py_NewRef(object->plain) : str_of(&object->value);
+    Py_ssize_t size = (Py_ssize_t)ecow_text_len(&object->value);
+    bool often = object->passed > 0 && object->passed > OFTEN_PASSED * object->count;
+    if (plain && !object->plain && (size <= SHORT || often)) {
+        object->plain = Py_NewRef(plain);
+    }
+    return plain;
 }
 
 /* A `str` of texts, joined with `between`. */
@@ -163,9 +209,17 @@ static PyObject *one_text(core_state *state, PyObject *given) {
 
 /* ---- Changes ---- */
 
+/* Readies a text for a change: not one that a container has handed out. */
+static bool can_change(text_object *object) {
+    object->passed = 0;
+    Py_CLEAR(object->plain);
+    return !object->is_lent || refuse_change(NAME);
+}
+
 /* Appends UTF-8. */
 static int add(text_object *object, utf8 added) {
-    if (check(ecow_text_extend(&object->value, added.bytes, (size_t)added.size), NAME) < 0) {
+    if (!can_change(object)
+        || check(ecow_text_extend(&object->value, added.bytes, (size_t)added.size), NAME) < 0) {
         return -1;
     }
     object->count += object->count < 0 ? 0 : added.count;
@@ -175,10 +229,11 @@ static int add(text_object *object, utf8 added) {
 /* Puts UTF-8 in place of the characters from `start` up to `end`. */
 static int put(text_object *object, Py_ssize_t start, Py_ssize_t end, utf8 added) {
     Py_ssize_t count = count_of(object), to = byte_of(object, end), from = byte_of(object, start);
-    if (check(ecow_text_splice(&object->value, (size_t)from, (size_t)to, added.bytes,
-                               (size_t)added.size),
-              NAME)
-        < 0) {
+    if (!can_change(object)
+        || check(ecow_text_splice(&object->value, (size_t)from, (size_t)to, added.bytes,
+                                  (size_t)added.size),
+                 NAME)
+               < 0) {
         return -1;
     }
     object->count = count - (end - start) + added.count;
@@ -192,7 +247,7 @@ static const utf8 no_text = {"", 0, 0};
 /* Makes the text that of a `str`, which is given up. */
 static int become(text_object *object, PyObject *plain) {
     ecow_text text = {{0}};
-    int done = plain ? read_text(object->state, plain, &text) : -1;
+    int done = plain && can_change(object) ? read_text(object->state, plain, &text) : -1;
     if (done == 0) {
         text_take_over(object, &text);
         object->count = PyUnicode_GetLength(plain);
@@ -201,25 +256,13 @@ static int become(text_object *object, PyObject *plain) {
     return done;
 }
 
-static PyObject *none_if(int done) {
-    if (done < 0) {
-        return NULL;
-    }
-    Py_RETURN_NONE;
-}
-
 static int text_init(PyObject *self, PyObject *arguments, PyObject *named) {
     text_object *object = text_cast(self);
-    Py_ssize_t count = PyTuple_Size(arguments);
     ecow_text text = {{0}};
-    if (named && PyDict_Size(named) > 0) {
-        PyErr_SetString(PyExc_TypeError, "Text() takes no keyword arguments");
+    PyObject *given;
+    if (!read_source(NAME, arguments, named, &given) || !can_change(object)) {
         return -1;
     }
-    if (!takes(NAME, count, 0, 1)) {
-        return -1;
-    }
-    PyObject *given = count ? PyTuple_GetItem(arguments, 0) : NULL;
     if (given && PyObject_TypeCheck(given, object->state->value)) {
         if (check(ecow_value_text(&((value_object *)given)->value, &text), "the value") < 0) {
             return -1;
@@ -228,9 +271,7 @@ static int text_init(PyObject *self, PyObject *arguments, PyObject *named) {
         return -1;
     }
     text_take_over(object, &text);
-    if (given && text_is(object->state, given)) {
-        NOTE(object, text_cast(given));
-    } else if (given && PyUnicode_Check(given)) {
+    if (given && PyUnicode_Check(given)) {
         object->count = PyUnicode_GetLength(given);
     }
     return 0;
@@ -273,6 +314,13 @@ static PyObject *text_item(PyObject *self, Py_ssize_t index) {
         check(ECOW_INDEX, NAME);
         return NULL;
     }
+    if (!object->plain && object->passed > OFTEN_PASSED * object->count) {
+        Py_XDECREF(text_str(self));
+        PyErr_Clear();
+    }
+    if (object->plain) {
+        return PyUnicode_FromOrdinal((int)PyUnicode_ReadChar(object->plain, index));
+    }
     ecow_status status = ecow_text_get(&object->value, (size_t)byte_of(object, index), &character);
     return check(status, NAME) < 0 ? NULL : PyUnicode_FromOrdinal((int)character);
 }
@@ -313,46 +361,34 @@ static PyObject *text_pop(PyObject *self, PyObject *const *arguments, Py_ssize_t
 
 static PyObject *text_clear(PyObject *self, PyObject *Py_UNUSED(none)) {
     text_object *object = text_cast(self);
-    if (check(ecow_text_clear(&object->value), NAME) < 0) {
+    if (!can_change(object) || check(ecow_text_clear(&object->value), NAME) < 0) {
         return NULL;
     }
     FORGET(object);
     Py_RETURN_NONE;
 }
 
-/* Reads a length or a size, of which Python's numbers may be larger. */
-static bool read_size(PyObject *given, Py_ssize_t *size) {
-    *size = PyNumber_AsSsize_t(given, NULL);
-    if (*size == -1 && PyErr_Occurred()) {
-        return false;
-    }
-    if (*size < 0) {
-        PyErr_SetString(PyExc_ValueError, "length below 0");
-    }
-    return *size >= 0;
-}
-
 static PyObject *text_truncate(PyObject *self, PyObject *length) {
     text_object *object = text_cast(self);
-    Py_ssize_t len;
-    if (!read_size(length, &len)) {
+    size_t len;
+    if (!read_size(length, &len) || !can_change(object)) {
         return NULL;
     }
-    if (len < count_of(object)) {
-        Py_ssize_t byte = byte_of(object, len);
+    if (len < (size_t)count_of(object)) {
+        Py_ssize_t byte = byte_of(object, (Py_ssize_t)len);
         if (check(ecow_text_truncate(&object->value, (size_t)byte), NAME) < 0) {
             return NULL;
         }
-        object->count = object->character = len;
+        object->count = object->character = (Py_ssize_t)len;
         object->byte = byte;
     }
     Py_RETURN_NONE;
 }
 
 static PyObject *text_reserve(PyObject *self, PyObject *additional) {
-    Py_ssize_t size;
-    return read_size(additional, &size)
-               ? none_or_error(ecow_text_reserve(&text_cast(self)->value, (size_t)size), NAME)
+    size_t size;
+    return read_size(additional, &size) && can_change(text_cast(self))
+               ? none_if(check(ecow_text_reserve(&text_cast(self)->value, size), NAME))
                : NULL;
 }
 
@@ -415,14 +451,16 @@ static int text_set_subscript(PyObject *self, PyObject *key, PyObject *value) {
     utf8 added = no_text;
     if (PyIndex_Check(key)) {
         Py_ssize_t index;
-        if (value && read_utf8(object->state, value, &added) < 0) {
+        /* An index is read first, since its code may change any text. */
+        if (!read_index(object, key, &index)
+            || (value && read_utf8(object->state, value, &added) < 0)) {
             return -1;
         }
         if (value && added.count != 1) {
             PyErr_SetString(PyExc_ValueError, "a character is a text of length 1");
             return -1;
         }
-        return read_index(object, key, &index) ? put(object, index, index + 1, added) : -1;
+        return put(object, index, index + 1, added);
     }
     if (!PySlice_Check(key)) {
         PyErr_Format(PyExc_TypeError, "Text indices must be integers or slices, not %R",
@@ -445,17 +483,6 @@ static int text_set_subscript(PyObject *self, PyObject *key, PyObject *value) {
     }
     Py_XDECREF(text);
     return done;
-}
-
-static PyObject *text_reverse(PyObject *self, PyObject *Py_UNUSED(none)) {
-    PyObject *plain = text_str(self), *back = PyLong_FromLong(-1);
-    PyObject *slice = back ? PySlice_New(NULL, NULL, back) : NULL;
-    PyObject *reversed = plain && slice ? PyObject_GetItem(plain, slice) : NULL;
-    int done = become(text_cast(self), reversed);
-    Py_XDECREF(plain);
-    Py_XDECREF(back);
-    Py_XDECREF(slice);
-    return none_if(done);
 }
 
 static PyObject *text_byte_len(PyObject *self, PyObject *Py_UNUSED(none)) {
@@ -495,29 +522,7 @@ static PyObject *text_index_of_byte(PyObject *self, PyObject *given) {
 
 /* ---- Searches ---- */
 
-/* What a search looks for in a range of characters. */
-typedef enum search { FIRST, LAST, OFTEN, START, END } search;
-
-static Py_ssize_t search_bytes(const char *bytes, Py_ssize_t size, utf8 part, search what) {
-    bool fits = part.size <= size;
-    switch (what) {
-    case FIRST:
-        return find_first(bytes, size, part.bytes, part.size);
-    case LAST:
-        return find_last(bytes, size, part.bytes, part.size);
-    case OFTEN:
-        return part.size ? count_parts(bytes, size, part.bytes, part.size)
-                         : count_characters(bytes, size) + 1;
-    case START:
-        return fits && memcmp(bytes, part.bytes, (size_t)part.size) == 0 ? 0 : -1;
-    default:
-        return fits && memcmp(bytes + size - part.size, part.bytes, (size_t)part.size) == 0 ? 0
-                                                                                            : -1;
-    }
-}
-
-/* Searches a range: -1 where the part doesn't stand there, -2 where an error is raised. Places are
- * indices of characters. */
+/* Places are indices of characters. */
 static Py_ssize_t text_seek(PyObject *self, const char *name, PyObject *const *arguments,
                             Py_ssize_t count, search what) {
     text_object *object = text_cast(self);
@@ -529,75 +534,19 @@ static Py_ssize_t text_seek(PyObject *self, const char *name, PyObject *const *a
     }
     stop = stop < count_of(object) ? stop : count_of(object);
     if (start > stop) {
-        return -1;
+        return what == OFTEN ? 0 : -1;
+    }
+    if (what == OFTEN && part.size == 0) {
+        return stop - start + 1;
     }
     Py_ssize_t to = byte_of(object, stop), from = byte_of(object, start);
     const char *bytes = contents(object, &size);
-    Py_ssize_t found = search_bytes(bytes + from, to - from, part, what);
+    Py_ssize_t found = search_bytes(bytes + from, to - from, part.bytes, part.size, what);
     return found >= 0 && what != OFTEN ? character_of(object, from + found) : found;
 }
 
-static int text_contains(PyObject *self, PyObject *part) {
-    Py_ssize_t found = text_seek(self, "in", &part, 1, FIRST);
-    return found == -2 ? -1 : found >= 0;
-}
-
-static PyObject *text_find(PyObject *self, PyObject *const *arguments, Py_ssize_t count) {
-    Py_ssize_t found = text_seek(self, "find", arguments, count, FIRST);
-    return found == -2 ? NULL : PyLong_FromSsize_t(found);
-}
-
-static PyObject *text_rfind(PyObject *self, PyObject *const *arguments, Py_ssize_t count) {
-    Py_ssize_t found = text_seek(self, "rfind", arguments, count, LAST);
-    return found == -2 ? NULL : PyLong_FromSsize_t(found);
-}
-
-static PyObject *place_or_error(Py_ssize_t found) {
-    if (found == -1) {
-        PyErr_SetString(PyExc_ValueError, "substring not found");
-    }
-    return found < 0 ? NULL : PyLong_FromSsize_t(found);
-}
-
-static PyObject *text_index(PyObject *self, PyObject *const *arguments, Py_ssize_t count) {
-    return place_or_error(text_seek(self, "index", arguments, count, FIRST));
-}
-
-static PyObject *text_rindex(PyObject *self, PyObject *const *arguments, Py_ssize_t count) {
-    return place_or_error(text_seek(self, "rindex", arguments, count, LAST));
-}
-
-static PyObject *text_count(PyObject *self, PyObject *const *arguments, Py_ssize_t count) {
-    Py_ssize_t times = text_seek(self, "count", arguments, count, OFTEN);
-    return times == -2 ? NULL : PyLong_FromSsize_t(times < 0 ? 0 : times);
-}
-
-/* The first argument is a text, or a tuple of texts of which one is enough. */
-static PyObject *meets(PyObject *self, const char *name, PyObject *const *arguments,
-                       Py_ssize_t count, search what) {
-    if (!takes(name, count, 1, 3)) {
-        return NULL;
-    }
-    bool several = PyTuple_Check(arguments[0]);
-    Py_ssize_t parts = several ? PyTuple_Size(arguments[0]) : 1;
-    for (Py_ssize_t at = 0; at < parts; at++) {
-        PyObject *given[3] = {several ? PyTuple_GetItem(arguments[0], at) : arguments[0],
-                              count > 1 ? arguments[1] : NULL, count > 2 ? arguments[2] : NULL};
-        Py_ssize_t found = text_seek(self, name, given, count, what);
-        if (found != -1) {
-            return found == -2 ? NULL : PyBool_FromLong(true);
-        }
-    }
-    return PyBool_FromLong(false);
-}
-
-static PyObject *text_startswith(PyObject *self, PyObject *const *arguments, Py_ssize_t count) {
-    return meets(self, "startswith", arguments, count, START);
-}
-
-static PyObject *text_endswith(PyObject *self, PyObject *const *arguments, Py_ssize_t count) {
-    return meets(self, "endswith", arguments, count, END);
-}
+#define ABSENT "substring not found"
+#include "searching.h"
 
 static PyObject *text_remove(PyObject *self, PyObject *given) {
     text_object *object = text_cast(self);
@@ -636,9 +585,13 @@ static PyObject *text_plus(PyObject *left, PyObject *right) {
     return (PyObject *)made;
 }
 
+/* As with a `str`, a text that may not be changed gives a new one. */
 static PyObject *text_plus_in_place(PyObject *self, PyObject *other) {
     text_object *object = text_cast(self);
     utf8 added;
+    if (object->is_lent) {
+        return text_plus(self, other);
+    }
     if (!is_text(object->state, other)) {
         Py_RETURN_NOTIMPLEMENTED;
     }
@@ -650,18 +603,20 @@ static PyObject *text_plus_in_place(PyObject *self, PyObject *other) {
 }
 
 static PyObject *text_repeat_in_place(PyObject *self, Py_ssize_t times) {
-    text_object *object = text_cast(self);
+    PyObject *made = text_cast(self)->is_lent ? text_cloned(self, text_cast(self)->state->text)
+                                              : Py_NewRef(self);
+    text_object *object = text_cast(made);
     times = times < 0 ? 0 : times;
-    if (times != 1) {
+    if (made && times != 1) {
         Py_ssize_t count = count_of(object);
         if (check(ecow_text_repeat(&object->value, (size_t)times), NAME) < 0) {
+            Py_CLEAR(made);
             return NULL;
         }
         FORGET(object);
         object->count = count * times;
     }
-    Py_INCREF(self);
-    return self;
+    return made;
 }
 
 static PyObject *text_repeat(PyObject *self, Py_ssize_t times) {
@@ -730,8 +685,35 @@ static PyObject *text_repr(PyObject *self) {
     return named_repr(self, text_str(self));
 }
 
-static PyObject *text_formatted(PyObject *self, PyObject *format) {
+static Py_hash_t text_hashed(PyObject *self) {
+    PyObject *plain = text_cast(self)->is_lent ? text_str(self) : NULL;
+    Py_hash_t hash = plain ? PyObject_Hash(plain) : -1;
+    Py_XDECREF(plain);
+    return text_cast(self)->is_lent ? hash : PyObject_HashNotImplemented(self);
+}
+
+/* Loops pass over the characters of the moment at which they begin. */
+static PyObject *text_iter(PyObject *self) {
     PyObject *plain = text_str(self);
+    PyObject *iterator = plain ? PyObject_GetIter(plain) : NULL;
+    Py_XDECREF(plain);
+    return iterator;
+}
+
+static PyObject *text_reversed(PyObject *self, PyObject *Py_UNUSED(none)) {
+    PyObject *iterator = (PyObject *)&PyReversed_Type;
+    return call_alone(text_str(self), iterator);
+}
+
+static PyObject *text_formatted(PyObject *self, PyObject *format) {
+    if (!PyUnicode_Check(format)) {
+        PyErr_SetString(PyExc_TypeError, "__format__() argument must be str");
+        return NULL;
+    }
+    PyObject *plain = text_str(self);
+    if (plain && PyUnicode_GetLength(format) == 0) {
+        return plain;
+    }
     PyObject *formatted = plain ? PyObject_Format(plain, format) : NULL;
     Py_XDECREF(plain);
     return formatted;
@@ -749,47 +731,20 @@ static PyObject *text_hash(PyObject *self, PyObject *Py_UNUSED(none)) {
     return PyLong_FromUnsignedLongLong(ecow_text_hash(&text_cast(self)->value));
 }
 
-/* Methods of `str`: of no argument, with arguments, and with a result that comes out as it is. */
-#define ALONE(name)                                                           \
-    static PyObject *text_##name(PyObject *self, PyObject *Py_UNUSED(none)) { \
-        PyObject *method = text_cast(self)->state->of_str.name;               \
-        return wrapped(self, call_alone(text_str(self), method));             \
-    }
-#define PLAIN(name, finish)                                                              \
-    static PyObject *text_##name(PyObject *self, PyObject *arguments, PyObject *named) { \
-        PyObject *method = text_cast(self)->state->of_str.name;                          \
-        return finish(call_plain(self, text_str(self), method, arguments, named));       \
-    }
-#define HANDED_ON(name) PLAIN(name, WRAPPED)
-#define AS_IT_IS(name) PLAIN(name, )
-#define WRAPPED(result) wrapped(self, result)
-/* clang-format off */
-ALONE_OF_BOTH(ALONE)
-ALONE_OF_STR(ALONE)
-METHODS_OF_BOTH(HANDED_ON)
-METHODS_OF_STR(HANDED_ON)
-PLAIN_OF_STR(AS_IT_IS)
-/* clang-format on */
-#undef ALONE
-#undef PLAIN
-#undef HANDED_ON
-#undef AS_IT_IS
-#undef WRAPPED
+#define OF of_str
+#define PLAIN_NAME "str"
+#define FILL "' '"
+#define CHARS "chars"
+#define DELETED ""
+#define WITHOUT_ARGUMENTS(X) ALONE_OF_BOTH(X) ALONE_OF_STR(X)
+#define WITH_ARGUMENTS(X) METHODS_OF_BOTH(X) METHODS_OF_STR(X)
+#define AS_THEY_ARE(X) PLAIN_OF_STR(X)
+#include "handed_on.h"
 
 /* clang-format off */
 #define FAST(name, arguments, text)                                                            \
     {#name, (PyCFunction)(void (*)(void))text_##name, METH_FASTCALL,                           \
      PyDoc_STR(#name "($self, " arguments ", /)\n--\n\n" text)},
-#define SEARCH(name, text) FAST(name, "part, start=0, stop=sys.maxsize", text)
-#define ALONE(name)                                                                            \
-    {#name, text_##name, METH_NOARGS,                                                            \
-     PyDoc_STR(#name "($self, /)\n--\n\nAs `str." #name "`; it may give a new `Text`.")},
-#define HANDED_ON(name)                                                                        \
-    {#name, (PyCFunction)(void (*)(void))text_##name, METH_VARARGS | METH_KEYWORDS,           \
-     PyDoc_STR("As `str." #name "`; `str` that it gives are new `Text`.")},
-#define AS_IT_IS(name)                                                                         \
-    {#name, (PyCFunction)(void (*)(void))text_##name, METH_VARARGS | METH_KEYWORDS,           \
-     PyDoc_STR("As `str." #name "`.")},
 static PyMethodDef text_methods[] = {
     COPY_METHODS,
     {"append", text_append, METH_O,
@@ -802,7 +757,7 @@ static PyMethodDef text_methods[] = {
     {"remove", text_remove, METH_O,
      PyDoc_STR("remove($self, part, /)\n--\n\n"
                "Takes the first such part out: ValueError where there is none.")},
-    {"reverse", text_reverse, METH_NOARGS,
+    {"reverse", reverse, METH_NOARGS,
      PyDoc_STR("reverse($self, /)\n--\n\nReverses the order of the characters.")},
     {"clear", text_clear, METH_NOARGS,
      PyDoc_STR("clear($self, /)\n--\n\n"
@@ -823,31 +778,18 @@ static PyMethodDef text_methods[] = {
      PyDoc_STR("index_of_byte($self, byte, /)\n--\n\n"
                "The index of the character that begins at a byte of its UTF-8: ValueError\n"
                "inside a character.")},
-    SEARCH(find, "Where a text first stands, or -1.")
-    SEARCH(rfind, "Where a text last stands, or -1.")
-    SEARCH(index, "Where a text first stands: ValueError where it doesn't.")
-    SEARCH(rindex, "Where a text last stands: ValueError where it doesn't.")
-    SEARCH(count, "How often a text occurs without overlap.")
-    SEARCH(startswith, "Whether the range begins with a text, or with one of a tuple of them.")
-    SEARCH(endswith, "Whether the range ends with a text, or with one of a tuple of them.")
-    ALONE_OF_BOTH(ALONE)
-    ALONE_OF_STR(ALONE)
-    METHODS_OF_BOTH(HANDED_ON)
-    METHODS_OF_STR(HANDED_ON)
-    PLAIN_OF_STR(AS_IT_IS)
+    SEARCH_METHODS("a text")
+    HANDED_ON_METHODS
     {"join", text_join, METH_O,
      PyDoc_STR("join($self, texts, /)\n--\n\nA new text: all texts, with this one between.")},
     {"hash", text_hash, METH_NOARGS,
      PyDoc_STR("hash($self, /)\n--\n\n"
                "A hash of the contents, from 0 to 2^64 - 1, the same in every process.")},
     {"__format__", text_formatted, METH_O, NULL},
+    {"__reversed__", text_reversed, METH_NOARGS, NULL},
     {NULL, NULL, 0, NULL},
 };
 /* clang-format on */
-#undef ALONE
-#undef HANDED_ON
-#undef AS_IT_IS
-#undef SEARCH
 #undef FAST
 
 static PyType_Slot text_slots[] = {
@@ -859,8 +801,8 @@ static PyType_Slot text_slots[] = {
     {Py_tp_dealloc, text_dealloc},
     {Py_tp_members, text_members},
     {Py_tp_methods, text_methods},
-    {Py_tp_iter, PySeqIter_New},
-    {Py_tp_hash, PyObject_HashNotImplemented},
+    {Py_tp_iter, text_iter},
+    {Py_tp_hash, text_hashed},
     {Py_tp_str, text_str},
     {Py_tp_repr, text_repr},
     {Py_tp_richcompare, text_compared},

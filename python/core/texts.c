@@ -9,6 +9,8 @@
 #define NAME "Texts"
 #define NOTE(to, from)
 #define FORGET(object)
+#define SPARED(state, type) NULL
+#define SPARE_IT(object) false
 #include "kind.h"
 
 #define ITEM ecow_text
@@ -29,8 +31,12 @@ static void texts_drop_item(ecow_text *text) {
     ecow_text_drop(text);
 }
 
-static PyObject *texts_item_object(core_state *state, ecow_text *text) {
-    return text_own(state, text);
+static PyObject *texts_item_object(core_state *state, ecow_text *text, bool is_lent) {
+    PyObject *made = text_own(state, text);
+    if (made) {
+        texts_cast(made)->is_lent = is_lent;
+    }
+    return made;
 }
 
 static int texts_give(core_state *state, PyObject *source, given_texts *given) {

@@ -9,11 +9,16 @@
 #define NAME "Value"
 #define NOTE(to, from) ((to)->depth = (from)->depth)
 #define FORGET(object)
+#define SPARED(state, type) NULL
+#define SPARE_IT(object) false
 #include "kind.h"
 
 /* How deep lists and fields may be nested. A value is dropped by recursion, and this many levels
- * fit on any stack. */
-enum { DEEPEST = 1000 };
+ * fit on the stack of a thread of 128 KiB. */
+enum { DEEPEST = 512 };
+
+/* Values nested no deeper are compared by the library, which visits a part as often as it occurs. */
+enum { SHALLOW = 16 };
 
 static const char *const kind_names[] = {
     "nothing", "truth", "number", "real", "text", "list", "fields",
@@ -23,96 +28,25 @@ static const char *name_of(const ecow_value *value) {
     return kind_names[ecow_value_kind(value)];
 }
 
-static int too_deep(void) {
-    PyErr_Format(PyExc_RecursionError, "value nested deeper than %d", DEEPEST);
-    return -1;
-}
-
-/* ---- Depth ---- */
-
-/* How deep lists and fields are nested. */
-static int measure(const ecow_value *value, Py_ssize_t *depth) {
-    ecow_kind kind = ecow_value_kind(value);
-    *depth = kind == ECOW_KIND_LIST || kind == ECOW_KIND_FIELDS;
-    size_t len = ecow_value_len(value);
-    ecow_value item = {{0}};
-    int done = 0;
-    for (size_t index = 0; index < len && done == 0; index++) {
-        Py_ssize_t below;
-        done = check(ecow_value_get(value, index, &item), NAME);
-        done = done < 0 ? done : measure(&item, &below);
-        *depth = done == 0 && below + 1 > *depth ? below + 1 : *depth;
-    }
-    ecow_value_drop(&item);
-    return done;
-}
-
-/* How deep a part that is or was in an object may be nested, at most. What an object notes grows by
- * edits, so it is measured where it is large. */
-static int depth_of_part(value_object *object, const ecow_value *part, Py_ssize_t *depth) {
-    *depth = object->depth;
-    if (object->depth <= DEEPEST / 2) {
-        return 0;
-    }
-    return measure(part, depth) < 0 ? -1 : measure(&object->value, &object->depth);
+static bool has_parts(const ecow_value *value) {
+    return ecow_value_kind(value) >= ECOW_KIND_LIST;
 }
 
 /* ---- From Python ---- */
 
-static int read_value(core_state *state, PyObject *given, ecow_value *made, Py_ssize_t *depth,
-                      Py_ssize_t room);
+/* A list or fields that are being read. */
+typedef struct level {
+    /* The items, or pairs of a name and a value, which no other code changes. */
+    PyObject *parts;
+    Py_ssize_t next, depth;
+    ecow_value made;
+} level;
 
-/* Appends an item to a list of a value, and notes how deep it is. */
-static int read_item(core_state *state, PyObject *given, ecow_value *list, Py_ssize_t *depth,
-                     Py_ssize_t room) {
-    ecow_value item = {{0}};
-    Py_ssize_t below;
-    int done = given ? read_value(state, given, &item, &below, room - 1) : -1;
-    if (done == 0) {
-        done = check(ecow_value_push(list, &item), NAME);
-        *depth = below + 1 > *depth ? below + 1 : *depth;
-    }
-    ecow_value_drop(&item);
-    return done;
-}
-
-static int read_items(core_state *state, PyObject *given, ecow_value *made, Py_ssize_t *depth,
-                      Py_ssize_t room) {
-    *depth = 1;
-    int done = room < 1 ? too_deep() : check(ecow_value_set_list(made), NAME);
-    for (Py_ssize_t index = 0; done == 0 && index < PySequence_Size(given); index++) {
-        PyObject *item = PySequence_GetItem(given, index);
-        done = read_item(state, item, made, depth, room);
-        Py_XDECREF(item);
-    }
-    return done;
-}
-
-static int read_fields(core_state *state, PyObject *given, ecow_value *made, Py_ssize_t *depth,
-                       Py_ssize_t room) {
-    PyObject *name, *object;
-    Py_ssize_t place = 0;
-    *depth = 1;
-    int done = room < 1 ? too_deep() : check(ecow_value_set_fields(made), NAME);
-    while (done == 0 && PyDict_Next(given, &place, &name, &object)) {
-        ecow_value item = {{0}};
-        Py_ssize_t below;
-        utf8 text;
-        done = read_utf8(state, name, &text);
-        done = done < 0 ? done : read_value(state, object, &item, &below, room - 1);
-        if (done == 0) {
-            done = check(ecow_value_set_field(made, text.bytes, (size_t)text.size, &item), NAME);
-            *depth = below + 1 > *depth ? below + 1 : *depth;
-        }
-        ecow_value_drop(&item);
-    }
-    return done;
-}
-
-/* Makes `made` what an object of Python's is, and notes how deep that is nested, at most. None of
- * its code runs, so that lists and dictionaries stay as they are meanwhile. */
-static int read_value(core_state *state, PyObject *given, ecow_value *made, Py_ssize_t *depth,
-                      Py_ssize_t room) {
+/* Makes `made` what an object is, and answers 0, or 1 and its parts where it has some. An object
+ * that isn't of Python's own kinds is asked by `plain` what it is; `is_plain` says that it was. */
+static int read_one(core_state *state, PyObject *given, ecow_value *made, Py_ssize_t *depth,
+                    Py_ssize_t room, PyObject **parts, bool is_plain) {
+    int overflow = 0;
     *depth = 0;
     if (given == Py_None) {
         return check(ecow_value_set_nothing(made), NAME);
@@ -121,7 +55,6 @@ static int read_value(core_state *state, PyObject *given, ecow_value *made, Py_s
         return check(ecow_value_set_truth(made, given == Py_True), NAME);
     }
     if (PyLong_Check(given)) {
-        int overflow;
         int64_t number = PyLong_AsLongLongAndOverflow(given, &overflow);
         if (overflow) {
             PyErr_SetString(PyExc_OverflowError, "number outside 64 bits");
@@ -141,27 +74,112 @@ static int read_value(core_state *state, PyObject *given, ecow_value *made, Py_s
     }
     if (value_is(state, given)) {
         value_object *object = value_cast(given);
-        if (object->depth > room && measure(&object->value, &object->depth) < 0) {
-            return -1;
+        /* What an object notes grows by edits, so it is measured before it is refused. */
+        if (object->depth > room) {
+            PyObject *measured = call_helper(state->names.depth, given, NULL);
+            Py_ssize_t depth = measured ? PyLong_AsSsize_t(measured) : -1;
+            Py_XDECREF(measured);
+            if (depth < 0) {
+                return -1;
+            }
+            object->depth = depth;
         }
         *depth = object->depth;
-        return object->depth > room ? too_deep()
-                                    : check(ecow_value_clone(made, &object->value), NAME);
+        if (object->depth <= room) {
+            return check(ecow_value_clone(made, &object->value), NAME);
+        }
     }
-    if (PyList_Check(given) || PyTuple_Check(given) || PyObject_TypeCheck(given, state->list)
-        || PyObject_TypeCheck(given, state->texts)) {
-        return read_items(state, given, made, depth, room);
+    if (value_is(state, given) || room < 1) {
+        PyErr_Format(PyExc_RecursionError, "value nested deeper than %d", DEEPEST);
+        return -1;
     }
-    if (PyDict_Check(given)) {
-        return read_fields(state, given, made, depth, room);
+    if (PyTuple_Check(given) || PyList_Check(given)) {
+        *parts = PyTuple_Check(given) ? Py_NewRef(given) : PyList_AsTuple(given);
+        return *parts && check(ecow_value_set_list(made), NAME) == 0 ? 1 : -1;
     }
-    PyErr_Format(PyExc_TypeError, "a value can't hold %R", Py_TYPE(given));
-    return -1;
+    if (PyDict_CheckExact(given)) {
+        PyObject *items = PyDict_Items(given);
+        *parts = items ? PyList_AsTuple(items) : NULL;
+        Py_XDECREF(items);
+        return *parts && check(ecow_value_set_fields(made), NAME) == 0 ? 1 : -1;
+    }
+    PyObject *plain = is_plain ? NULL : call_helper(state->names.plain, given, NULL);
+    int done = plain ? read_one(state, plain, made, depth, room, parts, true) : -1;
+    Py_XDECREF(plain);
+    return done;
+}
+
+/* Adds a part to what is being read. A name is read behind its value, whose code may change it. */
+static int add_part(core_state *state, level *to, const ecow_value *part, Py_ssize_t depth) {
+    utf8 name;
+    if (depth >= to->depth) {
+        to->depth = depth + 1;
+    }
+    if (ecow_value_kind(&to->made) == ECOW_KIND_LIST) {
+        return check(ecow_value_push(&to->made, part), NAME);
+    }
+    PyObject *pair = PyTuple_GetItem(to->parts, to->next - 1);
+    return read_utf8(state, PyTuple_GetItem(pair, 0), &name) < 0
+               ? -1
+               : check(ecow_value_set_field(&to->made, name.bytes, (size_t)name.size, part), NAME);
+}
+
+/* Makes `made` what an object of Python's is, and notes how deep that is nested, at most. It needs
+ * no more of the stack for a deep object. */
+static int read_value(core_state *state, PyObject *given, ecow_value *made, Py_ssize_t *depth,
+                      Py_ssize_t room) {
+    level *levels = NULL;
+    Py_ssize_t count = 0;
+    int done;
+    for (;;) {
+        PyObject *parts = NULL;
+        done = read_one(state, given, made, depth, room - count, &parts, false);
+        if (done == 1) {
+            level *more = PyMem_Realloc(levels, (size_t)(count + 1) * sizeof *levels);
+            if (!more) {
+                PyErr_NoMemory();
+                Py_DECREF(parts);
+                done = -1;
+                break;
+            }
+            levels = more;
+            levels[count++] = (level){parts, 0, 1, *made};
+            *made = ecow_value_new();
+        } else if (done < 0) {
+            Py_XDECREF(parts);
+            break;
+        }
+        /* What is read goes into the list or the fields around it, as long as these are whole. */
+        for (; count > 0; done = 0) {
+            level *top = &levels[count - 1];
+            if (done == 0 && (done = add_part(state, top, made, *depth)) < 0) {
+                break;
+            }
+            ecow_value_drop(made);
+            if (top->next < PyTuple_Size(top->parts)) {
+                given = PyTuple_GetItem(top->parts, top->next++);
+                given = ecow_value_kind(&top->made) == ECOW_KIND_LIST ? given
+                                                                      : PyTuple_GetItem(given, 1);
+                break;
+            }
+            *made = top->made;
+            *depth = top->depth;
+            Py_DECREF(top->parts);
+            count--;
+        }
+        if (done < 0 || count == 0) {
+            break;
+        }
+    }
+    for (; count > 0; count--) {
+        Py_DECREF(levels[count - 1].parts);
+        ecow_value_drop(&levels[count - 1].made);
+    }
+    PyMem_Free(levels);
+    return done;
 }
 
 /* ---- To Python ---- */
-
-static PyObject *plain_of(const ecow_value *value);
 
 static PyObject *plain_scalar(const ecow_value *value) {
     bool truth = false;
@@ -186,11 +204,6 @@ static PyObject *plain_scalar(const ecow_value *value) {
     default:
         Py_RETURN_NONE;
     }
-}
-
-static bool has_parts(const ecow_value *value) {
-    ecow_kind kind = ecow_value_kind(value);
-    return kind == ECOW_KIND_LIST || kind == ECOW_KIND_FIELDS;
 }
 
 static PyObject *name_at(const ecow_value *value, size_t index) {
@@ -228,105 +241,98 @@ static PyObject *plain_of(const ecow_value *value) {
     return made;
 }
 
-/* A part that is or was in an object, as a `Value`, which takes it over. */
-static PyObject *part_value(value_object *object, ecow_value *part) {
-    Py_ssize_t depth;
-    PyObject *made =
-        depth_of_part(object, part, &depth) < 0 ? NULL : value_own(object->state, part);
+/* A part so many levels down in an object, as a `Value`, which takes it over. */
+static PyObject *part_value(value_object *object, ecow_value *part, Py_ssize_t level) {
+    Py_ssize_t depth = object->depth - level;
+    PyObject *made = value_own(object->state, part);
     if (made) {
-        value_cast(made)->depth = depth;
+        value_cast(made)->depth = depth < 0 ? 0 : depth;
+        value_cast(made)->is_lent = level > 0;
     }
-    ecow_value_drop(part);
     return made;
 }
 
 /* The same of a list or fields; another part as an object of Python's own. */
-static PyObject *part_object(value_object *object, ecow_value *part) {
+static PyObject *part_object(value_object *object, ecow_value *part, Py_ssize_t level) {
     if (has_parts(part)) {
-        return part_value(object, part);
+        return part_value(object, part, level);
     }
     PyObject *made = plain_scalar(part);
     ecow_value_drop(part);
     return made;
 }
 
+/* The same of a part that was taken out, which may be changed. */
+static PyObject *taken_object(value_object *object, ecow_value *part) {
+    PyObject *made = part_object(object, part, 1);
+    if (made && value_is(object->state, made)) {
+        value_cast(made)->is_lent = false;
+    }
+    return made;
+}
+
 /* ---- Keys and paths ---- */
 
 /* The error of a key that the library refused. */
-static void refuse_key(const ecow_value *value, PyObject *key, ecow_status status) {
+static int refuse_key(const ecow_value *value, PyObject *key, ecow_status status) {
     if (status == ECOW_INDEX && ecow_value_kind(value) == ECOW_KIND_FIELDS) {
         PyErr_SetObject(PyExc_KeyError, key);
     } else if (status == ECOW_KIND) {
         PyErr_Format(PyExc_TypeError, "a value of the kind '%s' has no part %R", name_of(value),
                      key);
     } else {
-        check(status, NAME);
+        return check(status, NAME);
     }
-}
-
-/* Reads a key: a field's name, or an index, which `text->bytes` tells by being null. */
-static int read_key(core_state *state, const ecow_value *value, PyObject *key, utf8 *text,
-                    size_t *index) {
-    text->bytes = NULL;
-    if (is_text(state, key)) {
-        return read_utf8(state, key, text);
-    }
-    if (!PyIndex_Check(key)) {
-        PyErr_Format(PyExc_TypeError, "a key of a value is an index or a name, not %R",
-                     Py_TYPE(key));
-        return -1;
-    }
-    Py_ssize_t number = PyNumber_AsSsize_t(key, PyExc_IndexError);
-    if (number == -1 && PyErr_Occurred()) {
-        return -1;
-    }
-    *index = (size_t)(number < 0 ? number + (Py_ssize_t)ecow_value_len(value) : number);
-    if (ecow_value_kind(value) == ECOW_KIND_FIELDS) {
-        refuse_key(value, key, ECOW_KIND);
-        return -1;
-    }
-    return 0;
+    return -1;
 }
 
 typedef enum act { GET, SET, REMOVE } act;
 
-/* Reads, writes or takes the part of a key. */
-static int act_at(core_state *state, ecow_value *value, PyObject *key, act what, ecow_value *part) {
-    utf8 text;
-    size_t index = 0;
-    if (read_key(state, value, key, &text, &index) < 0) {
-        return -1;
-    }
-    size_t size = text.bytes ? (size_t)text.size : 0;
+/* Reads, writes or takes the part of a key, which is a `str` or an `int`. */
+static int act_at(ecow_value *value, PyObject *key, act what, ecow_value *part) {
     ecow_status status;
-    if (what == GET) {
-        status = text.bytes ? ecow_value_get_field(value, text.bytes, size, part)
-                            : ecow_value_get(value, index, part);
-    } else if (what == SET) {
-        status = text.bytes ? ecow_value_set_field(value, text.bytes, size, part)
-                            : ecow_value_set(value, index, part);
+    if (PyUnicode_Check(key)) {
+        Py_ssize_t size;
+        const char *name = PyUnicode_AsUTF8AndSize(key, &size);
+        if (!name) {
+            return -1;
+        }
+        status = what == GET   ? ecow_value_get_field(value, name, (size_t)size, part)
+                 : what == SET ? ecow_value_set_field(value, name, (size_t)size, part)
+                               : ecow_value_remove_field(value, name, (size_t)size, part);
     } else {
-        status = text.bytes ? ecow_value_remove_field(value, text.bytes, size, part)
-                            : ecow_value_remove(value, index, part);
+        Py_ssize_t number = PyNumber_AsSsize_t(key, PyExc_IndexError);
+        if (number == -1 && PyErr_Occurred()) {
+            return -1;
+        }
+        size_t index = (size_t)(number < 0 ? number + (Py_ssize_t)ecow_value_len(value) : number);
+        status = ecow_value_kind(value) == ECOW_KIND_FIELDS ? ECOW_KIND
+                 : what == GET                              ? ecow_value_get(value, index, part)
+                 : what == SET                              ? ecow_value_set(value, index, part)
+                                                            : ecow_value_remove(value, index, part);
     }
-    if (status != ECOW_OK) {
-        refuse_key(value, key, status);
-        return -1;
-    }
-    return 0;
+    return status == ECOW_OK ? 0 : refuse_key(value, key, status);
 }
 
-/* A tuple of the keys of a path, which is a key, or a list or a tuple of keys. Each is a text or an
- * `int`, so that no code of a key runs while a part is taken out. */
-static PyObject *keys_of(core_state *state, PyObject *path) {
-    bool several = PyList_Check(path) || PyTuple_Check(path);
+/* A tuple of the keys of a path, which is a key or a tuple of keys, and a list of them too where
+ * `lists` says so. Each is a `str` or an `int`, so that no code runs while parts are taken out. */
+static PyObject *keys_of(core_state *state, PyObject *path, bool lists) {
+    bool several = PyTuple_Check(path) || (lists && PyList_Check(path));
     PyObject *given = several ? PySequence_Tuple(path) : PyTuple_Pack(1, path);
     Py_ssize_t count = given ? PyTuple_Size(given) : 0;
     PyObject *keys = given ? PyTuple_New(count) : NULL;
     for (Py_ssize_t at = 0; keys && at < count; at++) {
-        PyObject *key = PyTuple_GetItem(given, at);
-        key = is_text(state, key) ? Py_NewRef(key) : PyNumber_Index(key);
-        if (!key || PyTuple_SetItem(keys, at, key) < 0) {
+        PyObject *key = without_text(state, PyTuple_GetItem(given, at)), *exact = NULL;
+        if (key && PyUnicode_Check(key)) {
+            exact = PyUnicode_FromObject(key);
+        } else if (key && PyIndex_Check(key)) {
+            exact = PyNumber_Index(key);
+        } else if (key) {
+            PyErr_Format(PyExc_TypeError, "a key of a value is an index or a name, not %R",
+                         Py_TYPE(key));
+        }
+        Py_XDECREF(key);
+        if (!exact || PyTuple_SetItem(keys, at, exact) < 0) {
             Py_CLEAR(keys);
         }
     }
@@ -334,34 +340,23 @@ static PyObject *keys_of(core_state *state, PyObject *path) {
     return keys;
 }
 
-/* Makes `part` a clone of the part at a path. */
-static int get_at(value_object *object, PyObject *path, ecow_value *part) {
-    PyObject *keys = keys_of(object->state, path);
-    int done = keys ? check(ecow_value_clone(part, &object->value), NAME) : -1;
-    for (Py_ssize_t at = 0; done == 0 && at < PyTuple_Size(keys); at++) {
-        done = act_at(object->state, part, PyTuple_GetItem(keys, at), GET, part);
-    }
-    Py_XDECREF(keys);
-    return done;
-}
-
-/* Puts an item in place of the part at a path. Each part on the way is taken out while it is
- * changed, so that nobody shares it and a list isn't copied; then it is put in again, which asks
- * for no memory, because the value above it isn't shared either. */
-static int set_at(core_state *state, ecow_value *value, PyObject *keys, Py_ssize_t from,
-                  ecow_value *item) {
+/* Writes or takes the part at a path. Each part on the way is taken out while it is changed, so
+ * that nobody shares it and a list isn't copied; then it is put in again, which asks for no memory,
+ * because the value above it isn't shared either. */
+static int change_at(ecow_value *value, PyObject *keys, Py_ssize_t from, act what,
+                     ecow_value *item) {
     PyObject *key = PyTuple_GetItem(keys, from);
-    if (!key || from + 1 == PyTuple_Size(keys)) {
-        return key ? act_at(state, value, key, SET, item) : -1;
+    if (from + 1 == PyTuple_Size(keys)) {
+        return act_at(value, key, what, item);
     }
     ecow_value part = {{0}}, nothing = {{0}};
-    int done = act_at(state, value, key, GET, &part);
-    done = done < 0 ? done : act_at(state, value, key, SET, &nothing);
+    int done = act_at(value, key, GET, &part);
+    done = done < 0 ? done : act_at(value, key, SET, &nothing);
     if (done == 0) {
         PyObject *type, *error, *trace;
-        done = set_at(state, &part, keys, from + 1, item);
+        done = change_at(&part, keys, from + 1, what, item);
         PyErr_Fetch(&type, &error, &trace);
-        int back = act_at(state, value, key, SET, &part);
+        int back = act_at(value, key, SET, &part);
         if (back == 0) {
             PyErr_Restore(type, error, trace);
         } else {
@@ -375,28 +370,65 @@ static int set_at(core_state *state, ecow_value *value, PyObject *keys, Py_ssize
     return done;
 }
 
+/* Whether an object may be changed: not where a container has handed it out. */
+static bool can_change(value_object *object) {
+    return !object->is_lent || refuse_change(NAME);
+}
+
+/* Makes `part` a clone of the part at the path of some keys, which are given up. Answers how many
+ * they were, or -1. */
+static Py_ssize_t get_at(value_object *object, PyObject *keys, ecow_value *part) {
+    Py_ssize_t count = keys ? PyTuple_Size(keys) : 0;
+    int done = keys ? check(ecow_value_clone(part, &object->value), NAME) : -1;
+    for (Py_ssize_t at = 0; done == 0 && at < count; at++) {
+        done = act_at(part, PyTuple_GetItem(keys, at), GET, part);
+    }
+    if (done < 0) {
+        ecow_value_drop(part);
+    }
+    Py_XDECREF(keys);
+    return done < 0 ? done : count;
+}
+
+/* Takes the part at the path of some keys, which are given up. */
+static int remove_at(value_object *object, PyObject *keys, ecow_value *part) {
+    int done = keys && can_change(object) ? 0 : -1;
+    if (done == 0 && PyTuple_Size(keys) == 0) {
+        done = refuse_key(&object->value, keys, ECOW_KIND);
+    }
+    done = done < 0 ? done : change_at(&object->value, keys, 0, REMOVE, part);
+    Py_XDECREF(keys);
+    return done;
+}
+
+/* Puts what an object is at the path of some keys, which are given up. */
+static int put_at(value_object *object, PyObject *keys, PyObject *given) {
+    Py_ssize_t depth, level = keys ? PyTuple_Size(keys) : 0;
+    ecow_value item = {{0}};
+    int done = keys ? read_value(object->state, given, &item, &depth, DEEPEST - level) : -1;
+    done = done == 0 && !can_change(object) ? -1 : done;
+    if (done == 0 && level == 0) {
+        value_take_over(object, &item);
+        object->depth = depth;
+    } else if (done == 0) {
+        done = change_at(&object->value, keys, 0, SET, &item);
+        if (done == 0 && level + depth > object->depth) {
+            object->depth = level + depth;
+        }
+    }
+    ecow_value_drop(&item);
+    Py_XDECREF(keys);
+    return done;
+}
+
 /* ---- Methods ---- */
 
 static int value_init(PyObject *self, PyObject *arguments, PyObject *named) {
-    value_object *object = value_cast(self);
-    Py_ssize_t count = PyTuple_Size(arguments), depth = 0;
-    ecow_value made = {{0}};
-    if (named && PyDict_Size(named) > 0) {
-        PyErr_SetString(PyExc_TypeError, "Value() takes no keyword arguments");
+    PyObject *given = Py_None;
+    if (!read_source(NAME, arguments, named, &given)) {
         return -1;
     }
-    if (!takes(NAME, count, 0, 1)) {
-        return -1;
-    }
-    int done =
-        count ? read_value(object->state, PyTuple_GetItem(arguments, 0), &made, &depth, DEEPEST)
-              : 0;
-    if (done == 0) {
-        value_take_over(object, &made);
-        object->depth = depth;
-    }
-    ecow_value_drop(&made);
-    return done;
+    return put_at(value_cast(self), PyTuple_New(0), given ? given : Py_None);
 }
 
 static PyObject *value_kind(PyObject *self, void *Py_UNUSED(closure)) {
@@ -440,7 +472,7 @@ static PyObject *value_item(PyObject *self, Py_ssize_t index) {
     }
     return check(ecow_value_get(&object->value, (size_t)index, &part), NAME) < 0
                ? NULL
-               : part_object(object, &part);
+               : part_object(object, &part, 1);
 }
 
 /* A new value of every `step`th item of a list. */
@@ -464,7 +496,7 @@ static PyObject *sliced(value_object *object, PyObject *key) {
             status = ecow_value_push(&made, &item);
         }
     }
-    PyObject *part = check(status, NAME) < 0 ? NULL : part_value(object, &made);
+    PyObject *part = check(status, NAME) < 0 ? NULL : part_value(object, &made, 0);
     ecow_value_drop(&made);
     ecow_value_drop(&item);
     return part;
@@ -476,48 +508,30 @@ static PyObject *value_subscript(PyObject *self, PyObject *key) {
     if (PySlice_Check(key)) {
         return sliced(object, key);
     }
-    return act_at(object->state, &object->value, key, GET, &part) < 0 ? NULL
-                                                                      : part_object(object, &part);
-}
-
-/* Puts what an object is at the path of some keys, which are given up. */
-static int put_at(value_object *object, PyObject *keys, PyObject *given) {
-    Py_ssize_t depth, level = keys ? PyTuple_Size(keys) : 0;
-    ecow_value item = {{0}};
-    int done = keys ? read_value(object->state, given, &item, &depth, DEEPEST - level) : -1;
-    if (done == 0 && level == 0) {
-        value_take_over(object, &item);
-        object->depth = depth;
-    } else if (done == 0) {
-        done = set_at(object->state, &object->value, keys, 0, &item);
-        if (done == 0 && level + depth > object->depth) {
-            object->depth = level + depth;
-        }
-    }
-    ecow_value_drop(&item);
-    Py_XDECREF(keys);
-    return done;
+    Py_ssize_t level = get_at(object, keys_of(object->state, key, false), &part);
+    return level < 0 ? NULL : part_object(object, &part, level);
 }
 
 static int value_set_subscript(PyObject *self, PyObject *key, PyObject *given) {
     value_object *object = value_cast(self);
-    if (!given) {
-        return act_at(object->state, &object->value, key, REMOVE, NULL);
-    }
-    PyObject *path = PyTuple_Pack(1, key);
-    int done = path ? put_at(object, keys_of(object->state, path), given) : -1;
-    Py_XDECREF(path);
-    return done;
+    PyObject *keys = keys_of(object->state, key, false);
+    return given ? put_at(object, keys, given) : remove_at(object, keys, NULL);
 }
 
 static PyObject *value_get_part(PyObject *self, PyObject *path) {
     value_object *object = value_cast(self);
     ecow_value part = {{0}};
-    if (get_at(object, path, &part) == 0) {
-        return part_value(object, &part);
+    Py_ssize_t level = get_at(object, keys_of(object->state, path, true), &part);
+    return level < 0 ? NULL : part_value(object, &part, level);
+}
+
+/* What stands for a part that isn't there: `other`, unless another error was raised. */
+static PyObject *instead(PyObject *other) {
+    if (!other || !PyErr_ExceptionMatches(PyExc_LookupError)) {
+        return NULL;
     }
-    ecow_value_drop(&part);
-    return NULL;
+    PyErr_Clear();
+    return Py_NewRef(other);
 }
 
 static PyObject *value_get(PyObject *self, PyObject *const *arguments, Py_ssize_t count) {
@@ -526,91 +540,46 @@ static PyObject *value_get(PyObject *self, PyObject *const *arguments, Py_ssize_
     if (!takes("get", count, 1, 2)) {
         return NULL;
     }
-    if (get_at(object, arguments[0], &part) == 0) {
-        return part_object(object, &part);
-    }
-    ecow_value_drop(&part);
-    if (!PyErr_ExceptionMatches(PyExc_LookupError)) {
-        return NULL;
-    }
-    PyErr_Clear();
-    PyObject *other = count == 2 ? arguments[1] : Py_None;
-    Py_INCREF(other);
-    return other;
+    Py_ssize_t level = get_at(object, keys_of(object->state, arguments[0], true), &part);
+    return level < 0 ? instead(count == 2 ? arguments[1] : Py_None)
+                     : part_object(object, &part, level);
 }
 
 static PyObject *value_set(PyObject *self, PyObject *const *arguments, Py_ssize_t count) {
-    if (!takes("set", count, 2, 2)
-        || put_at(value_cast(self), keys_of(value_cast(self)->state, arguments[0]), arguments[1])
-               < 0) {
-        return NULL;
+    value_object *object = value_cast(self);
+    return none_if(takes("set", count, 2, 2)
+                       ? put_at(object, keys_of(object->state, arguments[0], true), arguments[1])
+                       : -1);
+}
+
+/* Puts an item into a list before an index, which may pass the end or count from it. */
+static PyObject *put_in(value_object *object, Py_ssize_t index, PyObject *given) {
+    ecow_value item = {{0}};
+    Py_ssize_t depth;
+    int done = read_value(object->state, given, &item, &depth, DEEPEST - 1);
+    if (done == 0 && (done = can_change(object) ? 0 : -1) == 0) {
+        Py_ssize_t len = (Py_ssize_t)ecow_value_len(&object->value);
+        index = index < 0 ? index + len : index;
+        index = index < 0 ? 0 : index > len ? len : index;
+        done = check(ecow_value_insert(&object->value, (size_t)index, &item), NAME);
+        if (done == 0 && depth >= object->depth) {
+            object->depth = depth + 1;
+        }
     }
-    Py_RETURN_NONE;
+    ecow_value_drop(&item);
+    return none_if(done);
 }
 
 static PyObject *value_append(PyObject *self, PyObject *given) {
-    value_object *object = value_cast(self);
-    Py_ssize_t depth = object->depth;
-    if (ecow_value_kind(&object->value) != ECOW_KIND_LIST) {
-        check(ECOW_KIND, NAME);
-        return NULL;
-    }
-    if (read_item(object->state, given, &object->value, &depth, DEEPEST) < 0) {
-        return NULL;
-    }
-    object->depth = depth;
-    Py_RETURN_NONE;
-}
-
-static PyObject *value_extend(PyObject *self, PyObject *source) {
-    value_object *object = value_cast(self);
-    ecow_value added = {{0}}, item = {{0}};
-    Py_ssize_t depth;
-    /* All items are read first: nothing is appended where one of them is no value. */
-    PyObject *items = PySequence_List(source);
-    int done = items ? read_value(object->state, items, &added, &depth, DEEPEST) : -1;
-    Py_XDECREF(items);
-    size_t len = ecow_value_len(&object->value);
-    ecow_status status = ecow_value_kind(&object->value) == ECOW_KIND_LIST ? ECOW_OK : ECOW_KIND;
-    for (size_t index = 0; done == 0 && status == ECOW_OK && index < ecow_value_len(&added);
-         index++) {
-        status = ecow_value_get(&added, index, &item);
-        if (status == ECOW_OK) {
-            status = ecow_value_push(&object->value, &item);
-        }
-    }
-    if (done == 0 && status == ECOW_OK) {
-        object->depth = depth > object->depth ? depth : object->depth;
-    } else if (status == ECOW_MEMORY) {
-        (void)ecow_value_truncate(&object->value, len);
-    }
-    ecow_value_drop(&added);
-    ecow_value_drop(&item);
-    return done < 0 ? NULL : none_or_error(status, NAME);
+    return put_in(value_cast(self), PY_SSIZE_T_MAX, given);
 }
 
 static PyObject *value_insert(PyObject *self, PyObject *const *arguments, Py_ssize_t count) {
-    value_object *object = value_cast(self);
-    ecow_value item = {{0}};
-    Py_ssize_t depth;
     if (!takes("insert", count, 2, 2)) {
         return NULL;
     }
     Py_ssize_t index = PyNumber_AsSsize_t(arguments[0], NULL);
-    if ((index == -1 && PyErr_Occurred())
-        || read_value(object->state, arguments[1], &item, &depth, DEEPEST - 1) < 0) {
-        ecow_value_drop(&item);
-        return NULL;
-    }
-    Py_ssize_t len = (Py_ssize_t)ecow_value_len(&object->value);
-    index = index < 0 ? index + len : index;
-    index = index < 0 ? 0 : index > len ? len : index;
-    ecow_status status = ecow_value_insert(&object->value, (size_t)index, &item);
-    if (status == ECOW_OK && depth + 1 > object->depth) {
-        object->depth = depth + 1;
-    }
-    ecow_value_drop(&item);
-    return none_or_error(status, NAME);
+    return index == -1 && PyErr_Occurred() ? NULL : put_in(value_cast(self), index, arguments[1]);
 }
 
 static PyObject *value_pop(PyObject *self, PyObject *const *arguments, Py_ssize_t count) {
@@ -619,62 +588,61 @@ static PyObject *value_pop(PyObject *self, PyObject *const *arguments, Py_ssize_
     if (!takes("pop", count, 0, 2)) {
         return NULL;
     }
-    if (count == 0) {
-        return check(ecow_value_pop(&object->value, &part), NAME) < 0 ? NULL
-                                                                      : part_object(object, &part);
+    int done = -1;
+    if (count) {
+        done = remove_at(object, keys_of(object->state, arguments[0], true), &part);
+    } else if (can_change(object)) {
+        done = check(ecow_value_pop(&object->value, &part), NAME);
     }
-    if (act_at(object->state, &object->value, arguments[0], REMOVE, &part) == 0) {
-        return part_object(object, &part);
-    }
-    if (count == 1 || !PyErr_ExceptionMatches(PyExc_LookupError)) {
-        return NULL;
-    }
-    PyErr_Clear();
-    Py_INCREF(arguments[1]);
-    return arguments[1];
+    return done < 0 ? instead(count == 2 ? arguments[1] : NULL) : taken_object(object, &part);
 }
 
 static PyObject *value_clear(PyObject *self, PyObject *Py_UNUSED(none)) {
     value_object *object = value_cast(self);
     ecow_kind kind = ecow_value_kind(&object->value);
+    if (!can_change(object)) {
+        return NULL;
+    }
     ecow_status status = kind == ECOW_KIND_LIST     ? ecow_value_set_list(&object->value)
                          : kind == ECOW_KIND_FIELDS ? ecow_value_set_fields(&object->value)
                                                     : ECOW_KIND;
     object->depth = status == ECOW_OK ? 1 : object->depth;
-    return none_or_error(status, NAME);
+    return none_if(check(status, NAME));
 }
 
-/* What a list of the fields' names, their values, or both holds for one field. */
-typedef enum column { NAMES_ALONE, PARTS_ALONE, BOTH } column;
+/* What a list holds for one field or item: its name, its value, or that with a text as a `Text`. */
+typedef enum column { NAMES_ALONE, PARTS, PARTS_WITH_TEXTS } column;
 
-static PyObject *field(value_object *object, size_t index, column what) {
+static PyObject *cell(value_object *object, size_t index, column what) {
     ecow_value part = {{0}};
-    PyObject *name = what == PARTS_ALONE ? NULL : name_at(&object->value, index);
-    if (what == NAMES_ALONE || (what == BOTH && !name)) {
-        return name;
+    ecow_text text = {{0}};
+    if (what == NAMES_ALONE) {
+        return name_at(&object->value, index);
     }
-    PyObject *item = check(ecow_value_get(&object->value, index, &part), NAME) < 0
-                         ? NULL
-                         : part_object(object, &part);
-    if (what == PARTS_ALONE) {
-        return item;
+    if (check(ecow_value_get(&object->value, index, &part), NAME) < 0) {
+        return NULL;
     }
-    PyObject *both = item ? PyTuple_Pack(2, name, item) : NULL;
-    Py_DECREF(name);
-    Py_XDECREF(item);
-    return both;
+    if (what == PARTS || ecow_value_text(&part, &text) != ECOW_OK) {
+        return part_object(object, &part, 1);
+    }
+    ecow_value_drop(&part);
+    text_object *made = (text_object *)text_own(object->state, &text);
+    if (made) {
+        made->is_lent = true;
+    }
+    return (PyObject *)made;
 }
 
-static PyObject *fields(PyObject *self, column what) {
+static PyObject *cells(PyObject *self, column what) {
     value_object *object = value_cast(self);
-    if (ecow_value_kind(&object->value) != ECOW_KIND_FIELDS) {
+    size_t len = ecow_value_len(&object->value);
+    if (what != PARTS_WITH_TEXTS && ecow_value_kind(&object->value) != ECOW_KIND_FIELDS) {
         check(ECOW_KIND, NAME);
         return NULL;
     }
-    size_t len = ecow_value_len(&object->value);
     PyObject *made = PyList_New((Py_ssize_t)len);
     for (size_t index = 0; made && index < len; index++) {
-        PyObject *item = field(object, index, what);
+        PyObject *item = cell(object, index, what);
         if (!item || PyList_SetItem(made, (Py_ssize_t)index, item) < 0) {
             Py_CLEAR(made);
         }
@@ -683,47 +651,25 @@ static PyObject *fields(PyObject *self, column what) {
 }
 
 PyObject *value_parts(PyObject *module, PyObject *value) {
-    core_state *state = PyModule_GetState(module);
-    value_object *object = value_cast(value);
-    if (!value_is(state, value)) {
+    if (!value_is(PyModule_GetState(module), value)) {
         PyErr_Format(PyExc_TypeError, "must be Value, not %R", Py_TYPE(value));
         return NULL;
     }
-    size_t len = ecow_value_len(&object->value);
-    PyObject *made = PyList_New((Py_ssize_t)len);
-    for (size_t index = 0; made && index < len; index++) {
-        ecow_value part = {{0}};
-        ecow_text text = {{0}};
-        PyObject *item = NULL;
-        if (check(ecow_value_get(&object->value, index, &part), NAME) == 0) {
-            item = ecow_value_text(&part, &text) == ECOW_OK ? text_own(object->state, &text)
-                                                            : part_object(object, &part);
-        }
-        ecow_value_drop(&part);
-        ecow_text_drop(&text);
-        if (!item || PyList_SetItem(made, (Py_ssize_t)index, item) < 0) {
-            Py_CLEAR(made);
-        }
-    }
-    return made;
+    return cells(value, PARTS_WITH_TEXTS);
 }
 
 static PyObject *value_keys(PyObject *self, PyObject *Py_UNUSED(none)) {
-    return fields(self, NAMES_ALONE);
+    return cells(self, NAMES_ALONE);
 }
 
 static PyObject *value_values(PyObject *self, PyObject *Py_UNUSED(none)) {
-    return fields(self, PARTS_ALONE);
-}
-
-static PyObject *value_items(PyObject *self, PyObject *Py_UNUSED(none)) {
-    return fields(self, BOTH);
+    return cells(self, PARTS);
 }
 
 static PyObject *value_iter(PyObject *self) {
     const ecow_value *value = &value_cast(self)->value;
     if (ecow_value_kind(value) == ECOW_KIND_FIELDS) {
-        PyObject *names = fields(self, NAMES_ALONE);
+        PyObject *names = cells(self, NAMES_ALONE);
         PyObject *iterator = names ? PyObject_GetIter(names) : NULL;
         Py_XDECREF(names);
         return iterator;
@@ -748,37 +694,56 @@ static int value_contains(PyObject *self, PyObject *object) {
     if (!is_text(own->state, object)) {
         return 0;
     }
-    int found = act_at(own->state, &own->value, object, GET, &part) == 0;
+    int found = get_at(own, keys_of(own->state, object, false), &part) >= 0;
     ecow_value_drop(&part);
-    if (!found && !PyErr_ExceptionMatches(PyExc_KeyError)
-        && !PyErr_ExceptionMatches(PyExc_UnicodeEncodeError)) {
-        return -1;
+    if (!found
+        && (PyErr_ExceptionMatches(PyExc_KeyError)
+            || PyErr_ExceptionMatches(PyExc_UnicodeEncodeError))) {
+        PyErr_Clear();
     }
-    PyErr_Clear();
-    return found;
-}
-
-static bool is_plain(core_state *state, PyObject *other) {
-    return other == Py_None || PyLong_Check(other) || PyFloat_Check(other) || PyList_Check(other)
-           || PyDict_Check(other) || is_text(state, other);
+    return PyErr_Occurred() ? -1 : found;
 }
 
 static PyObject *value_compared(PyObject *self, PyObject *other, int operation) {
     value_object *object = value_cast(self);
+    PyObject *answer;
     if (operation != Py_EQ && operation != Py_NE) {
         Py_RETURN_NOTIMPLEMENTED;
     }
-    if (value_is(object->state, other)) {
-        bool equal = ecow_value_equal(&object->value, &value_cast(other)->value);
-        return PyBool_FromLong(equal == (operation == Py_EQ));
+    bool both = value_is(object->state, other);
+    value_object *right = both ? value_cast(other) : object;
+    if (both
+        && (ecow_value_shares(&object->value, &right->value)
+            || (object->depth <= SHALLOW && right->depth <= SHALLOW
+                && ecow_value_equal(&object->value, &right->value)))) {
+        return PyBool_FromLong(operation == Py_EQ);
     }
-    if (!is_plain(object->state, other)) {
+    if (!both && !has_parts(&object->value)) {
+        PyObject *plain = plain_scalar(&object->value);
+        answer = plain ? PyObject_RichCompare(plain, other, operation) : NULL;
+        Py_XDECREF(plain);
+        return answer;
+    }
+    if (!both && !PyList_Check(other) && !PyDict_Check(other)
+        && !PyObject_TypeCheck(other, object->state->list)
+        && !PyObject_TypeCheck(other, object->state->texts)) {
         Py_RETURN_NOTIMPLEMENTED;
     }
-    PyObject *plain = plain_of(&object->value);
-    PyObject *answer = plain ? PyObject_RichCompare(plain, other, operation) : NULL;
-    Py_XDECREF(plain);
-    return answer;
+    answer = call_helper(object->state->names.equal, self, other);
+    int equal = answer ? PyObject_IsTrue(answer) : -1;
+    Py_XDECREF(answer);
+    return equal < 0 ? NULL : PyBool_FromLong(equal == (operation == Py_EQ));
+}
+
+static Py_hash_t value_hash(PyObject *self) {
+    value_object *object = value_cast(self);
+    if (!object->is_lent) {
+        return PyObject_HashNotImplemented(self);
+    }
+    PyObject *hash = call_helper(object->state->names.hashed, self, NULL);
+    Py_hash_t number = hash ? PyObject_Hash(hash) : -1;
+    Py_XDECREF(hash);
+    return number;
 }
 
 /* clang-format off */
@@ -804,9 +769,6 @@ static PyMethodDef value_methods[] = {
          "KeyError, IndexError or TypeError where the way isn't there.")
     {"append", value_append, METH_O,
      PyDoc_STR("append($self, part, /)\n--\n\nAppends an item to a list.")},
-    {"extend", value_extend, METH_O,
-     PyDoc_STR("extend($self, parts, /)\n--\n\n"
-               "Appends all items of an iterable to a list, or none where it raises an error.")},
     FAST("insert", value_insert, "index, part", "Puts an item in before `index` of a list.")
     FAST("pop", value_pop, "key=-1, default=...",
          "Takes an item of a list or a field's value: `default`, or IndexError or KeyError,\n"
@@ -814,7 +776,6 @@ static PyMethodDef value_methods[] = {
     PLAIN("clear", value_clear, "Takes all items or fields.")
     PLAIN("keys", value_keys, "A list of the fields' names, in order.")
     PLAIN("values", value_values, "A list of the fields' values, in order.")
-    PLAIN("items", value_items, "A list of the fields as pairs of a name and a value, in order.")
     {NULL, NULL, 0, NULL},
 };
 /* clang-format on */
@@ -838,7 +799,7 @@ static PyType_Slot value_slots[] = {
     {Py_tp_methods, value_methods},
     {Py_tp_getset, value_properties},
     {Py_tp_iter, value_iter},
-    {Py_tp_hash, PyObject_HashNotImplemented},
+    {Py_tp_hash, value_hash},
     {Py_tp_repr, value_repr},
     {Py_tp_richcompare, value_compared},
     {Py_sq_item, value_item},
@@ -854,6 +815,6 @@ static PyType_Slot value_slots[] = {
 PyType_Spec value_spec = {
     .name = "ecow.Value",
     .basicsize = sizeof(value_object),
-    .flags = Py_TPFLAGS_DEFAULT | Py_TPFLAGS_BASETYPE | Py_TPFLAGS_IMMUTABLETYPE,
+    .flags = Py_TPFLAGS_DEFAULT | Py_TPFLAGS_BASETYPE,
     .slots = value_slots,
 };

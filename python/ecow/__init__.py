@@ -4,6 +4,7 @@ A copy takes the same time however long the value is. No copy shows what is chan
 
 from collections.abc import MutableSequence as _MutableSequence
 
+import ecow._objects as _objects
 from ecow._core import Bytes, List, Text, Texts, Value, __version__, is_utf8
 
 __all__ = ["Bytes", "List", "Text", "Texts", "Value", "__version__", "is_utf8"]

@@ -221,7 +221,8 @@ class Pickles(unittest.TestCase):
         for value, has in (
             (List(), False), (List([1]), True), (Bytes(b"x" * 15), False),
             (Bytes(b"x" * 16), True), (Text("x" * 15), False), (Text("\u00e9" * 8), True),
-            (Text(), False), (Texts(["x" * 16]), False), (Value(["x" * 16]), False),
+            (Text(), False), (Texts(["x" * 16]), True), (Value(["x" * 16]), True),
+            (Texts(), False), (Value([]), False), (Value({}), False), (Value(5), False),
         ):
             self.assertEqual(_core._address(value) != 0, has)
         words = [str(number) for number in range(3000)]

@@ -283,6 +283,52 @@ class Refused(unittest.TestCase):
         self.assertEqual((ran.stdout, ran.stderr), ("refused\n", ""))
 
 
+SMALL_STACKS = """
+import copy, pickle, threading
+from ecow import Value
+
+def build(wrap):
+    value = Value(1)
+    for _ in range(511):
+        value = Value(wrap(value))
+    return value
+
+def plain(wrap):
+    thing = 1
+    for _ in range(511):
+        thing = wrap(thing)
+    return thing
+
+def work():
+    for wrap in (lambda each: [each], lambda each: {"a": each}):
+        value, other, thing = build(wrap), build(wrap), plain(wrap)
+        key = 0 if value.kind == "list" else "a"
+        assert value == other and not value != other and value == thing and thing == value
+        assert Value([value])[0] == value and hash(value[key]) == hash(other[key])
+        assert Value(thing) == value and value.to_python() == thing and len(repr(value)) > 1000
+        assert 5 not in Value([value]) and value in Value([other])
+        other.set([key] * 511, 2)
+        assert other != value and other[tuple([key] * 511)] == 2
+        other.pop([key] * 511)
+        assert pickle.loads(pickle.dumps(value)) == copy.deepcopy(value) == value
+        for wrong in (lambda: Value([[value]]), lambda: Value(plain(wrap) and [[thing]])):
+            try:
+                wrong()
+            except RecursionError:
+                continue
+            raise AssertionError
+        del value, other
+    done.append(1)
+
+done = []
+threading.stack_size(128 * 1024)
+thread = threading.Thread(target=work)
+thread.start()
+thread.join()
+print("done" if done else "failed")
+"""
+
+
 class Threads(unittest.TestCase):
     def test_copies(self):
         """Threads change copies of the same values, and none sees what another wrote."""
@@ -311,6 +357,13 @@ class Threads(unittest.TestCase):
         for each in running:
             each.join()
         self.assertEqual(wrong, [])
+
+    def test_small_stacks(self):
+        """The deepest values fit on the stack of a thread of 128 KiB, whatever is done with them.
+        In a process of its own, so that one that doesn't ends that."""
+        ran = subprocess.run([sys.executable, "-c", SMALL_STACKS], capture_output=True, text=True,
+                             env={**os.environ, "PYTHONPATH": os.pathsep.join(sys.path)})
+        self.assertEqual((ran.returncode, ran.stdout, ran.stderr), (0, "done\n", ""))
 
     def test_one_value(self):
         """Under the interpreter's lock threads may even use one value."""

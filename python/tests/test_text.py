@@ -1,5 +1,6 @@
 """`Text` beside `str` and beside a list of characters."""
 
+import time
 import unittest
 
 from ecow import Bytes, List, Text, is_utf8
@@ -284,11 +285,40 @@ class Methods(unittest.TestCase):
         self.assertEqual(value, "a" + "axyzghi" * 2 + "xyzghi" + "axyzghi")
 
     def test_iteration_while_changing(self):
-        value = Text("\u00e9")
+        """A loop passes over the characters of the moment at which it begins."""
+        value, passed = Text("\u00e9bc"), []
         for character in value:
-            if len(value) < 100:
-                value.insert(0, "a\u20ac")
-        self.assertGreaterEqual(len(value), 100)
+            value.insert(0, "a\u20ac")
+            passed.append(character)
+        self.assertEqual(passed, ["\u00e9", "b", "c"])
+        self.assertEqual(len(value), 9)
+        for character in reversed(value):
+            value.clear()
+            passed.append(character)
+        self.assertEqual("".join(passed[3:]), "cb\u00e9" + "\u20aca" * 3)
+
+    def test_linear(self):
+        """Searches from the end, loops in both directions, and jumps take time by the length."""
+        start = time.perf_counter()
+        for kind, of in ((Text, str), (Bytes, str.encode)):
+            size = 1_000_000
+            whole, part = kind(of("a" * size)), of("a" * (size // 4) + "b")
+            self.assertEqual(whole.rfind(part), -1)
+            whole += part
+            self.assertEqual(whole.rfind(part), size)
+            self.assertEqual(whole.rfind(of("b" + "a" * 9)), -1)
+            self.assertEqual(whole.rfind(of("a" * 5000)), size + size // 4 - 5000)
+            self.assertEqual(kind(of("b" + "a" * 3000)).rfind(of("ba" * 1 + "a" * 99)), 0)
+        text, model = Text("\u00e9a" * 100_000), "\u00e9a" * 100_000
+        alike = sum(one == other for one, other in zip(text, reversed(text)))
+        self.assertEqual(alike, sum(map(str.__eq__, model, reversed(model))))
+        for at in range(100_000):
+            at = at * 7919 % len(model)
+            self.assertEqual(text[at], model[at])
+        text[5] = "\u20ac"
+        self.assertEqual(text[:9] + text[-9:], model[:5] + "\u20ac" + model[6:9] + model[-9:])
+        # Any of them took longer where it was quadratic.
+        self.assertLess(time.perf_counter() - start, 5)
 
     def test_in_place(self):
         """Names of `list` change the text; names of `str` give a new one."""

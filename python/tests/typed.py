@@ -1,0 +1,33 @@
+"""What a type checker takes: it is checked, and run by nobody."""
+
+from typing import assert_type
+
+from ecow import Bytes, List, Text, Texts, Value
+
+text = Text("a")
+longer: Text = text + "b"
+longer += Text("c")
+assert_type(text[0], str)
+assert_type(text[1:], Text)
+assert_type(str(text), str)
+texts = Texts(["a", text])
+texts.sort(key=str)
+counts: dict[Text, int] = {texts[0]: 1, text[:].copy(): 2}
+numbers = List([1])
+numbers += [2]
+numbers.extend(number for number in (1, 2))
+assert_type(sum(numbers), int)
+data = Bytes(b"x")
+data += b"y"
+assert_type(data.partition(Bytes(b"x")), tuple[Bytes, Bytes, Bytes])
+value = Value({"a": [1, {"b": None}]})
+value["a", 1, "b"] = 5
+value.update({"x": 1}, y=[2.5])
+value |= {"c": "d"}
+assert_type(value | {"e": 1}, Value)
+assert_type(value.part(["a", 0]), Value)
+assert_type(hash(value["a"]), int)
+del value["a", 0]
+match value.to_python():
+    case {"a": [*items]}:
+        print(items)
