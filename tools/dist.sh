@@ -16,12 +16,13 @@ grep -q "($1 count)" bin/ecow.pc || { echo "bin/ has a library with another coun
 work=$(mktemp -d)
 trap 'rm -rf "$work"' EXIT
 to=$work/$name
-mkdir -p "$to/lib/pkgconfig" "$to/include" "$to/examples"
+mkdir -p "$to/lib/pkgconfig" "$to/lib/cmake/ecow" "$to/include" "$to/examples"
 cp bin/libecow.a "$to/lib"
 cp bin/libecow.so "$to/lib/libecow.so.$like"
 ln -s "libecow.so.$like" "$to/lib/libecow.so"
 # The archive may lie anywhere.
 sed 's|^prefix=.*|prefix=${pcfiledir}/../..|' bin/ecow.pc > "$to/lib/pkgconfig/ecow.pc"
+cp bin/ecow-config.cmake "$to/lib/cmake/ecow"
 cp include/ecow.h include/ecow.hpp "$to/include"
 git ls-files c/examples > "$work/examples"
 while read -r file; do cp "$file" "$to/examples"; done < "$work/examples"
