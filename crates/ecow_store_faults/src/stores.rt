@@ -441,7 +441,8 @@ pub(crate) fn kind_holds<K: NamedStore>(trial: &Trial<'_, K::Element>, kind: Kin
     cases_hold::<K, Once>(trial, kind)
 }
 
-/// The same, in which each clone of an element is refused in turn, until none is.
+/// Makes a value in its state again and again: each clone of an element is refused in turn, until
+/// none is.
 struct EachClone;
 
 impl<K: NamedStore<Element = Counting>> Check<K> for EachClone {

@@ -19,7 +19,7 @@ use ecow_string::SmallText;
 use std::alloc::Global;
 use std::io;
 
-const NAMES: [&str; 22] = [
+const NAMES: [&str; 24] = [
     "vectors of numbers",
     "vectors of bytes",
     "vectors of names",
@@ -30,6 +30,8 @@ const NAMES: [&str; 22] = [
     "bytes, 15 inline",
     "bytes, 23 inline",
     "bytes, 255 inline",
+    "bytes, 257 inline",
+    "bytes, 600 inline",
     "texts, none inline",
     "texts, 1 inline",
     "texts, 3 inline",
@@ -59,17 +61,19 @@ impl Parts for Values {
             7 => bytes_hold::<SmallBytes<15>>(alloc, watch),
             8 => bytes_hold::<SmallBytes<23>>(alloc, watch),
             9 => bytes_hold::<SmallBytes<255>>(alloc, watch),
-            10 => texts_hold::<SmallText<0>>(alloc, watch),
-            11 => texts_hold::<SmallText<1>>(alloc, watch),
-            12 => texts_hold::<SmallText<3>>(alloc, watch),
-            13 => texts_hold::<SmallText<15>>(alloc, watch),
-            14 => texts_hold::<SmallText<23>>(alloc, watch),
-            15 => texts_hold::<SmallText<255>>(alloc, watch),
-            16 => prints::printing_holds(alloc, watch),
-            17 => clones::clones_hold(alloc, watch),
-            18 => seeds::values_hold(alloc, watch),
-            19 => owners::owners_hold(alloc, watch),
-            20 => vectors_hold::<()>(alloc, watch),
+            10 => bytes_hold::<SmallBytes<257>>(alloc, watch),
+            11 => bytes_hold::<SmallBytes<600>>(alloc, watch),
+            12 => texts_hold::<SmallText<0>>(alloc, watch),
+            13 => texts_hold::<SmallText<1>>(alloc, watch),
+            14 => texts_hold::<SmallText<3>>(alloc, watch),
+            15 => texts_hold::<SmallText<15>>(alloc, watch),
+            16 => texts_hold::<SmallText<23>>(alloc, watch),
+            17 => texts_hold::<SmallText<255>>(alloc, watch),
+            18 => prints::printing_holds(alloc, watch),
+            19 => clones::clones_hold(alloc, watch),
+            20 => seeds::values_hold(alloc, watch),
+            21 => owners::owners_hold(alloc, watch),
+            22 => vectors_hold::<()>(alloc, watch),
             _ => units::units_hold(alloc, watch),
         }
     }
