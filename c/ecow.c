@@ -442,6 +442,20 @@ ecow_status ecow_value_set(ecow_value *value, size_t index, const ecow_value *it
     return status;
 }
 
+/* Ends an exchange: where a value was exchanged with its own part, it becomes that part. */
+static ecow_status end_swap(ecow_status status, given_value *given, ecow_value *value) {
+    return given->value == &given->held ? hand_over(status, &given->held, value) : status;
+}
+
+ecow_status ecow_value_swap(ecow_value *value, size_t index, ecow_value *other) {
+    given_value given;
+    ecow_status status = keep_value(&given, value, other);
+    if (status == ECOW_OK) {
+        status = ecow_proved_value_swap(&value, index, &given.value);
+    }
+    return end_swap(status, &given, value);
+}
+
 ecow_status ecow_value_push(ecow_value *value, const ecow_value *item) {
     given_value given;
     ecow_status status = keep_value(&given, value, item);
@@ -466,15 +480,15 @@ ecow_status ecow_value_truncate(ecow_value *value, size_t len) {
     return ecow_proved_value_truncate(&value, len);
 }
 
-/* The name that a call was given, as it stays while the value changes: one that overlaps the
- * value's struct is copied. */
+/* The name that a call was given, as it stays while the value changes, and another one may: one that
+ * overlaps a struct of theirs is copied. */
 typedef struct given_name {
     const char *bytes;
     ecow_text held;
 } given_name;
 
-static ecow_status keep_name(given_name *given, const ecow_value *value, const char *name,
-                             size_t count) {
+static ecow_status keep_name(given_name *given, const ecow_value *value, const ecow_value *other,
+                             const char *name, size_t count) {
     given->bytes = name ? name : (const char *)nothing;
     given->held = ecow_text_new();
     if (!value || (!name && count)) {
@@ -483,7 +497,7 @@ static ecow_status keep_name(given_name *given, const ecow_value *value, const c
     if (count >= PAST_MEMORY) {
         return ECOW_MEMORY;
     }
-    if (overlap(name, count, value, sizeof *value)) {
+    if (overlap(name, count, value, sizeof *value) || overlap(name, count, other, sizeof *other)) {
         ecow_status status = ecow_text_assign(&given->held, name, count);
         given->bytes = ecow_text_slice(&given->held, NULL);
         return status;
@@ -495,7 +509,7 @@ ecow_status ecow_value_get_field(const ecow_value *value, const char *name, size
                                  ecow_value *item) {
     ecow_value *place = (ecow_value *)value, made = {{0}}, *out = &made;
     given_name given;
-    ecow_status status = keep_name(&given, value, name, count);
+    ecow_status status = keep_name(&given, value, value, name, count);
     if (status == ECOW_OK) {
         status = ecow_proved_value_get_field(&place, given.bytes, count, &out);
     }
@@ -507,7 +521,7 @@ ecow_status ecow_value_set_field(ecow_value *value, const char *name, size_t cou
                                  const ecow_value *item) {
     given_name given;
     given_value kept;
-    ecow_status status = item ? keep_name(&given, value, name, count) : ECOW_NULL;
+    ecow_status status = item ? keep_name(&given, value, value, name, count) : ECOW_NULL;
     if (status == ECOW_NULL) {
         return status;
     }
@@ -521,11 +535,28 @@ ecow_status ecow_value_set_field(ecow_value *value, const char *name, size_t cou
     return status;
 }
 
+ecow_status ecow_value_swap_field(ecow_value *value, const char *name, size_t count,
+                                  ecow_value *other) {
+    given_name given;
+    given_value kept;
+    ecow_status status = other ? keep_name(&given, value, other, name, count) : ECOW_NULL;
+    if (status == ECOW_NULL) {
+        return status;
+    }
+    ecow_status clone = keep_value(&kept, value, other);
+    status = status == ECOW_OK ? clone : status;
+    if (status == ECOW_OK) {
+        status = ecow_proved_value_swap_field(&value, given.bytes, count, &kept.value);
+    }
+    ecow_text_drop(&given.held);
+    return end_swap(status, &kept, value);
+}
+
 ecow_status ecow_value_remove_field(ecow_value *value, const char *name, size_t count,
                                     ecow_value *item) {
     ecow_value made = {{0}}, *out = &made;
     given_name given;
-    ecow_status status = keep_name(&given, value, name, count);
+    ecow_status status = keep_name(&given, value, value, name, count);
     if (status == ECOW_OK) {
         status = ecow_proved_value_remove_field(&value, given.bytes, count, &out);
     }

@@ -110,6 +110,7 @@ ecow_status ecow_proved_value_text(ecow_value **value, ecow_text **out);
 size_t ecow_proved_value_len(ecow_value **value);
 ecow_status ecow_proved_value_get(ecow_value **value, size_t index, ecow_value **out);
 ecow_status ecow_proved_value_set(ecow_value **value, size_t index, ecow_value **item);
+ecow_status ecow_proved_value_swap(ecow_value **value, size_t index, ecow_value **other);
 ecow_status ecow_proved_value_push(ecow_value **value, ecow_value **item);
 ecow_status ecow_proved_value_pop(ecow_value **value, ecow_value **out);
 ecow_status ecow_proved_value_insert(ecow_value **value, size_t index, ecow_value **item);
@@ -119,6 +120,8 @@ ecow_status ecow_proved_value_get_field(ecow_value **value, const char *name, si
                                         ecow_value **out);
 ecow_status ecow_proved_value_set_field(ecow_value **value, const char *name, size_t count,
                                         ecow_value **item);
+ecow_status ecow_proved_value_swap_field(ecow_value **value, const char *name, size_t count,
+                                         ecow_value **other);
 ecow_status ecow_proved_value_remove_field(ecow_value **value, const char *name, size_t count,
                                            ecow_value **out);
 ecow_status ecow_proved_value_field_name(ecow_value **value, size_t index, ecow_text **out);

@@ -529,6 +529,11 @@ ecow_status ecow_value_get(const ecow_value *value, size_t index, ecow_value *it
 /* Puts an item in place of the one at `index` of a list: ECOW_INDEX from the length on. */
 ecow_status ecow_value_set(ecow_value *value, size_t index, const ecow_value *item);
 
+/* Exchanges the item at `index` of a list and `*other`: ECOW_INDEX from the length on. So an item
+ * that holds a list is taken out, changed and put in again, and only a shared list is copied. A
+ * value that is exchanged with its own item becomes that item. */
+ecow_status ecow_value_swap(ecow_value *value, size_t index, ecow_value *other);
+
 /* Appends an item to a list. */
 ecow_status ecow_value_push(ecow_value *value, const ecow_value *item);
 
@@ -554,6 +559,11 @@ ecow_status ecow_value_get_field(const ecow_value *value, const char *name, size
  * none. */
 ecow_status ecow_value_set_field(ecow_value *value, const char *name, size_t count,
                                  const ecow_value *item);
+
+/* Exchanges the value of the field of that name and `*other`, as ecow_value_swap does: ECOW_INDEX
+ * where there is none. */
+ecow_status ecow_value_swap_field(ecow_value *value, const char *name, size_t count,
+                                  ecow_value *other);
 
 /* Takes the field of that name, and makes `item` its value: ECOW_INDEX where there is none. */
 ecow_status ecow_value_remove_field(ecow_value *value, const char *name, size_t count,

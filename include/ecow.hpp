@@ -1811,8 +1811,9 @@ public:
         return part;
     }
 
-    /* Calls `change` with a copy of the part to which the steps lead, and puts that in its place.
-     * If it throws, the value is as it was. */
+    /* Calls `change` with a copy of the part to which the steps lead, and puts that in its place. If
+     * it throws, the value is as it was. Of the lists and fields on the way only shared ones are
+     * copied. */
     template <typename Change> void update(const std::vector<step> &path, Change change) & {
         /* A function that takes a `value` or a `const value &` takes a temporary one too. */
         constexpr bool changes_it =
@@ -1821,7 +1822,9 @@ public:
         if constexpr (changes_it) {
             static_assert(std::is_void_v<std::invoke_result_t<Change &, value &>>,
                           "update takes a function that returns nothing: it changes its argument");
-            update(path.data(), path.data() + path.size(), change);
+            value part(at(path));
+            change(part);
+            put(path.data(), path.data() + path.size(), part);
         }
     }
 
@@ -2023,18 +2026,30 @@ private:
         return place.name ? get(*place.name) : get(place.index);
     }
 
-    void set_at(const step &place, const value &item) {
-        place.name ? set(*place.name, item) : set(place.index, item);
+    void swap_at(const step &place, value &part) {
+        const auto &name = place.name;
+        detail::check(name ? ecow_value_swap_field(&raw, name->data(), name->size(), &part.raw)
+                           : ecow_value_swap(&raw, place.index, &part.raw));
     }
 
-    template <typename Change> void update(const step *first, const step *last, Change &change) {
-        value part(first == last ? *this : get_at(*first));
+    /* Exchanges an item and the part to which the steps lead. Each part on the way is taken out
+     * while it is changed, so that nobody shares it; then it goes in again, which asks for no
+     * memory, because the value above it isn't shared either. */
+    void put(const step *first, const step *last, value &item) {
         if (first == last) {
-            change(part);
-            swap(part);
+            swap(item);
+        } else if (first + 1 == last) {
+            swap_at(*first, item);
         } else {
-            part.update(first + 1, last, change);
-            set_at(*first, part);
+            value part;
+            swap_at(*first, part);
+            try {
+                part.put(first + 1, last, item);
+            } catch (...) {
+                swap_at(*first, part);
+                throw;
+            }
+            swap_at(*first, part);
         }
     }
 };

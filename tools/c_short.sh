@@ -137,15 +137,25 @@ if "$out/first-shared" > /dev/null 2>&1; then
     exit 1
 fi
 
+# Runs a program of C++ that gives all back but what the runtime took at the start.
+leaves_nothing() {
+    status=0
+    $watched "$@" 2> "$out/said" || status=$?
+    [ "$status" -eq 0 ] && cmp "$out/said" "$out/runtime" || { cat "$out/said"; return 1; }
+}
+
 # Tests the header for C++ by one standard.
 test_cpp() { # STANDARD
+    printf '#include <iostream>\nint main() { std::cout.flush(); }\n' > "$out/empty.cpp"
+    $cxx -std=c++$1 "$out/empty.cpp" -o "$out/empty-cpp"
+    $watched "$out/empty-cpp" 2> "$out/runtime"
     for test in test attempts nested edits threads; do
         $cxx -std=c++$1 -O1 -pthread -Iinclude "c/tests/$test.cpp" bin/libecow.a -o "$out/$test-cpp"
     done
-    silent "$out/test-cpp"
-    silent "$out/attempts-cpp"
-    silent "$out/nested-cpp"
-    silent "$out/edits-cpp" 20000
+    leaves_nothing "$out/test-cpp"
+    leaves_nothing "$out/attempts-cpp"
+    leaves_nothing "$out/nested-cpp"
+    leaves_nothing "$out/edits-cpp" 20000
     silent "$out/threads-cpp" 20000
 }
 

@@ -22,6 +22,8 @@ shared.eco shared.eco            | 2 |                                          
 --count shared.eco               | 2 |                                                        | usage: ecow-run [--counted] FILE
 --counted-blocks shared.eco      | 2 |                                                        | usage: ecow-run [--counted] FILE
 --help                           | 3 |                                                        | ecow-run: file
+'two words.eco'                  | 0 | ok, ok, ok, [1,2,3,4], true                            |
+--counted ' é 😀 '               | 0 | ok, ok, ok, [1,2,3,4], true, blocks 2 copied 3 moved 0 |
 missing.eco                      | 3 |                                                        | ecow-run: file
 --counted missing.eco            | 3 |                                                        | ecow-run: file
 .                                | 3 |                                                        | ecow-run: file
@@ -69,7 +71,7 @@ head -c 16777216 /dev/zero | tr '\0' '#' > largest.eco
 { cat largest.eco; printf '#'; } > larger.eco
 : > empty.eco
 not_utf8=$(printf 'shared\377.eco')
-cp shared.eco "$not_utf8"
+for name in "$not_utf8" 'two words.eco' ' é 😀 '; do cp shared.eco "$name"; done
 
 # A path of so many bytes that names `shared.eco`.
 path_of() {

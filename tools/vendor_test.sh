@@ -63,7 +63,7 @@ if [ "$kind" != vector ]; then
     {
         printf '%s\n' '#![tactic(auto)]' 'mod tree;' 'use crate::tree::Node;' 'use anyhow::Result;' \
             'use ecow_string::EcoString;' 'fn main(rt: HostRuntime) -> Result<()> {' '    replace_a_node(&rt)' '}'
-        awk '/^fn write_in_place/ { exit } /^fn replace_a_node/ { inside = 1 } inside' crates/ecow_uses/src/main.rt
+        awk '/^fn set_a_value/ { exit } /^fn replace_a_node/ { inside = 1 } inside' crates/ecow_uses/src/main.rt
     } > "$trees/src/main.rt"
     grep '^(f \|^first child' crates/ecow_uses/stdout > "$trees/stdout"
     grep -rl 'Rattle.ecow_uses' "$trees" | xargs sed -i 's/Rattle\.ecow_uses\./Rattle.trees./g'
@@ -83,7 +83,9 @@ if [ "$kind" = store ]; then
     for part in src specs proofs stdout; do
         cp -Rp "crates/ecow_uses/$part" "$new/crates/ecow_uses/$part"
     done
-    grep '^ecow_uses:' crates.txt >> "$new/crates.txt"
+    # One of them is of nested values.
+    tools/copy_crate.sh ecow_nested "$new/crates/ecow_nested" "$count"
+    grep '^ecow_nested:\|^ecow_uses:' crates.txt >> "$new/crates.txt"
 fi
 cd "$new"
 git init -q

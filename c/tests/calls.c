@@ -450,6 +450,7 @@ static void values(void) {
         }
         if (kind != ECOW_KIND_LIST) {
             CHECK(ecow_value_set(&value, 0, &item) == ECOW_KIND);
+            CHECK(ecow_value_swap(&value, 0, &item) == ECOW_KIND);
             CHECK(ecow_value_push(&value, &item) == ECOW_KIND);
             CHECK(ecow_value_pop(&value, &item) == ECOW_KIND);
             CHECK(ecow_value_insert(&value, 1, &item) == ECOW_KIND);
@@ -458,6 +459,7 @@ static void values(void) {
         }
         if (kind != ECOW_KIND_FIELDS) {
             CHECK(ecow_value_get_field(&value, "a", 1, &item) == ECOW_KIND);
+            CHECK(ecow_value_swap_field(&value, "a", 1, &item) == ECOW_KIND);
             CHECK(ecow_value_set_field(&value, "a", 1, &item) == ECOW_KIND);
             CHECK(ecow_value_remove_field(&value, "a", 1, &item) == ECOW_KIND);
             CHECK(ecow_value_field_name(&value, 0, &kept) == ECOW_KIND && text_is(&kept, "kept"));
@@ -505,6 +507,12 @@ static void lists_in_values(void) {
     CHECK(ecow_value_set_number(&item, 9) == ECOW_OK && ecow_value_set(&list, 3, &item) == ECOW_OK);
     CHECK(ecow_value_set(&list, 4, &item) == ECOW_INDEX
           && ecow_value_set(&list, far, &item) == ECOW_INDEX);
+    CHECK(has_numbers(&list, (int64_t[]){-1, 7, 8, 9}, 4));
+    CHECK(ecow_value_swap(&list, 1, &item) == ECOW_OK && is_number(&item, 7));
+    CHECK(has_numbers(&list, (int64_t[]){-1, 9, 8, 9}, 4));
+    CHECK(ecow_value_swap(&list, 4, &item) == ECOW_INDEX
+          && ecow_value_swap(&list, far, &item) == ECOW_INDEX && is_number(&item, 7));
+    CHECK(ecow_value_swap(&list, 1, &item) == ECOW_OK && is_number(&item, 9));
     CHECK(has_numbers(&list, (int64_t[]){-1, 7, 8, 9}, 4));
     CHECK(ecow_value_get(&list, 2, &out) == ECOW_OK && is_number(&out, 8));
     CHECK(ecow_value_get(&list, 4, &out) == ECOW_INDEX && is_number(&out, 8));
@@ -602,12 +610,27 @@ static void deep_changes(void) {
     CHECK(ecow_value_remove_field(&root, "root", 4, &root) == ECOW_OK);
     CHECK(ecow_value_equal(&root, &found) && ecow_value_get(&root, 0, &root) == ECOW_OK);
     CHECK(ecow_value_equal(&root, &list) && ecow_value_set_fields(&root) == ECOW_OK);
+    /* A value that is exchanged with its own part. */
+    CHECK(ecow_value_push(&list, &found) == ECOW_OK);
+    CHECK(ecow_value_swap(&list, 2, &list) == ECOW_OK && ecow_value_equal(&list, &found));
+    CHECK(ecow_value_swap_field(&list, "list", 4, &list) == ECOW_OK);
+    CHECK(ecow_value_equal(&list, &item) && ecow_value_swap(&list, 2, &list) == ECOW_INDEX);
+    CHECK(ecow_value_equal(&list, &item) && ecow_value_clone(&found, &item) == ECOW_OK);
     /* A name that lies in the value's struct. */
     char name[sizeof root];
     memcpy(name, &root, sizeof root);
     CHECK(ecow_value_set_field(&root, (const char *)&root, sizeof root, &item) == ECOW_OK);
     CHECK(ecow_value_get_field(&root, name, sizeof name, &found) == ECOW_OK);
     CHECK(ecow_value_equal(&found, &item));
+    /* And one that lies in the other value's. */
+    ecow_value other = number_value(5);
+    memcpy(name, &other, sizeof other);
+    CHECK(ecow_value_set_field(&root, name, sizeof name, &item) == ECOW_OK);
+    CHECK(ecow_value_swap_field(&root, (const char *)&other, sizeof other, &other) == ECOW_OK);
+    CHECK(ecow_value_equal(&other, &item));
+    CHECK(ecow_value_get_field(&root, name, sizeof name, &found) == ECOW_OK);
+    CHECK(is_number(&found, 5));
+    ecow_value_drop(&other);
     ecow_value_drop(&root);
     ecow_value_drop(&before);
     ecow_value_drop(&list);
@@ -615,6 +638,36 @@ static void deep_changes(void) {
     ecow_value_drop(&item);
     ecow_text_drop(&text);
     ecow_text_drop(&held);
+}
+
+/* Results that own memory, and that nobody wants: they are given up. */
+static void unwanted_results(void) {
+    ecow_texts texts = {{0}};
+    ecow_text text = {{0}};
+    ecow_value list = {{0}}, fields = {{0}}, item = {{0}};
+    const size_t length = strlen(LONG_TEXT);
+    CHECK(ecow_text_assign(&text, LONG_TEXT, length) == ECOW_OK);
+    CHECK(ecow_value_set_text(&item, &text) == ECOW_OK && ecow_value_set_list(&list) == ECOW_OK);
+    for (int each = 0; each < 3; each++) {
+        CHECK(ecow_texts_push(&texts, &text) == ECOW_OK);
+        CHECK(ecow_value_push(&list, &item) == ECOW_OK);
+    }
+    CHECK(ecow_texts_get(&texts, 0, NULL) == ECOW_OK && ecow_texts_pop(&texts, NULL) == ECOW_OK);
+    CHECK(ecow_texts_remove(&texts, 0, NULL) == ECOW_OK && ecow_texts_len(&texts) == 1);
+    CHECK(ecow_value_text(&item, NULL) == ECOW_OK && ecow_value_get(&list, 0, NULL) == ECOW_OK);
+    CHECK(ecow_value_pop(&list, NULL) == ECOW_OK && ecow_value_remove(&list, 0, NULL) == ECOW_OK);
+    CHECK(ecow_value_len(&list) == 1 && ecow_value_set_fields(&fields) == ECOW_OK);
+    CHECK(ecow_value_set_field(&fields, LONG_TEXT, length, &list) == ECOW_OK);
+    CHECK(ecow_value_get(&fields, 0, NULL) == ECOW_OK);
+    CHECK(ecow_value_get_field(&fields, LONG_TEXT, length, NULL) == ECOW_OK);
+    CHECK(ecow_value_field_name(&fields, 0, NULL) == ECOW_OK);
+    CHECK(ecow_value_remove_field(&fields, LONG_TEXT, length, NULL) == ECOW_OK);
+    CHECK(ecow_value_len(&fields) == 0 && ecow_value_len(&list) == 1);
+    ecow_texts_drop(&texts);
+    ecow_text_drop(&text);
+    ecow_value_drop(&list);
+    ecow_value_drop(&fields);
+    ecow_value_drop(&item);
 }
 
 static void equality_of_values(void) {
@@ -705,6 +758,9 @@ static void refusals_of_values(void) {
           && ecow_value_set(&list, 9, NULL) == ECOW_NULL);
     CHECK(ecow_value_set(&fields, 9, NULL) == ECOW_NULL
           && ecow_value_set(NULL, 9, NULL) == ECOW_NULL);
+    CHECK(ecow_value_swap(NULL, 0, &item) == ECOW_NULL
+          && ecow_value_swap(&fields, 9, NULL) == ECOW_NULL);
+    CHECK(ecow_value_swap(NULL, 9, NULL) == ECOW_NULL);
     CHECK(ecow_value_push(NULL, &item) == ECOW_NULL && ecow_value_push(&list, NULL) == ECOW_NULL);
     CHECK(ecow_value_push(&item, NULL) == ECOW_NULL && ecow_value_push(NULL, NULL) == ECOW_NULL);
     CHECK(ecow_value_pop(NULL, &item) == ECOW_NULL && ecow_value_pop(NULL, NULL) == ECOW_NULL);
@@ -717,6 +773,12 @@ static void refusals_of_values(void) {
     CHECK(ecow_value_set_field(NULL, "\xff", 1, &item) == ECOW_NULL
           && ecow_value_set_field(&fields, NULL, 1, &item) == ECOW_NULL);
     CHECK(ecow_value_set_field(&fields, "\xff", 1, NULL) == ECOW_NULL);
+    CHECK(ecow_value_swap_field(NULL, "\xff", 1, &item) == ECOW_NULL
+          && ecow_value_swap_field(&fields, NULL, 1, &item) == ECOW_NULL);
+    CHECK(ecow_value_swap_field(&fields, "\xff", 1, NULL) == ECOW_NULL
+          && ecow_value_swap_field(&list, "\xff", 1, &item) == ECOW_UTF8);
+    CHECK(ecow_value_swap_field(&fields, "a", most, &item) == ECOW_MEMORY
+          && ecow_value_swap_field(&fields, "a", 1, &item) == ECOW_INDEX);
     CHECK(ecow_value_remove_field(NULL, "\xff", 1, &item) == ECOW_NULL
           && ecow_value_remove_field(&fields, NULL, 1, &item) == ECOW_NULL);
     CHECK(ecow_value_field_name(NULL, 0, &text) == ECOW_NULL);
@@ -1083,6 +1145,7 @@ int main(void) {
     lists_in_values();
     fields_in_values();
     deep_changes();
+    unwanted_results();
     equality_of_values();
     refusals_of_values();
     null_pointers();

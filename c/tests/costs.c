@@ -299,6 +299,10 @@ static void clones_of_nested_lists(void) {
     CHECK(ecow_value_clone(&list, &clone) == ECOW_OK);
     COUNTED("set of a shared one", CHECK(ecow_value_set(&list, 5, &item) == ECOW_OK));
     COUNTED("set", CHECK(ecow_value_set(&list, 6, &item) == ECOW_OK));
+    COUNTED("swap", CHECK(ecow_value_swap(&list, 6, &out) == ECOW_OK && shares(&out, bytes)));
+    CHECK(ecow_value_swap(&list, 6, &out) == ECOW_OK && ecow_value_clone(&list, &clone) == ECOW_OK);
+    COUNTED("swap of a shared one", CHECK(ecow_value_swap(&list, 5, &out) == ECOW_OK));
+    CHECK(ecow_value_swap(&list, 5, &out) == ECOW_OK);
     COUNTED("remove", CHECK(ecow_value_remove(&list, 5, &out) == ECOW_OK && shares(&out, bytes)));
     CHECK(ecow_value_clone(&list, &clone) == ECOW_OK);
     COUNTED("insert into a shared one", CHECK(ecow_value_insert(&list, 5, &item) == ECOW_OK));
@@ -358,6 +362,12 @@ static void changes_of_fields(void) {
     CHECK(ecow_value_set(&list, 0, &item) == ECOW_OK);
     CHECK(ecow_value_set_field(&root, "list", 4, &list) == ECOW_OK);
     end(NAME ": deep change by way of remove_field");
+    ecow_value_drop(&list);
+    begin();
+    CHECK(ecow_value_swap_field(&root, "list", 4, &list) == ECOW_OK);
+    CHECK(ecow_value_set(&list, 0, &item) == ECOW_OK);
+    CHECK(ecow_value_swap_field(&root, "list", 4, &list) == ECOW_OK);
+    end(NAME ": deep change by swaps");
     CHECK(ecow_value_clone(&before, &root) == ECOW_OK);
     COUNTED("remove_field of a shared one",
             CHECK(ecow_value_remove_field(&root, SPILLED, 16, &item) == ECOW_OK));

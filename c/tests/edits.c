@@ -754,7 +754,15 @@ static bool edit_fields(ecow_value *value, tree *all, const size_t *way, size_t 
     return done;
 }
 
-/* Edits a value, or a part of it that is taken out and put in again. */
+/* Exchanges a part of a list or of fields and another value. */
+static ecow_status swap_part(ecow_value *value, ecow_kind kind, size_t index, const char *name,
+                             ecow_value *other) {
+    return kind == ECOW_KIND_LIST ? ecow_value_swap(value, index, other)
+                                  : ecow_value_swap_field(value, name, strlen(name), other);
+}
+
+/* Edits a value, or a part of it that is taken out and put in again. Once a part is out, its list is
+ * no other's, so that it goes in again without memory. */
 static bool edit_below(ecow_value *value, tree *all, size_t *way, size_t depth,
                        const ecow_value *given, const part *parts, uint64_t *seed) {
     size_t at = way[depth], len = items_of(all, at), index = len ? below(seed, len) : 0;
@@ -763,6 +771,13 @@ static bool edit_below(ecow_value *value, tree *all, size_t *way, size_t depth,
         ecow_value item = {{0}};
         way[depth + 1] = place_of(all, at, index);
         const char *name = names[all->parts[way[depth + 1]].name];
+        if (below(seed, 2)) {
+            bool is_out = is_done(swap_part(value, kind, index, name, &item));
+            bool done = is_out && edit_below(&item, all, way, depth + 1, given, parts, seed);
+            CHECK(!is_out || swap_part(value, kind, index, name, &item) == ECOW_OK);
+            CHECK(ecow_value_kind(&item) == ECOW_KIND_NOTHING);
+            return done;
+        }
         CHECK(ecow_value_get(value, index, &item) == ECOW_OK);
         bool done = edit_below(&item, all, way, depth + 1, given, parts, seed)
                     && is_done(kind == ECOW_KIND_LIST

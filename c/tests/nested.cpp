@@ -543,7 +543,13 @@ static void values_have_paths() {
     CHECK(settings.get("names").shares(before.get("names")));
     settings.update({}, [](value &part) { part.take("names"); });
     CHECK(settings.size() == 1);
+    /* Where nobody shares what is on the way, it stays where it is. */
     const std::vector<value::step> path{"window", "size"};
+    const auto block = [](const value &part) { return part.c()->word[1]; };
+    const auto window = block(settings.get("window")), size = block(settings.at(path));
+    settings.update({"window", "size", 1}, [](value &part) { part = 7; });
+    CHECK(block(settings.get("window")) == window && block(settings.at(path)) == size);
+    CHECK(settings.at(path) == (value{1000, 7}) && before.at(path) == (value{800, 600}));
     settings.update(path, [](value &part) { part.pop_back(); });
     CHECK(settings.at(path) == value{1000});
     /* What is refused or throws leaves the value, whatever the function did before. */

@@ -286,9 +286,9 @@ static int refuse_key(const ecow_value *value, PyObject *key, ecow_status status
     return -1;
 }
 
-typedef enum act { GET, SET, REMOVE } act;
+typedef enum act { GET, SET, SWAP, REMOVE } act;
 
-/* Reads, writes or takes the part of a key, which is a `str` or an `int`. */
+/* Reads, writes, exchanges or takes the part of a key, which is a `str` or an `int`. */
 static int act_at(ecow_value *value, PyObject *key, act what, ecow_value *part) {
     ecow_status status;
     if (PyUnicode_Check(key)) {
@@ -297,9 +297,10 @@ static int act_at(ecow_value *value, PyObject *key, act what, ecow_value *part) 
         if (!name) {
             return -1;
         }
-        status = what == GET   ? ecow_value_get_field(value, name, (size_t)size, part)
-                 : what == SET ? ecow_value_set_field(value, name, (size_t)size, part)
-                               : ecow_value_remove_field(value, name, (size_t)size, part);
+        status = what == GET    ? ecow_value_get_field(value, name, (size_t)size, part)
+                 : what == SET  ? ecow_value_set_field(value, name, (size_t)size, part)
+                 : what == SWAP ? ecow_value_swap_field(value, name, (size_t)size, part)
+                                : ecow_value_remove_field(value, name, (size_t)size, part);
     } else {
         Py_ssize_t number = PyNumber_AsSsize_t(key, PyExc_IndexError);
         if (number == -1 && PyErr_Occurred()) {
@@ -309,6 +310,7 @@ static int act_at(ecow_value *value, PyObject *key, act what, ecow_value *part) 
         status = ecow_value_kind(value) == ECOW_KIND_FIELDS ? ECOW_KIND
                  : what == GET                              ? ecow_value_get(value, index, part)
                  : what == SET                              ? ecow_value_set(value, index, part)
+                 : what == SWAP                             ? ecow_value_swap(value, index, part)
                                                             : ecow_value_remove(value, index, part);
     }
     return status == ECOW_OK ? 0 : refuse_key(value, key, status);
@@ -349,14 +351,13 @@ static int change_at(ecow_value *value, PyObject *keys, Py_ssize_t from, act wha
     if (from + 1 == PyTuple_Size(keys)) {
         return act_at(value, key, what, item);
     }
-    ecow_value part = {{0}}, nothing = {{0}};
-    int done = act_at(value, key, GET, &part);
-    done = done < 0 ? done : act_at(value, key, SET, &nothing);
+    ecow_value part = {{0}};
+    int done = act_at(value, key, SWAP, &part);
     if (done == 0) {
         PyObject *type, *error, *trace;
         done = change_at(&part, keys, from + 1, what, item);
         PyErr_Fetch(&type, &error, &trace);
-        int back = act_at(value, key, SET, &part);
+        int back = act_at(value, key, SWAP, &part);
         if (back == 0) {
             PyErr_Restore(type, error, trace);
         } else {

@@ -233,6 +233,18 @@ impl Value {
         }
     }
 
+    /// Exchanges what lies one step into the value and another one.
+    fn swap(&mut self, step: Step<'_>, other: &mut Self) -> Result<(), Error> {
+        match step {
+            Step::Index(index) if self.kind() == Kind::Fields => {
+                let name = self.field_name(index)?;
+                self.swap(Step::Field(&name), other)
+            }
+            Step::Index(index) => Ok(self.0.swap(index, &mut other.0)?),
+            Step::Field(name) => Ok(self.0.swap_field(name, &mut other.0)?),
+        }
+    }
+
     /// Puts a value one step into this one.
     fn put(&mut self, step: Step<'_>, item: Self) -> Result<(), Error> {
         match step {
@@ -256,8 +268,8 @@ struct Taken<'a> {
 
 impl<'a> Taken<'a> {
     fn new(whole: &'a mut Value, step: Step<'a>) -> Result<Self, Error> {
-        let part = whole.at(step)?;
-        whole.put(step, Value::new())?;
+        let mut part = Value::new();
+        whole.swap(step, &mut part)?;
         Ok(Self { whole, step, part })
     }
 }
@@ -265,7 +277,7 @@ impl<'a> Taken<'a> {
 impl Drop for Taken<'_> {
     fn drop(&mut self) {
         // The way isn't shared since nothing was put there, so this asks for no memory.
-        granted(self.whole.put(self.step, core::mem::take(&mut self.part)));
+        granted(self.whole.swap(self.step, &mut self.part));
     }
 }
 

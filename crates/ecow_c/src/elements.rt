@@ -323,6 +323,28 @@ pub extern "C" fn ecow_proved_value_set(
     status(value.set(index, clone))
 }
 
+/// Exchanges the item at `index` and the value at `other`.
+#[unsafe(no_mangle)]
+pub extern "C" fn ecow_proved_value_swap(
+    pointer: &mut ValuePointer,
+    index: usize,
+    other: &mut ValuePointer,
+) -> u32
+    ensures value { AltersBy items_of (λ item. option_map (λ xs. slice_set xs index item))
+        pointer.old.value other.old.value result pointer.new.value }
+    ensures other { WritesTo (item_at index)
+        pointer.old.value result other.old.value other.new.value }
+    ensures statuses { IsAmong (OK ∷ MEMORY ∷ INDEX ∷ KIND ∷ NULL ∷ []) result }
+    ensures kind { result ≡ KIND
+        ↔ AreBothAnd pointer.old.value other.old.value (λ value _. items_of value ≡ None) }
+    ensures index { result ≡ INDEX ↔ AreBothAnd pointer.old.value other.old.value
+        (λ value _. IsSomeAnd (items_of value) (λ xs. length xs ≤ index)) }
+{
+    let value = some_or!(pointer.value(), NULL);
+    let other = some_or!(other.value(), NULL);
+    status(value.swap(index, other))
+}
+
 /// Puts `number` in at `index`, before the number that stands there.
 #[unsafe(no_mangle)]
 pub extern "C" fn ecow_proved_list_insert(

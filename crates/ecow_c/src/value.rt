@@ -216,6 +216,34 @@ pub extern "C" fn ecow_proved_value_set_field(
     status(value.set_field(name, clone))
 }
 
+/// Exchanges the value of the field of that name and the value at `other`; `INDEX` where there is
+/// no such field.
+#[unsafe(no_mangle)]
+pub extern "C" fn ecow_proved_value_swap_field(
+    pointer: &mut ValuePointer,
+    name: &[u8],
+    other: &mut ValuePointer,
+) -> u32
+    ensures value { AltersBy fields_of (λ item. option_map (with_field name.now item))
+        pointer.old.value other.old.value result pointer.new.value }
+    ensures other { WritesTo (field_at name.now)
+        pointer.old.value result other.old.value other.new.value }
+
+    // When each status is answered.
+    ensures statuses { IsAmong (OK ∷ MEMORY ∷ INDEX ∷ UTF8 ∷ KIND ∷ NULL ∷ []) result }
+    ensures utf8 { result ≡ UTF8
+        ↔ AreBothAnd pointer.old.value other.old.value (λ _ _. is_utf8 name.now ≡ false) }
+    ensures kind { result ≡ KIND
+        ↔ AreBothAnd pointer.old.value other.old.value (λ value _. HasNoFields name.now value) }
+    ensures index { result ≡ INDEX
+        ↔ AreBothAnd pointer.old.value other.old.value (λ value _. LacksField name.now value) }
+{
+    let value = some_or!(pointer.value(), NULL);
+    let other = some_or!(other.value(), NULL);
+    let name = some_or!(to_str(name), UTF8);
+    status(value.swap_field(name, other))
+}
+
 /// Takes the field of that name out, its value in place of the value at `out`; `INDEX` where there
 /// is no such field.
 #[unsafe(no_mangle)]

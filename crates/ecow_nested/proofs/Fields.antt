@@ -4,7 +4,7 @@ use Rattle.std.specs.Prelude.{slice_get, slice_set, remove, position}
 use Rattle.std.specs.List.{position_or_len}
 use Rattle.std.proofs.lemmas.Bool.{ltb-true, ltb-false}
 use Rattle.std.proofs.lemmas.List.Folds.{find_at}
-use Rattle.std.proofs.lemmas.Option.{none-some, slice_get_past, slice_get-get_or, slice_get_cases}
+use Rattle.std.proofs.lemmas.Option.{get_or_from_slice_get, none-some, slice_get_past, slice_get-get_or, slice_get_cases}
 use Rattle.ecow_nested.specs.Values.{value_in, has_name, look_up, name_of, with_field, without_field}
 use Rattle.ecow_nested.specs.declared.value.Field.{Field}
 use Rattle.ecow_nested.specs.declared.value.Value.{Value}
@@ -88,6 +88,14 @@ module _ (name : List ℕ) where
 
     pub pushed : (fs : List Field) (r : Option ℕ) → r ≡ None → r ≡ position (has_name name) fs → fs ++ added ∷ [] ≡ with_field name value fs
     pushed fs r none e = push_last fs (unplaced (first fs) (length fs) r none e)
+
+  -- a field in the place of the first one of that name, which has the same name
+  pub set_found : (fs : List Field) (at : ℕ) (f g : Field) → Some at ≡ position (has_name name) fs → slice_get fs at ≡ Some f → g.name ≡ f.name
+      → slice_set fs at g ≡ with_field name g.value fs
+  set_found fs at f g e read same =
+      ap (λ n. slice_set fs at (record { name = n; value = g.value })) same
+      ∙ ap (λ h. slice_set fs at (renewed g.value h)) (sym (get_or_from_slice_get fs at f f read))
+      ∙ set_there g.value fs at f e
 
   remove_first : (fs : List Field) → first fs < length fs → remove fs (first fs) ≡ without_field name fs
   remove_first [] h = absurd (omega (arith, h))

@@ -1,3 +1,4 @@
 pub mod Equality
 pub mod Fields
+pub mod Paths
 pub mod Reflexive

@@ -7,4 +7,4 @@ mod threads;
 mod value;
 
 pub use refusal::Refusal;
-pub use value::{Field, Kind, Value};
+pub use value::{Field, Kind, Step, Value};

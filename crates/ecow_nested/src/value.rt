@@ -7,9 +7,11 @@ mod fields;
 mod laws;
 mod lists;
 mod parts;
+mod paths;
 
 use ecow_list::EcoVec;
 use ecow_string::EcoString;
+pub use paths::Step;
 use std::alloc::AllocError;
 
 /// A nested value. A clone shares all its lists and texts.

@@ -3,4 +3,4 @@ pub mod Meanings
 pub mod Holes
 pub mod Said
 pub mod Trees
-pub mod Paths
+pub mod Runs

@@ -2,4 +2,3 @@ pub mod History
 pub mod Template
 pub mod Scopes
 pub mod Trees
-pub mod Nested

@@ -2,6 +2,7 @@
 //! cares about. This one runs each of them on an example.
 #![tactic(auto)]
 
+mod keys;
 mod lines;
 mod nested;
 mod settings;
@@ -12,7 +13,6 @@ mod undo;
 mod versions;
 mod writing;
 
-use crate::nested::{Step, Value};
 use crate::symbols::{Interner, Scope};
 use crate::tree::Node;
 use crate::undo::History;
@@ -21,6 +21,8 @@ use anyhow::Result;
 use ecow_bytes::EcoBytes;
 use ecow_counted::Counted;
 use ecow_list::{EcoVec, eco_vec};
+use ecow_model::VecCommand;
+use ecow_nested::{Field, Step, Value};
 use ecow_string::EcoString;
 use std::collections::BTreeMap;
 
@@ -33,6 +35,7 @@ fn main(rt: HostRuntime) -> Result<()> {
     set_a_value(&rt)?;
     write_in_place(&rt)?;
     go_back(&rt)?;
+    compare_keys(&rt)?;
     append_to_lines(&rt)?;
     collect_items(&rt)?;
     collect_texts(&rt)
@@ -84,6 +87,15 @@ fn try_out_settings(rt: &HostRuntime) -> Result<()> {
         settings.copied(),
         settings.blocks()
     )?;
+    branch_settings(rt, &mut settings)
+}
+
+fn branch_settings(rt: &HostRuntime, settings: &mut Counted<u64>) -> Result<()> {
+    let branched = settings::branch(settings, rt.alloc(), 1, 3, 2, 33)?;
+    let commands = vec![in rt.alloc(); VecCommand::Clear { name: 2 }]?;
+    let outcomes = settings::replay(settings, commands)?;
+    let value = settings::value(settings, 3, 2);
+    println!(rt; "branched: {branched}, {outcomes} more, version 3: {value:?}")?;
     Ok(())
 }
 
@@ -161,22 +173,28 @@ fn text_of(rt: &HostRuntime, tree: &Node) -> Result<EcoString> {
 fn set_a_value(rt: &HostRuntime) -> Result<()> {
     let document = a_document(rt)?;
     let path = [Step::Name(name(rt, "sizes")?), Step::Index(1)];
-    if let Some((kept, changed)) = nested::set_and_keep(&document, &path, Value::Number(7))? {
-        println!(rt; "{kept:?}")?;
-        println!(rt; "{changed:?}")?;
-        println!(rt; "at sizes, 1: {:?}", changed.at(&path))?;
+    let (kept, changed) = nested::set_and_keep(&document, &path, Value::Number(7))?;
+    for (word, document) in [("before", kept), ("after", changed)] {
+        let number = document.at(&path).and_then(|value| value.number());
+        println!(rt; "{word}, at sizes, 1: {number:?}")?;
     }
-    println!(rt; "at 1: {:?}", document.at(&[Step::Index(1)]))?;
+    let refused = nested::set_and_keep(&document, &[Step::Index(1)], Value::Number(7)).is_err();
+    println!(rt; "at 1: nothing, and refused: {refused}")?;
     Ok(())
 }
 
 fn a_document(rt: &HostRuntime) -> Result<Value> {
     let alloc = rt.alloc();
-    let tags = eco_vec![in alloc; Value::Text(name(rt, "a")?)]?;
     let sizes = eco_vec![in alloc; Value::Number(1), Value::Number(2)]?;
     let fields = eco_vec![in alloc;
-        (name(rt, "tags")?, Value::List(tags)),
-        (name(rt, "sizes")?, Value::List(sizes))
+        Field {
+            name: name(rt, "tags")?,
+            value: Value::Text(name(rt, "a")?)
+        },
+        Field {
+            name: name(rt, "sizes")?,
+            value: Value::List(sizes)
+        }
     ]?;
     Ok(Value::Fields(fields))
 }
@@ -201,6 +219,14 @@ fn go_back(rt: &HostRuntime) -> Result<()> {
     versions.set(2)?;
     let undone = versions.undo()?;
     println!(rt; "went back: {undone}, to {}", versions.present())?;
+    Ok(())
+}
+
+fn compare_keys(rt: &HostRuntime) -> Result<()> {
+    let mut spilled = EcoString::with_capacity(rt.alloc(), 40)?;
+    spilled.push_str("key")?;
+    let same = keys::are_same(&spilled, &name(rt, "key")?);
+    println!(rt; "keys: {same}, {}", keys::spells(&spilled, "key"))?;
     Ok(())
 }
 

@@ -1,11 +1,15 @@
 //! Numbered settings in versions, on the counted store. A fork copies nothing, and a write to it
 //! copies the settings once, where another version still shares them.
-ghost use Rattle.std.specs.Prelude.{◌≡◌, ◌≢◌, ℕ, OnErr, OnOk, slice_get, slice_set};
+ghost use Rattle.std.specs.Prelude.{◌≡◌, ◌≢◌, ℕ, true, All, IfOk, OnErr, OnOk, slice_get, slice_set};
 ghost use Rattle.std.specs.Option.{option_and_then, option_map};
+ghost use Rattle.ecow_model.specs.Callers.{LeavesName};
 ghost use Rattle.ecow_model.specs.Names.{list_of};
+ghost use Rattle.ecow_model.specs.Vecs.{vec_usage};
 
 use ecow_counted::Counted;
+use ecow_list::EcoError;
 use ecow_model::{Name, Outcome, Refusal, VecCommand};
+use std::alloc::Global;
 
 /// What one setting of a version is; `None` where there is no such version or setting.
 pub fn value(settings: &Counted<u64>, version: Name, setting: usize) -> Option<u64>
@@ -75,4 +79,54 @@ pub fn try_out(
 {
     fork(settings, from, to)?;
     set(settings, to, setting, value)
+}
+
+/// Carries out commands, and says how many outcomes there are. A version that no command makes,
+/// changes or drops keeps its settings. Where there is no room for the outcomes, nothing is carried
+/// out.
+#[tactic(auto, using(ecow_model::proofs::CallerLemmas::shared_run_stays))]
+pub fn replay(
+    settings: &mut Counted<u64>,
+    commands: Vec<VecCommand<u64>>,
+) -> Result<usize, EcoError>
+    ensures stays { (version : ℕ) → All (λ c. LeavesName (vec_usage c) version) commands.items
+        → list_of settings.new.names version ≡ list_of settings.old.names version }
+    ensures unchanged { OnErr result (settings.new ≡ settings.old) }
+{
+    let outcomes = settings.run(commands)?;
+    Ok(outcomes.len())
+}
+
+/// Makes a version of another one, but for one setting, by two commands in one run: `true` where
+/// both are done.
+#[tactic(auto, using(ecow_model::proofs::CallerLemmas::shared_run_stays, crate::proofs::Runs::branched))]
+pub fn branch(
+    settings: &mut Counted<u64>,
+    alloc: Global,
+    from: Name,
+    to: Name,
+    setting: usize,
+    value: u64,
+) -> Result<bool, EcoError>
+    requires { from ≢ to }
+    ensures branch { IfOk result (λ done. done ≡ true → list_of settings.new.names to
+        ≡ option_map (λ values. slice_set values setting value)
+        (list_of settings.old.names from)) }
+    ensures others { (version : ℕ) → version ≢ to
+        → list_of settings.new.names version ≡ list_of settings.old.names version }
+    ensures unchanged { OnErr result (settings.new ≡ settings.old) }
+{
+    let commands = vec![in alloc;
+        VecCommand::Clone { from, to },
+        VecCommand::Write {
+            name: to,
+            index: setting,
+            value
+        },
+    ]?;
+    let outcomes = settings.run(commands)?;
+    match outcomes.as_slice() {
+        [Outcome::Done, Outcome::Done] => Ok(true),
+        _ => Ok(false),
+    }
 }

@@ -4,18 +4,19 @@ ghost use Rattle.ecow_nested.specs.Values.{fields_of, has_name, look_up, with_fi
 
 use crate::refusal::Refusal;
 use crate::value::{Field, Value};
-use ecow_list::EcoVec;
+use ecow_list::{EcoVec, Rejected};
 use ecow_string::EcoString;
+use std::mem::replace;
 
 /// The place of the first field of that name.
-fn place(fields: &[Field], name: &str) -> Option<usize>
+pub(super) fn place(fields: &[Field], name: &str) -> Option<usize>
     ensures { result ≡ position (has_name name.now) fields.now }
 {
     fields.iter().position(|field| field.name.as_str() == name)
 }
 
 /// The value of the first field of that name.
-fn find<'a>(fields: &'a [Field], name: &str) -> Option<&'a Value>
+pub(super) fn find<'a>(fields: &'a [Field], name: &str) -> Option<&'a Value>
     ensures { MatchOption result (look_up name.now fields.now ≡ None)
         (λ value. look_up name.now fields.now ≡ Some value.now) }
 {
@@ -62,6 +63,29 @@ fn take(fields: &mut EcoVec<Field>, name: &str) -> Result<Value, Refusal>
     }
 }
 
+/// Exchanges the value of the first field of that name and `other`. A refusal changes neither.
+fn exchange(fields: &mut EcoVec<Field>, name: &str, other: &mut Value) -> Result<(), Refusal>
+    ensures ok { OnOk result (fields.new ≡ with_field name.now other.old fields.old) }
+    ensures other { OnOk result (look_up name.now fields.old ≡ Some other.new) }
+    ensures unchanged { OnErr result (fields.new ≡ fields.old) }
+    ensures kept { OnErr result (other.new ≡ other.old) }
+    ensures index { IsErrOf result Refusal.Index ↔ (look_up name.now fields.old ≡ None) }
+    ensures codes { IsErrAmong (Refusal.Index ∷ Refusal.Memory ∷ []) result }
+{
+    let Some(at) = place(fields.as_slice(), name) else {
+        return Err(Refusal::Index);
+    };
+    let Field { name, value } = fields.as_slice()[at].clone()?;
+    let value = replace(other, value);
+    match fields.set(at, Field { name, value }) {
+        Ok(()) => Ok(()),
+        Err(Rejected { error, value }) => {
+            *other = value.value;
+            Err(error.into())
+        }
+    }
+}
+
 impl Value {
     /// The value of the first field of that name.
     pub fn field(&self, name: &str) -> Result<&Value, Refusal>
@@ -90,6 +114,22 @@ impl Value {
     {
         match self {
             Value::Fields(fields) => put(fields, name, value),
+            _ => Err(Refusal::Kind),
+        }
+    }
+
+    /// Exchanges the value of the first field of that name and `other`.
+    pub fn swap_field(&mut self, name: &str, other: &mut Value) -> Result<(), Refusal>
+        ensures change { EditsFields (with_field name.now other.old) self.old result self.new }
+        ensures other { OnOk result (IfSome (fields_of self.old)
+            (λ fields. look_up name.now fields ≡ Some other.new)) }
+        ensures kept { OnErr result (other.new ≡ other.old) }
+        ensures index { IsErrOf result Refusal.Index
+            ↔ IsSomeAnd (fields_of self.old) (λ fields. look_up name.now fields ≡ None) }
+        ensures codes { IsErrAmong (Refusal.Kind ∷ Refusal.Index ∷ Refusal.Memory ∷ []) result }
+    {
+        match self {
+            Value::Fields(fields) => exchange(fields, name, other),
             _ => Err(Refusal::Kind),
         }
     }

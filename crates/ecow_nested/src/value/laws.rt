@@ -1,10 +1,24 @@
-//! The law of equality.
-ghost use Rattle.std.specs.Prelude.{◌≡◌, true};
+//! The laws of equality, and of paths.
+ghost use Rattle.std.specs.Prelude.{◌≡◌, List, Some, true};
+ghost use Rattle.ecow_nested.specs.Paths.{value_at, IsApart, IsSet};
 ghost use Rattle.ecow_nested.specs.Values.{value_eq};
+ghost use Rattle.ecow_nested.specs.declared.value.paths.Step.{Step};
 ghost use Rattle.ecow_nested.specs.declared.value.Value.{Value};
 
 /// A value equals itself, and so each of its clones.
 #[tactic(auto, using(crate::proofs::Reflexive::value_eq_self))]
 pub fn values_equal_themselves()
     ensures { (value : Value) → value_eq value value ≡ true }
+{}
+
+/// A path leads to what was set at its end, and each path that parts from it to what it led to
+/// before.
+#[tactic(auto, using(crate::proofs::Paths::set_there, crate::proofs::Paths::set_elsewhere))]
+pub fn paths_lead_to_what_was_set()
+    ensures there { (path : List Step) (value : Value) (old : Value) (new : Value)
+        → IsSet path value old new → value_at new path ≡ Some value }
+    ensures elsewhere { (path : List Step) (other : List Step)
+        (value : Value) (old : Value) (new : Value)
+        → IsSet path value old new → IsApart path other
+        → value_at new other ≡ value_at old other }
 {}

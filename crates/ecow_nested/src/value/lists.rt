@@ -1,10 +1,13 @@
 //! Edits of a list. A refusal changes nothing.
-ghost use Rattle.std.specs.Prelude.{◌≡◌, ◌+◌, ◌-◌, ◌<◌, ◌≤◌, ◌↔◌, [], ◌∷◌, ◌++◌, None, Some, length, take, insert, remove, slice_get, slice_set, IfOk, IfSome, IsErrOf, IsSomeAnd};
+ghost use Rattle.std.specs.Prelude.{◌≡◌, ◌+◌, ◌-◌, ◌<◌, ◌≤◌, ◌↔◌, [], ◌∷◌, ◌++◌, None, Some, length, take, insert, remove, slice_get, slice_set, IfOk, IfSome, IsErrOf, IsSomeAnd, OnErr, OnOk};
 ghost use Rattle.ecow_nested.specs.Values.{items_of, EditsItems, IsErrAmong};
 
 use crate::refusal::Refusal;
 use crate::value::Value;
+use crate::value::parts::at;
 use ecow_base::MAX_LEN;
+use ecow_list::Rejected;
+use std::mem::replace;
 
 impl Value {
     /// Appends an item.
@@ -55,6 +58,34 @@ impl Value {
         }
         items.set(index, item)?;
         Ok(())
+    }
+
+    /// Exchanges the item at `index` and `other`. So an item that holds a list itself is changed
+    /// outside this one and put in again, and no list is copied but a shared one.
+    pub fn swap(&mut self, index: usize, other: &mut Value) -> Result<(), Refusal>
+        ensures change { EditsItems (λ items. slice_set items index other.old)
+            self.old result self.new }
+        ensures other { OnOk result (IfSome (items_of self.old)
+            (λ items. slice_get items index ≡ Some other.new)) }
+        ensures kept { OnErr result (other.new ≡ other.old) }
+        ensures index { IsErrOf result Refusal.Index
+            ↔ IsSomeAnd (items_of self.old) (λ items. length items ≤ index) }
+        ensures codes { IsErrAmong (Refusal.Kind ∷ Refusal.Index ∷ Refusal.Memory ∷ []) result }
+    {
+        let Value::List(items) = self else {
+            return Err(Refusal::Kind);
+        };
+        let Some(item) = at(items.as_slice(), index) else {
+            return Err(Refusal::Index);
+        };
+        let item = item.clone()?;
+        match items.set(index, replace(other, item)) {
+            Ok(()) => Ok(()),
+            Err(Rejected { error, value }) => {
+                *other = value;
+                Err(error.into())
+            }
+        }
     }
 
     /// Puts `item` in at `index`, before the item that stands there.

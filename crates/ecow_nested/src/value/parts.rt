@@ -59,7 +59,7 @@ impl Value {
 }
 
 /// The item, or the field, at `index`.
-fn at<T>(items: &[T], index: usize) -> Option<&T>
+pub(super) fn at<T>(items: &[T], index: usize) -> Option<&T>
     ensures { MatchOption result (length items.now ≤ index) (λ item. (index < length items.now)
         × (slice_get items.now index ≡ Some item.now)) }
 {

@@ -1,5 +1,5 @@
 use Rattle.std.proofs.Common.{length}
-use Rattle.ecow_uses.proofs.nested.Value.+at.Given as goal
+use Rattle.ecow_nested.proofs.value.Value.+at.Given as goal
 
 abbrev pub decreases-at : goal.decreases-at
 decreases-at l = length l.path.now
