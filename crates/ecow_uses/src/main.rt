@@ -25,6 +25,7 @@ use ecow_model::VecCommand;
 use ecow_nested::{Field, Step, Value};
 use ecow_string::EcoString;
 use std::collections::BTreeMap;
+use std::ptr::from_ref;
 
 fn main(rt: HostRuntime) -> Result<()> {
     edit_a_document(&rt)?;
@@ -180,6 +181,19 @@ fn set_a_value(rt: &HostRuntime) -> Result<()> {
     }
     let refused = nested::set_and_keep(&document, &[Step::Index(1)], Value::Number(7)).is_err();
     println!(rt; "at 1: nothing, and refused: {refused}")?;
+    set_in_place(rt, document, &path)
+}
+
+/// Sets a value in a document that nobody shares: so it stands where the old one stood.
+fn set_in_place(rt: &HostRuntime, mut document: Value, path: &[Step]) -> Result<()> {
+    let Some(before) = document.at(path).map(|value| from_ref(value)) else {
+        return Ok(());
+    };
+    document.set_at(path, Value::Number(8))?;
+    let stays = document
+        .at(path)
+        .is_some_and(|value| from_ref(value) == before);
+    println!(rt; "set where it stands: {stays}")?;
     Ok(())
 }
 
