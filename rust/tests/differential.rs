@@ -194,11 +194,51 @@ fn vectors_of_no_bytes_and_of_aligned_elements() {
     assert_eq!(LIVE.get(), 0);
 }
 
-fn bytes<const N: usize>(seed: u64) {
-    let mut random = Random(seed);
+/// One call at a time on vectors whose lengths are powers of two, their neighbours, or drawn between powers.
+fn sizes<T: Clone + Debug + Ord + Hash>(power: usize, make: impl Fn(u64) -> T) {
+    let mut random = Random(power as u64);
+    for round in 0..edits() / 250 {
+        let power = 1 << random.below(power + 1);
+        let len = [power - 1, power, power + 1, power + random.below(power)][round % 4];
+        let made: Vec<T> = (0..len as u64).map(&make).collect();
+        let (mut ours, mut std, at) = (EcoVec::from(made.as_slice()), made.clone(), random.below(len));
+        let kept = (round % 8 < 4).then(|| ours.clone());
+        match random.below(9) {
+            0 => same!(ours, std, push(make(7))),
+            1 => same!(ours, std, insert(at, make(7))),
+            2 if len > 0 => same!(ours, std, remove(at)),
+            3 => same!(ours, std, truncate(at)),
+            4 => same!(ours, std, extend_from_slice(&made)),
+            5 => same!(ours, std, retain(|item| hash(item) & 1 == 0)),
+            6 => assert!(ours.drain(at..).eq(std.drain(at..))),
+            7 => assert!(ours.splice(..at, made.iter().cloned()).eq(std.splice(..at, made.iter().cloned()))),
+            _ => ours = std::mem::take(&mut ours).into_iter().collect(),
+        }
+        assert!(ours == std && ours.cmp(&EcoVec::from(std)).is_eq(), "of {len}");
+        assert!(kept.is_none_or(|kept| kept == made), "of {len}");
+    }
+}
+
+#[test]
+fn vectors_of_each_size() {
+    sizes(22, |n| n as u8);
+    sizes(20, |n| [n as u8, 1, 2]);
+    sizes(19, |n| n as i64);
+    sizes(16, |n| [n as u8; 65]);
+    sizes(15, |n| Counted::new(Box::new(n)));
+    sizes(10, |n| [n as u8; 4096]);
+    assert_eq!(LIVE.get(), 0);
+}
+
+macro_rules! at_limits {
+    ($test:ident: $($limit:literal)*) => { $( $test::<$limit>(); )* };
+}
+
+fn bytes<const N: usize>() {
+    let mut random = Random(N as u64 + 21);
     let mut ours: Vec<SmallBytes<N>> = vec![SmallBytes::new(); 8];
     let mut std: Vec<Vec<u8>> = vec![Vec::new(); 8];
-    for edit in 0..edits() {
+    for edit in 0..edits() / (1 + N / 64) {
         let (i, j, byte) = (random.below(8), random.below(8), random.next() as u8);
         let (v, w) = (&mut ours[i], &mut std[i]);
         let (at, range) = (random.below(w.len()), random.range(w.len()));
@@ -216,7 +256,7 @@ fn bytes<const N: usize>(seed: u64) {
             }
             9 => *v = SmallBytes::from(w.as_slice()),
             10 => compared([&ours[i], &ours[j]], [&std[i], &std[j]]),
-            11 if w.len() < 300 => {
+            11 if w.len() < N + 300 => {
                 *v = v.repeat(some.len() % 4);
                 *w = w.repeat(some.len() % 4);
             }
@@ -239,12 +279,7 @@ fn bytes<const N: usize>(seed: u64) {
 
 #[test]
 fn bytes_of_each_limit() {
-    bytes::<0>(21);
-    bytes::<1>(22);
-    bytes::<7>(23);
-    bytes::<15>(24);
-    bytes::<23>(25);
-    bytes::<300>(26);
+    at_limits!(bytes: 0 1 2 7 15 23 31 64 127 128 254 257 300 511 4096);
 }
 
 /// What is laid out for a constant is what the proved calls make.
@@ -267,13 +302,7 @@ fn laid_out<const N: usize>() {
 
 #[test]
 fn constants_are_laid_out_as_the_proved_calls_do() {
-    laid_out::<0>();
-    laid_out::<1>();
-    laid_out::<15>();
-    laid_out::<255>();
-    laid_out::<256>();
-    laid_out::<257>();
-    laid_out::<600>();
+    at_limits!(laid_out: 0 1 15 255 256 257 600);
 }
 
 #[test]
