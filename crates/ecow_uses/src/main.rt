@@ -25,7 +25,6 @@ use ecow_model::VecCommand;
 use ecow_nested::{Field, Step, Value};
 use ecow_string::EcoString;
 use std::collections::BTreeMap;
-use std::ptr::from_ref;
 
 fn main(rt: HostRuntime) -> Result<()> {
     edit_a_document(&rt)?;
@@ -181,19 +180,24 @@ fn set_a_value(rt: &HostRuntime) -> Result<()> {
     }
     let refused = nested::set_and_keep(&document, &[Step::Index(1)], Value::Number(7)).is_err();
     println!(rt; "at 1: nothing, and refused: {refused}")?;
-    set_in_place(rt, document, &path)
+    set_each(rt)
 }
 
-/// Sets a value in a document that nobody shares: so it stands where the old one stood.
-fn set_in_place(rt: &HostRuntime, mut document: Value, path: &[Step]) -> Result<()> {
-    let Some(before) = document.at(path).map(|value| from_ref(value)) else {
-        return Ok(());
+/// Sets each of many items of a document that nobody shares. A call that copied them would take so
+/// long that the gate ends it.
+fn set_each(rt: &HostRuntime) -> Result<()> {
+    let alloc = rt.alloc();
+    let items: EcoVec<Value> = (0..100000i64).map(|n| Value::Number(n)).collect(alloc)?;
+    let field = Field {
+        name: name(rt, "items")?,
+        value: Value::List(items),
     };
-    document.set_at(path, Value::Number(8))?;
-    let stays = document
-        .at(path)
-        .is_some_and(|value| from_ref(value) == before);
-    println!(rt; "set where it stands: {stays}")?;
+    let mut document = Value::Fields(eco_vec![in alloc; field]?);
+    for index in 0..100000usize {
+        let path = [Step::Name(name(rt, "items")?), Step::Index(index)];
+        document.set_at(&path, Value::Number(7))?;
+    }
+    println!(rt; "each is set")?;
     Ok(())
 }
 
