@@ -761,25 +761,27 @@ static ecow_status swap_part(ecow_value *value, ecow_kind kind, size_t index, co
                                   : ecow_value_swap_field(value, name, strlen(name), other);
 }
 
-/* Edits a value, or a part of it that is taken out and put in again. Once a part is out, its list is
- * no other's, so that it goes in again without memory. */
+/* Edits a value, or a part of it that is taken out and put in again. Once a part is exchanged, its
+ * list is no other's, so that it goes in again without memory. What is given must not be the whole
+ * then, from which the part is missing. */
 static bool edit_below(ecow_value *value, tree *all, size_t *way, size_t depth,
-                       const ecow_value *given, const part *parts, uint64_t *seed) {
+                       const ecow_value *given, const part *parts, bool is_whole, uint64_t *seed) {
     size_t at = way[depth], len = items_of(all, at), index = len ? below(seed, len) : 0;
     ecow_kind kind = all->parts[at].kind;
     if (depth < 3 && len && below(seed, 2)) {
         ecow_value item = {{0}};
         way[depth + 1] = place_of(all, at, index);
         const char *name = names[all->parts[way[depth + 1]].name];
-        if (below(seed, 2)) {
+        if (!is_whole && below(seed, 2)) {
             bool is_out = is_done(swap_part(value, kind, index, name, &item));
-            bool done = is_out && edit_below(&item, all, way, depth + 1, given, parts, seed);
+            bool done =
+                is_out && edit_below(&item, all, way, depth + 1, given, parts, is_whole, seed);
             CHECK(!is_out || swap_part(value, kind, index, name, &item) == ECOW_OK);
             CHECK(ecow_value_kind(&item) == ECOW_KIND_NOTHING);
             return done;
         }
         CHECK(ecow_value_get(value, index, &item) == ECOW_OK);
-        bool done = edit_below(&item, all, way, depth + 1, given, parts, seed)
+        bool done = edit_below(&item, all, way, depth + 1, given, parts, is_whole, seed)
                     && is_done(kind == ECOW_KIND_LIST
                                    ? ecow_value_set(value, index, &item)
                                    : ecow_value_set_field(value, name, strlen(name), &item));
@@ -830,7 +832,7 @@ static void edit_value(ecow_value values[VALUES], tree models[VALUES], uint64_t 
         if (is_done(ecow_value_clone(value, &values[other]))) {
             models[which] = models[other];
         }
-    } else if (edit_below(value, &changed, way, 0, given, parts, seed)) {
+    } else if (edit_below(value, &changed, way, 0, given, parts, given == value, seed)) {
         models[which] = changed;
     }
     CHECK(ecow_value_equal(value, &values[other]) == same_trees(&models[which], &models[other]));
