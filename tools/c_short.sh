@@ -137,7 +137,7 @@ if "$out/first-shared" > /dev/null 2>&1; then
     exit 1
 fi
 
-# Runs a program of C++ that gives all back but what the runtime took at the start.
+# Runs a program of C++ that gives all back but what the runtime took to print a line.
 leaves_nothing() {
     status=0
     $watched "$@" 2> "$out/said" || status=$?
@@ -146,9 +146,9 @@ leaves_nothing() {
 
 # Tests the header for C++ by one standard.
 test_cpp() { # STANDARD
-    printf '#include <iostream>\nint main() { std::cout.flush(); }\n' > "$out/empty.cpp"
+    printf '#include <cstdio>\nint main() { std::puts("a line"); }\n' > "$out/empty.cpp"
     $cxx -std=c++$1 "$out/empty.cpp" -o "$out/empty-cpp"
-    $watched "$out/empty-cpp" 2> "$out/runtime"
+    $watched "$out/empty-cpp" > "$out/said" 2> "$out/runtime"
     for test in test attempts nested edits threads; do
         $cxx -std=c++$1 -O1 -pthread -Iinclude "c/tests/$test.cpp" bin/libecow.a -o "$out/$test-cpp"
     done
