@@ -197,7 +197,7 @@ fn vectors_of_no_bytes_and_of_aligned_elements() {
 /// One call at a time on vectors whose lengths are powers of two, their neighbours, or drawn between powers.
 fn sizes<T: Clone + Debug + Ord + Hash>(power: usize, make: impl Fn(u64) -> T) {
     let mut random = Random(power as u64);
-    for round in 0..edits() / 250 {
+    for round in 0..edits() / 1000 {
         let power = 1 << random.below(power + 1);
         let len = [power - 1, power, power + 1, power + random.below(power)][round % 4];
         let made: Vec<T> = (0..len as u64).map(&make).collect();
