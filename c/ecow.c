@@ -480,7 +480,7 @@ ecow_status ecow_value_truncate(ecow_value *value, size_t len) {
     return ecow_proved_value_truncate(&value, len);
 }
 
-/* The name that a call was given, as it stays while the value changes, and another one may: one that
+/* The name that a call was given, as it stays while the value and another one change: one that
  * overlaps a struct of theirs is copied. */
 typedef struct given_name {
     const char *bytes;
