@@ -1,8 +1,7 @@
-//! Texts as keys. What equality, order and hash say of texts, as a caller uses it.
-ghost use Rattle.std.specs.Prelude.{◌≡◌, ◌↔◌, true, IfOk, Some};
+//! Texts as keys: what `==` says of their characters, by the laws of texts.
+ghost use Rattle.std.specs.Prelude.{◌≡◌, ◌↔◌, true};
 ghost use Rattle.std.specs.Str.{chars};
 
-use ecow_list::EcoError;
 use ecow_string::EcoString;
 use ecow_string::laws::{a_str_decides_the_characters, equal_texts_have_the_same_characters};
 
