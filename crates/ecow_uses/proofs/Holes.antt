@@ -1,16 +1,16 @@
 -- What a template without `{` is filled to.
-use Rattle.std.proofs.Common.{◌≡◌, ◌≢◌, ℕ, List, [], ◌∷◌, ◌++◌, All, refl, sym, ap, subst, ◌∙◌}
+use Rattle.std.proofs.Common.{◌≡◌, ◌≢◌, ℕ, List, [], ◌∷◌, ◌++◌, length, All, refl, sym, ap, subst, ◌∙◌}
 use Rattle.std.specs.BTreeMap.{BTreeMap}
 use Rattle.std.specs.List.{flat_map}
-use Rattle.std.proofs.lemmas.List.Elements.{All-head, All-tail}
+use Rattle.std.proofs.Math.Seq.{drop-append_seam}
+use Rattle.std.proofs.lemmas.List.Elements.{All-drop, All-head}
 use Rattle.ecow_base.specs.declared.plain.PlainText.{PlainText}
 use Rattle.ecow_uses.specs.declared.template.Piece.{Piece}
 use Rattle.ecow_uses.specs.declared.template.Piece.TheVariants.{Text, Hole}
 use Rattle.ecow_uses.specs.Template.{IsUnclosed, Lacks, Spells, closing, filled, opening, form_of}
 
 behind : (P : ℕ → Type 0) (xs ys : List ℕ) → All P (xs ++ ys) → All P ys
-behind P [] ys all = all
-behind P (x ∷ xs) ys all = behind P xs ys (All-tail P x (xs ++ ys) all)
+behind P xs ys all = subst (All P) (drop-append_seam xs ys) (All-drop P (length xs) (xs ++ ys) all)
 
 module _ (values : BTreeMap PlainText PlainText) where
   only_texts : (pieces : List Piece) → Lacks opening (flat_map form_of pieces) → flat_map (filled values) pieces ≡ flat_map form_of pieces

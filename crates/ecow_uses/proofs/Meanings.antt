@@ -2,7 +2,7 @@
 use Rattle.std.proofs.Common.{◌≡◌, ℕ, false, List, [], ◌∷◌, ◌++◌, Option, None, Some, cond, ap, ◌∙◌}
 use Rattle.std.specs.Cmp.Lexicographic.{nat_list_eq_equiv}
 use Rattle.std.specs.Str.{encode_utf8_all}
-use Rattle.std.proofs.lemmas.List.Sums.{fold-append}
+use Rattle.ecow_list.proofs.Views.{fold_push}
 use Rattle.ecow_uses.specs.Scopes.{meaning, same_name}
 use Rattle.ecow_uses.specs.declared.symbols.Binding.{Binding}
 
@@ -10,7 +10,7 @@ use Rattle.ecow_uses.specs.declared.symbols.Binding.{Binding}
 one_more : (bindings : List Binding) (b : Binding) (name : List ℕ)
     → meaning (bindings ++ b ∷ []) name ≡ cond (same_name (encode_utf8_all b.name.chars) name) (Some b.value) (meaning bindings name)
 one_more bindings b name =
-    fold-append (λ (value : Option ℕ) (b : Binding). cond (same_name (encode_utf8_all b.name.chars) name) (Some b.value) value) None bindings (b ∷ [])
+    fold_push (λ (value : Option ℕ) (b : Binding). cond (same_name (encode_utf8_all b.name.chars) name) (Some b.value) value) None bindings b
 
 pub bound : (bindings : List Binding) (b : Binding) → meaning (bindings ++ b ∷ []) (encode_utf8_all b.name.chars) ≡ Some b.value
 bound bindings b =

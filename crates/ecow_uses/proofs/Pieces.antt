@@ -1,8 +1,8 @@
 -- How the pieces of a template grow, character by character.
-use Rattle.std.proofs.Common.{◌≡◌, ◌≢◌, ℕ, Bool, true, false, List, [], ◌∷◌, ◌++◌, map, All, append_assoc, append-nil, ap, refl, sym, ◌∙◌}
+use Rattle.std.proofs.Common.{◌≡◌, ◌≢◌, ℕ, Bool, true, false, List, [], ◌∷◌, ◌++◌, All, append_assoc, append-nil, ap, sym, ◌∙◌}
 use Rattle.std.specs.List.{flat_map}
-use Rattle.std.proofs.lemmas.List.Concat.{flat_map-append}
 use Rattle.std.proofs.lemmas.List.Elements.{All-nil, All-push}
+use Rattle.ecow_list.proofs.Views.{flat_map_push}
 use Rattle.ecow_base.specs.declared.plain.PlainText.{PlainText}
 use Rattle.ecow_uses.specs.declared.template.Piece.{Piece}
 use Rattle.ecow_uses.specs.declared.template.Piece.TheVariants.{Text, Hole}
@@ -12,13 +12,6 @@ use Rattle.ecow_uses.specs.Template.{IsPlain, IsUnclosed, Lacks, Spells, closing
 abbrev pub SoFar : List Piece → Bool → List ℕ → List ℕ → Type 0
 SoFar pieces true name cs = All IsPlain pieces × Lacks closing name × (flat_map form_of pieces ++ opening ∷ name ≡ cs)
 SoFar pieces false text cs = All IsPlain pieces × Lacks opening text × (flat_map form_of pieces ++ text ≡ cs)
-
-pub map_same : {X : Type 0} (xs : List X) → map (λ x. x) xs ≡ xs
-map_same [] = refl
-map_same (x ∷ xs) = ap (λ ys. x ∷ ys) (map_same xs)
-
-one_more : (pieces : List Piece) (p : Piece) → flat_map form_of (pieces ++ p ∷ []) ≡ flat_map form_of pieces ++ form_of p
-one_more pieces p = flat_map-append form_of pieces (p ∷ []) ∙ ap (λ cs. flat_map form_of pieces ++ cs) (append-nil (form_of p))
 
 module _ (pieces new : List Piece) (text : PlainText) (cs part : List ℕ) (c : ℕ) where
   -- one more character of a name, and of a text
@@ -44,7 +37,7 @@ module _ (pieces new : List Piece) (text : PlainText) (cs part : List ℕ) (c : 
       rw (brace, empty, grown) (
         All-push IsPlain pieces (Text text) so_far.0 so_far.1,
         All-nil (λ x. x ≢ closing),
-        ap (λ xs. xs ++ opening ∷ []) (one_more pieces (Text text) ∙ so_far.2),
+        ap (λ xs. xs ++ opening ∷ []) (flat_map_push form_of pieces (Text text) ∙ so_far.2),
       )
 
   -- a name ends where its hole is closed
@@ -53,13 +46,13 @@ module _ (pieces new : List Piece) (text : PlainText) (cs part : List ℕ) (c : 
       rw (brace, empty, grown) (
         All-push IsPlain pieces (Hole text) so_far.0 so_far.1,
         All-nil (λ x. x ≢ opening),
-        append-nil (flat_map form_of (pieces ++ Hole text ∷ [])) ∙ one_more pieces (Hole text)
+        append-nil (flat_map form_of (pieces ++ Hole text ∷ [])) ∙ flat_map_push form_of pieces (Hole text)
             ∙ sym (append_assoc (flat_map form_of pieces) (opening ∷ text.chars) (closing ∷ [])) ∙ ap (λ xs. xs ++ closing ∷ []) so_far.2,
       )
 
   -- the characters end in a text, or in a hole
   pub ends : new ≡ pieces ++ Text text ∷ [] → SoFar pieces false text.chars cs → Spells new cs
-  ends grown so_far = rw grown (record { spells = one_more pieces (Text text) ∙ so_far.2; plain = All-push IsPlain pieces (Text text) so_far.0 so_far.1 })
+  ends grown so_far = rw grown (record { spells = flat_map_push form_of pieces (Text text) ∙ so_far.2; plain = All-push IsPlain pieces (Text text) so_far.0 so_far.1 })
 
 pub ends_open : (pieces : List Piece) (name cs : List ℕ) → SoFar pieces true name cs → IsUnclosed cs
 ends_open pieces name cs so_far = record { pieces = pieces; name = name; before = so_far.0; open_hole = so_far.1; ends = so_far.2 }

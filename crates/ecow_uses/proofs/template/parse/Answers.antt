@@ -1,8 +1,9 @@
 use Rattle.std.proofs.Common.{◌≡◌, ℕ, true, false, List, [], map, sym, subst, ◌∙◌}
 use Rattle.std.proofs.lemmas.Iterator.{YieldsList-from_chars}
+use Rattle.std.proofs.lemmas.List.{map-id}
 use Rattle.std.proofs.lemmas.Iterator.Consumers.{YieldsList-end}
 use Rattle.std.specs.Str.{chars}
-use Rattle.ecow_uses.proofs.Pieces.{SoFar, closes, ends, ends_open, longer_name, longer_text, map_same, opens}
+use Rattle.ecow_uses.proofs.Pieces.{SoFar, closes, ends, ends_open, longer_name, longer_text, opens}
 use Rattle.ecow_uses.proofs.template.parse.Goals as goal
 
 pub loop-c-preserved-then-c-eq125 : goal.loop-c-preserved-then-c-eq125
@@ -30,7 +31,7 @@ loop-c-preserved c =
 
 -- all characters of the template were read
 all_read : (read cs : List ℕ) → map (λ x. x) read ≡ cs → read ≡ cs
-all_read read cs same = sym (map_same read) ∙ same
+all_read read cs same = sym (map-id read) ∙ same
 
 pub returns-then-in_hole-2-clause-unclosed : goal.returns-then-in_hole-2-clause-unclosed
 returns-then-in_hole-2-clause-unclosed c =
