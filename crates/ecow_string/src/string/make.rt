@@ -52,7 +52,7 @@ impl<const N: usize> SmallText<N> {
     }
 
     /// A copy of `text`.
-    #[inline]
+    #[inline(always)]
     pub fn from_str(alloc: Global, text: &str) -> Result<Self, EcoError>
         ensures { MakesText N (length text.now) (chars text.now) result }
     {
