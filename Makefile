@@ -36,8 +36,9 @@ help:
 	@echo "                           bin/contracts"
 	@echo "  make edits               tries each edit that must be refused, those beside the gate's too (needs python3);"
 	@echo "                           CRATES=\"NAME ..\": those of some crates"
-	@echo "  make costs               counts what each call costs, and compares the tables of costs"
-	@echo "  make faults              refuses each request for memory in turn, without the rest of the gate"
+	@echo "  make costs               counts what each call costs, and compares the tables of costs. COUNT=atomic: over that"
+	@echo "                           count, which the gate proves and does not try from Rattle"
+	@echo "  make faults              refuses each request for memory in turn, without the rest of the gate; COUNT as above"
 	@echo "  make c-test              tests the library for C from C, C++ and Python, and the archive (needs gcc, clang,"
 	@echo "                           valgrind, cargo, and what make python needs)"
 	@echo "  make c-fuzz SECONDS=60   fuzzes it, each kind of value for so long (needs clang with libFuzzer)"
@@ -151,15 +152,18 @@ vendor-test:
 edits:
 	tools/edits.py $(CRATES)
 
+# Where these are tried: over the plain count here, and over the atomic one beside it.
+TRIED = $(if $(filter atomic,$(COUNT)),$(shell tools/for_threads.sh ecow_costs ecow_value_faults ecow_store_faults),.)
+
 costs:
-	cd crates/ecow_costs && rt run > /dev/null
-	tools/costs.sh $(COSTS)
+	cd $(TRIED)/crates/ecow_costs && rt run > /dev/null
+	tools/costs.sh $(TRIED)/$(COSTS)
 
 faults:
-	cd crates/ecow_value_faults && rt run -- strict
-	cd crates/ecow_store_faults && rt run -- strict
-	tools/refuse.sh $(VALUE_FAULTS)
-	tools/refuse.sh $(STORE_FAULTS)
+	cd $(TRIED)/crates/ecow_value_faults && rt run -- strict
+	cd $(TRIED)/crates/ecow_store_faults && rt run -- strict
+	tools/refuse.sh $(TRIED)/$(VALUE_FAULTS)
+	tools/refuse.sh $(TRIED)/$(STORE_FAULTS)
 
 SECONDS := 60
 c-fuzz: lib

@@ -1,17 +1,14 @@
 #!/bin/sh
-# The gate's part for the atomic count of owners: proves the values and the library for C over it, counts what calls
-# cost, and refuses each request for memory. It leaves the archive of that library at bin/libecow_c-atomic.a.
+# The gate's part for the atomic count of owners: proves the values and the library for C over it. It leaves the archive of
+# that library at bin/libecow_c-atomic.a. `make costs` and `make faults` try it with COUNT=atomic.
 set -eu
 cd "$(dirname "$0")/.."
 rm -rf "$(tools/for_threads.sh)"
-folder=$(tools/for_threads.sh ecow_nested ecow_costs ecow_value_faults ecow)
+folder=$(tools/for_threads.sh ecow_nested ecow)
 (cd "$folder" && rt ci)
-echo "over the atomic count of owners:"
-tools/costs.sh "$folder/crates/ecow_costs/out/ecow_costs"
-tools/refuse.sh "$folder/crates/ecow_value_faults/out/ecow_value_faults"
 
 # A build proves a static library once more. So `rt ci`, which proves `ecow_c` over the plain count, doesn't see it here.
-tools/for_threads.sh ecow_c ecow_costs ecow_value_faults ecow > /dev/null
+tools/for_threads.sh ecow_c ecow > /dev/null
 bin=$(pwd)/bin
 kit=$(dirname "$(rt doc | head -n 1)")
 mkdir -p "$bin"
@@ -29,4 +26,4 @@ done
 "$kit/bin/rattle" build --crate-name ecow_c src/lib.rt "$@" --antt-project "$kit/rattle/logic/antt-project.json" \
     --logic-built "$kit/logic_built" --jobs 2 --crate-type staticlib --toolchain "$kit/toolchain" --backend llvm \
     -o "$bin/libecow_c-atomic.a" > "$bin/lib.log" 2>&1 || { cat "$bin/lib.log"; exit 1; }
-echo "the library for C is proved"
+echo "the values and the library for C are proved over the atomic count of owners"
