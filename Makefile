@@ -31,7 +31,8 @@ help:
 	@echo "                           each request for memory refused in turn, command lines, large scripts, and the"
 	@echo "                           library for C where there is a C compiler; writes the crate for Rust, and tests it"
 	@echo "                           where there is a Rust compiler"
-	@echo "  make agree               compares documents, examples and edits with the code"
+	@echo "  make agree               compares documents, examples and edits with the code, and tries what compares on what it must"
+	@echo "                           refuse"
 	@echo "  make contracts           writes every public call with its clauses, and where their words come from, into"
 	@echo "                           bin/contracts"
 	@echo "  make edits               tries each edit that must be refused, those beside the gate's too (needs python3);"
@@ -138,6 +139,7 @@ agree:
 	@tools/agree_shipped.sh
 	@tools/agree_edits.sh
 	@tools/agree_c.sh
+	@tools/agree_checks.sh
 
 KIND := vector
 vendor:

@@ -12,7 +12,11 @@ export LC_ALL=C
 awk -f tools/costs.awk docs/COSTS.md crates/ecow_costs/*.md | sort > "$work/said"
 
 tools/shim.sh "$work/shim.so"
-COUNT=1 LEFT=1 LD_PRELOAD=$work/shim.so "$program" marked > "$work/rows" 2> "$work/counts"
+COUNT=1 LEFT=1 LD_PRELOAD=$work/shim.so "$program" marked > "$work/rows" 2> "$work/counts" || {
+    cat "$work/counts"
+    echo "$program ends with another status than 0"
+    exit 1
+}
 if grep left "$work/counts"; then exit 1; fi
 if [ "$(wc -l < "$work/rows")" -ne "$(wc -l < "$work/counts")" ]; then
     echo "$(wc -l < "$work/rows") rows and $(wc -l < "$work/counts") counts"

@@ -11,8 +11,12 @@ trap 'rm -r "$work"' EXIT
 "$(dirname "$0")/shim.sh" "$work/refuse.so"
 processors=$(getconf _NPROCESSORS_ONLN 2> "$work/none" || echo 1)
 watched="env LEFT=1 LD_PRELOAD=$work/refuse.so"
-$watched "$program" < /dev/null > "$work/lines" 2>&1
-parts=$(grep -c '' < "$work/lines")
+$watched "$program" < /dev/null > "$work/lines" 2>&1 || {
+    cat "$work/lines"
+    echo "$program ends with another status than 0"
+    exit 1
+}
+parts=$(grep -c '' < "$work/lines" || true)
 if grep -e wrong -e left "$work/lines"; then exit 1; fi
 [ "$parts" -gt 0 ] || { echo "$program has no part"; exit 1; }
 
