@@ -1,6 +1,6 @@
 # A large script and its answers, worked out by the rules of docs/SCRIPT.md with awk's own arrays and texts:
-# awk -v part=PART -v counted=0|1 -v script=FILE -v answers=FILE -f tools/large.awk
-# PART is names, owners, list, or texts, which only a store has.
+# awk -v part=PART -v counted=0|1 -v script=FILE -v answers=FILE [-v many=NUMBER] -f tools/large.awk
+# PART is names, owners, list, or texts, which only a store has. NUMBER is that of names or owners, 70,000 without it.
 
 function says(command, answer) {
     print command > script
@@ -33,7 +33,7 @@ function ends(blocks, copied, moved) {
 
 # More names than have a slot each, and more blocks than a table of thousands.
 function names(    i, count) {
-    count = 70000
+    count = many
     for (i = 1; i <= count; i++) says("vec from_list n" i " [" i "]", "ok")
     for (i = 1; i <= count; i++) says("vec contents n" i, "[" i "]")
     for (i = 2; i <= count; i += 2) says("vec drop n" i, "ok")
@@ -47,7 +47,7 @@ function names(    i, count) {
 
 # More owners than a byte or two of them count. Where a count of so few bits would be back at one, a clone is changed.
 function owners(    i, count, copied) {
-    count = 70000
+    count = many
     says("vec from_list a [1,2,3]", "ok")
     for (i = 1; i <= count; i++) {
         says("vec clone a b" i, "ok")
@@ -199,6 +199,7 @@ function texts(    i, count, letters, bytes, upper) {
 }
 
 BEGIN {
+    if (!many) many = 70000
     if (part == "names") names()
     else if (part == "owners") owners()
     else if (part == "list") list()

@@ -1,6 +1,6 @@
 #!/bin/sh
 # Runs PROGRAM on large scripts, in both stores, and compares what it answers with what tools/large.awk works
-# out by the rules.
+# out by the rules. Then sees that a line takes no longer where there are many before it or behind it.
 # usage: tools/large.sh PROGRAM
 set -eu
 program=$(realpath "$1")
@@ -29,3 +29,35 @@ for part in names owners list texts; do
     done
 done
 echo "large scripts: $lines answers are as the rules say"
+
+# Runs PROGRAM so often on the script, and sets `spent` to the hundredths of a second of a processor that it took.
+spend() { # COUNT
+    times > "$work/before"
+    number=0
+    while [ "$number" -lt "$1" ]; do
+        "$program" $flag "$work/script" > "$work/answers" || { echo "$program fails on many of $part"; exit 1; }
+        number=$((number + 1))
+    done
+    times > "$work/after"
+    spent=$(sed -n 's/[ms]/ /g; 2p; 4p' "$work/before" "$work/after" |
+        awk '{ seconds = $1 * 60 + $2 + $3 * 60 + $4 - seconds } END { printf "%d", 100 * seconds + 1 }')
+}
+
+grown=0
+for part in names owners; do
+    for flag in '' --counted; do
+        for many in 8000 128000; do
+            awk -v part="$part" -v counted=0 -v many=$many -v script="$work/script" -v answers="$work/wanted" \
+                -f tools/large.awk
+            short=${spent:-0}
+            spend $((128000 / many))
+        done
+        # Were a line's work as long as the script, this would take sixteen times as long as so many short ones.
+        if [ "$spent" -gt $((5 * short)) ]; then
+            echo "$part${flag:+, with $flag}: $short hundredths for 16 scripts of 8000, $spent for one of 128000"
+            exit 1
+        fi
+        grown=$((grown + 1))
+    done
+done
+echo "growth: $grown scripts take as long for a line as ones of a sixteenth"
