@@ -1,6 +1,6 @@
 # A large script and its answers, worked out by the rules of docs/SCRIPT.md with awk's own arrays and texts:
 # awk -v part=PART -v counted=0|1 -v script=FILE -v answers=FILE [-v many=NUMBER] -f tools/large.awk
-# PART is names, owners, list, or texts, which only a store has. NUMBER is that of names or owners, 70,000 without it.
+# PART is names, owners, list, sizes, or texts, which only a store has. NUMBER is that of names or owners, 70,000 without it.
 
 function says(command, answer) {
     print command > script
@@ -198,11 +198,99 @@ function texts(    i, count, letters, bytes, upper) {
     says("text contents y", "\"" letters letters "\"")
 }
 
+# Room for so many more, in a block of so much room that has `len`.
+function grown(len, more, room,    least) {
+    least = 2 * room
+    if (least < len + more) least = len + more
+    return least < 4 ? 4 : least
+}
+
+# A list of n elements in a full block, shared and changed, then sole and changed, then cut.
+function list_of(n,    half, room) {
+    half = int(n / 2)
+    room = grown(n, 1, n)
+    says("vec from_elem a 5 " n, "ok")
+    says("vec capacity a", n)
+    says("vec clone a b", "ok")
+    says("vec push b 7", "ok")
+    says("vec capacity b", room)
+    says("vec len b", n + 1)
+    says("vec read b " (n - 1), 5)
+    says("vec read b " n, 7)
+    says("vec unique a", "true")
+    says("vec len a", n)
+    says("vec push a 8", "ok")
+    says("vec capacity a", room)
+    says("vec pop a", 8)
+    says("vec truncate a " half, "ok")
+    says("vec len a", half)
+    says("vec capacity a", room)
+    says("vec clone b c", "ok")
+    says("vec truncate c " half, "ok")
+    says("vec capacity c", half ? half < 4 ? 4 : half : 0)
+    says("vec write b 0 1", "ok")
+    says("vec read c 0", half ? 5 : "refused index")
+    says("vec len b", n + 1)
+    says("vec drop a", "ok")
+    says("vec drop b", "ok")
+    says("vec drop c", "ok")
+    copied += n + half
+    moved += n
+}
+
+# A text of n bytes, and bytes, made at once: inline up to 15, and then in a full block.
+function text_of(n,    half, room, longer) {
+    half = int(n / 2)
+    room = n > 15 ? n : 15
+    longer = n > 15 ? grown(n, 1, n) : n < 15 ? 15 : 32
+    says("text from_str s \"a\"", "ok")
+    says("text repeat s t " n, "ok")
+    says("text len t", n)
+    says("text capacity t", room)
+    says("text clone t u", "ok")
+    says("text push u \"b\"", "ok")
+    says("text len u", n + 1)
+    says("text capacity u", longer)
+    says("text len t", n)
+    says("text pop u", "\"b\"")
+    says("text truncate u " half, "ok")
+    says("text len u", half)
+    says("text capacity u", longer)
+    says("bytes from_text t b", "ok")
+    says("bytes capacity b", room)
+    says("bytes clone b c", "ok")
+    says("bytes push c 255", "ok")
+    says("bytes capacity c", longer)
+    says("bytes read c " n, 255)
+    says("bytes read c " (n - 1), 97)
+    says("bytes len b", n)
+    says("bytes pop c", 255)
+    says("bytes truncate c " half, "ok")
+    says("bytes len c", half)
+    says("text drop s", "ok")
+    says("text drop t", "ok")
+    says("text drop u", "ok")
+    says("bytes drop b", "ok")
+    says("bytes drop c", "ok")
+}
+
+# Lists and texts at each power of two and on both sides of it.
+function sizes(    k, beside) {
+    copied = moved = 0
+    for (k = 1; k <= 24; k++)
+        for (beside = -1; beside <= 1; beside++) {
+            if (k <= 21) list_of(2 ^ k + beside)
+            if (!counted) text_of(2 ^ k + beside)
+        }
+    ends(0, copied, moved)
+}
+
 BEGIN {
     if (!many) many = 70000
     if (part == "names") names()
     else if (part == "owners") owners()
     else if (part == "list") list()
     else if (part == "texts") texts()
+    else if (part == "sizes") sizes()
     else { print "there is no part " part > "/dev/stderr"; exit 1 }
 }

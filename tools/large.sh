@@ -10,7 +10,7 @@ trap 'rm -r "$work"' EXIT
 export LC_ALL=C
 
 lines=0
-for part in names owners list texts; do
+for part in names owners list sizes texts; do
     for counted in 0 1; do
         flag=
         [ "$counted" -eq 0 ] || flag=--counted
