@@ -1,7 +1,7 @@
 -- The commands on bytes: a word, and the forms of its arguments.
 use Rattle.std.specs.Prelude.{ℕ, List, [], ◌∷◌, codes, Option}
-use Rattle.ecow_script.specs.Words.{Reading, next_word, name, count, byte, bytes}
-use Rattle.ecow_script.specs.Forms.{one, two, three, beside, command_at}
+use Rattle.ecow_script.specs.Words.{Reading, ◌>>=◌, gives, next_word, name, count, byte, bytes}
+use Rattle.ecow_script.specs.Forms.{one, two, beside, command_at}
 use Rattle.ecow_script.specs.declared.commands.bytes.BytesWord.{BytesWord}
 use Rattle.ecow_script.specs.declared.commands.bytes.BytesWord.TheVariants as word
 use Rattle.ecow_model.specs.declared.bytes.BytesCommand.{BytesCommand}
@@ -41,33 +41,39 @@ bytes_words =
 abbrev pub bytes_word : List ℕ → Option BytesWord
 bytes_word bytes = beside bytes bytes_words
 
+-- the arguments behind the name, which each command has first
+abbrev pub bytes_rest : ℕ → BytesWord → Reading BytesCommand
+bytes_rest first word.New = gives (New first)
+bytes_rest first word.TryInline = one (TryInline first) bytes
+bytes_rest first word.WithCapacity = one (WithCapacity first) count
+bytes_rest first word.FromList = one (FromList first) bytes
+bytes_rest first word.FromEcoVec = one (FromEcoVec first) bytes
+bytes_rest first word.FromText = one (FromText first) name
+bytes_rest first word.Clone = one (Clone first) name
+bytes_rest first word.Drop = gives (Drop first)
+bytes_rest first word.Push = one (Push first) byte
+bytes_rest first word.Pop = gives (Pop first)
+bytes_rest first word.Insert = two (Insert first) count byte
+bytes_rest first word.Remove = one (Remove first) count
+bytes_rest first word.Extend = one (Extend first) bytes
+bytes_rest first word.InsertSlice = two (InsertSlice first) count bytes
+bytes_rest first word.Truncate = one (Truncate first) count
+bytes_rest first word.Clear = gives (Clear first)
+bytes_rest first word.Reserve = one (Reserve first) count
+bytes_rest first word.Write = two (Write first) count byte
+bytes_rest first word.Read = one (Read first) count
+bytes_rest first word.Repeat = two (Repeat first) name count
+bytes_rest first word.ShrinkToFit = gives (ShrinkToFit first)
+bytes_rest first word.Len = gives (Len first)
+bytes_rest first word.Capacity = gives (Capacity first)
+bytes_rest first word.Contents = gives (Contents first)
+bytes_rest first word.IsInline = gives (IsInline first)
+
 -- the arguments behind a word
 abbrev pub bytes_form : BytesWord → Reading BytesCommand
-bytes_form word.New = one New name
-bytes_form word.TryInline = two TryInline name bytes
-bytes_form word.WithCapacity = two WithCapacity name count
-bytes_form word.FromList = two FromList name bytes
-bytes_form word.FromEcoVec = two FromEcoVec name bytes
-bytes_form word.FromText = two FromText name name
-bytes_form word.Clone = two Clone name name
-bytes_form word.Drop = one Drop name
-bytes_form word.Push = two Push name byte
-bytes_form word.Pop = one Pop name
-bytes_form word.Insert = three Insert name count byte
-bytes_form word.Remove = two Remove name count
-bytes_form word.Extend = two Extend name bytes
-bytes_form word.InsertSlice = three InsertSlice name count bytes
-bytes_form word.Truncate = two Truncate name count
-bytes_form word.Clear = one Clear name
-bytes_form word.Reserve = two Reserve name count
-bytes_form word.Write = three Write name count byte
-bytes_form word.Read = two Read name count
-bytes_form word.Repeat = three Repeat name name count
-bytes_form word.ShrinkToFit = one ShrinkToFit name
-bytes_form word.Len = one Len name
-bytes_form word.Capacity = one Capacity name
-bytes_form word.Contents = one Contents name
-bytes_form word.IsInline = one IsInline name
+bytes_form word = do
+  first ← name
+  bytes_rest first word
 
 -- a command on bytes behind its kind
 abbrev pub bytes_command : Reading BytesCommand

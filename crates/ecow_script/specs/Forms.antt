@@ -18,25 +18,15 @@ two make a b = do
   y ← b
   gives (make x y)
 
--- what is made of three arguments
-abbrev pub three : {A B C D : Type 0} → (A → B → C → D) → Reading A → Reading B → Reading C
-    → Reading D
-three make a b c = do
-  x ← a
-  y ← b
-  z ← c
-  gives (make x y z)
-
--- what is made of five arguments
-abbrev pub five : {A B C D E F : Type 0} → (A → B → C → D → E → F) → Reading A
-    → Reading B → Reading C → Reading D → Reading E → Reading F
-five make a b c d e = do
-  v ← a
-  w ← b
-  x ← c
-  y ← d
-  z ← e
-  gives (make v w x y z)
+-- what is made of four arguments
+abbrev pub four : {A B C D E : Type 0} → (A → B → C → D → E) → Reading A → Reading B → Reading C
+    → Reading D → Reading E
+four make a b c d = do
+  w ← a
+  x ← b
+  y ← c
+  z ← d
+  gives (make w x y z)
 
 -- what stands beside a word in a table
 abbrev pub beside : {A : Type 0} → List ℕ → List (List ℕ × A) → Option A

@@ -1,7 +1,7 @@
 -- The commands on texts: a word, and the forms of its arguments.
 use Rattle.std.specs.Prelude.{ℕ, List, [], ◌∷◌, codes, Option}
-use Rattle.ecow_script.specs.Words.{Reading, next_word, name, count, character, text}
-use Rattle.ecow_script.specs.Forms.{one, two, three, five, beside, command_at}
+use Rattle.ecow_script.specs.Words.{Reading, ◌>>=◌, gives, next_word, name, count, character, text}
+use Rattle.ecow_script.specs.Forms.{one, two, four, beside, command_at}
 use Rattle.ecow_script.specs.declared.commands.texts.TextWord.{TextWord}
 use Rattle.ecow_script.specs.declared.commands.texts.TextWord.TheVariants as word
 use Rattle.ecow_model.specs.declared.texts.TextCommand.{TextCommand}
@@ -44,36 +44,42 @@ text_words =
 abbrev pub text_word : List ℕ → Option TextWord
 text_word bytes = beside bytes text_words
 
+-- the arguments behind the name, which each command has first
+abbrev pub text_rest : ℕ → TextWord → Reading TextCommand
+text_rest first word.New = gives (New first)
+text_rest first word.TryInline = one (TryInline first) text
+text_rest first word.WithCapacity = one (WithCapacity first) count
+text_rest first word.FromStr = one (FromStr first) text
+text_rest first word.FromChar = one (FromChar first) character
+text_rest first word.FromBytes = one (FromBytes first) name
+text_rest first word.Clone = one (Clone first) name
+text_rest first word.Drop = gives (Drop first)
+text_rest first word.Push = one (Push first) character
+text_rest first word.Pop = gives (Pop first)
+text_rest first word.PushStr = one (PushStr first) text
+text_rest first word.Insert = two (Insert first) count character
+text_rest first word.InsertStr = two (InsertStr first) count text
+text_rest first word.Remove = one (Remove first) count
+text_rest first word.Truncate = one (Truncate first) count
+text_rest first word.Clear = gives (Clear first)
+text_rest first word.Reserve = one (Reserve first) count
+text_rest first word.Replace = four (Replace first) name text text count
+text_rest first word.Repeat = two (Repeat first) name count
+text_rest first word.AsciiLower = gives (AsciiLower first)
+text_rest first word.AsciiUpper = gives (AsciiUpper first)
+text_rest first word.ToAsciiLower = one (ToAsciiLower first) name
+text_rest first word.ToAsciiUpper = one (ToAsciiUpper first) name
+text_rest first word.ShrinkToFit = gives (ShrinkToFit first)
+text_rest first word.Len = gives (Len first)
+text_rest first word.Capacity = gives (Capacity first)
+text_rest first word.Contents = gives (Contents first)
+text_rest first word.IsInline = gives (IsInline first)
+
 -- the arguments behind a word
 abbrev pub text_form : TextWord → Reading TextCommand
-text_form word.New = one New name
-text_form word.TryInline = two TryInline name text
-text_form word.WithCapacity = two WithCapacity name count
-text_form word.FromStr = two FromStr name text
-text_form word.FromChar = two FromChar name character
-text_form word.FromBytes = two FromBytes name name
-text_form word.Clone = two Clone name name
-text_form word.Drop = one Drop name
-text_form word.Push = two Push name character
-text_form word.Pop = one Pop name
-text_form word.PushStr = two PushStr name text
-text_form word.Insert = three Insert name count character
-text_form word.InsertStr = three InsertStr name count text
-text_form word.Remove = two Remove name count
-text_form word.Truncate = two Truncate name count
-text_form word.Clear = one Clear name
-text_form word.Reserve = two Reserve name count
-text_form word.Replace = five Replace name name text text count
-text_form word.Repeat = three Repeat name name count
-text_form word.AsciiLower = one AsciiLower name
-text_form word.AsciiUpper = one AsciiUpper name
-text_form word.ToAsciiLower = two ToAsciiLower name name
-text_form word.ToAsciiUpper = two ToAsciiUpper name name
-text_form word.ShrinkToFit = one ShrinkToFit name
-text_form word.Len = one Len name
-text_form word.Capacity = one Capacity name
-text_form word.Contents = one Contents name
-text_form word.IsInline = one IsInline name
+text_form word = do
+  first ← name
+  text_rest first word
 
 -- a command on texts behind its kind
 abbrev pub text_command : Reading TextCommand

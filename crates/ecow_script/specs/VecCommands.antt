@@ -1,7 +1,7 @@
 -- The commands on lists: a word, and the forms of its arguments.
 use Rattle.std.specs.Prelude.{ℕ, ℤ, List, [], ◌∷◌, codes, Option}
-use Rattle.ecow_script.specs.Words.{Reading, next_word, name, count, integer, integers, bounds, marks}
-use Rattle.ecow_script.specs.Forms.{one, two, three, beside, command_at}
+use Rattle.ecow_script.specs.Words.{Reading, ◌>>=◌, gives, next_word, name, count, integer, integers, bounds, marks}
+use Rattle.ecow_script.specs.Forms.{one, two, beside, command_at}
 use Rattle.ecow_script.specs.declared.commands.vecs.VecWord.{VecWord}
 use Rattle.ecow_script.specs.declared.commands.vecs.VecWord.TheVariants as word
 use Rattle.ecow_model.specs.declared.vecs.VecCommand.{VecCommand}
@@ -39,31 +39,37 @@ vec_words =
 abbrev pub vec_word : List ℕ → Option VecWord
 vec_word bytes = beside bytes vec_words
 
+-- the arguments behind the name, which each command has first
+abbrev pub vec_rest : ℕ → VecWord → Reading (VecCommand ℤ)
+vec_rest first word.New = gives (New first)
+vec_rest first word.WithCapacity = one (WithCapacity first) count
+vec_rest first word.FromList = one (FromList first) integers
+vec_rest first word.FromElem = two (FromElem first) integer count
+vec_rest first word.Clone = one (Clone first) name
+vec_rest first word.Drop = gives (Drop first)
+vec_rest first word.Push = one (Push first) integer
+vec_rest first word.Pop = gives (Pop first)
+vec_rest first word.Insert = two (Insert first) count integer
+vec_rest first word.Remove = one (Remove first) count
+vec_rest first word.Write = two (Write first) count integer
+vec_rest first word.Truncate = one (Truncate first) count
+vec_rest first word.Clear = gives (Clear first)
+vec_rest first word.Retain = one (Retain first) marks
+vec_rest first word.Drain = one (Drain first) bounds
+vec_rest first word.Splice = two (Splice first) bounds integers
+vec_rest first word.Extend = one (Extend first) integers
+vec_rest first word.Reserve = one (Reserve first) count
+vec_rest first word.Read = one (Read first) count
+vec_rest first word.Len = gives (Len first)
+vec_rest first word.Contents = gives (Contents first)
+vec_rest first word.Capacity = gives (Capacity first)
+vec_rest first word.Unique = gives (Unique first)
+
 -- the arguments behind a word
 abbrev pub vec_form : VecWord → Reading (VecCommand ℤ)
-vec_form word.New = one New name
-vec_form word.WithCapacity = two WithCapacity name count
-vec_form word.FromList = two FromList name integers
-vec_form word.FromElem = three FromElem name integer count
-vec_form word.Clone = two Clone name name
-vec_form word.Drop = one Drop name
-vec_form word.Push = two Push name integer
-vec_form word.Pop = one Pop name
-vec_form word.Insert = three Insert name count integer
-vec_form word.Remove = two Remove name count
-vec_form word.Write = three Write name count integer
-vec_form word.Truncate = two Truncate name count
-vec_form word.Clear = one Clear name
-vec_form word.Retain = two Retain name marks
-vec_form word.Drain = two Drain name bounds
-vec_form word.Splice = three Splice name bounds integers
-vec_form word.Extend = two Extend name integers
-vec_form word.Reserve = two Reserve name count
-vec_form word.Read = two Read name count
-vec_form word.Len = one Len name
-vec_form word.Contents = one Contents name
-vec_form word.Capacity = one Capacity name
-vec_form word.Unique = one Unique name
+vec_form word = do
+  first ← name
+  vec_rest first word
 
 -- a command on lists behind its kind
 abbrev pub vec_command : Reading (VecCommand ℤ)

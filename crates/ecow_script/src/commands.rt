@@ -1,15 +1,17 @@
 //! The commands of a script.
 
-/// Reads the arguments of a command. A row says which: the fields of a command that has the name of
-/// its word, in the order in which they stand on the line, each with its form.
+/// Reads the arguments of a command: its name, and those of its row. A row has the fields of the
+/// command of that word, in the order in which they stand on the line, each but the first with its
+/// form.
 macro_rules! read_command {
     ($reader:ident, $word:expr, $words:ident => $command:ident {
-        $($name:ident { $($field:ident: $form:ident),* })*
-    }) => {
+        $($name:ident { $first:ident $(, $field:ident: $form:ident)* })*
+    }) => {{
+        let first = $reader.name()?;
         match $word {
-            $($words::$name => Ok($command::$name { $($field: $reader.$form()?),* }),)*
+            $($words::$name => Ok($command::$name { $first: first $(, $field: $reader.$form()?)* }),)*
         }
-    };
+    }};
 }
 
 mod bytes;

@@ -75,31 +75,31 @@ impl<'a> Reader<'a> {
         ensures { Reads (bytes_form word) self.old result self.new }
     {
         read_command!(self, word, BytesWord => BytesCommand {
-            New { name: name }
-            TryInline { name: name, bytes: bytes }
-            WithCapacity { name: name, capacity: count }
-            FromList { name: name, bytes: bytes }
-            FromEcoVec { name: name, bytes: bytes }
-            FromText { from: name, to: name }
-            Clone { from: name, to: name }
-            Drop { name: name }
-            Push { name: name, byte: byte }
-            Pop { name: name }
-            Insert { name: name, index: count, byte: byte }
-            Remove { name: name, index: count }
-            Extend { name: name, bytes: bytes }
-            InsertSlice { name: name, index: count, bytes: bytes }
-            Truncate { name: name, target: count }
-            Clear { name: name }
-            Reserve { name: name, additional: count }
-            Write { name: name, index: count, byte: byte }
-            Read { name: name, index: count }
-            Repeat { from: name, to: name, n: count }
-            ShrinkToFit { name: name }
-            Len { name: name }
-            Capacity { name: name }
-            Contents { name: name }
-            IsInline { name: name }
+            New { name }
+            TryInline { name, bytes: bytes }
+            WithCapacity { name, capacity: count }
+            FromList { name, bytes: bytes }
+            FromEcoVec { name, bytes: bytes }
+            FromText { from, to: name }
+            Clone { from, to: name }
+            Drop { name }
+            Push { name, byte: byte }
+            Pop { name }
+            Insert { name, index: count, byte: byte }
+            Remove { name, index: count }
+            Extend { name, bytes: bytes }
+            InsertSlice { name, index: count, bytes: bytes }
+            Truncate { name, target: count }
+            Clear { name }
+            Reserve { name, additional: count }
+            Write { name, index: count, byte: byte }
+            Read { name, index: count }
+            Repeat { from, to: name, n: count }
+            ShrinkToFit { name }
+            Len { name }
+            Capacity { name }
+            Contents { name }
+            IsInline { name }
         })
     }
 

@@ -81,34 +81,34 @@ impl<'a> Reader<'a> {
         ensures { Reads (text_form word) self.old result self.new }
     {
         read_command!(self, word, TextWord => TextCommand {
-            New { name: name }
-            TryInline { name: name, text: text }
-            WithCapacity { name: name, capacity: count }
-            FromStr { name: name, text: text }
-            FromChar { name: name, c: character }
-            FromBytes { from: name, to: name }
-            Clone { from: name, to: name }
-            Drop { name: name }
-            Push { name: name, c: character }
-            Pop { name: name }
-            PushStr { name: name, text: text }
-            Insert { name: name, index: count, c: character }
-            InsertStr { name: name, index: count, text: text }
-            Remove { name: name, index: count }
-            Truncate { name: name, target: count }
-            Clear { name: name }
-            Reserve { name: name, additional: count }
-            Replace { from: name, to: name, pattern: text, replacement: text, count: count }
-            Repeat { from: name, to: name, n: count }
-            AsciiLower { name: name }
-            AsciiUpper { name: name }
-            ToAsciiLower { from: name, to: name }
-            ToAsciiUpper { from: name, to: name }
-            ShrinkToFit { name: name }
-            Len { name: name }
-            Capacity { name: name }
-            Contents { name: name }
-            IsInline { name: name }
+            New { name }
+            TryInline { name, text: text }
+            WithCapacity { name, capacity: count }
+            FromStr { name, text: text }
+            FromChar { name, c: character }
+            FromBytes { from, to: name }
+            Clone { from, to: name }
+            Drop { name }
+            Push { name, c: character }
+            Pop { name }
+            PushStr { name, text: text }
+            Insert { name, index: count, c: character }
+            InsertStr { name, index: count, text: text }
+            Remove { name, index: count }
+            Truncate { name, target: count }
+            Clear { name }
+            Reserve { name, additional: count }
+            Replace { from, to: name, pattern: text, replacement: text, count: count }
+            Repeat { from, to: name, n: count }
+            AsciiLower { name }
+            AsciiUpper { name }
+            ToAsciiLower { from, to: name }
+            ToAsciiUpper { from, to: name }
+            ShrinkToFit { name }
+            Len { name }
+            Capacity { name }
+            Contents { name }
+            IsInline { name }
         })
     }
 

@@ -71,29 +71,29 @@ impl<'a> Reader<'a> {
         ensures { Reads (vec_form word) self.old result self.new }
     {
         read_command!(self, word, VecWord => VecCommand {
-            New { name: name }
-            WithCapacity { name: name, capacity: count }
-            FromList { name: name, items: integers }
-            FromElem { name: name, value: integer, n: count }
-            Clone { from: name, to: name }
-            Drop { name: name }
-            Push { name: name, value: integer }
-            Pop { name: name }
-            Insert { name: name, index: count, value: integer }
-            Remove { name: name, index: count }
-            Write { name: name, index: count, value: integer }
-            Truncate { name: name, target: count }
-            Clear { name: name }
-            Retain { name: name, marks: marks }
-            Drain { name: name, bounds: bounds }
-            Splice { name: name, bounds: bounds, items: integers }
-            Extend { name: name, items: integers }
-            Reserve { name: name, additional: count }
-            Read { name: name, index: count }
-            Len { name: name }
-            Contents { name: name }
-            Capacity { name: name }
-            Unique { name: name }
+            New { name }
+            WithCapacity { name, capacity: count }
+            FromList { name, items: integers }
+            FromElem { name, value: integer, n: count }
+            Clone { from, to: name }
+            Drop { name }
+            Push { name, value: integer }
+            Pop { name }
+            Insert { name, index: count, value: integer }
+            Remove { name, index: count }
+            Write { name, index: count, value: integer }
+            Truncate { name, target: count }
+            Clear { name }
+            Retain { name, marks: marks }
+            Drain { name, bounds: bounds }
+            Splice { name, bounds: bounds, items: integers }
+            Extend { name, items: integers }
+            Reserve { name, additional: count }
+            Read { name, index: count }
+            Len { name }
+            Contents { name }
+            Capacity { name }
+            Unique { name }
         })
     }
 
