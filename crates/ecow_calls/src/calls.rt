@@ -115,7 +115,7 @@ pub struct Row {
     pub call: Call,
     /// How the tables of costs write it, but for its owner.
     pub name: &'static str,
-    /// The part of the value that it is about.
+    /// The part of the value that it is about, and none where both are 0.
     pub start: usize,
     pub end: usize,
     /// How many items it is given, keeps, or asks room for.
@@ -126,41 +126,7 @@ pub struct Row {
     pub times: usize,
 }
 
-/// A call that is given so many items, or a number.
-pub fn row_of(call: Call, name: &'static str, count: usize) -> Row {
-    Row {
-        call,
-        name,
-        start: 0,
-        end: 0,
-        count,
-        needs: 0,
-        times: 1,
-    }
-}
-
-/// A call about a part that must be there.
-pub fn part_row(call: Call, name: &'static str, part: (usize, usize), count: usize) -> Row {
-    let (start, end) = part;
-    Row {
-        start,
-        end,
-        needs: if start == LAST { 0 } else { end },
-        ..row_of(call, name, count)
-    }
-}
-
 impl Row {
-    /// The call where there are so many items.
-    pub fn at(self, needs: usize) -> Row {
-        Row { needs, ..self }
-    }
-
-    /// The call, again and again.
-    pub fn repeated(self, times: usize) -> Row {
-        Row { times, ..self }
-    }
-
     /// Where the part begins among so many items.
     pub fn start_in(&self, len: usize) -> usize {
         self.start.min(len)

@@ -195,11 +195,11 @@ fn add<V: Value>(
 
 /// The rows of vectors of elements that count, in these states.
 fn add_vectors_in(meter: Meter, rows: &mut Rows, tally: &Tally, states: &[State]) {
-    let (changes, arrays) = (tables::vector_changes(), tables::into_arrays());
-    let derivations = tables::vector_derivations();
-    add::<EcoVec<Counting>>(meter, rows, tally, Role::Change, (&changes, states));
-    add::<EcoVec<Counting>>(meter, rows, tally, Role::Change, (&arrays, states));
-    add::<EcoVec<Counting>>(meter, rows, tally, Role::Derive, (&derivations, states));
+    let (changes, arrays) = (tables::VECTOR_CHANGES, tables::INTO_ARRAYS);
+    let derivations = tables::VECTOR_DERIVATIONS;
+    add::<EcoVec<Counting>>(meter, rows, tally, Role::Change, (changes, states));
+    add::<EcoVec<Counting>>(meter, rows, tally, Role::Change, (arrays, states));
+    add::<EcoVec<Counting>>(meter, rows, tally, Role::Derive, (derivations, states));
 }
 
 /// The rows of vectors of elements that count.
@@ -207,41 +207,41 @@ pub(crate) fn add_vectors(meter: Meter, rows: &mut Rows) {
     let Ok(tally) = Tally::new(meter.alloc) else {
         return;
     };
-    let (few, growth) = (few_elements(), tables::vector_growth());
-    let (makers, more) = (tables::vector_makers(), tables::vector_makers_of_many());
-    let (none, arrays) = (&few[..1], tables::array_makers());
+    let (few, growth) = (few_elements(), tables::VECTOR_GROWTH);
+    let (makers, more) = (tables::VECTOR_MAKERS, tables::VECTOR_MAKERS_OF_MANY);
+    let (none, arrays) = (&few[..1], tables::ARRAY_MAKERS);
     add_vectors_in(meter, rows, &tally, &few);
     add_vectors_in(meter, rows, &tally, &thousand());
-    add::<EcoVec<Counting>>(meter, rows, &tally, Role::Change, (&growth, none));
-    add::<EcoVec<Counting>>(meter, rows, &tally, Role::Make, (&makers, none));
-    add::<EcoVec<Counting>>(meter, rows, &tally, Role::Make, (&more, none));
-    add::<EcoVec<Counting>>(meter, rows, &tally, Role::Make, (&arrays, none));
+    add::<EcoVec<Counting>>(meter, rows, &tally, Role::Change, (growth, none));
+    add::<EcoVec<Counting>>(meter, rows, &tally, Role::Make, (makers, none));
+    add::<EcoVec<Counting>>(meter, rows, &tally, Role::Make, (more, none));
+    add::<EcoVec<Counting>>(meter, rows, &tally, Role::Make, (arrays, none));
 }
 
 /// The rows of calls that take elements as memory, of bytes.
 pub(crate) fn add_copies(meter: Meter, rows: &mut Rows) {
-    let (few, many, copies) = (few_elements(), thousand(), tables::copies());
+    let (few, many, copies) = (few_elements(), thousand(), tables::COPIES);
     let (growth, within, makers) = (
-        tables::copies_growth(),
-        tables::copies_within(),
-        tables::copies_makers(),
+        tables::COPIES_GROWTH,
+        tables::COPIES_WITHIN,
+        tables::COPIES_MAKERS,
     );
-    add::<EcoVec<u8>>(meter, rows, &(), Role::Change, (&copies, &few));
-    add::<EcoVec<u8>>(meter, rows, &(), Role::Change, (&copies, &many));
-    add::<EcoVec<u8>>(meter, rows, &(), Role::Change, (&within, &many));
-    add::<EcoVec<u8>>(meter, rows, &(), Role::Change, (&growth, &few[..1]));
-    add::<EcoVec<u8>>(meter, rows, &(), Role::Make, (&makers, &few[..1]));
+    add::<EcoVec<u8>>(meter, rows, &(), Role::Change, (copies, &few));
+    add::<EcoVec<u8>>(meter, rows, &(), Role::Change, (copies, &many));
+    add::<EcoVec<u8>>(meter, rows, &(), Role::Change, (within, &many));
+    add::<EcoVec<u8>>(meter, rows, &(), Role::Change, (growth, &few[..1]));
+    add::<EcoVec<u8>>(meter, rows, &(), Role::Make, (makers, &few[..1]));
 }
 
 /// The rows of elements of no bytes.
 pub(crate) fn add_units(meter: Meter, rows: &mut Rows) {
     let (none, growth, makers) = (
         &few_elements()[..1],
-        tables::unit_growth(),
-        tables::unit_makers(),
+        tables::UNIT_GROWTH,
+        tables::UNIT_MAKERS,
     );
-    add::<EcoVec<()>>(meter, rows, &(), Role::Change, (&growth, none));
-    add::<EcoVec<()>>(meter, rows, &(), Role::Make, (&makers, none));
+    add::<EcoVec<()>>(meter, rows, &(), Role::Change, (growth, none));
+    add::<EcoVec<()>>(meter, rows, &(), Role::Make, (makers, none));
 }
 
 /// The rows of changes and derivations of bytes or texts in these states.
@@ -253,13 +253,7 @@ fn add_in<V: Value<Source = ()>>(
     states: &[State],
 ) {
     add::<V>(meter, rows, &(), Role::Change, (changes, states));
-    add::<V>(
-        meter,
-        rows,
-        &(),
-        Role::Change,
-        (&tables::reductions(), states),
-    );
+    add::<V>(meter, rows, &(), Role::Change, (tables::REDUCTIONS, states));
     add::<V>(meter, rows, &(), Role::Derive, (derivations, states));
 }
 
@@ -278,7 +272,7 @@ fn add_states<V: Value<Source = ()>>(
     }
     add_in::<V>(meter, rows, changes, derivations, &thousand());
     let few = few_spilled(limit);
-    add::<V>(meter, rows, &(), Role::Change, (&tables::shrinking(), &few));
+    add::<V>(meter, rows, &(), Role::Change, (tables::SHRINKING, &few));
 }
 
 /// The rows of makers of bytes or texts, at the usual limit or at another; of growth at the first.
@@ -293,13 +287,7 @@ fn add_made<V: Value<Source = ()>>(
     let (states, none) = (edge(limit), no_byte());
     let first = &states[..1];
     if limit == USUAL {
-        add::<V>(
-            meter,
-            rows,
-            &(),
-            Role::Make,
-            (&tables::first_makers(), first),
-        );
+        add::<V>(meter, rows, &(), Role::Make, (tables::FIRST_MAKERS, first));
         add::<V>(meter, rows, &(), Role::Make, (makers, first));
         add::<V>(meter, rows, &(), Role::Change, (growth, &none));
     } else {
@@ -316,16 +304,16 @@ fn add_made<V: Value<Source = ()>>(
 
 pub(crate) fn add_bytes<V: Value<Source = ()>>(meter: Meter, rows: &mut Rows) {
     let limit = V::limit().unwrap_or(0);
-    let (makers, makers_at) = (tables::bytes_makers(), tables::bytes_makers_at(limit));
-    let (changes, derivations) = (tables::bytes_changes(), tables::bytes_derivations());
-    add_states::<V>(meter, rows, &changes, &derivations);
-    add_made::<V>(meter, rows, &makers, &makers_at, &tables::bytes_growth());
+    let (makers, makers_at) = (tables::BYTES_MAKERS, tables::bytes_makers_at(limit));
+    let (changes, derivations) = (tables::BYTES_CHANGES, tables::BYTES_DERIVATIONS);
+    add_states::<V>(meter, rows, changes, derivations);
+    add_made::<V>(meter, rows, makers, &makers_at, tables::BYTES_GROWTH);
 }
 
 pub(crate) fn add_texts<V: Value<Source = ()>>(meter: Meter, rows: &mut Rows) {
     let limit = V::limit().unwrap_or(0);
-    let (makers, makers_at) = (tables::text_makers(), tables::text_makers_at(limit));
-    let (changes, derivations) = (tables::text_changes(), tables::text_derivations());
-    add_states::<V>(meter, rows, &changes, &derivations);
-    add_made::<V>(meter, rows, &makers, &makers_at, &tables::text_growth());
+    let (makers, makers_at) = (tables::TEXT_MAKERS, tables::text_makers_at(limit));
+    let (changes, derivations) = (tables::TEXT_CHANGES, tables::TEXT_DERIVATIONS);
+    add_states::<V>(meter, rows, changes, derivations);
+    add_made::<V>(meter, rows, makers, &makers_at, tables::TEXT_GROWTH);
 }

@@ -150,7 +150,7 @@ const SLICES: &[Arguments] = &[
 /// From the start 1 on another pattern is replaced.
 const PATTERNS: &[Arguments] = &[(0, 0, 9), (1, 0, 2), (1, 0, TOO_MANY)];
 
-pub(crate) const ROWS: [Row; Word::Drop as usize + 1] = [
+pub(crate) static ROWS: [Row; Word::Drop as usize + 1] = [
     (Word::New, Part::Makes, ALL, 1, NONE),
     (Word::WithCapacity, Part::Makes, ALL, 1, ROOMS),
     (Word::FromItems, Part::Makes, ALL, 4, FEW),

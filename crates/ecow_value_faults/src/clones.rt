@@ -36,27 +36,21 @@ fn rows_hold(alloc: Global, watch: &Watch, role: Role, rows: &[Row], states: &[S
 
 /// No request for memory may be refused beside.
 pub(crate) fn clones_hold(alloc: Global, watch: &Watch) -> bool {
-    let (changes, further) = (tables::vector_changes(), tables::further_vector_changes());
-    let (makers, more) = (tables::vector_makers(), tables::further_vector_makers());
+    let (changes, further) = (tables::VECTOR_CHANGES, tables::FURTHER_VECTOR_CHANGES);
+    let (makers, more) = (tables::VECTOR_MAKERS, tables::FURTHER_VECTOR_MAKERS);
     let states = few_elements();
     !watch.is_strict()
-        || rows_hold(alloc, watch, Role::Change, &changes, &states)
-            && rows_hold(alloc, watch, Role::Change, &further, &states)
+        || rows_hold(alloc, watch, Role::Change, changes, &states)
+            && rows_hold(alloc, watch, Role::Change, further, &states)
             && rows_hold(
                 alloc,
                 watch,
                 Role::Derive,
-                &tables::vector_derivations(),
+                tables::VECTOR_DERIVATIONS,
                 &states,
             )
-            && rows_hold(alloc, watch, Role::Make, &makers, &states[..1])
-            && rows_hold(alloc, watch, Role::Make, &more, &states[..1])
-            && rows_hold(alloc, watch, Role::Change, &tables::into_arrays(), &states)
-            && rows_hold(
-                alloc,
-                watch,
-                Role::Make,
-                &tables::array_makers(),
-                &states[..1],
-            )
+            && rows_hold(alloc, watch, Role::Make, makers, &states[..1])
+            && rows_hold(alloc, watch, Role::Make, more, &states[..1])
+            && rows_hold(alloc, watch, Role::Change, tables::INTO_ARRAYS, &states)
+            && rows_hold(alloc, watch, Role::Make, tables::ARRAY_MAKERS, &states[..1])
 }

@@ -15,35 +15,35 @@ pub(crate) fn many_hold(alloc: Global, watch: &Watch) -> bool {
     let Ok(tally) = Tally::new(alloc) else {
         return watch.may_refuse();
     };
-    let (changes, arrays, many) = (tables::vector_changes(), tables::into_arrays(), thousand());
-    let (makers, first) = (tables::vector_makers_of_many(), &many[..1]);
+    let (changes, arrays, many) = (tables::VECTOR_CHANGES, tables::INTO_ARRAYS, thousand());
+    let (makers, first) = (tables::VECTOR_MAKERS_OF_MANY, &many[..1]);
     !watch.is_strict()
-        || table_holds::<EcoVec<Counting>>(alloc, &tally, watch, Role::Change, (&changes, &many))
-            && table_holds::<EcoVec<Counting>>(alloc, &tally, watch, Role::Change, (&arrays, &many))
-            && table_holds::<EcoVec<Counting>>(alloc, &tally, watch, Role::Make, (&makers, first))
+        || table_holds::<EcoVec<Counting>>(alloc, &tally, watch, Role::Change, (changes, &many))
+            && table_holds::<EcoVec<Counting>>(alloc, &tally, watch, Role::Change, (arrays, &many))
+            && table_holds::<EcoVec<Counting>>(alloc, &tally, watch, Role::Make, (makers, first))
 }
 
 /// Vectors with few elements in each state, which come of memory alone.
 pub(crate) fn vectors_hold<T: Element<Source = ()>>(alloc: Global, watch: &Watch) -> bool {
     let source = &();
-    let (changes, further) = (tables::vector_changes(), tables::further_vector_changes());
-    let (makers, more) = (tables::vector_makers(), tables::further_vector_makers());
-    let (states, derivations) = (few_elements(), tables::vector_derivations());
+    let (changes, further) = (tables::VECTOR_CHANGES, tables::FURTHER_VECTOR_CHANGES);
+    let (makers, more) = (tables::VECTOR_MAKERS, tables::FURTHER_VECTOR_MAKERS);
+    let (states, derivations) = (few_elements(), tables::VECTOR_DERIVATIONS);
     let first = &states[..1];
-    table_holds::<EcoVec<T>>(alloc, source, watch, Role::Change, (&changes, &states))
-        && table_holds::<EcoVec<T>>(alloc, source, watch, Role::Change, (&further, &states))
-        && table_holds::<EcoVec<T>>(alloc, source, watch, Role::Derive, (&derivations, &states))
-        && table_holds::<EcoVec<T>>(alloc, source, watch, Role::Make, (&makers, first))
-        && table_holds::<EcoVec<T>>(alloc, source, watch, Role::Make, (&more, first))
+    table_holds::<EcoVec<T>>(alloc, source, watch, Role::Change, (changes, &states))
+        && table_holds::<EcoVec<T>>(alloc, source, watch, Role::Change, (further, &states))
+        && table_holds::<EcoVec<T>>(alloc, source, watch, Role::Derive, (derivations, &states))
+        && table_holds::<EcoVec<T>>(alloc, source, watch, Role::Make, (makers, first))
+        && table_holds::<EcoVec<T>>(alloc, source, watch, Role::Make, (more, first))
 }
 
 /// Arrays of elements whose clones take memory, and vectors of such.
 pub(crate) fn arrays_hold<T: Element<Source = ()>>(alloc: Global, watch: &Watch) -> bool {
-    let (arrays, others) = (tables::into_arrays(), tables::into_other_arrays());
-    let (makers, states) = (tables::array_makers(), few_elements());
-    table_holds::<EcoVec<T>>(alloc, &(), watch, Role::Change, (&arrays, &states))
-        && table_holds::<EcoVec<T>>(alloc, &(), watch, Role::Change, (&others, &states[..2]))
-        && table_holds::<EcoVec<T>>(alloc, &(), watch, Role::Make, (&makers, &states[..1]))
+    let (arrays, others) = (tables::INTO_ARRAYS, tables::INTO_OTHER_ARRAYS);
+    let (makers, states) = (tables::ARRAY_MAKERS, few_elements());
+    table_holds::<EcoVec<T>>(alloc, &(), watch, Role::Change, (arrays, &states))
+        && table_holds::<EcoVec<T>>(alloc, &(), watch, Role::Change, (others, &states[..2]))
+        && table_holds::<EcoVec<T>>(alloc, &(), watch, Role::Make, (makers, &states[..1]))
 }
 
 /// Calls of vectors that take elements as memory. Those behind the first eleven are of bytes alone.
@@ -53,9 +53,9 @@ pub(crate) fn copies_hold<T: Element<Source = ()>>(
     copies: usize,
 ) -> bool {
     let (rows, further, makers) = (
-        tables::copies(),
-        tables::further_copies(),
-        tables::copies_makers(),
+        tables::COPIES,
+        tables::FURTHER_COPIES,
+        tables::COPIES_MAKERS,
     );
     let (few, many) = (few_elements(), thousand());
     let mut hold = true;
@@ -67,8 +67,8 @@ pub(crate) fn copies_hold<T: Element<Source = ()>>(
                 && hold;
         }
     }
-    table_holds::<EcoVec<T>>(alloc, &(), watch, Role::Change, (&further, &few))
-        && table_holds::<EcoVec<T>>(alloc, &(), watch, Role::Make, (&makers, &few[..1]))
+    table_holds::<EcoVec<T>>(alloc, &(), watch, Role::Change, (further, &few))
+        && table_holds::<EcoVec<T>>(alloc, &(), watch, Role::Make, (makers, &few[..1]))
         && hold
 }
 
@@ -108,29 +108,29 @@ fn makers_hold<V: Value<Source = ()>>(alloc: Global, watch: &Watch, rows: &[Row]
 /// What bytes and texts have in common.
 fn small_hold<V: Value<Source = ()>>(alloc: Global, watch: &Watch) -> bool {
     let limit = V::limit().unwrap_or(0);
-    changes_hold::<V>(alloc, watch, &tables::reductions())
-        && further_hold::<V>(alloc, watch, &tables::further_reductions())
+    changes_hold::<V>(alloc, watch, tables::REDUCTIONS)
+        && further_hold::<V>(alloc, watch, tables::FURTHER_REDUCTIONS)
         && makers_hold::<V>(alloc, watch, &tables::first_makers_at(limit))
 }
 
 pub(crate) fn bytes_hold<V: Value<Source = ()>>(alloc: Global, watch: &Watch) -> bool {
     let limit = V::limit().unwrap_or(0);
     small_hold::<V>(alloc, watch)
-        && changes_hold::<V>(alloc, watch, &tables::bytes_changes())
-        && further_hold::<V>(alloc, watch, &tables::further_bytes_changes())
-        && derivations_hold::<V>(alloc, watch, &tables::bytes_derivations())
+        && changes_hold::<V>(alloc, watch, tables::BYTES_CHANGES)
+        && further_hold::<V>(alloc, watch, tables::FURTHER_BYTES_CHANGES)
+        && derivations_hold::<V>(alloc, watch, tables::BYTES_DERIVATIONS)
         && makers_hold::<V>(alloc, watch, &tables::bytes_makers_at(limit))
 }
 
 pub(crate) fn texts_hold<V: Value<Source = ()>>(alloc: Global, watch: &Watch) -> bool {
-    let (limit, derivations) = (V::limit().unwrap_or(0), tables::text_derivations());
+    let (limit, derivations) = (V::limit().unwrap_or(0), tables::TEXT_DERIVATIONS);
     // Past ASCII the case of letters asks for std's text besides.
     let differ = varied(around(limit));
     small_hold::<V>(alloc, watch)
-        && changes_hold::<V>(alloc, watch, &tables::text_changes())
-        && further_hold::<V>(alloc, watch, &tables::further_text_changes())
-        && derivations_hold::<V>(alloc, watch, &derivations)
-        && derivations_hold::<V>(alloc, watch, &tables::further_text_derivations())
+        && changes_hold::<V>(alloc, watch, tables::TEXT_CHANGES)
+        && further_hold::<V>(alloc, watch, tables::FURTHER_TEXT_CHANGES)
+        && derivations_hold::<V>(alloc, watch, derivations)
+        && derivations_hold::<V>(alloc, watch, tables::FURTHER_TEXT_DERIVATIONS)
         && table_holds::<V>(
             alloc,
             &(),

@@ -100,24 +100,24 @@ fn vectors_hold(alloc: Global, watch: &Watch, numbers: &mut Numbers) -> bool {
     let Ok(tally) = Tally::new(alloc) else {
         return false;
     };
-    let (changes, further) = (tables::vector_changes(), tables::further_vector_changes());
-    rows_hold::<EcoVec<i64>>(alloc, &(), watch, numbers, &changes)
-        && rows_hold::<EcoVec<i64>>(alloc, &(), watch, numbers, &further)
-        && rows_hold::<EcoVec<u8>>(alloc, &(), watch, numbers, &tables::copies())
-        && rows_hold::<EcoVec<i64>>(alloc, &(), watch, numbers, &tables::further_copies())
-        && rows_hold::<EcoVec<Counting>>(alloc, &tally, watch, numbers, &changes)
-        && rows_hold::<EcoVec<Counting>>(alloc, &tally, watch, numbers, &further)
+    let (changes, further) = (tables::VECTOR_CHANGES, tables::FURTHER_VECTOR_CHANGES);
+    rows_hold::<EcoVec<i64>>(alloc, &(), watch, numbers, changes)
+        && rows_hold::<EcoVec<i64>>(alloc, &(), watch, numbers, further)
+        && rows_hold::<EcoVec<u8>>(alloc, &(), watch, numbers, tables::COPIES)
+        && rows_hold::<EcoVec<i64>>(alloc, &(), watch, numbers, tables::FURTHER_COPIES)
+        && rows_hold::<EcoVec<Counting>>(alloc, &tally, watch, numbers, changes)
+        && rows_hold::<EcoVec<Counting>>(alloc, &tally, watch, numbers, further)
 }
 
 fn bytes_hold<V: Value<Source = ()>>(alloc: Global, watch: &Watch, numbers: &mut Numbers) -> bool {
-    rows_hold::<V>(alloc, &(), watch, numbers, &tables::bytes_changes())
-        && rows_hold::<V>(alloc, &(), watch, numbers, &tables::further_bytes_changes())
-        && rows_hold::<V>(alloc, &(), watch, numbers, &tables::reductions())
+    rows_hold::<V>(alloc, &(), watch, numbers, tables::BYTES_CHANGES)
+        && rows_hold::<V>(alloc, &(), watch, numbers, tables::FURTHER_BYTES_CHANGES)
+        && rows_hold::<V>(alloc, &(), watch, numbers, tables::REDUCTIONS)
 }
 
 fn texts_hold<V: Value<Source = ()>>(alloc: Global, watch: &Watch, numbers: &mut Numbers) -> bool {
-    rows_hold::<V>(alloc, &(), watch, numbers, &tables::text_changes())
-        && rows_hold::<V>(alloc, &(), watch, numbers, &tables::reductions())
+    rows_hold::<V>(alloc, &(), watch, numbers, tables::TEXT_CHANGES)
+        && rows_hold::<V>(alloc, &(), watch, numbers, tables::REDUCTIONS)
 }
 
 /// Where no request is refused.
