@@ -42,13 +42,13 @@ while read -r tool file change; do
     cp -p "$work/kept" "$work/copy/$file"
 done < "$work/table"
 
-# A program that says nothing, one that repeats its file, and one that asks for memory that it doesn't give back.
+# A program that says nothing, one that repeats its file, and one that always says the same.
 change=
 printf '#!/bin/sh\n' > "$work/silent"
 printf '#!/bin/sh\ncat "$1"\n' > "$work/repeats"
-printf '#!/bin/sh\necho a part\n' > "$work/keeps"
-chmod +x "$work/silent" "$work/repeats" "$work/keeps"
+printf '#!/bin/sh\necho a part\n' > "$work/constant"
+chmod +x "$work/silent" "$work/repeats" "$work/constant"
 for tool in costs.sh refuse.sh ends.sh large.sh; do
-    for program in silent repeats keeps; do refuses "$tool" "$work/$program"; done
+    for program in silent repeats constant; do refuses "$tool" "$work/$program"; done
 done
 echo "$checked checks refuse what they must not pass"

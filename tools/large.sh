@@ -60,4 +60,4 @@ for part in names owners; do
         grown=$((grown + 1))
     done
 done
-echo "growth: $grown scripts take as long for a line as ones of a sixteenth"
+echo "growth: $grown scripts take no longer for a line than ones of a sixteenth of the lines"
