@@ -8,9 +8,6 @@ use Rattle.std.specs.List.{insert, remove, slice_set, refill, take-map, drop-map
 use lib.Seq.{take_at}
 
 module _ {X Y : Type 0} (f : X → Y) where
-  pub map_push : (xs : List X) (x : X) → map f (xs ++ x ∷ []) ≡ map f xs ++ f x ∷ []
-  map_push xs x = map-append f xs (x ∷ [])
-
   pub map_insert : (xs : List X) (i : ℕ) (x : X) → map f (insert xs i x) ≡ insert (map f xs) i (f x)
   map_insert xs i x =
       let before = take-map f i xs in

@@ -1,12 +1,36 @@
 -- What stands at a byte index of a text, for those who test an index before they call `remove` or `truncate`.
-use Rattle.std.proofs.Common.{◌≡◌, ℕ, ◌<◌, ◌≤◌, Bool, true, false, List, length, take, get_or, Some, None, refl, sym, ap, ◌∙◌, arith, inl, inr}
+use Rattle.std.proofs.Common.{◌≡◌, ℕ, zero, ◌+◌, ◌<◌, ◌≤◌, Bool, true, false, List, [], ◌∷◌, length, take, drop, get_or, Some, None, refl, sym, ap, ◌∙◌, arith, inl, inr}
 use Rattle.std.specs.Prelude.{slice_get, nat_lt, ◌||◌}
-use Rattle.std.proofs.lemmas.List.{take_all}
+use Rattle.std.proofs.lemmas.List.{take_all, length-append}
 use Rattle.std.proofs.lemmas.Bool.{cases_lt, le-ltb}
 use Rattle.std.proofs.lemmas.Option.{slice_get_past, slice_get-get_or}
 use Rattle.ecow_base.specs.Utf8.{utf8_len, chars_before, is_boundary}
-use Rattle.ecow_base.proofs.Boundaries.{chars_before-front, passes_boundary}
-use Rattle.ecow_string.proofs.Texts.{chars_before-past}
+use Rattle.std.specs.Str.{encode_utf8_all}
+use Rattle.ecow_base.proofs.Boundaries.{boundary_passes, chars_before-front, passes_boundary}
+use Rattle.ecow_string.proofs.Texts.{chars_before-past, split_encoded}
+
+-- a boundary isn't past the end, and the end is one
+pub boundary_within : (cs : List ℕ) (index : ℕ) → is_boundary cs index ≡ true → index ≤ utf8_len cs
+boundary_within cs index passes =
+    let at = passes_boundary cs index passes in
+    let front = encode_utf8_all (take at.front cs) in
+    let behind = encode_utf8_all (drop at.front cs) in
+    let whole : utf8_len cs ≡ length front + length behind = ap length (split_encoded cs at.front) ∙ length-append front behind in
+    omega (arith, whole, at.ends)
+
+pub end_is_boundary : (cs : List ℕ) → is_boundary cs (utf8_len cs) ≡ true
+end_is_boundary cs =
+    boundary_passes cs (utf8_len cs) (record { front = length cs; fits = omega arith; ends = ap utf8_len (take_all (length cs) cs (omega arith)) })
+
+-- all characters stand before the end, and none before the start
+pub all_before_end : (cs : List ℕ) → chars_before cs (utf8_len cs) ≡ length cs
+all_before_end cs =
+    let whole : take (length cs) cs ≡ cs = take_all (length cs) cs (omega arith) in
+    sym (ap (λ front. chars_before cs (utf8_len front)) whole) ∙ chars_before-front cs (length cs) (omega arith)
+
+pub none_before_start : (cs : List ℕ) → chars_before cs 0 ≡ 0
+none_before_start [] = refl
+none_before_start (c ∷ cs) = refl
 
 -- no character stands at the end or past it
 pub nothing_at_end : (cs : List ℕ) (index : ℕ) → utf8_len cs ≤ index → slice_get cs (chars_before cs index) ≡ None

@@ -1,7 +1,7 @@
 //! std's traits by which a text is used as the `str` that it is, and is collected from an iterator,
 //! as a `String` is.
 ghost use Rattle.std.specs.Prelude.{◌≡◌};
-ghost use Rattle.std.specs.Str.{encode_utf8_all};
+ghost use Rattle.std.specs.Str.{chars, encode_utf8_all};
 ghost use Rattle.ecow_base.specs.Inline.{inline_for};
 ghost use Rattle.ecow_base.specs.Utf8.{utf8_len};
 ghost use Rattle.ecow_string.specs.Appends.{joined_strs, joined_texts};
@@ -13,7 +13,8 @@ use std::ops::DerefStr;
 
 /// The text: so `text.chars()`, `text.find(..)` and all other calls of a `str`.
 impl<const N: usize> DerefStr for SmallText<N> {
-    ghost deref_gives = { λ text bytes. bytes ≡ encode_utf8_all text.chars };
+    ghost deref_gives = { λ text bytes. (bytes ≡ encode_utf8_all text.chars)
+        × (chars bytes ≡ text.chars) };
 
     #[inline]
     fn deref(&self) -> &str {

@@ -4,7 +4,7 @@ use Rattle.std.specs.String.{string_bytes}
 use Rattle.std.specs.declared.string.String.{String}
 use Rattle.ecow_list.specs.Vectors.{IsKeptIn}
 use Rattle.ecow_list.proofs.Kept.{kept_alike}
-use Rattle.ecow_list.proofs.Views.{map_push}
+use Rattle.std.proofs.lemmas.List.{map_push}
 
 module _ {Z : Type 0} where
   abbrev pub says_same : String Z → String Z → Type 0
