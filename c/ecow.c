@@ -36,6 +36,8 @@ const char *ecow_status_text(ecow_status status) {
         return "value of another kind";
     case ECOW_INNER_NUL:
         return "a 0 inside the text";
+    case ECOW_DEPTH:
+        return "nested too deep";
     }
     return "no status";
 }
@@ -133,9 +135,7 @@ ecow_status ecow_text_insert(ecow_text *text, size_t index, const char *added, s
         return ecow_text_refuse(text, index, index, added, count);
     }
     ecow_status status = ecow_text_keep(&array, text, added, count);
-    if (status == ECOW_OK) {
-        status = ecow_proved_text_insert(&text, index, array.items, count);
-    }
+    status = status ? status : ecow_proved_text_insert(&text, index, array.items, count);
     ecow_text_let_go(&array);
     return status;
 }
@@ -156,9 +156,7 @@ ecow_status ecow_text_replace(ecow_text *text, const char *pattern, size_t patte
     }
     ecow_status status = ecow_text_keep(&from, text, pattern, pattern_count);
     ecow_status other = ecow_text_keep(&to, text, replacement, replacement_count);
-    if (status == ECOW_OK) {
-        status = other;
-    }
+    status = status ? status : other;
     if (status == ECOW_OK) {
         status =
             ecow_proved_text_replace(&text, from.items, pattern_count, to.items, replacement_count);
@@ -189,12 +187,8 @@ ecow_status ecow_text_c_str(ecow_text *text, const char **out) {
         return ECOW_INNER_NUL;
     }
     ecow_status status = ecow_text_reserve(text, 2);
-    if (status == ECOW_OK) {
-        status = ecow_text_push(text, 0);
-    }
-    if (status == ECOW_OK) {
-        status = ecow_text_truncate(text, len);
-    }
+    status = status ? status : ecow_text_push(text, 0);
+    status = status ? status : ecow_text_truncate(text, len);
     if (status == ECOW_OK && out) {
         *out = ecow_text_slice(text, NULL);
     }
@@ -236,9 +230,7 @@ ecow_status ecow_texts_set_text(ecow_texts *texts, size_t index, const char *byt
     if (status == ECOW_CAPACITY && index >= ecow_texts_len(texts)) {
         status = ECOW_INDEX;
     }
-    if (status == ECOW_OK) {
-        status = ecow_texts_set(texts, index, &text);
-    }
+    status = status ? status : ecow_texts_set(texts, index, &text);
     ecow_text_drop(&text);
     return status;
 }
@@ -252,9 +244,7 @@ ecow_status ecow_texts_push(ecow_texts *texts, const ecow_text *text) {
 ecow_status ecow_texts_push_text(ecow_texts *texts, const char *bytes, size_t count) {
     ecow_text text = {{0}};
     ecow_status status = texts ? ecow_text_assign(&text, bytes, count) : ECOW_NULL;
-    if (status == ECOW_OK) {
-        status = ecow_texts_push(texts, &text);
-    }
+    status = status ? status : ecow_texts_push(texts, &text);
     ecow_text_drop(&text);
     return status;
 }
@@ -295,9 +285,7 @@ static ecow_status keep_texts(given_texts *given, const ecow_texts *list, const 
 ecow_status ecow_texts_extend(ecow_texts *texts, const ecow_texts *added) {
     given_texts given;
     ecow_status status = keep_texts(&given, texts, added);
-    if (status == ECOW_OK) {
-        status = ecow_proved_texts_extend(&texts, &given.texts);
-    }
+    status = status ? status : ecow_proved_texts_extend(&texts, &given.texts);
     ecow_texts_drop(&given.held);
     return status;
 }
@@ -306,9 +294,7 @@ ecow_status ecow_texts_splice(ecow_texts *texts, size_t start, size_t end,
                               const ecow_texts *added) {
     given_texts given;
     ecow_status status = keep_texts(&given, texts, added);
-    if (status == ECOW_OK) {
-        status = ecow_proved_texts_splice(&texts, start, end, &given.texts);
-    }
+    status = status ? status : ecow_proved_texts_splice(&texts, start, end, &given.texts);
     ecow_texts_drop(&given.held);
     return status;
 }
@@ -391,6 +377,11 @@ size_t ecow_value_len(const ecow_value *value) {
     return ecow_proved_value_len(&place);
 }
 
+size_t ecow_value_depth(const ecow_value *value) {
+    ecow_value *place = (ecow_value *)value;
+    return ecow_proved_value_depth(&place);
+}
+
 /* Gives a call's result to the caller, whose value may be the one that the call took it from. A
  * result that isn't wanted, and that of a refusal, are given up. */
 static ecow_status hand_over(ecow_status status, ecow_value *made, ecow_value *out) {
@@ -432,14 +423,16 @@ static ecow_status keep_value(given_value *given, const ecow_value *value, const
     return is_itself ? ecow_value_clone(&given->held, value) : ECOW_OK;
 }
 
+static ecow_status end_value(ecow_status status, given_value *given) {
+    ecow_value_drop(&given->held);
+    return status;
+}
+
 ecow_status ecow_value_set(ecow_value *value, size_t index, const ecow_value *item) {
     given_value given;
-    ecow_status status = keep_value(&given, value, item);
-    if (status == ECOW_OK) {
-        status = ecow_proved_value_set(&value, index, &given.value);
-    }
-    ecow_value_drop(&given.held);
-    return status;
+    ecow_status refused = keep_value(&given, value, item);
+    return end_value(refused ? refused : ecow_proved_value_set(&value, index, &given.value),
+                     &given);
 }
 
 /* Ends an exchange: where a value was exchanged with its own part, it becomes that part. */
@@ -449,31 +442,22 @@ static ecow_status end_swap(ecow_status status, given_value *given, ecow_value *
 
 ecow_status ecow_value_swap(ecow_value *value, size_t index, ecow_value *other) {
     given_value given;
-    ecow_status status = keep_value(&given, value, other);
-    if (status == ECOW_OK) {
-        status = ecow_proved_value_swap(&value, index, &given.value);
-    }
-    return end_swap(status, &given, value);
+    ecow_status refused = keep_value(&given, value, other);
+    return end_swap(refused ? refused : ecow_proved_value_swap(&value, index, &given.value), &given,
+                    value);
 }
 
 ecow_status ecow_value_push(ecow_value *value, const ecow_value *item) {
     given_value given;
-    ecow_status status = keep_value(&given, value, item);
-    if (status == ECOW_OK) {
-        status = ecow_proved_value_push(&value, &given.value);
-    }
-    ecow_value_drop(&given.held);
-    return status;
+    ecow_status refused = keep_value(&given, value, item);
+    return end_value(refused ? refused : ecow_proved_value_push(&value, &given.value), &given);
 }
 
 ecow_status ecow_value_insert(ecow_value *value, size_t index, const ecow_value *item) {
     given_value given;
-    ecow_status status = keep_value(&given, value, item);
-    if (status == ECOW_OK) {
-        status = ecow_proved_value_insert(&value, index, &given.value);
-    }
-    ecow_value_drop(&given.held);
-    return status;
+    ecow_status refused = keep_value(&given, value, item);
+    return end_value(refused ? refused : ecow_proved_value_insert(&value, index, &given.value),
+                     &given);
 }
 
 ecow_status ecow_value_truncate(ecow_value *value, size_t len) {
@@ -510,9 +494,7 @@ ecow_status ecow_value_get_field(const ecow_value *value, const char *name, size
     ecow_value *place = (ecow_value *)value, made = {{0}}, *out = &made;
     given_name given;
     ecow_status status = keep_name(&given, value, value, name, count);
-    if (status == ECOW_OK) {
-        status = ecow_proved_value_get_field(&place, given.bytes, count, &out);
-    }
+    status = status ? status : ecow_proved_value_get_field(&place, given.bytes, count, &out);
     ecow_text_drop(&given.held);
     return hand_over(status, &made, item);
 }
@@ -527,9 +509,7 @@ ecow_status ecow_value_set_field(ecow_value *value, const char *name, size_t cou
     }
     ecow_status other = keep_value(&kept, value, item);
     status = status == ECOW_OK ? other : status;
-    if (status == ECOW_OK) {
-        status = ecow_proved_value_set_field(&value, given.bytes, count, &kept.value);
-    }
+    status = status ? status : ecow_proved_value_set_field(&value, given.bytes, count, &kept.value);
     ecow_text_drop(&given.held);
     ecow_value_drop(&kept.held);
     return status;
@@ -557,9 +537,7 @@ ecow_status ecow_value_remove_field(ecow_value *value, const char *name, size_t 
     ecow_value made = {{0}}, *out = &made;
     given_name given;
     ecow_status status = keep_name(&given, value, value, name, count);
-    if (status == ECOW_OK) {
-        status = ecow_proved_value_remove_field(&value, given.bytes, count, &out);
-    }
+    status = status ? status : ecow_proved_value_remove_field(&value, given.bytes, count, &out);
     ecow_text_drop(&given.held);
     return hand_over(status, &made, item);
 }

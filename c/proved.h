@@ -108,6 +108,7 @@ ecow_status ecow_proved_value_number(ecow_value **value, int64_t *out);
 ecow_status ecow_proved_value_real(ecow_value **value, double *out);
 ecow_status ecow_proved_value_text(ecow_value **value, ecow_text **out);
 size_t ecow_proved_value_len(ecow_value **value);
+uint32_t ecow_proved_value_depth(ecow_value **value);
 ecow_status ecow_proved_value_get(ecow_value **value, size_t index, ecow_value **out);
 ecow_status ecow_proved_value_set(ecow_value **value, size_t index, ecow_value **item);
 ecow_status ecow_proved_value_swap(ecow_value **value, size_t index, ecow_value **other);

@@ -12,7 +12,7 @@
  * Answers. A call that changes a value answers an `ecow_status`. Unless that is `ECOW_OK`, the
  * value is as it was, and nothing is written to the other pointers. Where several refusals apply,
  * the first of these is answered: a null value, a null array, `ECOW_UTF8`, `ECOW_KIND`,
- * `ECOW_INDEX`, `ECOW_BOUNDARY`, `ECOW_CAPACITY`. `ECOW_MEMORY` may stand in place of any but
+ * `ECOW_INDEX`, `ECOW_BOUNDARY`, `ECOW_DEPTH`, `ECOW_CAPACITY`. `ECOW_MEMORY` may stand in place of any but
  * `ECOW_NULL`.
  *
  * Pointers. A null pointer is answered, never followed: `ECOW_NULL` by each call that answers a
@@ -83,15 +83,16 @@ static const char *const ecow_count_needed __attribute__((used)) =
 
 /* What a call answers. */
 typedef enum ecow_status {
-    ECOW_OK = 0,       /* It is done. */
-    ECOW_MEMORY = 1,   /* There was no memory. */
-    ECOW_CAPACITY = 2, /* The length would pass 2^63 - 1. */
-    ECOW_INDEX = 3,    /* An index or a range passes the end, or there is nothing to take. */
-    ECOW_BOUNDARY = 4, /* An index is inside a character. */
-    ECOW_UTF8 = 5,     /* The bytes are no UTF-8, or the number is no character. */
-    ECOW_NULL = 6,     /* A pointer that is needed is null. */
-    ECOW_KIND = 7,     /* The nested value is of another kind. */
-    ECOW_INNER_NUL = 8 /* The text has a 0 inside, so no string of C holds it. */
+    ECOW_OK = 0,        /* It is done. */
+    ECOW_MEMORY = 1,    /* There was no memory. */
+    ECOW_CAPACITY = 2,  /* The length would pass 2^63 - 1. */
+    ECOW_INDEX = 3,     /* An index or a range passes the end, or there is nothing to take. */
+    ECOW_BOUNDARY = 4,  /* An index is inside a character. */
+    ECOW_UTF8 = 5,      /* The bytes are no UTF-8, or the number is no character. */
+    ECOW_NULL = 6,      /* A pointer that is needed is null. */
+    ECOW_KIND = 7,      /* The nested value is of another kind. */
+    ECOW_INNER_NUL = 8, /* The text has a 0 inside, so no string of C holds it. */
+    ECOW_DEPTH = 9      /* The nested value would nest deeper than ECOW_MAX_DEPTH. */
 } ecow_status;
 
 /* A few words for people: "out of memory". Never null. */
@@ -460,8 +461,11 @@ uint64_t ecow_texts_hash(const ecow_texts *texts);
  * value, take a part out, change it, and put it in again. What lies beside the way stays shared. A
  * call for another kind of value answers ECOW_KIND.
  *
- * A result may be the value itself, which is then replaced. A value is dropped by recursion, so the
- * stack bounds how deep one may be. */
+ * A result may be the value itself, which is then replaced. */
+
+/* How deep a value may nest. A thread with a stack of 128 KiB drops, compares and copies such a
+ * value. */
+#define ECOW_MAX_DEPTH 512
 
 /* What a value is. */
 typedef enum ecow_kind {
@@ -521,6 +525,11 @@ ecow_status ecow_value_text(const ecow_value *value, ecow_text *text);
 
 /* How many items a list has, or how many fields there are; 0 of another kind. */
 size_t ecow_value_len(const ecow_value *value);
+
+/* How deep it nests: 0 of what has no parts, else one more than its deepest part. A list or fields
+ * take no part that has ECOW_MAX_DEPTH: ECOW_DEPTH. Where the deepest part goes, the others are
+ * looked at. */
+size_t ecow_value_depth(const ecow_value *value);
 
 /* Makes `item` a clone of the item of a list, or of a field's value, at `index`: ECOW_INDEX from
  * the length on. */

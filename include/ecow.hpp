@@ -22,7 +22,7 @@
  *
  * Errors. A call that is refused throws, and leaves each value as it was (the strong guarantee):
  *     std::bad_alloc          ECOW_MEMORY
- *     std::length_error       ECOW_CAPACITY
+ *     std::length_error       ECOW_CAPACITY, ECOW_DEPTH
  *     std::out_of_range       ECOW_INDEX
  *     ecow::invalid_text      ECOW_BOUNDARY, ECOW_UTF8, ECOW_INNER_NUL
  *     ecow::wrong_kind        ECOW_KIND
@@ -122,6 +122,7 @@ inline void check(ecow_status status) {
     case ECOW_MEMORY:
         throw no_memory();
     case ECOW_CAPACITY:
+    case ECOW_DEPTH:
         throw std::length_error(ecow_status_text(status));
     case ECOW_INDEX:
         throw std::out_of_range(ecow_status_text(status));
@@ -1794,6 +1795,11 @@ public:
         return find(name).has_value();
     }
 
+    /* How deep the value nests, as ecow_value_depth says it. */
+    size_type depth() const noexcept {
+        return ecow_value_depth(&raw);
+    }
+
     /* The name of the field at `index`. Throws std::out_of_range from the size on. */
     ecow::text name(size_type index) const {
         ecow::text read;
@@ -1824,6 +1830,7 @@ public:
                           "update takes a function that returns nothing: it changes its argument");
             value part(at(path));
             change(part);
+            detail::check(path.size() + part.depth() > ECOW_MAX_DEPTH ? ECOW_DEPTH : ECOW_OK);
             put(path.data(), path.data() + path.size(), part);
         }
     }

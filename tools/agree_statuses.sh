@@ -5,9 +5,9 @@ set -eu
 cd "$(dirname "$0")/.."
 work=$(mktemp -d)
 trap 'rm -r "$work"' EXIT
-printf '%s\n' 'OK 0' 'MEMORY 1' 'CAPACITY 2' 'INDEX 3' 'BOUNDARY 4' 'UTF8 5' 'NULL 6' 'KIND 7' > "$work/proved"
+printf '%s\n' 'OK 0' 'MEMORY 1' 'CAPACITY 2' 'INDEX 3' 'BOUNDARY 4' 'UTF8 5' 'NULL 6' 'KIND 7' 'DEPTH 9' > "$work/proved"
 # The functions of `c/` answer this one.
-echo 'INNER_NUL 8' | cat "$work/proved" - > "$work/statuses"
+echo 'INNER_NUL 8' | sort -k 2n "$work/proved" - > "$work/statuses"
 sed 's/ .*//' "$work/statuses" | sort > "$work/names"
 
 # Compares those of a file, on standard input.

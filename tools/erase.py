@@ -62,13 +62,14 @@ CONST = {
     "ecow_block/parts.rt": ["no_parts"],
     "ecow_block/room/heads.rt": ["no_head"],
     "ecow_block/room/heap.rt": ["nowhere"],
+    "ecow_nested/nested.rt": ["new"],
     "ecow_shared/shared.rt": ["new", "hold", "none"],
     "ecow_list/vec.rt": ["new"],
 }
 
 # Traits that Rust has too and an impl of which stands as it is.
 TRAITS = set("""Allocator Copy Copying Debug Display DoubleEndedIterator Eq ExactSizeIterator From FusedIterator Hash
-    IntoIterator Iterator Joined Ord PartialEq PartialOrd Send Sync ToEcoString TryFrom Write""".split())
+    IntoIterator Iterator Joined Ord Part PartialEq PartialOrd Send Sync ToEcoString TryFrom Write""".split())
 
 # Traits that Rust lacks: an impl goes whole.
 NO_TRAITS = "AsSlice|AsStr|FromIterator"

@@ -641,6 +641,93 @@ static void deep_changes(void) {
 }
 
 /* Results that own memory, and that nobody wants: they are given up. */
+/* A value that nests so deep: lists, or fields, each the one part of the next. */
+static ecow_value nested(size_t levels, bool is_list) {
+    ecow_value made = {{0}};
+    for (size_t level = 0; level < levels; level++) {
+        ecow_value outer = {{0}};
+        CHECK((is_list ? ecow_value_set_list(&outer) : ecow_value_set_fields(&outer)) == ECOW_OK);
+        CHECK(ecow_value_depth(&outer) == 1);
+        CHECK(level == 0
+              || (is_list ? ecow_value_push(&outer, &made)
+                          : ecow_value_set_field(&outer, LONG_TEXT, strlen(LONG_TEXT), &made))
+                     == ECOW_OK);
+        CHECK(ecow_value_depth(&outer) == level + 1);
+        ecow_value_drop(&made);
+        made = outer;
+    }
+    return made;
+}
+
+/* The deepest value goes into no other. */
+static void depths(void) {
+    for (int is_list = 0; is_list < 2; is_list++) {
+        ecow_value deepest = nested(ECOW_MAX_DEPTH, is_list), list = {{0}}, fields = {{0}};
+        ecow_value lower = nested(ECOW_MAX_DEPTH - 1, is_list), item = number_value(7);
+        CHECK(ECOW_MAX_DEPTH == 512 && ecow_value_depth(&deepest) == 512);
+        CHECK(ecow_value_depth(&item) == 0 && ecow_value_depth(NULL) == 0);
+        CHECK(ecow_value_set_list(&list) == ECOW_OK && ecow_value_push(&list, &item) == ECOW_OK);
+        CHECK(ecow_value_set_fields(&fields) == ECOW_OK
+              && ecow_value_set_field(&fields, "a", 1, &item) == ECOW_OK);
+        CHECK(ecow_value_push(&list, &deepest) == ECOW_DEPTH);
+        CHECK(ecow_value_insert(&list, 1, &deepest) == ECOW_DEPTH
+              && ecow_value_insert(&list, 2, &deepest) == ECOW_INDEX);
+        CHECK(ecow_value_set(&list, 0, &deepest) == ECOW_DEPTH
+              && ecow_value_set(&list, 1, &deepest) == ECOW_INDEX);
+        CHECK(ecow_value_swap(&list, 0, &deepest) == ECOW_DEPTH
+              && ecow_value_swap(&list, 1, &deepest) == ECOW_INDEX);
+        CHECK(ecow_value_set_field(&fields, "a", 1, &deepest) == ECOW_DEPTH
+              && ecow_value_set_field(&fields, "b", 1, &deepest) == ECOW_DEPTH
+              && ecow_value_set_field(&fields, "\xff", 1, &deepest) == ECOW_UTF8);
+        CHECK(ecow_value_swap_field(&fields, "a", 1, &deepest) == ECOW_DEPTH
+              && ecow_value_swap_field(&fields, "b", 1, &deepest) == ECOW_INDEX);
+        CHECK(ecow_value_push(&item, &deepest) == ECOW_KIND
+              && ecow_value_set_field(&list, "a", 1, &deepest) == ECOW_KIND);
+        CHECK(ecow_value_push(&deepest, &deepest) == (is_list ? ECOW_DEPTH : ECOW_KIND));
+        CHECK(has_numbers(&list, (int64_t[]){7}, 1) && ecow_value_depth(&list) == 1);
+        CHECK(has_field(&fields, 0, "a", 7) && ecow_value_len(&fields) == 1);
+        CHECK(ecow_value_depth(&fields) == 1 && ecow_value_depth(&deepest) == 512);
+        /* A container is one deeper than its deepest part, also where one was taken out. */
+        CHECK(ecow_value_set_field(&fields, "b", 1, &lower) == ECOW_OK);
+        CHECK(ecow_value_depth(&fields) == 512 && ecow_value_push(&list, &fields) == ECOW_DEPTH);
+        CHECK(ecow_value_swap_field(&fields, "b", 1, &item) == ECOW_OK);
+        CHECK(ecow_value_depth(&item) == 511 && ecow_value_depth(&fields) == 1);
+        CHECK(ecow_value_push(&list, &fields) == ECOW_OK && ecow_value_depth(&list) == 2);
+        CHECK(ecow_value_push(&list, &lower) == ECOW_OK && ecow_value_depth(&list) == 512);
+        CHECK(ecow_value_remove(&list, 1, NULL) == ECOW_OK && ecow_value_depth(&list) == 512);
+        CHECK(ecow_value_set(&list, 1, &fields) == ECOW_OK && ecow_value_depth(&list) == 2);
+        CHECK(ecow_value_insert(&list, 0, &lower) == ECOW_OK
+              && ecow_value_insert(&list, 0, &lower) == ECOW_OK && ecow_value_depth(&list) == 512);
+        CHECK(ecow_value_remove(&list, 1, NULL) == ECOW_OK && ecow_value_depth(&list) == 512);
+        CHECK(ecow_value_swap(&list, 0, &fields) == ECOW_OK && ecow_value_depth(&list) == 2);
+        CHECK(ecow_value_depth(&fields) == 511 && ecow_value_push(&list, &lower) == ECOW_OK);
+        CHECK(ecow_value_pop(&list, NULL) == ECOW_OK && ecow_value_depth(&list) == 2);
+        CHECK(ecow_value_push(&list, &lower) == ECOW_OK && ecow_value_truncate(&list, 3) == ECOW_OK);
+        CHECK(ecow_value_depth(&list) == 2 && ecow_value_truncate(&list, 0) == ECOW_OK);
+        CHECK(ecow_value_depth(&list) == 1 && ecow_value_set_fields(&fields) == ECOW_OK);
+        CHECK(ecow_value_set_field(&fields, "a", 1, &lower) == ECOW_OK
+              && ecow_value_set_field(&fields, "b", 1, &lower) == ECOW_OK);
+        CHECK(ecow_value_remove_field(&fields, "a", 1, NULL) == ECOW_OK);
+        CHECK(ecow_value_depth(&fields) == 512 && ecow_value_set_field(&fields, "b", 1, &list) == ECOW_OK);
+        CHECK(ecow_value_depth(&fields) == 2 && ecow_value_set_field(&fields, "b", 1, &lower) == ECOW_OK);
+        CHECK(ecow_value_remove_field(&fields, "b", 1, NULL) == ECOW_OK);
+        CHECK(ecow_value_depth(&fields) == 1);
+        /* However often a value holds what it was before, without what that held. */
+        for (int round = 0; round < 2000; round++) {
+            CHECK(ecow_value_clone(&item, &fields) == ECOW_OK);
+            ecow_status status = ecow_value_remove_field(&item, "before", 6, NULL);
+            CHECK(status == (round ? ECOW_OK : ECOW_INDEX));
+            CHECK(ecow_value_set_field(&fields, "before", 6, &item) == ECOW_OK);
+            CHECK(ecow_value_depth(&fields) == 2);
+        }
+        ecow_value_drop(&deepest);
+        ecow_value_drop(&list);
+        ecow_value_drop(&fields);
+        ecow_value_drop(&item);
+        ecow_value_drop(&lower);
+    }
+}
+
 static void unwanted_results(void) {
     ecow_texts texts = {{0}};
     ecow_text text = {{0}};
@@ -920,7 +1007,8 @@ static void statuses(void) {
     CHECK(ECOW_NULL == 6 && strcmp(ecow_status_text(6), "null pointer") == 0);
     CHECK(ECOW_KIND == 7 && strcmp(ecow_status_text(7), "value of another kind") == 0);
     CHECK(ECOW_INNER_NUL == 8 && strcmp(ecow_status_text(8), "a 0 inside the text") == 0);
-    CHECK(strcmp(ecow_status_text(9), "no status") == 0);
+    CHECK(ECOW_DEPTH == 9 && strcmp(ecow_status_text(9), "nested too deep") == 0);
+    CHECK(strcmp(ecow_status_text(10), "no status") == 0);
 }
 
 /* The version that the library names is that of the header. */
@@ -1145,6 +1233,7 @@ int main(void) {
     lists_in_values();
     fields_in_values();
     deep_changes();
+    depths();
     unwanted_results();
     equality_of_values();
     refusals_of_values();

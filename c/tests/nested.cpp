@@ -576,6 +576,33 @@ static void values_have_paths() {
 }
 
 /* Each member for another kind, and each index past the end, leaves the value as it was. */
+/* A list, or fields, each the one part of the next, so deep. */
+static value nested(std::size_t levels, bool is_list) {
+    value made(7);
+    for (std::size_t level = 0; level < levels; ++level) {
+        CHECK(made.depth() == level);
+        made = is_list ? value(std::vector<value>(1, made))
+                       : value(std::map<std::string, value>{{sixteen, made}});
+    }
+    return made;
+}
+
+static void values_have_a_depth() {
+    for (bool is_list : {true, false}) {
+        const value deepest = nested(ECOW_MAX_DEPTH, is_list);
+        value settings{{1, 2}, 3};
+        const value kept(settings);
+        CHECK(throws<length_error>(ECOW_DEPTH, [&] { value(std::vector<value>(1, deepest)); }));
+        CHECK(throws<length_error>(ECOW_DEPTH, [&] { settings.push_back(deepest); }));
+        CHECK(throws<length_error>(ECOW_DEPTH, [&] {
+            settings.update({0, 1}, [&](value &part) { part = nested(511, is_list); });
+        }));
+        CHECK(settings.shares(kept) && settings == kept && settings.depth() == 2);
+        settings.update({0, 1}, [&](value &part) { part = nested(510, is_list); });
+        CHECK(settings.depth() == 512 && settings.get(0).depth() == 511 && kept.depth() == 2);
+    }
+}
+
 static void values_refuse() {
     value some[] = {nullptr, true, 1, 2.5, "x", {1, sixteen}, value::fields({{"a", 1}})};
     for (value &each : some) {
@@ -722,6 +749,7 @@ int main() {
         fields_are_changed();
         values_have_parts();
         values_have_paths();
+        values_have_a_depth();
         values_have_an_order();
         values_are_written();
         paths_hold_names();

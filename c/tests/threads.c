@@ -1,7 +1,7 @@
 /* Threads whose values share blocks: threads [ROUNDS [handover]]. Eight threads have clones of the
  * same values each. They clone these, change the clones, compare and drop, ROUNDS times in all.
  * With `handover` one thread gives clones to another instead, and both change what they have. No
- * value is in two calls at once. */
+ * value is in two calls at once. First the deepest values go to a thread that has little stack. */
 #include "check.h"
 
 #include <pthread.h>
@@ -315,8 +315,44 @@ static long hand_lists_over(long rounds) {
     return place.wrong;
 }
 
+/* A value that nests as deep as any may: lists, or fields. */
+static ecow_value deepest(bool is_list) {
+    ecow_value made = {{0}};
+    for (size_t depth = 0; depth < ECOW_MAX_DEPTH; depth++) {
+        ecow_value outer = {{0}};
+        CHECK(!(is_list ? ecow_value_set_list(&outer) : ecow_value_set_fields(&outer)));
+        CHECK(
+            !(is_list ? ecow_value_push(&outer, &made) : put(&outer, "a long name for it", &made)));
+        ecow_value_drop(&made);
+        made = outer;
+    }
+    return made;
+}
+
+/* What recurs into two equal values. */
+static void *recur(void *given) {
+    ecow_value *twins = given, clone = {{0}};
+    CHECK(ecow_value_equal(&twins[0], &twins[1]) && !ecow_value_clone(&clone, &twins[0]));
+    ecow_value_drop(&twins[0]);
+    ecow_value_drop(&clone);
+    ecow_value_drop(&twins[1]);
+    return NULL;
+}
+
+static void recur_on_little_stack(void) {
+    for (int is_list = 0; is_list < 2; is_list++) {
+        ecow_value twins[2] = {deepest(is_list), deepest(is_list)};
+        pthread_attr_t little;
+        pthread_t thread;
+        CHECK(!pthread_attr_init(&little) && !pthread_attr_setstacksize(&little, 128 << 10));
+        CHECK(!pthread_create(&thread, &little, recur, twins) && !pthread_join(thread, NULL));
+        pthread_attr_destroy(&little);
+    }
+}
+
 int main(int count, char **words) {
     take_no_buffer();
+    recur_on_little_stack();
     long rounds = count > 1 ? atol(words[1]) : 1000;
     long wrong = count > 2 ? hand_lists_over(rounds) : churn_in_threads(rounds);
     printf("%ld rounds, %ld wrong\n", rounds, wrong);

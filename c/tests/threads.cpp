@@ -1,10 +1,15 @@
 /* Values of ecow.hpp in eight threads, each with copies of the same ones: threads [ROUNDS]. No
- * thread sees what another wrote, and moved values go from one to the next. */
+ * thread sees what another wrote, and moved values go from one to the next. Last the deepest values
+ * go to a thread that has little stack. */
 #include "ecow.hpp"
 
 #include <cstdio>
 #include <cstdlib>
+#include <functional>
+#include <map>
 #include <numeric>
+#include <pthread.h>
+#include <sstream>
 #include <string>
 #include <thread>
 #include <utility>
@@ -37,6 +42,48 @@ static void churn(values given, long rounds, std::int64_t number, values &left, 
     left = std::move(given);
 }
 
+/* A value that nests as deep as any may: lists, or fields. */
+static ecow::value deepest(bool is_list) {
+    ecow::value made(7);
+    for (std::size_t depth = 0; depth < ECOW_MAX_DEPTH; ++depth) {
+        made = is_list
+                   ? ecow::value(std::vector<ecow::value>(1, made))
+                   : ecow::value(std::map<std::string, ecow::value>{{"a long name for it", made}});
+    }
+    return made;
+}
+
+/* What recurs into two equal values. */
+static void *recur(void *given) {
+    auto &[left, right] = *static_cast<std::pair<ecow::value, ecow::value> *>(given);
+    std::ostringstream written;
+    written << left;
+    bool is_right = left == right && !(left < right) && written.str().size() > ECOW_MAX_DEPTH
+                    && std::hash<ecow::value>()(left) == std::hash<ecow::value>()(right);
+    left = right = ecow::value();
+    return is_right ? given : nullptr;
+}
+
+/* Sanitizers have larger frames. */
+#if defined(__SANITIZE_ADDRESS__) || defined(__SANITIZE_THREAD__)
+constexpr std::size_t little = 4 << 20;
+#else
+constexpr std::size_t little = 128 << 10;
+#endif
+
+static bool recurs_on_little_stack(bool is_list) {
+    std::pair<ecow::value, ecow::value> twins(deepest(is_list), deepest(is_list));
+    pthread_attr_t attributes;
+    pthread_t thread;
+    void *answered = nullptr;
+    bool is_right = pthread_attr_init(&attributes) == 0
+                    && pthread_attr_setstacksize(&attributes, little) == 0
+                    && pthread_create(&thread, &attributes, recur, &twins) == 0
+                    && pthread_join(thread, &answered) == 0;
+    pthread_attr_destroy(&attributes);
+    return is_right && answered == &twins;
+}
+
 int main(int argc, char **argv) {
     constexpr std::size_t threads = 8;
     long rounds = argc > 1 ? std::atol(argv[1]) : 1000, all_wrong = 0;
@@ -58,6 +105,7 @@ int main(int argc, char **argv) {
     for (std::size_t at = 0; at < threads; at++) {
         all_wrong += wrong[at] + !are_untouched(left[at]);
     }
+    all_wrong += !recurs_on_little_stack(true) + !recurs_on_little_stack(false);
     std::printf("c++: %ld rounds in threads, %ld wrong\n", rounds, all_wrong);
     return all_wrong != 0;
 }

@@ -37,6 +37,9 @@ int refuse(ecow_status status, const char *what) {
     case ECOW_INDEX:
         PyErr_Format(PyExc_IndexError, "%s index out of range", what);
         return -1;
+    case ECOW_DEPTH:
+        PyErr_Format(PyExc_RecursionError, "%s nested deeper than %d", what, ECOW_MAX_DEPTH);
+        return -1;
     case ECOW_KIND:
         PyErr_Format(PyExc_TypeError, "%s is of another kind", what);
         return -1;

@@ -40,7 +40,7 @@
     ALONE_OF_BOTH(X) ALONE_OF_STR(X) METHODS_OF_BOTH(X) METHODS_OF_STR(X) PLAIN_OF_STR(X)
 
 /* The names that are looked up in other objects. */
-#define NAMES(X) X(copied) X(depth) X(equal) X(hashed) X(plain) X(reduced)
+#define NAMES(X) X(copied) X(equal) X(hashed) X(plain) X(reduced)
 /* clang-format on */
 
 typedef struct text_object text_object;
@@ -106,8 +106,6 @@ typedef struct texts_object {
 typedef struct value_object {
     VALUE_HEAD
     ecow_value value;
-    /* How deep its lists and fields are nested at most: 0 without any. */
-    Py_ssize_t depth;
 } value_object;
 
 /* ---- core.c ---- */

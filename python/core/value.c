@@ -7,15 +7,11 @@
 #define OWN(name) value_##name
 #define TYPE value
 #define NAME "Value"
-#define NOTE(to, from) ((to)->depth = (from)->depth)
+#define NOTE(to, from)
 #define FORGET(object)
 #define SPARED(state, type) NULL
 #define SPARE_IT(object) false
 #include "kind.h"
-
-/* How deep lists and fields may be nested. A value is dropped by recursion, and this many levels
- * fit on the stack of a thread of 128 KiB. */
-enum { DEEPEST = 512 };
 
 /* Values nested no deeper are compared by the library, which visits a part as often as it occurs. */
 enum { SHALLOW = 16 };
@@ -38,16 +34,15 @@ static bool has_parts(const ecow_value *value) {
 typedef struct level {
     /* The items, or pairs of a name and a value, which no other code changes. */
     PyObject *parts;
-    Py_ssize_t next, depth;
+    Py_ssize_t next;
     ecow_value made;
 } level;
 
 /* Makes `made` what an object is, and answers 0, or 1 and its parts where it has some. An object
  * that isn't of Python's own kinds is asked by `plain` what it is; `is_plain` says that it was. */
-static int read_one(core_state *state, PyObject *given, ecow_value *made, Py_ssize_t *depth,
-                    Py_ssize_t room, PyObject **parts, bool is_plain) {
+static int read_one(core_state *state, PyObject *given, ecow_value *made, PyObject **parts,
+                    bool is_plain) {
     int overflow = 0;
-    *depth = 0;
     if (given == Py_None) {
         return check(ecow_value_set_nothing(made), NAME);
     }
@@ -73,25 +68,7 @@ static int read_one(core_state *state, PyObject *given, ecow_value *made, Py_ssi
         return done;
     }
     if (value_is(state, given)) {
-        value_object *object = value_cast(given);
-        /* What an object notes grows by edits, so it is measured before it is refused. */
-        if (object->depth > room) {
-            PyObject *measured = call_helper(state->names.depth, given, NULL);
-            Py_ssize_t depth = measured ? PyLong_AsSsize_t(measured) : -1;
-            Py_XDECREF(measured);
-            if (depth < 0) {
-                return -1;
-            }
-            object->depth = depth;
-        }
-        *depth = object->depth;
-        if (object->depth <= room) {
-            return check(ecow_value_clone(made, &object->value), NAME);
-        }
-    }
-    if (value_is(state, given) || room < 1) {
-        PyErr_Format(PyExc_RecursionError, "value nested deeper than %d", DEEPEST);
-        return -1;
+        return check(ecow_value_clone(made, &value_cast(given)->value), NAME);
     }
     if (PyTuple_Check(given) || PyList_Check(given)) {
         *parts = PyTuple_Check(given) ? Py_NewRef(given) : PyList_AsTuple(given);
@@ -104,17 +81,14 @@ static int read_one(core_state *state, PyObject *given, ecow_value *made, Py_ssi
         return *parts && check(ecow_value_set_fields(made), NAME) == 0 ? 1 : -1;
     }
     PyObject *plain = is_plain ? NULL : call_helper(state->names.plain, given, NULL);
-    int done = plain ? read_one(state, plain, made, depth, room, parts, true) : -1;
+    int done = plain ? read_one(state, plain, made, parts, true) : -1;
     Py_XDECREF(plain);
     return done;
 }
 
 /* Adds a part to what is being read. A name is read behind its value, whose code may change it. */
-static int add_part(core_state *state, level *to, const ecow_value *part, Py_ssize_t depth) {
+static int add_part(core_state *state, level *to, const ecow_value *part) {
     utf8 name;
-    if (depth >= to->depth) {
-        to->depth = depth + 1;
-    }
     if (ecow_value_kind(&to->made) == ECOW_KIND_LIST) {
         return check(ecow_value_push(&to->made, part), NAME);
     }
@@ -124,16 +98,17 @@ static int add_part(core_state *state, level *to, const ecow_value *part, Py_ssi
                : check(ecow_value_set_field(&to->made, name.bytes, (size_t)name.size, part), NAME);
 }
 
-/* Makes `made` what an object of Python's is, and notes how deep that is nested, at most. It needs
- * no more of the stack for a deep object. */
-static int read_value(core_state *state, PyObject *given, ecow_value *made, Py_ssize_t *depth,
-                      Py_ssize_t room) {
+/* Makes `made` what an object of Python's is. It needs no more of the stack for a deep object. */
+static int read_value(core_state *state, PyObject *given, ecow_value *made) {
     level *levels = NULL;
     Py_ssize_t count = 0;
     int done;
     for (;;) {
         PyObject *parts = NULL;
-        done = read_one(state, given, made, depth, room - count, &parts, false);
+        done = read_one(state, given, made, &parts, false);
+        if (done == 1 && count == ECOW_MAX_DEPTH) {
+            done = check(ECOW_DEPTH, NAME);
+        }
         if (done == 1) {
             level *more = PyMem_Realloc(levels, (size_t)(count + 1) * sizeof *levels);
             if (!more) {
@@ -143,7 +118,7 @@ static int read_value(core_state *state, PyObject *given, ecow_value *made, Py_s
                 break;
             }
             levels = more;
-            levels[count++] = (level){parts, 0, 1, *made};
+            levels[count++] = (level){parts, 0, *made};
             *made = ecow_value_new();
         } else if (done < 0) {
             Py_XDECREF(parts);
@@ -152,7 +127,7 @@ static int read_value(core_state *state, PyObject *given, ecow_value *made, Py_s
         /* What is read goes into the list or the fields around it, as long as these are whole. */
         for (; count > 0; done = 0) {
             level *top = &levels[count - 1];
-            if (done == 0 && (done = add_part(state, top, made, *depth)) < 0) {
+            if (done == 0 && (done = add_part(state, top, made)) < 0) {
                 break;
             }
             ecow_value_drop(made);
@@ -163,7 +138,6 @@ static int read_value(core_state *state, PyObject *given, ecow_value *made, Py_s
                 break;
             }
             *made = top->made;
-            *depth = top->depth;
             Py_DECREF(top->parts);
             count--;
         }
@@ -243,10 +217,8 @@ static PyObject *plain_of(const ecow_value *value) {
 
 /* A part so many levels down in an object, as a `Value`, which takes it over. */
 static PyObject *part_value(value_object *object, ecow_value *part, Py_ssize_t level) {
-    Py_ssize_t depth = object->depth - level;
     PyObject *made = value_own(object->state, part);
     if (made) {
-        value_cast(made)->depth = depth < 0 ? 0 : depth;
         value_cast(made)->is_lent = level > 0;
     }
     return made;
@@ -404,18 +376,17 @@ static int remove_at(value_object *object, PyObject *keys, ecow_value *part) {
 
 /* Puts what an object is at the path of some keys, which are given up. */
 static int put_at(value_object *object, PyObject *keys, PyObject *given) {
-    Py_ssize_t depth, level = keys ? PyTuple_Size(keys) : 0;
+    size_t level = keys ? (size_t)PyTuple_Size(keys) : 0;
     ecow_value item = {{0}};
-    int done = keys ? read_value(object->state, given, &item, &depth, DEEPEST - level) : -1;
+    int done = keys ? read_value(object->state, given, &item) : -1;
+    if (done == 0 && level + ecow_value_depth(&item) > ECOW_MAX_DEPTH) {
+        done = check(ECOW_DEPTH, NAME);
+    }
     done = done == 0 && !can_change(object) ? -1 : done;
     if (done == 0 && level == 0) {
         value_take_over(object, &item);
-        object->depth = depth;
     } else if (done == 0) {
         done = change_at(&object->value, keys, 0, SET, &item);
-        if (done == 0 && level + depth > object->depth) {
-            object->depth = level + depth;
-        }
     }
     ecow_value_drop(&item);
     Py_XDECREF(keys);
@@ -556,16 +527,12 @@ static PyObject *value_set(PyObject *self, PyObject *const *arguments, Py_ssize_
 /* Puts an item into a list before an index, which may pass the end or count from it. */
 static PyObject *put_in(value_object *object, Py_ssize_t index, PyObject *given) {
     ecow_value item = {{0}};
-    Py_ssize_t depth;
-    int done = read_value(object->state, given, &item, &depth, DEEPEST - 1);
+    int done = read_value(object->state, given, &item);
     if (done == 0 && (done = can_change(object) ? 0 : -1) == 0) {
         Py_ssize_t len = (Py_ssize_t)ecow_value_len(&object->value);
         index = index < 0 ? index + len : index;
         index = index < 0 ? 0 : index > len ? len : index;
         done = check(ecow_value_insert(&object->value, (size_t)index, &item), NAME);
-        if (done == 0 && depth >= object->depth) {
-            object->depth = depth + 1;
-        }
     }
     ecow_value_drop(&item);
     return none_if(done);
@@ -607,7 +574,6 @@ static PyObject *value_clear(PyObject *self, PyObject *Py_UNUSED(none)) {
     ecow_status status = kind == ECOW_KIND_LIST     ? ecow_value_set_list(&object->value)
                          : kind == ECOW_KIND_FIELDS ? ecow_value_set_fields(&object->value)
                                                     : ECOW_KIND;
-    object->depth = status == ECOW_OK ? 1 : object->depth;
     return none_if(check(status, NAME));
 }
 
@@ -715,7 +681,8 @@ static PyObject *value_compared(PyObject *self, PyObject *other, int operation) 
     value_object *right = both ? value_cast(other) : object;
     if (both
         && (ecow_value_shares(&object->value, &right->value)
-            || (object->depth <= SHALLOW && right->depth <= SHALLOW
+            || (ecow_value_depth(&object->value) <= SHALLOW
+                && ecow_value_depth(&right->value) <= SHALLOW
                 && ecow_value_equal(&object->value, &right->value)))) {
         return PyBool_FromLong(operation == Py_EQ);
     }

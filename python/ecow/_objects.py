@@ -59,11 +59,6 @@ def _folded(value: Any, leaf: Callable[[Any], Any], branch: Callable[[Any, list[
     return made[0]
 
 
-def depth(value: Any) -> Any:
-    """How deep lists and fields are nested."""
-    return _folded(value, lambda part: 0, lambda part, below: 1 + max(below, default=0))
-
-
 def hashed(value: Any) -> Any:
     """The hash of what can't be changed: equal values have the same."""
     return _folded(

@@ -317,11 +317,17 @@ class Paths(unittest.TestCase):
         loop = {}
         loop["a"] = [loop]
         self.assertIs(outcome(lambda: Value(loop)), RecursionError)
-        # What is noted of a part may be too much. It is measured where it would be refused.
+        # What was taken out adds no depth.
         value = Value({"deep": [[[[]]]], "flat": [], "low": [[[0]]]})
         for _ in range(3000):
             value["low", 0, 0, 0] = value["flat"]
         self.assertEqual(value["low"], [[[[]]]])
+        value = Value({})
+        for _ in range(2000):
+            before = value.copy()
+            before.pop("before", None)
+            value["before"] = before
+        self.assertEqual(value, {"before": {}})
         log = Value({"log": [], "state": [1]})
         for _ in range(5000):
             entries = log["log"].copy()

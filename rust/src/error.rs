@@ -20,6 +20,8 @@ pub enum Error {
     Boundary,
     /// The nested value is of another kind.
     Kind,
+    /// The nested value would nest deeper than [`MAX_DEPTH`](crate::value::MAX_DEPTH).
+    Depth,
 }
 
 impl fmt::Display for Error {
@@ -30,6 +32,7 @@ impl fmt::Display for Error {
             Error::Index => "index past the end",
             Error::Boundary => "index inside a character",
             Error::Kind => "value of another kind",
+            Error::Depth => "nested too deep",
         })
     }
 }
@@ -49,7 +52,7 @@ macro_rules! from_proved {
 }
 from_proved! {
     EcoError: Capacity Memory;
-    Refusal: Kind Index Capacity Memory;
+    Refusal: Kind Index Depth Capacity Memory;
 }
 
 impl From<AllocError> for Error {

@@ -33,7 +33,7 @@ struct Aligned;
 
 // Sizes that the crate's pages tell.
 const _: () = assert!(size_of::<SmallBytes<15>>() == 16 && size_of::<Option<SmallBytes<15>>>() == 16);
-const _: () = assert!(size_of::<crate::Value>() == 16 && size_of::<crate::EcoString>() == 16);
+const _: () = assert!(size_of::<crate::Value>() == 24 && size_of::<crate::EcoString>() == 16);
 
 /// What goes without being dropped has no drop, and what has one is known to have it.
 const _: () = {

@@ -11,6 +11,9 @@ use core::fmt::{self, Debug};
 
 pub use proved::Kind;
 
+/// How deep a value may nest. A thread with a stack of 512 KiB drops and compares such a value, in debug builds too.
+pub const MAX_DEPTH: usize = proved::MAX_DEPTH as usize;
+
 /// A step into a value: to an item by its index, or to a field by its name.
 #[derive(Clone, Copy, Debug, PartialEq, Eq, Hash)]
 pub enum Step<'a> {
@@ -34,9 +37,9 @@ impl<'a> From<&'a str> for Step<'a> {
 
 /// Nothing, a truth value, a number, a text, a list of values, or fields by name in order.
 ///
-/// It takes 16 bytes. Parts go in and out as clones, which share memory: a change of what lies deep copies the lists on the
-/// way that are shared, and what lies beside the way stays shared. A value is dropped by recursion, so the stack bounds how
-/// deep one may be.
+/// It takes 24 bytes. Parts go in and out as clones, which share memory: a change of what lies deep copies the lists on the
+/// way that are shared, and what lies beside the way stays shared. A value nests at most [`MAX_DEPTH`] deep, which any
+/// thread drops.
 ///
 /// ```
 /// use ecow::{Error, Kind, Value};
@@ -67,17 +70,23 @@ impl Value {
 
     /// A list of no items.
     pub const fn new_list() -> Self {
-        Value(proved::Value::List(crate::proved::ecow_list::EcoVec::new(Global)))
+        Value(proved::Value::List(proved::Nested::new(Global)))
     }
 
     /// A value with no fields.
     pub const fn new_fields() -> Self {
-        Value(proved::Value::Fields(crate::proved::ecow_list::EcoVec::new(Global)))
+        Value(proved::Value::Fields(proved::Nested::new(Global)))
     }
 
     /// A clone, as [`Clone::clone`] makes it: `Error::Memory` past 2^63 - 1 owners.
     pub fn try_clone(&self) -> Result<Self, Error> {
         Ok(Value(self.0.try_clone()?))
+    }
+
+    /// How deep the value nests: 0 of what has no parts, else one more than its deepest part. Calls that put a part in
+    /// answer `Error::Depth` where it has [`MAX_DEPTH`] itself.
+    pub fn depth(&self) -> usize {
+        self.0.depth() as usize
     }
 
     /// What the value is.
@@ -196,9 +205,12 @@ impl Value {
 
     /// Puts a value in place of what lies at the end of a path, or appends a field where the last step names none:
     /// `Error::Kind` and `Error::Index` of a step that leads nowhere, `Error::Memory` where a shared list on the way can't
-    /// be copied.
+    /// be copied, `Error::Depth` where it would nest too deep there.
     pub fn set_path(&mut self, path: &[Step<'_>], item: impl Into<Self>) -> Result<(), Error> {
         let item = item.into();
+        if path.len() + item.depth() > MAX_DEPTH {
+            return Err(Error::Depth);
+        }
         match path.split_last() {
             Some((&last, way)) => self.update_path(way, |value| value.put(last, item)),
             None => {
@@ -210,16 +222,28 @@ impl Value {
 
     /// Changes what lies at the end of a path, and answers what `change` does. Lists on the way are copied where they are
     /// shared. The errors are those of `change`, `Error::Kind` and `Error::Index` of a step that leads nowhere, and
-    /// `Error::Memory` where a list can't be copied. What `change` has done before an error or a panic stays.
+    /// `Error::Memory` where a list can't be copied. What `change` has done before an error or a panic stays. Where it would
+    /// nest too deep there, nothing takes its place, and the answer is `Error::Depth`.
     pub fn update_path<R>(
         &mut self,
         path: &[Step<'_>],
         change: impl FnOnce(&mut Self) -> Result<R, Error>,
     ) -> Result<R, Error> {
+        self.update_below(0, path, change)
+    }
+
+    /// Does the same so many steps deep in another value.
+    fn update_below<R>(
+        &mut self,
+        above: usize,
+        path: &[Step<'_>],
+        change: impl FnOnce(&mut Self) -> Result<R, Error>,
+    ) -> Result<R, Error> {
         match path.split_first() {
             Some((&step, rest)) => {
-                let mut taken = Taken::new(self, step)?;
-                taken.part.update_path(rest, change)
+                let mut taken = Taken::new(self, step, above + 1)?;
+                let answer = taken.part.update_below(above + 1, rest, change);
+                if taken.is_too_deep() { Err(Error::Depth) } else { answer }
             }
             None => change(self),
         }
@@ -264,20 +288,28 @@ struct Taken<'a> {
     whole: &'a mut Value,
     step: Step<'a>,
     part: Value,
+    /// How many steps lead to it.
+    steps: usize,
 }
 
 impl<'a> Taken<'a> {
-    fn new(whole: &'a mut Value, step: Step<'a>) -> Result<Self, Error> {
+    fn new(whole: &'a mut Value, step: Step<'a>, steps: usize) -> Result<Self, Error> {
         let mut part = Value::new();
         whole.swap(step, &mut part)?;
-        Ok(Self { whole, step, part })
+        Ok(Self { whole, step, part, steps })
+    }
+
+    fn is_too_deep(&self) -> bool {
+        self.steps + self.part.depth() > MAX_DEPTH
     }
 }
 
 impl Drop for Taken<'_> {
     fn drop(&mut self) {
         // The way isn't shared since nothing was put there, so this asks for no memory.
-        granted(self.whole.swap(self.step, &mut self.part));
+        if !self.is_too_deep() {
+            granted(self.whole.swap(self.step, &mut self.part));
+        }
     }
 }
 
@@ -337,7 +369,8 @@ from! {
 impl FromIterator<Value> for Value {
     /// A list of the values.
     fn from_iter<I: IntoIterator<Item = Value>>(items: I) -> Self {
-        Value(proved::Value::List(items.into_iter().map(|item| item.0).collect::<crate::EcoVec<_>>().0))
+        let items = items.into_iter().map(|item| item.0).collect::<crate::EcoVec<_>>();
+        Value(granted(proved::Value::from_items(items.0)))
     }
 }
 

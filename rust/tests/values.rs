@@ -1,5 +1,6 @@
 //! Nested values, beside values that are worked out by hand.
 
+use ecow::value::MAX_DEPTH;
 use ecow::{EcoString, Error, Kind, Value};
 use std::panic::{AssertUnwindSafe, catch_unwind};
 
@@ -155,20 +156,47 @@ fn a_path_that_leads_nowhere_changes_nothing() {
     assert_eq!(value, tree());
 }
 
+/// A value that nests so deep.
+fn nested(levels: usize) -> Value {
+    (0..levels).fold(Value::from(7), |inner, _| [inner].into())
+}
+
 #[test]
-fn deep_values_are_dropped() {
-    let mut value = Value::new();
-    for _ in 0..2000 {
-        value = [value].into();
+fn no_value_nests_too_deep() {
+    let (deepest, mut lower) = (nested(512), nested(511));
+    assert_eq!((MAX_DEPTH, deepest.depth(), lower.depth(), Value::from(1).depth()), (512, 512, 511, 0));
+    let mut list = Value::from([1, 2]);
+    let mut fields = Value::new_fields();
+    assert_eq!(fields.set_field("a", 1), Ok(()));
+    for _ in 0..2 {
+        assert_eq!(list.push(&deepest), Err(Error::Depth));
+        assert_eq!(list.set(1, &deepest), Err(Error::Depth));
+        assert_eq!(list.insert(2, &deepest), Err(Error::Depth));
+        assert_eq!(list.set_path(&[1.into()], &deepest), Err(Error::Depth));
+        assert_eq!(fields.set_field("a", &deepest), Err(Error::Depth));
+        assert_eq!(fields.set_path(&["b".into()], &deepest), Err(Error::Depth));
+        assert_eq!(nested(511).set_path(&[0.into(); 2], nested(511)), Err(Error::Depth));
+        assert!(catch_unwind(AssertUnwindSafe(|| Value::from([deepest.clone()]))).is_err());
+        assert_eq!((list.depth(), fields.depth(), &list), (1, 1, &Value::from([1, 2])));
     }
-    let clone = value.clone();
-    assert_eq!(value, clone);
-    drop(value);
-    let mut depth = 0;
-    let mut inner = clone;
-    while let Ok(next) = inner.get(0) {
-        inner = next;
-        depth += 1;
-    }
-    assert_eq!(depth, 2000);
+    // A value is one deeper than its deepest part, also where one was taken out.
+    assert_eq!((list.push(&lower), list.depth()), (Ok(()), 512));
+    assert_eq!(fields.set_field("a", &list), Err(Error::Depth));
+    assert_eq!((list.pop().as_ref(), list.depth()), (Ok(&lower), 1));
+    assert_eq!((fields.set_field("a", &list), fields.depth()), (Ok(()), 2));
+    assert_eq!((fields.set_path(&["a".into(), 0.into()], nested(510)), fields.depth()), (Ok(()), 512));
+    assert_eq!((fields.set_path(&["a".into(), 0.into()], 1), fields.depth()), (Ok(()), 2));
+    assert_eq!(lower.update_path(&[0.into()], |inner| inner.push(1)), Ok(()));
+    // What is changed until it is too deep is lost.
+    let deepen = |inner: &mut Value| {
+        *inner = nested(511);
+        Ok(())
+    };
+    assert_eq!(lower.update_path(&[0.into(), 0.into()], deepen), Err(Error::Depth));
+    assert_eq!(lower, [Value::from([Value::new(), 1.into()])].into());
+    let work = move || {
+        assert_eq!(deepest, deepest.clone());
+        drop(deepest);
+    };
+    std::thread::Builder::new().stack_size(512 << 10).spawn(work).unwrap().join().unwrap();
 }

@@ -1,12 +1,15 @@
 -- Nested values at a pointer of C's.
-use Rattle.std.specs.Prelude.{◌≡◌, ◌-◌, ℕ, true, List, Option, None, IsSomeAnd, length, slice_get, unwrap_or}
+use Rattle.std.specs.Prelude.{◌≡◌, ◌≢◌, ◌≤◌, ◌-◌, ℕ, true, List, Option, None, IfSome, IsSomeAnd, length, slice_get, unwrap_or}
 use Rattle.std.specs.Option.{option_and_then, option_map_or}
+use Rattle.ecow_c.specs.Answers.{AreBothAnd}
+use Rattle.ecow_c.specs.declared.status.TheConstants.{OK}
+use Rattle.ecow_nested.specs.declared.nested.TheConstants.{MAX_DEPTH}
 use Rattle.ecow_nested.specs.declared.value.Kind.{Kind}
 use Rattle.ecow_nested.specs.declared.value.Kind.TheVariants as kind
 use Rattle.ecow_nested.specs.declared.value.Value.{Value}
 use Rattle.std.specs.Str.{is_utf8}
 use Rattle.ecow_base.specs.declared.plain.PlainText.{PlainText}
-use Rattle.ecow_nested.specs.Values.{fields_of, items_of, kind_of, len_of, look_up, name_in}
+use Rattle.ecow_nested.specs.Values.{depth_of, fields_of, items_of, kind_of, len_of, look_up, name_in, Covers, Raises}
 
 -- the number of a kind in the header
 abbrev pub kind_number : Kind → ℕ
@@ -42,6 +45,29 @@ abbrev pub LacksField : List ℕ → Value → Type 0
 LacksField name value =
     (is_utf8 name ≡ true)
     × IsSomeAnd (fields_of value) (λ fields. look_up name fields ≡ None)
+
+-- the bytes spell the name of a field that the value has
+abbrev pub HasField : List ℕ → Value → Type 0
+HasField name value =
+    (is_utf8 name ≡ true)
+    × IsSomeAnd (fields_of value) (λ fields. look_up name fields ≢ None)
+
+-- how deep a value nests; a null pointer as nothing does
+abbrev pub depth_at : Option Value → ℕ
+depth_at value = option_map_or depth_of value 0
+
+-- the value nests as deep as any may, so that no container takes it
+abbrev pub IsDeepest : Value → Type 0
+IsDeepest value = MAX_DEPTH ≤ depth_of value
+
+-- a container nests deeper than each of its parts
+abbrev pub CoversAt : Option Value → Type 0
+CoversAt value = IfSome value Covers
+
+-- where a container got the item, it nests no deeper than before, or than the item demands
+abbrev pub RaisesBy : Option Value → Option Value → ℕ → Option Value → Type 0
+RaisesBy old item status new =
+    status ≡ OK → AreBothAnd old item (λ before item. IsSomeAnd new (λ after. Raises item before after))
 
 -- the name of the field at an index
 abbrev pub name_at : ℕ → Value → Option PlainText

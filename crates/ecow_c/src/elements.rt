@@ -3,17 +3,18 @@
 ghost use Rattle.std.specs.Prelude.{◌≡◌, ◌↔◌, ◌≤◌, ◌<◌, ◌+◌, ◌-◌, ◌∷◌, ◌++◌, [], length, take, insert, remove, slice_get, slice_set, true, None, Some, IsSomeAnd};
 ghost use Rattle.std.specs.List.{replace_range, splice};
 ghost use Rattle.std.specs.Option.{option_map};
-ghost use Rattle.ecow_nested.specs.Values.{items_of, len_of, part_of};
+ghost use Rattle.ecow_nested.specs.Values.{depth_of, items_of, len_of, part_of};
 ghost use Rattle.ecow_c.specs.Answers.{Alters, AltersBy, AltersBytes, AltersList, AltersTexts, AltersTextsBy, AreBothAnd, IsAmong, Reads, ReadsTo, RefusesPast, Writes, WritesTo};
 ghost use Rattle.ecow_c.specs.Indices.{InsertPasses, SplicePasses, is_outside};
 ghost use Rattle.ecow_c.specs.Texts.{text_len_at};
-ghost use Rattle.ecow_c.specs.Values.{item_at, last_item};
+ghost use Rattle.ecow_c.specs.Values.{CoversAt, IsDeepest, RaisesBy, item_at, last_item};
 
 use crate::pointer::{BytesPointer, ListPointer, TextPointer, TextsPointer, ValuePointer};
 use crate::status::{
-    CAPACITY, INDEX, IntoStatus, KIND, MEMORY, NULL, OK, ok_or_status, put, some_or, status,
+    CAPACITY, DEPTH, INDEX, IntoStatus, KIND, MEMORY, NULL, OK, ok_or_status, put, some_or, status,
 };
 use ecow_base::MAX_LEN;
+use ecow_nested::MAX_DEPTH;
 use std::alloc::Global;
 use std::ptr::from_ref;
 
@@ -161,16 +162,26 @@ pub extern "C" fn ecow_proved_texts_push(pointer: &mut TextsPointer, item: &mut 
 pub extern "C" fn ecow_proved_value_push(pointer: &mut ValuePointer, item: &mut ValuePointer) -> u32
     ensures value { AltersBy items_of (λ item. option_map (λ xs. xs ++ item ∷ []))
         pointer.old.value item.old.value result pointer.new.value }
+    ensures covers { CoversAt pointer.old.value → CoversAt pointer.new.value }
+    ensures bound { RaisesBy pointer.old.value item.old.value result pointer.new.value }
     ensures item { item.new.value ≡ item.old.value }
-    ensures statuses { IsAmong (OK ∷ MEMORY ∷ CAPACITY ∷ KIND ∷ NULL ∷ []) result }
+
+    // When each status is answered.
+    ensures statuses { IsAmong (OK ∷ MEMORY ∷ CAPACITY ∷ DEPTH ∷ KIND ∷ NULL ∷ []) result }
     ensures kind { result ≡ KIND
         ↔ AreBothAnd pointer.old.value item.old.value (λ value _. items_of value ≡ None) }
+    ensures depth { result ≡ DEPTH ↔ AreBothAnd pointer.old.value item.old.value
+        (λ value item. IsSomeAnd (items_of value) (λ _. IsDeepest item)) }
     ensures capacity { result ≡ CAPACITY ↔ AreBothAnd pointer.old.value item.old.value
-        (λ value _. IsSomeAnd (items_of value) (λ xs. MAX_LEN ≤ length xs)) }
+        (λ value item. IsSomeAnd (items_of value)
+        (λ xs. (depth_of item < MAX_DEPTH) × (MAX_LEN ≤ length xs))) }
 {
     let value = some_or!(pointer.value(), NULL);
     let item = some_or!(item.value(), NULL);
     let items = some_or!(value.items(), KIND);
+    if item.depth() >= MAX_DEPTH {
+        return DEPTH;
+    }
     if items.len() >= MAX_LEN {
         return CAPACITY;
     }
@@ -232,6 +243,9 @@ pub extern "C" fn ecow_proved_value_pop(pointer: &mut ValuePointer, out: &mut Va
     ensures value { AltersBy items_of (λ _. option_map (λ xs. take (length xs - 1) xs))
         pointer.old.value out.old.value result pointer.new.value }
     ensures out { WritesTo last_item pointer.old.value result out.old.value out.new.value }
+    ensures covers { CoversAt pointer.old.value → CoversAt pointer.new.value }
+
+    // When each status is answered.
     ensures statuses { IsAmong (OK ∷ MEMORY ∷ INDEX ∷ KIND ∷ NULL ∷ []) result }
     ensures kind { result ≡ KIND
         ↔ AreBothAnd pointer.old.value out.old.value (λ value _. items_of value ≡ None) }
@@ -306,18 +320,28 @@ pub extern "C" fn ecow_proved_value_set(
 ) -> u32
     ensures value { AltersBy items_of (λ item. option_map (λ xs. slice_set xs index item))
         pointer.old.value item.old.value result pointer.new.value }
+    ensures covers { CoversAt pointer.old.value → CoversAt pointer.new.value }
+    ensures bound { RaisesBy pointer.old.value item.old.value result pointer.new.value }
     ensures item { item.new.value ≡ item.old.value }
-    ensures statuses { IsAmong (OK ∷ MEMORY ∷ INDEX ∷ KIND ∷ NULL ∷ []) result }
+
+    // When each status is answered.
+    ensures statuses { IsAmong (OK ∷ MEMORY ∷ DEPTH ∷ INDEX ∷ KIND ∷ NULL ∷ []) result }
     ensures kind { result ≡ KIND
         ↔ AreBothAnd pointer.old.value item.old.value (λ value _. items_of value ≡ None) }
     ensures index { result ≡ INDEX ↔ AreBothAnd pointer.old.value item.old.value
         (λ value _. IsSomeAnd (items_of value) (λ xs. length xs ≤ index)) }
+    ensures depth { result ≡ DEPTH ↔ AreBothAnd pointer.old.value item.old.value
+        (λ value item. IsSomeAnd (items_of value)
+        (λ xs. (index < length xs) × IsDeepest item)) }
 {
     let value = some_or!(pointer.value(), NULL);
     let item = some_or!(item.value(), NULL);
     let items = some_or!(value.items(), KIND);
     if index >= items.len() {
         return INDEX;
+    }
+    if item.depth() >= MAX_DEPTH {
+        return DEPTH;
     }
     let clone = ok_or_status!(item.clone());
     status(value.set(index, clone))
@@ -334,11 +358,18 @@ pub extern "C" fn ecow_proved_value_swap(
         pointer.old.value other.old.value result pointer.new.value }
     ensures other { WritesTo (item_at index)
         pointer.old.value result other.old.value other.new.value }
-    ensures statuses { IsAmong (OK ∷ MEMORY ∷ INDEX ∷ KIND ∷ NULL ∷ []) result }
+    ensures covers { CoversAt pointer.old.value → CoversAt pointer.new.value }
+    ensures bound { RaisesBy pointer.old.value other.old.value result pointer.new.value }
+
+    // When each status is answered.
+    ensures statuses { IsAmong (OK ∷ MEMORY ∷ DEPTH ∷ INDEX ∷ KIND ∷ NULL ∷ []) result }
     ensures kind { result ≡ KIND
         ↔ AreBothAnd pointer.old.value other.old.value (λ value _. items_of value ≡ None) }
     ensures index { result ≡ INDEX ↔ AreBothAnd pointer.old.value other.old.value
         (λ value _. IsSomeAnd (items_of value) (λ xs. length xs ≤ index)) }
+    ensures depth { result ≡ DEPTH ↔ AreBothAnd pointer.old.value other.old.value
+        (λ value other. IsSomeAnd (items_of value)
+        (λ xs. (index < length xs) × IsDeepest other)) }
 {
     let value = some_or!(pointer.value(), NULL);
     let other = some_or!(other.value(), NULL);
@@ -425,22 +456,32 @@ pub extern "C" fn ecow_proved_value_insert(
 ) -> u32
     ensures value { AltersBy items_of (λ item. option_map (λ xs. insert xs index item))
         pointer.old.value item.old.value result pointer.new.value }
+    ensures covers { CoversAt pointer.old.value → CoversAt pointer.new.value }
+    ensures bound { RaisesBy pointer.old.value item.old.value result pointer.new.value }
     ensures item { item.new.value ≡ item.old.value }
 
     // When each status is answered.
-    ensures statuses { IsAmong (OK ∷ MEMORY ∷ CAPACITY ∷ INDEX ∷ KIND ∷ NULL ∷ []) result }
+    ensures statuses { IsAmong
+        (OK ∷ MEMORY ∷ CAPACITY ∷ DEPTH ∷ INDEX ∷ KIND ∷ NULL ∷ []) result }
     ensures kind { result ≡ KIND
         ↔ AreBothAnd pointer.old.value item.old.value (λ value _. items_of value ≡ None) }
     ensures index { result ≡ INDEX ↔ AreBothAnd pointer.old.value item.old.value
         (λ value _. IsSomeAnd (items_of value) (λ xs. length xs < index)) }
+    ensures depth { result ≡ DEPTH ↔ AreBothAnd pointer.old.value item.old.value
+        (λ value item. IsSomeAnd (items_of value)
+        (λ xs. (index ≤ length xs) × IsDeepest item)) }
     ensures capacity { result ≡ CAPACITY ↔ AreBothAnd pointer.old.value item.old.value
-        (λ value _. IsSomeAnd (items_of value) (λ xs. InsertPasses index (length xs))) }
+        (λ value item. IsSomeAnd (items_of value)
+        (λ xs. (depth_of item < MAX_DEPTH) × InsertPasses index (length xs))) }
 {
     let value = some_or!(pointer.value(), NULL);
     let item = some_or!(item.value(), NULL);
     let items = some_or!(value.items(), KIND);
     if index > items.len() {
         return INDEX;
+    }
+    if item.depth() >= MAX_DEPTH {
+        return DEPTH;
     }
     if items.len() >= MAX_LEN {
         return CAPACITY;
@@ -522,6 +563,9 @@ pub extern "C" fn ecow_proved_value_remove(
     ensures value { AltersBy items_of (λ _. option_map (λ xs. remove xs index))
         pointer.old.value out.old.value result pointer.new.value }
     ensures out { WritesTo (item_at index) pointer.old.value result out.old.value out.new.value }
+    ensures covers { CoversAt pointer.old.value → CoversAt pointer.new.value }
+
+    // When each status is answered.
     ensures statuses { IsAmong (OK ∷ MEMORY ∷ INDEX ∷ KIND ∷ NULL ∷ []) result }
     ensures kind { result ≡ KIND
         ↔ AreBothAnd pointer.old.value out.old.value (λ value _. items_of value ≡ None) }
@@ -568,6 +612,7 @@ pub extern "C" fn ecow_proved_texts_truncate(pointer: &mut TextsPointer, len: us
 pub extern "C" fn ecow_proved_value_truncate(pointer: &mut ValuePointer, len: usize) -> u32
     ensures value { Alters items_of (option_map (λ xs. take len xs))
         pointer.old.value result pointer.new.value }
+    ensures covers { CoversAt pointer.old.value → CoversAt pointer.new.value }
     ensures statuses { IsAmong (OK ∷ MEMORY ∷ KIND ∷ NULL ∷ []) result }
     ensures kind { result ≡ KIND ↔ IsSomeAnd pointer.old.value (λ value. items_of value ≡ None) }
 {

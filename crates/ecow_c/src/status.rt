@@ -27,6 +27,9 @@ pub const NULL: u32 = 6;
 /// The value is of another kind.
 pub const KIND: u32 = 7;
 
+/// The value would nest too deep.
+pub const DEPTH: u32 = 9;
+
 /// The value of an `Option`. Where there is none, the function returns `$answer`.
 macro_rules! some_or {
     ($option:expr, $answer:expr) => {
@@ -90,6 +93,7 @@ impl IntoStatus for Refusal {
         match self {
             Refusal::Kind => KIND,
             Refusal::Index => INDEX,
+            Refusal::Depth => DEPTH,
             Refusal::Capacity => CAPACITY,
             Refusal::Memory => MEMORY,
         }

@@ -1,19 +1,19 @@
 //! The calls on nested values: their kinds, what each kind holds, and fields. A value goes in and
 //! out as a clone, which shares its memory.
-ghost use Rattle.std.specs.Prelude.{◌≡◌, ◌↔◌, ◌≤◌, ◌∷◌, [], length, false, None, Some, IsSomeAnd};
+ghost use Rattle.std.specs.Prelude.{◌≡◌, ◌≢◌, ◌↔◌, ◌≤◌, ◌∷◌, [], length, false, true, None, Some, IsSomeAnd};
 ghost use Rattle.std.specs.Option.{option_map};
 ghost use Rattle.std.specs.Str.{is_utf8};
 ghost use Rattle.ecow_nested.specs.Values.{truth_of, number_of, real_of, text_of, items_of, fields_of, with_field, without_field};
 ghost use Rattle.ecow_c.specs.Answers.{Alters, AltersBy, AreBothAnd, IsAmong, Reads, ReadsTo, WritesTo};
-ghost use Rattle.ecow_c.specs.Values.{HasNoFields, LacksField, field_at, kind_at, kind_number, name_at};
+ghost use Rattle.ecow_c.specs.Values.{CoversAt, HasNoFields, HasField, IsDeepest, LacksField, RaisesBy, depth_at, field_at, kind_at, kind_number, name_at};
 
 use crate::pointer::{TextPointer, ValuePointer};
 use crate::status::{
-    CAPACITY, INDEX, IntoStatus, KIND, MEMORY, NULL, OK, UTF8, ok_or_status, put, some_or, status,
+    CAPACITY, DEPTH, INDEX, IntoStatus, KIND, MEMORY, NULL, OK, UTF8, ok_or_status, put, some_or,
+    status,
 };
 use crate::text::to_str;
-use ecow_list::EcoVec;
-use ecow_nested::{Kind, Value};
+use ecow_nested::{Kind, MAX_DEPTH, Nested, Value};
 use std::alloc::Global;
 
 /// Puts `new` in place of the value.
@@ -48,6 +48,15 @@ pub extern "C" fn ecow_proved_value_kind(pointer: &mut ValuePointer) -> u32
     ensures unchanged { pointer.new.value ≡ pointer.old.value }
 {
     number(some_or!(pointer.value(), 0).kind())
+}
+
+/// How deep the value nests; a null pointer as nothing does.
+#[unsafe(no_mangle)]
+pub extern "C" fn ecow_proved_value_depth(pointer: &mut ValuePointer) -> u32
+    ensures depth { result ≡ depth_at pointer.old.value }
+    ensures unchanged { pointer.new.value ≡ pointer.old.value }
+{
+    some_or!(pointer.value(), 0).depth()
 }
 
 /// Makes it a truth value.
@@ -100,7 +109,7 @@ pub extern "C" fn ecow_proved_value_set_list(alloc: Global, pointer: &mut ValueP
     ensures value { Alters items_of (λ _. Some []) pointer.old.value result pointer.new.value }
     ensures statuses { IsAmong (OK ∷ NULL ∷ []) result }
 {
-    assign(pointer, Value::List(EcoVec::new(alloc)))
+    assign(pointer, Value::List(Nested::new(alloc)))
 }
 
 /// Makes it a value with no fields.
@@ -109,7 +118,7 @@ pub extern "C" fn ecow_proved_value_set_fields(alloc: Global, pointer: &mut Valu
     ensures value { Alters fields_of (λ _. Some []) pointer.old.value result pointer.new.value }
     ensures statuses { IsAmong (OK ∷ NULL ∷ []) result }
 {
-    assign(pointer, Value::Fields(EcoVec::new(alloc)))
+    assign(pointer, Value::Fields(Nested::new(alloc)))
 }
 
 /// Writes the truth value to `out`.
@@ -197,20 +206,27 @@ pub extern "C" fn ecow_proved_value_set_field(
 ) -> u32
     ensures value { AltersBy fields_of (λ item. option_map (with_field name.now item))
         pointer.old.value item.old.value result pointer.new.value }
+    ensures covers { CoversAt pointer.old.value → CoversAt pointer.new.value }
+    ensures bound { RaisesBy pointer.old.value item.old.value result pointer.new.value }
     ensures item { item.new.value ≡ item.old.value }
 
     // When each status is answered.
-    ensures statuses { IsAmong (OK ∷ MEMORY ∷ UTF8 ∷ KIND ∷ NULL ∷ []) result }
+    ensures statuses { IsAmong (OK ∷ MEMORY ∷ DEPTH ∷ UTF8 ∷ KIND ∷ NULL ∷ []) result }
     ensures utf8 { result ≡ UTF8
         ↔ AreBothAnd pointer.old.value item.old.value (λ _ _. is_utf8 name.now ≡ false) }
     ensures kind { result ≡ KIND
         ↔ AreBothAnd pointer.old.value item.old.value (λ value _. HasNoFields name.now value) }
+    ensures depth { result ≡ DEPTH ↔ AreBothAnd pointer.old.value item.old.value
+        (λ value item. (is_utf8 name.now ≡ true) × (fields_of value ≢ None) × IsDeepest item) }
 {
     let value = some_or!(pointer.value(), NULL);
     let item = some_or!(item.value(), NULL);
     let name = some_or!(to_str(name), UTF8);
     if value.fields().is_none() {
         return KIND;
+    }
+    if item.depth() >= MAX_DEPTH {
+        return DEPTH;
     }
     let clone = ok_or_status!(item.clone());
     status(value.set_field(name, clone))
@@ -228,9 +244,13 @@ pub extern "C" fn ecow_proved_value_swap_field(
         pointer.old.value other.old.value result pointer.new.value }
     ensures other { WritesTo (field_at name.now)
         pointer.old.value result other.old.value other.new.value }
+    ensures covers { CoversAt pointer.old.value → CoversAt pointer.new.value }
+    ensures bound { RaisesBy pointer.old.value other.old.value result pointer.new.value }
 
     // When each status is answered.
-    ensures statuses { IsAmong (OK ∷ MEMORY ∷ INDEX ∷ UTF8 ∷ KIND ∷ NULL ∷ []) result }
+    ensures statuses { IsAmong (OK ∷ MEMORY ∷ DEPTH ∷ INDEX ∷ UTF8 ∷ KIND ∷ NULL ∷ []) result }
+    ensures depth { result ≡ DEPTH ↔ AreBothAnd pointer.old.value other.old.value
+        (λ value other. HasField name.now value × IsDeepest other) }
     ensures utf8 { result ≡ UTF8
         ↔ AreBothAnd pointer.old.value other.old.value (λ _ _. is_utf8 name.now ≡ false) }
     ensures kind { result ≡ KIND
@@ -256,6 +276,7 @@ pub extern "C" fn ecow_proved_value_remove_field(
         pointer.old.value out.old.value result pointer.new.value }
     ensures out { WritesTo (field_at name.now)
         pointer.old.value result out.old.value out.new.value }
+    ensures covers { CoversAt pointer.old.value → CoversAt pointer.new.value }
 
     // When each status is answered.
     ensures statuses { IsAmong (OK ∷ MEMORY ∷ INDEX ∷ UTF8 ∷ KIND ∷ NULL ∷ []) result }

@@ -2,22 +2,23 @@
 use Rattle.std.proofs.Common.{◌≡◌, ◌≢◌, ℕ, zero, suc, ◌<◌, Bool, true, false, ◌&&◌, List, [], ◌∷◌, length, get_or, map, drop, refl, sym, ap, ◌∙◌, arith}
 use Rattle.std.proofs.lemmas.List.{length-map}
 use Rattle.ecow_nested.specs.Values.{value_step, field_step, eq_in, each_holds, value_eq, field_eq}
+use Rattle.ecow_nested.specs.declared.nested.Nested.{Nested}
 use Rattle.ecow_nested.specs.declared.value.Field.{Field}
 use Rattle.ecow_nested.specs.declared.value.Value.{Value, out-Value}
 use Rattle.ecow_nested.specs.declared.value.Value.TheOpen.{Value-F}
 use Rattle.ecow_nested.specs.declared.value.Value.TheFolds.{fold_out-Value}
 
-pub equal_items : (x y : Value) (xs ys : List Value) → out-Value x ≡ Value-F.List xs
-    → out-Value y ≡ Value-F.List ys → value_eq x y ≡ each_holds (map value_eq xs) ys
+pub equal_items : (x y : Value) (xs ys : Nested Value) → out-Value x ≡ Value-F.List xs
+    → out-Value y ≡ Value-F.List ys → value_eq x y ≡ each_holds (map value_eq xs.items) ys.items
 equal_items x y xs ys a b =
     let h = fold_out-Value (Value → Bool) (Field → Bool) value_step field_step x in
-    ap (λ (test : Value → Bool). test y) (rw a at h) ∙ ap (eq_in (Value-F.List (map value_eq xs))) b
+    ap (λ (test : Value → Bool). test y) (rw a at h) ∙ ap (eq_in (Value-F.List (record { items = map value_eq xs.items; depth = xs.depth }))) b
 
-pub equal_fields : (x y : Value) (xs ys : List Field) → out-Value x ≡ Value-F.Fields xs
-    → out-Value y ≡ Value-F.Fields ys → value_eq x y ≡ each_holds (map field_eq xs) ys
+pub equal_fields : (x y : Value) (xs ys : Nested Field) → out-Value x ≡ Value-F.Fields xs
+    → out-Value y ≡ Value-F.Fields ys → value_eq x y ≡ each_holds (map field_eq xs.items) ys.items
 equal_fields x y xs ys a b =
     let h = fold_out-Value (Value → Bool) (Field → Bool) value_step field_step x in
-    ap (λ (test : Value → Bool). test y) (rw a at h) ∙ ap (eq_in (Value-F.Fields (map field_eq xs))) b
+    ap (λ (test : Value → Bool). test y) (rw a at h) ∙ ap (eq_in (Value-F.Fields (record { items = map field_eq xs.items; depth = xs.depth }))) b
 
 and_false : (b : Bool) → (b && false) ≡ false
 and_false true = refl

@@ -1,4 +1,7 @@
+pub mod Depths
 pub mod Equality
+pub mod FieldDepths
 pub mod Fields
+pub mod Parts
 pub mod Paths
 pub mod Reflexive

@@ -85,14 +85,14 @@ named name f has =
 
 -- what has items has no fields, and the other way round
 abbrev items_in : Value-F Value Field → Option (List Value)
-items_in layer = elim layer [ Value-F.List items ↦ Some items | _ ↦ None ]
+items_in layer = elim layer [ Value-F.List nested ↦ Some nested.items | _ ↦ None ]
 
 abbrev fields_in : Value-F Value Field → Option (List Field)
-fields_in layer = elim layer [ Value-F.Fields fields ↦ Some fields | _ ↦ None ]
+fields_in layer = elim layer [ Value-F.Fields nested ↦ Some nested.items | _ ↦ None ]
 
 one_of_both : (layer : Value-F Value Field) (items : List Value) (fields : List Field) → items_in layer ≡ Some items → fields_in layer ≡ Some fields → ⊥
-one_of_both (Value-F.List items) xs fs has_items has_fields = none-some fs has_fields
-one_of_both (Value-F.Fields fields) xs fs has_items has_fields = none-some xs has_items
+one_of_both (Value-F.List nested) xs fs has_items has_fields = none-some fs has_fields
+one_of_both (Value-F.Fields nested) xs fs has_items has_fields = none-some xs has_items
 one_of_both Value-F.Nothing xs fs has_items has_fields = none-some xs has_items
 one_of_both (Value-F.Truth truth) xs fs has_items has_fields = none-some xs has_items
 one_of_both (Value-F.Number number) xs fs has_items has_fields = none-some xs has_items

@@ -65,8 +65,8 @@ module _ {E E' : Type 0} (val : E → Value) (fld : E' → Field) (same : (e : E
   all_same (Value-F.Number number) = (Decides-int_eq number number).1 refl
   all_same (Value-F.Real real) = real_same real
   all_same (Value-F.Text text) = text_same (encode_utf8_all text.chars)
-  all_same (Value-F.List items) = each_same items
-  all_same (Value-F.Fields fields) = each_field_same fields
+  all_same (Value-F.List nested) = each_same nested.items
+  all_same (Value-F.Fields nested) = each_field_same nested.items
 
 out_of_roll : (x : Value-F Value Field) → out-Value (roll-Value x) ≡ x
 out_of_roll x = search (rules, the_lemmas)

@@ -1,5 +1,5 @@
 -- Nested values: what each kind holds, and how one is changed.
-use Rattle.std.specs.Prelude.{◌≡◌, ◌↔◌, ℕ, ℤ, Bool, true, false, not, ◌&&◌, ◌||◌, List, [], ◌∷◌, Option, None, Some, Result, OnOk, OnErr, IfErr, IsErrOf, length, slice_get, find, if◌then◌else◌}
+use Rattle.std.specs.Prelude.{◌≡◌, ◌↔◌, ℕ, ℤ, ◌+◌, ◌<◌, ◌≤◌, ⊤, Bool, true, false, not, ◌&&◌, ◌||◌, List, [], ◌∷◌, Option, None, Some, Result, OnOk, OnErr, IfErr, IsErrOf, length, map, max, slice_get, find, if◌then◌else◌}
 use Rattle.std.specs.Float.Ieee.{Float, eq, is_nan}
 use Rattle.std.specs.List.{list_any}
 use Rattle.std.specs.Option.{option_map}
@@ -8,6 +8,7 @@ use Rattle.std.specs.Str.{chars, bytes_eq, encode_utf8_all}
 use Rattle.ecow_base.specs.Inline.{inline_for}
 use Rattle.ecow_base.specs.Plain.{plain_text}
 use Rattle.ecow_base.specs.declared.plain.PlainText.{PlainText}
+use Rattle.ecow_nested.specs.Depths.{largest}
 use Rattle.ecow_nested.specs.declared.refusal.Refusal.{Refusal}
 use Rattle.ecow_nested.specs.declared.refusal.Refusal.TheVariants as refused
 use Rattle.ecow_nested.specs.declared.value.Kind.{Kind}
@@ -44,17 +45,49 @@ abbrev pub text_of : Value → Option PlainText
 text_of value = elim (out-Value value) [ Value-F.Text text ↦ Some text | _ ↦ None ]
 
 abbrev pub items_of : Value → Option (List Value)
-items_of value = elim (out-Value value) [ Value-F.List items ↦ Some items | _ ↦ None ]
+items_of value = elim (out-Value value) [ Value-F.List nested ↦ Some nested.items | _ ↦ None ]
 
 abbrev pub fields_of : Value → Option (List Field)
-fields_of value = elim (out-Value value) [ Value-F.Fields fields ↦ Some fields | _ ↦ None ]
+fields_of value = elim (out-Value value) [ Value-F.Fields nested ↦ Some nested.items | _ ↦ None ]
+
+-- how deep a value nests, as it says: 0 of what is no container
+abbrev pub depth_of : Value → ℕ
+depth_of value =
+    elim (out-Value value) [
+      | Value-F.List nested ↦ nested.depth
+      | Value-F.Fields nested ↦ nested.depth
+      | _ ↦ 0
+    ]
+
+-- how deep the deepest item nests, or the value of a field
+abbrev pub deepest : List Value → ℕ
+deepest items = largest (map depth_of items)
+
+abbrev pub field_depth : Field → ℕ
+field_depth field = depth_of field.value
+
+abbrev pub deepest_field : List Field → ℕ
+deepest_field fields = largest (map field_depth fields)
+
+-- a container nests deeper than each of its parts
+abbrev pub Covers : Value → Type 0
+Covers value =
+    elim (out-Value value) [
+      | Value-F.List nested ↦ deepest nested.items < nested.depth
+      | Value-F.Fields nested ↦ deepest_field nested.items < nested.depth
+      | _ ↦ ⊤
+    ]
+
+-- a container nests no deeper than it did, or than a part that it got demands
+abbrev pub Raises : Value → Value → Value → Type 0
+Raises part old new = depth_of new ≤ max (depth_of old) (depth_of part + 1)
 
 -- how many items or fields there are
 abbrev pub len_of : Value → Option ℕ
 len_of value =
     elim (out-Value value) [
-      | Value-F.List items ↦ Some (length items)
-      | Value-F.Fields fields ↦ Some (length fields)
+      | Value-F.List nested ↦ Some (length nested.items)
+      | Value-F.Fields nested ↦ Some (length nested.items)
       | _ ↦ None
     ]
 
@@ -69,8 +102,8 @@ name_in field = option_map (λ f. f.name) field
 abbrev pub part_of : Value → ℕ → Option Value
 part_of value index =
     elim (out-Value value) [
-      | Value-F.List items ↦ slice_get items index
-      | Value-F.Fields fields ↦ value_in (slice_get fields index)
+      | Value-F.List nested ↦ slice_get nested.items index
+      | Value-F.Fields nested ↦ value_in (slice_get nested.items index)
       | _ ↦ None
     ]
 
@@ -78,6 +111,7 @@ part_of value index =
 abbrev pub is_refusal : Refusal → Refusal → Bool
 is_refusal refused.Kind refused.Kind = true
 is_refusal refused.Index refused.Index = true
+is_refusal refused.Depth refused.Depth = true
 is_refusal refused.Capacity refused.Capacity = true
 is_refusal refused.Memory refused.Memory = true
 is_refusal _ _ = false
@@ -143,8 +177,8 @@ eq_in (Value-F.Number x) (Value-F.Number y) = int_eq x y
 eq_in (Value-F.Real x) (Value-F.Real y) = real_eq x y
 eq_in (Value-F.Text x) (Value-F.Text y) =
     bytes_eq (encode_utf8_all x.chars) (encode_utf8_all y.chars)
-eq_in (Value-F.List tests) (Value-F.List items) = each_holds tests items
-eq_in (Value-F.Fields tests) (Value-F.Fields fields) = each_holds tests fields
+eq_in (Value-F.List tests) (Value-F.List nested) = each_holds tests.items nested.items
+eq_in (Value-F.Fields tests) (Value-F.Fields nested) = each_holds tests.items nested.items
 eq_in _ _ = false
 
 abbrev pub value_step : Value-F (Value → Bool) (Field → Bool) → Value → Bool

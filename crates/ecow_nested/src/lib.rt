@@ -2,9 +2,11 @@
 //! clone shares all its lists and texts, and a change copies the lists along its way alone.
 #![tactic(auto)]
 
+mod nested;
 mod refusal;
 mod threads;
 mod value;
 
+pub use nested::{MAX_DEPTH, Nested};
 pub use refusal::Refusal;
 pub use value::{Field, Kind, Step, Value};

@@ -16,6 +16,9 @@ pub enum Refusal {
     /// The index passes the end, there is nothing to take, or no field has the name.
     #[error("index past the end")]
     Index,
+    /// The value would nest deeper than `MAX_DEPTH`.
+    #[error("nested too deep")]
+    Depth,
     /// The length would pass 2^63 - 1.
     #[error("capacity overflow")]
     Capacity,

@@ -1,22 +1,22 @@
 //! `Value`.
 ghost use Rattle.std.specs.Prelude.{◌≡◌, MatchOption, None, Some};
-ghost use Rattle.ecow_nested.specs.Values.{kind_of, truth_of, number_of, real_of, text_of, items_of, fields_of};
+ghost use Rattle.ecow_nested.specs.Values.{depth_of, field_depth, kind_of, truth_of, number_of, real_of, text_of, items_of, fields_of};
 
 mod equality;
 mod fields;
 mod laws;
 mod lists;
+mod make;
 mod parts;
 mod paths;
 
+use crate::nested::{Nested, Part};
 use ecow_list::EcoVec;
 use ecow_string::EcoString;
 pub use paths::Step;
 use std::alloc::AllocError;
 
 /// A nested value. A clone shares all its lists and texts.
-///
-/// A value is dropped by recursion, so the stack bounds how deep one may be.
 #[cycle(value)]
 #[derive(Drop)]
 pub enum Value {
@@ -25,9 +25,9 @@ pub enum Value {
     Number(i64),
     Real(f64),
     Text(EcoString),
-    List(EcoVec<Value>),
+    List(Nested<Value>),
     /// Fields in order. A name that stands twice means the first of them.
-    Fields(EcoVec<Field>),
+    Fields(Nested<Field>),
 }
 
 /// A value under a name.
@@ -77,7 +77,35 @@ impl Clone for Field {
     }
 }
 
+impl Part for Value {
+    ghost depth_in = { depth_of };
+
+    fn depth_in(&self) -> u32 {
+        self.depth()
+    }
+}
+
+impl Part for Field {
+    ghost depth_in = { field_depth };
+
+    fn depth_in(&self) -> u32 {
+        self.value.depth()
+    }
+}
+
 impl Value {
+    /// How deep the value nests: 0 of what is no container, else one more than its deepest part, and at
+    /// most `MAX_DEPTH`.
+    pub fn depth(&self) -> u32
+        ensures { result ≡ depth_of self.now }
+    {
+        match self {
+            Value::List(nested) => nested.depth,
+            Value::Fields(nested) => nested.depth,
+            _ => 0,
+        }
+    }
+
     /// Which kind of value this is.
     pub fn kind(&self) -> Kind
         ensures { result ≡ kind_of self.now }
@@ -140,7 +168,7 @@ impl Value {
             (λ items. items_of self.now ≡ Some items.now) }
     {
         match self {
-            Value::List(items) => Some(items),
+            Value::List(Nested { items, .. }) => Some(items),
             _ => None,
         }
     }
@@ -151,7 +179,7 @@ impl Value {
             (λ fields. fields_of self.now ≡ Some fields.now) }
     {
         match self {
-            Value::Fields(fields) => Some(fields),
+            Value::Fields(Nested { items, .. }) => Some(items),
             _ => None,
         }
     }

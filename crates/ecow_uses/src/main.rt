@@ -190,9 +190,9 @@ fn set_each(rt: &HostRuntime) -> Result<()> {
     let items: EcoVec<Value> = (0..100000i64).map(|n| Value::Number(n)).collect(alloc)?;
     let field = Field {
         name: name(rt, "items")?,
-        value: Value::List(items),
+        value: Value::from_items(items)?,
     };
-    let mut document = Value::Fields(eco_vec![in alloc; field]?);
+    let mut document = Value::from_fields(eco_vec![in alloc; field]?)?;
     for index in 0..100000usize {
         let path = [Step::Name(name(rt, "items")?), Step::Index(index)];
         document.set_at(&path, Value::Number(7))?;
@@ -211,10 +211,10 @@ fn a_document(rt: &HostRuntime) -> Result<Value> {
         },
         Field {
             name: name(rt, "sizes")?,
-            value: Value::List(sizes)
+            value: Value::from_items(sizes)?
         }
     ]?;
-    Ok(Value::Fields(fields))
+    Ok(Value::from_fields(fields)?)
 }
 
 fn name(rt: &HostRuntime, name: &str) -> Result<EcoString> {

@@ -20,12 +20,12 @@ impl Value {
             }
             (Value::Text(left), Value::Text(right)) => left == right,
             (Value::List(left), Value::List(right)) => {
-                let others = right.as_slice();
-                if left.len() != others.len() {
+                let others = right.items.as_slice();
+                if left.items.len() != others.len() {
                     return false;
                 }
                 let mut index = 0;
-                for item in left.as_slice() {
+                for item in left.items.as_slice() {
                     if !item.equals(&others[index]) {
                         return false;
                     }
@@ -34,12 +34,12 @@ impl Value {
                 true
             }
             (Value::Fields(left), Value::Fields(right)) => {
-                let others = right.as_slice();
-                if left.len() != others.len() {
+                let others = right.items.as_slice();
+                if left.items.len() != others.len() {
                     return false;
                 }
                 let mut index = 0;
-                for field in left.as_slice() {
+                for field in left.items.as_slice() {
                     let other = &others[index];
                     if field.name != other.name {
                         return false;

@@ -1,7 +1,9 @@
-//! Fields by name. A refusal changes nothing.
-ghost use Rattle.std.specs.Prelude.{◌≡◌, ◌↔◌, [], ◌∷◌, None, Some, position, IfOk, IfSome, OnOk, OnErr, IsErrOf, IsSomeAnd, MatchOption};
-ghost use Rattle.ecow_nested.specs.Values.{fields_of, has_name, look_up, with_field, without_field, EditsFields, IsErrAmong};
+//! Fields by name. A refusal changes nothing. Where several apply, the answer is the first of `Kind`,
+//! `Index`, `Depth` and `Memory`.
+ghost use Rattle.std.specs.Prelude.{◌≡◌, ◌≢◌, ◌≤◌, ◌↔◌, [], ◌∷◌, None, Some, position, IfOk, IfSome, OnOk, OnErr, IsErrOf, IsSomeAnd, MatchOption};
+ghost use Rattle.ecow_nested.specs.Values.{depth_of, fields_of, has_name, look_up, with_field, without_field, EditsFields, Covers, IsErrAmong, Raises};
 
+use crate::nested::{MAX_DEPTH, Nested, raise, settle};
 use crate::refusal::Refusal;
 use crate::value::{Field, Value};
 use ecow_list::{EcoVec, Rejected};
@@ -70,11 +72,16 @@ fn exchange(fields: &mut EcoVec<Field>, name: &str, other: &mut Value) -> Result
     ensures unchanged { OnErr result (fields.new ≡ fields.old) }
     ensures kept { OnErr result (other.new ≡ other.old) }
     ensures index { IsErrOf result Refusal.Index ↔ (look_up name.now fields.old ≡ None) }
-    ensures codes { IsErrAmong (Refusal.Index ∷ Refusal.Memory ∷ []) result }
+    ensures depth { IsErrOf result Refusal.Depth
+        ↔ (look_up name.now fields.old ≢ None) × (MAX_DEPTH ≤ depth_of other.old) }
+    ensures codes { IsErrAmong (Refusal.Index ∷ Refusal.Depth ∷ Refusal.Memory ∷ []) result }
 {
     let Some(at) = place(fields.as_slice(), name) else {
         return Err(Refusal::Index);
     };
+    if other.depth() >= MAX_DEPTH {
+        return Err(Refusal::Depth);
+    }
     let Field { name, value } = fields.as_slice()[at].clone()?;
     let value = replace(other, value);
     match fields.set(at, Field { name, value }) {
@@ -96,10 +103,10 @@ impl Value {
             ↔ IsSomeAnd (fields_of self.now) (λ fields. look_up name.now fields ≡ None) }
         ensures codes { IsErrAmong (Refusal.Kind ∷ Refusal.Index ∷ []) result }
     {
-        let Value::Fields(fields) = self else {
+        let Value::Fields(nested) = self else {
             return Err(Refusal::Kind);
         };
-        match find(fields.as_slice(), name) {
+        match find(nested.items.as_slice(), name) {
             Some(value) => Ok(value),
             None => Err(Refusal::Index),
         }
@@ -108,44 +115,72 @@ impl Value {
     /// Puts `value` in place of the value of the first field of that name, or appends a field where
     /// there is none. It never answers `Capacity`: memory holds no name and no fields past the
     /// greatest length.
+    #[tactic(auto, using(crate::proofs::Parts::out_of_fields, crate::proofs::FieldDepths::with_less))]
     pub fn set_field(&mut self, name: &str, value: Value) -> Result<(), Refusal>
         ensures change { EditsFields (with_field name.now value) self.old result self.new }
-        ensures codes { IsErrAmong (Refusal.Kind ∷ Refusal.Memory ∷ []) result }
+        ensures covers { Covers self.old → Covers self.new }
+        ensures bound { OnOk result (Raises value self.old self.new) }
+        ensures depth { IsErrOf result Refusal.Depth
+            ↔ (fields_of self.old ≢ None) × (MAX_DEPTH ≤ depth_of value) }
+        ensures codes { IsErrAmong (Refusal.Kind ∷ Refusal.Depth ∷ Refusal.Memory ∷ []) result }
     {
-        match self {
-            Value::Fields(fields) => put(fields, name, value),
-            _ => Err(Refusal::Kind),
+        let Value::Fields(Nested { items, depth }) = self else {
+            return Err(Refusal::Kind);
+        };
+        let below = value.depth();
+        if below >= MAX_DEPTH {
+            return Err(Refusal::Depth);
         }
+        let gone = find(items.as_slice(), name).map_or(0, |value| value.depth());
+        put(items, name, value)?;
+        raise(depth, below);
+        settle(depth, items.as_slice(), gone, below);
+        Ok(())
     }
 
     /// Exchanges the value of the first field of that name and `other`.
+    #[tactic(auto, using(crate::proofs::Parts::out_of_fields, crate::proofs::FieldDepths::with_less))]
     pub fn swap_field(&mut self, name: &str, other: &mut Value) -> Result<(), Refusal>
         ensures change { EditsFields (with_field name.now other.old) self.old result self.new }
         ensures other { OnOk result (IfSome (fields_of self.old)
             (λ fields. look_up name.now fields ≡ Some other.new)) }
         ensures kept { OnErr result (other.new ≡ other.old) }
+        ensures covers { Covers self.old → Covers self.new }
+        ensures bound { OnOk result (Raises other.old self.old self.new) }
         ensures index { IsErrOf result Refusal.Index
             ↔ IsSomeAnd (fields_of self.old) (λ fields. look_up name.now fields ≡ None) }
-        ensures codes { IsErrAmong (Refusal.Kind ∷ Refusal.Index ∷ Refusal.Memory ∷ []) result }
+        ensures depth { IsErrOf result Refusal.Depth ↔ IsSomeAnd (fields_of self.old)
+            (λ fields. (look_up name.now fields ≢ None) × (MAX_DEPTH ≤ depth_of other.old)) }
+        ensures codes { IsErrAmong
+            (Refusal.Kind ∷ Refusal.Index ∷ Refusal.Depth ∷ Refusal.Memory ∷ []) result }
     {
-        match self {
-            Value::Fields(fields) => exchange(fields, name, other),
-            _ => Err(Refusal::Kind),
-        }
+        let Value::Fields(Nested { items, depth }) = self else {
+            return Err(Refusal::Kind);
+        };
+        let below = other.depth();
+        exchange(items, name, other)?;
+        raise(depth, below);
+        settle(depth, items.as_slice(), other.depth(), below);
+        Ok(())
     }
 
     /// Takes the first field of that name out, and gives its value.
+    #[tactic(auto, using(crate::proofs::Parts::out_of_fields, crate::proofs::FieldDepths::without_less))]
     pub fn remove_field(&mut self, name: &str) -> Result<Value, Refusal>
         ensures change { EditsFields (without_field name.now) self.old result self.new }
         ensures value { IfOk result (λ value. IfSome (fields_of self.old)
             (λ fields. look_up name.now fields ≡ Some value)) }
+        ensures covers { Covers self.old → Covers self.new }
+        ensures bound { depth_of self.new ≤ depth_of self.old }
         ensures index { IsErrOf result Refusal.Index
             ↔ IsSomeAnd (fields_of self.old) (λ fields. look_up name.now fields ≡ None) }
         ensures codes { IsErrAmong (Refusal.Kind ∷ Refusal.Index ∷ Refusal.Memory ∷ []) result }
     {
-        match self {
-            Value::Fields(fields) => take(fields, name),
-            _ => Err(Refusal::Kind),
-        }
+        let Value::Fields(Nested { items, depth }) = self else {
+            return Err(Refusal::Kind);
+        };
+        let value = take(items, name)?;
+        settle(depth, items.as_slice(), value.depth(), 0);
+        Ok(value)
     }
 }

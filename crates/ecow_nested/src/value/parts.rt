@@ -12,8 +12,8 @@ impl Value {
         ensures { result ≡ len_of self.now }
     {
         match self {
-            Value::List(items) => Some(items.len()),
-            Value::Fields(fields) => Some(fields.len()),
+            Value::List(nested) => Some(nested.items.len()),
+            Value::Fields(nested) => Some(nested.items.len()),
             _ => None,
         }
     }
@@ -27,11 +27,11 @@ impl Value {
         ensures codes { IsErrAmong (Refusal.Kind ∷ Refusal.Index ∷ []) result }
     {
         match self {
-            Value::List(items) => match at(items.as_slice(), index) {
+            Value::List(nested) => match at(nested.items.as_slice(), index) {
                 Some(item) => Ok(item),
                 None => Err(Refusal::Index),
             },
-            Value::Fields(fields) => match at(fields.as_slice(), index) {
+            Value::Fields(nested) => match at(nested.items.as_slice(), index) {
                 Some(field) => Ok(&field.value),
                 None => Err(Refusal::Index),
             },
@@ -48,10 +48,10 @@ impl Value {
             ↔ IsSomeAnd (fields_of self.now) (λ fields. length fields ≤ index) }
         ensures codes { IsErrAmong (Refusal.Kind ∷ Refusal.Index ∷ []) result }
     {
-        let Value::Fields(fields) = self else {
+        let Value::Fields(nested) = self else {
             return Err(Refusal::Kind);
         };
-        match at(fields.as_slice(), index) {
+        match at(nested.items.as_slice(), index) {
             Some(field) => Ok(&field.name),
             None => Err(Refusal::Index),
         }

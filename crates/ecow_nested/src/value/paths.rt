@@ -1,15 +1,15 @@
 //! Parts by paths. What a path leads to is read, or replaced where it stands. A refusal changes
 //! nothing.
-ghost use Rattle.std.specs.Prelude.{◌≡◌, ◌↔◌, [], ◌∷◌, List, None, Some, OnOk, OnErr, IsErrOf, MatchOption, slice_get, slice_set};
+ghost use Rattle.std.specs.Prelude.{◌≡◌, ◌≢◌, ◌+◌, ◌≤◌, ◌<◌, ◌↔◌, length, max, [], ◌∷◌, List, None, Some, OnOk, OnErr, IsErrOf, MatchOption, slice_get, slice_set};
 ghost use Rattle.std.specs.Option.{option_and_then};
 ghost use Rattle.ecow_nested.specs.Paths.{part_at, value_at, IsSet};
-ghost use Rattle.ecow_nested.specs.Values.{look_up, with_field, IsErrAmong};
+ghost use Rattle.ecow_nested.specs.Values.{deepest, deepest_field, depth_of, look_up, with_field, Covers, IsErrAmong};
 ghost use Rattle.ecow_nested.specs.declared.value.Value.{Value};
 
+use crate::nested::{MAX_DEPTH, Nested, raise, settle};
 use crate::refusal::Refusal;
 use crate::value::fields::{find, place};
 use crate::value::{Field, Value};
-use ecow_list::EcoVec;
 use ecow_string::EcoString;
 
 /// A step from a value to one of its parts.
@@ -46,15 +46,25 @@ impl Value {
 
     /// Puts `value` in place of the one that the path leads to, where it stands: of the lists and
     /// fields on the way those alone are copied that are shared. Answers `Index` where the path
-    /// leads to no value, and `Memory`.
+    /// leads to no value, else `Depth` where the steps and the depth of `value` come to more than
+    /// `MAX_DEPTH`, and `Memory`.
     pub fn set_at(&mut self, path: &[Step], value: Value) -> Result<(), Refusal>
         ensures set { OnOk result (IsSet path.now value self.old self.new) }
+        ensures covers { Covers self.old → Covers value → Covers self.new }
+        ensures bound { OnOk result (depth_of self.new
+            ≤ max (depth_of self.old) (length path.now + depth_of value)) }
         ensures unchanged { OnErr result (self.new ≡ self.old) }
         ensures index { IsErrOf result Refusal.Index ↔ (value_at self.old path.now ≡ None) }
-        ensures codes { IsErrAmong (Refusal.Index ∷ Refusal.Memory ∷ []) result }
+        ensures depth { IsErrOf result Refusal.Depth ↔ (value_at self.old path.now ≢ None)
+            × (MAX_DEPTH < length path.now + depth_of value) }
+        ensures codes { IsErrAmong (Refusal.Index ∷ Refusal.Depth ∷ Refusal.Memory ∷ []) result }
     {
         if self.at(path).is_none() {
             return Err(Refusal::Index);
+        }
+        let below = value.depth();
+        if below > MAX_DEPTH || path.len() > (MAX_DEPTH - below) as usize {
+            return Err(Refusal::Depth);
         }
         self.put_at(path, value)
     }
@@ -62,7 +72,11 @@ impl Value {
     /// Does the same, but may copy what is shared before it finds that the path leads to no value.
     #[cycle(put)]
     fn put_at(&mut self, path: &[Step], value: Value) -> Result<(), Refusal>
+        requires { length path.now + depth_of value ≤ MAX_DEPTH }
         ensures set { OnOk result (IsSet path.now value self.old self.new) }
+        ensures covers { Covers self.old → Covers value → Covers self.new }
+        ensures bound { OnOk result (depth_of self.new
+            ≤ max (depth_of self.old) (length path.now + depth_of value)) }
         ensures unchanged { OnErr result (self.new ≡ self.old) }
         ensures index { IsErrOf result Refusal.Index → value_at self.old path.now ≡ None }
         ensures codes { IsErrAmong (Refusal.Index ∷ Refusal.Memory ∷ []) result }
@@ -74,16 +88,16 @@ impl Value {
             }
             [step, rest @ ..] => match step {
                 Step::Index(index) => {
-                    let Value::List(items) = self else {
+                    let Value::List(nested) = self else {
                         return Err(Refusal::Index);
                     };
-                    put_in_item(items, *index, rest, value)
+                    put_in_item(nested, *index, rest, value)
                 }
                 Step::Name(name) => {
-                    let Value::Fields(fields) = self else {
+                    let Value::Fields(nested) = self else {
                         return Err(Refusal::Index);
                     };
-                    put_in_field(fields, name.as_str(), rest, value)
+                    put_in_field(nested, name.as_str(), rest, value)
                 }
             },
         }
@@ -93,63 +107,93 @@ impl Value {
 /// Puts `value` at the end of a path that begins at the item of that index.
 #[cycle(put)]
 fn put_in_item(
-    items: &mut EcoVec<Value>,
+    nested: &mut Nested<Value>,
     index: usize,
     rest: &[Step],
     value: Value,
 ) -> Result<(), Refusal>
+    requires { length rest.now + depth_of value < MAX_DEPTH }
     ensures set { OnOk result ((before : Value) × (after : Value)
-        × (slice_get items.old index ≡ Some before)
+        × (slice_get nested.old.items index ≡ Some before)
         × IsSet rest.now value before after
-        × (items.new ≡ slice_set items.old index after)) }
-    ensures unchanged { OnErr result (items.new ≡ items.old) }
+        × (nested.new.items ≡ slice_set nested.old.items index after)) }
+    ensures covers { deepest nested.old.items < nested.old.depth
+        → deepest nested.new.items < nested.new.depth }
+    ensures bound { OnOk result (nested.new.depth
+        ≤ max nested.old.depth (length rest.now + depth_of value + 1)) }
+    ensures unchanged { OnErr result (nested.new ≡ nested.old) }
     ensures index { IsErrOf result Refusal.Index
-        → option_and_then (λ part. value_at part rest.now) (slice_get items.old index) ≡ None }
+        → option_and_then (λ part. value_at part rest.now) (slice_get nested.old.items index)
+        ≡ None }
     ensures codes { IsErrAmong (Refusal.Index ∷ Refusal.Memory ∷ []) result }
 {
-    if index >= items.len() {
+    if index >= nested.items.len() {
         return Err(Refusal::Index);
     }
-    items.update(
+    let below = rest.len() as u32 + value.depth();
+    let gone = nested.items.as_slice()[index].depth();
+    nested.items.update(
         index,
         |item: &mut Value|
+            requires { length rest.now + depth_of value ≤ MAX_DEPTH }
             ensures set { OnOk result (IsSet rest.entry.now value item.old item.new) }
+            ensures bound { OnOk result (depth_of item.new
+                ≤ max (depth_of item.old) (length rest.entry.now + depth_of value)) }
             ensures unchanged { OnErr result (item.new ≡ item.old) }
             ensures index { IsErrOf result Refusal.Index → value_at item.old rest.entry.now ≡ None }
             ensures codes { IsErrAmong (Refusal.Index ∷ Refusal.Memory ∷ []) result }
         { item.put_at(rest, value) },
-    )?
+    )??;
+    raise(&mut nested.depth, below);
+    let came = nested.items.as_slice()[index].depth();
+    settle(&mut nested.depth, nested.items.as_slice(), gone, came);
+    Ok(())
 }
 
 /// Puts `value` at the end of a path that begins at the first field of that name.
 #[cycle(put)]
 fn put_in_field(
-    fields: &mut EcoVec<Field>,
+    nested: &mut Nested<Field>,
     name: &str,
     rest: &[Step],
     value: Value,
 ) -> Result<(), Refusal>
+    requires { length rest.now + depth_of value < MAX_DEPTH }
     ensures set { OnOk result ((before : Value) × (after : Value)
-        × (look_up name.now fields.old ≡ Some before)
+        × (look_up name.now nested.old.items ≡ Some before)
         × IsSet rest.now value before after
-        × (fields.new ≡ with_field name.now after fields.old)) }
-    ensures unchanged { OnErr result (fields.new ≡ fields.old) }
+        × (nested.new.items ≡ with_field name.now after nested.old.items)) }
+    ensures covers { deepest_field nested.old.items < nested.old.depth
+        → deepest_field nested.new.items < nested.new.depth }
+    ensures bound { OnOk result (nested.new.depth
+        ≤ max nested.old.depth (length rest.now + depth_of value + 1)) }
+    ensures unchanged { OnErr result (nested.new ≡ nested.old) }
     ensures index { IsErrOf result Refusal.Index
-        → option_and_then (λ part. value_at part rest.now) (look_up name.now fields.old) ≡ None }
+        → option_and_then (λ part. value_at part rest.now) (look_up name.now nested.old.items)
+        ≡ None }
     ensures codes { IsErrAmong (Refusal.Index ∷ Refusal.Memory ∷ []) result }
 {
-    let Some(at) = place(fields.as_slice(), name) else {
+    let Some(at) = place(nested.items.as_slice(), name) else {
         return Err(Refusal::Index);
     };
-    fields.update(
+    let below = rest.len() as u32 + value.depth();
+    let gone = nested.items.as_slice()[at].value.depth();
+    nested.items.update(
         at,
         |field: &mut Field|
+            requires { length rest.now + depth_of value ≤ MAX_DEPTH }
             ensures name { field.new.name ≡ field.old.name }
             ensures set { OnOk result (IsSet rest.entry.now value field.old.value field.new.value) }
+            ensures bound { OnOk result (depth_of field.new.value
+                ≤ max (depth_of field.old.value) (length rest.entry.now + depth_of value)) }
             ensures unchanged { OnErr result (field.new ≡ field.old) }
             ensures index { IsErrOf result Refusal.Index
                 → value_at field.old.value rest.entry.now ≡ None }
             ensures codes { IsErrAmong (Refusal.Index ∷ Refusal.Memory ∷ []) result }
         { field.value.put_at(rest, value) },
-    )?
+    )??;
+    raise(&mut nested.depth, below);
+    let came = nested.items.as_slice()[at].value.depth();
+    settle(&mut nested.depth, nested.items.as_slice(), gone, came);
+    Ok(())
 }

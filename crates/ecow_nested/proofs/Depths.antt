@@ -1,0 +1,50 @@
+-- What a change of a list makes of the largest depth of its parts.
+use Rattle.std.proofs.Common.{arith, ◌≡◌, ◌≤◌, ◌<◌, ◌+◌, ℕ, zero, suc, max, List, [], ◌∷◌, ◌++◌, map, length, take, get_or, slice_get, slice_set, Some, ap, ◌∙◌}
+use Rattle.std.proofs.lemmas.Option.{none-some, same_Some}
+use Rattle.std.specs.List.{insert, remove}
+use Rattle.std.proofs.lemmas.List.{take_all}
+use Rattle.ecow_nested.specs.Depths.{largest}
+
+module _ {X : Type 0} (f : X → ℕ) where
+  taken_more : (xs : List X) (i : ℕ) (d : X) → i < length xs → largest (map f (take (suc i) xs)) ≡ max (largest (map f (take i xs))) (f (get_or xs i d))
+  taken_more [] i d within = absurd (omega (arith, within))
+  taken_more (x ∷ xs) zero d within = omega arith
+  taken_more (x ∷ xs) (suc i) d within = omega (arith, taken_more xs i d (omega (arith, within)))
+
+  pub taken_next : (xs : List X) (i : ℕ) (d : X) → i < length xs → largest (map f (take (i + 1) xs)) ≡ max (largest (map f (take i xs))) (f (get_or xs i d))
+  taken_next xs i d within =
+      let one : i + 1 ≡ suc i = omega arith in
+      ap (λ k. largest (map f (take k xs))) one ∙ taken_more xs i d within
+
+  pub taken_less : (xs : List X) (n : ℕ) → largest (map f (take n xs)) ≤ largest (map f xs)
+  taken_less xs zero = omega arith
+  taken_less [] (suc n) = omega arith
+  taken_less (x ∷ xs) (suc n) = omega (arith, taken_less xs n)
+
+  pub taken_all : (xs : List X) (n : ℕ) → length xs ≤ n → largest (map f (take n xs)) ≡ largest (map f xs)
+  taken_all xs n past = ap (λ ys. largest (map f ys)) (take_all n xs past)
+
+  pub part_less : (xs : List X) (i : ℕ) (x : X) → slice_get xs i ≡ Some x → f x ≤ largest (map f xs)
+  part_less [] i x found = absurd (none-some x found)
+  part_less (y ∷ ys) zero x found = let same : f y ≡ f x = ap f (same_Some y x found) in omega (arith, same)
+  part_less (y ∷ ys) (suc i) x found = omega (arith, part_less ys i x found)
+
+  pub pushed : (xs : List X) (x : X) → largest (map f (xs ++ x ∷ [])) ≡ max (largest (map f xs)) (f x)
+  pushed [] x = omega arith
+  pushed (y ∷ ys) x = omega (arith, pushed ys x)
+
+  pub inserted : (xs : List X) (i : ℕ) (x : X) → largest (map f (insert xs i x)) ≡ max (largest (map f xs)) (f x)
+  inserted xs zero x = omega arith
+  inserted [] (suc i) x = omega arith
+  inserted (y ∷ ys) (suc i) x = omega (arith, inserted ys i x)
+
+  pub set_less : (xs : List X) (i : ℕ) (x : X) → largest (map f (slice_set xs i x)) ≤ max (largest (map f xs)) (f x)
+  set_less [] i x = omega arith
+  set_less (y ∷ ys) zero x = omega arith
+  set_less (y ∷ ys) (suc i) x = omega (arith, set_less ys i x)
+
+  pub removed_less : (xs : List X) (i : ℕ) → largest (map f (remove xs i)) ≤ largest (map f xs)
+  removed_less [] zero = omega arith
+  removed_less [] (suc i) = omega arith
+  removed_less (y ∷ ys) zero = omega arith
+  removed_less (y ∷ ys) (suc i) = omega (arith, removed_less ys i)

@@ -1,0 +1,89 @@
+//! `Nested`: the items of a container, and how deep they nest.
+ghost use Rattle.std.specs.Prelude.{◌≡◌, ◌+◌, ◌<◌, ◌≤◌, ℕ, [], map, max, min};
+ghost use Rattle.ecow_nested.specs.Depths.{largest};
+
+use ecow_list::EcoVec;
+use std::alloc::{AllocError, Global};
+
+/// How deep a value may nest. What recurs into the deepest needs less than 128 KiB of stack.
+pub const MAX_DEPTH: u32 = 512;
+
+/// The items of a list, or fields, and how deep the container nests: one more than the deepest part.
+#[derive(Drop)]
+pub struct Nested<T> {
+    pub(crate) items: EcoVec<T>,
+    pub(crate) depth: u32,
+}
+
+impl<T: Drop> Nested<T> {
+    /// No items. Takes no memory.
+    pub fn new(alloc: Global) -> Self
+        ensures items { result.items ≡ [] }
+        ensures depth { result.depth ≡ 1 }
+    {
+        Nested {
+            items: EcoVec::new(alloc),
+            depth: 1,
+        }
+    }
+}
+
+impl<T: Drop> Clone for Nested<T> {
+    ghost is_clone = { λ nested copy. copy ≡ nested };
+
+    fn clone(&self) -> Result<Self, AllocError> {
+        Ok(Nested {
+            items: self.items.clone()?,
+            depth: self.depth,
+        })
+    }
+}
+
+/// An item of a list, or a field.
+pub(crate) trait Part: Drop {
+    /// How deep it nests.
+    ghost depth_in: { Self → ℕ };
+
+    fn depth_in(&self) -> u32
+        ensures { result ≡ depth_in self.now };
+}
+
+/// How deep the deepest part nests; `most` where one nests so deep or deeper.
+#[tactic(auto, using(crate::proofs::Depths::taken_all))]
+pub(crate) fn deepest<T: Part>(parts: &[T], most: u32) -> u32
+    ensures { result ≡ min most (largest (map T.depth_in parts.now)) }
+{
+    let mut found = 0;
+    for part in parts {
+        found = part.depth_in().max(found);
+        if found >= most {
+            return most;
+        }
+    }
+    found
+}
+
+/// Raises the depth of a container that gets a part.
+pub(crate) fn raise(depth: &mut u32, part: u32)
+    requires { part < MAX_DEPTH }
+    ensures { depth.new ≡ max depth.old (part + 1) }
+{
+    if *depth <= part {
+        *depth = part + 1;
+    }
+}
+
+/// Lowers the depth of a container in which a part went, and another came: where the first may have
+/// been the deepest, and the second isn't as deep, all are looked at.
+pub(crate) fn settle<T: Part>(depth: &mut u32, parts: &[T], gone: u32, came: u32)
+    ensures lower { depth.new ≤ depth.old }
+    ensures covers { largest (map T.depth_in parts.now) < depth.old
+        → largest (map T.depth_in parts.now) < depth.new }
+    ensures exact { 1 < depth.old → depth.old ≤ gone + 1 → came < gone
+        → largest (map T.depth_in parts.now) < depth.old
+        → depth.new ≡ largest (map T.depth_in parts.now) + 1 }
+{
+    if came < gone && *depth > 1 && gone >= *depth - 1 {
+        *depth = deepest(parts, *depth - 1) + 1;
+    }
+}

@@ -1,0 +1,42 @@
+//! Containers made of their parts. A refusal drops them.
+ghost use Rattle.std.specs.Prelude.{◌≡◌, ◌+◌, ◌≤◌, ◌↔◌, Some, IfErr, IfOk, IsErr};
+ghost use Rattle.ecow_nested.specs.Values.{depth_of, deepest, deepest_field, fields_of, items_of};
+
+use crate::nested::{MAX_DEPTH, Nested, deepest};
+use crate::refusal::Refusal;
+use crate::value::{Field, Value};
+use ecow_list::EcoVec;
+
+impl Value {
+    /// The list of these items. Answers `Depth` where one of them nests as deep as a value may.
+    #[tactic(auto, using(crate::proofs::Parts::out_of_list))]
+    pub fn from_items(items: EcoVec<Value>) -> Result<Value, Refusal>
+        ensures items { IfOk result (λ list. items_of list ≡ Some items) }
+        ensures exact { IfOk result (λ list. depth_of list ≡ deepest items + 1) }
+        ensures depth { IsErr result ↔ MAX_DEPTH ≤ deepest items }
+        ensures code { IfErr result (λ refusal. refusal ≡ Refusal.Depth) }
+    {
+        let below = deepest(items.as_slice(), MAX_DEPTH);
+        if below >= MAX_DEPTH {
+            return Err(Refusal::Depth);
+        }
+        let depth = below + 1;
+        Ok(Value::List(Nested { items, depth }))
+    }
+
+    /// The value with these fields. Answers `Depth` where one of theirs nests as deep as a value may.
+    #[tactic(auto, using(crate::proofs::Parts::out_of_fields))]
+    pub fn from_fields(fields: EcoVec<Field>) -> Result<Value, Refusal>
+        ensures fields { IfOk result (λ value. fields_of value ≡ Some fields) }
+        ensures exact { IfOk result (λ value. depth_of value ≡ deepest_field fields + 1) }
+        ensures depth { IsErr result ↔ MAX_DEPTH ≤ deepest_field fields }
+        ensures code { IfErr result (λ refusal. refusal ≡ Refusal.Depth) }
+    {
+        let below = deepest(fields.as_slice(), MAX_DEPTH);
+        if below >= MAX_DEPTH {
+            return Err(Refusal::Depth);
+        }
+        let (items, depth) = (fields, below + 1);
+        Ok(Value::Fields(Nested { items, depth }))
+    }
+}
