@@ -112,9 +112,8 @@ static int read_value(core_state *state, PyObject *given, ecow_value *made) {
         if (done == 1) {
             level *more = PyMem_Realloc(levels, (size_t)(count + 1) * sizeof *levels);
             if (!more) {
-                PyErr_NoMemory();
                 Py_DECREF(parts);
-                done = -1;
+                done = check(ECOW_MEMORY, NAME);
                 break;
             }
             levels = more;
