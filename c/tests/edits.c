@@ -583,6 +583,16 @@ static void tree_splice(tree *all, const size_t *way, size_t depth, size_t place
     }
 }
 
+/* How deep a part nests. */
+static size_t depth_of(const tree *all, size_t at) {
+    size_t deepest = 0, len = items_of(all, at);
+    for (size_t index = 0; index < len; index++) {
+        size_t depth = depth_of(all, place_of(all, at, index));
+        deepest = depth > deepest ? depth : deepest;
+    }
+    return all->parts[at].kind < ECOW_KIND_LIST ? 0 : deepest + 1;
+}
+
 static bool holds_tree(const ecow_value *value, const tree *all, size_t at) {
     const part *model = &all->parts[at];
     size_t len = items_of(all, at);
@@ -591,7 +601,7 @@ static bool holds_tree(const ecow_value *value, const tree *all, size_t at) {
     int64_t number = 0;
     double real = 0;
     bool truth = false, same = ecow_value_kind(value) == model->kind;
-    same = same && ecow_value_len(value) == len;
+    same = same && ecow_value_len(value) == len && ecow_value_depth(value) == depth_of(all, at);
     switch (model->kind) {
     case ECOW_KIND_TRUTH:
         same = same && ecow_value_truth(value, &truth) == ECOW_OK && truth == model->number;
