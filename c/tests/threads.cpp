@@ -64,9 +64,16 @@ static void *recur(void *given) {
     return is_right ? given : nullptr;
 }
 
-/* Sanitizers have larger frames. */
+/* Sanitizers have larger frames. GCC defines a name for each, and clang has a test. */
 #if defined(__SANITIZE_ADDRESS__) || defined(__SANITIZE_THREAD__)
-constexpr std::size_t little = 4 << 20;
+#define SANITIZED
+#elif defined(__has_feature)
+#if __has_feature(address_sanitizer) || __has_feature(thread_sanitizer)
+#define SANITIZED
+#endif
+#endif
+#ifdef SANITIZED
+constexpr std::size_t little = 8 << 20;
 #else
 constexpr std::size_t little = 128 << 10;
 #endif
