@@ -9,7 +9,7 @@ use Rattle.ecow_nested.specs.declared.value.Kind.TheVariants as kind
 use Rattle.ecow_nested.specs.declared.value.Value.{Value}
 use Rattle.std.specs.Str.{is_utf8}
 use Rattle.ecow_base.specs.declared.plain.PlainText.{PlainText}
-use Rattle.ecow_nested.specs.Values.{depth_of, fields_of, items_of, kind_of, len_of, look_up, name_in, Covers, Raises}
+use Rattle.ecow_nested.specs.Values.{depth_of, fields_of, items_of, kind_of, len_of, look_up, name_in, Covers, RisesAtMost}
 
 -- the number of a kind in the header
 abbrev pub kind_number : Kind → ℕ
@@ -65,9 +65,10 @@ abbrev pub CoversAt : Option Value → Type 0
 CoversAt value = IfSome value Covers
 
 -- where a container got the item, it nests no deeper than before, or than the item demands
-abbrev pub RaisesBy : Option Value → Option Value → ℕ → Option Value → Type 0
-RaisesBy old item status new =
-    status ≡ OK → AreBothAnd old item (λ before item. IsSomeAnd new (λ after. Raises item before after))
+abbrev pub RisesAtMostBy : Option Value → Option Value → ℕ → Option Value → Type 0
+RisesAtMostBy old item status new =
+    status ≡ OK
+    → AreBothAnd old item (λ before item. IsSomeAnd new (λ after. RisesAtMost item before after))
 
 -- the name of the field at an index
 abbrev pub name_at : ℕ → Value → Option PlainText

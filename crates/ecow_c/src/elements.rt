@@ -7,7 +7,7 @@ ghost use Rattle.ecow_nested.specs.Values.{depth_of, items_of, len_of, part_of};
 ghost use Rattle.ecow_c.specs.Answers.{Alters, AltersBy, AltersBytes, AltersList, AltersTexts, AltersTextsBy, AreBothAnd, IsAmong, Reads, ReadsTo, RefusesPast, Writes, WritesTo};
 ghost use Rattle.ecow_c.specs.Indices.{InsertPasses, SplicePasses, is_outside};
 ghost use Rattle.ecow_c.specs.Texts.{text_len_at};
-ghost use Rattle.ecow_c.specs.Values.{CoversAt, IsDeepest, RaisesBy, item_at, last_item};
+ghost use Rattle.ecow_c.specs.Values.{CoversAt, IsDeepest, RisesAtMostBy, depth_at, item_at, last_item};
 
 use crate::pointer::{BytesPointer, ListPointer, TextPointer, TextsPointer, ValuePointer};
 use crate::status::{
@@ -163,7 +163,7 @@ pub extern "C" fn ecow_proved_value_push(pointer: &mut ValuePointer, item: &mut 
     ensures value { AltersBy items_of (λ item. option_map (λ xs. xs ++ item ∷ []))
         pointer.old.value item.old.value result pointer.new.value }
     ensures covers { CoversAt pointer.old.value → CoversAt pointer.new.value }
-    ensures bound { RaisesBy pointer.old.value item.old.value result pointer.new.value }
+    ensures bound { RisesAtMostBy pointer.old.value item.old.value result pointer.new.value }
     ensures item { item.new.value ≡ item.old.value }
 
     // When each status is answered.
@@ -244,6 +244,7 @@ pub extern "C" fn ecow_proved_value_pop(pointer: &mut ValuePointer, out: &mut Va
         pointer.old.value out.old.value result pointer.new.value }
     ensures out { WritesTo last_item pointer.old.value result out.old.value out.new.value }
     ensures covers { CoversAt pointer.old.value → CoversAt pointer.new.value }
+    ensures bound { depth_at pointer.new.value ≤ depth_at pointer.old.value }
 
     // When each status is answered.
     ensures statuses { IsAmong (OK ∷ MEMORY ∷ INDEX ∷ KIND ∷ NULL ∷ []) result }
@@ -321,7 +322,7 @@ pub extern "C" fn ecow_proved_value_set(
     ensures value { AltersBy items_of (λ item. option_map (λ xs. slice_set xs index item))
         pointer.old.value item.old.value result pointer.new.value }
     ensures covers { CoversAt pointer.old.value → CoversAt pointer.new.value }
-    ensures bound { RaisesBy pointer.old.value item.old.value result pointer.new.value }
+    ensures bound { RisesAtMostBy pointer.old.value item.old.value result pointer.new.value }
     ensures item { item.new.value ≡ item.old.value }
 
     // When each status is answered.
@@ -359,7 +360,7 @@ pub extern "C" fn ecow_proved_value_swap(
     ensures other { WritesTo (item_at index)
         pointer.old.value result other.old.value other.new.value }
     ensures covers { CoversAt pointer.old.value → CoversAt pointer.new.value }
-    ensures bound { RaisesBy pointer.old.value other.old.value result pointer.new.value }
+    ensures bound { RisesAtMostBy pointer.old.value other.old.value result pointer.new.value }
 
     // When each status is answered.
     ensures statuses { IsAmong (OK ∷ MEMORY ∷ DEPTH ∷ INDEX ∷ KIND ∷ NULL ∷ []) result }
@@ -457,7 +458,7 @@ pub extern "C" fn ecow_proved_value_insert(
     ensures value { AltersBy items_of (λ item. option_map (λ xs. insert xs index item))
         pointer.old.value item.old.value result pointer.new.value }
     ensures covers { CoversAt pointer.old.value → CoversAt pointer.new.value }
-    ensures bound { RaisesBy pointer.old.value item.old.value result pointer.new.value }
+    ensures bound { RisesAtMostBy pointer.old.value item.old.value result pointer.new.value }
     ensures item { item.new.value ≡ item.old.value }
 
     // When each status is answered.
@@ -564,6 +565,7 @@ pub extern "C" fn ecow_proved_value_remove(
         pointer.old.value out.old.value result pointer.new.value }
     ensures out { WritesTo (item_at index) pointer.old.value result out.old.value out.new.value }
     ensures covers { CoversAt pointer.old.value → CoversAt pointer.new.value }
+    ensures bound { depth_at pointer.new.value ≤ depth_at pointer.old.value }
 
     // When each status is answered.
     ensures statuses { IsAmong (OK ∷ MEMORY ∷ INDEX ∷ KIND ∷ NULL ∷ []) result }
@@ -613,6 +615,7 @@ pub extern "C" fn ecow_proved_value_truncate(pointer: &mut ValuePointer, len: us
     ensures value { Alters items_of (option_map (λ xs. take len xs))
         pointer.old.value result pointer.new.value }
     ensures covers { CoversAt pointer.old.value → CoversAt pointer.new.value }
+    ensures bound { depth_at pointer.new.value ≤ depth_at pointer.old.value }
     ensures statuses { IsAmong (OK ∷ MEMORY ∷ KIND ∷ NULL ∷ []) result }
     ensures kind { result ≡ KIND ↔ IsSomeAnd pointer.old.value (λ value. items_of value ≡ None) }
 {

@@ -5,7 +5,7 @@ ghost use Rattle.std.specs.Option.{option_map};
 ghost use Rattle.std.specs.Str.{is_utf8};
 ghost use Rattle.ecow_nested.specs.Values.{truth_of, number_of, real_of, text_of, items_of, fields_of, with_field, without_field};
 ghost use Rattle.ecow_c.specs.Answers.{Alters, AltersBy, AreBothAnd, IsAmong, Reads, ReadsTo, WritesTo};
-ghost use Rattle.ecow_c.specs.Values.{CoversAt, HasNoFields, HasField, IsDeepest, LacksField, RaisesBy, depth_at, field_at, kind_at, kind_number, name_at};
+ghost use Rattle.ecow_c.specs.Values.{CoversAt, HasNoFields, HasField, IsDeepest, LacksField, RisesAtMostBy, depth_at, field_at, kind_at, kind_number, name_at};
 
 use crate::pointer::{TextPointer, ValuePointer};
 use crate::status::{
@@ -107,6 +107,7 @@ pub extern "C" fn ecow_proved_value_set_text(
 #[unsafe(no_mangle)]
 pub extern "C" fn ecow_proved_value_set_list(alloc: Global, pointer: &mut ValuePointer) -> u32
     ensures value { Alters items_of (λ _. Some []) pointer.old.value result pointer.new.value }
+    ensures depth { result ≡ OK → depth_at pointer.new.value ≡ 1 }
     ensures statuses { IsAmong (OK ∷ NULL ∷ []) result }
 {
     assign(pointer, Value::List(Nested::new(alloc)))
@@ -116,6 +117,7 @@ pub extern "C" fn ecow_proved_value_set_list(alloc: Global, pointer: &mut ValueP
 #[unsafe(no_mangle)]
 pub extern "C" fn ecow_proved_value_set_fields(alloc: Global, pointer: &mut ValuePointer) -> u32
     ensures value { Alters fields_of (λ _. Some []) pointer.old.value result pointer.new.value }
+    ensures depth { result ≡ OK → depth_at pointer.new.value ≡ 1 }
     ensures statuses { IsAmong (OK ∷ NULL ∷ []) result }
 {
     assign(pointer, Value::Fields(Nested::new(alloc)))
@@ -207,7 +209,7 @@ pub extern "C" fn ecow_proved_value_set_field(
     ensures value { AltersBy fields_of (λ item. option_map (with_field name.now item))
         pointer.old.value item.old.value result pointer.new.value }
     ensures covers { CoversAt pointer.old.value → CoversAt pointer.new.value }
-    ensures bound { RaisesBy pointer.old.value item.old.value result pointer.new.value }
+    ensures bound { RisesAtMostBy pointer.old.value item.old.value result pointer.new.value }
     ensures item { item.new.value ≡ item.old.value }
 
     // When each status is answered.
@@ -245,7 +247,7 @@ pub extern "C" fn ecow_proved_value_swap_field(
     ensures other { WritesTo (field_at name.now)
         pointer.old.value result other.old.value other.new.value }
     ensures covers { CoversAt pointer.old.value → CoversAt pointer.new.value }
-    ensures bound { RaisesBy pointer.old.value other.old.value result pointer.new.value }
+    ensures bound { RisesAtMostBy pointer.old.value other.old.value result pointer.new.value }
 
     // When each status is answered.
     ensures statuses { IsAmong (OK ∷ MEMORY ∷ DEPTH ∷ INDEX ∷ UTF8 ∷ KIND ∷ NULL ∷ []) result }
@@ -277,6 +279,7 @@ pub extern "C" fn ecow_proved_value_remove_field(
     ensures out { WritesTo (field_at name.now)
         pointer.old.value result out.old.value out.new.value }
     ensures covers { CoversAt pointer.old.value → CoversAt pointer.new.value }
+    ensures bound { depth_at pointer.new.value ≤ depth_at pointer.old.value }
 
     // When each status is answered.
     ensures statuses { IsAmong (OK ∷ MEMORY ∷ INDEX ∷ UTF8 ∷ KIND ∷ NULL ∷ []) result }

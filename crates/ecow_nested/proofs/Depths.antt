@@ -1,17 +1,22 @@
--- What a change of a list makes of the largest depth of its parts.
-use Rattle.std.proofs.Common.{arith, ◌≡◌, ◌≤◌, ◌<◌, ◌+◌, ℕ, zero, suc, max, List, [], ◌∷◌, ◌++◌, map, length, take, get_or, slice_get, slice_set, Some, ap, ◌∙◌}
+-- What a change of a list, or of fields, makes of the largest depth of the parts.
+use Rattle.std.proofs.Common.{arith, ◌≡◌, ◌≤◌, ◌<◌, ◌+◌, ℕ, zero, suc, max, Bool, true, false, cond, List, [], ◌∷◌, ◌++◌, map, length, take, get_or, slice_get, slice_set, Some, ap, ◌∙◌}
 use Rattle.std.proofs.lemmas.Option.{none-some, same_Some}
 use Rattle.std.specs.List.{insert, remove}
 use Rattle.std.proofs.lemmas.List.{take_all}
 use Rattle.ecow_nested.specs.Depths.{largest}
+use Rattle.ecow_nested.specs.Values.{deepest_field, depth_of, has_name, with_field, without_field}
+use Rattle.ecow_nested.specs.declared.value.Field.{Field}
+use Rattle.ecow_nested.specs.declared.value.Value.{Value}
 
 module _ {X : Type 0} (f : X → ℕ) where
-  taken_more : (xs : List X) (i : ℕ) (d : X) → i < length xs → largest (map f (take (suc i) xs)) ≡ max (largest (map f (take i xs))) (f (get_or xs i d))
+  taken_more : (xs : List X) (i : ℕ) (d : X) → i < length xs
+      → largest (map f (take (suc i) xs)) ≡ max (largest (map f (take i xs))) (f (get_or xs i d))
   taken_more [] i d within = absurd (omega (arith, within))
   taken_more (x ∷ xs) zero d within = omega arith
   taken_more (x ∷ xs) (suc i) d within = omega (arith, taken_more xs i d (omega (arith, within)))
 
-  pub taken_next : (xs : List X) (i : ℕ) (d : X) → i < length xs → largest (map f (take (i + 1) xs)) ≡ max (largest (map f (take i xs))) (f (get_or xs i d))
+  pub taken_next : (xs : List X) (i : ℕ) (d : X) → i < length xs
+      → largest (map f (take (i + 1) xs)) ≡ max (largest (map f (take i xs))) (f (get_or xs i d))
   taken_next xs i d within =
       let one : i + 1 ≡ suc i = omega arith in
       ap (λ k. largest (map f (take k xs))) one ∙ taken_more xs i d within
@@ -21,24 +26,31 @@ module _ {X : Type 0} (f : X → ℕ) where
   taken_less [] (suc n) = omega arith
   taken_less (x ∷ xs) (suc n) = omega (arith, taken_less xs n)
 
-  pub taken_all : (xs : List X) (n : ℕ) → length xs ≤ n → largest (map f (take n xs)) ≡ largest (map f xs)
+  pub taken_all : (xs : List X) (n : ℕ) → length xs ≤ n
+      → largest (map f (take n xs)) ≡ largest (map f xs)
   taken_all xs n past = ap (λ ys. largest (map f ys)) (take_all n xs past)
 
-  pub part_less : (xs : List X) (i : ℕ) (x : X) → slice_get xs i ≡ Some x → f x ≤ largest (map f xs)
+  pub part_less : (xs : List X) (i : ℕ) (x : X) → slice_get xs i ≡ Some x
+      → f x ≤ largest (map f xs)
   part_less [] i x found = absurd (none-some x found)
-  part_less (y ∷ ys) zero x found = let same : f y ≡ f x = ap f (same_Some y x found) in omega (arith, same)
+  part_less (y ∷ ys) zero x found =
+      let same : f y ≡ f x = ap f (same_Some y x found) in
+      omega (arith, same)
   part_less (y ∷ ys) (suc i) x found = omega (arith, part_less ys i x found)
 
-  pub pushed : (xs : List X) (x : X) → largest (map f (xs ++ x ∷ [])) ≡ max (largest (map f xs)) (f x)
+  pub pushed : (xs : List X) (x : X)
+      → largest (map f (xs ++ x ∷ [])) ≡ max (largest (map f xs)) (f x)
   pushed [] x = omega arith
   pushed (y ∷ ys) x = omega (arith, pushed ys x)
 
-  pub inserted : (xs : List X) (i : ℕ) (x : X) → largest (map f (insert xs i x)) ≡ max (largest (map f xs)) (f x)
+  pub inserted : (xs : List X) (i : ℕ) (x : X)
+      → largest (map f (insert xs i x)) ≡ max (largest (map f xs)) (f x)
   inserted xs zero x = omega arith
   inserted [] (suc i) x = omega arith
   inserted (y ∷ ys) (suc i) x = omega (arith, inserted ys i x)
 
-  pub set_less : (xs : List X) (i : ℕ) (x : X) → largest (map f (slice_set xs i x)) ≤ max (largest (map f xs)) (f x)
+  pub set_less : (xs : List X) (i : ℕ) (x : X)
+      → largest (map f (slice_set xs i x)) ≤ max (largest (map f xs)) (f x)
   set_less [] i x = omega arith
   set_less (y ∷ ys) zero x = omega arith
   set_less (y ∷ ys) (suc i) x = omega (arith, set_less ys i x)
@@ -48,3 +60,25 @@ module _ {X : Type 0} (f : X → ℕ) where
   removed_less [] (suc i) = omega arith
   removed_less (y ∷ ys) zero = omega arith
   removed_less (y ∷ ys) (suc i) = omega (arith, removed_less ys i)
+
+pub with_less : (name : List ℕ) (value : Value) (fs : List Field)
+    → deepest_field (with_field name value fs) ≤ max (deepest_field fs) (depth_of value)
+with_less name value [] = omega arith
+with_less name value (f ∷ fs) =
+    let renewed : Field = record { name = f.name; value = value } in
+    elim (has_name name f) as (λ b.
+    deepest_field (cond b (renewed ∷ fs) (f ∷ with_field name value fs))
+    ≤ max (deepest_field (f ∷ fs)) (depth_of value)) [
+      | true ↦ omega arith
+      | false ↦ omega (arith, with_less name value fs)
+    ]
+
+pub without_less : (name : List ℕ) (fs : List Field)
+    → deepest_field (without_field name fs) ≤ deepest_field fs
+without_less name [] = omega arith
+without_less name (f ∷ fs) =
+    elim (has_name name f) as (λ b. deepest_field (cond b fs (f ∷ without_field name fs))
+    ≤ deepest_field (f ∷ fs)) [
+      | true ↦ omega arith
+      | false ↦ omega (arith, without_less name fs)
+    ]

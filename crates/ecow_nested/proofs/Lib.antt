@@ -1,6 +1,5 @@
 pub mod Depths
 pub mod Equality
-pub mod FieldDepths
 pub mod Fields
 pub mod Parts
 pub mod Paths

@@ -79,8 +79,8 @@ Covers value =
     ]
 
 -- a container nests no deeper than it did, or than a part that it got demands
-abbrev pub Raises : Value → Value → Value → Type 0
-Raises part old new = depth_of new ≤ max (depth_of old) (depth_of part + 1)
+abbrev pub RisesAtMost : Value → Value → Value → Type 0
+RisesAtMost part old new = depth_of new ≤ max (depth_of old) (depth_of part + 1)
 
 -- how many items or fields there are
 abbrev pub len_of : Value → Option ℕ

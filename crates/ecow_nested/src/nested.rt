@@ -8,7 +8,8 @@ use std::alloc::{AllocError, Global};
 /// How deep a value may nest. What recurs into the deepest needs less than 128 KiB of stack.
 pub const MAX_DEPTH: u32 = 512;
 
-/// The items of a list, or fields, and how deep the container nests: one more than the deepest part.
+/// The items of a list, or fields, and how deep the container nests: one more than the deepest
+/// part.
 #[derive(Drop)]
 pub struct Nested<T> {
     pub(crate) items: EcoVec<T>,

@@ -94,8 +94,8 @@ impl Part for Field {
 }
 
 impl Value {
-    /// How deep the value nests: 0 of what is no container, else one more than its deepest part, and at
-    /// most `MAX_DEPTH`.
+    /// How deep the value nests: 0 of what is no container, else one more than its deepest part,
+    /// and at most `MAX_DEPTH`.
     pub fn depth(&self) -> u32
         ensures { result ≡ depth_of self.now }
     {

@@ -1,7 +1,7 @@
-//! Fields by name. A refusal changes nothing. Where several apply, the answer is the first of `Kind`,
-//! `Index`, `Depth` and `Memory`.
+//! Fields by name. A refusal changes nothing. Where several apply, the answer is the first of
+//! `Kind`, `Index`, `Depth` and `Memory`.
 ghost use Rattle.std.specs.Prelude.{◌≡◌, ◌≢◌, ◌≤◌, ◌↔◌, [], ◌∷◌, None, Some, position, IfOk, IfSome, OnOk, OnErr, IsErrOf, IsSomeAnd, MatchOption};
-ghost use Rattle.ecow_nested.specs.Values.{depth_of, fields_of, has_name, look_up, with_field, without_field, EditsFields, Covers, IsErrAmong, Raises};
+ghost use Rattle.ecow_nested.specs.Values.{depth_of, fields_of, has_name, look_up, with_field, without_field, EditsFields, Covers, IsErrAmong, RisesAtMost};
 
 use crate::nested::{MAX_DEPTH, Nested, raise, settle};
 use crate::refusal::Refusal;
@@ -115,11 +115,11 @@ impl Value {
     /// Puts `value` in place of the value of the first field of that name, or appends a field where
     /// there is none. It never answers `Capacity`: memory holds no name and no fields past the
     /// greatest length.
-    #[tactic(auto, using(crate::proofs::Parts::out_of_fields, crate::proofs::FieldDepths::with_less))]
+    #[tactic(auto, using(crate::proofs::Parts::out_of_fields, crate::proofs::Depths::with_less))]
     pub fn set_field(&mut self, name: &str, value: Value) -> Result<(), Refusal>
         ensures change { EditsFields (with_field name.now value) self.old result self.new }
         ensures covers { Covers self.old → Covers self.new }
-        ensures bound { OnOk result (Raises value self.old self.new) }
+        ensures bound { OnOk result (RisesAtMost value self.old self.new) }
         ensures depth { IsErrOf result Refusal.Depth
             ↔ (fields_of self.old ≢ None) × (MAX_DEPTH ≤ depth_of value) }
         ensures codes { IsErrAmong (Refusal.Kind ∷ Refusal.Depth ∷ Refusal.Memory ∷ []) result }
@@ -139,14 +139,14 @@ impl Value {
     }
 
     /// Exchanges the value of the first field of that name and `other`.
-    #[tactic(auto, using(crate::proofs::Parts::out_of_fields, crate::proofs::FieldDepths::with_less))]
+    #[tactic(auto, using(crate::proofs::Parts::out_of_fields, crate::proofs::Depths::with_less))]
     pub fn swap_field(&mut self, name: &str, other: &mut Value) -> Result<(), Refusal>
         ensures change { EditsFields (with_field name.now other.old) self.old result self.new }
         ensures other { OnOk result (IfSome (fields_of self.old)
             (λ fields. look_up name.now fields ≡ Some other.new)) }
         ensures kept { OnErr result (other.new ≡ other.old) }
         ensures covers { Covers self.old → Covers self.new }
-        ensures bound { OnOk result (Raises other.old self.old self.new) }
+        ensures bound { OnOk result (RisesAtMost other.old self.old self.new) }
         ensures index { IsErrOf result Refusal.Index
             ↔ IsSomeAnd (fields_of self.old) (λ fields. look_up name.now fields ≡ None) }
         ensures depth { IsErrOf result Refusal.Depth ↔ IsSomeAnd (fields_of self.old)
@@ -165,7 +165,7 @@ impl Value {
     }
 
     /// Takes the first field of that name out, and gives its value.
-    #[tactic(auto, using(crate::proofs::Parts::out_of_fields, crate::proofs::FieldDepths::without_less))]
+    #[tactic(auto, using(crate::proofs::Parts::out_of_fields, crate::proofs::Depths::without_less))]
     pub fn remove_field(&mut self, name: &str) -> Result<Value, Refusal>
         ensures change { EditsFields (without_field name.now) self.old result self.new }
         ensures value { IfOk result (λ value. IfSome (fields_of self.old)

@@ -1,7 +1,7 @@
-//! Edits of a list. A refusal changes nothing. Where several apply, the answer is the first of `Kind`,
-//! `Index`, `Depth`, `Capacity` and `Memory`.
+//! Edits of a list. A refusal changes nothing. Where several apply, the answer is the first of
+//! `Kind`, `Index`, `Depth`, `Capacity` and `Memory`.
 ghost use Rattle.std.specs.Prelude.{◌≡◌, ◌+◌, ◌-◌, ◌<◌, ◌≤◌, ◌↔◌, [], ◌∷◌, ◌++◌, None, Some, length, take, insert, remove, slice_get, slice_set, IfOk, IfSome, IsErrOf, IsSomeAnd, OnErr, OnOk};
-ghost use Rattle.ecow_nested.specs.Values.{depth_of, items_of, Covers, EditsItems, IsErrAmong, Raises};
+ghost use Rattle.ecow_nested.specs.Values.{depth_of, items_of, Covers, EditsItems, IsErrAmong, RisesAtMost};
 
 use crate::nested::{MAX_DEPTH, Nested, raise, settle};
 use crate::refusal::Refusal;
@@ -17,7 +17,7 @@ impl Value {
     pub fn push(&mut self, item: Value) -> Result<(), Refusal>
         ensures change { EditsItems (λ items. items ++ item ∷ []) self.old result self.new }
         ensures covers { Covers self.old → Covers self.new }
-        ensures bound { OnOk result (Raises item self.old self.new) }
+        ensures bound { OnOk result (RisesAtMost item self.old self.new) }
         ensures depth { IsErrOf result Refusal.Depth
             ↔ IsSomeAnd (items_of self.old) (λ _. MAX_DEPTH ≤ depth_of item) }
         ensures capacity { IsErrOf result Refusal.Capacity ↔ IsSomeAnd (items_of self.old)
@@ -67,7 +67,7 @@ impl Value {
         ensures change { EditsItems (λ items. slice_set items index item)
             self.old result self.new }
         ensures covers { Covers self.old → Covers self.new }
-        ensures bound { OnOk result (Raises item self.old self.new) }
+        ensures bound { OnOk result (RisesAtMost item self.old self.new) }
         ensures index { IsErrOf result Refusal.Index
             ↔ IsSomeAnd (items_of self.old) (λ items. length items ≤ index) }
         ensures depth { IsErrOf result Refusal.Depth ↔ IsSomeAnd (items_of self.old)
@@ -102,7 +102,7 @@ impl Value {
             (λ items. slice_get items index ≡ Some other.new)) }
         ensures kept { OnErr result (other.new ≡ other.old) }
         ensures covers { Covers self.old → Covers self.new }
-        ensures bound { OnOk result (Raises other.old self.old self.new) }
+        ensures bound { OnOk result (RisesAtMost other.old self.old self.new) }
         ensures index { IsErrOf result Refusal.Index
             ↔ IsSomeAnd (items_of self.old) (λ items. length items ≤ index) }
         ensures depth { IsErrOf result Refusal.Depth ↔ IsSomeAnd (items_of self.old)
@@ -140,7 +140,7 @@ impl Value {
     pub fn insert(&mut self, index: usize, item: Value) -> Result<(), Refusal>
         ensures change { EditsItems (λ items. insert items index item) self.old result self.new }
         ensures covers { Covers self.old → Covers self.new }
-        ensures bound { OnOk result (Raises item self.old self.new) }
+        ensures bound { OnOk result (RisesAtMost item self.old self.new) }
         ensures index { IsErrOf result Refusal.Index
             ↔ IsSomeAnd (items_of self.old) (λ items. length items < index) }
         ensures depth { IsErrOf result Refusal.Depth ↔ IsSomeAnd (items_of self.old)

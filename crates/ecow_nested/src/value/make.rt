@@ -24,7 +24,7 @@ impl Value {
         Ok(Value::List(Nested { items, depth }))
     }
 
-    /// The value with these fields. Answers `Depth` where one of theirs nests as deep as a value may.
+    /// The value with these fields. Answers `Depth` where one of them nests as deep as a value may.
     #[tactic(auto, using(crate::proofs::Parts::out_of_fields))]
     pub fn from_fields(fields: EcoVec<Field>) -> Result<Value, Refusal>
         ensures fields { IfOk result (λ value. fields_of value ≡ Some fields) }
