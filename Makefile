@@ -28,9 +28,9 @@ help:
 	@echo
 	@echo "To change it:"
 	@echo "  make test                the whole gate: every proof from nothing, must-fail edits, tests, programs, costs,"
-	@echo "                           each request for memory refused in turn, command lines, large scripts, and the"
-	@echo "                           library for C where there is a C compiler; writes the crate for Rust, and tests it"
-	@echo "                           where there is a Rust compiler"
+	@echo "                           each request for memory refused in turn, command lines, large scripts, growth,"
+	@echo "                           and the library for C where there is a C compiler; writes the crate for Rust, and tests"
+	@echo "                           it where there is a Rust compiler"
 	@echo "  make agree               compares documents, examples and edits with the code, and tries what compares on what it must"
 	@echo "                           refuse"
 	@echo "  make contracts           writes every public call with its clauses, and where their words come from, into"
@@ -113,9 +113,10 @@ COSTS := crates/ecow_costs/out/ecow_costs
 STORE_FAULTS := crates/ecow_store_faults/out/ecow_store_faults
 VALUE_FAULTS := crates/ecow_value_faults/out/ecow_value_faults
 RUN := crates/ecow_run/out/ecow_run
+BENCH := crates/ecow_bench/out/ecow_bench
 
-# `rt ci` leaves these programs built: what calls cost is counted, requests for memory are refused in turn, and the
-# program is run on command lines and on large scripts.
+# `rt ci` leaves these programs built: what calls cost is counted, requests for memory are refused in turn, the program
+# is run on command lines and on large scripts, and calls are timed as values grow.
 test: agree
 	rt ci
 	tools/costs.sh $(COSTS)
@@ -123,6 +124,7 @@ test: agree
 	tools/refuse.sh $(STORE_FAULTS)
 	tools/ends.sh $(RUN)
 	tools/large.sh $(RUN)
+	tools/growth.sh $(BENCH)
 	tools/threads_gate.sh
 	tools/c_gate.sh
 	tools/rust_gate.sh

@@ -1,23 +1,6 @@
 /* The calls that kinds whose items stand in one array have in common. It is included behind
- * `values.h`, with two names more:
- *     ITEM                    the type of an item
+ * `values.h`, with one name more:
  *     CAN_CUT(value, index)   whether an index isn't inside a character */
-
-const ITEM *CALL(slice)(const VALUE *value, size_t *len) {
-    VALUE *place = (VALUE *)value;
-    const ITEM *start = (const ITEM *)nothing;
-    size_t ignored;
-    PROVED(slice)(&place, &start, len ? len : &ignored);
-    return start;
-}
-
-/* A block holds its items in one place alone, and those of a struct stand in none. */
-bool CALL(shares)(const VALUE *left, const VALUE *right) {
-    size_t len, other_len;
-    const ITEM *items = CALL(slice)(left, &len);
-    return items == CALL(slice)(right, &other_len) && len > 0 && len == other_len
-           && !overlap(items, 1, left, sizeof(VALUE));
-}
 
 /* What a call answers of an array that no memory holds, put in place of a range. */
 static ecow_status CALL(refuse)(const VALUE *value, size_t start, size_t end, const ITEM *items,
@@ -43,19 +26,19 @@ typedef struct CALL(array) {
 } CALL(array);
 
 /* Keeps an array: one that lies in the value is copied. */
-static ecow_status CALL(keep)(CALL(array) * array, const VALUE *value, const ITEM *items,
-                              size_t count) {
-    size_t len;
+static inline ecow_status CALL(keep)(CALL(array) * array, const VALUE *value, const ITEM *items,
+                                     size_t count) {
+    size_t len, size = count * sizeof(ITEM);
     const ITEM *all = CALL(slice)(value, &len);
     array->items = items ? items : (const ITEM *)nothing;
-    array->is_copied = overlap(items, count * sizeof(ITEM), value, sizeof(VALUE))
-                       || overlap(items, count * sizeof(ITEM), all, len * sizeof(ITEM));
+    array->is_copied = false;
     if (!value || (!items && count)) {
-        array->is_copied = false;
         return ECOW_NULL;
     }
-    if (array->is_copied) {
+    if (overlap(items, size, value, sizeof(VALUE))
+        || overlap(items, size, all, len * sizeof(ITEM))) {
         VALUE *copy = &array->copy;
+        array->is_copied = true;
         array->copy = CALL(new)();
         ecow_status status = PROVED(assign)(&copy, items, count);
         array->items = CALL(slice)(copy, NULL);

@@ -95,10 +95,12 @@ const char ecow_library_counts_owners_atomically = 1;
 #undef CAN_CUT
 
 #define VALUE ecow_texts
+#define ITEM ecow_text
 #define CALL(name) ecow_texts_##name
 #define PROVED(name) ecow_proved_texts_##name
 #include "values.h"
 #undef VALUE
+#undef ITEM
 #undef CALL
 #undef PROVED
 
@@ -195,10 +197,6 @@ ecow_status ecow_text_c_str(ecow_text *text, const char **out) {
     return status;
 }
 
-bool ecow_texts_shares(const ecow_texts *left, const ecow_texts *right) {
-    return left && right && left->word[0] == right->word[0] && ecow_texts_len(left) > 0;
-}
-
 ecow_status ecow_texts_get(const ecow_texts *texts, size_t index, ecow_text *text) {
     ecow_texts *place = (ecow_texts *)texts;
     ecow_text ignored = {{0}}, *out = text ? text : &ignored;
@@ -207,16 +205,7 @@ ecow_status ecow_texts_get(const ecow_texts *texts, size_t index, ecow_text *tex
     return status;
 }
 
-const char *ecow_texts_at(const ecow_texts *texts, size_t index, size_t *len) {
-    ecow_texts *place = (ecow_texts *)texts;
-    const char *start = (const char *)nothing;
-    size_t count = 0;
-    ecow_status status = ecow_proved_texts_at(&place, index, &start, &count);
-    if (len) {
-        *len = count;
-    }
-    return status == ECOW_OK ? start : NULL;
-}
+extern inline const char *ecow_texts_at(const ecow_texts *texts, size_t index, size_t *len);
 
 ecow_status ecow_texts_set(ecow_texts *texts, size_t index, const ecow_text *text) {
     ecow_text *item = (ecow_text *)text;

@@ -1,5 +1,6 @@
 /* The calls that all kinds of value have in common. It is included once for each:
  *     VALUE          the type of the value
+ *     ITEM           the type of an item
  *     CALL(name)     a call of the header
  *     PROVED(name)   a call of the proved library */
 
@@ -12,10 +13,9 @@ extern inline void CALL(drop)(VALUE *value);
 
 extern inline ecow_status CALL(clone)(VALUE *to, const VALUE *from);
 
-size_t CALL(len)(const VALUE *value) {
-    VALUE *place = (VALUE *)value;
-    return PROVED(len)(&place);
-}
+extern inline size_t CALL(len)(const VALUE *value);
+
+extern inline const ITEM *CALL(slice)(const VALUE *value, size_t *len);
 
 ecow_status CALL(truncate)(VALUE *value, size_t len) {
     return PROVED(truncate)(&value, len);
@@ -36,6 +36,14 @@ size_t CALL(capacity)(const VALUE *value) {
 
 ecow_status CALL(shrink_to_fit)(VALUE *value) {
     return PROVED(shrink_to_fit)(&value);
+}
+
+/* A block holds its items in one place alone, and those of a struct stand in none. */
+bool CALL(shares)(const VALUE *left, const VALUE *right) {
+    size_t len, other_len;
+    const ITEM *items = CALL(slice)(left, &len);
+    return items == CALL(slice)(right, &other_len) && len > 0 && len == other_len
+           && !overlap(items, 1, left, sizeof(VALUE));
 }
 
 bool CALL(equal)(const VALUE *left, const VALUE *right) {

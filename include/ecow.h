@@ -59,7 +59,7 @@ extern "C" {
 #endif
 
 /* This header's version. Versions with the same first two numbers have the same calls, and values
- * of the same sizes. */
+ * of the same sizes, which lie in memory in the same way. */
 #define ECOW_VERSION_MAJOR 0
 #define ECOW_VERSION_MINOR 13
 #define ECOW_VERSION_PATCH 0
@@ -134,10 +134,10 @@ ECOW_INLINE ecow_status ecow_list_clone(ecow_list *to, const ecow_list *from);
 ecow_status ecow_list_assign(ecow_list *list, const int64_t *numbers, size_t count);
 
 /* How many numbers there are. */
-size_t ecow_list_len(const ecow_list *list);
+ECOW_INLINE size_t ecow_list_len(const ecow_list *list);
 
 /* The numbers, to read, and how many there are. */
-const int64_t *ecow_list_slice(const ecow_list *list, size_t *len);
+ECOW_INLINE const int64_t *ecow_list_slice(const ecow_list *list, size_t *len);
 
 /* Reads the number at `index`: ECOW_INDEX from the length on. */
 ecow_status ecow_list_get(const ecow_list *list, size_t index, int64_t *number);
@@ -209,10 +209,10 @@ ECOW_INLINE ecow_status ecow_bytes_clone(ecow_bytes *to, const ecow_bytes *from)
 ecow_status ecow_bytes_assign(ecow_bytes *bytes, const uint8_t *added, size_t count);
 
 /* How many bytes there are. */
-size_t ecow_bytes_len(const ecow_bytes *bytes);
+ECOW_INLINE size_t ecow_bytes_len(const ecow_bytes *bytes);
 
 /* The bytes, to read, and how many there are. */
-const uint8_t *ecow_bytes_slice(const ecow_bytes *bytes, size_t *len);
+ECOW_INLINE const uint8_t *ecow_bytes_slice(const ecow_bytes *bytes, size_t *len);
 
 /* Reads the byte at `index`: ECOW_INDEX from the length on. */
 ecow_status ecow_bytes_get(const ecow_bytes *bytes, size_t index, uint8_t *byte);
@@ -292,10 +292,10 @@ ECOW_INLINE ecow_status ecow_text_clone(ecow_text *to, const ecow_text *from);
 ecow_status ecow_text_assign(ecow_text *text, const char *added, size_t count);
 
 /* How many bytes there are. */
-size_t ecow_text_len(const ecow_text *text);
+ECOW_INLINE size_t ecow_text_len(const ecow_text *text);
 
 /* The bytes, to read, and how many there are. No 0 need stand behind them. */
-const char *ecow_text_slice(const ecow_text *text, size_t *len);
+ECOW_INLINE const char *ecow_text_slice(const ecow_text *text, size_t *len);
 
 /* Puts a 0 behind the bytes, and writes where they begin to `start`: ECOW_INNER_NUL where one
  * stands among them. They stay valid as those of a `_slice` do. A shared text is copied. */
@@ -388,14 +388,17 @@ ECOW_INLINE void ecow_texts_drop(ecow_texts *texts);
 ECOW_INLINE ecow_status ecow_texts_clone(ecow_texts *to, const ecow_texts *from);
 
 /* How many texts there are. */
-size_t ecow_texts_len(const ecow_texts *texts);
+ECOW_INLINE size_t ecow_texts_len(const ecow_texts *texts);
 
 /* Makes `text` a clone of the text at `index`: ECOW_INDEX from the length on. */
 ecow_status ecow_texts_get(const ecow_texts *texts, size_t index, ecow_text *text);
 
+/* The texts, to read, and how many there are. They stay valid as those of any `_slice` do. */
+ECOW_INLINE const ecow_text *ecow_texts_slice(const ecow_texts *texts, size_t *len);
+
 /* The bytes of the text at `index`, to read, and how many there are: null and 0 from the length on.
  * They stay valid as those of a `_slice` do. No 0 stands behind them. */
-const char *ecow_texts_at(const ecow_texts *texts, size_t index, size_t *len);
+ECOW_INLINE const char *ecow_texts_at(const ecow_texts *texts, size_t index, size_t *len);
 
 /* Puts a text in place of the one at `index`: ECOW_INDEX from the length on. */
 ecow_status ecow_texts_set(ecow_texts *texts, size_t index, const ecow_text *text);
@@ -590,6 +593,61 @@ bool ecow_value_shares(const ecow_value *left, const ecow_value *right);
 bool ecow_value_equal(const ecow_value *left, const ecow_value *right);
 
 /* ---- The library's own ---- */
+
+/* How values lie in memory, for the calls that read them where they stand. The word of a list is the
+ * address of a head, or 0 where there is none. The first byte of bytes and texts says what the others
+ * are: 0, up to 14 items, and in the last byte how many; 1, 15 items; 2, in the second word such an
+ * address or 0. */
+typedef struct ecow_head {
+    uint64_t owners;
+    const void *items;
+    size_t len;
+    size_t capacity;
+} ecow_head;
+
+#ifdef __cplusplus
+#define ECOW_AT(type, address) reinterpret_cast<const type *>(address)
+#else
+#define ECOW_AT(type, address) ((const type *)(address))
+#endif
+
+/* What has no head has its items in the struct, or none. */
+#define ECOW_READ(kind, item, head_word, items_word, inline_len)                            \
+    ECOW_INLINE const item *ecow_##kind##_slice(const ecow_##kind *kind, size_t *len) {     \
+        static const ecow_##kind nothing = {{0}};                                           \
+        const uint64_t *word = kind ? kind->word : nothing.word;                            \
+        const uint8_t *byte = ECOW_AT(uint8_t, word);                                       \
+        const ecow_head *head = ECOW_AT(ecow_head, head_word);                              \
+        if (len) {                                                                          \
+            *len = head ? head->len : inline_len;                                           \
+        }                                                                                   \
+        return head ? ECOW_AT(item, head->items) : ECOW_AT(item, items_word);               \
+    }                                                                                       \
+                                                                                            \
+    ECOW_INLINE size_t ecow_##kind##_len(const ecow_##kind *kind) {                         \
+        size_t len;                                                                         \
+        (void)ecow_##kind##_slice(kind, &len);                                              \
+        return len;                                                                         \
+    }
+
+#define ECOW_READ_SMALL(kind, item)                             \
+    ECOW_READ(kind, item, byte[0] == 2 ? word[1] : 0, byte + 1, \
+              byte[0] == 0 ? byte[15] : byte[0] == 1 ? 15 : 0)
+
+ECOW_READ(list, int64_t, word[0], byte, 0)
+ECOW_READ_SMALL(bytes, uint8_t)
+ECOW_READ_SMALL(text, char)
+ECOW_READ(texts, ecow_text, word[0], byte, 0)
+#undef ECOW_READ_SMALL
+#undef ECOW_READ
+#undef ECOW_AT
+
+ECOW_INLINE const char *ecow_texts_at(const ecow_texts *texts, size_t index, size_t *len) {
+    size_t count;
+    const ecow_text *all = ecow_texts_slice(texts, &count);
+    const char *start = ecow_text_slice(index < count ? all + index : NULL, len);
+    return index < count ? start : NULL;
+}
 
 /* Two calls that are short enough to be expanded where they stand. */
 #define ECOW_EXPANDED(kind)                                                                 \

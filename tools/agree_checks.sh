@@ -48,7 +48,7 @@ printf '#!/bin/sh\n' > "$work/silent"
 printf '#!/bin/sh\ncat "$1"\n' > "$work/repeats"
 printf '#!/bin/sh\necho a part\n' > "$work/constant"
 chmod +x "$work/silent" "$work/repeats" "$work/constant"
-for tool in costs.sh refuse.sh ends.sh large.sh; do
+for tool in costs.sh refuse.sh ends.sh large.sh growth.sh; do
     for program in silent repeats constant; do refuses "$tool" "$work/$program"; done
 done
 echo "$checked checks refuse what they must not pass"

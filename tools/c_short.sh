@@ -32,11 +32,12 @@ silent() {
 tools/shim.sh "$out/shim.so"
 watched="env LEFT=1 LD_PRELOAD=$out/shim.so"
 
-for test in calls arrays edits costs threads; do
+for test in calls arrays layout edits costs threads; do
     $cc -std=c11 -O2 -pthread -Iinclude "c/tests/$test.c" bin/libecow.a -o "$out/$test"
 done
 silent $watched "$out/calls"
 silent $watched "$out/arrays"
+silent $watched "$out/layout"
 silent $watched "$out/edits" 100000
 # A thread's end leaves blocks of the C library's.
 silent "$out/threads" 500000
@@ -79,7 +80,7 @@ if has nm nm --version; then
         for kind in list bytes text texts value; do
             printf '%s\n' "ecow_proved_${kind}_clone" "ecow_proved_${kind}_drop"
         done
-    } | sort > "$out/declared"
+    } | sort -u > "$out/declared"
     nm -D --defined-only bin/libecow.so | sed 's/.* //' | sort | diff "$out/declared" - || {
         echo "include/ecow.h (<) and bin/libecow.so (>) have other names"
         exit 1
@@ -197,7 +198,7 @@ wait "$python" || { cat "$out/python"; exit 1; }
 cat "$out/python"
 if grep -q '^python:' "$out/python"; then with="$with, Python"; else without="$without, Python"; fi
 if has valgrind valgrind --version; then
-    for run in calls arrays "edits 500" "threads 400" "threads 400 handover"; do
+    for run in calls arrays layout "edits 500" "threads 400" "threads 400 handover"; do
         valgrind -q --leak-check=full --error-exitcode=1 "$out"/$run > /dev/null
     done
     tools/helgrind.sh 400

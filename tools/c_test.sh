@@ -47,6 +47,10 @@ for compilers in "gcc g++" "clang clang++"; do
 done
 tools/helgrind.sh 2000
 
+# The header reads values where they lie, over the plain count too.
+cc -std=c11 $warnings $sanitized -Iinclude c/tests/layout.c bin/plain/libecow.a -o "$out/layout"
+"$out/layout"
+
 # The examples of c/README.md and c/CPP.md.
 for example in first history; do
     cc -std=c11 $warnings $sanitized -Iinclude "c/examples/$example.c" bin/libecow.a -o "$out/$example"

@@ -1,6 +1,7 @@
 # A large script and its answers, worked out by the rules of docs/SCRIPT.md with awk's own arrays and texts:
 # awk -v part=PART -v counted=0|1 -v script=FILE -v answers=FILE [-v many=NUMBER] -f tools/large.awk
-# PART is names, owners, list, sizes, or texts, which only a store has. NUMBER is that of names or owners, 70,000 without it.
+# PART is names, owners, list, sizes, line, or texts and prose, which only a store has. NUMBER is that of names, owners,
+# or items in a line, 70,000 without it.
 
 function says(command, answer) {
     print command > script
@@ -69,6 +70,24 @@ function owners(    i, count, copied) {
     says("vec push a 4", "ok")
     says("vec contents a", "[1,2,3,4]")
     ends(1, copied, 0)
+}
+
+# Many numbers in one line, and in one answer.
+function line(    whole) {
+    whole = numbers(1, many, 1)
+    says("vec from_list a [" whole "]", "ok")
+    says("vec contents a", "[" whole "]")
+    says("vec retain a [" times(many / 2, "+-") "]", "ok")
+    says("vec contents a", "[" numbers(1, many, 2) "]")
+    ends(1, 0, 0)
+}
+
+# Many letters likewise.
+function prose(    whole) {
+    whole = times(many, "x")
+    says("text from_str t \"" whole "\"", "ok")
+    says("text replace t u \"x\" \"yy\" 18446744073709551615", "ok")
+    says("text contents u", "\"" times(2 * many, "y") "\"")
 }
 
 # A list of 100,000 numbers: made at once, pushed one by one, changed while it is shared and while it isn't.
@@ -292,5 +311,7 @@ BEGIN {
     else if (part == "list") list()
     else if (part == "texts") texts()
     else if (part == "sizes") sizes()
+    else if (part == "line") line()
+    else if (part == "prose") prose()
     else { print "there is no part " part > "/dev/stderr"; exit 1 }
 }

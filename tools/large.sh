@@ -10,12 +10,12 @@ trap 'rm -r "$work"' EXIT
 export LC_ALL=C
 
 lines=0
-for part in names owners list sizes texts; do
+for part in names owners list sizes line texts prose; do
     for counted in 0 1; do
         flag=
         [ "$counted" -eq 0 ] || flag=--counted
         # Only a store has texts.
-        [ "$part$counted" != texts1 ] || continue
+        case $part$counted in texts1 | prose1) continue ;; esac
         awk -v part="$part" -v counted="$counted" -v script="$work/script" -v answers="$work/wanted" -f tools/large.awk
         status=0
         "$program" $flag "$work/script" > "$work/answers" || status=$?
@@ -44,8 +44,9 @@ spend() { # COUNT
 }
 
 grown=0
-for part in names owners; do
+for part in names owners line prose; do
     for flag in '' --counted; do
+        [ "$part$flag" != prose--counted ] || continue
         for many in 8000 128000; do
             awk -v part="$part" -v counted=0 -v many=$many -v script="$work/script" -v answers="$work/wanted" \
                 -f tools/large.awk

@@ -175,6 +175,69 @@ void short_texts(row &to) {
     });
 }
 
+/* A sum by index, a number. */
+void sums(row &to) {
+    numbers own(few, 7);
+    auto shared = std::make_shared<const numbers>(own);
+    c_list list;
+    CHECK(ecow_list_assign(&list.value, own.data(), few) == ECOW_OK);
+    ecow::list cpp(own);
+    auto sum = [](timing &time, const auto &items) {
+        time.run(100, few, [&] {
+            std::int64_t all = 0;
+            keep(items);
+            for (std::size_t index = 0; index < items.size(); index++) {
+                all += items[index];
+            }
+            CHECK(all == 7 * static_cast<std::int64_t>(few));
+        });
+    };
+    to.cells[0].run(100, few, [&] {
+        std::int64_t all = 0;
+        keep(list);
+        for (std::size_t index = 0; index < ecow_list_len(&list.value); index++) {
+            all += ecow_list_slice(&list.value, nullptr)[index];
+        }
+        CHECK(all == 7 * static_cast<std::int64_t>(few));
+    });
+    sum(to.cells[1], cpp);
+    sum(to.cells[2], own);
+    sum(to.cells[3], *shared);
+}
+
+/* The lengths of texts of 0 to 20 bytes, a text. */
+void lengths(row &to) {
+    std::vector<std::string> own;
+    ecow::texts cpp;
+    for (std::size_t number = 0; number < few; number++) {
+        own.emplace_back(number % 20, 'a');
+        cpp.push_back(own.back());
+    }
+    auto shared = std::make_shared<const std::vector<std::string>>(own);
+    auto add = [](timing &time, const auto &items) {
+        time.run(100, few, [&] {
+            std::size_t all = 0;
+            keep(items);
+            for (std::size_t index = 0; index < items.size(); index++) {
+                all += items[index].size();
+            }
+            CHECK(all == few * 19 / 2);
+        });
+    };
+    to.cells[0].run(100, few, [&] {
+        std::size_t all = 0, len = 0;
+        keep(cpp);
+        for (std::size_t index = 0; index < ecow_texts_len(cpp.c()); index++) {
+            (void)ecow_texts_at(cpp.c(), index, &len);
+            all += len;
+        }
+        CHECK(all == few * 19 / 2);
+    });
+    add(to.cells[1], cpp);
+    add(to.cells[2], own);
+    add(to.cells[3], *shared);
+}
+
 /* Two clones compared. Whoever shares a vector compares pointers first. */
 void equal(row &to) {
     numbers own(many, 7), copy(own);
@@ -317,6 +380,8 @@ int main(int count, char **words) {
         {"a push to a list, on average of 1,000", {}},
         {"a text of 10 bytes made and dropped", {}},
         {"a text of 20 bytes looked up in a table of 1,000", {}},
+        {"a number of 1,000 read by its index", {}},
+        {"the length of a text of 1,000 read by its index", {}},
     };
     for (long round = 0; round < rounds; round++) {
         clone_lists(rows[0], many);
@@ -327,6 +392,8 @@ int main(int count, char **words) {
         pushes(rows[5]);
         short_texts(rows[6]);
         lookups(rows[7]);
+        sums(rows[8]);
+        lengths(rows[9]);
     }
     for (const row &each : rows) {
         print(each);

@@ -1,3 +1,4 @@
+mod Ascii
 mod Counted
 mod Forms
 mod Groups

@@ -13,3 +13,4 @@ mod words;
 pub mod write;
 
 pub use bytes::{EcoBytes, INLINE_LIMIT, SmallBytes};
+pub use words::are_few_ascii;

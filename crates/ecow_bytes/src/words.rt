@@ -1,5 +1,5 @@
 //! Few bytes as two words.
-ghost use Rattle.std.specs.Prelude.{◌≡◌, ◌<◌, ◌≤◌, ◌^◌, ◌-◌, ◌*◌, length, take, drop};
+ghost use Rattle.std.specs.Prelude.{◌≡◌, ◌<◌, ◌≤◌, ◌↔◌, ◌^◌, ◌-◌, ◌*◌, IsAscii, length, take, drop, true};
 ghost use Rattle.ecow_bytes.specs.Digits.{number};
 
 /// At most 15 bytes as two words, the lowest byte first, the first eight in the first word. Nothing
@@ -33,4 +33,19 @@ pub(crate) fn words_of(bytes: &[u8]) -> (u64, u64)
         Some(byte) => (*byte as u64, 0),
         None => (0, 0),
     }
+}
+
+/// The highest bit of each byte of a word, which no byte of ASCII has.
+const HIGH_BITS: u64 = 0x8080808080808080;
+
+/// Whether these are at most 15 bytes, and all of them ASCII. It reads them as two words.
+#[inline(always)]
+pub fn are_few_ascii(bytes: &[u8]) -> bool
+    ensures { result ≡ true ↔ (length bytes.now ≤ 15) × IsAscii bytes.now }
+{
+    if bytes.len() > 15 {
+        return false;
+    }
+    let (low, high) = words_of(bytes);
+    low & HIGH_BITS == 0 && high & HIGH_BITS == 0
 }

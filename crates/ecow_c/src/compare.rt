@@ -17,8 +17,8 @@ use ecow_string::EcoString;
 use std::alloc::Global;
 use std::hash::{DefaultHasher, Hash, Hasher};
 
-/// Whether two lists hold the same numbers. A null pointer equals a null
-/// pointer alone.
+/// Whether two lists hold the same numbers. A null pointer equals a null pointer
+/// alone.
 #[unsafe(no_mangle)]
 pub extern "C" fn ecow_proved_list_equal(left: &mut ListPointer, right: &mut ListPointer) -> bool
     ensures equal { result
@@ -26,17 +26,14 @@ pub extern "C" fn ecow_proved_list_equal(left: &mut ListPointer, right: &mut Lis
     ensures unchanged { (left.new.value ≡ left.old.value) × (right.new.value ≡ right.old.value) }
 {
     let Some(left) = left.list() else {
-        return match right.list() {
-            Some(_) => false,
-            None => true,
-        };
+        return matches!(right.list(), None);
     };
     let right = some_or!(right.list(), false);
     *left == *right
 }
 
-/// Whether two values hold the same bytes. A null pointer equals a null
-/// pointer alone.
+/// Whether two values hold the same bytes. A null pointer equals a null pointer
+/// alone.
 #[unsafe(no_mangle)]
 pub extern "C" fn ecow_proved_bytes_equal(left: &mut BytesPointer, right: &mut BytesPointer) -> bool
     ensures equal { result
@@ -44,34 +41,28 @@ pub extern "C" fn ecow_proved_bytes_equal(left: &mut BytesPointer, right: &mut B
     ensures unchanged { (left.new.value ≡ left.old.value) × (right.new.value ≡ right.old.value) }
 {
     let Some(left) = left.bytes() else {
-        return match right.bytes() {
-            Some(_) => false,
-            None => true,
-        };
+        return matches!(right.bytes(), None);
     };
     let right = some_or!(right.bytes(), false);
     left.as_slice() == right.as_slice()
 }
 
-/// Whether two texts are equal. A null pointer equals a null
-/// pointer alone.
+/// Whether two texts are equal. A null pointer equals a null pointer
+/// alone.
 #[unsafe(no_mangle)]
 pub extern "C" fn ecow_proved_text_equal(left: &mut TextPointer, right: &mut TextPointer) -> bool
     ensures equal { result ≡ are_equal text_eq left.old.value right.old.value }
     ensures unchanged { (left.new.value ≡ left.old.value) × (right.new.value ≡ right.old.value) }
 {
     let Some(left) = left.text() else {
-        return match right.text() {
-            Some(_) => false,
-            None => true,
-        };
+        return matches!(right.text(), None);
     };
     let right = some_or!(right.text(), false);
     left.as_str() == right.as_str()
 }
 
-/// Whether two lists hold the same texts. A null pointer equals a null
-/// pointer alone.
+/// Whether two lists hold the same texts. A null pointer equals a null pointer
+/// alone.
 #[unsafe(no_mangle)]
 pub extern "C" fn ecow_proved_texts_equal(left: &mut TextsPointer, right: &mut TextsPointer) -> bool
     ensures equal { result
@@ -79,27 +70,21 @@ pub extern "C" fn ecow_proved_texts_equal(left: &mut TextsPointer, right: &mut T
     ensures unchanged { (left.new.value ≡ left.old.value) × (right.new.value ≡ right.old.value) }
 {
     let Some(left) = left.texts() else {
-        return match right.texts() {
-            Some(_) => false,
-            None => true,
-        };
+        return matches!(right.texts(), None);
     };
     let right = some_or!(right.texts(), false);
     left.as_slice() == right.as_slice()
 }
 
-/// Whether two values are equal. A null pointer equals a null
-/// pointer alone.
+/// Whether two values are equal. A null pointer equals a null pointer
+/// alone.
 #[unsafe(no_mangle)]
 pub extern "C" fn ecow_proved_value_equal(left: &mut ValuePointer, right: &mut ValuePointer) -> bool
     ensures equal { result ≡ are_equal value_eq left.old.value right.old.value }
     ensures unchanged { (left.new.value ≡ left.old.value) × (right.new.value ≡ right.old.value) }
 {
     let Some(left) = left.value() else {
-        return match right.value() {
-            Some(_) => false,
-            None => true,
-        };
+        return matches!(right.value(), None);
     };
     let right = some_or!(right.value(), false);
     left.equals(right)
@@ -113,10 +98,7 @@ pub extern "C" fn ecow_proved_list_compare(left: &mut ListPointer, right: &mut L
     ensures unchanged { (left.new.value ≡ left.old.value) × (right.new.value ≡ right.old.value) }
 {
     let Some(left) = left.list() else {
-        return match right.list() {
-            Some(_) => -1,
-            None => 0,
-        };
+        return if matches!(right.list(), None) { 0 } else { -1 };
     };
     let right = some_or!(right.list(), 1);
     order(left.as_slice().cmp(&right.as_slice()))
@@ -134,10 +116,7 @@ pub extern "C" fn ecow_proved_bytes_compare(
     ensures unchanged { (left.new.value ≡ left.old.value) × (right.new.value ≡ right.old.value) }
 {
     let Some(left) = left.bytes() else {
-        return match right.bytes() {
-            Some(_) => -1,
-            None => 0,
-        };
+        return if matches!(right.bytes(), None) { 0 } else { -1 };
     };
     let right = some_or!(right.bytes(), 1);
     order(left.as_slice().cmp(&right.as_slice()))
@@ -151,10 +130,7 @@ pub extern "C" fn ecow_proved_text_compare(left: &mut TextPointer, right: &mut T
     ensures unchanged { (left.new.value ≡ left.old.value) × (right.new.value ≡ right.old.value) }
 {
     let Some(left) = left.text() else {
-        return match right.text() {
-            Some(_) => -1,
-            None => 0,
-        };
+        return if matches!(right.text(), None) { 0 } else { -1 };
     };
     let right = some_or!(right.text(), 1);
     order(left.as_str().cmp(&right.as_str()))
@@ -172,10 +148,7 @@ pub extern "C" fn ecow_proved_texts_compare(
     ensures unchanged { (left.new.value ≡ left.old.value) × (right.new.value ≡ right.old.value) }
 {
     let Some(left) = left.texts() else {
-        return match right.texts() {
-            Some(_) => -1,
-            None => 0,
-        };
+        return if matches!(right.texts(), None) { 0 } else { -1 };
     };
     let right = some_or!(right.texts(), 1);
     order(left.as_slice().cmp(&right.as_slice()))

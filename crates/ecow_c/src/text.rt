@@ -18,6 +18,7 @@ use crate::status::{
     status,
 };
 use ecow_base::MAX_LEN;
+use ecow_bytes::are_few_ascii;
 use ecow_string::EcoString;
 
 /// Whether the text may be cut at `index`: `OK`, or why not.
@@ -33,11 +34,16 @@ fn cut_at(text: &EcoString, index: usize) -> u32
     }
 }
 
-/// The text that bytes spell, if they are UTF-8.
+/// The text that bytes spell, if they are UTF-8. Few bytes of ASCII, as most names are, are known
+/// by two words.
+#[inline(always)]
 pub(crate) fn to_str(bytes: &[u8]) -> Option<&str>
     ensures bytes { IfSome result (λ text. text.now ≡ bytes.now) }
     ensures utf8 { is_utf8 bytes.now ≡ is_some result }
 {
+    if are_few_ascii(bytes) {
+        return Some(unsafe { str::from_utf8_unchecked(bytes) });
+    }
     match str::from_utf8(bytes) {
         Ok(text) => Some(text),
         Err(_) => None,

@@ -1,6 +1,5 @@
-use Rattle.std.proofs.Common.{rules, ◌≡◌, ◌<◌, ◌≤◌, ◌^◌, ◌-◌, ◌*◌, length, take, drop, ℕ, ◌+◌, ◌/◌, ◌%◌, List, get_or, refl, sym, ap, ◌∙◌, arith}
-use Rattle.ecow_bytes.specs.Digits.{number}
-use Rattle.ecow_bytes.proofs.Digits.{AreBytes, number_past, first_word, second_word, mid_word, small_word, one_word, no_word}
+use Rattle.std.proofs.Common.{rules, ◌<◌, length, sym, arith}
+use Rattle.ecow_bytes.proofs.Digits.{number_past, first_word, second_word, mid_word, small_word, one_word, no_word}
 use Rattle.ecow_bytes.proofs.words.words_of.Goals.{in_default-via-in-None-1, in_default-via-in-Some+in-None-1, in_default-2-via-in-None-1, in_default-2-via-in-Some-first_chunk+in-None-1, in_default-3-via-in-None-1, in_default-3-via-in-Some-first_chunk-2+in-None-1}
 use Rattle.ecow_bytes.proofs.words.words_of.Goals as goal
 

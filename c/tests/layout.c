@@ -1,0 +1,122 @@
+/* The calls of the header that read a value where it stands, beside the proved ones: in every state,
+ * on both sides of the room from which on items stand apart from their head. */
+#include "../proved.h"
+#include "check.h"
+
+static const size_t lengths[] = {0, 1, 2, 13, 14, 15, 16, 17, 1023, 1024, 1025, 5000};
+
+#define LENGTHS (sizeof(lengths) / sizeof(lengths[0]))
+
+static size_t compared;
+
+/* Compares what both say of a value, or of a null pointer. */
+#define COMPARES(kind, item)                                                    \
+    static void compare_##kind(const ecow_##kind *value) {                      \
+        ecow_##kind *place = (ecow_##kind *)value;                              \
+        size_t len = 99, proved_len = 0;                                        \
+        const item *start = ecow_##kind##_slice(value, &len), *proved = NULL;   \
+        CHECK(start && start == ecow_##kind##_slice(value, NULL));              \
+        CHECK(len == ecow_proved_##kind##_len(&place));                         \
+        CHECK(len == ecow_##kind##_len(value));                                 \
+        ecow_proved_##kind##_slice(&place, &proved, &proved_len);               \
+        CHECK(len == proved_len && (len == 0 || start == proved));              \
+        compared++;                                                             \
+    }
+
+COMPARES(list, int64_t)
+COMPARES(bytes, uint8_t)
+COMPARES(text, char)
+
+static void compare_texts(const ecow_texts *value) {
+    ecow_texts *place = (ecow_texts *)value;
+    size_t len = 99, count;
+    const ecow_text *start = ecow_texts_slice(value, &len);
+    CHECK(start && len == ecow_texts_len(value) && len == ecow_proved_texts_len(&place));
+    for (size_t index = 0; index < len; index++) {
+        const char *proved = NULL;
+        size_t proved_count = 99;
+        CHECK(ecow_proved_texts_at(&place, index, &proved, &proved_count) == ECOW_OK);
+        const char *text = ecow_texts_at(value, index, &count);
+        CHECK(count == proved_count && (count == 0 || text == proved));
+        CHECK(text && ecow_text_len(start + index) == count);
+        CHECK(ecow_text_slice(start + index, NULL) == text);
+    }
+    CHECK(ecow_texts_at(value, len, &count) == NULL && count == 0);
+    CHECK(ecow_texts_at(value, SIZE_MAX, NULL) == NULL);
+    compared++;
+}
+
+/* Compares a value of each length, which `fill` gives it, and a clone that is changed again and
+ * again. What is cleared while it is shared has no head, whatever its first byte says. */
+#define STATES(kind, fill)                                                       \
+    static void states_of_##kind(void) {                                         \
+        compare_##kind(NULL);                                                    \
+        for (size_t at = 0; at < LENGTHS; at++) {                                \
+            ecow_##kind value = {{0}}, clone = {{0}};                            \
+            compare_##kind(&value);                                              \
+            fill(&value, lengths[at]);                                           \
+            compare_##kind(&value);                                              \
+            CHECK(ecow_##kind##_len(&value) == lengths[at]);                     \
+            CHECK(ecow_##kind##_clone(&clone, &value) == ECOW_OK);               \
+            compare_##kind(&value);                                              \
+            compare_##kind(&clone);                                              \
+            CHECK(ecow_##kind##_clear(&clone) == ECOW_OK);                       \
+            compare_##kind(&clone);                                              \
+            CHECK(ecow_##kind##_clone(&clone, &value) == ECOW_OK);               \
+            CHECK(ecow_##kind##_reserve(&clone, 1) == ECOW_OK);                  \
+            compare_##kind(&clone);                                              \
+            CHECK(ecow_##kind##_reserve(&clone, 2000) == ECOW_OK);               \
+            compare_##kind(&clone);                                              \
+            CHECK(ecow_##kind##_truncate(&clone, lengths[at] / 2) == ECOW_OK);   \
+            compare_##kind(&clone);                                              \
+            CHECK(ecow_##kind##_shrink_to_fit(&clone) == ECOW_OK);               \
+            compare_##kind(&clone);                                              \
+            CHECK(ecow_##kind##_clear(&clone) == ECOW_OK);                       \
+            compare_##kind(&clone);                                              \
+            ecow_##kind##_drop(&clone);                                          \
+            compare_##kind(&clone);                                              \
+            compare_##kind(&value);                                              \
+            ecow_##kind##_drop(&value);                                          \
+        }                                                                        \
+    }
+
+static void fill_list(ecow_list *list, size_t len) {
+    for (size_t at = 0; at < len; at++) {
+        CHECK(ecow_list_push(list, (int64_t)at - 7) == ECOW_OK);
+    }
+}
+
+static void fill_bytes(ecow_bytes *bytes, size_t len) {
+    for (size_t at = 0; at < len; at++) {
+        CHECK(ecow_bytes_push(bytes, (uint8_t)(at * 5)) == ECOW_OK);
+    }
+}
+
+static void fill_text(ecow_text *text, size_t len) {
+    for (size_t at = 0; at < len; at++) {
+        CHECK(ecow_text_push(text, 'a' + (uint32_t)(at % 26)) == ECOW_OK);
+    }
+}
+
+/* Texts of every length up to 20 bytes. */
+static void fill_texts(ecow_texts *texts, size_t len) {
+    for (size_t at = 0; at < len; at++) {
+        CHECK(ecow_texts_push_text(texts, "abcdefghijklmnopqrst", at % 21) == ECOW_OK);
+    }
+}
+
+STATES(list, fill_list)
+STATES(bytes, fill_bytes)
+STATES(text, fill_text)
+STATES(texts, fill_texts)
+
+int main(void) {
+    take_no_buffer();
+    states_of_list();
+    states_of_bytes();
+    states_of_text();
+    states_of_texts();
+    CHECK(compared == 4 * (1 + 12 * LENGTHS));
+    printf("layout: %ld checks\n", checks);
+    return 0;
+}
