@@ -488,8 +488,10 @@ ecow_status ecow_value_get_field(const ecow_value *value, const char *name, size
     return hand_over(status, &made, item);
 }
 
-ecow_status ecow_value_set_field(ecow_value *value, const char *name, size_t count,
-                                 const ecow_value *item) {
+/* Makes a call that takes a name and a value. */
+static ecow_status give_field(ecow_status (*call)(ecow_value **, const char *, size_t, ecow_value **),
+                              ecow_value *value, const char *name, size_t count,
+                              const ecow_value *item) {
     given_name given;
     given_value kept;
     ecow_status status = item ? keep_name(&given, value, value, name, count) : ECOW_NULL;
@@ -498,10 +500,20 @@ ecow_status ecow_value_set_field(ecow_value *value, const char *name, size_t cou
     }
     ecow_status other = keep_value(&kept, value, item);
     status = status == ECOW_OK ? other : status;
-    status = status ? status : ecow_proved_value_set_field(&value, given.bytes, count, &kept.value);
+    status = status ? status : call(&value, given.bytes, count, &kept.value);
     ecow_text_drop(&given.held);
     ecow_value_drop(&kept.held);
     return status;
+}
+
+ecow_status ecow_value_set_field(ecow_value *value, const char *name, size_t count,
+                                 const ecow_value *item) {
+    return give_field(ecow_proved_value_set_field, value, name, count, item);
+}
+
+ecow_status ecow_value_push_field(ecow_value *value, const char *name, size_t count,
+                                  const ecow_value *item) {
+    return give_field(ecow_proved_value_push_field, value, name, count, item);
 }
 
 ecow_status ecow_value_swap_field(ecow_value *value, const char *name, size_t count,

@@ -121,6 +121,8 @@ ecow_status ecow_proved_value_get_field(ecow_value **value, const char *name, si
                                         ecow_value **out);
 ecow_status ecow_proved_value_set_field(ecow_value **value, const char *name, size_t count,
                                         ecow_value **item);
+ecow_status ecow_proved_value_push_field(ecow_value **value, const char *name, size_t count,
+                                         ecow_value **item);
 ecow_status ecow_proved_value_swap_field(ecow_value **value, const char *name, size_t count,
                                          ecow_value **other);
 ecow_status ecow_proved_value_remove_field(ecow_value **value, const char *name, size_t count,

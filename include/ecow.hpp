@@ -1846,6 +1846,12 @@ public:
         detail::check(ecow_value_set_field(&raw, name.data(), name.size(), &item.raw));
     }
 
+    /* Appends a field, and looks for none of that name. Of a name that stands twice, calls by the
+     * name mean the first. */
+    void push_field(std::string_view name, const value &item) & {
+        detail::check(ecow_value_push_field(&raw, name.data(), name.size(), &item.raw));
+    }
+
     /* Appends an item to a list. */
     void push_back(const value &item) & {
         detail::check(ecow_value_push(&raw, &item.raw));

@@ -461,6 +461,7 @@ static void values(void) {
             CHECK(ecow_value_get_field(&value, "a", 1, &item) == ECOW_KIND);
             CHECK(ecow_value_swap_field(&value, "a", 1, &item) == ECOW_KIND);
             CHECK(ecow_value_set_field(&value, "a", 1, &item) == ECOW_KIND);
+            CHECK(ecow_value_push_field(&value, "a", 1, &item) == ECOW_KIND);
             CHECK(ecow_value_remove_field(&value, "a", 1, &item) == ECOW_KIND);
             CHECK(ecow_value_field_name(&value, 0, &kept) == ECOW_KIND && text_is(&kept, "kept"));
         }
@@ -567,6 +568,30 @@ static void fields_in_values(void) {
     ecow_value_drop(&fields);
     ecow_value_drop(&clone);
     ecow_text_drop(&name);
+}
+
+/* Of fields that are appended the calls by a name mean the first. */
+static void fields_of_one_name(void) {
+    ecow_value fields = {{0}}, item = number_value(1), out = {{0}};
+    CHECK(ecow_value_set_fields(&fields) == ECOW_OK);
+    CHECK(ecow_value_push_field(&fields, LONG_TEXT, strlen(LONG_TEXT), &item) == ECOW_OK);
+    CHECK(ecow_value_push_field(&fields, "a", 1, &item) == ECOW_OK && is_number(&item, 1));
+    CHECK(ecow_value_set_number(&item, 2) == ECOW_OK);
+    CHECK(ecow_value_push_field(&fields, "a", 1, &item) == ECOW_OK);
+    CHECK(ecow_value_push_field(&fields, NULL, 0, &item) == ECOW_OK);
+    CHECK(ecow_value_len(&fields) == 4 && has_field(&fields, 0, LONG_TEXT, 1));
+    CHECK(has_field(&fields, 2, "a", 2) && has_field(&fields, 3, "", 2));
+    CHECK(ecow_value_get_field(&fields, "a", 1, &out) == ECOW_OK && is_number(&out, 1));
+    CHECK(ecow_value_set_number(&item, 3) == ECOW_OK);
+    CHECK(ecow_value_set_field(&fields, "a", 1, &item) == ECOW_OK && has_field(&fields, 1, "a", 3));
+    CHECK(ecow_value_remove_field(&fields, "a", 1, &out) == ECOW_OK && is_number(&out, 3));
+    CHECK(ecow_value_get_field(&fields, "a", 1, &out) == ECOW_OK && is_number(&out, 2));
+    /* Of itself, as it was, under a name that lies in it. */
+    CHECK(ecow_value_push_field(&fields, (const char *)&fields, 1, &fields) == ECOW_OK);
+    CHECK(ecow_value_get(&fields, 3, &out) == ECOW_OK && ecow_value_len(&out) == 3);
+    CHECK(ecow_value_depth(&fields) == 2);
+    ecow_value_drop(&fields);
+    ecow_value_drop(&out);
 }
 
 /* A change deep in a value: what lies beside the way is shared, and clones don't see it. */
@@ -679,6 +704,9 @@ static void depths(void) {
         CHECK(ecow_value_set_field(&fields, "a", 1, &deepest) == ECOW_DEPTH
               && ecow_value_set_field(&fields, "b", 1, &deepest) == ECOW_DEPTH
               && ecow_value_set_field(&fields, "\xff", 1, &deepest) == ECOW_UTF8);
+        CHECK(ecow_value_push_field(&fields, "a", 1, &deepest) == ECOW_DEPTH
+              && ecow_value_push_field(&fields, "\xff", 1, &deepest) == ECOW_UTF8
+              && ecow_value_push_field(&list, "a", 1, &deepest) == ECOW_KIND);
         CHECK(ecow_value_swap_field(&fields, "a", 1, &deepest) == ECOW_DEPTH
               && ecow_value_swap_field(&fields, "b", 1, &deepest) == ECOW_INDEX);
         CHECK(ecow_value_push(&item, &deepest) == ECOW_KIND
@@ -860,6 +888,11 @@ static void refusals_of_values(void) {
     CHECK(ecow_value_set_field(NULL, "\xff", 1, &item) == ECOW_NULL
           && ecow_value_set_field(&fields, NULL, 1, &item) == ECOW_NULL);
     CHECK(ecow_value_set_field(&fields, "\xff", 1, NULL) == ECOW_NULL);
+    CHECK(ecow_value_push_field(NULL, "\xff", 1, &item) == ECOW_NULL
+          && ecow_value_push_field(&fields, NULL, 1, &item) == ECOW_NULL
+          && ecow_value_push_field(&fields, "\xff", 1, NULL) == ECOW_NULL);
+    CHECK(ecow_value_push_field(&fields, "a", most, &item) == ECOW_MEMORY
+          && ecow_value_push_field(&list, "\xff", 1, &item) == ECOW_UTF8);
     CHECK(ecow_value_swap_field(NULL, "\xff", 1, &item) == ECOW_NULL
           && ecow_value_swap_field(&fields, NULL, 1, &item) == ECOW_NULL);
     CHECK(ecow_value_swap_field(&fields, "\xff", 1, NULL) == ECOW_NULL
@@ -1232,6 +1265,7 @@ int main(void) {
     values();
     lists_in_values();
     fields_in_values();
+    fields_of_one_name();
     deep_changes();
     depths();
     unwanted_results();

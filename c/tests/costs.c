@@ -336,6 +336,9 @@ static void changes_of_fields(void) {
             CHECK(ecow_value_set_field(&root, SPILLED, 15, &item) == ECOW_OK));
     COUNTED("set_field of a new name of 16 bytes",
             CHECK(ecow_value_set_field(&root, SPILLED, 16, &item) == ECOW_OK));
+    COUNTED("push_field of a name of 17 bytes, and remove_field",
+            CHECK(ecow_value_push_field(&root, SPILLED, 17, &item) == ECOW_OK
+                  && ecow_value_remove_field(&root, SPILLED, 17, NULL) == ECOW_OK));
     COUNTED("set_field in place",
             CHECK(ecow_value_set_field(&root, SPILLED, 16, &item) == ECOW_OK));
     COUNTED("clone", CHECK(ecow_value_clone(&before, &root) == ECOW_OK));

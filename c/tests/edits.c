@@ -750,7 +750,9 @@ static bool edit_fields(ecow_value *value, tree *all, const size_t *way, size_t 
     ecow_value item = {{0}};
     bool done = false;
     if (below(seed, 3)) {
-        if ((done = is_done(ecow_value_set_field(value, bytes, strlen(bytes), given)))) {
+        bool is_new = !is_there && below(seed, 2);
+        if ((done = is_done((is_new ? ecow_value_push_field : ecow_value_set_field)(
+                 value, bytes, strlen(bytes), given)))) {
             tree_splice(all, way, depth + 1, place, size, parts, parts->size);
             all->parts[place].name = name;
         }

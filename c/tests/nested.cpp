@@ -496,6 +496,8 @@ static void fields_are_changed() {
     CHECK(fields.take(name) == value{2} && fields.take("self").size() == 2 && fields.size() == 2);
     CHECK(fields == value::fields({{"a", "x"}, {"b", 2.5}}) && kept == value::fields({{"a", 1}}));
     CHECK(fields != value::fields({{"b", 2.5}, {"a", "x"}}));
+    fields.push_field("b", 7);
+    CHECK(fields.size() == 3 && fields.get("b") == 2.5 && fields.get(2) == 7);
 }
 
 static void values_have_parts() {
@@ -651,6 +653,7 @@ static void values_refuse() {
     CHECK(throws<invalid_text>(ECOW_UTF8, [&] { (void)fields.get("\xff"); }));
     CHECK(throws<invalid_text>(ECOW_UTF8, [&] { (void)fields.find("\xff"); }));
     CHECK(throws<invalid_text>(ECOW_UTF8, [&] { fields.set("\xff", 1); }));
+    CHECK(throws<invalid_text>(ECOW_UTF8, [&] { fields.push_field("\xff", 1); }));
     CHECK(throws<invalid_text>(ECOW_UTF8, [&] { fields.take("\xff"); }));
     CHECK(list == (value{1, sixteen}) && fields == value::fields({{"a", 1}}));
     try {

@@ -36,6 +36,8 @@ typedef struct level {
     PyObject *parts;
     Py_ssize_t next;
     ecow_value made;
+    /* Whether a name may stand twice. */
+    bool may_repeat;
 } level;
 
 /* Makes `made` what an object is, and answers 0, or 1 and its parts where it has some. An object
@@ -92,10 +94,14 @@ static int add_part(core_state *state, level *to, const ecow_value *part) {
     if (ecow_value_kind(&to->made) == ECOW_KIND_LIST) {
         return check(ecow_value_push(&to->made, part), NAME);
     }
-    PyObject *pair = PyTuple_GetItem(to->parts, to->next - 1);
-    return read_utf8(state, PyTuple_GetItem(pair, 0), &name) < 0
+    PyObject *key = PyTuple_GetItem(PyTuple_GetItem(to->parts, to->next - 1), 0);
+    /* Texts of Python's own are keys of a dict once. */
+    to->may_repeat |= !PyUnicode_CheckExact(key);
+    return read_utf8(state, key, &name) < 0
                ? -1
-               : check(ecow_value_set_field(&to->made, name.bytes, (size_t)name.size, part), NAME);
+               : check((to->may_repeat ? ecow_value_set_field : ecow_value_push_field)(
+                           &to->made, name.bytes, (size_t)name.size, part),
+                       NAME);
 }
 
 /* Makes `made` what an object of Python's is. It needs no more of the stack for a deep object. */
@@ -117,7 +123,7 @@ static int read_value(core_state *state, PyObject *given, ecow_value *made) {
                 break;
             }
             levels = more;
-            levels[count++] = (level){parts, 0, *made};
+            levels[count++] = (level){parts, 0, *made, false};
             *made = ecow_value_new();
         } else if (done < 0) {
             Py_XDECREF(parts);

@@ -487,11 +487,24 @@ class Mappings(unittest.TestCase):
         ):
             self.assertEqual(Value(source).items(), wanted)
             self.assertEqual(Value([source])[0].items(), wanted)
+        class Odd(str):
+            __hash__, __eq__ = object.__hash__, object.__eq__
+
+        for twice in ({Odd("a"): 1, "b": 2, "a": 3}, {"a": 1, "b": 2, Odd("a"): 3}):
+            self.assertEqual(Value(twice).items(), [("a", 3), ("b", 2)])
         self.assertEqual(Value(Whole()).kind, "number")
         self.assertEqual(Value(collections.namedtuple("P", "x y")(1, 2)), [1, 2])
         for wrong in ({1}, b"x", bytearray(b"x"), 1j, Point, range(3), iter([1]), memoryview(b"x"),
                       {1: 2}, {"a": {1}}):
             self.assertIs(outcome(lambda: Value(wrong)), TypeError)
+
+    def test_many_names(self):
+        """A dict is read without a search for each name."""
+        names = {f"name {number}": number for number in range(100_000)}
+        start = time.process_time()
+        value = Value(names)
+        self.assertLess(time.process_time() - start, 2)
+        self.assertEqual(value.items(), list(names.items()))
 
     def test_methods(self):
         """Beside `dict`."""

@@ -176,6 +176,12 @@ impl Value {
         Ok(self.0.set_field(name, item.into().0)?)
     }
 
+    /// Appends a field, and looks for none of that name; of a name that stands twice, calls by it mean the first. The errors
+    /// are those of `set_field`.
+    pub fn push_field(&mut self, name: &str, item: impl Into<Self>) -> Result<(), Error> {
+        Ok(self.0.push_field(name, item.into().0)?)
+    }
+
     /// Takes the field of that name, and answers its value: `Error::Kind` of another kind, `Error::Index` where there is
     /// none, `Error::Memory` where shared fields can't be copied.
     pub fn remove_field(&mut self, name: &str) -> Result<Self, Error> {

@@ -32,6 +32,7 @@ fn each_kind_reads_as_itself_alone() {
         assert_eq!(edited, *value);
         assert_eq!(edited.push(1).err(), only(Kind::List));
         assert_eq!(edited.set_field("a", 1).err(), only(Kind::Fields));
+        assert_eq!(edited.push_field("a", 1).err(), only(Kind::Fields));
         for (other, (another, ..)) in all.iter().enumerate() {
             assert_eq!(value == another, index == other);
         }
@@ -95,7 +96,10 @@ fn fields_are_edited() {
     assert_eq!(fields.field_name(3).err(), Some(Error::Index));
     assert_eq!(fields.get_field("c"), Err(Error::Index));
     assert_eq!(fields.get_field("").unwrap().text().as_deref(), Ok("no name"));
+    fields.push_field("b", 4).unwrap();
+    assert_eq!((fields.len(), fields.get_field("b"), fields.get(3)), (4, Ok(3.into()), Ok(4.into())));
     assert_eq!(fields.remove_field("b"), Ok(3.into()));
+    assert_eq!(fields.remove_field("b"), Ok(4.into()));
     let names: Vec<_> = fields.fields().map(|(name, value)| (name, value.kind())).collect();
     assert_eq!(names, [(long.into(), Kind::List), ("".into(), Kind::Text)]);
     assert_eq!((shared.len(), shared.get_field(long)), (2, Ok(2.into())));
@@ -174,6 +178,7 @@ fn no_value_nests_too_deep() {
         assert_eq!(list.insert(2, &deepest), Err(Error::Depth));
         assert_eq!(list.set_path(&[1.into()], &deepest), Err(Error::Depth));
         assert_eq!(fields.set_field("a", &deepest), Err(Error::Depth));
+        assert_eq!(fields.push_field("a", &deepest), Err(Error::Depth));
         assert_eq!(fields.set_path(&["b".into()], &deepest), Err(Error::Depth));
         assert_eq!(nested(511).set_path(&[0.into(); 2], nested(511)), Err(Error::Depth));
         assert!(catch_unwind(AssertUnwindSafe(|| Value::from([deepest.clone()]))).is_err());

@@ -1,9 +1,9 @@
 //! The calls on nested values: their kinds, what each kind holds, and fields. A value goes in and
 //! out as a clone, which shares its memory.
-ghost use Rattle.std.specs.Prelude.{◌≡◌, ◌≢◌, ◌↔◌, ◌≤◌, ◌∷◌, [], length, false, true, None, Some, IsSomeAnd};
+ghost use Rattle.std.specs.Prelude.{◌≡◌, ◌≢◌, ◌↔◌, ◌≤◌, ◌∷◌, ◌++◌, [], length, false, true, None, Some, IsSomeAnd};
 ghost use Rattle.std.specs.Option.{option_map};
 ghost use Rattle.std.specs.Str.{is_utf8};
-ghost use Rattle.ecow_nested.specs.Values.{truth_of, number_of, real_of, text_of, items_of, fields_of, with_field, without_field};
+ghost use Rattle.ecow_nested.specs.Values.{truth_of, number_of, real_of, text_of, items_of, fields_of, new_field, with_field, without_field};
 ghost use Rattle.ecow_c.specs.Answers.{Alters, AltersBy, AreBothAnd, IsAmong, Reads, ReadsTo, WritesTo};
 ghost use Rattle.ecow_c.specs.Values.{CoversAt, HasNoFields, HasField, IsDeepest, LacksField, RisesAtMostBy, depth_at, field_at, kind_at, kind_number, name_at};
 
@@ -198,6 +198,19 @@ pub extern "C" fn ecow_proved_value_get_field(
     put(ok_or_status!(value.field(name)).clone(), out)
 }
 
+/// A clone of `$item` for a field of `$value`. Where it can be in none, the function returns why.
+macro_rules! clone_for_field {
+    ($value:expr, $item:expr) => {{
+        if $value.fields().is_none() {
+            return KIND;
+        }
+        if $item.depth() >= MAX_DEPTH {
+            return DEPTH;
+        }
+        ok_or_status!($item.clone())
+    }};
+}
+
 /// Puts a clone of the value at `item` in place of the value of the field of that name, or appends
 /// a field where there is none.
 #[unsafe(no_mangle)]
@@ -224,14 +237,37 @@ pub extern "C" fn ecow_proved_value_set_field(
     let value = some_or!(pointer.value(), NULL);
     let item = some_or!(item.value(), NULL);
     let name = some_or!(to_str(name), UTF8);
-    if value.fields().is_none() {
-        return KIND;
-    }
-    if item.depth() >= MAX_DEPTH {
-        return DEPTH;
-    }
-    let clone = ok_or_status!(item.clone());
+    let clone = clone_for_field!(value, item);
     status(value.set_field(name, clone))
+}
+
+/// Appends a field with a clone of the value at `item`, and looks for none of that name.
+#[unsafe(no_mangle)]
+pub extern "C" fn ecow_proved_value_push_field(
+    pointer: &mut ValuePointer,
+    name: &[u8],
+    item: &mut ValuePointer,
+) -> u32
+    ensures value { AltersBy fields_of (λ item. option_map (λ xs. xs ++ new_field name.now item ∷ []))
+        pointer.old.value item.old.value result pointer.new.value }
+    ensures covers { CoversAt pointer.old.value → CoversAt pointer.new.value }
+    ensures bound { RisesAtMostBy pointer.old.value item.old.value result pointer.new.value }
+    ensures item { item.new.value ≡ item.old.value }
+
+    // When each status is answered.
+    ensures statuses { IsAmong (OK ∷ MEMORY ∷ DEPTH ∷ UTF8 ∷ KIND ∷ NULL ∷ []) result }
+    ensures utf8 { result ≡ UTF8
+        ↔ AreBothAnd pointer.old.value item.old.value (λ _ _. is_utf8 name.now ≡ false) }
+    ensures kind { result ≡ KIND
+        ↔ AreBothAnd pointer.old.value item.old.value (λ value _. HasNoFields name.now value) }
+    ensures depth { result ≡ DEPTH ↔ AreBothAnd pointer.old.value item.old.value
+        (λ value item. (is_utf8 name.now ≡ true) × (fields_of value ≢ None) × IsDeepest item) }
+{
+    let value = some_or!(pointer.value(), NULL);
+    let item = some_or!(item.value(), NULL);
+    let name = some_or!(to_str(name), UTF8);
+    let clone = clone_for_field!(value, item);
+    status(value.push_field(name, clone))
 }
 
 /// Exchanges the value of the field of that name and the value at `other`; `INDEX` where there is

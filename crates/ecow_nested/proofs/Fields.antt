@@ -5,7 +5,7 @@ use Rattle.std.specs.List.{position_or_len}
 use Rattle.std.proofs.lemmas.Bool.{ltb-true, ltb-false}
 use Rattle.std.proofs.lemmas.List.Folds.{find_at}
 use Rattle.std.proofs.lemmas.Option.{get_or_from_slice_get, none-some, slice_get_past, slice_get-get_or, slice_get_cases}
-use Rattle.ecow_nested.specs.Values.{value_in, has_name, look_up, name_of, with_field, without_field}
+use Rattle.ecow_nested.specs.Values.{value_in, has_name, look_up, new_field, with_field, without_field}
 use Rattle.ecow_nested.specs.declared.value.Field.{Field}
 use Rattle.ecow_nested.specs.declared.value.Value.{Value}
 
@@ -57,9 +57,6 @@ module _ (name : List ℕ) where
     abbrev pub renewed : Field → Field
     renewed f = record { name = f.name; value = value }
 
-    abbrev added : Field
-    added = record { name = name_of name; value = value }
-
     set_first : (fs : List Field) (d : Field) → first fs < length fs → slice_set fs (first fs) (renewed (get_or fs (first fs) d)) ≡ with_field name value fs
     set_first [] d h = absurd (omega (arith, h))
     set_first (f ∷ fs) d h =
@@ -77,16 +74,16 @@ module _ (name : List ℕ) where
         let is = placed (first fs) (length fs) at e in
         ap (λ i. slice_set fs i (renewed (get_or fs i d))) is.0 ∙ set_first fs d (omega (arith, is.0, is.1))
 
-    push_last : (fs : List Field) → length fs ≤ first fs → fs ++ added ∷ [] ≡ with_field name value fs
+    push_last : (fs : List Field) → length fs ≤ first fs → fs ++ new_field name value ∷ [] ≡ with_field name value fs
     push_last [] h = refl
     push_last (f ∷ fs) h =
         elim (has_name name f) as (λ b. suc (length fs) ≤ cond (not b) (1 + first fs) 0
-        → f ∷ (fs ++ added ∷ []) ≡ cond b (renewed f ∷ fs) (f ∷ with_field name value fs)) [
+        → f ∷ (fs ++ new_field name value ∷ []) ≡ cond b (renewed f ∷ fs) (f ∷ with_field name value fs)) [
           | true ↦ λ h. absurd (omega (arith, h))
           | false ↦ λ h. ap (λ r. f ∷ r) (push_last fs (omega (arith, h)))
         ] h
 
-    pub pushed : (fs : List Field) (r : Option ℕ) → r ≡ None → r ≡ position (has_name name) fs → fs ++ added ∷ [] ≡ with_field name value fs
+    pub pushed : (fs : List Field) (r : Option ℕ) → r ≡ None → r ≡ position (has_name name) fs → fs ++ new_field name value ∷ [] ≡ with_field name value fs
     pushed fs r none e = push_last fs (unplaced (first fs) (length fs) r none e)
 
   -- a field in the place of the first one of that name, which has the same name

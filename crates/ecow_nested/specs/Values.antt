@@ -146,9 +146,13 @@ look_up name fields = value_in (find (has_name name) fields)
 abbrev pub name_of : List ℕ → PlainText
 name_of name = plain_text (chars name) (inline_for 15 (length name))
 
+-- a new field
+abbrev pub new_field : List ℕ → Value → Field
+new_field name value = record { name = name_of name; value = value }
+
 -- the fields with another value in the first one of that name, or with one more field
 abbrev pub with_field : List ℕ → Value → List Field → List Field
-with_field name value [] = record { name = name_of name; value = value } ∷ []
+with_field name value [] = new_field name value ∷ []
 with_field name value (f ∷ fs) =
     if has_name name f then record { name = f.name; value = value } ∷ fs
     else f ∷ with_field name value fs

@@ -1,5 +1,5 @@
 //! `Value`.
-ghost use Rattle.std.specs.Prelude.{◌≡◌, MatchOption, None, Some};
+ghost use Rattle.std.specs.Prelude.{◌≡◌, ◌<◌, ◌≤◌, MatchOption, MatchResult, None, Some};
 ghost use Rattle.ecow_nested.specs.Values.{depth_of, field_depth, kind_of, truth_of, number_of, real_of, text_of, items_of, fields_of};
 
 mod equality;
@@ -10,7 +10,8 @@ mod make;
 mod parts;
 mod paths;
 
-use crate::nested::{Nested, Part};
+use crate::nested::{MAX_DEPTH, Nested, Part};
+use crate::refusal::Refusal;
 use ecow_list::EcoVec;
 use ecow_string::EcoString;
 pub use paths::Step;
@@ -104,6 +105,19 @@ impl Value {
             Value::Fields(nested) => nested.depth,
             _ => 0,
         }
+    }
+
+    /// How deep the value nests, unless that is as deep as a value may: then no container takes it.
+    pub(super) fn depth_as_part(&self) -> Result<u32, Refusal>
+        ensures { MatchResult result
+            (λ depth. (depth ≡ depth_of self.now) × (depth < MAX_DEPTH))
+            (λ refusal. (refusal ≡ Refusal.Depth) × (MAX_DEPTH ≤ depth_of self.now)) }
+    {
+        let depth = self.depth();
+        if depth >= MAX_DEPTH {
+            return Err(Refusal::Depth);
+        }
+        Ok(depth)
     }
 
     /// Which kind of value this is.

@@ -1,7 +1,7 @@
 //! Fields by name. A refusal changes nothing. Where several apply, the answer is the first of
 //! `Kind`, `Index`, `Depth` and `Memory`.
-ghost use Rattle.std.specs.Prelude.{◌≡◌, ◌≢◌, ◌≤◌, ◌↔◌, [], ◌∷◌, None, Some, position, IfOk, IfSome, OnOk, OnErr, IsErrOf, IsSomeAnd, MatchOption};
-ghost use Rattle.ecow_nested.specs.Values.{depth_of, fields_of, has_name, look_up, with_field, without_field, EditsFields, Covers, IsErrAmong, RisesAtMost};
+ghost use Rattle.std.specs.Prelude.{◌≡◌, ◌≢◌, ◌≤◌, ◌↔◌, [], ◌∷◌, ◌++◌, None, Some, position, IfOk, IfSome, OnOk, OnErr, IsErrOf, IsSomeAnd, MatchOption};
+ghost use Rattle.ecow_nested.specs.Values.{depth_of, fields_of, has_name, look_up, new_field, with_field, without_field, EditsFields, Covers, IsErrAmong, RisesAtMost};
 
 use crate::nested::{MAX_DEPTH, Nested, raise, settle};
 use crate::refusal::Refusal;
@@ -28,6 +28,19 @@ pub(super) fn find<'a>(fields: &'a [Field], name: &str) -> Option<&'a Value>
     }
 }
 
+/// Appends a field. A refusal changes nothing.
+fn append(fields: &mut EcoVec<Field>, name: &str, value: Value) -> Result<(), Refusal>
+    ensures ok { OnOk result (fields.new ≡ fields.old ++ new_field name.now value ∷ []) }
+    ensures unchanged { OnErr result (fields.new ≡ fields.old) }
+    ensures codes { IsErrAmong (Refusal.Memory ∷ []) result }
+{
+    // For the proof alone: a slice of fields is shorter than the greatest length.
+    let _fields = fields.as_slice();
+    let name = EcoString::from_str(fields.allocator(), name)?;
+    fields.push(Field { name, value })?;
+    Ok(())
+}
+
 /// Puts `value` in place of the value of the first field of that name, or appends a field where
 /// there is none. A refusal changes nothing.
 fn put(fields: &mut EcoVec<Field>, name: &str, value: Value) -> Result<(), Refusal>
@@ -39,13 +52,10 @@ fn put(fields: &mut EcoVec<Field>, name: &str, value: Value) -> Result<(), Refus
         Some(at) => {
             let name = fields.as_slice()[at].name.clone()?;
             fields.set(at, Field { name, value })?;
+            Ok(())
         }
-        None => {
-            let name = EcoString::from_str(fields.allocator(), name)?;
-            fields.push(Field { name, value })?;
-        }
+        None => append(fields, name, value),
     }
-    Ok(())
 }
 
 /// Takes the first field of that name out, and gives its value. A refusal changes nothing.
@@ -79,9 +89,7 @@ fn exchange(fields: &mut EcoVec<Field>, name: &str, other: &mut Value) -> Result
     let Some(at) = place(fields.as_slice(), name) else {
         return Err(Refusal::Index);
     };
-    if other.depth() >= MAX_DEPTH {
-        return Err(Refusal::Depth);
-    }
+    other.depth_as_part()?;
     let Field { name, value } = fields.as_slice()[at].clone()?;
     let value = replace(other, value);
     match fields.set(at, Field { name, value }) {
@@ -127,14 +135,32 @@ impl Value {
         let Value::Fields(Nested { items, depth }) = self else {
             return Err(Refusal::Kind);
         };
-        let below = value.depth();
-        if below >= MAX_DEPTH {
-            return Err(Refusal::Depth);
-        }
+        let below = value.depth_as_part()?;
         let gone = find(items.as_slice(), name).map_or(0, |value| value.depth());
         put(items, name, value)?;
         raise(depth, below);
         settle(depth, items.as_slice(), gone, below);
+        Ok(())
+    }
+
+    /// Appends a field, and looks for none of that name. Where there is one already, calls by the
+    /// name go on to mean the first. It never answers `Capacity`, as `set_field` doesn't.
+    #[tactic(auto, using(crate::proofs::Parts::out_of_fields, crate::proofs::Depths::pushed))]
+    pub fn push_field(&mut self, name: &str, value: Value) -> Result<(), Refusal>
+        ensures change { EditsFields (λ fields. fields ++ new_field name.now value ∷ [])
+            self.old result self.new }
+        ensures covers { Covers self.old → Covers self.new }
+        ensures bound { OnOk result (RisesAtMost value self.old self.new) }
+        ensures depth { IsErrOf result Refusal.Depth
+            ↔ (fields_of self.old ≢ None) × (MAX_DEPTH ≤ depth_of value) }
+        ensures codes { IsErrAmong (Refusal.Kind ∷ Refusal.Depth ∷ Refusal.Memory ∷ []) result }
+    {
+        let Value::Fields(Nested { items, depth }) = self else {
+            return Err(Refusal::Kind);
+        };
+        let below = value.depth_as_part()?;
+        append(items, name, value)?;
+        raise(depth, below);
         Ok(())
     }
 

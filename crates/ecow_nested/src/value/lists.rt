@@ -28,10 +28,7 @@ impl Value {
         let Value::List(Nested { items, depth }) = self else {
             return Err(Refusal::Kind);
         };
-        let below = item.depth();
-        if below >= MAX_DEPTH {
-            return Err(Refusal::Depth);
-        }
+        let below = item.depth_as_part()?;
         items.push(item)?;
         raise(depth, below);
         Ok(())
@@ -81,10 +78,7 @@ impl Value {
         if index >= items.len() {
             return Err(Refusal::Index);
         }
-        let below = item.depth();
-        if below >= MAX_DEPTH {
-            return Err(Refusal::Depth);
-        }
+        let below = item.depth_as_part()?;
         let gone = items.as_slice()[index].depth();
         items.set(index, item)?;
         raise(depth, below);
@@ -116,10 +110,7 @@ impl Value {
         let Some(item) = at(items.as_slice(), index) else {
             return Err(Refusal::Index);
         };
-        let below = other.depth();
-        if below >= MAX_DEPTH {
-            return Err(Refusal::Depth);
-        }
+        let below = other.depth_as_part()?;
         let item = item.clone()?;
         let gone = item.depth();
         match items.set(index, replace(other, item)) {
@@ -157,10 +148,7 @@ impl Value {
         if index > items.len() {
             return Err(Refusal::Index);
         }
-        let below = item.depth();
-        if below >= MAX_DEPTH {
-            return Err(Refusal::Depth);
-        }
+        let below = item.depth_as_part()?;
         items.insert(index, item)?;
         raise(depth, below);
         Ok(())

@@ -39,12 +39,12 @@ returns-in_default-clause-depth c =
     let none = missing c.args.name.now c.args.fields.now c.place.result c.in_default.is (rw c.as_slice.ensures at c.place.ensures) in
     search (rules, none)
 
-pub returns-then-depth-ge-MAX_DEPTH-clause-index : goal.returns-then-depth-ge-MAX_DEPTH-clause-index
-returns-then-depth-ge-MAX_DEPTH-clause-index c =
+pub returns-in_err-depth_as_part-clause-index : goal.returns-in_err-depth_as_part-clause-index
+returns-in_err-depth_as_part-clause-index c =
     let is_there = there c.args.name.now c.args.fields.now c.in-Some.at (rw c.as_slice.ensures at c.in-Some.ensures) in
     search (rules, is_there)
 
-pub returns-then-depth-ge-MAX_DEPTH-clause-depth : goal.returns-then-depth-ge-MAX_DEPTH-clause-depth
-returns-then-depth-ge-MAX_DEPTH-clause-depth c =
+pub returns-in_err-depth_as_part-clause-depth : goal.returns-in_err-depth_as_part-clause-depth
+returns-in_err-depth_as_part-clause-depth c =
     let is_there = there c.args.name.now c.args.fields.now c.in-Some.at (rw c.as_slice.ensures at c.in-Some.ensures) in
     search (rules, is_there)

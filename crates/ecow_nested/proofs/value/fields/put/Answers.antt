@@ -8,8 +8,8 @@ returns-in_ok-set-in-Some-clause-ok c =
     let set = c.in_ok-set-in-Some.ensures.change.ok (λ x y same. same) in
     search (rules, there, set)
 
-pub returns-in_ok-push-in-None-clause-ok : goal.returns-in_ok-push-in-None-clause-ok
-returns-in_ok-push-in-None-clause-ok c =
+pub returns-in-None-clause-ok : goal.returns-in-None-clause-ok
+returns-in-None-clause-ok c =
     let behind = pushed c.args.name.now c.args.value c.args.fields.now c.place.result c.in-None.is (rw c.as_slice.ensures at c.place.ensures) in
-    let push = c.in_ok-push-in-None.ensures.change.ok (λ x y same. same) in
-    search (rules, behind, push)
+    let append = c.append.ensures.ok in
+    search (rules, behind, append)
