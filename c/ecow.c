@@ -53,56 +53,47 @@ const char ecow_library_counts_owners_for_one_thread = 1;
 const char ecow_library_counts_owners_atomically = 1;
 #endif
 
-#define VALUE ecow_list
+/* The type of a kind of value, a call of the header, and one of the proved library. */
+#define JOIN(prefix, kind, name) prefix##kind##name
+#define JOINED(prefix, kind, name) JOIN(prefix, kind, name)
+#define VALUE JOINED(ecow_, KIND, )
+#define CALL(name) JOINED(ecow_, KIND, _##name)
+#define PROVED(name) JOINED(ecow_proved_, KIND, _##name)
+
+#define KIND list
 #define ITEM int64_t
-#define CALL(name) ecow_list_##name
-#define PROVED(name) ecow_proved_list_##name
 #define CAN_CUT(value, index) true
 #include "values.h"
 #include "arrays.h"
 #include "items.h"
-#undef VALUE
+#undef KIND
 #undef ITEM
-#undef CALL
-#undef PROVED
 #undef CAN_CUT
 
-#define VALUE ecow_bytes
+#define KIND bytes
 #define ITEM uint8_t
-#define CALL(name) ecow_bytes_##name
-#define PROVED(name) ecow_proved_bytes_##name
 #define CAN_CUT(value, index) true
 #include "values.h"
 #include "arrays.h"
 #include "items.h"
-#undef VALUE
+#undef KIND
 #undef ITEM
-#undef CALL
-#undef PROVED
 #undef CAN_CUT
 
-#define VALUE ecow_text
+#define KIND text
 #define ITEM char
-#define CALL(name) ecow_text_##name
-#define PROVED(name) ecow_proved_text_##name
 #define CAN_CUT ecow_text_is_boundary
 #include "values.h"
 #include "arrays.h"
-#undef VALUE
+#undef KIND
 #undef ITEM
-#undef CALL
-#undef PROVED
 #undef CAN_CUT
 
-#define VALUE ecow_texts
+#define KIND texts
 #define ITEM ecow_text
-#define CALL(name) ecow_texts_##name
-#define PROVED(name) ecow_proved_texts_##name
 #include "values.h"
-#undef VALUE
+#undef KIND
 #undef ITEM
-#undef CALL
-#undef PROVED
 
 bool ecow_is_utf8(const char *bytes, size_t count) {
     if (!bytes || count >= PAST_MEMORY) {

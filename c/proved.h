@@ -1,14 +1,12 @@
 /* What the static library of the crate `ecow_c` exports. Its contracts stand in the crate's source.
  * A value is given by the address of a pointer to it, and an array by its start and its count.
- * `ecow.h` declares `_clone` and `_drop`. */
+ * `ecow.h` declares `_clone` and `_drop`, and reads what `_len`, `_slice` and `_at` answer. */
 #ifndef ECOW_PROVED_H
 #define ECOW_PROVED_H
 
 #include "ecow.h"
 
 ecow_status ecow_proved_list_assign(ecow_list **value, const int64_t *items, size_t count);
-size_t ecow_proved_list_len(ecow_list **value);
-void ecow_proved_list_slice(ecow_list **value, const int64_t **start, size_t *len);
 ecow_status ecow_proved_list_truncate(ecow_list **value, size_t len);
 ecow_status ecow_proved_list_clear(ecow_list **value);
 ecow_status ecow_proved_list_reserve(ecow_list **value, size_t additional);
@@ -28,8 +26,6 @@ ecow_status ecow_proved_list_insert(ecow_list **value, size_t index, int64_t ite
 ecow_status ecow_proved_list_remove(ecow_list **value, size_t index, int64_t *out);
 
 ecow_status ecow_proved_bytes_assign(ecow_bytes **value, const uint8_t *items, size_t count);
-size_t ecow_proved_bytes_len(ecow_bytes **value);
-void ecow_proved_bytes_slice(ecow_bytes **value, const uint8_t **start, size_t *len);
 ecow_status ecow_proved_bytes_truncate(ecow_bytes **value, size_t len);
 ecow_status ecow_proved_bytes_clear(ecow_bytes **value);
 ecow_status ecow_proved_bytes_reserve(ecow_bytes **value, size_t additional);
@@ -49,8 +45,6 @@ ecow_status ecow_proved_bytes_insert(ecow_bytes **value, size_t index, uint8_t i
 ecow_status ecow_proved_bytes_remove(ecow_bytes **value, size_t index, uint8_t *out);
 
 ecow_status ecow_proved_text_assign(ecow_text **value, const char *items, size_t count);
-size_t ecow_proved_text_len(ecow_text **value);
-void ecow_proved_text_slice(ecow_text **value, const char **start, size_t *len);
 ecow_status ecow_proved_text_truncate(ecow_text **value, size_t len);
 ecow_status ecow_proved_text_clear(ecow_text **value);
 ecow_status ecow_proved_text_reserve(ecow_text **value, size_t additional);
@@ -76,7 +70,6 @@ ecow_status ecow_proved_text_repeat(ecow_text **value, size_t count);
 bool ecow_proved_text_is_boundary(ecow_text **value, size_t index);
 bool ecow_proved_is_utf8(const char *bytes, size_t count);
 
-size_t ecow_proved_texts_len(ecow_texts **value);
 ecow_status ecow_proved_texts_truncate(ecow_texts **value, size_t len);
 ecow_status ecow_proved_texts_clear(ecow_texts **value);
 ecow_status ecow_proved_texts_reserve(ecow_texts **value, size_t additional);
@@ -86,7 +79,6 @@ bool ecow_proved_texts_equal(ecow_texts **left, ecow_texts **right);
 int32_t ecow_proved_texts_compare(ecow_texts **left, ecow_texts **right);
 uint64_t ecow_proved_texts_hash(ecow_texts **value);
 ecow_status ecow_proved_texts_get(ecow_texts **value, size_t index, ecow_text **out);
-ecow_status ecow_proved_texts_at(ecow_texts **value, size_t index, const char **start, size_t *len);
 ecow_status ecow_proved_texts_set(ecow_texts **value, size_t index, ecow_text **item);
 ecow_status ecow_proved_texts_push(ecow_texts **value, ecow_text **item);
 ecow_status ecow_proved_texts_pop(ecow_texts **value, ecow_text **out);

@@ -1,8 +1,5 @@
-/* The calls that all kinds of value have in common. It is included once for each:
- *     VALUE          the type of the value
- *     ITEM           the type of an item
- *     CALL(name)     a call of the header
- *     PROVED(name)   a call of the proved library */
+/* The calls that all kinds of value have in common. It is included once for each, with VALUE, CALL
+ * and PROVED of `ecow.c`, and the type of its ITEM. */
 
 VALUE CALL(new)(void) {
     VALUE value = {{0}};

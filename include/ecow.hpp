@@ -1633,8 +1633,7 @@ struct field_item {
  * `{1, "a"}` is a list, and so is `{1}`. Of one `ecow::value`, `{other}` is a copy, and
  * `value::list({other})` a list. `{}` is nothing.
  *
- * A member for another kind of value throws `wrong_kind`. A value is dropped by recursion, so the
- * stack bounds how deep one may be. */
+ * A member for another kind of value throws `wrong_kind`. */
 class value : public detail::owned<value, detail::value_calls>, detail::ordered<value> {
     using base = detail::owned<value, detail::value_calls>;
 

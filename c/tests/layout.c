@@ -1,6 +1,5 @@
 /* The calls of the header that read a value where it stands, beside the proved ones: in every state,
  * on both sides of the room from which on items stand apart from their head. */
-#include "../proved.h"
 #include "check.h"
 
 static const size_t lengths[] = {0, 1, 2, 13, 14, 15, 16, 17, 1023, 1024, 1025, 5000};
@@ -11,6 +10,8 @@ static size_t compared;
 
 /* Compares what both say of a value, or of a null pointer. */
 #define COMPARES(kind, item)                                                    \
+    size_t ecow_proved_##kind##_len(ecow_##kind **value);                       \
+    void ecow_proved_##kind##_slice(ecow_##kind **, const item **, size_t *);   \
     static void compare_##kind(const ecow_##kind *value) {                      \
         ecow_##kind *place = (ecow_##kind *)value;                              \
         size_t len = 99, proved_len = 0;                                        \
@@ -26,6 +27,9 @@ static size_t compared;
 COMPARES(list, int64_t)
 COMPARES(bytes, uint8_t)
 COMPARES(text, char)
+
+size_t ecow_proved_texts_len(ecow_texts **value);
+ecow_status ecow_proved_texts_at(ecow_texts **, size_t index, const char **start, size_t *len);
 
 static void compare_texts(const ecow_texts *value) {
     ecow_texts *place = (ecow_texts *)value;

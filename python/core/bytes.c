@@ -77,33 +77,7 @@ static void bytes_give_back(given_bytes *given) {
     }
 }
 
-static ecow_status bytes_add_given(ecow_bytes *bytes, const given_bytes *given) {
-    return ecow_bytes_extend(bytes, given->items, (size_t)given->count);
-}
-
-static ecow_status bytes_put_given(ecow_bytes *bytes, size_t start, size_t end,
-                                   const given_bytes *given) {
-    return ecow_bytes_splice(bytes, start, end, given->items, (size_t)given->count);
-}
-
-static ecow_status bytes_set_given(ecow_bytes *bytes, size_t index, const given_bytes *given,
-                                   size_t from) {
-    return ecow_bytes_set(bytes, index, given->items[from]);
-}
-
-static ecow_status bytes_add_part(ecow_bytes *to, const ecow_bytes *from, Py_ssize_t start,
-                                  Py_ssize_t step, Py_ssize_t count) {
-    const uint8_t *items = ecow_bytes_slice(from, NULL);
-    if (step == 1) {
-        return ecow_bytes_extend(to, items + start, (size_t)count);
-    }
-    ecow_status status = ecow_bytes_reserve(to, (size_t)count);
-    for (Py_ssize_t at = 0; at < count && status == ECOW_OK; at++) {
-        status = ecow_bytes_push(to, items[start + at * step]);
-    }
-    return status;
-}
-
+#include "given_array.h"
 #include "sequence.h"
 
 /* Reads what a search looks for: a byte by its number, or the bytes of a buffer. */
@@ -269,9 +243,4 @@ static PyType_Slot bytes_slots[] = {
     {0, NULL},
 };
 
-PyType_Spec bytes_spec = {
-    .name = "ecow.Bytes",
-    .basicsize = sizeof(bytes_object),
-    .flags = Py_TPFLAGS_DEFAULT | Py_TPFLAGS_BASETYPE | Py_TPFLAGS_IMMUTABLETYPE,
-    .slots = bytes_slots,
-};
+TYPE_SPEC(Py_TPFLAGS_IMMUTABLETYPE);

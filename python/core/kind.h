@@ -121,3 +121,12 @@ static PyMemberDef OWN(members)[] = {
     {"__weaklistoffset__", T_PYSSIZET, offsetof(OBJECT, weak_references), READONLY, NULL},
     {NULL, 0, 0, 0, NULL},
 };
+
+/* The type, of the slots in `OWN(slots)`. */
+#define TYPE_SPEC(more_flags)                                            \
+    PyType_Spec OWN(spec) = {                                            \
+        .name = "ecow." NAME,                                            \
+        .basicsize = sizeof(OBJECT),                                     \
+        .flags = Py_TPFLAGS_DEFAULT | Py_TPFLAGS_BASETYPE | (more_flags), \
+        .slots = OWN(slots),                                             \
+    }

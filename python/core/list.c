@@ -113,33 +113,7 @@ static void list_give_back(given_numbers *given) {
     PyMem_Free(given->made);
 }
 
-static ecow_status list_add_given(ecow_list *list, const given_numbers *given) {
-    return ecow_list_extend(list, given->items, (size_t)given->count);
-}
-
-static ecow_status list_put_given(ecow_list *list, size_t start, size_t end,
-                                  const given_numbers *given) {
-    return ecow_list_splice(list, start, end, given->items, (size_t)given->count);
-}
-
-static ecow_status list_set_given(ecow_list *list, size_t index, const given_numbers *given,
-                                  size_t from) {
-    return ecow_list_set(list, index, given->items[from]);
-}
-
-static ecow_status list_add_part(ecow_list *to, const ecow_list *from, Py_ssize_t start,
-                                 Py_ssize_t step, Py_ssize_t count) {
-    const int64_t *items = ecow_list_slice(from, NULL);
-    if (step == 1) {
-        return ecow_list_extend(to, items + start, (size_t)count);
-    }
-    ecow_status status = ecow_list_reserve(to, (size_t)count);
-    for (Py_ssize_t at = 0; at < count && status == ECOW_OK; at++) {
-        status = ecow_list_push(to, items[start + at * step]);
-    }
-    return status;
-}
-
+#include "given_array.h"
 #include "sequence.h"
 
 static Py_ssize_t list_seek(PyObject *self, PyObject *object, Py_ssize_t start, Py_ssize_t stop) {
@@ -170,24 +144,13 @@ static int list_buffer(PyObject *self, Py_buffer *view, int flags) {
     return lend_list(object->state, &object->value, view, flags);
 }
 
-static PyMethodDef list_methods[] = {
-    LIST_LIKE_METHODS,
-    {NULL, NULL, 0, NULL},
-};
-
 static PyType_Slot list_slots[] = {
     {Py_tp_doc, "List(numbers=(), /)\n--\n\n"
                 "A list of numbers from -2^63 to 2^63 - 1, whose copies share memory."},
     LIST_LIKE_SLOTS,
-    {Py_tp_methods, list_methods},
     {Py_tp_repr, list_repr},
     {Py_bf_getbuffer, list_buffer},
     {0, NULL},
 };
 
-PyType_Spec list_spec = {
-    .name = "ecow.List",
-    .basicsize = sizeof(list_object),
-    .flags = Py_TPFLAGS_DEFAULT | Py_TPFLAGS_BASETYPE,
-    .slots = list_slots,
-};
+TYPE_SPEC(0);

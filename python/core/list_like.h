@@ -63,18 +63,21 @@ static PyObject *OWN(compared)(PyObject *self, PyObject *other, int operation) {
 }
 
 /* clang-format off */
-#define LIST_LIKE_METHODS                                                                      \
-    SEQUENCE_METHODS,                                                                          \
-    {"index", (PyCFunction)(void (*)(void))OWN(index), METH_FASTCALL,                          \
-     PyDoc_STR("index($self, item, start=0, stop=sys.maxsize, /)\n--\n\n"                      \
-               "Where the first such item stands: ValueError where there is none.")},          \
-    {"count", OWN(count), METH_O,                                                              \
-     PyDoc_STR("count($self, item, /)\n--\n\nHow many such items there are.")},                \
-    {"remove", OWN(remove), METH_O,                                                            \
-     PyDoc_STR("remove($self, item, /)\n--\n\n"                                                \
-               "Takes the first such item out: ValueError where there is none.")}
+static PyMethodDef OWN(methods)[] = {
+    SEQUENCE_METHODS,
+    {"index", (PyCFunction)(void (*)(void))OWN(index), METH_FASTCALL,
+     PyDoc_STR("index($self, item, start=0, stop=sys.maxsize, /)\n--\n\n"
+               "Where the first such item stands: ValueError where there is none.")},
+    {"count", OWN(count), METH_O,
+     PyDoc_STR("count($self, item, /)\n--\n\nHow many such items there are.")},
+    {"remove", OWN(remove), METH_O,
+     PyDoc_STR("remove($self, item, /)\n--\n\n"
+               "Takes the first such item out: ValueError where there is none.")},
+    {NULL, NULL, 0, NULL},
+};
 
 #define LIST_LIKE_SLOTS                                                                        \
     SEQUENCE_SLOTS, {Py_tp_richcompare, OWN(compared)}, {Py_sq_contains, OWN(contains)},       \
-        {Py_nb_add, OWN(plus)}, {Py_nb_inplace_add, OWN(extend_in_place)}
+        {Py_nb_add, OWN(plus)}, {Py_nb_inplace_add, OWN(extend_in_place)},                     \
+        {Py_tp_methods, OWN(methods)}
 /* clang-format on */

@@ -820,9 +820,4 @@ static PyType_Slot text_slots[] = {
     {0, NULL},
 };
 
-PyType_Spec text_spec = {
-    .name = "ecow.Text",
-    .basicsize = sizeof(text_object),
-    .flags = Py_TPFLAGS_DEFAULT | Py_TPFLAGS_BASETYPE | Py_TPFLAGS_IMMUTABLETYPE,
-    .slots = text_slots,
-};
+TYPE_SPEC(Py_TPFLAGS_IMMUTABLETYPE);

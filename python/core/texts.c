@@ -134,23 +134,12 @@ static PyObject *texts_repr(PyObject *self) {
     return named_repr(self, plain_list(texts_cast(self)->state, self));
 }
 
-static PyMethodDef texts_methods[] = {
-    LIST_LIKE_METHODS,
-    {NULL, NULL, 0, NULL},
-};
-
 static PyType_Slot texts_slots[] = {
     {Py_tp_doc, "Texts(texts=(), /)\n--\n\n"
                 "A list of texts, whose copies share memory, and whose texts do."},
     LIST_LIKE_SLOTS,
-    {Py_tp_methods, texts_methods},
     {Py_tp_repr, texts_repr},
     {0, NULL},
 };
 
-PyType_Spec texts_spec = {
-    .name = "ecow.Texts",
-    .basicsize = sizeof(texts_object),
-    .flags = Py_TPFLAGS_DEFAULT | Py_TPFLAGS_BASETYPE,
-    .slots = texts_slots,
-};
+TYPE_SPEC(0);

@@ -785,9 +785,4 @@ static PyType_Slot value_slots[] = {
     {0, NULL},
 };
 
-PyType_Spec value_spec = {
-    .name = "ecow.Value",
-    .basicsize = sizeof(value_object),
-    .flags = Py_TPFLAGS_DEFAULT | Py_TPFLAGS_BASETYPE,
-    .slots = value_slots,
-};
+TYPE_SPEC(0);
