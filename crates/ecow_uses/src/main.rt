@@ -180,7 +180,24 @@ fn set_a_value(rt: &HostRuntime) -> Result<()> {
     }
     let refused = nested::set_and_keep(&document, &[Step::Index(1)], Value::Number(7)).is_err();
     println!(rt; "at 1: nothing, and refused: {refused}")?;
+    set_levels(rt)?;
     set_each(rt)
+}
+
+/// Sets values that nest less and more than those there, and says how deep the list nests.
+fn set_levels(rt: &HostRuntime) -> Result<()> {
+    let alloc = rt.alloc();
+    let items = eco_vec![in alloc; a_document(rt)?, Value::Number(1)]?;
+    let mut list = Value::from_items(items)?;
+    let at_first = list.depth();
+    list.set_at(
+        &[Step::Index(0), Step::Name(name(rt, "sizes")?)],
+        Value::Number(3),
+    )?;
+    let lower = list.depth();
+    list.set_at(&[Step::Index(1)], a_document(rt)?)?;
+    println!(rt; "nests {at_first}, {lower} and {} deep", list.depth())?;
+    Ok(())
 }
 
 /// Sets each of many items of a document that nobody shares. A call that copied them would take so
