@@ -339,6 +339,17 @@ class Orders(unittest.TestCase):
                         self.assertIs(compare(left, second), compare(left, right))
                     self.assertEqual(first.hash() == second.hash(), left == right)
 
+    def test_indices(self):
+        """An index is a number or a slice."""
+        for value in (List([1]), Bytes(b"a"), Texts(["a"])):
+            for key in ("0", 0.0, None, (0,)):
+                for call in (
+                    lambda: value[key],
+                    lambda: value.__setitem__(key, value[0]),
+                    lambda: value.__delitem__(key),
+                ):
+                    self.assertIs(outcome(call), TypeError)
+
     def test_aliases(self):
         """A value may be an argument of its own call."""
         for size in (1, 15, 16, 40, 1024):
