@@ -1,12 +1,12 @@
 # Proves, builds, runs and tests. Everything but `make lib`, `make dist`, `make python`, `make rust`, `make c-test`,
-# `make c-fuzz`, `make fuzz`, `make hostile`, `make bench` and `make edits` needs the kit's `rt` on the path, make, git and
-# the usual POSIX tools, and nothing else.
+# `make c-fuzz`, `make fuzz`, `make hostile`, `make bench`, `make edits` and `make mutants` needs the kit's `rt` on the path,
+# make, git and the usual POSIX tools, and nothing else.
 
 SOURCES := $(shell find crates -path '*/out' -prune -o \( -name '*.rt' -o -name '*.antt' \) -print) crates.txt
 
 PREFIX := /usr/local
 
-.PHONY: help try build run lib install dist python rust c-test c-fuzz test agree costs vendor vendor-test contracts edits faults fuzz hostile bench clean
+.PHONY: help try build run lib install dist python rust c-test c-fuzz test agree costs vendor vendor-test contracts edits mutants faults fuzz hostile bench clean
 
 help:
 	@echo "To use it:"
@@ -37,6 +37,9 @@ help:
 	@echo "                           bin/contracts"
 	@echo "  make edits               tries each edit that must be refused, those beside the gate's too (needs python3);"
 	@echo "                           CRATES=\"NAME ..\": those of some crates"
+	@echo "  make mutants N=100       changes one token at a time, in code, glue and tools, and names each change that nothing"
+	@echo "                           beside the proofs sees (needs python3 and what make c-test needs). SEED=NUMBER: others;"
+	@echo "                           JOBS=NUMBER: so many at once; PARTS=\"rattle glue tools\": some of these"
 	@echo "  make costs               counts what each call costs, and compares the tables of costs. COUNT=atomic: over that"
 	@echo "                           count, which the gate proves and does not try from Rattle"
 	@echo "  make faults              refuses each request for memory in turn, without the rest of the gate; COUNT as above"
@@ -155,6 +158,12 @@ vendor-test:
 
 edits:
 	tools/edits.py $(CRATES)
+
+N := 100
+SEED := 1
+JOBS := 1
+mutants:
+	tools/mutants.py $(N) $(SEED) $(JOBS) $(PARTS)
 
 # Where these are tried: over the plain count here, and over the atomic one beside it.
 TRIED = $(if $(filter atomic,$(COUNT)),$(shell tools/for_threads.sh ecow_costs ecow_value_faults ecow_store_faults),.)

@@ -3,13 +3,15 @@
 # refused, from the first to the last. It must end with status 0, give all memory back, and print
 # what it prints where none is refused. A program that finds a number on standard input runs the part
 # with that number alone, counted from 1; where it finds none, it runs all, and prints a line for each.
+# EACH=10 refuses one request in ten; PROCESSORS=1 runs one program at a time.
 # usage: tools/refuse.sh PROGRAM
 set -eu
 program=$1
 work=$(mktemp -d)
 trap 'rm -r "$work"' EXIT
 "$(dirname "$0")/shim.sh" "$work/refuse.so"
-processors=$(getconf _NPROCESSORS_ONLN 2> "$work/none" || echo 1)
+processors=${PROCESSORS:-$(getconf _NPROCESSORS_ONLN 2> "$work/none" || echo 1)}
+each=${EACH:-1}
 watched="env LEFT=1 LD_PRELOAD=$work/refuse.so"
 $watched "$program" < /dev/null > "$work/lines" 2>&1 || {
     cat "$work/lines"
@@ -31,7 +33,7 @@ refuse_from() {
             echo "$got" > "$work/got.$1"
             echo "$want" | diff - "$work/got.$1" || true
         fi
-        number=$((number + processors))
+        number=$((number + processors * each))
     done >> "$work/wrong.$1"
 }
 
@@ -52,5 +54,5 @@ while part=$((part + 1)) && [ "$part" -le "$parts" ]; do
 done
 cat "$work"/wrong.*
 wrong=$(cat "$work"/wrong.* | grep -c '^part ' || true)
-echo "$all requests refused in turn, $wrong wrong"
+echo "$((all / each)) requests refused in turn, $wrong wrong"
 [ "$wrong" -eq 0 ] && [ "$all" -gt 0 ]
