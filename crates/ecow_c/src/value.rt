@@ -248,7 +248,8 @@ pub extern "C" fn ecow_proved_value_push_field(
     name: &[u8],
     item: &mut ValuePointer,
 ) -> u32
-    ensures value { AltersBy fields_of (λ item. option_map (λ xs. xs ++ new_field name.now item ∷ []))
+    ensures value { AltersBy fields_of
+        (λ item. option_map (λ fields. fields ++ new_field name.now item ∷ []))
         pointer.old.value item.old.value result pointer.new.value }
     ensures covers { CoversAt pointer.old.value → CoversAt pointer.new.value }
     ensures bound { RisesAtMostBy pointer.old.value item.old.value result pointer.new.value }

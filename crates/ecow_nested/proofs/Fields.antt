@@ -74,16 +74,19 @@ module _ (name : List ℕ) where
         let is = placed (first fs) (length fs) at e in
         ap (λ i. slice_set fs i (renewed (get_or fs i d))) is.0 ∙ set_first fs d (omega (arith, is.0, is.1))
 
-    push_last : (fs : List Field) → length fs ≤ first fs → fs ++ new_field name value ∷ [] ≡ with_field name value fs
+    push_last : (fs : List Field) → length fs ≤ first fs
+        → fs ++ new_field name value ∷ [] ≡ with_field name value fs
     push_last [] h = refl
     push_last (f ∷ fs) h =
         elim (has_name name f) as (λ b. suc (length fs) ≤ cond (not b) (1 + first fs) 0
-        → f ∷ (fs ++ new_field name value ∷ []) ≡ cond b (renewed f ∷ fs) (f ∷ with_field name value fs)) [
+        → f ∷ (fs ++ new_field name value ∷ [])
+        ≡ cond b (renewed f ∷ fs) (f ∷ with_field name value fs)) [
           | true ↦ λ h. absurd (omega (arith, h))
           | false ↦ λ h. ap (λ r. f ∷ r) (push_last fs (omega (arith, h)))
         ] h
 
-    pub pushed : (fs : List Field) (r : Option ℕ) → r ≡ None → r ≡ position (has_name name) fs → fs ++ new_field name value ∷ [] ≡ with_field name value fs
+    pub pushed : (fs : List Field) (r : Option ℕ) → r ≡ None → r ≡ position (has_name name) fs
+        → fs ++ new_field name value ∷ [] ≡ with_field name value fs
     pushed fs r none e = push_last fs (unplaced (first fs) (length fs) r none e)
 
   -- a field in the place of the first one of that name, which has the same name
