@@ -1,6 +1,6 @@
 //! Parts by paths. What a path leads to is read, or replaced where it stands. A refusal changes
 //! nothing.
-ghost use Rattle.std.specs.Prelude.{◌≡◌, ◌≢◌, ◌+◌, ◌≤◌, ◌<◌, ◌↔◌, length, max, [], ◌∷◌, List, None, Some, OnOk, OnErr, IsErrOf, MatchOption, slice_get, slice_set};
+ghost use Rattle.std.specs.Prelude.{◌≡◌, ◌≢◌, ◌+◌, ◌≤◌, ◌<◌, ◌↔◌, length, max, [], ◌∷◌, List, None, Some, IfOk, OnOk, OnErr, IsErrOf, MatchOption, slice_get, slice_set};
 ghost use Rattle.std.specs.Option.{option_and_then};
 ghost use Rattle.ecow_nested.specs.Paths.{part_at, value_at, IsSet};
 ghost use Rattle.ecow_nested.specs.Values.{deepest, deepest_field, depth_of, look_up, with_field, Covers, IsErrAmong};
@@ -11,6 +11,7 @@ use crate::refusal::Refusal;
 use crate::value::fields::{find, place};
 use crate::value::{Field, Value};
 use ecow_string::EcoString;
+use std::mem::replace;
 
 /// A step from a value to one of its parts.
 #[derive(Clone, Debug, Drop, PartialEq)]
@@ -44,11 +45,37 @@ impl Value {
         }
     }
 
-    /// Puts `value` in place of the one that the path leads to, where it stands: of the lists and
+    /// Exchanges the value that the path leads to and `other`, where it stands: of the lists and
     /// fields on the way those alone are copied that are shared. Answers `Index` where the path
-    /// leads to no value, else `Depth` where the steps and the depth of `value` come to more than
+    /// leads to no value, else `Depth` where the steps and the depth of `other` come to more than
     /// `MAX_DEPTH`, and `Memory`.
-    pub fn set_at(&mut self, path: &[Step], value: Value) -> Result<(), Refusal>
+    pub fn swap_at(&mut self, path: &[Step], other: &mut Value) -> Result<(), Refusal>
+        ensures set { OnOk result (IsSet path.now other.old self.old self.new) }
+        ensures other { OnOk result (value_at self.old path.now ≡ Some other.new) }
+        ensures kept { OnErr result (other.new ≡ other.old) }
+        ensures covers { Covers self.old → Covers other.old → Covers self.new }
+        ensures bound { OnOk result (depth_of self.new
+            ≤ max (depth_of self.old) (length path.now + depth_of other.old)) }
+        ensures unchanged { OnErr result (self.new ≡ self.old) }
+        ensures index { IsErrOf result Refusal.Index ↔ (value_at self.old path.now ≡ None) }
+        ensures depth { IsErrOf result Refusal.Depth ↔ (value_at self.old path.now ≢ None)
+            × (MAX_DEPTH < length path.now + depth_of other.old) }
+        ensures codes { IsErrAmong (Refusal.Index ∷ Refusal.Depth ∷ Refusal.Memory ∷ []) result }
+    {
+        if self.at(path).is_none() {
+            return Err(Refusal::Index);
+        }
+        let below = other.depth();
+        if below > MAX_DEPTH || path.len() > (MAX_DEPTH - below) as usize {
+            return Err(Refusal::Depth);
+        }
+        let value = other.clone()?;
+        *other = self.put_at(path, value)?;
+        Ok(())
+    }
+
+    /// Puts `value` in place of the one that the path leads to, as `swap_at` does.
+    pub fn set_at(&mut self, path: &[Step], mut value: Value) -> Result<(), Refusal>
         ensures set { OnOk result (IsSet path.now value self.old self.new) }
         ensures covers { Covers self.old → Covers value → Covers self.new }
         ensures bound { OnOk result (depth_of self.new
@@ -59,21 +86,16 @@ impl Value {
             × (MAX_DEPTH < length path.now + depth_of value) }
         ensures codes { IsErrAmong (Refusal.Index ∷ Refusal.Depth ∷ Refusal.Memory ∷ []) result }
     {
-        if self.at(path).is_none() {
-            return Err(Refusal::Index);
-        }
-        let below = value.depth();
-        if below > MAX_DEPTH || path.len() > (MAX_DEPTH - below) as usize {
-            return Err(Refusal::Depth);
-        }
-        self.put_at(path, value)
+        self.swap_at(path, &mut value)
     }
 
-    /// Does the same, but may copy what is shared before it finds that the path leads to no value.
+    /// Puts `value` in place of the one that the path leads to, and gives that one. It may copy
+    /// what is shared before it finds that the path leads to no value.
     #[cycle(put)]
-    fn put_at(&mut self, path: &[Step], value: Value) -> Result<(), Refusal>
+    fn put_at(&mut self, path: &[Step], value: Value) -> Result<Value, Refusal>
         requires { length path.now + depth_of value ≤ MAX_DEPTH }
         ensures set { OnOk result (IsSet path.now value self.old self.new) }
+        ensures out { IfOk result (λ out. value_at self.old path.now ≡ Some out) }
         ensures covers { Covers self.old → Covers value → Covers self.new }
         ensures bound { OnOk result (depth_of self.new
             ≤ max (depth_of self.old) (length path.now + depth_of value)) }
@@ -82,10 +104,7 @@ impl Value {
         ensures codes { IsErrAmong (Refusal.Index ∷ Refusal.Memory ∷ []) result }
     {
         match path {
-            [] => {
-                *self = value;
-                Ok(())
-            }
+            [] => Ok(replace(self, value)),
             [step, rest @ ..] => match step {
                 Step::Index(index) => {
                     let Value::List(nested) = self else {
@@ -104,19 +123,22 @@ impl Value {
     }
 }
 
-/// Puts `value` at the end of a path that begins at the item of that index.
+/// Puts `value` at the end of a path that begins at the item of that index, and gives the value that
+/// was there.
 #[cycle(put)]
 fn put_in_item(
     nested: &mut Nested<Value>,
     index: usize,
     rest: &[Step],
     value: Value,
-) -> Result<(), Refusal>
+) -> Result<Value, Refusal>
     requires { length rest.now + depth_of value < MAX_DEPTH }
     ensures set { OnOk result ((before : Value) × (after : Value)
         × (slice_get nested.old.items index ≡ Some before)
         × IsSet rest.now value before after
         × (nested.new.items ≡ slice_set nested.old.items index after)) }
+    ensures out { IfOk result (λ out. option_and_then (λ part. value_at part rest.now)
+        (slice_get nested.old.items index) ≡ Some out) }
     ensures covers { deepest nested.old.items < nested.old.depth
         → deepest nested.new.items < nested.new.depth }
     ensures bound { OnOk result (nested.new.depth
@@ -132,11 +154,12 @@ fn put_in_item(
     }
     let below = rest.len() as u32 + value.depth();
     let gone = nested.items.as_slice()[index].depth();
-    nested.items.update(
+    let out = nested.items.update(
         index,
         |item: &mut Value|
             requires { length rest.now + depth_of value ≤ MAX_DEPTH }
             ensures set { OnOk result (IsSet rest.entry.now value item.old item.new) }
+            ensures out { IfOk result (λ out. value_at item.old rest.entry.now ≡ Some out) }
             ensures bound { OnOk result (depth_of item.new
                 ≤ max (depth_of item.old) (length rest.entry.now + depth_of value)) }
             ensures unchanged { OnErr result (item.new ≡ item.old) }
@@ -147,22 +170,25 @@ fn put_in_item(
     raise(&mut nested.depth, below);
     let came = nested.items.as_slice()[index].depth();
     settle(&mut nested.depth, nested.items.as_slice(), gone, came);
-    Ok(())
+    Ok(out)
 }
 
-/// Puts `value` at the end of a path that begins at the first field of that name.
+/// Puts `value` at the end of a path that begins at the first field of that name, and gives the
+/// value that was there.
 #[cycle(put)]
 fn put_in_field(
     nested: &mut Nested<Field>,
     name: &str,
     rest: &[Step],
     value: Value,
-) -> Result<(), Refusal>
+) -> Result<Value, Refusal>
     requires { length rest.now + depth_of value < MAX_DEPTH }
     ensures set { OnOk result ((before : Value) × (after : Value)
         × (look_up name.now nested.old.items ≡ Some before)
         × IsSet rest.now value before after
         × (nested.new.items ≡ with_field name.now after nested.old.items)) }
+    ensures out { IfOk result (λ out. option_and_then (λ part. value_at part rest.now)
+        (look_up name.now nested.old.items) ≡ Some out) }
     ensures covers { deepest_field nested.old.items < nested.old.depth
         → deepest_field nested.new.items < nested.new.depth }
     ensures bound { OnOk result (nested.new.depth
@@ -178,12 +204,14 @@ fn put_in_field(
     };
     let below = rest.len() as u32 + value.depth();
     let gone = nested.items.as_slice()[at].value.depth();
-    nested.items.update(
+    let out = nested.items.update(
         at,
         |field: &mut Field|
             requires { length rest.now + depth_of value ≤ MAX_DEPTH }
             ensures name { field.new.name ≡ field.old.name }
             ensures set { OnOk result (IsSet rest.entry.now value field.old.value field.new.value) }
+            ensures out { IfOk result
+                (λ out. value_at field.old.value rest.entry.now ≡ Some out) }
             ensures bound { OnOk result (depth_of field.new.value
                 ≤ max (depth_of field.old.value) (length rest.entry.now + depth_of value)) }
             ensures unchanged { OnErr result (field.new ≡ field.old) }
@@ -195,5 +223,5 @@ fn put_in_field(
     raise(&mut nested.depth, below);
     let came = nested.items.as_slice()[at].value.depth();
     settle(&mut nested.depth, nested.items.as_slice(), gone, came);
-    Ok(())
+    Ok(out)
 }

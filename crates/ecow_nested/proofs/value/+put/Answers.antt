@@ -37,8 +37,14 @@ paths::put_in_field-returns-clause-set t c =
     let set = set_found c.args.name.now c.args.nested.now.items c.in-Some.at e.0 e.1 at e.2 in
     search (rules, e, found, set)
 
-pub paths::put_in_field-returns-in_err-branch-clause-index : goal.paths::put_in_field-returns-in_err-branch-clause-index
-paths::put_in_field-returns-in_err-branch-clause-index t c =
+pub paths::put_in_field-returns-in_err-out-clause-index : goal.paths::put_in_field-returns-in_err-out-clause-index
+paths::put_in_field-returns-in_err-out-clause-index t c =
+    let e = c.in_ok-update.ensures.change.ok (λ x y same. same) in
+    let found = taken c.args.name.now c.args.nested.now.items c.in-Some.at e.0 (rw c.as_slice.ensures at c.in-Some.ensures) e.2 in
+    search (rules, e, found)
+
+pub paths::put_in_field-returns-clause-out : goal.paths::put_in_field-returns-clause-out
+paths::put_in_field-returns-clause-out t c =
     let e = c.in_ok-update.ensures.change.ok (λ x y same. same) in
     let found = taken c.args.name.now c.args.nested.now.items c.in-Some.at e.0 (rw c.as_slice.ensures at c.in-Some.ensures) e.2 in
     search (rules, e, found)
