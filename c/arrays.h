@@ -1,4 +1,4 @@
-/* The calls that kinds whose items stand in one array have in common. It is included behind
+/* The calls that kinds whose items stand in one array have in common. It is included before
  * `values.h`, with one name more:
  *     CAN_CUT(value, index)   whether an index isn't inside a character */
 

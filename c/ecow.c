@@ -60,40 +60,30 @@ const char ecow_library_counts_owners_atomically = 1;
 #define CALL(name) JOINED(ecow_, KIND, _##name)
 #define PROVED(name) JOINED(ecow_proved_, KIND, _##name)
 
+#define CAN_CUT(value, index) true
 #define KIND list
 #define ITEM int64_t
-#define CAN_CUT(value, index) true
-#include "values.h"
 #include "arrays.h"
 #include "items.h"
-#undef KIND
-#undef ITEM
-#undef CAN_CUT
+#include "values.h"
 
 #define KIND bytes
 #define ITEM uint8_t
-#define CAN_CUT(value, index) true
-#include "values.h"
 #include "arrays.h"
 #include "items.h"
-#undef KIND
-#undef ITEM
+#include "values.h"
 #undef CAN_CUT
 
+#define CAN_CUT ecow_text_is_boundary
 #define KIND text
 #define ITEM char
-#define CAN_CUT ecow_text_is_boundary
-#include "values.h"
 #include "arrays.h"
-#undef KIND
-#undef ITEM
+#include "values.h"
 #undef CAN_CUT
 
 #define KIND texts
 #define ITEM ecow_text
 #include "values.h"
-#undef KIND
-#undef ITEM
 
 bool ecow_is_utf8(const char *bytes, size_t count) {
     if (!bytes || count >= PAST_MEMORY) {
@@ -150,10 +140,9 @@ ecow_status ecow_text_replace(ecow_text *text, const char *pattern, size_t patte
     ecow_status status = ecow_text_keep(&from, text, pattern, pattern_count);
     ecow_status other = ecow_text_keep(&to, text, replacement, replacement_count);
     status = status ? status : other;
-    if (status == ECOW_OK) {
-        status =
-            ecow_proved_text_replace(&text, from.items, pattern_count, to.items, replacement_count);
-    }
+    status = status ? status
+                    : ecow_proved_text_replace(&text, from.items, pattern_count, to.items,
+                                               replacement_count);
     ecow_text_let_go(&from);
     ecow_text_let_go(&to);
     return status;
@@ -248,19 +237,23 @@ ecow_status ecow_texts_remove(ecow_texts *texts, size_t index, ecow_text *text) 
     return status;
 }
 
-/* The texts that a call was given, as they stay while the list changes: a clone holds those of the
- * list itself. */
-typedef struct given_texts {
-    ecow_texts *texts;
-    ecow_texts held;
-} given_texts;
+/* What a call was given, as it stays while a value changes: a clone holds that value itself. */
+#define KEEP(kind)                                                                  \
+    typedef struct given_##kind {                                                   \
+        ecow_##kind *kind;                                                          \
+        ecow_##kind held;                                                           \
+    } given_##kind;                                                                 \
+                                                                                    \
+    static ecow_status keep_##kind(given_##kind *given, const ecow_##kind *changed, \
+                                   const ecow_##kind *item) {                       \
+        bool is_itself = changed && changed == item;                                \
+        given->held = ecow_##kind##_new();                                          \
+        given->kind = is_itself ? &given->held : (ecow_##kind *)item;               \
+        return is_itself ? ecow_##kind##_clone(&given->held, changed) : ECOW_OK;    \
+    }
 
-static ecow_status keep_texts(given_texts *given, const ecow_texts *list, const ecow_texts *added) {
-    bool is_itself = list && list == added;
-    given->held = ecow_texts_new();
-    given->texts = is_itself ? &given->held : (ecow_texts *)added;
-    return is_itself ? ecow_texts_clone(&given->held, list) : ECOW_OK;
-}
+KEEP(texts)
+KEEP(value)
 
 ecow_status ecow_texts_extend(ecow_texts *texts, const ecow_texts *added) {
     given_texts given;
@@ -389,20 +382,6 @@ ecow_status ecow_value_remove(ecow_value *value, size_t index, ecow_value *item)
     return hand_over(ecow_proved_value_remove(&value, index, &out), &made, item);
 }
 
-/* A value that a call was given, as it stays while the other one changes: a clone holds that one
- * itself. */
-typedef struct given_value {
-    ecow_value *value;
-    ecow_value held;
-} given_value;
-
-static ecow_status keep_value(given_value *given, const ecow_value *value, const ecow_value *item) {
-    bool is_itself = value && value == item;
-    given->held = ecow_value_new();
-    given->value = is_itself ? &given->held : (ecow_value *)item;
-    return is_itself ? ecow_value_clone(&given->held, value) : ECOW_OK;
-}
-
 static ecow_status end_value(ecow_status status, given_value *given) {
     ecow_value_drop(&given->held);
     return status;
@@ -455,7 +434,7 @@ static ecow_status keep_name(given_name *given, const ecow_value *value, const e
                              const char *name, size_t count) {
     given->bytes = name ? name : (const char *)nothing;
     given->held = ecow_text_new();
-    if (!value || (!name && count)) {
+    if (!value || !other || (!name && count)) {
         return ECOW_NULL;
     }
     if (count >= PAST_MEMORY) {
@@ -469,69 +448,88 @@ static ecow_status keep_name(given_name *given, const ecow_value *value, const e
     return ECOW_OK;
 }
 
-ecow_status ecow_value_get_field(const ecow_value *value, const char *name, size_t count,
-                                 ecow_value *item) {
+typedef ecow_status named_call(ecow_value **, const char *, size_t, ecow_value **);
+
+/* Makes a call that takes a name and gives a value. */
+static ecow_status take_field(named_call *call, const ecow_value *value, const char *name,
+                              size_t count, ecow_value *item) {
     ecow_value *place = (ecow_value *)value, made = {{0}}, *out = &made;
     given_name given;
     ecow_status status = keep_name(&given, value, value, name, count);
-    status = status ? status : ecow_proved_value_get_field(&place, given.bytes, count, &out);
+    status = status ? status : call(&place, given.bytes, count, &out);
     ecow_text_drop(&given.held);
     return hand_over(status, &made, item);
 }
 
+ecow_status ecow_value_get_field(const ecow_value *value, const char *name, size_t count,
+                                 ecow_value *item) {
+    return take_field(ecow_proved_value_get_field, value, name, count, item);
+}
+
+ecow_status ecow_value_remove_field(ecow_value *value, const char *name, size_t count,
+                                    ecow_value *item) {
+    return take_field(ecow_proved_value_remove_field, value, name, count, item);
+}
+
 /* Makes a call that takes a name and a value. */
-static ecow_status give_field(ecow_status (*call)(ecow_value **, const char *, size_t, ecow_value **),
-                              ecow_value *value, const char *name, size_t count,
-                              const ecow_value *item) {
+static ecow_status give_field(named_call *call, ecow_value *value, const char *name, size_t count,
+                              const ecow_value *item, given_value *kept) {
     given_name given;
-    given_value kept;
-    ecow_status status = item ? keep_name(&given, value, value, name, count) : ECOW_NULL;
-    if (status == ECOW_NULL) {
-        return status;
-    }
-    ecow_status other = keep_value(&kept, value, item);
-    status = status == ECOW_OK ? other : status;
-    status = status ? status : call(&value, given.bytes, count, &kept.value);
+    ecow_status status = keep_name(&given, value, item, name, count);
+    ecow_status other = keep_value(kept, value, item);
+    status = status ? status : other;
+    status = status ? status : call(&value, given.bytes, count, &kept->value);
     ecow_text_drop(&given.held);
-    ecow_value_drop(&kept.held);
     return status;
 }
 
 ecow_status ecow_value_set_field(ecow_value *value, const char *name, size_t count,
                                  const ecow_value *item) {
-    return give_field(ecow_proved_value_set_field, value, name, count, item);
+    given_value kept;
+    return end_value(give_field(ecow_proved_value_set_field, value, name, count, item, &kept),
+                     &kept);
 }
 
 ecow_status ecow_value_push_field(ecow_value *value, const char *name, size_t count,
                                   const ecow_value *item) {
-    return give_field(ecow_proved_value_push_field, value, name, count, item);
+    given_value kept;
+    return end_value(give_field(ecow_proved_value_push_field, value, name, count, item, &kept),
+                     &kept);
 }
 
 ecow_status ecow_value_swap_field(ecow_value *value, const char *name, size_t count,
                                   ecow_value *other) {
-    given_name given;
     given_value kept;
-    ecow_status status = other ? keep_name(&given, value, other, name, count) : ECOW_NULL;
-    if (status == ECOW_NULL) {
-        return status;
-    }
-    ecow_status clone = keep_value(&kept, value, other);
-    status = status == ECOW_OK ? clone : status;
-    if (status == ECOW_OK) {
-        status = ecow_proved_value_swap_field(&value, given.bytes, count, &kept.value);
-    }
-    ecow_text_drop(&given.held);
-    return end_swap(status, &kept, value);
+    return end_swap(give_field(ecow_proved_value_swap_field, value, name, count, other, &kept),
+                    &kept, value);
 }
 
-ecow_status ecow_value_remove_field(ecow_value *value, const char *name, size_t count,
-                                    ecow_value *item) {
-    ecow_value made = {{0}}, *out = &made;
-    given_name given;
-    ecow_status status = keep_name(&given, value, value, name, count);
-    status = status ? status : ecow_proved_value_remove_field(&value, given.bytes, count, &out);
-    ecow_text_drop(&given.held);
-    return hand_over(status, &made, item);
+/* Makes a call by a path: by a clone, since the call may change the path too. */
+static ecow_status go(ecow_status (*call)(ecow_value **, ecow_value **, ecow_value **),
+                      const ecow_value *value, const ecow_value *path, const ecow_value *other,
+                      given_value *kept) {
+    ecow_value *place = (ecow_value *)value, clone = {{0}}, *way = &clone;
+    ecow_status status = keep_value(kept, value, other);
+    status = status ? status : ecow_value_clone(&clone, path);
+    status = status ? status : call(&place, &way, &kept->value);
+    ecow_value_drop(&clone);
+    return status;
+}
+
+ecow_status ecow_value_get_at(const ecow_value *value, const ecow_value *path, ecow_value *part) {
+    ecow_value made = {{0}};
+    given_value kept;
+    return hand_over(go(ecow_proved_value_get_at, value, path, &made, &kept), &made, part);
+}
+
+ecow_status ecow_value_set_at(ecow_value *value, const ecow_value *path, const ecow_value *item) {
+    given_value kept;
+    return end_value(go(ecow_proved_value_set_at, value, path, item, &kept), &kept);
+}
+
+ecow_status ecow_value_swap_at(ecow_value *value, const ecow_value *path, ecow_value *other) {
+    given_value kept;
+    return end_swap(go(ecow_proved_value_swap_at, value, path, other, &kept), &kept, value);
 }
 
 ecow_status ecow_value_field_name(const ecow_value *value, size_t index, ecow_text *name) {

@@ -1,4 +1,4 @@
-/* The calls that lists and bytes have in common, for one item. It is included as `values.h` is. */
+/* The calls that lists and bytes have in common, for one item. It is included before `values.h`. */
 
 ecow_status CALL(get)(const VALUE *value, size_t index, ITEM *out) {
     VALUE *place = (VALUE *)value;

@@ -119,6 +119,9 @@ ecow_status ecow_proved_value_swap_field(ecow_value **value, const char *name, s
                                          ecow_value **other);
 ecow_status ecow_proved_value_remove_field(ecow_value **value, const char *name, size_t count,
                                            ecow_value **out);
+ecow_status ecow_proved_value_get_at(ecow_value **value, ecow_value **path, ecow_value **out);
+ecow_status ecow_proved_value_set_at(ecow_value **value, ecow_value **path, ecow_value **item);
+ecow_status ecow_proved_value_swap_at(ecow_value **value, ecow_value **path, ecow_value **other);
 ecow_status ecow_proved_value_field_name(ecow_value **value, size_t index, ecow_text **out);
 bool ecow_proved_value_equal(ecow_value **left, ecow_value **right);
 

@@ -1,5 +1,5 @@
 /* The calls that all kinds of value have in common. It is included once for each, with VALUE, CALL
- * and PROVED of `ecow.c`, and the type of its ITEM. */
+ * and PROVED of `ecow.c`, and the type of its ITEM. Behind it the next KIND may be defined. */
 
 VALUE CALL(new)(void) {
     VALUE value = {{0}};
@@ -57,3 +57,6 @@ uint64_t CALL(hash)(const VALUE *value) {
     VALUE *place = (VALUE *)value;
     return PROVED(hash)(&place);
 }
+
+#undef KIND
+#undef ITEM

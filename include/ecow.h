@@ -586,6 +586,19 @@ ecow_status ecow_value_swap_field(ecow_value *value, const char *name, size_t co
 ecow_status ecow_value_remove_field(ecow_value *value, const char *name, size_t count,
                                     ecow_value *item);
 
+/* A path to a part is itself a value: a list of texts, each the name of a field, and of numbers, each
+ * the index of an item. ECOW_KIND where it isn't, ECOW_INDEX where there is no such part. */
+
+/* Makes `part` a clone of the part at the end of the path. */
+ecow_status ecow_value_get_at(const ecow_value *value, const ecow_value *path, ecow_value *part);
+
+/* Puts an item in place of that part: of the lists and fields on the way only shared ones are
+ * copied. */
+ecow_status ecow_value_set_at(ecow_value *value, const ecow_value *path, const ecow_value *item);
+
+/* Exchanges that part and `*other`, as ecow_value_swap does. */
+ecow_status ecow_value_swap_at(ecow_value *value, const ecow_value *path, ecow_value *other);
+
 /* Makes `name` a clone of the name of the field at `index`: ECOW_INDEX from the length on. */
 ecow_status ecow_value_field_name(const ecow_value *value, size_t index, ecow_text *name);
 

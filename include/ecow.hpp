@@ -1811,7 +1811,7 @@ public:
     value at(const std::vector<step> &path) const {
         value part(*this);
         for (const step &each : path) {
-            part = part.get_at(each);
+            part = each.name ? part.get(*each.name) : part.get(each.index);
         }
         return part;
     }
@@ -1829,9 +1829,16 @@ public:
                           "update takes a function that returns nothing: it changes its argument");
             value part(at(path));
             change(part);
-            detail::check(path.size() + part.depth() > ECOW_MAX_DEPTH ? ECOW_DEPTH : ECOW_OK);
-            put(path.data(), path.data() + path.size(), part);
+            /* By its index a field is read, but not changed. */
+            const ecow_status status = put(path, part);
+            detail::check(status == ECOW_INDEX ? ECOW_KIND : status);
         }
+    }
+
+    /* Puts an item in place of the part to which the steps lead, as `update` does: an index leads to
+     * an item of a list. Throws std::out_of_range where there is none. */
+    void set_at(const std::vector<step> &path, const value &item) & {
+        detail::check(put(path, item));
     }
 
     /* Puts an item in place of the one at `index` of a list. Throws std::out_of_range from the size
@@ -2034,35 +2041,13 @@ private:
         }
     }
 
-    value get_at(const step &place) const {
-        return place.name ? get(*place.name) : get(place.index);
-    }
-
-    void swap_at(const step &place, value &part) {
-        const auto &name = place.name;
-        detail::check(name ? ecow_value_swap_field(&raw, name->data(), name->size(), &part.raw)
-                           : ecow_value_swap(&raw, place.index, &part.raw));
-    }
-
-    /* Exchanges an item and the part to which the steps lead. Each part on the way is taken out
-     * while it is changed, so that nobody shares it; then it goes in again, which asks for no
-     * memory, because the value above it isn't shared either. */
-    void put(const step *first, const step *last, value &item) {
-        if (first == last) {
-            swap(item);
-        } else if (first + 1 == last) {
-            swap_at(*first, item);
-        } else {
-            value part;
-            swap_at(*first, part);
-            try {
-                part.put(first + 1, last, item);
-            } catch (...) {
-                swap_at(*first, part);
-                throw;
-            }
-            swap_at(*first, part);
+    ecow_status put(const std::vector<step> &path, const value &item) {
+        value way = list();
+        for (const step &each : path) {
+            way.push_back(each.name ? value(*each.name)
+                                    : value(static_cast<std::int64_t>(each.index)));
         }
+        return ecow_value_set_at(&raw, &way.raw, &item.raw);
     }
 };
 

@@ -1,6 +1,7 @@
 pub mod Answers
 pub mod Indices
 pub mod Lends
+pub mod Paths
 pub mod Pointers
 pub mod Rows
 pub mod Statuses

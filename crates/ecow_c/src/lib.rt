@@ -5,6 +5,7 @@
 mod assign;
 mod compare;
 mod elements;
+mod paths;
 mod pointer;
 mod read;
 mod room;
