@@ -1,5 +1,5 @@
 /* The calls that all kinds of value have in common. It is included once for each, with VALUE, CALL
- * and PROVED of `ecow.c`, and the type of its ITEM. Behind it the next KIND may be defined. */
+ * and PROVED of `ecow.c`, and the type of its ITEM. KIND and ITEM end with it. */
 
 VALUE CALL(new)(void) {
     VALUE value = {{0}};

@@ -756,6 +756,130 @@ static void depths(void) {
     }
 }
 
+/* A path: to the field of that name, and then to items. */
+static ecow_value path_of(const char *name, const int64_t *indices, size_t count) {
+    ecow_value path = {{0}}, step = {{0}};
+    ecow_text text = {{0}};
+    CHECK(ecow_value_set_list(&path) == ECOW_OK);
+    CHECK(ecow_text_assign(&text, name, strlen(name)) == ECOW_OK);
+    CHECK(ecow_value_set_text(&step, &text) == ECOW_OK && ecow_value_push(&path, &step) == ECOW_OK);
+    for (size_t at = 0; at < count; at++) {
+        CHECK(ecow_value_set_number(&step, indices[at]) == ECOW_OK);
+        CHECK(ecow_value_push(&path, &step) == ECOW_OK);
+    }
+    ecow_value_drop(&step);
+    ecow_text_drop(&text);
+    return path;
+}
+
+/* Each call by a path answers one status, and changes nothing. */
+static void leads_nowhere(ecow_value *value, const ecow_value *path, ecow_status status) {
+    ecow_value before = {{0}}, item = number_value(5);
+    CHECK(ecow_value_clone(&before, value) == ECOW_OK);
+    CHECK(ecow_value_get_at(value, path, &item) == status && is_number(&item, 5));
+    CHECK(ecow_value_get_at(value, path, NULL) == status);
+    CHECK(ecow_value_set_at(value, path, &item) == status && is_number(&item, 5));
+    CHECK(ecow_value_swap_at(value, path, &item) == status && is_number(&item, 5));
+    CHECK(ecow_value_equal(value, &before));
+    ecow_value_drop(&before);
+}
+
+/* Parts by paths: `{"sizes": [[800, 600], 9]}`. */
+static void paths(void) {
+    ecow_value root = {{0}}, list = {{0}}, pair = {{0}}, item = number_value(800), found = {{0}};
+    ecow_value before = {{0}}, none = {{0}};
+    CHECK(ecow_value_set_list(&pair) == ECOW_OK && ecow_value_push(&pair, &item) == ECOW_OK);
+    CHECK(ecow_value_set_number(&item, 600) == ECOW_OK);
+    CHECK(ecow_value_push(&pair, &item) == ECOW_OK && ecow_value_set_list(&list) == ECOW_OK);
+    CHECK(ecow_value_set_number(&item, 9) == ECOW_OK);
+    CHECK(ecow_value_push(&list, &pair) == ECOW_OK && ecow_value_push(&list, &item) == ECOW_OK);
+    CHECK(ecow_value_set_fields(&root) == ECOW_OK);
+    CHECK(ecow_value_set_field(&root, "sizes", 5, &list) == ECOW_OK);
+    CHECK(ecow_value_clone(&before, &root) == ECOW_OK && ecow_value_set_list(&none) == ECOW_OK);
+    ecow_value width = path_of("sizes", (int64_t[]){0, 0}, 2);
+    CHECK(ecow_value_get_at(&root, &width, &found) == ECOW_OK && is_number(&found, 800));
+    CHECK(ecow_value_get_at(&root, &width, NULL) == ECOW_OK);
+    CHECK(ecow_value_set_at(&root, &width, &item) == ECOW_OK && is_number(&item, 9));
+    CHECK(ecow_value_get_at(&root, &width, &found) == ECOW_OK && is_number(&found, 9));
+    CHECK(ecow_value_get_at(&before, &width, &found) == ECOW_OK && is_number(&found, 800));
+    CHECK(ecow_value_swap_at(&root, &width, &found) == ECOW_OK && is_number(&found, 9));
+    CHECK(ecow_value_equal(&root, &before));
+    /* The path of no steps leads to the value. */
+    CHECK(ecow_value_get_at(&root, &none, &found) == ECOW_OK && ecow_value_equal(&found, &root));
+    CHECK(ecow_value_set_at(&found, &none, &item) == ECOW_OK && is_number(&found, 9));
+    CHECK(ecow_value_swap_at(&found, &none, &pair) == ECOW_OK && is_number(&pair, 9));
+    CHECK(has_numbers(&found, (int64_t[]){800, 600}, 2));
+    CHECK(ecow_value_swap(&pair, 0, &found) == ECOW_KIND);
+    /* Paths that lead nowhere, and what is no path. */
+    const int64_t ways[][2] = {{0, 2}, {2, 0},         {0, -1},       {-1, 0},
+                               {1, 0}, {0, INT64_MIN}, {INT64_MAX, 0}};
+    for (size_t at = 0; at < sizeof ways / sizeof *ways; at++) {
+        ecow_value nowhere = path_of("sizes", ways[at], 2);
+        leads_nowhere(&root, &nowhere, ECOW_INDEX);
+        ecow_value_drop(&nowhere);
+    }
+    ecow_value other_name = path_of("size", NULL, 0), no_name = path_of("", NULL, 0);
+    leads_nowhere(&root, &other_name, ECOW_INDEX);
+    leads_nowhere(&root, &no_name, ECOW_INDEX);
+    leads_nowhere(&list, &other_name, ECOW_INDEX);
+    leads_nowhere(&item, &other_name, ECOW_INDEX);
+    CHECK(ecow_value_remove(&width, 0, NULL) == ECOW_OK);
+    leads_nowhere(&root, &width, ECOW_INDEX);
+    CHECK(ecow_value_insert(&width, 0, &none) == ECOW_OK);
+    leads_nowhere(&root, &width, ECOW_KIND);
+    CHECK(ecow_value_set_real(&found, 0) == ECOW_OK
+          && ecow_value_set(&width, 0, &found) == ECOW_OK);
+    leads_nowhere(&root, &width, ECOW_KIND);
+    CHECK(ecow_value_set_truth(&found, false) == ECOW_OK
+          && ecow_value_set(&width, 0, &found) == ECOW_OK);
+    leads_nowhere(&root, &width, ECOW_KIND);
+    CHECK(ecow_value_set_nothing(&found) == ECOW_OK
+          && ecow_value_set(&width, 0, &found) == ECOW_OK);
+    leads_nowhere(&root, &width, ECOW_KIND);
+    leads_nowhere(&root, &root, ECOW_KIND);
+    leads_nowhere(&root, &item, ECOW_KIND);
+    /* How deep what is put in may nest there. */
+    ecow_value sizes = path_of("sizes", NULL, 0), lower = nested(ECOW_MAX_DEPTH - 1, true);
+    ecow_value below = path_of("sizes", (int64_t[]){1}, 1);
+    CHECK(ecow_value_set_at(&root, &below, &lower) == ECOW_DEPTH);
+    CHECK(ecow_value_swap_at(&root, &below, &lower) == ECOW_DEPTH
+          && ecow_value_depth(&lower) == 511);
+    CHECK(ecow_value_set_at(&root, &width, &lower) == ECOW_KIND);
+    CHECK(ecow_value_set_at(&root, &other_name, &lower) == ECOW_INDEX);
+    CHECK(ecow_value_equal(&root, &before) && ecow_value_depth(&root) == 3);
+    CHECK(ecow_value_set_at(&root, &sizes, &lower) == ECOW_OK && ecow_value_depth(&root) == 512);
+    CHECK(ecow_value_swap_at(&root, &sizes, &list) == ECOW_OK && ecow_value_depth(&list) == 511);
+    CHECK(ecow_value_equal(&root, &before) && ecow_value_depth(&root) == 3);
+    /* Where one value is given twice. */
+    CHECK(ecow_value_set_at(&root, &below, &root) == ECOW_OK && ecow_value_depth(&root) == 5);
+    CHECK(ecow_value_get_at(&root, &below, &found) == ECOW_OK && ecow_value_equal(&found, &before));
+    CHECK(ecow_value_swap_at(&root, &below, &root) == ECOW_OK && ecow_value_equal(&root, &before));
+    CHECK(ecow_value_get_at(&root, &below, &root) == ECOW_OK && is_number(&root, 9));
+    ecow_value first = path_of("a", NULL, 0);
+    CHECK(ecow_value_set_number(&item, 0) == ECOW_OK
+          && ecow_value_set(&first, 0, &item) == ECOW_OK);
+    CHECK(ecow_value_get_at(&first, &first, &found) == ECOW_OK && is_number(&found, 0));
+    CHECK(ecow_value_set_at(&first, &first, &first) == ECOW_OK && ecow_value_depth(&first) == 2);
+    CHECK(ecow_value_clone(&found, &before) == ECOW_OK);
+    CHECK(ecow_value_swap_at(&found, &below, &below) == ECOW_OK && is_number(&below, 9));
+    CHECK(ecow_value_get_at(&found, &sizes, &sizes) == ECOW_OK && ecow_value_len(&sizes) == 2);
+    CHECK(ecow_value_get(&sizes, 1, &found) == ECOW_OK && ecow_value_len(&found) == 2);
+    CHECK(ecow_value_get_at(NULL, &none, &item) == ECOW_NULL
+          && ecow_value_get_at(&root, NULL, &item) == ECOW_NULL);
+    CHECK(ecow_value_set_at(NULL, &none, &item) == ECOW_NULL
+          && ecow_value_set_at(&root, NULL, &item) == ECOW_NULL
+          && ecow_value_set_at(&root, &root, NULL) == ECOW_NULL);
+    CHECK(ecow_value_swap_at(NULL, &none, &item) == ECOW_NULL
+          && ecow_value_swap_at(&root, NULL, &item) == ECOW_NULL
+          && ecow_value_swap_at(&root, &root, NULL) == ECOW_NULL);
+    CHECK(is_number(&root, 9) && is_number(&item, 0));
+    ecow_value *const all[] = {&root,       &list,    &pair,  &found, &before, &none, &width,
+                               &other_name, &no_name, &sizes, &lower, &below,  &first};
+    for (size_t at = 0; at < sizeof all / sizeof *all; at++) {
+        ecow_value_drop(all[at]);
+    }
+}
+
 static void unwanted_results(void) {
     ecow_texts texts = {{0}};
     ecow_text text = {{0}};
@@ -1268,6 +1392,7 @@ int main(void) {
     fields_of_one_name();
     deep_changes();
     depths();
+    paths();
     unwanted_results();
     equality_of_values();
     refusals_of_values();

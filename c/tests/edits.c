@@ -809,6 +809,50 @@ static bool edit_below(ecow_value *value, tree *all, size_t *way, size_t depth,
     return make_value(value, all, way, depth, seed);
 }
 
+/* Edits a value by a path that the seed decides: the part at its end is read, and put out of its
+ * place by another value. */
+static bool edit_by_path(ecow_value *value, tree *all, const ecow_value *given, const part *parts,
+                         uint64_t *seed) {
+    size_t way[5] = {0}, depth = 0, len, end;
+    ecow_value path = {{0}}, step = {{0}}, found = {{0}};
+    ecow_text name = {{0}};
+    bool done = is_done(ecow_value_set_list(&path));
+    while (done && depth < 4 && (len = items_of(all, way[depth])) > 0 && below(seed, 4)) {
+        size_t index = below(seed, len), place = place_of(all, way[depth], index);
+        const char *bytes = names[all->parts[place].name];
+        done = is_done(all->parts[way[depth]].kind == ECOW_KIND_LIST
+                           ? ecow_value_set_number(&step, (int64_t)index)
+                           : ecow_text_assign(&name, bytes, strlen(bytes)));
+        if (done && all->parts[way[depth]].kind == ECOW_KIND_FIELDS) {
+            done = is_done(ecow_value_set_text(&step, &name));
+        }
+        done = done && is_done(ecow_value_push(&path, &step));
+        way[++depth] = place;
+    }
+    end = way[depth];
+    if (done && is_done(ecow_value_get_at(value, &path, &found))) {
+        CHECK(holds_tree(&found, all, end));
+    }
+    bool is_swap = below(seed, 2);
+    if (done && is_swap) {
+        done = is_done(ecow_value_clone(&found, given))
+               && is_done(ecow_value_swap_at(value, &path, &found));
+        CHECK(!done || holds_tree(&found, all, end));
+    } else if (done) {
+        done = is_done(ecow_value_set_at(value, &path, given));
+    }
+    if (done) {
+        size_t kept = all->parts[end].name;
+        tree_splice(all, way, depth, end, all->parts[end].size, parts, parts->size);
+        all->parts[end].name = kept;
+    }
+    ecow_value_drop(&path);
+    ecow_value_drop(&step);
+    ecow_value_drop(&found);
+    ecow_text_drop(&name);
+    return done;
+}
+
 /* Whether two trees hold the same. The names of the values themselves don't count. */
 static bool same_trees(const tree *left, const tree *right) {
     if (left->parts[0].size != right->parts[0].size) {
@@ -844,7 +888,9 @@ static void edit_value(ecow_value values[VALUES], tree models[VALUES], uint64_t 
         if (is_done(ecow_value_clone(value, &values[other]))) {
             models[which] = models[other];
         }
-    } else if (edit_below(value, &changed, way, 0, given, parts, given == value, seed)) {
+    } else if (below(seed, 4)
+                   ? edit_below(value, &changed, way, 0, given, parts, given == value, seed)
+                   : edit_by_path(value, &changed, given, parts, seed)) {
         models[which] = changed;
     }
     CHECK(ecow_value_equal(value, &values[other]) == same_trees(&models[which], &models[other]));
