@@ -586,8 +586,8 @@ ecow_status ecow_value_swap_field(ecow_value *value, const char *name, size_t co
 ecow_status ecow_value_remove_field(ecow_value *value, const char *name, size_t count,
                                     ecow_value *item);
 
-/* A path to a part is itself a value: a list of texts, each the name of a field, and of numbers, each
- * the index of an item. ECOW_KIND where it isn't, ECOW_INDEX where there is no such part. */
+/* A path to a part is itself a value: a list of texts, each the name of a field, and of numbers,
+ * each the index of an item. ECOW_KIND where it isn't, ECOW_INDEX where there is no such part. */
 
 /* Makes `part` a clone of the part at the end of the path. */
 ecow_status ecow_value_get_at(const ecow_value *value, const ecow_value *path, ecow_value *part);

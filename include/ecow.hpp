@@ -1835,8 +1835,8 @@ public:
         }
     }
 
-    /* Puts an item in place of the part to which the steps lead, as `update` does: an index leads to
-     * an item of a list. Throws std::out_of_range where there is none. */
+    /* Puts an item in place of the part to which the steps lead, as `update` does. An index leads
+     * to an item of a list. Throws std::out_of_range where there is none. */
     void set_at(const std::vector<step> &path, const value &item) & {
         detail::check(put(path, item));
     }

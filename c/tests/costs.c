@@ -371,6 +371,26 @@ static void changes_of_fields(void) {
     CHECK(ecow_value_set(&list, 0, &item) == ECOW_OK);
     CHECK(ecow_value_swap_field(&root, "list", 4, &list) == ECOW_OK);
     end(NAME ": deep change by swaps");
+    ecow_value_drop(&list);
+    /* A path's steps take a block while a call goes by them. */
+    ecow_value way = {{0}}, first = {{0}};
+    CHECK(ecow_value_set_list(&way) == ECOW_OK && ecow_text_assign(&text, "list", 4) == ECOW_OK);
+    CHECK(ecow_value_set_text(&list, &text) == ECOW_OK && ecow_value_push(&way, &list) == ECOW_OK);
+    CHECK(ecow_value_set_number(&list, 0) == ECOW_OK && ecow_value_clone(&first, &way) == ECOW_OK);
+    CHECK(ecow_value_push(&first, &list) == ECOW_OK);
+    COUNTED("get_at", CHECK(ecow_value_get_at(&root, &first, &item) == ECOW_OK));
+    COUNTED("set_at", CHECK(ecow_value_set_at(&root, &first, &item) == ECOW_OK));
+    begin();
+    CHECK(ecow_value_swap_at(&root, &way, &list) == ECOW_OK);
+    CHECK(ecow_value_set(&list, 0, &item) == ECOW_OK);
+    CHECK(ecow_value_swap_at(&root, &way, &list) == ECOW_OK);
+    end(NAME ": deep change by swap_at");
+    CHECK(ecow_value_clone(&before, &root) == ECOW_OK);
+    COUNTED("set_at of a shared one", CHECK(ecow_value_set_at(&root, &first, &item) == ECOW_OK));
+    CHECK(ecow_value_clone(&before, &root) == ECOW_OK);
+    COUNTED("swap_at of a shared one", CHECK(ecow_value_swap_at(&root, &first, &item) == ECOW_OK));
+    ecow_value_drop(&way);
+    ecow_value_drop(&first);
     CHECK(ecow_value_clone(&before, &root) == ECOW_OK);
     COUNTED("remove_field of a shared one",
             CHECK(ecow_value_remove_field(&root, SPILLED, 16, &item) == ECOW_OK));

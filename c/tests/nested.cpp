@@ -554,6 +554,13 @@ static void values_have_paths() {
     CHECK(settings.at(path) == (value{1000, 7}) && before.at(path) == (value{800, 600}));
     settings.update(path, [](value &part) { part.pop_back(); });
     CHECK(settings.at(path) == value{1000});
+    const auto shorter = block(settings.at(path));
+    settings.set_at({"window", "size", 0}, sixteen);
+    CHECK(settings.at(path) == value{sixteen} && block(settings.at(path)) == shorter);
+    settings.set_at(path, settings.at({}));
+    CHECK(settings.at({"window", "size", "window", "size", 0}) == sixteen);
+    settings.set_at(path, value{1000});
+    settings.set_at({}, value(settings));
     /* What is refused or throws leaves the value, whatever the function did before. */
     const value kept(settings);
     CHECK(throws<out_of_range>(ECOW_INDEX, [&] { (void)settings.at({"window", "size", 1}); }));
@@ -562,6 +569,10 @@ static void values_have_paths() {
     CHECK(throws<wrong_kind>(ECOW_KIND, [&] { (void)settings.at({"window", 1, 1}); }));
     CHECK(no_field("none", [&] { settings.update({"none"}, [](value &) {}); }));
     CHECK(throws<wrong_kind>(ECOW_KIND, [&] { settings.update({0}, [](value &) {}); }));
+    CHECK(throws<wrong_kind>(ECOW_KIND, [&] { settings.update({0, 0, 0}, [](value &) {}); }));
+    CHECK(throws<out_of_range>(ECOW_INDEX, [&] { settings.set_at({0}, 1); }));
+    CHECK(throws<out_of_range>(ECOW_INDEX, [&] { settings.set_at({"window", "none"}, 1); }));
+    CHECK(throws<out_of_range>(ECOW_INDEX, [&] { settings.set_at({"window", "size", -1}, 1); }));
     CHECK(throws<out_of_range>(ECOW_INDEX, [&] {
         settings.update({"window", "size"}, [](value &part) {
             part.push_back(1);
@@ -599,6 +610,7 @@ static void values_have_a_depth() {
         CHECK(throws<length_error>(ECOW_DEPTH, [&] {
             settings.update({0, 1}, [&](value &part) { part = nested(511, is_list); });
         }));
+        CHECK(throws<length_error>(ECOW_DEPTH, [&] { settings.set_at({0, 1}, nested(511, is_list)); }));
         CHECK(settings.shares(kept) && settings == kept && settings.depth() == 2);
         settings.update({0, 1}, [&](value &part) { part = nested(510, is_list); });
         CHECK(settings.depth() == 512 && settings.get(0).depth() == 511 && kept.depth() == 2);

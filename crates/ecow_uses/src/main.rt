@@ -195,8 +195,10 @@ fn set_levels(rt: &HostRuntime) -> Result<()> {
         Value::Number(3),
     )?;
     let lower = list.depth();
-    list.set_at(&[Step::Index(1)], a_document(rt)?)?;
-    println!(rt; "nests {at_first}, {lower} and {} deep", list.depth())?;
+    let mut other = a_document(rt)?;
+    list.swap_at(&[Step::Index(1)], &mut other)?;
+    let (depth, gone) = (list.depth(), other.number());
+    println!(rt; "nests {at_first}, {lower} and {depth} deep, without {gone:?}")?;
     Ok(())
 }
 
