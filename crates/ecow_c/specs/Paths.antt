@@ -4,7 +4,7 @@ use Rattle.std.specs.Prelude.{◌≡◌, ◌≢◌, ◌↔◌, ◌+◌, ◌<◌,
 use Rattle.std.specs.List.{list_all}
 use Rattle.std.specs.Option.{option_and_then}
 use Rattle.ecow_c.specs.Values.{CoversAt, depth_at}
-use Rattle.ecow_c.specs.declared.status.TheConstants.{OK, DEPTH, INDEX, KIND, NULL}
+use Rattle.ecow_c.specs.declared.status.TheConstants.{OK, MEMORY, DEPTH, INDEX, KIND, NULL}
 use Rattle.ecow_nested.specs.Paths.{IsSet, value_at}
 use Rattle.ecow_nested.specs.Values.{depth_of, items_of}
 use Rattle.ecow_nested.specs.declared.nested.TheConstants.{MAX_DEPTH}
@@ -53,14 +53,13 @@ AreAllAnd old path other P =
     IsSomeAnd old (λ x. IsSomeAnd path (λ p. IsSomeAnd other (λ y.
     IsSomeAnd (steps_of p) (λ steps. P x steps y))))
 
--- which refusals a call answers, and when
+-- when a call answers NULL and KIND, and INDEX where it doesn't answer MEMORY
 pub record AnswersAt (old path other : Option Value) (status : ℕ) : Type 0 where
   pub null : status ≡ NULL ↔ is_none old || is_none path || is_none other ≡ true
   pub kind : status ≡ KIND
       ↔ IsSomeAnd old (λ _. IsSomeAnd path (λ p. IsSomeAnd other (λ _. steps_of p ≡ None)))
-  pub index : status ≡ INDEX → AreAllAnd old path other (λ x steps y. value_at x steps ≡ None)
-  pub depth : status ≡ DEPTH
-      → AreAllAnd old path other (λ x steps y. MAX_DEPTH < length steps + depth_of y)
+  pub index : status ≢ MEMORY
+      → (status ≡ INDEX ↔ AreAllAnd old path other (λ x steps y. value_at x steps ≡ None))
 
 -- the value has the other one where the path leads, and all else as it was; a refused call leaves
 -- it as it was
@@ -71,3 +70,5 @@ pub record SetsAt (old path other : Option Value) (status : ℕ) (new : Option V
   pub covers : CoversAt old → CoversAt other → CoversAt new
   pub bound : status ≡ OK → AreAllAnd old path other
       (λ x steps y. depth_at new ≤ max (depth_of x) (length steps + depth_of y))
+  pub depth : status ≢ MEMORY → (status ≡ DEPTH ↔ AreAllAnd old path other
+      (λ x steps y. (value_at x steps ≢ None) × (MAX_DEPTH < length steps + depth_of y)))
