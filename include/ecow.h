@@ -461,8 +461,8 @@ uint64_t ecow_texts_hash(const ecow_texts *texts);
 
 /* A value is nothing, a truth value, a number, a text, a list of values, or fields by name in
  * order. It goes in and out as a clone, which shares its memory: to change what lies deep in a
- * value, take a part out, change it, and put it in again. What lies beside the way stays shared. A
- * call for another kind of value answers ECOW_KIND.
+ * value, go by a path, or swap a part out, change it, and swap it in again. What lies beside the way
+ * stays shared. A call for another kind of value answers ECOW_KIND.
  *
  * A result may be the value itself, which is then replaced. */
 
