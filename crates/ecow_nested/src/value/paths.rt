@@ -1,6 +1,6 @@
 //! Parts by paths. What a path leads to is read, or replaced where it stands. A refusal changes
 //! nothing.
-ghost use Rattle.std.specs.Prelude.{◌≡◌, ◌≢◌, ◌+◌, ◌≤◌, ◌<◌, ◌↔◌, length, max, [], ◌∷◌, List, None, Some, IfOk, OnOk, OnErr, IsErrOf, MatchOption, slice_get, slice_set};
+ghost use Rattle.std.specs.Prelude.{◌≡◌, ◌≢◌, ◌+◌, ◌≤◌, ◌<◌, ◌↔◌, length, max, [], ◌∷◌, List, None, Some, OnOk, OnErr, IsErrOf, MatchOption, slice_get, slice_set};
 ghost use Rattle.std.specs.Option.{option_and_then};
 ghost use Rattle.ecow_nested.specs.Paths.{part_at, value_at, IsSet};
 ghost use Rattle.ecow_nested.specs.Values.{deepest, deepest_field, depth_of, look_up, with_field, Covers, IsErrAmong};
@@ -11,7 +11,7 @@ use crate::refusal::Refusal;
 use crate::value::fields::{find, place};
 use crate::value::{Field, Value};
 use ecow_string::EcoString;
-use std::mem::replace;
+use std::mem::swap;
 
 /// A step from a value to one of its parts.
 #[derive(Clone, Debug, Drop, PartialEq)]
@@ -69,9 +69,7 @@ impl Value {
         if below > MAX_DEPTH || path.len() > (MAX_DEPTH - below) as usize {
             return Err(Refusal::Depth);
         }
-        let value = other.clone()?;
-        *other = self.put_at(path, value)?;
-        Ok(())
+        self.exchange_at(path, other)
     }
 
     /// Puts `value` in place of the one that the path leads to, as `swap_at` does.
@@ -89,60 +87,63 @@ impl Value {
         self.swap_at(path, &mut value)
     }
 
-    /// Puts `value` in place of the one that the path leads to, and gives that one. It may copy
-    /// what is shared before it finds that the path leads to no value.
-    #[cycle(put)]
-    fn put_at(&mut self, path: &[Step], value: Value) -> Result<Value, Refusal>
-        requires { length path.now + depth_of value ≤ MAX_DEPTH }
-        ensures set { OnOk result (IsSet path.now value self.old self.new) }
-        ensures out { IfOk result (λ out. value_at self.old path.now ≡ Some out) }
-        ensures covers { Covers self.old → Covers value → Covers self.new }
+    /// Does the same, but may copy what is shared before it finds that the path leads to no value.
+    #[cycle(exchange)]
+    fn exchange_at(&mut self, path: &[Step], other: &mut Value) -> Result<(), Refusal>
+        requires { length path.now + depth_of other.old ≤ MAX_DEPTH }
+        ensures set { OnOk result (IsSet path.now other.old self.old self.new) }
+        ensures other { OnOk result (value_at self.old path.now ≡ Some other.new) }
+        ensures kept { OnErr result (other.new ≡ other.old) }
+        ensures covers { Covers self.old → Covers other.old → Covers self.new }
         ensures bound { OnOk result (depth_of self.new
-            ≤ max (depth_of self.old) (length path.now + depth_of value)) }
+            ≤ max (depth_of self.old) (length path.now + depth_of other.old)) }
         ensures unchanged { OnErr result (self.new ≡ self.old) }
         ensures index { IsErrOf result Refusal.Index → value_at self.old path.now ≡ None }
         ensures codes { IsErrAmong (Refusal.Index ∷ Refusal.Memory ∷ []) result }
     {
         match path {
-            [] => Ok(replace(self, value)),
+            [] => {
+                swap(self, other);
+                Ok(())
+            }
             [step, rest @ ..] => match step {
                 Step::Index(index) => {
                     let Value::List(nested) = self else {
                         return Err(Refusal::Index);
                     };
-                    put_in_item(nested, *index, rest, value)
+                    exchange_in_item(nested, *index, rest, other)
                 }
                 Step::Name(name) => {
                     let Value::Fields(nested) = self else {
                         return Err(Refusal::Index);
                     };
-                    put_in_field(nested, name.as_str(), rest, value)
+                    exchange_in_field(nested, name.as_str(), rest, other)
                 }
             },
         }
     }
 }
 
-/// Puts `value` at the end of a path that begins at the item of that index, and gives the value that
-/// was there.
-#[cycle(put)]
-fn put_in_item(
+/// Exchanges the value that a path leads to from the item of that index, and `other`.
+#[cycle(exchange)]
+fn exchange_in_item(
     nested: &mut Nested<Value>,
     index: usize,
     rest: &[Step],
-    value: Value,
-) -> Result<Value, Refusal>
-    requires { length rest.now + depth_of value < MAX_DEPTH }
+    other: &mut Value,
+) -> Result<(), Refusal>
+    requires { length rest.now + depth_of other.old < MAX_DEPTH }
     ensures set { OnOk result ((before : Value) × (after : Value)
         × (slice_get nested.old.items index ≡ Some before)
-        × IsSet rest.now value before after
+        × IsSet rest.now other.old before after
         × (nested.new.items ≡ slice_set nested.old.items index after)) }
-    ensures out { IfOk result (λ out. option_and_then (λ part. value_at part rest.now)
-        (slice_get nested.old.items index) ≡ Some out) }
+    ensures other { OnOk result (option_and_then (λ part. value_at part rest.now)
+        (slice_get nested.old.items index) ≡ Some other.new) }
+    ensures kept { OnErr result (other.new ≡ other.old) }
     ensures covers { deepest nested.old.items < nested.old.depth
         → deepest nested.new.items < nested.new.depth }
     ensures bound { OnOk result (nested.new.depth
-        ≤ max nested.old.depth (length rest.now + depth_of value + 1)) }
+        ≤ max nested.old.depth (length rest.now + depth_of other.old + 1)) }
     ensures unchanged { OnErr result (nested.new ≡ nested.old) }
     ensures index { IsErrOf result Refusal.Index
         → option_and_then (λ part. value_at part rest.now) (slice_get nested.old.items index)
@@ -152,47 +153,38 @@ fn put_in_item(
     if index >= nested.items.len() {
         return Err(Refusal::Index);
     }
-    let below = rest.len() as u32 + value.depth();
+    let below = rest.len() as u32 + other.depth();
     let gone = nested.items.as_slice()[index].depth();
-    let out = nested.items.update(
-        index,
-        |item: &mut Value|
-            requires { length rest.now + depth_of value ≤ MAX_DEPTH }
-            ensures set { OnOk result (IsSet rest.entry.now value item.old item.new) }
-            ensures out { IfOk result (λ out. value_at item.old rest.entry.now ≡ Some out) }
-            ensures bound { OnOk result (depth_of item.new
-                ≤ max (depth_of item.old) (length rest.entry.now + depth_of value)) }
-            ensures unchanged { OnErr result (item.new ≡ item.old) }
-            ensures index { IsErrOf result Refusal.Index → value_at item.old rest.entry.now ≡ None }
-            ensures codes { IsErrAmong (Refusal.Index ∷ Refusal.Memory ∷ []) result }
-        { item.put_at(rest, value) },
-    )??;
+    let Ok(block) = nested.items.own_mut() else {
+        return Err(Refusal::Memory);
+    };
+    block.as_mut_slice()[index].exchange_at(rest, other)?;
     raise(&mut nested.depth, below);
     let came = nested.items.as_slice()[index].depth();
     settle(&mut nested.depth, nested.items.as_slice(), gone, came);
-    Ok(out)
+    Ok(())
 }
 
-/// Puts `value` at the end of a path that begins at the first field of that name, and gives the
-/// value that was there.
-#[cycle(put)]
-fn put_in_field(
+/// Exchanges the value that a path leads to from the first field of that name, and `other`.
+#[cycle(exchange)]
+fn exchange_in_field(
     nested: &mut Nested<Field>,
     name: &str,
     rest: &[Step],
-    value: Value,
-) -> Result<Value, Refusal>
-    requires { length rest.now + depth_of value < MAX_DEPTH }
+    other: &mut Value,
+) -> Result<(), Refusal>
+    requires { length rest.now + depth_of other.old < MAX_DEPTH }
     ensures set { OnOk result ((before : Value) × (after : Value)
         × (look_up name.now nested.old.items ≡ Some before)
-        × IsSet rest.now value before after
+        × IsSet rest.now other.old before after
         × (nested.new.items ≡ with_field name.now after nested.old.items)) }
-    ensures out { IfOk result (λ out. option_and_then (λ part. value_at part rest.now)
-        (look_up name.now nested.old.items) ≡ Some out) }
+    ensures other { OnOk result (option_and_then (λ part. value_at part rest.now)
+        (look_up name.now nested.old.items) ≡ Some other.new) }
+    ensures kept { OnErr result (other.new ≡ other.old) }
     ensures covers { deepest_field nested.old.items < nested.old.depth
         → deepest_field nested.new.items < nested.new.depth }
     ensures bound { OnOk result (nested.new.depth
-        ≤ max nested.old.depth (length rest.now + depth_of value + 1)) }
+        ≤ max nested.old.depth (length rest.now + depth_of other.old + 1)) }
     ensures unchanged { OnErr result (nested.new ≡ nested.old) }
     ensures index { IsErrOf result Refusal.Index
         → option_and_then (λ part. value_at part rest.now) (look_up name.now nested.old.items)
@@ -202,26 +194,14 @@ fn put_in_field(
     let Some(at) = place(nested.items.as_slice(), name) else {
         return Err(Refusal::Index);
     };
-    let below = rest.len() as u32 + value.depth();
+    let below = rest.len() as u32 + other.depth();
     let gone = nested.items.as_slice()[at].value.depth();
-    let out = nested.items.update(
-        at,
-        |field: &mut Field|
-            requires { length rest.now + depth_of value ≤ MAX_DEPTH }
-            ensures name { field.new.name ≡ field.old.name }
-            ensures set { OnOk result (IsSet rest.entry.now value field.old.value field.new.value) }
-            ensures out { IfOk result
-                (λ out. value_at field.old.value rest.entry.now ≡ Some out) }
-            ensures bound { OnOk result (depth_of field.new.value
-                ≤ max (depth_of field.old.value) (length rest.entry.now + depth_of value)) }
-            ensures unchanged { OnErr result (field.new ≡ field.old) }
-            ensures index { IsErrOf result Refusal.Index
-                → value_at field.old.value rest.entry.now ≡ None }
-            ensures codes { IsErrAmong (Refusal.Index ∷ Refusal.Memory ∷ []) result }
-        { field.value.put_at(rest, value) },
-    )??;
+    let Ok(block) = nested.items.own_mut() else {
+        return Err(Refusal::Memory);
+    };
+    block.as_mut_slice()[at].value.exchange_at(rest, other)?;
     raise(&mut nested.depth, below);
     let came = nested.items.as_slice()[at].value.depth();
     settle(&mut nested.depth, nested.items.as_slice(), gone, came);
-    Ok(out)
+    Ok(())
 }

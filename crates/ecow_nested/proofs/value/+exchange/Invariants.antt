@@ -1,0 +1,11 @@
+use Rattle.std.proofs.Common.{◌+◌, ◌*◌, length}
+use Rattle.ecow_nested.proofs.value.+exchange.Given as goal
+
+abbrev pub decreases-Value::exchange_at : goal.decreases-Value::exchange_at
+decreases-Value::exchange_at l = 2 * length l.path.now
+
+abbrev pub decreases-paths::exchange_in_item : goal.decreases-paths::exchange_in_item
+decreases-paths::exchange_in_item l = 2 * length l.rest.now + 1
+
+abbrev pub decreases-paths::exchange_in_field : goal.decreases-paths::exchange_in_field
+decreases-paths::exchange_in_field l = 2 * length l.rest.now + 1
