@@ -467,7 +467,7 @@ uint64_t ecow_texts_hash(const ecow_texts *texts);
  * A result may be the value itself, which is then replaced. */
 
 /* How deep a value may nest. A thread with a stack of 128 KiB drops, compares and copies such a
- * value. */
+ * value, and goes by a path to its end. */
 #define ECOW_MAX_DEPTH 512
 
 /* What a value is. */

@@ -315,14 +315,15 @@ static long hand_lists_over(long rounds) {
     return place.wrong;
 }
 
+#define LONG_NAME "a long name for it"
+
 /* A value that nests as deep as any may: lists, or fields. */
 static ecow_value deepest(bool is_list) {
     ecow_value made = {{0}};
     for (size_t depth = 0; depth < ECOW_MAX_DEPTH; depth++) {
         ecow_value outer = {{0}};
         CHECK(!(is_list ? ecow_value_set_list(&outer) : ecow_value_set_fields(&outer)));
-        CHECK(
-            !(is_list ? ecow_value_push(&outer, &made) : put(&outer, "a long name for it", &made)));
+        CHECK(!(is_list ? ecow_value_push(&outer, &made) : put(&outer, LONG_NAME, &made)));
         ecow_value_drop(&made);
         made = outer;
     }
@@ -331,8 +332,22 @@ static ecow_value deepest(bool is_list) {
 
 /* What recurs into two equal values. */
 static void *recur(void *given) {
-    ecow_value *twins = given, clone = {{0}};
+    ecow_value *twins = given, clone = {{0}}, way = {{0}}, step = {{0}};
     CHECK(ecow_value_equal(&twins[0], &twins[1]) && !ecow_value_clone(&clone, &twins[0]));
+    CHECK(!ecow_value_set_list(&way) && !ecow_value_set_number(&step, 0));
+    if (ecow_value_kind(&clone) == ECOW_KIND_FIELDS) {
+        ecow_text name = {{0}};
+        CHECK(!ecow_text_assign(&name, LONG_NAME, strlen(LONG_NAME)));
+        CHECK(!ecow_value_set_text(&step, &name));
+        ecow_text_drop(&name);
+    }
+    for (size_t depth = 0; depth < ECOW_MAX_DEPTH; depth++) {
+        CHECK(!ecow_value_push(&way, &step));
+    }
+    CHECK(!ecow_value_set_at(&clone, &way, &step) && !ecow_value_equal(&clone, &twins[0]));
+    CHECK(!ecow_value_swap_at(&clone, &way, &step) && !ecow_value_get_at(&clone, &way, &step));
+    ecow_value_drop(&step);
+    ecow_value_drop(&way);
     ecow_value_drop(&twins[0]);
     ecow_value_drop(&clone);
     ecow_value_drop(&twins[1]);

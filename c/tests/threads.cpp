@@ -60,6 +60,11 @@ static void *recur(void *given) {
     written << left;
     bool is_right = left == right && !(left < right) && written.str().size() > ECOW_MAX_DEPTH
                     && std::hash<ecow::value>()(left) == std::hash<ecow::value>()(right);
+    const bool is_list = left.kind() == ecow::kind::list;
+    const std::vector<ecow::value::step> path(
+        ECOW_MAX_DEPTH, is_list ? ecow::value::step(0) : ecow::value::step("a long name for it"));
+    left.update(path, [](ecow::value &part) { part = 8; });
+    is_right = is_right && left.at(path) == 8 && right.at(path) == 7;
     left = right = ecow::value();
     return is_right ? given : nullptr;
 }
