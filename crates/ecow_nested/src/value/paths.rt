@@ -87,7 +87,8 @@ impl Value {
         self.swap_at(path, &mut value)
     }
 
-    /// Does the same, but may copy what is shared before it finds that the path leads to no value.
+    /// Exchanges them as `swap_at` does, but may copy what is shared before it finds that the path
+    /// leads to no value.
     #[cycle(exchange)]
     fn exchange_at(&mut self, path: &[Step], other: &mut Value) -> Result<(), Refusal>
         requires { length path.now + depth_of other.old ≤ MAX_DEPTH }
