@@ -27,7 +27,7 @@ abbrev pub index_of : ℤ → ℕ
 index_of (pos n) = n
 index_of (negsuc n) = NOWHERE
 
--- the step that an item of a path stands for
+-- the step that an item of a path stands for; of what is no step, one that leads nowhere
 abbrev pub step_of : Value → Step
 step_of item =
     elim (out-Value item) [

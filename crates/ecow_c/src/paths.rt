@@ -29,7 +29,7 @@ fn are_steps(items: &[Value]) -> bool
     items.iter().all(is_step)
 }
 
-/// The step that an item of a path stands for.
+/// The step that an item of a path stands for; of what is no step, one that leads nowhere.
 fn step(item: &Value) -> Result<Step, AllocError>
     ensures { IfOk result (λ step. step ≡ step_of item.now) }
 {
