@@ -31,7 +31,7 @@ IMPORTS = {
     "std::marker": {"Model": None, "Brand": None, "Send": None, "Sync": None, "PhantomData": "core::marker"},
     "std::convert": {"AsSlice": None, "AsStr": None},
     "std::ops": {"DerefSlice": None, "DerefStr": None, "Bound": "core::ops", "RangeBounds": "core::ops"},
-    "std::mem": {"align_of": None, "size_of": None, "size_of_val": None, "replace": "core::mem"},
+    "std::mem": {"align_of": None, "size_of": None, "size_of_val": None, "replace": "core::mem", "swap": "core::mem"},
     "std::ptr": {"copy_nonoverlapping": "core::ptr"},
     "std::iter": {"FusedIterator": "core::iter"},
     "std::cmp": {"Ordering": "core::cmp"},
