@@ -86,10 +86,7 @@ const char ecow_library_counts_owners_atomically = 1;
 #include "values.h"
 
 bool ecow_is_utf8(const char *bytes, size_t count) {
-    if (!bytes || count >= PAST_MEMORY) {
-        return count == 0;
-    }
-    return ecow_proved_is_utf8(bytes, count);
+    return bytes && count < PAST_MEMORY ? ecow_proved_is_utf8(bytes, count) : count == 0;
 }
 
 bool ecow_text_is_boundary(const ecow_text *text, size_t index) {

@@ -2041,6 +2041,7 @@ private:
         }
     }
 
+    /* Puts an item in place of the part to which the steps lead; ECOW_INDEX where there is none. */
     ecow_status put(const std::vector<step> &path, const value &item) {
         value way = list();
         for (const step &each : path) {
