@@ -204,7 +204,7 @@ class Given(unittest.TestCase):
             lambda: pickle.loads(pickle.dumps([List(range(99)), Texts(["x" * 99])])),
             lambda: pickle.loads(pickle.dumps([Value({"a": ["x" * 99]}), Text("x" * 99)])),
         )
-        rounds = max(400, EDITS // 10)
+        rounds = max(1000, EDITS // 10)
         for number, call in enumerate(calls):
             for _ in range(50):
                 outcome(call)
