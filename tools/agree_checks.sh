@@ -30,6 +30,8 @@ agree_docs.sh docs/uses/lines.md s/pub fn /pub fn another_/
 agree_docs.sh crates/ecow_atomic/src/shared.rt s/^    pub fn get_mut/&_one/
 agree_calls.sh crates/ecow_list/src/vec/edits.rt s/^    pub fn insert/&_one_more/
 agree_shipped.sh tools/vendor.sh s/^    vector) tops=.*/    vector) tops=ecow_block ;;/
+agree_shipped.sh tools/copy_crate.sh s/s.$from.$crate.g/&;1d/
+agree_shipped.sh tools/dist.sh s/ c.CPP.md / /
 agree_edits.sh crates/ecow_list/must-fail/splice_stops_at_the_hint.edit s/^old: /&not there/
 agree_c.sh c/examples/first.c s/main/other/
 agree_c.sh VERSION s/^/1/
@@ -42,13 +44,25 @@ while read -r tool file change; do
     cp -p "$work/kept" "$work/copy/$file"
 done < "$work/table"
 
-# A program that says nothing, one that repeats its file, and one that always says the same.
+# A program that says nothing, one that repeats its file, one that always says the same, one that pretends to have asked
+# for memory once, and one whose time grows by its rounds alone.
 change=
 printf '#!/bin/sh\n' > "$work/silent"
 printf '#!/bin/sh\ncat "$1"\n' > "$work/repeats"
 printf '#!/bin/sh\necho a part\n' > "$work/constant"
-chmod +x "$work/silent" "$work/repeats" "$work/constant"
+cat > "$work/pretends" << 'END'
+#!/bin/sh
+if [ -n "${LD_PRELOAD:-}" ]; then export LD_PRELOAD=; exec "$0" "$@"; fi
+echo a part
+[ -z "${COUNT:-}${TOTAL:-}" ] || echo 1 >&2
+[ -z "${REFUSE:-}" ]
+END
+printf '#!/bin/sh\nexec awk -v rounds="$4" "BEGIN { while (i < rounds) i++; print 1 }"\n' > "$work/flat"
+chmod +x "$work/silent" "$work/repeats" "$work/constant" "$work/pretends" "$work/flat"
 for tool in costs.sh refuse.sh ends.sh large.sh growth.sh; do
     for program in silent repeats constant; do refuses "$tool" "$work/$program"; done
 done
+refuses costs.sh "$work/pretends"
+refuses refuse.sh "$work/pretends"
+refuses growth.sh "$work/flat"
 echo "$checked checks refuse what they must not pass"

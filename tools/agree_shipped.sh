@@ -1,6 +1,7 @@
 #!/bin/sh
 # Makes each copy that tools/vendor.sh makes, and compares its crates with the table below, and its files and their
-# contents with those that git has.
+# contents with those that git has. Likewise it packs the archives of tools/dist.sh, of an empty library, where there are
+# GNU tar, python3 and rustfmt.
 set -eu
 cd "$(dirname "$0")/.."
 work=$(mktemp -d)
@@ -54,3 +55,42 @@ while read -r kind names; do
 done < "$work/table"
 [ "$copies" -eq 10 ] && [ "$files" -gt 1000 ] || { echo "$copies copies of $files files"; exit 1; }
 echo "$copies copies have the $files files that they are to have"
+
+command -v python3 > "$work/said" && command -v rustfmt > "$work/said" && tar --version | grep -q GNU || {
+    echo "the archives were not compared: this machine has no python3, rustfmt or GNU tar"
+    exit 0
+}
+mkdir -p "$work/here/bin"
+git ls-files | tar -c -T - | tar -x -C "$work/here"
+(cd "$work/here" && git init -q && git add -A && touch bin/libecow.a bin/libecow.so bin/ecow-config.cmake)
+{
+    git ls-files c/README.md c/CPP.md python rust | grep -vx rust/.gitignore
+    git ls-files c/examples | sed 's|^c/||'
+    for file in a so so.$(sed 's/[.][^.]*$//' VERSION); do echo lib/libecow.$file; done
+    for name in base block bytes c counted list model nested script store string tool; do echo contracts/ecow_$name.md; done
+    cat << 'END'
+CHANGELOG.md
+LICENSE-APACHE
+LICENSE-MIT
+README.md
+VERSION
+contracts/README.md
+include/ecow.h
+include/ecow.hpp
+lib/cmake/ecow/ecow-config.cmake
+lib/pkgconfig/ecow.pc
+rust/LICENSE-APACHE
+rust/LICENSE-MIT
+END
+} | sort > "$work/wanted"
+for count in atomic plain; do
+    echo "($count count)" > "$work/here/bin/ecow.pc"
+    archive=$(cd "$work/here" && tools/dist.sh "$count")
+    # What is proved has a gate of its own, which compiles it.
+    tar tzf "$work/here/$archive" | sed 's|^[^/]*/||; /\/$/d; /^$/d; /^rust\/src\/proved\//d' | sort > "$work/packed"
+    diff "$work/wanted" "$work/packed" || {
+        echo "the archive of the $count count has other files (>)"
+        exit 1
+    }
+done
+echo "two archives have their $(grep -c '' "$work/wanted") files"

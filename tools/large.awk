@@ -1,7 +1,7 @@
 # A large script and its answers, worked out by the rules of docs/SCRIPT.md with awk's own arrays and texts:
 # awk -v part=PART -v counted=0|1 -v script=FILE -v answers=FILE [-v many=NUMBER] -f tools/large.awk
-# PART is names, owners, list, sizes, line, or texts and prose, which only a store has. NUMBER is that of names, owners,
-# or items in a line, 70,000 without it.
+# PART is names, owners, list, sizes, random, memory, line, or texts and prose, which only a store has. NUMBER is that
+# of names, owners, items in a line, or twice that of random commands: 70,000 without it.
 
 function says(command, answer) {
     print command > script
@@ -304,6 +304,248 @@ function sizes(    k, beside) {
     ends(0, copied, moved)
 }
 
+# Values of 32 MiB with changes that need little more memory, and smaller ones that come and go. The program is given
+# not much more.
+function memory(    n, i) {
+    n = 2 ^ 22
+    says("vec from_elem a 5 " n, "ok")
+    for (i = 0; i < 100; i++) {
+        says("vec pop a", 5)
+        says("vec insert a " n - 1 " 6", "ok")
+        says("vec splice a " n - 2 ".. [7]", "[5,6]")
+        says("vec push a 8", "ok")
+        says("vec drain a " n - 2 "..", "[7,8]")
+        says("vec extend a [5,9]", "ok")
+        says("vec remove a " n - 2, 5)
+        says("vec write a " n - 2 " 5", "ok")
+        says("vec reserve a 1", "ok")
+        says("vec clone a b", "ok")
+        says("vec drop b", "ok")
+        says("vec push a 6", "ok")
+        says("vec truncate a " n - 1, "ok")
+        says("vec push a 5", "ok")
+        says("vec read a " n - 1, 5)
+        says("vec capacity a", n)
+    }
+    says("vec drop a", "ok")
+    for (i = 0; i < 300; i++) {
+        says("vec from_elem a 5 65536", "ok")
+        says("vec clone a b", "ok")
+        says("vec push b 6", "ok")
+        says("vec splice b 65530.. [1]", "[5,5,5,5,5,5,6]")
+        says("vec clone b c", "ok")
+        says("vec truncate c 65000", "ok")
+        says("vec clear b", "ok")
+        says("vec drop a", "ok")
+        says("vec drop b", "ok")
+        says("vec drop c", "ok")
+    }
+    ends(0, 300 * (65536 + 65000), 0)
+    if (counted) return
+    n = 8 * n
+    says("text from_str s \"abcdefgh\"", "ok")
+    says("text repeat s t " n / 8, "ok")
+    for (i = 0; i < 100; i++) {
+        says("text pop t", "\"h\"")
+        says("text insert t " n - 2 " \"x\"", "ok")
+        says("text remove t " n - 2, "\"x\"")
+        says("text truncate t " n - 3, "ok")
+        says("text insert_str t " n - 3 " \"fg\"", "ok")
+        says("text reserve t 1", "ok")
+        says("text push_str t \"h\"", "ok")
+        says("text clone t u", "ok")
+        says("text drop u", "ok")
+        says("text capacity t", n)
+    }
+    says("bytes from_text t b", "ok")
+    says("text drop t", "ok")
+    for (i = 0; i < 100; i++) {
+        says("bytes pop b", 104)
+        says("bytes insert b " n - 2 " 1", "ok")
+        says("bytes remove b " n - 2, 1)
+        says("bytes truncate b " n - 3, "ok")
+        says("bytes extend b [102,103]", "ok")
+        says("bytes push b 104", "ok")
+        says("bytes write b " n - 1 " 104", "ok")
+        says("bytes capacity b", n)
+    }
+}
+
+# A number below n: the same ones at each run, with any awk.
+function below(n) {
+    seed = seed * 16807 % 2147483647
+    return int(seed / 2147483647 * n)
+}
+
+# A length: of each order of magnitude as often, and often a power of two or one beside it.
+function near(most) {
+    return below(2) ? int(2 ^ (below(64 * most) / 64)) : 2 ^ below(most + 1) + below(3) - 1
+}
+
+function pick(words,    word, count) {
+    count = split(words, word, " ")
+    return word[1 + below(count)]
+}
+
+# The room of a new block for n elements.
+function fresh(n) { return n && n < 4 ? 4 : n }
+
+function is_shared(x) { return holders[block[x]] > 1 }
+
+# Takes a name from its block, if it has one.
+function leave(x) {
+    if (block[x] && !--holders[block[x]]) blocks--
+    block[x] = 0
+}
+
+# Gives a name alone a block of so much room: some are copied from one that it shares, or all move that stay.
+function settle(x, copies, stays, space) {
+    if (is_shared(x)) {
+        copied += copies
+        leave(x)
+    } else if (space > room[x]) moved += stays
+    if (!block[x] && space) {
+        holders[block[x] = ++made] = 1
+        blocks++
+    }
+    room[x] = space
+}
+
+# A new name. Held are the bytes, or for an element of a list its four letters and a comma.
+function make(x, type, content, space) {
+    kind[x] = type
+    held[x] = content
+    room[x] = block[x] = 0
+    settle(x, 0, 0, space)
+}
+
+# Answers a command that makes room for so many more, and puts a part in place of what stands from `start` up to `end`.
+# A shared block is copied where a command of its kind always writes, and into one of so much room or more.
+function edit(x, words, said, start, end, part, more, copies, least,    stays, space) {
+    says(words, said)
+    if (said ~ /^refused/ || start == end && !more && words ~ /pop|truncate|clear|extend|push_str/) return
+    stays = length(held[x]) / unit[kind[x]] - end + start
+    space = is_shared(x) ? least : room[x]
+    settle(x, copies, stays, stays + more > space ? grown(stays, more, space) : space)
+    held[x] = part_of(held[x], kind[x], 0, start) part part_of(held[x], kind[x], end, stays)
+}
+
+# So many elements of what is held, from an index on.
+function part_of(text, type, i, n) { return substr(text, unit[type] * i + 1, unit[type] * n) }
+
+# As commands and answers have them: elements, and one of them.
+function several(type, part,    letter) {
+    if (type == "text") return "\"" part "\""
+    if (type == "bytes") for (letter in code) gsub(letter, code[letter] ",", part)
+    return "[" substr(part, 1, length(part) - 1) "]"
+}
+function one(type, part) { return type == "text" ? "\"" part "\"" : type == "bytes" ? code[part] : substr(part, 1, 4) }
+
+# Asks a value something or changes it, at an index that may be past what it has.
+function use(x, type, word,    n, i, more, words, part, given, end, taken, beyond, run, keep) {
+    n = length(held[x]) / unit[type]
+    i = below(9) ? below(n + 1) : n + below(3)
+    more = word ~ /^(push|insert|write)$/ ? 1 : near(below(9) ? 5 : 12)
+    words = type " " word " " x " "
+    part = part_of(pool[type], type, below(4096), more)
+    given = word ~ /^(push|insert|write)$/ ? one(type, part) : several(type, part)
+    beyond = type == "text" ? "refused boundary" : "refused index"
+    taken = i < n ? one(type, part_of(held[x], type, i, 1)) : beyond
+    if (word == "capacity") says(words, room[x])
+    else if (word == "len") says(words, n)
+    else if (word == "unique") says(words, is_shared(x) ? "false" : "true")
+    else if (word == "read") says(words i, taken)
+    else if (word == "contents" && below(n) < 1000) says(words, several(type, held[x]))
+    else if (word ~ /^(push|push_str|extend)$/) edit(x, words given, "ok", n, n, part, more, n, room[x])
+    else if (word ~ /^insert/) edit(x, words i " " given, i > n ? beyond : "ok", i, i, part, more, n, room[x])
+    else if (word == "write") edit(x, words i " " given, i < n ? "ok" : beyond, i, i + 1, part, 1, n, fresh(n))
+    else if (word == "remove") edit(x, words i, taken, i, i + 1, "", 0, n, fresh(n))
+    else if (word == "truncate") edit(x, words i, "ok", i < n ? i : n, n, "", 0, i, fresh(i))
+    else if (word == "clear") edit(x, words, "ok", 0, n, "", 0, 0, 0)
+    else if (word == "pop") {
+        i = n ? n - 1 : 0
+        taken = n ? one(type, part_of(held[x], type, i, 1)) : "none"
+        edit(x, words, taken, i, n, "", 0, n, fresh(type == "text" ? i : n))
+    } else if (word == "reserve") {
+        says(words "9223372036854775808", "refused capacity")
+        edit(x, words more, "ok", n, n, "", more, n, room[x])
+    } else if (word ~ /^(drain|splice)$/) {
+        end = i && !below(20) ? i - 1 : i + near(below(9) ? 4 : 16)
+        if (end > n && below(9)) end = n
+        taken = i > end || end > n ? "refused range" : several(type, part_of(held[x], type, i, end - i))
+        if (word == "drain") part = given = ""
+        words = words (i && below(2) ? ">" i - 1 : i) ".." (end && below(2) ? "=" end - 1 : end) " " given
+        edit(x, words, taken, i, end, part, length(part) / 5, n, fresh(n))
+    } else if (word == "retain") {
+        part = given = ""
+        for (i = 0; i < n; i += run) {
+            run = near(n < 1000 ? 4 : 14)
+            if (run > n - i) run = n - i
+            given = given times(run, keep ? "+" : "-")
+            if (keep) part = part part_of(held[x], type, i, run)
+            keep = !keep
+        }
+        says(words "[" given "-]", "refused marks")
+        edit(x, words "[" given "]", "ok", 0, n, part, length(part) / 5, n, fresh(n))
+    }
+}
+
+# Makes a value that isn't inline under a new name, of another name's where there is one.
+function begin(x, type, from,    n, part) {
+    n = 16 + near(below(30) ? 16 : 20)
+    part = part_of(pool[type], type, below(4096), n < 5000 ? n : 16)
+    if (from in kind && kind[from] != "vec" && length(held[from]) > 15 && below(2)) {
+        n = 1 + int(n / length(held[from]))
+        says(kind[from] " repeat " from " " x " " n, "ok")
+        make(x, kind[from], times(n, held[from]), n * length(held[from]))
+    } else if (from in kind) {
+        type = kind[from] == "vec" ? "vec" : pick("bytes text")
+        says(type (type == kind[from] ? " clone " : " from_" kind[from] " ") from " " x, "ok")
+        kind[x] = type
+        held[x] = held[from]
+        room[x] = room[from]
+        if (block[x] = block[from]) holders[block[x]]++
+    } else if (type == "vec" && below(3)) {
+        says("vec from_elem " x " " one(type, part) " " n, "ok")
+        make(x, type, times(n, substr(part, 1, 5)), n)
+    } else {
+        says(type (type == "text" ? " from_str " : " from_list ") x " " several(type, part), "ok")
+        make(x, type, part, length(part) / unit[type])
+    }
+}
+
+# Random commands on few names.
+function random(    i, x, words) {
+    unit["vec"] = 5
+    unit["bytes"] = unit["text"] = 1
+    words = "capacity capacity len contents push pop insert remove truncate clear reserve "
+    words_of["vec"] = words "read write extend unique retain drain splice"
+    words_of["bytes"] = words "read write extend insert_slice"
+    words_of["text"] = words "push_str insert_str"
+    for (seed = i = 1; i < 10000; i++) {
+        pool["vec"] = pool["vec"] (below(4) ? 1000 + below(9000) : -100 - below(900)) ","
+        x = 97 + below(26)
+        code[sprintf("%c", x)] = x
+        pool["text"] = pool["bytes"] = pool["text"] sprintf("%c", x)
+    }
+    for (i = 1; i <= many / 2; i++) {
+        x = "n" below(9)
+        if (!(x in kind)) {
+            says("vec len " x, "refused no-name")
+            begin(x, counted ? "vec" : pick("vec bytes text"), "n" below(18))
+        } else if (below(10)) use(x, kind[x], pick(words_of[kind[x]]))
+        else {
+            says(kind[x] " new " x, "refused taken")
+            if (!counted) says((kind[x] == "vec" ? "text" : "vec") " len " x, "refused kind")
+            says(kind[x] " drop " x, "ok")
+            leave(x)
+            delete kind[x]
+        }
+    }
+    for (x in kind) says(kind[x] " contents " x, several(kind[x], held[x]))
+    ends(blocks, copied, moved)
+}
+
 BEGIN {
     if (!many) many = 70000
     if (part == "names") names()
@@ -313,5 +555,7 @@ BEGIN {
     else if (part == "sizes") sizes()
     else if (part == "line") line()
     else if (part == "prose") prose()
+    else if (part == "random") random()
+    else if (part == "memory") memory()
     else { print "there is no part " part > "/dev/stderr"; exit 1 }
 }

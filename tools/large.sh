@@ -10,7 +10,7 @@ trap 'rm -r "$work"' EXIT
 export LC_ALL=C
 
 lines=0
-for part in names owners list sizes line texts prose; do
+for part in names owners list sizes random memory line texts prose; do
     for counted in 0 1; do
         flag=
         [ "$counted" -eq 0 ] || flag=--counted
@@ -18,7 +18,8 @@ for part in names owners list sizes line texts prose; do
         case $part$counted in texts1 | prose1) continue ;; esac
         awk -v part="$part" -v counted="$counted" -v script="$work/script" -v answers="$work/wanted" -f tools/large.awk
         status=0
-        "$program" $flag "$work/script" > "$work/answers" || status=$?
+        # In kilobytes: what memory() needs, and less than half of that beside it.
+        ([ "$part" != memory ] || ulimit -v 48000; exec "$program" $flag "$work/script") > "$work/answers" || status=$?
         if [ "$status" -ne 0 ] || ! cmp "$work/answers" "$work/wanted"; then
             echo "the large script of $part${flag:+, with $flag}: status $status, other answers than by the rules"
             diff "$work/wanted" "$work/answers" | cut -c 1-200 | head -n 10

@@ -36,7 +36,7 @@ FILES = {
 # The first two stand on each of those crates.
 PROGRAMS = [f"ecow_{name}" for name in "c run uses cases costs value_faults store_faults".split()]
 
-ONCE = 'said=$("$0" < /dev/null) && ! echo "$said" | grep wrong'
+ONCE = 'said=$("$0" strict < /dev/null) && ! echo "$said" | grep wrong'
 LIBRARY = "tools/lib.sh atomic && PYTHON=none tools/c_short.sh"
 # What the gate tries: of which program or changed files, and how. The command gets the program.
 CHECKS = {

@@ -51,6 +51,12 @@ install ./python
 version=$(cd "$work" && "$run" -c 'import ecow, importlib.metadata as m; assert m.version("ecow") == ecow.__version__
 print(ecow.__version__)')
 [ "$version" = "$(cat VERSION)" ] || { echo "the package is of version $version"; exit 1; }
+"$run" -m zipfile -l "$work"/first/*.whl | sed '1d; s/ .*//' | sort > "$work/packed"
+{
+    git ls-files python/ecow | sed 's|^python/||'
+    echo ecow/_core.abi3.so
+    for file in METADATA RECORD WHEEL; do echo "ecow-$version.dist-info/$file"; done
+} | sort | diff - "$work/packed" || { echo "the package has other files (>)"; exit 1; }
 
 cp -r python/tests "$work/tests"
 (cd "$work/tests" && "$run" -m unittest > "$work/log" 2>&1) || { cat "$work/log"; exit 1; }

@@ -121,6 +121,13 @@ class Tagged(List):
     __slots__ = ("tag", "__dict__")
 
 
+class Index:
+    """A number, by an object that is made at each call."""
+
+    def __index__(self):
+        return int("9" * 15)
+
+
 class Given(unittest.TestCase):
     """Memory that is given back."""
 
@@ -142,6 +149,7 @@ class Given(unittest.TestCase):
             lambda: numbers.copy().__setitem__(slice(0, 9, 2), [1]), lambda: repr(numbers),
             lambda: numbers.copy().__delitem__(slice(0, 90, 3)), lambda: memoryview(numbers)[3:],
             lambda: numbers.index("x"), lambda: List([2**70]), lambda: list(numbers),
+            lambda: List([Index()]), lambda: numbers[Index()], lambda: data.find(Index()),
             lambda: data.copy().append(1), lambda: data[3:90], lambda: data.upper(),
             lambda: data.split(b"\0"), lambda: data.find(b"xyz"), lambda: data.find("x"),
             lambda: data + b"x" * 100, lambda: data == b"y" * 100, lambda: Bytes(["x"]),
@@ -204,7 +212,7 @@ class Given(unittest.TestCase):
             lambda: pickle.loads(pickle.dumps([List(range(99)), Texts(["x" * 99])])),
             lambda: pickle.loads(pickle.dumps([Value({"a": ["x" * 99]}), Text("x" * 99)])),
         )
-        rounds = max(400, EDITS // 10)
+        rounds = max(1000, EDITS // 10)
         for number, call in enumerate(calls):
             for _ in range(50):
                 outcome(call)

@@ -233,6 +233,34 @@ pub enum Counted {
     Many([Counting; 1000]),
 }
 
+/// An element that counts, of 72 bytes.
+#[derive(Clone, Drop)]
+pub struct Wide {
+    counting: Counting,
+    _rest: [u64; 7],
+}
+
+impl Element for Wide {
+    type Source = Tally;
+
+    type Array = ();
+
+    fn of(_alloc: Global, tally: &Tally, number: i64) -> Result<Self, AllocError> {
+        Ok(Wide {
+            counting: tally.numbered(number)?,
+            _rest: [0; 7],
+        })
+    }
+
+    fn number(&self) -> i64 {
+        self.counting.number
+    }
+
+    fn is_plain() -> bool {
+        false
+    }
+}
+
 impl Element for Counting {
     type Source = Tally;
 

@@ -19,7 +19,7 @@ use ecow_string::SmallText;
 use std::alloc::Global;
 use std::io;
 
-const NAMES: [&str; 24] = [
+const NAMES: [&str; 25] = [
     "vectors of numbers",
     "vectors of bytes",
     "vectors of names",
@@ -44,7 +44,18 @@ const NAMES: [&str; 24] = [
     "many owners",
     "vectors of elements of no bytes",
     "elements of no bytes, again and again",
+    "bytes and texts, others inline",
 ];
+
+/// Values with limits that no other row has. Of one of them requests are refused.
+fn limits_hold(alloc: Global, watch: &Watch) -> bool {
+    bytes_hold::<SmallBytes<64>>(alloc, watch)
+        && (!watch.is_strict()
+            || bytes_hold::<SmallBytes<7>>(alloc, watch)
+                && bytes_hold::<SmallBytes<31>>(alloc, watch)
+                && texts_hold::<SmallText<31>>(alloc, watch)
+                && texts_hold::<SmallText<64>>(alloc, watch))
+}
 
 struct Values;
 
@@ -74,7 +85,8 @@ impl Parts for Values {
             20 => seeds::values_hold(alloc, watch),
             21 => owners::owners_hold(alloc, watch),
             22 => vectors_hold::<()>(alloc, watch),
-            _ => units::units_hold(alloc, watch),
+            23 => units::units_hold(alloc, watch),
+            _ => limits_hold(alloc, watch),
         }
     }
 }
