@@ -1134,8 +1134,7 @@ public:
         return static_cast<char32_t>(character);
     }
 
-    /* Takes the character that begins at `index` and returns it. Throws std::out_of_range from the
-     * size on. */
+    /* Takes the character at `index` and returns it. Throws std::out_of_range from the size on. */
     char32_t take(size_type index) {
         std::uint32_t character = 0;
         detail::check(ecow_text_remove(&raw, index, &character));
@@ -1841,8 +1840,7 @@ public:
         detail::check(put(path, item));
     }
 
-    /* Puts an item in place of the one at `index` of a list. Throws std::out_of_range from the size
-     * on. */
+    /* Replaces the item at `index` of a list. Throws std::out_of_range from the size on. */
     void set(size_type index, const value &item) & {
         detail::check(ecow_value_set(&raw, index, &item.raw));
     }
@@ -1863,22 +1861,19 @@ public:
         detail::check(ecow_value_push(&raw, &item.raw));
     }
 
-    /* Takes the last item of a list and returns it. Throws std::out_of_range where there is
-     * none. */
+    /* Takes the last item of a list and returns it. Throws std::out_of_range if there is none. */
     value pop_back() {
         value item;
         detail::check(ecow_value_pop(&raw, &item.raw));
         return item;
     }
 
-    /* Puts an item in before the one at `index` of a list. Throws std::out_of_range past the
-     * size. */
+    /* Puts an item in before that at `index` of a list. Throws std::out_of_range past the size. */
     void insert(size_type index, const value &item) & {
         detail::check(ecow_value_insert(&raw, index, &item.raw));
     }
 
-    /* Takes the item at `index` of a list and returns it. Throws std::out_of_range from the size
-     * on. */
+    /* Takes the item at `index` and returns it. Throws std::out_of_range from the size on. */
     value take(size_type index) {
         value item;
         detail::check(ecow_value_remove(&raw, index, &item.raw));
@@ -2043,6 +2038,14 @@ private:
 
     /* Puts an item in place of the part to which the steps lead; ECOW_INDEX where there is none. */
     ecow_status put(const std::vector<step> &path, const value &item) {
+        if (path.size() == 1) {
+            value other(item);
+            const auto &name = path[0].name;
+            const ecow_status status =
+                name ? ecow_value_swap_field(&raw, name->data(), name->size(), &other.raw)
+                     : ecow_value_swap(&raw, path[0].index, &other.raw);
+            return status == ECOW_KIND ? ECOW_INDEX : status;
+        }
         value way = list();
         for (const step &each : path) {
             way.push_back(each.name ? value(*each.name)
@@ -2052,8 +2055,7 @@ private:
     }
 };
 
-/* The parts of a value as they were, which are read as clones. Its iterators are valid while it
- * is there. */
+/* The parts of a value as they were, read as clones. Its iterators are valid while it is there. */
 template <typename Part> class value::parts {
 public:
     class iterator : public detail::indexed<iterator, value, Part> {
