@@ -572,8 +572,8 @@ ecow_status ecow_value_get_field(const ecow_value *value, const char *name, size
 ecow_status ecow_value_set_field(ecow_value *value, const char *name, size_t count,
                                  const ecow_value *item);
 
-/* Appends a field, and looks for none of that name, so it takes no longer where there are many. Of a
- * name that stands twice, calls by the name mean the first. */
+/* Appends a field, and looks for none of that name. Of a name that stands twice, calls by it mean the
+ * first. */
 ecow_status ecow_value_push_field(ecow_value *value, const char *name, size_t count,
                                   const ecow_value *item);
 

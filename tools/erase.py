@@ -62,7 +62,8 @@ CONST = {
     "ecow_block/parts.rt": ["no_parts"],
     "ecow_block/room/heads.rt": ["no_head"],
     "ecow_block/room/heap.rt": ["nowhere"],
-    "ecow_nested/nested.rt": ["new"],
+    "ecow_nested/fields.rt": ["new"],
+    "ecow_nested/value/make.rt": ["new_list", "new_fields"],
     "ecow_shared/shared.rt": ["new", "hold", "none"],
     "ecow_list/vec.rt": ["new"],
 }

@@ -70,12 +70,12 @@ impl Value {
 
     /// A list of no items.
     pub const fn new_list() -> Self {
-        Value(proved::Value::List(proved::Nested::new(Global)))
+        Value(proved::Value::new_list(Global))
     }
 
     /// A value with no fields.
     pub const fn new_fields() -> Self {
-        Value(proved::Value::Fields(proved::Nested::new(Global)))
+        Value(proved::Value::new_fields(Global))
     }
 
     /// A clone, as [`Clone::clone`] makes it: `Error::Memory` past 2^63 - 1 owners.

@@ -13,7 +13,7 @@ use crate::status::{
     status,
 };
 use crate::text::to_str;
-use ecow_nested::{Kind, MAX_DEPTH, Nested, Value};
+use ecow_nested::{Kind, MAX_DEPTH, Value};
 use std::alloc::Global;
 
 /// Puts `new` in place of the value.
@@ -110,7 +110,7 @@ pub extern "C" fn ecow_proved_value_set_list(alloc: Global, pointer: &mut ValueP
     ensures depth { result ≡ OK → depth_at pointer.new.value ≡ 1 }
     ensures statuses { IsAmong (OK ∷ NULL ∷ []) result }
 {
-    assign(pointer, Value::List(Nested::new(alloc)))
+    assign(pointer, Value::new_list(alloc))
 }
 
 /// Makes it a value with no fields.
@@ -120,7 +120,7 @@ pub extern "C" fn ecow_proved_value_set_fields(alloc: Global, pointer: &mut Valu
     ensures depth { result ≡ OK → depth_at pointer.new.value ≡ 1 }
     ensures statuses { IsAmong (OK ∷ NULL ∷ []) result }
 {
-    assign(pointer, Value::Fields(Nested::new(alloc)))
+    assign(pointer, Value::new_fields(alloc))
 }
 
 /// Writes the truth value to `out`.

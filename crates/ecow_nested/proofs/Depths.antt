@@ -1,11 +1,14 @@
 -- What a change of a list, or of fields, makes of the largest depth of the parts.
-use Rattle.std.proofs.Common.{arith, ◌≡◌, ◌≤◌, ◌<◌, ◌+◌, ℕ, zero, suc, max, Bool, true, false, cond, List, [], ◌∷◌, ◌++◌, map, length, take, get_or, slice_get, slice_set, Some, ap, ◌∙◌}
+use Rattle.std.proofs.Common.{arith, ◌≡◌, ◌≤◌, ◌<◌, ◌+◌, ℕ, zero, suc, max, true, false, cond, List, [], ◌∷◌, ◌++◌, map, length, take, get_or, slice_get, slice_set, Some, refl, ap, ◌∙◌}
 use Rattle.std.proofs.lemmas.Option.{none-some, same_Some}
 use Rattle.std.specs.List.{insert, remove}
 use Rattle.std.proofs.lemmas.List.{take_all}
 use Rattle.ecow_nested.specs.Depths.{largest}
-use Rattle.ecow_nested.specs.Values.{deepest_field, depth_of, has_name, with_field, without_field}
-use Rattle.ecow_nested.specs.declared.value.Field.{Field}
+use Rattle.ecow_nested.specs.Names.{has_name}
+use Rattle.ecow_nested.specs.Values.{deepest_field, depth_of, field_depth, with_field, without_field}
+use Rattle.ecow_nested.specs.Index.{fields_in}
+use Rattle.ecow_nested.specs.declared.fields.Entry.{Entry}
+use Rattle.ecow_nested.specs.declared.fields.Field.{Field}
 use Rattle.ecow_nested.specs.declared.value.Value.{Value}
 
 module _ {X : Type 0} (f : X → ℕ) where
@@ -61,11 +64,11 @@ module _ {X : Type 0} (f : X → ℕ) where
   removed_less (y ∷ ys) zero = omega arith
   removed_less (y ∷ ys) (suc i) = omega (arith, removed_less ys i)
 
-pub with_less : (name : List ℕ) (value : Value) (fs : List Field)
+pub with_less : (name : List ℕ) (value : Value) (fs : List (Field Value))
     → deepest_field (with_field name value fs) ≤ max (deepest_field fs) (depth_of value)
 with_less name value [] = omega arith
 with_less name value (f ∷ fs) =
-    let renewed : Field = record { name = f.name; value = value } in
+    let renewed : Field Value = record { name = f.name; value = value } in
     elim (has_name name f) as (λ b.
     deepest_field (cond b (renewed ∷ fs) (f ∷ with_field name value fs))
     ≤ max (deepest_field (f ∷ fs)) (depth_of value)) [
@@ -73,7 +76,7 @@ with_less name value (f ∷ fs) =
       | false ↦ omega (arith, with_less name value fs)
     ]
 
-pub without_less : (name : List ℕ) (fs : List Field)
+pub without_less : (name : List ℕ) (fs : List (Field Value))
     → deepest_field (without_field name fs) ≤ deepest_field fs
 without_less name [] = omega arith
 without_less name (f ∷ fs) =
@@ -82,3 +85,8 @@ without_less name (f ∷ fs) =
       | true ↦ omega arith
       | false ↦ omega (arith, without_less name fs)
     ]
+
+pub entry_depths : (entries : List (Entry Value))
+    → largest (map (λ e. field_depth e.field) entries) ≡ deepest_field (fields_in entries)
+entry_depths [] = refl
+entry_depths (e ∷ es) = ap (max (field_depth e.field)) (entry_depths es)

@@ -1,26 +1,37 @@
 -- The equations of equality, and its steps along two lists.
-use Rattle.std.proofs.Common.{◌≡◌, ◌≢◌, ℕ, zero, suc, ◌<◌, Bool, true, false, ◌&&◌, List, [], ◌∷◌, length, get_or, map, drop, refl, sym, ap, ◌∙◌, arith}
+use Rattle.std.proofs.Common.{◌≡◌, ◌≢◌, ℕ, zero, suc, ◌<◌, ◌+◌, slice_get, Some, Bool, true, false, ◌&&◌, List, [], ◌∷◌, length, get_or, map, drop, refl, sym, ap, ◌∙◌, arith}
+use Rattle.std.specs.Str.{bytes_eq, encode_utf8_all}
 use Rattle.std.proofs.lemmas.List.{length-map}
-use Rattle.ecow_nested.specs.Values.{value_step, field_step, eq_in, each_holds, value_eq, field_eq}
+use Rattle.std.proofs.lemmas.Option.{get_or_from_slice_get, slice_get_within}
+use Rattle.ecow_nested.specs.Values.{value_step, field_test, eq_in, each_holds, value_eq, field_eq}
 use Rattle.ecow_nested.specs.declared.nested.Nested.{Nested}
-use Rattle.ecow_nested.specs.declared.value.Field.{Field}
+use Rattle.ecow_nested.specs.declared.fields.Field.{Field}
 use Rattle.ecow_nested.specs.declared.value.Value.{Value, out-Value}
 use Rattle.ecow_nested.specs.declared.value.Value.TheOpen.{Value-F}
 use Rattle.ecow_nested.specs.declared.value.Value.TheFolds.{fold_out-Value}
 
-pub equal_items : (x y : Value) (xs ys : Nested Value) → out-Value x ≡ Value-F.List xs
+-- a field with a test in the place of its value
+abbrev tested : Field Value → Field (Value → Bool)
+tested f = record { name = f.name; value = value_eq f.value }
+
+pub equal_items : (x y : Value) (xs ys : Nested (List Value)) → out-Value x ≡ Value-F.List xs
     → out-Value y ≡ Value-F.List ys → value_eq x y ≡ each_holds (map value_eq xs.items) ys.items
 equal_items x y xs ys a b =
-    let h = fold_out-Value (Value → Bool) (Field → Bool) value_step field_step x in
+    let h = fold_out-Value (Value → Bool) value_step x in
     ap (λ (test : Value → Bool). test y) (rw a at h) ∙ ap (eq_in (Value-F.List (record { items = map value_eq xs.items; depth = xs.depth }))) b
 
-pub equal_fields : (x y : Value) (xs ys : Nested Field) → out-Value x ≡ Value-F.Fields xs
+tests_of : (fs : List (Field Value)) → map field_test (map tested fs) ≡ map field_eq fs
+tests_of [] = refl
+tests_of (f ∷ fs) = ap (λ tests. field_eq f ∷ tests) (tests_of fs)
+
+pub equal_fields : (x y : Value) (xs ys : Nested (List (Field Value))) → out-Value x ≡ Value-F.Fields xs
     → out-Value y ≡ Value-F.Fields ys → value_eq x y ≡ each_holds (map field_eq xs.items) ys.items
 equal_fields x y xs ys a b =
-    let h = fold_out-Value (Value → Bool) (Field → Bool) value_step field_step x in
-    ap (λ (test : Value → Bool). test y) (rw a at h) ∙ ap (eq_in (Value-F.Fields (record { items = map field_eq xs.items; depth = xs.depth }))) b
+    let h = fold_out-Value (Value → Bool) value_step x in
+    ap (λ (test : Value → Bool). test y) (rw a at h) ∙ ap (eq_in (Value-F.Fields (record { items = map tested xs.items; depth = xs.depth }))) b
+    ∙ ap (λ tests. each_holds tests ys.items) (tests_of xs.items)
 
-and_false : (b : Bool) → (b && false) ≡ false
+pub and_false : (b : Bool) → (b && false) ≡ false
 and_false true = refl
 and_false false = refl
 
@@ -40,3 +51,14 @@ module _ {X : Type 0} where
   each_step eq (x ∷ xs) [] i d e a b = absurd (omega (arith, b))
   each_step eq (x ∷ xs) (y ∷ ys) zero d e a b = refl
   each_step eq (x ∷ xs) (y ∷ ys) (suc i) d e a b = each_step eq xs ys i d e (omega (arith, a)) (omega (arith, b))
+
+-- one step along the fields
+pub next_fields : (xs ys : List (Field Value)) (i : ℕ) (x y : Field Value) → slice_get xs i ≡ Some x → slice_get ys i ≡ Some y
+    → each_holds (map field_eq (drop i xs)) (drop i ys)
+    ≡ (bytes_eq (encode_utf8_all x.name.chars) (encode_utf8_all y.name.chars) && value_eq x.value y.value)
+    && each_holds (map field_eq (drop (i + 1) xs)) (drop (i + 1) ys)
+next_fields xs ys i x y left right =
+    let one : suc i ≡ i + 1 = omega arith in
+    each_step field_eq xs ys i x y (slice_get_within xs i x left) (slice_get_within ys i y right)
+    ∙ (λ k. field_eq (get_or_from_slice_get xs i x x left k) (get_or_from_slice_get ys i y y right k)
+    && each_holds (map field_eq (drop (one k) xs)) (drop (one k) ys))

@@ -1,6 +1,7 @@
 pub mod Depths
 pub mod Equality
-pub mod Fields
+pub mod Index
+pub mod Lookups
 pub mod Parts
 pub mod Paths
 pub mod Reflexive

@@ -1,7 +1,6 @@
 -- What a container holds, as a search reads it.
 use Rattle.std.proofs.Common.{rules, ◌≡◌, ℕ, List}
-use Rattle.ecow_nested.specs.declared.nested.Nested.{Nested}
-use Rattle.ecow_nested.specs.declared.value.Field.{Field}
+use Rattle.ecow_nested.specs.declared.fields.Field.{Field}
 use Rattle.ecow_nested.specs.declared.value.Value.{Value, out-Value}
 use Rattle.ecow_nested.specs.declared.value.Value.TheOpen.{Value-F}
 use Rattle.ecow_nested.specs.declared.value.Value.TheViews as views
@@ -12,7 +11,7 @@ pub out_of_list : (items : List Value) (depth : ℕ)
     ≡ Value-F.List (record { items = items; depth = depth })
 out_of_list items depth = search (rules, the_lemmas)
 
-pub out_of_fields : (fields : List Field) (depth : ℕ)
+pub out_of_fields : (fields : List (Field Value)) (depth : ℕ)
     → out-Value (views.Fields (record { items = fields; depth = depth }))
     ≡ Value-F.Fields (record { items = fields; depth = depth })
 out_of_fields fields depth = search (rules, the_lemmas)

@@ -8,10 +8,11 @@ use Rattle.std.proofs.lemmas.Option.{none-some, slice_get_within}
 use Rattle.std.proofs.lemmas.Str.{encodes_same}
 use Rattle.ecow_base.specs.declared.plain.PlainText.{PlainText}
 use Rattle.ecow_list.proofs.Places.{get_set, get_set_other}
-use Rattle.ecow_nested.proofs.Fields.{renewed}
+use Rattle.ecow_nested.proofs.Lookups.{renewed}
 use Rattle.ecow_nested.specs.Paths.{part_at, value_at, HasPart, IsSet, AreApart, AreSame, IsApart}
-use Rattle.ecow_nested.specs.Values.{items_of, fields_of, value_in, has_name, look_up, with_field}
-use Rattle.ecow_nested.specs.declared.value.Field.{Field}
+use Rattle.ecow_nested.specs.Names.{has_name}
+use Rattle.ecow_nested.specs.Values.{items_of, fields_of, value_in, look_up, with_field}
+use Rattle.ecow_nested.specs.declared.fields.Field.{Field}
 use Rattle.ecow_nested.specs.declared.value.paths.Step.{Step}
 use Rattle.ecow_nested.specs.declared.value.paths.Step.TheVariants as step
 use Rattle.ecow_nested.specs.declared.value.Value.{Value, out-Value}
@@ -32,7 +33,7 @@ item_elsewhere None i j after apart = refl
 item_elsewhere (Some items) i j after apart = get_set_other items i j after (λ same. apart (sym same))
 
 -- another value in the first field of a name
-look_there : (name : List ℕ) (fs : List Field) (before after : Value) → look_up name fs ≡ Some before → look_up name (with_field name after fs) ≡ Some after
+look_there : (name : List ℕ) (fs : List (Field Value)) (before after : Value) → look_up name fs ≡ Some before → look_up name (with_field name after fs) ≡ Some after
 look_there name [] before after found = absurd (none-some before found)
 look_there name (f ∷ fs) before after found =
     elim (has_name name f) as (λ b. has_name name f ≡ b → value_in (cond b (Some f) (find (has_name name) fs)) ≡ Some before
@@ -46,12 +47,12 @@ is_false : (b : Bool) → (b ≡ true → ⊥) → b ≡ false
 is_false true never = absurd (never refl)
 is_false false never = refl
 
-value_behind : (b : Bool) (f : Field) (x y : Option Field) → value_in x ≡ value_in y → value_in (cond b (Some f) x) ≡ value_in (cond b (Some f) y)
+value_behind : (b : Bool) (f : Field Value) (x y : Option (Field Value)) → value_in x ≡ value_in y → value_in (cond b (Some f) x) ≡ value_in (cond b (Some f) y)
 value_behind true f x y same = refl
 value_behind false f x y same = same
 
-module _ (name other : List ℕ) (apart : (f : Field) → has_name name f ≡ true → has_name other f ≡ true → ⊥) where
-  look_elsewhere : (fs : List Field) (before after : Value) → look_up name fs ≡ Some before
+module _ (name other : List ℕ) (apart : (f : Field Value) → has_name name f ≡ true → has_name other f ≡ true → ⊥) where
+  look_elsewhere : (fs : List (Field Value)) (before after : Value) → look_up name fs ≡ Some before
       → look_up other (with_field name after fs) ≡ look_up other fs
   look_elsewhere [] before after found = absurd (none-some before found)
   look_elsewhere (f ∷ fs) before after found =
@@ -66,31 +67,31 @@ module _ (name other : List ℕ) (apart : (f : Field) → has_name name f ≡ tr
             (look_elsewhere fs before after found)
       ] refl found
 
-field_there : (o : Option (List Field)) (name : List ℕ) (before after : Value) → option_and_then (look_up name) o ≡ Some before
+field_there : (o : Option (List (Field Value))) (name : List ℕ) (before after : Value) → option_and_then (look_up name) o ≡ Some before
     → option_and_then (look_up name) (option_map (with_field name after) o) ≡ Some after
 field_there None name before after found = absurd (none-some before found)
 field_there (Some fs) name before after found = look_there name fs before after found
 
-field_elsewhere : (o : Option (List Field)) (name other : List ℕ) (before after : Value)
-    → ((f : Field) → has_name name f ≡ true → has_name other f ≡ true → ⊥) → option_and_then (look_up name) o ≡ Some before
+field_elsewhere : (o : Option (List (Field Value))) (name other : List ℕ) (before after : Value)
+    → ((f : Field Value) → has_name name f ≡ true → has_name other f ≡ true → ⊥) → option_and_then (look_up name) o ≡ Some before
     → option_and_then (look_up other) (option_map (with_field name after) o) ≡ option_and_then (look_up other) o
 field_elsewhere None name other before after apart found = refl
 field_elsewhere (Some fs) name other before after apart found = look_elsewhere name other apart fs before after found
 
 -- a field has the characters of its name
-named : (name : PlainText) (f : Field) → has_name (encode_utf8_all name.chars) f ≡ true → f.name.chars ≡ name.chars
+named : (name : PlainText) (f : Field Value) → has_name (encode_utf8_all name.chars) f ≡ true → f.name.chars ≡ name.chars
 named name f has =
     let same = bytes_decides (encode_utf8_all f.name.chars) (encode_utf8_all name.chars) in
     encodes_same f.name.chars name.chars (same.0 has)
 
 -- what has items has no fields, and the other way round
-abbrev items_in : Value-F Value Field → Option (List Value)
+abbrev items_in : Value-F Value → Option (List Value)
 items_in layer = elim layer [ Value-F.List nested ↦ Some nested.items | _ ↦ None ]
 
-abbrev fields_in : Value-F Value Field → Option (List Field)
+abbrev fields_in : Value-F Value → Option (List (Field Value))
 fields_in layer = elim layer [ Value-F.Fields nested ↦ Some nested.items | _ ↦ None ]
 
-one_of_both : (layer : Value-F Value Field) (items : List Value) (fields : List Field) → items_in layer ≡ Some items → fields_in layer ≡ Some fields → ⊥
+one_of_both : (layer : Value-F Value) (items : List Value) (fields : List (Field Value)) → items_in layer ≡ Some items → fields_in layer ≡ Some fields → ⊥
 one_of_both (Value-F.List nested) xs fs has_items has_fields = none-some fs has_fields
 one_of_both (Value-F.Fields nested) xs fs has_items has_fields = none-some xs has_items
 one_of_both Value-F.Nothing xs fs has_items has_fields = none-some xs has_items
@@ -127,13 +128,13 @@ part_elsewhere (step.Name name) (step.Name other) before after old new found has
 part_elsewhere (step.Index i) (step.Name name) before after old new found has apart =
     let is = found_in (items_of old) (item_at i) before found in
     let look = look_up (encode_utf8_all name.chars) in
-    let never = λ (value : Value) (xs : List Value) (e : items_of value ≡ Some xs) (fs : List Field) (d : fields_of value ≡ Some fs). one_of_both (out-Value value) xs fs e d in
+    let never = λ (value : Value) (xs : List Value) (e : items_of value ≡ Some xs) (fs : List (Field Value)) (d : fields_of value ≡ Some fs). one_of_both (out-Value value) xs fs e d in
     leads_nowhere (items_of new) (fields_of new) look (never new) (slice_set is.0 i after) (has ∙ ap (option_map (λ items. slice_set items i after)) is.1)
     ∙ sym (leads_nowhere (items_of old) (fields_of old) look (never old) is.0 is.1)
 part_elsewhere (step.Name name) (step.Index j) before after old new found has apart =
     let bytes = encode_utf8_all name.chars in
     let is = found_in (fields_of old) (look_up bytes) before found in
-    let never = λ (value : Value) (fs : List Field) (d : fields_of value ≡ Some fs) (xs : List Value) (e : items_of value ≡ Some xs). one_of_both (out-Value value) xs fs e d in
+    let never = λ (value : Value) (fs : List (Field Value)) (d : fields_of value ≡ Some fs) (xs : List Value) (e : items_of value ≡ Some xs). one_of_both (out-Value value) xs fs e d in
     leads_nowhere (fields_of new) (items_of new) (item_at j) (never new) (with_field bytes after is.0) (has ∙ ap (option_map (with_field bytes after)) is.1)
     ∙ sym (leads_nowhere (fields_of old) (items_of old) (item_at j) (never old) is.0 is.1)
 

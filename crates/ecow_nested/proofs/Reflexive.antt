@@ -8,18 +8,15 @@ use Rattle.std.specs.Str.{bytes_eq, encode_utf8_all}
 use Rattle.std.proofs.lemmas.Float.{le_refl, lt_irrefl, lt-or-eq}
 use Rattle.std.proofs.lemmas.Slice.Eq.{bytes_eq-Decides}
 use Rattle.std.proofs.lemmas.Bool.Decides.{Decides-int_eq}
-use Rattle.ecow_nested.specs.Values.{value_step, field_step, eq_in, real_eq, each_holds, value_eq, field_eq}
-use Rattle.ecow_nested.specs.declared.value.Field.{Field}
+use Rattle.ecow_nested.specs.Values.{value_step, field_test, eq_in, real_eq, each_holds, value_eq}
+use Rattle.ecow_nested.specs.declared.fields.Field.{Field}
 use Rattle.ecow_nested.specs.declared.value.Value.{Value, out-Value}
 use Rattle.ecow_nested.specs.declared.value.Value.TheOpen.{Value-F}
-use Rattle.ecow_nested.specs.declared.value.Value.TheViews.{roll-Value, roll-Field, the_lemmas}
-use Rattle.ecow_nested.specs.declared.value.Value.TheFolds.{ind-Value, map-Value, map-Field, fold-roll-Value, fold-roll-Field}
+use Rattle.ecow_nested.specs.declared.value.Value.TheViews.{roll-Value, the_lemmas}
+use Rattle.ecow_nested.specs.declared.value.Value.TheFolds.{ind-Value, map-Value, fold-roll-Value}
 
 abbrev IsSelfEqual : Value → Type 0
 IsSelfEqual v = value_eq v v ≡ true
-
-abbrev IsSelfEqualField : Field → Type 0
-IsSelfEqualField f = field_eq f f ≡ true
 
 truth_same : (b : Bool) → (if b then b else not b) ≡ true
 truth_same true = refl
@@ -48,18 +45,21 @@ real_same x =
 text_same : (bytes : List ℕ) → bytes_eq bytes bytes ≡ true
 text_same bytes = (bytes_eq-Decides bytes bytes).1 refl
 
-module _ {E E' : Type 0} (val : E → Value) (fld : E' → Field) (same : (e : E) → IsSelfEqual (val e)) (same' : (e : E') → IsSelfEqualField (fld e)) where
+module _ {E : Type 0} (val : E → Value) (same : (e : E) → IsSelfEqual (val e)) where
   each_same : (es : List E) → each_holds (map value_eq (map val es)) (map val es) ≡ true
   each_same [] = refl
   each_same (e ∷ es) = λ i. same e i && each_same es i
 
-  each_field_same : (es : List E') → each_holds (map field_eq (map fld es)) (map fld es) ≡ true
-  each_field_same [] = refl
-  each_field_same (e ∷ es) = λ i. same' e i && each_field_same es i
+  abbrev on_field : {X Y : Type 0} → (X → Y) → Field X → Field Y
+  on_field h f = record { name = f.name; value = h f.value }
 
-  all_same : (y : Value-F E E')
-      → eq_in (map-Value Value Field (Value → Bool) (Field → Bool) value_eq field_eq (map-Value E E' Value Field val fld y))
-      (map-Value E E' Value Field val fld y) ≡ true
+  each_field_same : (fs : List (Field E))
+      → each_holds (map field_test (map (on_field value_eq) (map (on_field val) fs))) (map (on_field val) fs) ≡ true
+  each_field_same [] = refl
+  each_field_same (f ∷ fs) = λ i. (text_same (encode_utf8_all f.name.chars) i && same f.value i) && each_field_same fs i
+
+  all_same : (y : Value-F E)
+      → eq_in (map-Value Value (Value → Bool) value_eq (map-Value E Value val y)) (map-Value E Value val y) ≡ true
   all_same Value-F.Nothing = refl
   all_same (Value-F.Truth truth) = truth_same truth
   all_same (Value-F.Number number) = (Decides-int_eq number number).1 refl
@@ -68,19 +68,14 @@ module _ {E E' : Type 0} (val : E → Value) (fld : E' → Field) (same : (e : E
   all_same (Value-F.List nested) = each_same nested.items
   all_same (Value-F.Fields nested) = each_field_same nested.items
 
-out_of_roll : (x : Value-F Value Field) → out-Value (roll-Value x) ≡ x
+out_of_roll : (x : Value-F Value) → out-Value (roll-Value x) ≡ x
 out_of_roll x = search (rules, the_lemmas)
 
 pub value_eq_self : (v : Value) → value_eq v v ≡ true
-value_eq_self = ind-Value IsSelfEqual IsSelfEqualField
+value_eq_self = ind-Value IsSelfEqual
     (λ x y is.
-    let h = fold-roll-Value (Value → Bool) (Field → Bool) value_step field_step x in
+    let h = fold-roll-Value (Value → Bool) value_step x in
     ap (λ (test : Value → Bool). test (roll-Value x)) h
-    ∙ ap (eq_in (map-Value Value Field (Value → Bool) (Field → Bool) value_eq field_eq x)) (out_of_roll x)
-    ∙ subst (λ z. eq_in (map-Value Value Field (Value → Bool) (Field → Bool) value_eq field_eq z) z ≡ true) is
-    (all_same (λ e. e.0) (λ e. e.0) (λ e. e.1) (λ e. e.1) y))
-    (λ x y is.
-    let h = fold-roll-Field (Value → Bool) (Field → Bool) value_step field_step x in
-    ap (λ (test : Field → Bool). test (roll-Field x)) h
-    ∙ subst (λ z. field_step (map-Field Value Field (Value → Bool) (Field → Bool) value_eq field_eq z) (roll-Field z) ≡ true) is
-    (λ i. text_same (encode_utf8_all y.name.chars) i && y.value.1 i))
+    ∙ ap (eq_in (map-Value Value (Value → Bool) value_eq x)) (out_of_roll x)
+    ∙ subst (λ z. eq_in (map-Value Value (Value → Bool) value_eq z) z ≡ true) is
+    (all_same (λ e. e.0) (λ e. e.1) y))

@@ -9,16 +9,17 @@ use Rattle.ecow_base.specs.Inline.{inline_for}
 use Rattle.ecow_base.specs.Plain.{plain_text}
 use Rattle.ecow_base.specs.declared.plain.PlainText.{PlainText}
 use Rattle.ecow_nested.specs.Depths.{largest}
+use Rattle.ecow_nested.specs.Names.{has_name}
 use Rattle.ecow_nested.specs.declared.refusal.Refusal.{Refusal}
 use Rattle.ecow_nested.specs.declared.refusal.Refusal.TheVariants as refused
 use Rattle.ecow_nested.specs.declared.value.Kind.{Kind}
 use Rattle.ecow_nested.specs.declared.value.Kind.TheVariants as kind
 use Rattle.ecow_nested.specs.declared.value.Value.{Value, out-Value}
-use Rattle.ecow_nested.specs.declared.value.Value.TheOpen.{Value-F, Field-F}
-use Rattle.ecow_nested.specs.declared.value.Value.TheFolds.{fold-Value, fold-Field}
-use Rattle.ecow_nested.specs.declared.value.Field.{Field}
+use Rattle.ecow_nested.specs.declared.value.Value.TheOpen.{Value-F}
+use Rattle.ecow_nested.specs.declared.value.Value.TheFolds.{fold-Value}
+use Rattle.ecow_nested.specs.declared.fields.Field.{Field}
 
-abbrev pub kind_in : {A B : Type 0} → Value-F A B → Kind
+abbrev pub kind_in : {A : Type 0} → Value-F A → Kind
 kind_in Value-F.Nothing = kind.Nothing
 kind_in (Value-F.Truth truth) = kind.Truth
 kind_in (Value-F.Number number) = kind.Number
@@ -47,7 +48,7 @@ text_of value = elim (out-Value value) [ Value-F.Text text ↦ Some text | _ ↦
 abbrev pub items_of : Value → Option (List Value)
 items_of value = elim (out-Value value) [ Value-F.List nested ↦ Some nested.items | _ ↦ None ]
 
-abbrev pub fields_of : Value → Option (List Field)
+abbrev pub fields_of : Value → Option (List (Field Value))
 fields_of value = elim (out-Value value) [ Value-F.Fields nested ↦ Some nested.items | _ ↦ None ]
 
 -- how deep a value nests, as it says: 0 of what is no container
@@ -63,10 +64,10 @@ depth_of value =
 abbrev pub deepest : List Value → ℕ
 deepest items = largest (map depth_of items)
 
-abbrev pub field_depth : Field → ℕ
+abbrev pub field_depth : Field Value → ℕ
 field_depth field = depth_of field.value
 
-abbrev pub deepest_field : List Field → ℕ
+abbrev pub deepest_field : List (Field Value) → ℕ
 deepest_field fields = largest (map field_depth fields)
 
 -- a container nests deeper than each of its parts
@@ -92,10 +93,10 @@ len_of value =
     ]
 
 -- the value, and the name, of a field that is there
-abbrev pub value_in : Option Field → Option Value
+abbrev pub value_in : Option (Field Value) → Option Value
 value_in field = option_map (λ f. f.value) field
 
-abbrev pub name_in : Option Field → Option PlainText
+abbrev pub name_in : Option (Field Value) → Option PlainText
 name_in field = option_map (λ f. f.name) field
 
 -- the item of a list, or the value of a field, at the index
@@ -128,18 +129,14 @@ pub record EditsItems {R : Type 0} (change : List Value → List Value) (old : V
   pub kind : IsErrOf result refused.Kind ↔ (items_of old ≡ None)
 
 -- the same of fields
-pub record EditsFields {R : Type 0} (change : List Field → List Field) (old : Value)
+pub record EditsFields {R : Type 0} (change : List (Field Value) → List (Field Value)) (old : Value)
     (result : Result R Refusal) (new : Value) : Type 0 where
   pub ok : OnOk result (fields_of new ≡ option_map change (fields_of old))
   pub unchanged : OnErr result (new ≡ old)
   pub kind : IsErrOf result refused.Kind ↔ (fields_of old ≡ None)
 
--- whether a field has the name, which is given by its bytes
-abbrev pub has_name : List ℕ → Field → Bool
-has_name name field = bytes_eq (encode_utf8_all field.name.chars) name
-
 -- the value of the first field of that name
-abbrev pub look_up : List ℕ → List Field → Option Value
+abbrev pub look_up : List ℕ → List (Field Value) → Option Value
 look_up name fields = value_in (find (has_name name) fields)
 
 -- the text of a new field's name
@@ -147,18 +144,18 @@ abbrev pub name_of : List ℕ → PlainText
 name_of name = plain_text (chars name) (inline_for 15 (length name))
 
 -- a new field
-abbrev pub new_field : List ℕ → Value → Field
+abbrev pub new_field : List ℕ → Value → Field Value
 new_field name value = record { name = name_of name; value = value }
 
 -- the fields with another value in the first one of that name, or with one more field
-abbrev pub with_field : List ℕ → Value → List Field → List Field
+abbrev pub with_field : List ℕ → Value → List (Field Value) → List (Field Value)
 with_field name value [] = new_field name value ∷ []
 with_field name value (f ∷ fs) =
     if has_name name f then record { name = f.name; value = value } ∷ fs
     else f ∷ with_field name value fs
 
 -- the fields without the first one of that name
-abbrev pub without_field : List ℕ → List Field → List Field
+abbrev pub without_field : List ℕ → List (Field Value) → List (Field Value)
 without_field name [] = []
 without_field name (f ∷ fs) = if has_name name f then fs else f ∷ without_field name fs
 
@@ -173,8 +170,14 @@ each_holds (test ∷ tests) (x ∷ xs) = test x && each_holds tests xs
 abbrev pub real_eq : Float → Float → Bool
 real_eq x y = eq x y || (is_nan x && is_nan y)
 
+-- a field has a name, and its value passes the test beside it
+abbrev pub field_test : Field (Value → Bool) → Field Value → Bool
+field_test test field =
+    bytes_eq (encode_utf8_all test.name.chars) (encode_utf8_all field.name.chars)
+    && test.value field.value
+
 -- one value is equal to another, by tests in the places of its parts
-abbrev pub eq_in : Value-F (Value → Bool) (Field → Bool) → Value-F Value Field → Bool
+abbrev pub eq_in : Value-F (Value → Bool) → Value-F Value → Bool
 eq_in Value-F.Nothing Value-F.Nothing = true
 eq_in (Value-F.Truth x) (Value-F.Truth y) = if x then y else not y
 eq_in (Value-F.Number x) (Value-F.Number y) = int_eq x y
@@ -182,22 +185,18 @@ eq_in (Value-F.Real x) (Value-F.Real y) = real_eq x y
 eq_in (Value-F.Text x) (Value-F.Text y) =
     bytes_eq (encode_utf8_all x.chars) (encode_utf8_all y.chars)
 eq_in (Value-F.List tests) (Value-F.List nested) = each_holds tests.items nested.items
-eq_in (Value-F.Fields tests) (Value-F.Fields nested) = each_holds tests.items nested.items
+eq_in (Value-F.Fields tests) (Value-F.Fields nested) =
+    each_holds (map field_test tests.items) nested.items
 eq_in _ _ = false
 
-abbrev pub value_step : Value-F (Value → Bool) (Field → Bool) → Value → Bool
+abbrev pub value_step : Value-F (Value → Bool) → Value → Bool
 value_step tests value = eq_in tests (out-Value value)
-
-abbrev pub field_step : Field-F (Value → Bool) (Field → Bool) → Field → Bool
-field_step test field =
-    bytes_eq (encode_utf8_all test.name.chars) (encode_utf8_all field.name.chars)
-    && test.value field.value
 
 -- values of one kind that hold the same, item by item and field by field, whatever the modes of
 -- their texts
 abbrev pub value_eq : Value → Value → Bool
-value_eq = fold-Value (Value → Bool) (Field → Bool) value_step field_step
+value_eq = fold-Value (Value → Bool) value_step
 
 -- the same of fields
-abbrev pub field_eq : Field → Field → Bool
-field_eq = fold-Field (Value → Bool) (Field → Bool) value_step field_step
+abbrev pub field_eq : Field Value → Field Value → Bool
+field_eq field = field_test (record { name = field.name; value = value_eq field.value })

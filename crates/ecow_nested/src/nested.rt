@@ -1,9 +1,11 @@
 //! `Nested`: the items of a container, and how deep they nest.
-ghost use Rattle.std.specs.Prelude.{◌≡◌, ◌+◌, ◌<◌, ◌≤◌, ℕ, [], map, max, min};
+ghost use Rattle.std.specs.Prelude.{◌≡◌, ◌+◌, ◌<◌, ◌≤◌, ℕ, map, max, min};
 ghost use Rattle.ecow_nested.specs.Depths.{largest};
 
+use crate::fields::Fields;
+use crate::value::Value;
 use ecow_list::EcoVec;
-use std::alloc::{AllocError, Global};
+use std::alloc::AllocError;
 
 /// How deep a value may nest. What recurs into the deepest needs less than 128 KiB of stack.
 pub const MAX_DEPTH: u32 = 512;
@@ -11,25 +13,12 @@ pub const MAX_DEPTH: u32 = 512;
 /// The items of a list, or fields, and how deep the container nests: one more than the deepest
 /// part.
 #[derive(Drop)]
-pub struct Nested<T> {
-    pub(crate) items: EcoVec<T>,
+pub struct Nested<C> {
+    pub(crate) items: C,
     pub(crate) depth: u32,
 }
 
-impl<T: Drop> Nested<T> {
-    /// No items. Takes no memory.
-    pub fn new(alloc: Global) -> Self
-        ensures items { result.items ≡ [] }
-        ensures depth { result.depth ≡ 1 }
-    {
-        Nested {
-            items: EcoVec::new(alloc),
-            depth: 1,
-        }
-    }
-}
-
-impl<T: Drop> Clone for Nested<T> {
+impl Clone for Nested<EcoVec<Value>> {
     ghost is_clone = { λ nested copy. copy ≡ nested };
 
     fn clone(&self) -> Result<Self, AllocError> {
@@ -37,6 +26,15 @@ impl<T: Drop> Clone for Nested<T> {
             items: self.items.clone()?,
             depth: self.depth,
         })
+    }
+}
+
+impl Clone for Nested<Fields<Value>> {
+    ghost is_clone = { λ nested copy. copy ≡ nested };
+
+    fn clone(&self) -> Result<Self, AllocError> {
+        let (items, depth) = (self.items.clone()?, self.depth);
+        Ok(Nested { items, depth })
     }
 }
 

@@ -10,6 +10,7 @@ mod make;
 mod parts;
 mod paths;
 
+use crate::fields::{Entry, Fields};
 use crate::nested::{MAX_DEPTH, Nested, Part};
 use crate::refusal::Refusal;
 use ecow_list::EcoVec;
@@ -18,7 +19,6 @@ pub use paths::Step;
 use std::alloc::AllocError;
 
 /// A nested value. A clone shares all its lists and texts.
-#[cycle(value)]
 #[derive(Drop)]
 pub enum Value {
     Nothing,
@@ -26,17 +26,8 @@ pub enum Value {
     Number(i64),
     Real(f64),
     Text(EcoString),
-    List(Nested<Value>),
-    /// Fields in order. A name that stands twice means the first of them.
-    Fields(Nested<Field>),
-}
-
-/// A value under a name.
-#[cycle(value)]
-#[derive(Drop)]
-pub struct Field {
-    pub name: EcoString,
-    pub value: Value,
+    List(Nested<EcoVec<Value>>),
+    Fields(Nested<Fields<Value>>),
 }
 
 /// Which kind of value one is.
@@ -67,17 +58,6 @@ impl Clone for Value {
     }
 }
 
-impl Clone for Field {
-    ghost is_clone = { λ field copy. copy ≡ field };
-
-    fn clone(&self) -> Result<Self, AllocError> {
-        Ok(Field {
-            name: self.name.clone()?,
-            value: self.value.clone()?,
-        })
-    }
-}
-
 impl Part for Value {
     ghost depth_in = { depth_of };
 
@@ -86,11 +66,11 @@ impl Part for Value {
     }
 }
 
-impl Part for Field {
-    ghost depth_in = { field_depth };
+impl Part for Entry<Value> {
+    ghost depth_in = { λ entry. field_depth entry.field };
 
     fn depth_in(&self) -> u32 {
-        self.value.depth()
+        self.field.value.depth()
     }
 }
 
@@ -188,7 +168,7 @@ impl Value {
     }
 
     /// The fields, if this has fields.
-    pub fn fields(&self) -> Option<&EcoVec<Field>>
+    pub fn fields(&self) -> Option<&Fields<Value>>
         ensures { MatchOption result (fields_of self.now ≡ None)
             (λ fields. fields_of self.now ≡ Some fields.now) }
     {

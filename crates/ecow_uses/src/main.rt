@@ -22,7 +22,7 @@ use ecow_bytes::EcoBytes;
 use ecow_counted::Counted;
 use ecow_list::{EcoVec, eco_vec};
 use ecow_model::VecCommand;
-use ecow_nested::{Field, Step, Value};
+use ecow_nested::{Fields, Step, Value};
 use ecow_string::EcoString;
 use std::collections::BTreeMap;
 
@@ -181,7 +181,8 @@ fn set_a_value(rt: &HostRuntime) -> Result<()> {
     let refused = nested::set_and_keep(&document, &[Step::Index(1)], Value::Number(7)).is_err();
     println!(rt; "at 1: nothing, and refused: {refused}")?;
     set_levels(rt)?;
-    set_each(rt)
+    set_each(rt)?;
+    set_names(rt)
 }
 
 /// Sets values that nest less and more than those there, and says how deep the list nests.
@@ -207,11 +208,8 @@ fn set_levels(rt: &HostRuntime) -> Result<()> {
 fn set_each(rt: &HostRuntime) -> Result<()> {
     let alloc = rt.alloc();
     let items: EcoVec<Value> = (0..100000i64).map(|n| Value::Number(n)).collect(alloc)?;
-    let field = Field {
-        name: name(rt, "items")?,
-        value: Value::from_items(items)?,
-    };
-    let mut document = Value::from_fields(eco_vec![in alloc; field]?)?;
+    let mut document = Value::new_fields(alloc);
+    document.push_field("items", Value::from_items(items)?)?;
     for index in 0..100000usize {
         let path = [Step::Name(name(rt, "items")?), Step::Index(index)];
         document.set_at(&path, Value::Number(7))?;
@@ -220,19 +218,36 @@ fn set_each(rt: &HostRuntime) -> Result<()> {
     Ok(())
 }
 
+/// Sets many names, of which one goes and comes again, and looks each up. Searches through all names
+/// would take so long that the gate ends them.
+fn set_names(rt: &HostRuntime) -> Result<()> {
+    let alloc = rt.alloc();
+    let mut fields = Value::new_fields(alloc);
+    for number in 0..400000i64 {
+        let name = format!(in alloc; "name{number}")?;
+        fields.set_field(name.as_str(), Value::Number(number))?;
+        if number == 1000 {
+            let first = fields.remove_field("name0")?;
+            fields.push_field("name0", first)?;
+        }
+    }
+    let mut found = true;
+    for number in 0..400000i64 {
+        let name = format!(in alloc; "name{number}")?;
+        if fields.field(name.as_str())?.number() != Some(number) {
+            found = false;
+        }
+    }
+    println!(rt; "all names are found: {found}")?;
+    Ok(())
+}
+
 fn a_document(rt: &HostRuntime) -> Result<Value> {
     let alloc = rt.alloc();
     let sizes = eco_vec![in alloc; Value::Number(1), Value::Number(2)]?;
-    let fields = eco_vec![in alloc;
-        Field {
-            name: name(rt, "tags")?,
-            value: Value::Text(name(rt, "a")?)
-        },
-        Field {
-            name: name(rt, "sizes")?,
-            value: Value::from_items(sizes)?
-        }
-    ]?;
+    let mut fields = Fields::new(alloc);
+    fields.push(name(rt, "tags")?, Value::Text(name(rt, "a")?))?;
+    fields.push(name(rt, "sizes")?, Value::from_items(sizes)?)?;
     Ok(Value::from_fields(fields)?)
 }
 

@@ -34,20 +34,17 @@ impl Value {
                 true
             }
             (Value::Fields(left), Value::Fields(right)) => {
-                let others = right.items.as_slice();
-                if left.items.len() != others.len() {
+                if left.items.len() != right.items.len() {
                     return false;
                 }
-                let mut index = 0;
-                for field in left.items.as_slice() {
-                    let other = &others[index];
+                for index in 0..left.items.len() {
+                    let (field, other) = (left.items.field_at(index), right.items.field_at(index));
                     if field.name != other.name {
                         return false;
                     }
                     if !field.value.equals(&other.value) {
                         return false;
                     }
-                    index += 1;
                 }
                 true
             }

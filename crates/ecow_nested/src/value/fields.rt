@@ -1,57 +1,46 @@
 //! Fields by name. A refusal changes nothing. Where several apply, the answer is the first of
 //! `Kind`, `Index`, `Depth` and `Memory`.
-ghost use Rattle.std.specs.Prelude.{◌≡◌, ◌≢◌, ◌≤◌, ◌↔◌, [], ◌∷◌, ◌++◌, None, Some, position, IfOk, IfSome, OnOk, OnErr, IsErrOf, IsSomeAnd, MatchOption};
-ghost use Rattle.ecow_nested.specs.Values.{depth_of, fields_of, has_name, look_up, new_field, with_field, without_field, EditsFields, Covers, IsErrAmong, RisesAtMost};
+ghost use Rattle.std.specs.Prelude.{◌≡◌, ◌≢◌, ◌≤◌, ◌↔◌, [], ◌∷◌, ◌++◌, None, Some, IfOk, IfSome, OnOk, OnErr, IsErrOf, IsSomeAnd, MatchOption};
+ghost use Rattle.ecow_nested.specs.Values.{depth_of, fields_of, look_up, new_field, with_field, without_field, EditsFields, Covers, IsErrAmong, RisesAtMost};
 
+use crate::fields::Fields;
 use crate::nested::{MAX_DEPTH, Nested, raise, settle};
 use crate::refusal::Refusal;
-use crate::value::{Field, Value};
-use ecow_list::{EcoVec, Rejected};
+use crate::value::Value;
 use ecow_string::EcoString;
-use std::mem::replace;
-
-/// The place of the first field of that name.
-pub(super) fn place(fields: &[Field], name: &str) -> Option<usize>
-    ensures { result ≡ position (has_name name.now) fields.now }
-{
-    fields.iter().position(|field| field.name.as_str() == name)
-}
 
 /// The value of the first field of that name.
-pub(super) fn find<'a>(fields: &'a [Field], name: &str) -> Option<&'a Value>
+pub(super) fn find<'a>(fields: &'a Fields<Value>, name: &str) -> Option<&'a Value>
     ensures { MatchOption result (look_up name.now fields.now ≡ None)
         (λ value. look_up name.now fields.now ≡ Some value.now) }
 {
-    match place(fields, name) {
-        Some(at) => Some(&fields[at].value),
+    match fields.position(name) {
+        Some(at) => Some(&fields.field_at(at).value),
         None => None,
     }
 }
 
 /// Appends a field. A refusal changes nothing.
-fn append(fields: &mut EcoVec<Field>, name: &str, value: Value) -> Result<(), Refusal>
+fn append(fields: &mut Fields<Value>, name: &str, value: Value) -> Result<(), Refusal>
     ensures ok { OnOk result (fields.new ≡ fields.old ++ new_field name.now value ∷ []) }
     ensures unchanged { OnErr result (fields.new ≡ fields.old) }
     ensures codes { IsErrAmong (Refusal.Memory ∷ []) result }
 {
-    // For the proof alone: a slice of fields is shorter than the greatest length.
-    let _fields = fields.as_slice();
     let name = EcoString::from_str(fields.allocator(), name)?;
-    fields.push(Field { name, value })?;
+    fields.push(name, value)?;
     Ok(())
 }
 
 /// Puts `value` in place of the value of the first field of that name, or appends a field where
 /// there is none. A refusal changes nothing.
-fn put(fields: &mut EcoVec<Field>, name: &str, value: Value) -> Result<(), Refusal>
+fn put(fields: &mut Fields<Value>, name: &str, value: Value) -> Result<(), Refusal>
     ensures ok { OnOk result (fields.new ≡ with_field name.now value fields.old) }
     ensures unchanged { OnErr result (fields.new ≡ fields.old) }
     ensures codes { IsErrAmong (Refusal.Memory ∷ []) result }
 {
-    match place(fields.as_slice(), name) {
+    match fields.position(name) {
         Some(at) => {
-            let name = fields.as_slice()[at].name.clone()?;
-            fields.set(at, Field { name, value })?;
+            fields.replace(at, value)?;
             Ok(())
         }
         None => append(fields, name, value),
@@ -59,14 +48,14 @@ fn put(fields: &mut EcoVec<Field>, name: &str, value: Value) -> Result<(), Refus
 }
 
 /// Takes the first field of that name out, and gives its value. A refusal changes nothing.
-fn take(fields: &mut EcoVec<Field>, name: &str) -> Result<Value, Refusal>
+fn take(fields: &mut Fields<Value>, name: &str) -> Result<Value, Refusal>
     ensures ok { OnOk result (fields.new ≡ without_field name.now fields.old) }
     ensures value { IfOk result (λ value. look_up name.now fields.old ≡ Some value) }
     ensures unchanged { OnErr result (fields.new ≡ fields.old) }
     ensures index { IsErrOf result Refusal.Index ↔ (look_up name.now fields.old ≡ None) }
     ensures codes { IsErrAmong (Refusal.Index ∷ Refusal.Memory ∷ []) result }
 {
-    let Some(at) = place(fields.as_slice(), name) else {
+    let Some(at) = fields.position(name) else {
         return Err(Refusal::Index);
     };
     match fields.remove(at) {
@@ -76,7 +65,7 @@ fn take(fields: &mut EcoVec<Field>, name: &str) -> Result<Value, Refusal>
 }
 
 /// Exchanges the value of the first field of that name and `other`. A refusal changes neither.
-fn exchange(fields: &mut EcoVec<Field>, name: &str, other: &mut Value) -> Result<(), Refusal>
+fn exchange(fields: &mut Fields<Value>, name: &str, other: &mut Value) -> Result<(), Refusal>
     ensures ok { OnOk result (fields.new ≡ with_field name.now other.old fields.old) }
     ensures other { OnOk result (look_up name.now fields.old ≡ Some other.new) }
     ensures unchanged { OnErr result (fields.new ≡ fields.old) }
@@ -86,18 +75,17 @@ fn exchange(fields: &mut EcoVec<Field>, name: &str, other: &mut Value) -> Result
         ↔ (look_up name.now fields.old ≢ None) × (MAX_DEPTH ≤ depth_of other.old) }
     ensures codes { IsErrAmong (Refusal.Index ∷ Refusal.Depth ∷ Refusal.Memory ∷ []) result }
 {
-    let Some(at) = place(fields.as_slice(), name) else {
+    let Some(at) = fields.position(name) else {
         return Err(Refusal::Index);
     };
     other.depth_as_part()?;
-    let Field { name, value } = fields.as_slice()[at].clone()?;
-    let value = replace(other, value);
-    match fields.set(at, Field { name, value }) {
-        Ok(()) => Ok(()),
-        Err(Rejected { error, value }) => {
-            *other = value.value;
-            Err(error.into())
+    let value = other.clone()?;
+    match fields.replace(at, value) {
+        Ok(was) => {
+            *other = was;
+            Ok(())
         }
+        Err(_) => Err(Refusal::Memory),
     }
 }
 
@@ -114,7 +102,7 @@ impl Value {
         let Value::Fields(nested) = self else {
             return Err(Refusal::Kind);
         };
-        match find(nested.items.as_slice(), name) {
+        match find(&nested.items, name) {
             Some(value) => Ok(value),
             None => Err(Refusal::Index),
         }
@@ -136,10 +124,10 @@ impl Value {
             return Err(Refusal::Kind);
         };
         let below = value.depth_as_part()?;
-        let gone = find(items.as_slice(), name).map_or(0, |value| value.depth());
+        let gone = find(items, name).map_or(0, |value| value.depth());
         put(items, name, value)?;
         raise(depth, below);
-        settle(depth, items.as_slice(), gone, below);
+        settle(depth, items.entries(), gone, below);
         Ok(())
     }
 
@@ -186,7 +174,7 @@ impl Value {
         let below = other.depth();
         exchange(items, name, other)?;
         raise(depth, below);
-        settle(depth, items.as_slice(), other.depth(), below);
+        settle(depth, items.entries(), other.depth(), below);
         Ok(())
     }
 
@@ -206,7 +194,7 @@ impl Value {
             return Err(Refusal::Kind);
         };
         let value = take(items, name)?;
-        settle(depth, items.as_slice(), value.depth(), 0);
+        settle(depth, items.entries(), value.depth(), 0);
         Ok(value)
     }
 }

@@ -1,13 +1,39 @@
 //! Containers made of their parts. A refusal drops them.
-ghost use Rattle.std.specs.Prelude.{◌≡◌, ◌+◌, ◌≤◌, ◌↔◌, Some, IfErr, IfOk, IsErr};
+ghost use Rattle.std.specs.Prelude.{◌≡◌, ◌+◌, ◌≤◌, ◌↔◌, [], Some, IfErr, IfOk, IsErr};
 ghost use Rattle.ecow_nested.specs.Values.{depth_of, deepest, deepest_field, fields_of, items_of};
 
+use crate::fields::Fields;
 use crate::nested::{MAX_DEPTH, Nested, deepest};
 use crate::refusal::Refusal;
-use crate::value::{Field, Value};
+use crate::value::Value;
 use ecow_list::EcoVec;
+use std::alloc::Global;
 
 impl Value {
+    /// A list of no items. Takes no memory.
+    #[tactic(auto, using(crate::proofs::Parts::out_of_list))]
+    pub fn new_list(alloc: Global) -> Value
+        ensures items { items_of result ≡ Some [] }
+        ensures depth { depth_of result ≡ 1 }
+    {
+        Value::List(Nested {
+            items: EcoVec::new(alloc),
+            depth: 1,
+        })
+    }
+
+    /// A value with no fields. Takes no memory.
+    #[tactic(auto, using(crate::proofs::Parts::out_of_fields))]
+    pub fn new_fields(alloc: Global) -> Value
+        ensures fields { fields_of result ≡ Some [] }
+        ensures depth { depth_of result ≡ 1 }
+    {
+        Value::Fields(Nested {
+            items: Fields::new(alloc),
+            depth: 1,
+        })
+    }
+
     /// The list of these items. Answers `Depth` where one of them nests as deep as a value may.
     #[tactic(auto, using(crate::proofs::Parts::out_of_list))]
     pub fn from_items(items: EcoVec<Value>) -> Result<Value, Refusal>
@@ -26,13 +52,13 @@ impl Value {
 
     /// The value with these fields. Answers `Depth` where one of them nests as deep as a value may.
     #[tactic(auto, using(crate::proofs::Parts::out_of_fields))]
-    pub fn from_fields(fields: EcoVec<Field>) -> Result<Value, Refusal>
+    pub fn from_fields(fields: Fields<Value>) -> Result<Value, Refusal>
         ensures fields { IfOk result (λ value. fields_of value ≡ Some fields) }
         ensures exact { IfOk result (λ value. depth_of value ≡ deepest_field fields + 1) }
         ensures depth { IsErr result ↔ MAX_DEPTH ≤ deepest_field fields }
         ensures code { IfErr result (λ refusal. refusal ≡ Refusal.Depth) }
     {
-        let below = deepest(fields.as_slice(), MAX_DEPTH);
+        let below = deepest(fields.entries(), MAX_DEPTH);
         if below >= MAX_DEPTH {
             return Err(Refusal::Depth);
         }

@@ -3,7 +3,7 @@ ghost use Rattle.std.specs.Prelude.{◌≡◌, ◌≤◌, ◌<◌, ◌↔◌, []
 ghost use Rattle.ecow_nested.specs.Values.{len_of, part_of, fields_of, value_in, name_in, IsErrAmong};
 
 use crate::refusal::Refusal;
-use crate::value::{Field, Value};
+use crate::value::Value;
 use ecow_string::EcoString;
 
 impl Value {
@@ -31,7 +31,7 @@ impl Value {
                 Some(item) => Ok(item),
                 None => Err(Refusal::Index),
             },
-            Value::Fields(nested) => match at(nested.items.as_slice(), index) {
+            Value::Fields(nested) => match nested.items.get(index) {
                 Some(field) => Ok(&field.value),
                 None => Err(Refusal::Index),
             },
@@ -51,7 +51,7 @@ impl Value {
         let Value::Fields(nested) = self else {
             return Err(Refusal::Kind);
         };
-        match at(nested.items.as_slice(), index) {
+        match nested.items.get(index) {
             Some(field) => Ok(&field.name),
             None => Err(Refusal::Index),
         }

@@ -1,15 +1,19 @@
 //! Parts by paths. What a path leads to is read, or replaced where it stands. A refusal changes
 //! nothing.
-ghost use Rattle.std.specs.Prelude.{◌≡◌, ◌≢◌, ◌+◌, ◌≤◌, ◌<◌, ◌↔◌, length, max, [], ◌∷◌, List, None, Some, OnOk, OnErr, IsErrOf, MatchOption, slice_get, slice_set};
+ghost use Rattle.std.specs.Prelude.{◌≡◌, ◌≢◌, ◌+◌, ◌≤◌, ◌<◌, ◌↔◌, length, max, [], ◌∷◌, List, None, Some, IfSome, OnOk, OnErr, IsErrOf, MatchOption, slice_get, slice_set};
 ghost use Rattle.std.specs.Option.{option_and_then};
+ghost use Rattle.ecow_nested.specs.Names.{named};
 ghost use Rattle.ecow_nested.specs.Paths.{part_at, value_at, IsSet};
 ghost use Rattle.ecow_nested.specs.Values.{deepest, deepest_field, depth_of, look_up, with_field, Covers, IsErrAmong};
+ghost use Rattle.ecow_nested.specs.declared.fields.Field.{Field};
 ghost use Rattle.ecow_nested.specs.declared.value.Value.{Value};
 
+use crate::fields::Fields;
 use crate::nested::{MAX_DEPTH, Nested, raise, settle};
 use crate::refusal::Refusal;
-use crate::value::fields::{find, place};
-use crate::value::{Field, Value};
+use crate::value::Value;
+use crate::value::fields::find;
+use ecow_list::EcoVec;
 use ecow_string::EcoString;
 use std::mem::swap;
 
@@ -30,7 +34,7 @@ impl Value {
     {
         match step {
             Step::Index(index) => self.items()?.as_slice().get(*index),
-            Step::Name(name) => find(self.fields()?.as_slice(), name.as_str()),
+            Step::Name(name) => find(self.fields()?, name.as_str()),
         }
     }
 
@@ -128,7 +132,7 @@ impl Value {
 /// Exchanges the value that a path leads to from the item of that index, and `other`.
 #[cycle(exchange)]
 fn exchange_in_item(
-    nested: &mut Nested<Value>,
+    nested: &mut Nested<EcoVec<Value>>,
     index: usize,
     rest: &[Step],
     other: &mut Value,
@@ -169,7 +173,7 @@ fn exchange_in_item(
 /// Exchanges the value that a path leads to from the first field of that name, and `other`.
 #[cycle(exchange)]
 fn exchange_in_field(
-    nested: &mut Nested<Field>,
+    nested: &mut Nested<Fields<Value>>,
     name: &str,
     rest: &[Step],
     other: &mut Value,
@@ -192,17 +196,47 @@ fn exchange_in_field(
         ≡ None }
     ensures codes { IsErrAmong (Refusal.Index ∷ Refusal.Memory ∷ []) result }
 {
-    let Some(at) = place(nested.items.as_slice(), name) else {
+    let Some(at) = nested.items.position(name) else {
         return Err(Refusal::Index);
     };
     let below = rest.len() as u32 + other.depth();
-    let gone = nested.items.as_slice()[at].value.depth();
-    let Ok(block) = nested.items.own_mut() else {
+    let gone = nested.items.field_at(at).value.depth();
+    exchange_in_place(&mut nested.items, at, rest, other)?;
+    raise(&mut nested.depth, below);
+    let came = nested.items.field_at(at).value.depth();
+    settle(&mut nested.depth, nested.items.entries(), gone, came);
+    Ok(())
+}
+
+/// Exchanges the value that a path leads to from the field at `at`, and `other`.
+#[cycle(exchange)]
+fn exchange_in_place(
+    fields: &mut Fields<Value>,
+    at: usize,
+    rest: &[Step],
+    other: &mut Value,
+) -> Result<(), Refusal>
+    requires within { at < length fields.old }
+    requires shallow { length rest.now + depth_of other.old ≤ MAX_DEPTH }
+    ensures set { OnOk result ((field : Field Value) × (after : Value)
+        × (slice_get fields.old at ≡ Some field)
+        × IsSet rest.now other.old field.value after
+        × (fields.new ≡ slice_set fields.old at (named field.name after))
+        × (depth_of after ≤ max (depth_of field.value) (length rest.now + depth_of other.old))) }
+    ensures other { OnOk result (IfSome (slice_get fields.old at)
+        (λ field. value_at field.value rest.now ≡ Some other.new)) }
+    ensures kept { OnErr result (other.new ≡ other.old) }
+    ensures unchanged { OnErr result (fields.new ≡ fields.old) }
+    ensures index { IsErrOf result Refusal.Index → IfSome (slice_get fields.old at)
+        (λ field. value_at field.value rest.now ≡ None) }
+    ensures codes { IsErrAmong (Refusal.Index ∷ Refusal.Memory ∷ []) result }
+{
+    let Ok(block) = fields.entries.own_mut() else {
         return Err(Refusal::Memory);
     };
-    block.as_mut_slice()[at].value.exchange_at(rest, other)?;
-    raise(&mut nested.depth, below);
-    let came = nested.items.as_slice()[at].value.depth();
-    settle(&mut nested.depth, nested.items.as_slice(), gone, came);
+    block.as_mut_slice()[at]
+        .field
+        .value
+        .exchange_at(rest, other)?;
     Ok(())
 }

@@ -1,18 +1,22 @@
-use Rattle.std.proofs.Common.{rules, arith, ◌≡◌, ◌≤◌, ◌<◌, ◌+◌, ℕ, List, Some, max, length, get_or, slice_get, slice_set, refl, sym, ap, ◌∙◌}
+use Rattle.std.proofs.Common.{rules, arith, ◌≡◌, ◌≤◌, ◌<◌, ◌+◌, ℕ, List, Some, max, length, get_or, slice_get, slice_set, refl, sym, ap, subst, ◌∙◌}
 use Rattle.std.proofs.lemmas.Option.{slice_get-get_or}
-use Rattle.std.specs.List.{refill, position_or_len}
-use Rattle.std.specs.Prelude.{position}
+use Rattle.std.specs.List.{refill}
 use Rattle.std.specs.Option.{option_and_then}
-use lib.ListN.{length-set}
-use Rattle.ecow_list.proofs.Kept.{kept_equal}
+use lib.ListN.{length-map, length-set}
+use Rattle.std.specs.Prelude.{IfSome}
+use Rattle.ecow_nested.specs.Index.{IsFoundFrom, fields_in}
+use Rattle.ecow_nested.specs.declared.fields.Field.{Field}
+use Rattle.ecow_nested.specs.declared.fields.Entry.{Entry}
+use Rattle.ecow_nested.specs.declared.value.Value.{Value}
+use Rattle.ecow_nested.proofs.Index.{field_there, fields_set, found_kept}
+use Rattle.ecow_block.specs.Contents.{Contents}
 use Rattle.ecow_list.proofs.Views.{refilled}
-use Rattle.ecow_nested.proofs.Fields.{missing, placed, set_found, taken}
+use Rattle.ecow_nested.specs.Names.{named}
+use Rattle.ecow_nested.proofs.Lookups.{missing, set_found, taken}
 use Rattle.ecow_nested.proofs.Depths.{part_less, set_less}
 use Rattle.ecow_nested.proofs.value.+exchange.Goals as goal
 use Rattle.ecow_nested.specs.Paths.{value_at}
-use Rattle.ecow_nested.specs.Values.{deepest, deepest_field, depth_of, field_depth, has_name, look_up}
-use Rattle.ecow_nested.specs.declared.value.Field.{Field}
-use Rattle.ecow_nested.specs.declared.value.Value.TheViews.{roll-Field}
+use Rattle.ecow_nested.specs.Values.{deepest, deepest_field, depth_of, field_depth}
 
 -- a part that is lent, and what is left once it was written
 there : {X : Type 0} (xs lent : List X) (i : ℕ) (d : X) → lent ≡ xs → i < length xs → slice_get xs i ≡ Some (get_or lent i d)
@@ -25,11 +29,6 @@ written xs block lent left i y is same was =
     is
     ∙ refilled (length block) block (slice_set lent i y) (omega (arith, length-set lent i y, ap length same))
     ∙ ap (λ l. slice_set l i y) (same ∙ was)
-
--- the field at the place of a name that is lent
-field_there : (name : List ℕ) (xs lent : List Field) (i : ℕ) (d : Field) → lent ≡ xs → Some i ≡ position (has_name name) xs
-    → slice_get xs i ≡ Some (get_or lent i d)
-field_there name xs lent i d same at = there xs lent i d same (placed (position_or_len (has_name name) xs) (length xs) i at).1
 
 pub paths::exchange_in_item-returns-clause-set : goal.paths::exchange_in_item-returns-clause-set
 paths::exchange_in_item-returns-clause-set t c =
@@ -70,69 +69,97 @@ paths::exchange_in_item-returns-clause-covers t c covered =
 
 pub paths::exchange_in_field-returns-in_default-clause-index : goal.paths::exchange_in_field-returns-in_default-clause-index
 paths::exchange_in_field-returns-in_default-clause-index t c =
-    let none = missing c.args.name.now c.args.nested.now.items c.place.result c.in_default.is (rw c.as_slice.ensures at c.place.ensures) in
+    let none = missing c.args.name.now c.args.nested.now.items c.position.result c.in_default.is c.position.ensures in
     search (rules, none)
 
-pub paths::exchange_in_field-returns-in_default-own_mut-clause-unchanged : goal.paths::exchange_in_field-returns-in_default-own_mut-clause-unchanged
-paths::exchange_in_field-returns-in_default-own_mut-clause-unchanged t c =
-    let kept = rw c.in_default-own_mut.is at c.own_mut.follows.holds-at-none in
-    ap (λ items. record { items = items; depth = c.args.nested.now.depth }) (kept_equal _ (λ x y same. same) _ _ kept)
-
-pub paths::exchange_in_field-returns-in_default-own_mut-clause-covers : goal.paths::exchange_in_field-returns-in_default-own_mut-clause-covers
-paths::exchange_in_field-returns-in_default-own_mut-clause-covers t c covered =
-    let kept = rw c.in_default-own_mut.is at c.own_mut.follows.holds-at-none in
-    rw (kept_equal _ (λ x y same. same) _ _ kept) covered
-
-pub paths::exchange_in_field-returns-in_err-exchange_at-clause-index : goal.paths::exchange_in_field-returns-in_err-exchange_at-clause-index
-paths::exchange_in_field-returns-in_err-exchange_at-clause-index t c =
-    let xs = c.args.nested.now.items in
-    let lent = c.as_mut_slice.result.now in
-    let at = rw c.as_slice.ensures at c.in-Some.ensures in
-    let read = field_there c.args.name.now xs lent c.in-Some.at c.index-as_mut_slice-at.result (c.as_mut_slice.ensures.value ∙ c.in-Ok.ensures.value (λ x y same. same)) at in
-    let found : look_up c.args.name.now xs ≡ Some (get_or lent c.in-Some.at c.index-as_mut_slice-at.result).value = taken c.args.name.now xs c.in-Some.at _ at read in
-    search (rules, found)
+pub paths::exchange_in_field-returns-in_err-exchange_in_place-clause-index : goal.paths::exchange_in_field-returns-in_err-exchange_in_place-clause-index
+paths::exchange_in_field-returns-in_err-exchange_in_place-clause-index t c =
+    let found = taken c.args.name.now c.args.nested.now.items c.in-Some.at c.field_at.result.now c.in-Some.ensures c.field_at.ensures in
+    search (rules, found, c.field_at.ensures)
 
 pub paths::exchange_in_field-returns-clause-set : goal.paths::exchange_in_field-returns-clause-set
 paths::exchange_in_field-returns-clause-set t c =
-    let xs = c.args.nested.now.items in
-    let lent = c.as_mut_slice.result.now in
-    let i = c.in-Some.at in
-    let was = c.in-Ok.ensures.value (λ x y same. same) in
-    let same = c.as_mut_slice.ensures.value in
-    let at = rw c.as_slice.ensures at c.in-Some.ensures in
-    let read = field_there c.args.name.now xs lent i c.index-as_mut_slice-at.result (same ∙ was) at in (
-      _,
-      _,
-      taken c.args.name.now xs i _ at read,
-      c.in_ok-exchange_at.ensures.set,
-      written xs _ _ _ i _ (c.own_mut.follows.holds _ (search rules)) same was ∙ set_found c.args.name.now xs i _ _ at read refl,
-    )
+    let e = c.in_ok-exchange_in_place.ensures.set in
+    let found = taken c.args.name.now c.args.nested.now.items c.in-Some.at e.0 c.in-Some.ensures e.2 in
+    let set = set_found c.args.name.now c.args.nested.now.items c.in-Some.at e.0 (named e.0.name e.1) c.in-Some.ensures e.2 refl in
+    search (rules, e, found, set)
 
 pub paths::exchange_in_field-returns-clause-other : goal.paths::exchange_in_field-returns-clause-other
 paths::exchange_in_field-returns-clause-other t c =
-    let xs = c.args.nested.now.items in
-    let lent = c.as_mut_slice.result.now in
-    let at = rw c.as_slice.ensures at c.in-Some.ensures in
-    let read = field_there c.args.name.now xs lent c.in-Some.at c.index-as_mut_slice-at.result (c.as_mut_slice.ensures.value ∙ c.in-Ok.ensures.value (λ x y same. same)) at in
-    ap (option_and_then (λ part. value_at part c.args.rest.now)) (taken c.args.name.now xs c.in-Some.at _ at read) ∙ c.in_ok-exchange_at.ensures.other
+    let e = c.in_ok-exchange_in_place.ensures.set in
+    let found = taken c.args.name.now c.args.nested.now.items c.in-Some.at e.0 c.in-Some.ensures e.2 in
+    search (rules, e, found, c.in_ok-exchange_in_place.ensures.other)
 
 pub paths::exchange_in_field-returns-clause-covers : goal.paths::exchange_in_field-returns-clause-covers
 paths::exchange_in_field-returns-clause-covers t c covered =
-    let xs = c.args.nested.now.items in
+    let e = c.in_ok-exchange_in_place.ensures.set in
+    let put = named e.0.name e.1 in
+    let low : field_depth put ≤ max (field_depth e.0) (length c.args.rest.now + depth_of c.args.other.now) = e.5 in
+    let part = part_less field_depth c.args.nested.now.items c.in-Some.at e.0 e.2 in
+    let set = set_less field_depth c.args.nested.now.items c.in-Some.at put in
+    let bound : deepest_field c.exchange_in_place.new.fields < c.raise.new.depth = rw e.4 (omega (arith, set, part, low, covered, c.raise.ensures, c.depth.ensures, c.requires)) in
+    (rw c.entries.ensures.depths at c.settle.ensures.covers) bound
+
+-- an entry with another value
+abbrev with_value : Entry Value → Value → Entry Value
+with_value e value = record { field = named e.field.name value; left = e.left; right = e.right }
+
+-- the entry of a field that is lent, and what is left of the entries
+module _ (es block lent left : List (Entry Value)) (i : ℕ) (d : Entry Value) (value : Value)
+    (is : left ≡ refill (length block) block (slice_set lent i (with_value (get_or lent i d) value))) (same : lent ≡ block) (was : block ≡ es)
+    (fields : List (Field Value)) (view : fields_in es ≡ fields) (within : i < length fields) where
+  abbrev x : Entry Value
+  x = get_or lent i d
+
+  new : left ≡ slice_set es i (with_value x value)
+  new = written es block lent left i (with_value x value) is same was
+
+  at : slice_get es i ≡ Some x
+  at = there es lent i d (same ∙ was) (omega (arith, within, ap length view, length-map es (λ (e : Entry Value). e.field)))
+
+  field_at : slice_get fields i ≡ Some x.field
+  field_at = ap (λ fs. slice_get fs i) (sym view) ∙ field_there es i x at
+
+  fields_new : fields_in left ≡ slice_set fields i (named x.field.name value)
+  fields_new = ap fields_in new ∙ fields_set es i (with_value x value) ∙ ap (λ fs. slice_set fs i (named x.field.name value)) view
+
+  found_new : IsFoundFrom 16 es → IsFoundFrom 16 left
+  found_new found = subst (IsFoundFrom 16) (sym new) (found_kept es i x (with_value x value) at refl found)
+
+pub paths::exchange_in_place-invariant_of-fields-2 : goal.paths::exchange_in_place-invariant_of-fields-2
+paths::exchange_in_place-invariant_of-fields-2 t c =
+    found_new c.fields.inside.entries c.in-Ok.block.now.items c.as_mut_slice.result.now _ c.args.at c.index-as_mut_slice-at.result c.exchange_at.new.self
+    (c.own_mut.follows.holds _ (search rules)) c.as_mut_slice.ensures.value (c.in-Ok.ensures.value (λ x y same. same))
+    c.args.fields.now c.fields.view_is c.requires.within c.fields.invariant
+
+pub paths::exchange_in_place-returns-clause-set : goal.paths::exchange_in_place-returns-clause-set
+paths::exchange_in_place-returns-clause-set t c =
+    let es = c.fields.inside.entries in
     let block = c.in-Ok.block.now.items in
     let lent = c.as_mut_slice.result.now in
-    let i = c.in-Some.at in
-    let f = get_or lent i c.index-as_mut_slice-at.result in
+    let i = c.args.at in
+    let d = c.index-as_mut_slice-at.result in
     let y = c.exchange_at.new.self in
-    let g = roll-Field (record { name = f.name; value = y }) in
-    let was : block ≡ xs = c.in-Ok.ensures.value (λ x y same. same) in
-    let same : lent ≡ block = c.as_mut_slice.ensures.value in
-    let left = c.own_mut.follows.lender (record { items = refill (length block) block (slice_set lent i g); capacity = c.in-Ok.block.now.capacity }) in
-    let new : left ≡ slice_set xs i g = written xs block lent left i g (c.own_mut.follows.holds _ (search rules)) same was in
-    let at = rw c.as_slice.ensures at c.in-Some.ensures in
-    let read = field_there c.args.name.now xs lent i c.index-as_mut_slice-at.result (same ∙ was) at in
-    let low : depth_of y ≤ max (field_depth f) (length c.args.rest.now + depth_of c.args.other.now) = c.in_ok-exchange_at.ensures.bound in
-    let part = part_less field_depth xs i f read in
-    let set : deepest_field (slice_set xs i g) ≤ max (deepest_field xs) (depth_of y) = set_less field_depth xs i g in
-    let bound : deepest_field left < c.raise.new.depth = rw new (omega (arith, set, part, low, covered, c.raise.ensures, c.depth.ensures, c.requires)) in
-    (rw c.as_slice-4.ensures at c.settle.ensures.covers) bound
+    let after : Contents (Entry Value) = record { items = refill (length block) block (slice_set lent i (with_value (get_or lent i d) y)); capacity = c.in-Ok.block.now.capacity } in
+    let left = c.own_mut.follows.lender after in
+    let is = c.own_mut.follows.holds after (search rules) in
+    let same = c.as_mut_slice.ensures.value in
+    let was = c.in-Ok.ensures.value (λ x y same. same) in (
+      _,
+      y,
+      field_at es block lent left i d y is same was c.args.fields.now c.fields.view_is c.requires.within,
+      c.in_ok-exchange_at.ensures.set,
+      fields_new es block lent left i d y is same was c.args.fields.now c.fields.view_is c.requires.within,
+      c.in_ok-exchange_at.ensures.bound,
+    )
+
+pub paths::exchange_in_place-returns-clause-other : goal.paths::exchange_in_place-returns-clause-other
+paths::exchange_in_place-returns-clause-other t c =
+    let es = c.fields.inside.entries in
+    let lent = c.as_mut_slice.result.now in
+    let i = c.args.at in
+    let d = c.index-as_mut_slice-at.result in
+    let within : i < length es = omega (arith, c.requires.within, ap length c.fields.view_is, length-map es (λ (e : Entry Value). e.field)) in
+    let at = there es lent i d (c.as_mut_slice.ensures.value ∙ c.in-Ok.ensures.value (λ x y same. same)) within in
+    let read = ap (λ fs. slice_get fs i) (sym c.fields.view_is) ∙ field_there es i (get_or lent i d) at in
+    subst (λ o. IfSome o (λ field. value_at field.value c.args.rest.now ≡ Some c.exchange_at.new.other)) (sym read) c.in_ok-exchange_at.ensures.other

@@ -1,0 +1,34 @@
+-- Fields by their names.
+use Rattle.std.specs.Prelude.{ℕ, Bool, List, ◌≡◌, Some, slice_get, slice_set}
+use Rattle.ecow_base.specs.declared.plain.PlainText.{PlainText}
+use Rattle.std.specs.Borrow.{MutBor}
+use Rattle.std.specs.Fn.{Once}
+use Rattle.std.specs.Fn.{FnOnceTakesAtMut, FnOnceReturnsAtMut}
+use Rattle.std.specs.Str.{bytes_eq, encode_utf8_all}
+use Rattle.ecow_nested.specs.declared.fields.Field.{Field}
+
+-- whether a field has the name, which is given by its bytes
+abbrev pub has_name : {T : Type 0} → List ℕ → Field T → Bool
+has_name name field = bytes_eq (encode_utf8_all field.name.chars) name
+
+-- a field of that name and value
+abbrev pub named : {T : Type 0} → PlainText → T → Field T
+named name value = record { name = name; value = value }
+
+-- the value of a field was one and is another
+abbrev pub Revalues : {T : Type 0} → List (Field T) → ℕ → T → T → List (Field T) → Type 0
+Revalues {T} old index was is new =
+    (name : PlainText) × (slice_get old index ≡ Some (named name was))
+    × (new ≡ slice_set old index (named name is))
+
+module _ {F T R : Type 0} (g : Once F (MutBor T × Unit {0}) (R × (MutBor T × Unit {0}))) (f : F) where
+  -- f takes the value of the field at the index
+  abbrev pub TakesValueAt : List (Field T) → ℕ → Type 0
+  TakesValueAt fields index = (field : Field T) → slice_get fields index ≡ Some field
+      → FnOnceTakesAtMut g f field.value
+
+  -- f answered when it was called on the value at the index, and new has there what f left
+  abbrev pub UpdatesValueAt : ℕ → List (Field T) → R → List (Field T) → Type 0
+  UpdatesValueAt index old answer new = (field : Field T) × (after : T)
+      × (slice_get old index ≡ Some field) × FnOnceReturnsAtMut g f field.value answer after
+      × (new ≡ slice_set old index (named field.name after))
