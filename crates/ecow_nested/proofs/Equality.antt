@@ -24,7 +24,8 @@ tests_of : (fs : List (Field Value)) → map field_test (map tested fs) ≡ map 
 tests_of [] = refl
 tests_of (f ∷ fs) = ap (λ tests. field_eq f ∷ tests) (tests_of fs)
 
-pub equal_fields : (x y : Value) (xs ys : Nested (List (Field Value))) → out-Value x ≡ Value-F.Fields xs
+pub equal_fields : (x y : Value) (xs ys : Nested (List (Field Value)))
+    → out-Value x ≡ Value-F.Fields xs
     → out-Value y ≡ Value-F.Fields ys → value_eq x y ≡ each_holds (map field_eq xs.items) ys.items
 equal_fields x y xs ys a b =
     let h = fold_out-Value (Value → Bool) value_step x in
@@ -53,7 +54,8 @@ module _ {X : Type 0} where
   each_step eq (x ∷ xs) (y ∷ ys) (suc i) d e a b = each_step eq xs ys i d e (omega (arith, a)) (omega (arith, b))
 
 -- one step along the fields
-pub next_fields : (xs ys : List (Field Value)) (i : ℕ) (x y : Field Value) → slice_get xs i ≡ Some x → slice_get ys i ≡ Some y
+pub next_fields : (xs ys : List (Field Value)) (i : ℕ) (x y : Field Value) → slice_get xs i ≡ Some x
+    → slice_get ys i ≡ Some y
     → each_holds (map field_eq (drop i xs)) (drop i ys)
     ≡ (bytes_eq (encode_utf8_all x.name.chars) (encode_utf8_all y.name.chars) && value_eq x.value y.value)
     && each_holds (map field_eq (drop (i + 1) xs)) (drop (i + 1) ys)

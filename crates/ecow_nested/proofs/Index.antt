@@ -25,7 +25,9 @@ pub record Keeps (others : List Node) (at : ℕ) (node : Node) : Type 0 where
   pub same : other.name ≡ node.name
   pub links : (right : Bool) → link_of right node ≢ 0 → link_of right other ≡ link_of right node
 
-module _ (nodes others : List Node) (keeps : (at : ℕ) (node : Node) → slice_get nodes at ≡ Some node → Keeps others at node) (name : List ℕ) where
+module _ (nodes others : List Node)
+    (keeps : (at : ℕ) (node : Node) → slice_get nodes at ≡ Some node → Keeps others at node)
+    (name : List ℕ) where
   -- a way that came to a place comes to it among the other nodes
   pub still : (steps depth at place : ℕ) → way nodes name steps depth at ≡ Some (Ok place)
       → way others name (suc steps) depth at ≡ Some (Ok place)
@@ -89,7 +91,8 @@ module _ (nodes : List Node) (name : List ℕ) where
       ] refl e
 
   -- a way ends at a node with no link on that side
-  pub ends : (steps depth at last : ℕ) (right : Bool) → way nodes name steps depth at ≡ Some (Err (last, right))
+  pub ends : (steps depth at last : ℕ) (right : Bool)
+      → way nodes name steps depth at ≡ Some (Err (last, right))
       → (node : Node) × (slice_get nodes last ≡ Some node) × (link_of right node ≡ 0)
   ends zero depth at last right e = absurd (none-some _ e)
   ends (suc steps) depth at last right e =
@@ -113,7 +116,8 @@ module _ (nodes : List Node) (name : List ℕ) where
       ] refl e
 
 module _ {X : Type 0} where
-  pub get_before : (xs ys : List X) (i : ℕ) (x : X) → slice_get xs i ≡ Some x → slice_get (xs ++ ys) i ≡ Some x
+  pub get_before : (xs ys : List X) (i : ℕ) (x : X) → slice_get xs i ≡ Some x
+      → slice_get (xs ++ ys) i ≡ Some x
   get_before [] ys i x e = absurd (none-some x e)
   get_before (y ∷ xs) ys zero x e = e
   get_before (y ∷ xs) ys (suc i) x e = get_before xs ys i x e
@@ -133,7 +137,8 @@ module _ {X : Type 0} where
         | inr last ↦ inr (ap suc last.0, last.1)
       ]
 
-  pub got_set : (xs : List X) (j : ℕ) (y : X) (i : ℕ) (x : X) → slice_get (slice_set xs j y) i ≡ Some x
+  pub got_set : (xs : List X) (j : ℕ) (y : X) (i : ℕ) (x : X)
+      → slice_get (slice_set xs j y) i ≡ Some x
       → (slice_get xs i ≡ Some x) ⊎ ((i ≡ j) × (x ≡ y))
   got_set [] j y i x e = inl e
   got_set (z ∷ xs) zero y zero x e = inr (refl, sym (same_Some y x e))
@@ -149,9 +154,12 @@ abbrev IsBare : Node → Type 0
 IsBare node = (right : Bool) → link_of right node ≡ 0
 
 -- where the first nodes are as they were, but for one that has a further link
-keeps_grown : (nodes : List Node) (last : ℕ) (node other new : Node) → slice_get nodes last ≡ Some node
-    → other.name ≡ node.name → ((right : Bool) → link_of right node ≢ 0 → link_of right other ≡ link_of right node)
-    → (at : ℕ) (x : Node) → slice_get nodes at ≡ Some x → Keeps (slice_set nodes last other ++ new ∷ []) at x
+keeps_grown : (nodes : List Node) (last : ℕ) (node other new : Node)
+    → slice_get nodes last ≡ Some node
+    → other.name ≡ node.name
+    → ((right : Bool) → link_of right node ≢ 0 → link_of right other ≡ link_of right node)
+    → (at : ℕ) (x : Node) → slice_get nodes at ≡ Some x
+    → Keeps (slice_set nodes last other ++ new ∷ []) at x
 keeps_grown [] last node other new there same links at x is = absurd (none-some x is)
 keeps_grown (n ∷ nodes) zero node other new there same links zero x is =
     let here : node ≡ x = sym (same_Some n node there) ∙ same_Some n x is in
@@ -164,7 +172,8 @@ keeps_grown (n ∷ nodes) (suc last) node other new there same links (suc at) x 
     let k = keeps_grown nodes last node other new there same links at x is in
     record { other = k.other; there = k.there; same = k.same; links = k.links }
 
-keeps_added : (nodes : List Node) (new : Node) (at : ℕ) (x : Node) → slice_get nodes at ≡ Some x → Keeps (nodes ++ new ∷ []) at x
+keeps_added : (nodes : List Node) (new : Node) (at : ℕ) (x : Node) → slice_get nodes at ≡ Some x
+    → Keeps (nodes ++ new ∷ []) at x
 keeps_added nodes new at x is = record { other = x; there = get_before nodes (new ∷ []) at x is; same = refl; links = λ right some. refl }
 
 -- a place below the number of nodes is that of a way that came to it
@@ -191,13 +200,15 @@ one_or_other false true place node = inr refl
 one_or_other false false place node = inl refl
 
 keeps_links : (right : Bool) (place : ℕ) (node : Node) → link_of right node ≡ 0
-    → (side : Bool) → link_of side node ≢ 0 → link_of side (linked right place node) ≡ link_of side node
+    → (side : Bool) → link_of side node ≢ 0
+    → link_of side (linked right place node) ≡ link_of side node
 keeps_links true place node none true some = absurd (some none)
 keeps_links true place node none false some = refl
 keeps_links false place node none true some = refl
 keeps_links false place node none false some = absurd (some none)
 
-link_made : (right : Bool) (place : ℕ) (node : Node) → link_of right (linked right place node) ≡ place
+link_made : (right : Bool) (place : ℕ) (node : Node)
+    → link_of right (linked right place node) ≡ place
 link_made true place node = refl
 link_made false place node = refl
 
@@ -301,7 +312,8 @@ module _ (nodes : List Node) (new : Node) (bare : IsBare new) (indexed : IsIndex
     grown_linked = (ascends, leads_grown others longer keeps each comes_there)
 
   -- a node whose name is there already needs no link
-  pub grown_same : (place : ℕ) → end_of nodes (bytes_in new) ≡ Some (Ok place) → IsIndexed (nodes ++ new ∷ [])
+  pub grown_same : (place : ℕ) → end_of nodes (bytes_in new) ≡ Some (Ok place)
+      → IsIndexed (nodes ++ new ∷ [])
   grown_same place came =
       let keeps = keeps_added nodes new in
       let on = still nodes (nodes ++ new ∷ []) keeps (bytes_in new) (length nodes) 0 0 place came in
@@ -339,7 +351,8 @@ indexed_one node bare = (
 )
 
 -- one step of a way
-pub step : (nodes : List Node) (name : List ℕ) (at depth : ℕ) (node : Node) → slice_get nodes at ≡ Some node → depth < length nodes
+pub step : (nodes : List Node) (name : List ℕ) (at depth : ℕ) (node : Node)
+    → slice_get nodes at ≡ Some node → depth < length nodes
     → way nodes name (length nodes - depth) depth at
     ≡ stop name (turns name depth) at (λ next. way nodes name (length nodes - (depth + 1)) (depth + 1) next) (Some node)
 step nodes name at depth node there within =
@@ -347,7 +360,8 @@ step nodes name at depth node there within =
     ap (λ steps. way nodes name steps depth at) one ∙ ap (stop name (turns name depth) at (λ next. way nodes name (length nodes - (depth + 1)) (depth + 1) next)) there
 
 module _ {T : Type 0} where
-  pub nodes_get : (entries : List (Entry T)) (i : ℕ) (e : Entry T) → slice_get entries i ≡ Some e → slice_get (nodes_in entries) i ≡ Some (node_of e)
+  pub nodes_get : (entries : List (Entry T)) (i : ℕ) (e : Entry T) → slice_get entries i ≡ Some e
+      → slice_get (nodes_in entries) i ≡ Some (node_of e)
   nodes_get [] i e is = absurd (none-some e is)
   nodes_get (x ∷ xs) zero e is = ap (λ (y : Entry T). Some (node_of y)) (same_Some x e is)
   nodes_get (x ∷ xs) (suc i) e is = nodes_get xs i e is
@@ -359,7 +373,8 @@ pub below : {X : Type 0} (at count : ℕ) (xs : List X) → at < length (take co
 below at count xs within = omega (arith, within, length-take count xs)
 
 -- an entry without links, b, is put in behind those that have an index
-module _ {T : Type 0} (es : List (Entry T)) (count : ℕ) (d b : Entry T) (is : b ≡ bare (get_or es count d)) (within : count < length es) where
+module _ {T : Type 0} (es : List (Entry T)) (count : ℕ) (d b : Entry T)
+    (is : b ≡ bare (get_or es count d)) (within : count < length es) where
   abbrev cleared : List (Entry T)
   cleared = slice_set es count b
 
@@ -379,8 +394,10 @@ module _ {T : Type 0} (es : List (Entry T)) (count : ℕ) (d b : Entry T) (is : 
   is_bare true = ap (λ (x : Entry T). x.right) is
   is_bare false = ap (λ (x : Entry T). x.left) is
 
-  pub sought : (name : List ℕ) (s : Entry T) (r : Result ℕ (ℕ × Bool)) → name ≡ bytes_in (node_of (get_or cleared count s))
-      → end_of (nodes_in (take count cleared)) name ≡ Some r → end_of before (bytes_in (node_of b)) ≡ Some r
+  pub sought : (name : List ℕ) (s : Entry T) (r : Result ℕ (ℕ × Bool))
+      → name ≡ bytes_in (node_of (get_or cleared count s))
+      → end_of (nodes_in (take count cleared)) name ≡ Some r
+      → end_of before (bytes_in (node_of b)) ≡ Some r
   sought name s r named ended =
       let same : get_or cleared count s ≡ b = get_or-set_same es count b s within in
       let names : name ≡ bytes_in (node_of b) = named ∙ ap (λ (x : Entry T). bytes_in (node_of x)) same in
@@ -396,7 +413,8 @@ module _ {T : Type 0} (es : List (Entry T)) (count : ℕ) (d b : Entry T) (is : 
         → IsIndexed (nodes_in (take (count + 1) cleared))
     same_included place came = subst IsIndexed (sym more) (grown_same before (node_of b) is_bare indexed place came)
 
-    module _ (at : ℕ) (right : Bool) (e y : Entry T) (linked_is : y ≡ with_link right count (get_or cleared at e)) (low : at < count) where
+    module _ (at : ℕ) (right : Bool) (e y : Entry T)
+        (linked_is : y ≡ with_link right count (get_or cleared at e)) (low : at < count) where
       abbrev joined : List (Entry T)
       joined = slice_set cleared at y
 
@@ -428,21 +446,25 @@ module _ {T : Type 0} (es : List (Entry T)) (count : ℕ) (d b : Entry T) (is : 
           nodes_get (take count es) at x
           (slice_get-get_or (take count es) at e (omega (arith, length-take-le count es (omega (arith, within)), low)) ∙ ap Some cut)
 
-      pub joined_included : end_of before (bytes_in (node_of b)) ≡ Some (Err (at, right)) → IsIndexed (nodes_in (take (count + 1) joined))
+      pub joined_included : end_of before (bytes_in (node_of b)) ≡ Some (Err (at, right))
+          → IsIndexed (nodes_in (take (count + 1) joined))
       joined_included ended =
           let grown = grown_linked before (node_of b) is_bare indexed at right (node_of x) x_there ended in
           subst IsIndexed (sym joined_nodes) (subst (λ n. IsIndexed (slice_set before at (linked right n (node_of x)) ++ node_of b ∷ [])) its_length grown)
 
 module _ {T : Type 0} where
-  pub fields_set : (es : List (Entry T)) (i : ℕ) (y : Entry T) → fields_in (slice_set es i y) ≡ slice_set (fields_in es) i y.field
+  pub fields_set : (es : List (Entry T)) (i : ℕ) (y : Entry T)
+      → fields_in (slice_set es i y) ≡ slice_set (fields_in es) i y.field
   fields_set es i y = map-set (λ e. e.field) es i y
 
-  pub field_there : (es : List (Entry T)) (i : ℕ) (e : Entry T) → slice_get es i ≡ Some e → slice_get (fields_in es) i ≡ Some e.field
+  pub field_there : (es : List (Entry T)) (i : ℕ) (e : Entry T) → slice_get es i ≡ Some e
+      → slice_get (fields_in es) i ≡ Some e.field
   field_there [] i e is = absurd (none-some e is)
   field_there (x ∷ xs) zero e is = ap (λ (y : Entry T). Some y.field) (same_Some x e is)
   field_there (x ∷ xs) (suc i) e is = field_there xs i e is
 
-  pub fields_removed : (es : List (Entry T)) (i : ℕ) → fields_in (remove es i) ≡ remove (fields_in es) i
+  pub fields_removed : (es : List (Entry T)) (i : ℕ)
+      → fields_in (remove es i) ≡ remove (fields_in es) i
   fields_removed es i =
       map-append (λ e. e.field) (take i es) (drop (suc i) es)
       ∙ (λ k. sym (take-map (λ (e : Entry T). e.field) i es) k ++ sym (drop-map (λ (e : Entry T). e.field) (suc i) es) k)
@@ -454,7 +476,8 @@ refilled xs ys same =
     all ∙ take-append_seam ys (drop (length ys) xs)
 
 -- where the way of a name comes to is the first place of the name
-module _ {T : Type 0} (es : List (Entry T)) (name : List ℕ) (indexed : IsIndexed (nodes_in es)) where
+module _ {T : Type 0} (es : List (Entry T)) (name : List ℕ)
+    (indexed : IsIndexed (nodes_in es)) where
   not_before : (i k : ℕ) (d : Field T) → place_of (nodes_in es) name ≡ i → i ≤ length es → k < i
       → has_name name (get_or (fields_in es) k d) ≡ false
   not_before i k d place low before =
@@ -472,7 +495,8 @@ module _ {T : Type 0} (es : List (Entry T)) (name : List ℕ) (indexed : IsIndex
         | inr past ↦ absurd (omega (arith, past.0, before, low))
       ]
 
-  pub position_found : (at : ℕ) → end_of (nodes_in es) name ≡ Some (Ok at) → Some at ≡ position (has_name name) (fields_in es)
+  pub position_found : (at : ℕ) → end_of (nodes_in es) name ≡ Some (Ok at)
+      → Some at ≡ position (has_name name) (fields_in es)
   position_found at came =
       let c = comes (nodes_in es) name (length (nodes_in es)) 0 0 at came in
       let within : at < length es = omega (arith, slice_get_within (nodes_in es) at c.0 c.1, nodes_length es) in
@@ -492,7 +516,8 @@ module _ {T : Type 0} (es : List (Entry T)) (name : List ℕ) (indexed : IsIndex
         | inr past ↦ absurd (omega (arith, past.0, within))
       ]
 
-  pub position_missing : (end : ℕ × Bool) → end_of (nodes_in es) name ≡ Some (Err end) → None ≡ position (has_name name) (fields_in es)
+  pub position_missing : (end : ℕ × Bool) → end_of (nodes_in es) name ≡ Some (Err end)
+      → None ≡ position (has_name name) (fields_in es)
   position_missing end ended =
       let long : length (fields_in es) ≡ length es = length-map es (λ x. x.field) in
       elim (slice_get_cases es 0).1 [
@@ -513,14 +538,16 @@ module _ {X Y : Type 0} (f : X → Y) (p : Y → Bool) where
   pub position_along : (xs : List X) → position (λ x. p (f x)) xs ≡ position p (map f xs)
   position_along xs = λ i. cond (nat_lt (first_along xs i) (sym (length-map xs f) i)) (Some (first_along xs i)) None
 
-dropped_set : {T : Type 0} (es : List (Entry T)) (i : ℕ) (x y : Entry T) → slice_get es i ≡ Some x → y.left ≡ x.left
+dropped_set : {T : Type 0} (es : List (Entry T)) (i : ℕ) (x y : Entry T) → slice_get es i ≡ Some x
+    → y.left ≡ x.left
     → is_dropped (slice_set es i y) ≡ is_dropped es
 dropped_set [] i x y there same = refl
 dropped_set (e ∷ es) zero x y there same = ap (λ n. nat_lt (2 ^ 63) n) (same ∙ ap (λ (z : Entry _). z.left) (sym (same_Some e x there)))
 dropped_set (e ∷ es) (suc i) x y there same = refl
 
 -- another entry at a place, whose name and links are the same
-module _ {T : Type 0} (es : List (Entry T)) (i : ℕ) (x y : Entry T) (there : slice_get es i ≡ Some x) (same : node_of y ≡ node_of x) where
+module _ {T : Type 0} (es : List (Entry T)) (i : ℕ) (x y : Entry T)
+    (there : slice_get es i ≡ Some x) (same : node_of y ≡ node_of x) where
   nodes_kept : nodes_in (slice_set es i y) ≡ nodes_in es
   nodes_kept = map-set_same node_of es i y x (same ∙ ap node_of (sym (get_or_from_slice_get es i x x there)))
 

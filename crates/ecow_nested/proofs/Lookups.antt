@@ -32,17 +32,21 @@ module _ (name : List ℕ) where
   abbrev first : List (Field Value) → ℕ
   first = position_or_len (has_name name)
 
-  pub found : (fs : List (Field Value)) (at : ℕ) (d : Field Value) → Some at ≡ position (has_name name) fs → look_up name fs ≡ Some (get_or fs at d).value
+  pub found : (fs : List (Field Value)) (at : ℕ) (d : Field Value)
+      → Some at ≡ position (has_name name) fs → look_up name fs ≡ Some (get_or fs at d).value
   found fs at d e =
       let is = placed (first fs) (length fs) at e in
       ap value_in (find_at (has_name name) fs ∙ ap (slice_get fs) (sym is.0) ∙ slice_get-get_or fs at d is.1)
 
-  pub taken : (fs : List (Field Value)) (at : ℕ) (f : Field Value) → Some at ≡ position (has_name name) fs → slice_get fs at ≡ Some f → look_up name fs ≡ Some f.value
+  pub taken : (fs : List (Field Value)) (at : ℕ) (f : Field Value)
+      → Some at ≡ position (has_name name) fs → slice_get fs at ≡ Some f
+      → look_up name fs ≡ Some f.value
   taken fs at f e read =
       let is = placed (first fs) (length fs) at e in
       ap value_in (find_at (has_name name) fs ∙ ap (slice_get fs) (sym is.0) ∙ read)
 
-  pub there : (fs : List (Field Value)) (at : ℕ) → Some at ≡ position (has_name name) fs → look_up name fs ≡ None → ⊥
+  pub there : (fs : List (Field Value)) (at : ℕ) → Some at ≡ position (has_name name) fs
+      → look_up name fs ≡ None → ⊥
   there fs at e none =
       let is = placed (first fs) (length fs) at e in
       elim (slice_get_cases fs at).1 [
@@ -50,7 +54,8 @@ module _ (name : List ℕ) where
         | inr past ↦ absurd (omega (arith, past.0, is.1))
       ]
 
-  pub missing : (fs : List (Field Value)) (r : Option ℕ) → r ≡ None → r ≡ position (has_name name) fs → look_up name fs ≡ None
+  pub missing : (fs : List (Field Value)) (r : Option ℕ) → r ≡ None
+      → r ≡ position (has_name name) fs → look_up name fs ≡ None
   missing fs r none e = ap value_in (find_at (has_name name) fs ∙ slice_get_past fs (first fs) (unplaced (first fs) (length fs) r none e))
 
   module _ (value : Value) where
@@ -58,7 +63,8 @@ module _ (name : List ℕ) where
     abbrev pub renewed : Field Value → Field Value
     renewed f = record { name = f.name; value = value }
 
-    set_first : (fs : List (Field Value)) (d : Field Value) → first fs < length fs → slice_set fs (first fs) (renewed (get_or fs (first fs) d)) ≡ with_field name value fs
+    set_first : (fs : List (Field Value)) (d : Field Value) → first fs < length fs
+        → slice_set fs (first fs) (renewed (get_or fs (first fs) d)) ≡ with_field name value fs
     set_first [] d h = absurd (omega (arith, h))
     set_first (f ∷ fs) d h =
         elim (has_name name f) as (λ b. cond (not b) (1 + first fs) 0 < suc (length fs)
@@ -69,7 +75,8 @@ module _ (name : List ℕ) where
               ∙ ap (λ r. f ∷ r) (set_first fs d (omega (arith, h)))
         ] h
 
-    pub set_there : (fs : List (Field Value)) (at : ℕ) (d : Field Value) → Some at ≡ position (has_name name) fs
+    pub set_there : (fs : List (Field Value)) (at : ℕ) (d : Field Value)
+        → Some at ≡ position (has_name name) fs
         → slice_set fs at (renewed (get_or fs at d)) ≡ with_field name value fs
     set_there fs at d e =
         let is = placed (first fs) (length fs) at e in
@@ -86,19 +93,22 @@ module _ (name : List ℕ) where
           | false ↦ λ h. ap (λ r. f ∷ r) (push_last fs (omega (arith, h)))
         ] h
 
-    pub pushed : (fs : List (Field Value)) (r : Option ℕ) → r ≡ None → r ≡ position (has_name name) fs
+    pub pushed : (fs : List (Field Value)) (r : Option ℕ) → r ≡ None
+        → r ≡ position (has_name name) fs
         → fs ++ new_field name value ∷ [] ≡ with_field name value fs
     pushed fs r none e = push_last fs (unplaced (first fs) (length fs) r none e)
 
   -- a field in the place of the first one of that name, which has the same name
-  pub set_found : (fs : List (Field Value)) (at : ℕ) (f g : Field Value) → Some at ≡ position (has_name name) fs → slice_get fs at ≡ Some f → g.name ≡ f.name
+  pub set_found : (fs : List (Field Value)) (at : ℕ) (f g : Field Value)
+      → Some at ≡ position (has_name name) fs → slice_get fs at ≡ Some f → g.name ≡ f.name
       → slice_set fs at g ≡ with_field name g.value fs
   set_found fs at f g e read same =
       ap (λ n. slice_set fs at (record { name = n; value = g.value })) same
       ∙ ap (λ h. slice_set fs at (renewed g.value h)) (sym (get_or_from_slice_get fs at f f read))
       ∙ set_there g.value fs at f e
 
-  remove_first : (fs : List (Field Value)) → first fs < length fs → remove fs (first fs) ≡ without_field name fs
+  remove_first : (fs : List (Field Value)) → first fs < length fs
+      → remove fs (first fs) ≡ without_field name fs
   remove_first [] h = absurd (omega (arith, h))
   remove_first (f ∷ fs) h =
       elim (has_name name f) as (λ b. cond (not b) (1 + first fs) 0 < suc (length fs)
@@ -107,7 +117,8 @@ module _ (name : List ℕ) where
         | false ↦ λ h. ap (remove (f ∷ fs)) (one_more (first fs)) ∙ ap (λ r. f ∷ r) (remove_first fs (omega (arith, h)))
       ] h
 
-  pub removed : (fs : List (Field Value)) (at : ℕ) → Some at ≡ position (has_name name) fs → remove fs at ≡ without_field name fs
+  pub removed : (fs : List (Field Value)) (at : ℕ) → Some at ≡ position (has_name name) fs
+      → remove fs at ≡ without_field name fs
   removed fs at e =
       let is = placed (first fs) (length fs) at e in
       ap (remove fs) is.0 ∙ remove_first fs (omega (arith, is.0, is.1))

@@ -33,7 +33,8 @@ item_elsewhere None i j after apart = refl
 item_elsewhere (Some items) i j after apart = get_set_other items i j after (λ same. apart (sym same))
 
 -- another value in the first field of a name
-look_there : (name : List ℕ) (fs : List (Field Value)) (before after : Value) → look_up name fs ≡ Some before → look_up name (with_field name after fs) ≡ Some after
+look_there : (name : List ℕ) (fs : List (Field Value)) (before after : Value)
+    → look_up name fs ≡ Some before → look_up name (with_field name after fs) ≡ Some after
 look_there name [] before after found = absurd (none-some before found)
 look_there name (f ∷ fs) before after found =
     elim (has_name name f) as (λ b. has_name name f ≡ b → value_in (cond b (Some f) (find (has_name name) fs)) ≡ Some before
@@ -47,11 +48,13 @@ is_false : (b : Bool) → (b ≡ true → ⊥) → b ≡ false
 is_false true never = absurd (never refl)
 is_false false never = refl
 
-value_behind : (b : Bool) (f : Field Value) (x y : Option (Field Value)) → value_in x ≡ value_in y → value_in (cond b (Some f) x) ≡ value_in (cond b (Some f) y)
+value_behind : (b : Bool) (f : Field Value) (x y : Option (Field Value)) → value_in x ≡ value_in y
+    → value_in (cond b (Some f) x) ≡ value_in (cond b (Some f) y)
 value_behind true f x y same = refl
 value_behind false f x y same = same
 
-module _ (name other : List ℕ) (apart : (f : Field Value) → has_name name f ≡ true → has_name other f ≡ true → ⊥) where
+module _ (name other : List ℕ)
+    (apart : (f : Field Value) → has_name name f ≡ true → has_name other f ≡ true → ⊥) where
   look_elsewhere : (fs : List (Field Value)) (before after : Value) → look_up name fs ≡ Some before
       → look_up other (with_field name after fs) ≡ look_up other fs
   look_elsewhere [] before after found = absurd (none-some before found)
@@ -67,19 +70,22 @@ module _ (name other : List ℕ) (apart : (f : Field Value) → has_name name f 
             (look_elsewhere fs before after found)
       ] refl found
 
-field_there : (o : Option (List (Field Value))) (name : List ℕ) (before after : Value) → option_and_then (look_up name) o ≡ Some before
+field_there : (o : Option (List (Field Value))) (name : List ℕ) (before after : Value)
+    → option_and_then (look_up name) o ≡ Some before
     → option_and_then (look_up name) (option_map (with_field name after) o) ≡ Some after
 field_there None name before after found = absurd (none-some before found)
 field_there (Some fs) name before after found = look_there name fs before after found
 
 field_elsewhere : (o : Option (List (Field Value))) (name other : List ℕ) (before after : Value)
-    → ((f : Field Value) → has_name name f ≡ true → has_name other f ≡ true → ⊥) → option_and_then (look_up name) o ≡ Some before
+    → ((f : Field Value) → has_name name f ≡ true → has_name other f ≡ true → ⊥)
+    → option_and_then (look_up name) o ≡ Some before
     → option_and_then (look_up other) (option_map (with_field name after) o) ≡ option_and_then (look_up other) o
 field_elsewhere None name other before after apart found = refl
 field_elsewhere (Some fs) name other before after apart found = look_elsewhere name other apart fs before after found
 
 -- a field has the characters of its name
-named : (name : PlainText) (f : Field Value) → has_name (encode_utf8_all name.chars) f ≡ true → f.name.chars ≡ name.chars
+named : (name : PlainText) (f : Field Value) → has_name (encode_utf8_all name.chars) f ≡ true
+    → f.name.chars ≡ name.chars
 named name f has =
     let same = bytes_decides (encode_utf8_all f.name.chars) (encode_utf8_all name.chars) in
     encodes_same f.name.chars name.chars (same.0 has)
@@ -91,7 +97,8 @@ items_in layer = elim layer [ Value-F.List nested ↦ Some nested.items | _ ↦ 
 abbrev fields_in : Value-F Value → Option (List (Field Value))
 fields_in layer = elim layer [ Value-F.Fields nested ↦ Some nested.items | _ ↦ None ]
 
-one_of_both : (layer : Value-F Value) (items : List Value) (fields : List (Field Value)) → items_in layer ≡ Some items → fields_in layer ≡ Some fields → ⊥
+one_of_both : (layer : Value-F Value) (items : List Value) (fields : List (Field Value))
+    → items_in layer ≡ Some items → fields_in layer ≡ Some fields → ⊥
 one_of_both (Value-F.List nested) xs fs has_items has_fields = none-some fs has_fields
 one_of_both (Value-F.Fields nested) xs fs has_items has_fields = none-some xs has_items
 one_of_both Value-F.Nothing xs fs has_items has_fields = none-some xs has_items

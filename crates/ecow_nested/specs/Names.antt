@@ -21,7 +21,8 @@ Revalues {T} old index was is new =
     (name : PlainText) × (slice_get old index ≡ Some (named name was))
     × (new ≡ slice_set old index (named name is))
 
-module _ {F T R : Type 0} (g : Once F (MutBor T × Unit {0}) (R × (MutBor T × Unit {0}))) (f : F) where
+module _ {F T R : Type 0} (g : Once F (MutBor T × Unit {0}) (R × (MutBor T × Unit {0})))
+    (f : F) where
   -- f takes the value of the field at the index
   abbrev pub TakesValueAt : List (Field T) → ℕ → Type 0
   TakesValueAt fields index = (field : Field T) → slice_get fields index ≡ Some field

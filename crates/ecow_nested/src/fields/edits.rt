@@ -93,7 +93,8 @@ impl Fields<Value> {
     ) -> Result<R, EcoError>
         requires in_bounds { index < length self.old }
         requires callable { TakesValueAt F.FnOnce f self.old index }
-        ensures ok { IfOk result (λ answer. UpdatesValueAt F.FnOnce f index self.old answer self.new) }
+        ensures ok { IfOk result
+            (λ answer. UpdatesValueAt F.FnOnce f index self.old answer self.new) }
         ensures unchanged { OnErr result (self.new ≡ self.old) }
         ensures memory { IfErr result (λ error. error ≡ EcoError.Memory) }
     {

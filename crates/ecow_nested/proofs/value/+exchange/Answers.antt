@@ -19,11 +19,13 @@ use Rattle.ecow_nested.specs.Paths.{value_at}
 use Rattle.ecow_nested.specs.Values.{deepest, deepest_field, depth_of, field_depth}
 
 -- a part that is lent, and what is left once it was written
-there : {X : Type 0} (xs lent : List X) (i : ℕ) (d : X) → lent ≡ xs → i < length xs → slice_get xs i ≡ Some (get_or lent i d)
+there : {X : Type 0} (xs lent : List X) (i : ℕ) (d : X) → lent ≡ xs → i < length xs
+    → slice_get xs i ≡ Some (get_or lent i d)
 there xs lent i d same within =
     ap (λ l. slice_get l i) (sym same) ∙ slice_get-get_or lent i d (omega (arith, ap length same, within))
 
-written : {X : Type 0} (xs block lent left : List X) (i : ℕ) (y : X) → left ≡ refill (length block) block (slice_set lent i y)
+written : {X : Type 0} (xs block lent left : List X) (i : ℕ) (y : X)
+    → left ≡ refill (length block) block (slice_set lent i y)
     → lent ≡ block → block ≡ xs → left ≡ slice_set xs i y
 written xs block lent left i y is same was =
     is

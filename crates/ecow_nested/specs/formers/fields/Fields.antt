@@ -102,7 +102,8 @@ module _ (R S : RattleType) (h : R.Denot → S.Denot) where
       (Π_prop (λ right. Π_prop (λ i. Π_prop (λ node. Π_prop (λ is. Π_prop (λ some. ×_prop le_prop le_prop))))))
       (Π_prop (λ i. Π_prop (λ node. Π_prop (λ is. le_prop))))))
 
-  pub the_places : Alike R S h → Alike (C.the_row R) (C.the_row S) ((the_former this).map R.Denot S.Denot h)
+  pub the_places : Alike R S h
+      → Alike (C.the_row R) (C.the_row S) ((the_former this).map R.Denot S.Denot h)
   the_places a = view_places fields (list (field this)) view (λ X Y k u. fields_along k u.entries) (λ X u. fields_held X u.entries)
       R.Denot S.Denot h (C.the_row R).coded (C.the_row S).coded
       (invariant R.Denot) (invariant S.Denot) (λ u. IsFound-prop R.Denot u.entries) (λ u. IsFound-prop S.Denot u.entries)
@@ -111,5 +112,6 @@ module _ (R S : RattleType) (h : R.Denot → S.Denot) where
       (struct_places (I.the_type R) (I.the_type S) (map (on_entry h), tt) _ (λ d. refl) refl
       (laid _ _ _ (vec.the_places (entry_row.the_row R) (entry_row.the_row S) (on_entry h) (entry_places a)), tt))
 
-  pub the_codes_placed : Recodes R S h → Recodes (C.the_row R) (C.the_row S) ((the_former this).map R.Denot S.Denot h)
+  pub the_codes_placed : Recodes R S h
+      → Recodes (C.the_row R) (C.the_row S) ((the_former this).map R.Denot S.Denot h)
   the_codes_placed e d = sym (code_map _ _ (on_field h) (λ x i. gcons ((text_row.the_row (number 15)).coded.code x.name) (sym (e x.value) i)) d)
