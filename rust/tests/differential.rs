@@ -1,7 +1,7 @@
 //! Random edits of values that share memory, each beside the same of std. `EDITS` says how many there are of each type.
 
 use ecow::{EcoString, EcoVec, SmallBytes, SmallText};
-use std::cell::Cell;
+use std::cell::{Cell, RefCell};
 use std::collections::hash_map::DefaultHasher;
 use std::fmt::Debug;
 use std::hash::{Hash, Hasher};
@@ -194,6 +194,11 @@ fn vectors_of_no_bytes_and_of_aligned_elements() {
     assert_eq!(LIVE.get(), 0);
 }
 
+/// The room of a vector that needs so much: what it has, or twice that, and 4 at least.
+fn room(needed: usize, room: usize) -> usize {
+    if needed <= room { room } else { needed.max(2 * room).max(4) }
+}
+
 /// One call at a time on vectors whose lengths are powers of two, their neighbours, or drawn between powers.
 fn sizes<T: Clone + Debug + Ord + Hash>(power: usize, make: impl Fn(u64) -> T) {
     let mut random = Random(power as u64);
@@ -202,8 +207,9 @@ fn sizes<T: Clone + Debug + Ord + Hash>(power: usize, make: impl Fn(u64) -> T) {
         let len = [power - 1, power, power + 1, power + random.below(power)][round % 4];
         let made: Vec<T> = (0..len as u64).map(&make).collect();
         let (mut ours, mut std, at) = (EcoVec::from(made.as_slice()), made.clone(), random.below(len));
-        let kept = (round % 8 < 4).then(|| ours.clone());
-        match random.below(9) {
+        let (kept, call, made_room) = ((round % 8 < 4).then(|| ours.clone()), random.below(9), room(len, 0));
+        assert_eq!(ours.capacity(), made_room, "of {len}");
+        match call {
             0 => same!(ours, std, push(make(7))),
             1 => same!(ours, std, insert(at, make(7))),
             2 if len > 0 => same!(ours, std, remove(at)),
@@ -214,6 +220,8 @@ fn sizes<T: Clone + Debug + Ord + Hash>(power: usize, make: impl Fn(u64) -> T) {
             7 => assert!(ours.splice(..at, made.iter().cloned()).eq(std.splice(..at, made.iter().cloned()))),
             _ => ours = std::mem::take(&mut ours).into_iter().collect(),
         }
+        let needed = [Some(len + 1), Some(len + 1), None, None, Some(2 * len)].get(call).copied().flatten();
+        assert!(needed.is_none_or(|needed| ours.capacity() == room(needed, made_room)), "of {len}");
         assert!(ours == std && ours.cmp(&EcoVec::from(std)).is_eq(), "of {len}");
         assert!(kept.is_none_or(|kept| kept == made), "of {len}");
     }
@@ -221,13 +229,74 @@ fn sizes<T: Clone + Debug + Ord + Hash>(power: usize, make: impl Fn(u64) -> T) {
 
 #[test]
 fn vectors_of_each_size() {
-    sizes(22, |n| n as u8);
+    sizes(24, |n| n as u8);
+    sizes(21, |n| n as u16);
     sizes(20, |n| [n as u8, 1, 2]);
     sizes(19, |n| n as i64);
+    sizes(17, |n| [n; 3]);
     sizes(16, |n| [n as u8; 65]);
     sizes(15, |n| Counted::new(Box::new(n)));
     sizes(10, |n| [n as u8; 4096]);
     assert_eq!(LIVE.get(), 0);
+}
+
+/// Room for a gibibyte is given as it is asked for, and takes no time while nothing stands there.
+#[test]
+fn large_rooms() {
+    for room in [(1 << 26) + 1, 1 << 30] {
+        assert_eq!(EcoVec::<u8>::with_capacity(room).capacity(), room);
+        assert_eq!(SmallBytes::<15>::with_capacity(room).capacity(), room);
+        assert_eq!(EcoString::with_capacity(room).capacity(), room);
+        let (mut vector, mut bytes) = (EcoVec::from([1u8; 5]), SmallBytes::<15>::from([1; 20].as_slice()));
+        vector.reserve(room);
+        bytes.reserve(room);
+        assert_eq!((vector.capacity(), bytes.capacity()), (room + 5, room + 20));
+    }
+}
+
+thread_local!(static DROPPED: RefCell<Vec<u64>> = const { RefCell::new(Vec::new()) });
+
+/// An element that tells when it is dropped.
+#[derive(Clone)]
+struct Told(u64);
+
+impl Drop for Told {
+    fn drop(&mut self) {
+        DROPPED.with_borrow_mut(|dropped| dropped.push(self.0));
+    }
+}
+
+/// What a call drops, of our vector and of std's, in the same order.
+macro_rules! same_drops {
+    ($v:ident, $call:expr) => {{
+        let dropped = |mut $v: EcoVec<Told>| {
+            DROPPED.take();
+            $call;
+            DROPPED.take()
+        };
+        let of_std = |mut $v: Vec<Told>| {
+            DROPPED.take();
+            $call;
+            DROPPED.take()
+        };
+        assert_eq!(dropped((0..9).map(Told).collect()), of_std((0..9).map(Told).collect()), "{}", stringify!($call));
+    }};
+}
+
+#[test]
+fn drops_are_in_order() {
+    same_drops!(v, drop(std::mem::take(&mut v)));
+    same_drops!(v, v.clear());
+    same_drops!(v, v.truncate(3));
+    same_drops!(v, v.retain(|told| told.0 % 3 == 0));
+    same_drops!(v, drop(v.drain(2..7)));
+    same_drops!(v, drop(v.splice(2..7, (20..23).map(Told))));
+    same_drops!(v, {
+        let mut rest = std::mem::take(&mut v).into_iter();
+        drop((rest.next(), rest.next_back()));
+        drop(rest);
+    });
+    same_drops!(v, drop(std::mem::replace(&mut v, [3, 2, 1].map(Told).into_iter().collect())));
 }
 
 macro_rules! at_limits {

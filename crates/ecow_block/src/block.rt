@@ -236,7 +236,7 @@ impl<T> Block<T> {
         item
     }
 
-    /// Drops the elements from `len` on.
+    /// Drops the elements from `len` on, in their order.
     pub fn truncate(&mut self, len: usize)
     where
         T: Drop,
@@ -246,7 +246,9 @@ impl<T> Block<T> {
         if all > len {
             let base = fields(&self.title, self.top).base;
             put_len(&mut self.title, self.top, len);
-            self.room.drop_last(base, len, all - len);
+            let mut gone = self.room.split_off(len);
+            gone.drop_all(base, len, all - len);
+            self.room.widen(gone);
         }
     }
 
@@ -655,7 +657,7 @@ impl<T: Drop> Drop for Block<T> {
         } = self;
         if !is_none(top) {
             let head = *fields(&title, top);
-            room.drop_last(head.base, 0, head.len);
+            room.drop_all(head.base, 0, head.len);
         }
         give_back_parts(top, room, title, deed, &alloc);
     }

@@ -426,8 +426,29 @@ impl<T> Room<T> {
         self.widen(spare);
     }
 
+    /// Drops all items, of which there are `len`, in their order. The first lies in the place numbered
+    /// `start`.
+    pub(crate) fn drop_all(&mut self, base: Base<T>, start: usize, len: usize)
+    where
+        T: Drop,
+        requires { (base.ptr ≡ self.old.at) × (start ≡ self.old.start)
+            × (len ≡ length self.old.items) × (start + len < 2 ^ 64) }
+        ensures items { self.new.items ≡ [] }
+        ensures places { SamePlaces self.old self.new }
+    {
+        let mut rest = self.split_off(0);
+        let mut gone = 0;
+        while gone < len {
+            let (item, place) = rest.take_first(base, start + gone);
+            self.widen(place);
+            drop(item);
+            gone += 1;
+        }
+        self.widen(rest);
+    }
+
     /// Drops the last `count` items, the first of which lies in the place numbered `at`.
-    pub(crate) fn drop_last(&mut self, base: Base<T>, at: usize, count: usize)
+    fn drop_last(&mut self, base: Base<T>, at: usize, count: usize)
     where
         T: Drop,
         requires { (base.ptr ≡ self.old.at) × (at + count ≡ self.old.start + length self.old.items)
