@@ -24,7 +24,9 @@ pub trait Element: Clone + Drop {
     }
 
     /// Whether a clone is a copy, which takes no memory.
-    fn is_plain() -> bool;
+    fn is_plain() -> bool {
+        true
+    }
 
     fn into_array(list: EcoVec<Self>) -> Result<Self::Array, IntoArray<Self>> {
         Err(IntoArray::Length(list))
@@ -99,10 +101,6 @@ impl Element for i64 {
         *self
     }
 
-    fn is_plain() -> bool {
-        true
-    }
-
     fn from_copied(alloc: Global, elements: &[i64]) -> Result<EcoVec<i64>, EcoError> {
         EcoVec::from_copied(alloc, elements)
     }
@@ -127,10 +125,6 @@ impl Element for u8 {
 
     fn shown(number: i64) -> i64 {
         number.wrapping_rem(256)
-    }
-
-    fn is_plain() -> bool {
-        true
     }
 
     fn from_copied(alloc: Global, elements: &[u8]) -> Result<EcoVec<u8>, EcoError> {
@@ -169,10 +163,6 @@ impl Element for () {
 
     fn shown(_number: i64) -> i64 {
         0
-    }
-
-    fn is_plain() -> bool {
-        true
     }
 }
 

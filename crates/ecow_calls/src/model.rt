@@ -248,11 +248,8 @@ impl Case {
         }
     }
 
-    fn fits_inline(&self, len: usize) -> bool {
-        match self.limit {
-            Some(limit) => len <= limit,
-            None => false,
-        }
+    pub fn fits_inline(&self, len: usize) -> bool {
+        self.limit.is_some_and(|limit| len <= limit)
     }
 
     pub fn is_inline_after(&self) -> bool {

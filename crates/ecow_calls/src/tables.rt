@@ -5,46 +5,32 @@ use crate::calls::{Call, LAST, Row};
 /// How often calls of seven items are made.
 pub const TIMES: usize = 14286;
 
+/// What stands between the brackets, or else what follows.
+macro_rules! given {
+    (() $default:expr) => { $default };
+    (($given:expr) $default:expr) => { $given };
+}
+
 /// A row: a call, its name, the part that it is about, where it is about one, and how many items it
 /// brings. The part must be there, or as many items as `at` says. The call is made once, or as often
 /// as `times` says.
 macro_rules! row {
-    (@ $call:expr, $name:expr, $start:expr, $end:expr, $count:expr, $needs:expr, $times:expr) => {
+    (
+        $call:expr, $name:expr, ($start:expr, $end:expr), $count:expr
+        $(, at $needs:expr)? $(, times $times:expr)?
+    ) => {
         Row {
             call: $call,
             name: $name,
             start: $start,
             end: $end,
             count: $count,
-            needs: $needs,
-            times: $times,
+            needs: given!(($($needs)?) $end),
+            times: given!(($($times)?) 1),
         }
     };
-    ($call:expr, $name:expr, (LAST, LAST), $count:expr) => {
-        row!(@ $call, $name, LAST, LAST, $count, 0, 1)
-    };
-    ($call:expr, $name:expr, (LAST, LAST), $count:expr, times $times:expr) => {
-        row!(@ $call, $name, LAST, LAST, $count, 0, $times)
-    };
-    ($call:expr, $name:expr, ($start:expr, $end:expr), $count:expr) => {
-        row!(@ $call, $name, $start, $end, $count, $end, 1)
-    };
-    ($call:expr, $name:expr, ($start:expr, $end:expr), $count:expr, at $needs:expr) => {
-        row!(@ $call, $name, $start, $end, $count, $needs, 1)
-    };
-    (
-        $call:expr, $name:expr, ($start:expr, $end:expr), $count:expr, at $needs:expr, times $times:expr
-    ) => {
-        row!(@ $call, $name, $start, $end, $count, $needs, $times)
-    };
-    ($call:expr, $name:expr, $count:expr) => {
-        row!(@ $call, $name, 0, 0, $count, 0, 1)
-    };
-    ($call:expr, $name:expr, $count:expr, at $needs:expr) => {
-        row!(@ $call, $name, 0, 0, $count, $needs, 1)
-    };
-    ($call:expr, $name:expr, $count:expr, times $times:expr) => {
-        row!(@ $call, $name, 0, 0, $count, 0, $times)
+    ($call:expr, $name:expr, $count:expr $(, at $needs:expr)? $(, times $times:expr)?) => {
+        row!($call, $name, (0, 0), $count $(, at $needs)? $(, times $times)?)
     };
 }
 
@@ -97,7 +83,7 @@ pub static VECTOR_CHANGES: &[Row] = &[
 /// Further changes, on few elements.
 pub static FURTHER_VECTOR_CHANGES: &[Row] = &[
     row!(Call::Insert, "insert(3, x)", (3, 3), 1),
-    row!(Call::Insert, "insert(len, x)", (LAST, LAST), 1),
+    row!(Call::Insert, "insert(len, x)", (LAST, LAST), 1, at 0),
     row!(Call::Set, "set(3, x)", (3, 4), 1),
     row!(Call::Update, "update(3, f)", (3, 4), 1),
     row!(Call::Remove, "remove(3)", (3, 4), 0),
@@ -129,7 +115,7 @@ pub static FURTHER_VECTOR_CHANGES: &[Row] = &[
 pub static VECTOR_GROWTH: &[Row] = &[
     row!(Call::Push, "push(x)", 1, times 100000),
     row!(Call::PushReserved, "reserve(1), push(x)", 1, times 100000),
-    row!(Call::Insert, "insert(len, x)", (LAST, LAST), 1, times 100000),
+    row!(Call::Insert, "insert(len, x)", (LAST, LAST), 1, at 0, times 100000),
     row!(Call::Extend, "extend(1)", 1, times 100000),
     row!(Call::ExtendFromSlice, "extend_from_slice(7)", 7, times TIMES),
     row!(Call::Extend, "extend(100000)", 100000),
@@ -247,7 +233,7 @@ pub static FURTHER_COPIES: &[Row] = &[
     ),
     row!(Call::ExtendFromWithin, "extend_from_within(..5)", (0, 5), 0),
     row!(Call::InsertSlice, "insert_slice(1, 2)", (1, 1), 2),
-    row!(Call::InsertSlice, "insert_slice(len, 2)", (LAST, LAST), 2),
+    row!(Call::InsertSlice, "insert_slice(len, 2)", (LAST, LAST), 2, at 0),
     row!(Call::InsertSlice, "insert_slice(0, 6)", (0, 0), 6),
     row!(Call::ReplaceRange, "replace_range(1..3, 1)", (1, 3), 1),
     row!(Call::ReplaceRange, "replace_range(1..3, 2)", (1, 3), 2),
@@ -259,7 +245,7 @@ pub static FURTHER_COPIES: &[Row] = &[
 /// Calls by which a vector of bytes grows.
 pub static COPIES_GROWTH: &[Row] = &[
     row!(Call::ExtendFromCopied, "extend_from_copied(7)", 7, times TIMES),
-    row!(Call::InsertSlice, "insert_slice(len, 7)", (LAST, LAST), 7, times TIMES),
+    row!(Call::InsertSlice, "insert_slice(len, 7)", (LAST, LAST), 7, at 0, times TIMES),
     row!(Call::Write, "write(7)", 7, times TIMES),
 ];
 
@@ -334,7 +320,7 @@ pub static BYTES_CHANGES: &[Row] = &[
 /// Further ones, on few bytes.
 pub static FURTHER_BYTES_CHANGES: &[Row] = &[
     row!(Call::Insert, "insert(2, x)", (2, 2), 1),
-    row!(Call::Insert, "insert(len, x)", (LAST, LAST), 1),
+    row!(Call::Insert, "insert(len, x)", (LAST, LAST), 1, at 0),
     row!(Call::Set, "set(2, x)", (2, 3), 1),
     row!(Call::Remove, "remove(2)", (2, 3), 0),
     row!(Call::Rewrite, "rewrite(to none)", 0),
@@ -357,8 +343,8 @@ pub static FURTHER_BYTES_CHANGES: &[Row] = &[
 pub static BYTES_GROWTH: &[Row] = &[
     row!(Call::Push, "push(x)", 1, times 100000),
     row!(Call::PushReserved, "reserve(1), b.push(x)", 1, times 100000),
-    row!(Call::Insert, "insert(len, x)", (LAST, LAST), 1, times 100000),
-    row!(Call::InsertSlice, "insert_slice(len, 7)", (LAST, LAST), 7, times TIMES),
+    row!(Call::Insert, "insert(len, x)", (LAST, LAST), 1, at 0, times 100000),
+    row!(Call::InsertSlice, "insert_slice(len, 7)", (LAST, LAST), 7, at 0, times TIMES),
     row!(Call::ExtendFromSlice, "extend_from_slice(7)", 7, times TIMES),
     row!(Call::Write, "write(7)", 7, times TIMES),
     row!(Call::Extend, "extend(7)", 7, times TIMES),
@@ -476,7 +462,7 @@ pub static FURTHER_TEXT_CHANGES: &[Row] = &[
     row!(Call::Push, "push(😀)", 4),
     row!(Call::Insert, "insert(2, c)", (2, 2), 1),
     row!(Call::Insert, "insert(2, 😀)", (2, 2), 4),
-    row!(Call::Insert, "insert(len, c)", (LAST, LAST), 1),
+    row!(Call::Insert, "insert(len, c)", (LAST, LAST), 1, at 0),
     row!(Call::Remove, "remove(3)", (3, 5), 0, at 6),
     row!(Call::ExtendFromSlice, "push_str(1)", 1),
     row!(Call::ExtendFromSlice, "push_str(😀)", 4),
@@ -489,7 +475,7 @@ pub static FURTHER_TEXT_CHANGES: &[Row] = &[
     row!(Call::Write, "write_str(12)", 12),
     row!(Call::InsertSlice, "insert_str(2, 1)", (2, 2), 1),
     row!(Call::InsertSlice, "insert_str(2, 😀)", (2, 2), 4),
-    row!(Call::InsertSlice, "insert_str(len, 12)", (LAST, LAST), 12),
+    row!(Call::InsertSlice, "insert_str(len, 12)", (LAST, LAST), 12, at 0),
     row!(Call::ReplaceRange, "replace_range(..1, 1)", (0, 1), 1),
     row!(Call::ReplaceRange, "replace_range(3..5, 😀)", (3, 5), 4, at 6),
     row!(Call::ReplaceRange, "replace_range(3..5, 1)", (3, 5), 1, at 6),
@@ -504,8 +490,8 @@ pub static FURTHER_TEXT_CHANGES: &[Row] = &[
 pub static TEXT_GROWTH: &[Row] = &[
     row!(Call::Push, "push(c)", 1, times 100000),
     row!(Call::PushReserved, "reserve(1), t.push(c)", 1, times 100000),
-    row!(Call::Insert, "insert(len, c)", (LAST, LAST), 1, times 100000),
-    row!(Call::InsertSlice, "insert_str(len, 7)", (LAST, LAST), 7, times TIMES),
+    row!(Call::Insert, "insert(len, c)", (LAST, LAST), 1, at 0, times 100000),
+    row!(Call::InsertSlice, "insert_str(len, 7)", (LAST, LAST), 7, at 0, times TIMES),
     row!(Call::ExtendFromSlice, "push_str(7)", 7, times TIMES),
     row!(Call::Write, "write_str(7)", 7, times TIMES),
     row!(Call::Add, "add(7)", 7, times TIMES),

@@ -2,6 +2,7 @@
 //! that may be, and leaves all as it was.
 use crate::calls::{Call, Role, Row};
 use crate::counting::Source;
+use crate::elements::or_memory;
 use crate::model::{Case, Edit, Origin};
 use crate::states::State;
 use crate::value::{Value, case_of};
@@ -30,32 +31,29 @@ fn item_of<V: Value>(case: &Case, origin: Origin) -> i64 {
     }
 }
 
-/// Whether a value has so many items, each from where it is to come.
-fn holds_change<V: Value>(case: &Case, value: &V, len: usize) -> bool {
+/// Whether a value has so many items, each as it is to be at its place.
+fn has_items<V: Value, F: FnMut(usize) -> i64>(value: &V, len: usize, mut item: F) -> bool
+    requires { F.IsAlwaysCallable item }
+{
     let mut hold = value.len() == len;
     for place in 0..value.len() {
-        let item = item_of::<V>(case, case.row.origin(case.state.len, place));
-        hold = hold && value.item(place) == Some(item);
+        hold = hold && value.item(place) == Some(item(place));
     }
     hold
 }
 
-fn holds_made<V: Value>(case: &Case, value: &V) -> bool {
-    let mut hold = value.len() == case.made_len();
-    for place in 0..value.len() {
-        let item = item_of::<V>(case, case.row.made_of(case.state.len, place));
-        hold = hold && value.item(place) == Some(item);
-    }
-    hold
+/// Whether a value has so many items, each from where it is to come.
+fn holds_change<V: Value>(case: &Case, value: &V, len: usize) -> bool {
+    has_items(value, len, |place| {
+        item_of::<V>(case, case.row.origin(case.state.len, place))
+    })
 }
 
 /// Whether a value is as it was made.
 fn is_before<V: Value>(case: &Case, value: &V) -> bool {
-    let mut hold = value.len() == case.state.len;
-    for place in 0..value.len() {
-        hold = hold && value.item(place) == Some(V::letter(&case.state, place));
-    }
-    hold && value.is_inline() == case.state.room.is_none() && value.capacity() == room_before(case)
+    has_items(value, case.state.len, |place| V::letter(&case.state, place))
+        && value.is_inline() == case.state.room.is_none()
+        && value.capacity() == room_before(case)
 }
 
 fn room_before(case: &Case) -> usize {
@@ -157,24 +155,22 @@ fn change_holds<V: Value>(
 
 /// Whether a value is as before, with so many of the items that it was given behind.
 fn holds_front<V: Value>(case: &Case, value: &V, count: usize) -> bool {
-    let len = case.state.len.saturating_add(count);
-    let mut hold = value.len() == len;
-    for place in 0..value.len() {
-        let item = if place < case.state.len {
-            V::letter(&case.state, place)
-        } else {
-            item_of::<V>(case, case.row.origin(case.state.len, place))
-        };
-        hold = hold && value.item(place) == Some(item);
-    }
-    hold && value.is_inline() == (case.state.room.is_none() && fits(case, len))
+    let before = case.state.len;
+    let len = before.saturating_add(count);
+    has_items(value, len, |place| {
+        if place < before {
+            return V::letter(&case.state, place);
+        }
+        item_of::<V>(case, case.row.origin(before, place))
+    }) && value.is_inline() == (case.state.room.is_none() && case.fits_inline(len))
 }
 
-fn fits(case: &Case, len: usize) -> bool {
-    match case.limit {
-        Some(limit) => len <= limit,
-        None => false,
+/// A clone of a value that is to be shared.
+pub fn twin_of<V: Value>(value: &V, state: &State) -> Result<Option<V>, EcoError> {
+    if !state.shared {
+        return Ok(None);
     }
+    or_memory(value.clone()).map(|twin| Some(twin))
 }
 
 /// Whether a twin is as it was made, and alone where the value left it.
@@ -197,13 +193,10 @@ fn change_trial<V: Value>(alloc: Global, source: &V::Source, watch: &Watch, case
     ) else {
         return watch.may_refuse();
     };
-    let (mut value, mut gift, mut twin) = (value, gift, None);
-    if case.state.shared {
-        match value.clone() {
-            Ok(copy) => twin = Some(copy),
-            Err(_) => return false,
-        }
-    }
+    let (mut value, mut gift) = (value, gift);
+    let Ok(twin) = twin_of(&value, &case.state) else {
+        return false;
+    };
     let counts = source.counts();
     let mut done = value.change(&case.row, &mut gift);
     let is_cloned = done.is_err() || source.has_cloned(counts, case.clones(Role::Change) as u64);
@@ -220,13 +213,9 @@ fn derive_trial<V: Value>(alloc: Global, source: &V::Source, watch: &Watch, case
     let Ok(value) = V::made(alloc, source, &case.state) else {
         return watch.may_refuse();
     };
-    let mut twin = None;
-    if case.state.shared {
-        match value.clone() {
-            Ok(copy) => twin = Some(copy),
-            Err(_) => return false,
-        }
-    }
+    let Ok(twin) = twin_of(&value, &case.state) else {
+        return false;
+    };
     let counts = source.counts();
     let hold = match value.derive(&case.row) {
         Ok(Some(made)) => is_made(case, &made) && is_shared_by_clones(case, made),
@@ -247,7 +236,10 @@ fn is_made<V: Value>(case: &Case, value: &V) -> bool {
         Call::WithCapacity => value.capacity() == case.row.count,
         _ => value.capacity() >= case.made_len(),
     };
-    holds_made(case, value) && value.is_inline() == inline && has_room
+    let holds_made = has_items(value, case.made_len(), |place| {
+        item_of::<V>(case, case.row.made_of(case.state.len, place))
+    });
+    holds_made && value.is_inline() == inline && has_room
 }
 
 /// Whether a value shares its block where it is a clone, and else has its own.

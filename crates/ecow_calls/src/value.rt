@@ -23,9 +23,13 @@ pub trait Value: Clone + Drop {
     type Block: Drop;
 
     /// How many items stand in the value itself; vectors have none there.
-    fn limit() -> Option<usize>;
+    fn limit() -> Option<usize> {
+        None
+    }
 
-    fn is_text() -> bool;
+    fn is_text() -> bool {
+        false
+    }
 
     /// Whether a clone of an item can't be refused.
     fn is_plain() -> bool;
@@ -56,7 +60,9 @@ pub trait Value: Clone + Drop {
 
     fn capacity(&self) -> usize;
 
-    fn is_inline(&self) -> bool;
+    fn is_inline(&self) -> bool {
+        false
+    }
 
     fn item(&self, place: usize) -> Option<i64>;
 

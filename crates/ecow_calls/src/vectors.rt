@@ -144,13 +144,9 @@ fn retain<T: Element>(list: &mut EcoVec<T>, row: &Row) -> Result<(), EcoError> {
 }
 
 fn own_and_reverse<T: Element>(list: &mut EcoVec<T>) -> Result<(), EcoError> {
-    match list.own_mut() {
-        Ok(block) => {
-            block.as_mut_slice().reverse();
-            Ok(())
-        }
+    match list.own_mut().map(|block| block.as_mut_slice().reverse()) {
         Err(Some(error)) => Err(error),
-        Err(None) => Ok(()),
+        _ => Ok(()),
     }
 }
 
@@ -244,14 +240,6 @@ impl<T: Element> Value for EcoVec<T> {
     type Out = Out<T>;
 
     type Block = EcoVec<T>;
-
-    fn limit() -> Option<usize> {
-        None
-    }
-
-    fn is_text() -> bool {
-        false
-    }
 
     fn is_plain() -> bool {
         T::is_plain()
@@ -357,10 +345,6 @@ impl<T: Element> Value for EcoVec<T> {
 
     fn capacity(&self) -> usize {
         EcoVec::capacity(self)
-    }
-
-    fn is_inline(&self) -> bool {
-        false
     }
 
     fn item(&self, place: usize) -> Option<i64> {

@@ -3,9 +3,9 @@ use crate::marks::Meter;
 use crate::rows::{Cost, Form, Rows, Standing, USUAL};
 use ecow_calls::calls::{Role, Row};
 use ecow_calls::counting::{Counting, Source, Tally};
-use ecow_calls::elements::or_memory;
 use ecow_calls::states::{State, edge, few_bytes, few_elements, few_spilled, no_byte, thousand};
 use ecow_calls::tables;
+use ecow_calls::trials::twin_of;
 use ecow_calls::value::Value;
 use ecow_list::{EcoError, EcoVec};
 
@@ -48,11 +48,7 @@ fn before<V: Value>(role: Role, state: &State) -> Standing {
         Role::Derive => (Form::Absent, form),
         Role::Make => (Form::Absent, Form::Absent),
     };
-    Standing {
-        form,
-        twin,
-        capacity,
-    }
+    Standing::of(form, twin, capacity)
 }
 
 /// Where the value stands after a change, and its clone.
@@ -60,17 +56,9 @@ fn after_change<V: Value>(row: &Row, value: V, twin: Option<V>) -> Standing {
     let capacity = value.capacity();
     let (form, twin) = forms(value, twin);
     if row.gives_away() {
-        return Standing {
-            form: Form::Absent,
-            twin,
-            capacity: 0,
-        };
+        return Standing::of(Form::Absent, twin, 0);
     }
-    Standing {
-        form,
-        twin,
-        capacity,
-    }
+    Standing::of(form, twin, capacity)
 }
 
 /// Where a value stands that was made, if one was, and what it was made of.
@@ -79,20 +67,9 @@ fn after_making<V: Value>(made: Option<V>, source: Option<V>) -> Standing {
         (Some(made), source) => {
             let capacity = made.capacity();
             let (form, twin) = forms(made, source);
-            Standing {
-                form,
-                twin,
-                capacity,
-            }
+            Standing::of(form, twin, capacity)
         }
-        (None, Some(source)) => {
-            let (twin, _) = forms(source, None);
-            Standing {
-                form: Form::Absent,
-                twin,
-                capacity: 0,
-            }
-        }
+        (None, Some(source)) => Standing::of(Form::Absent, forms(source, None).0, 0),
         (None, None) => Standing::none(),
     }
 }
@@ -106,19 +83,14 @@ fn since(before: Option<(u64, u64)>, after: Option<(u64, u64)>) -> Option<(u64, 
     ))
 }
 
-/// A clone of a value that is to be shared.
-fn twin_of<V: Value>(value: &V, state: &State) -> Result<Option<V>, EcoError> {
-    if !state.shared {
-        return Ok(None);
-    }
-    or_memory(value.clone()).map(|twin| Some(twin))
-}
+/// Where values stand behind a call, and how often elements were cloned and dropped in it.
+type Measured = Result<(Standing, Option<(u64, u64)>), EcoError>;
 
-fn cost_of_change<V: Value>(
+fn measured_change<V: Value>(
     meter: Meter,
     source: &V::Source,
     (row, state): (&Row, &State),
-) -> Result<Cost, EcoError> {
+) -> Measured {
     let mut value = V::made(meter.alloc, source, state)?;
     let twin = twin_of(&value, state)?;
     let mut gift = V::gift(meter.alloc, source, row)?;
@@ -129,18 +101,14 @@ fn cost_of_change<V: Value>(
     }
     let (_ended, counts) = (meter.end(), since(counted, source.counts()));
     drop(out);
-    Ok(Cost {
-        after: after_change(row, value, twin),
-        counts,
-        ..Cost::of::<V>(Role::Change, row, state, before::<V>(Role::Change, state))
-    })
+    Ok((after_change(row, value, twin), counts))
 }
 
-fn cost_of_derivation<V: Value>(
+fn measured_derivation<V: Value>(
     meter: Meter,
     source: &V::Source,
     (row, state): (&Row, &State),
-) -> Result<Cost, EcoError> {
+) -> Measured {
     let value = V::made(meter.alloc, source, state)?;
     let twin = twin_of(&value, state)?;
     let (counted, _begun) = (source.counts(), meter.begin());
@@ -148,27 +116,15 @@ fn cost_of_derivation<V: Value>(
     let (_ended, counts) = (meter.end(), since(counted, source.counts()));
     let after = after_making(made, Some(value));
     drop(twin);
-    Ok(Cost {
-        after,
-        counts,
-        ..Cost::of::<V>(Role::Derive, row, state, before::<V>(Role::Derive, state))
-    })
+    Ok((after, counts))
 }
 
-fn cost_of_making<V: Value>(
-    meter: Meter,
-    source: &V::Source,
-    (row, state): (&Row, &State),
-) -> Result<Cost, EcoError> {
+fn measured_making<V: Value>(meter: Meter, source: &V::Source, row: &Row) -> Measured {
     let mut gift = V::gift(meter.alloc, source, row)?;
     let (counted, _begun) = (source.counts(), meter.begin());
     let made = V::make(row, &mut gift)?;
     let (_ended, counts) = (meter.end(), since(counted, source.counts()));
-    Ok(Cost {
-        after: after_making(Some(made), None),
-        counts,
-        ..Cost::of::<V>(Role::Make, row, state, before::<V>(Role::Make, state))
-    })
+    Ok((after_making(Some(made), None), counts))
 }
 
 /// Adds a row of each call of a table in each of the states in which it fits.
@@ -183,11 +139,17 @@ fn add<V: Value>(
         for state in states {
             if row.needs <= state.len {
                 let at = (row, state);
-                rows.add(match role {
-                    Role::Change => cost_of_change::<V>(meter, source, at),
-                    Role::Derive => cost_of_derivation::<V>(meter, source, at),
-                    Role::Make => cost_of_making::<V>(meter, source, at),
-                });
+                let measured = match role {
+                    Role::Change => measured_change::<V>(meter, source, at),
+                    Role::Derive => measured_derivation::<V>(meter, source, at),
+                    Role::Make => measured_making::<V>(meter, source, row),
+                };
+                let cost = Cost::of::<V>(role, row, state, before::<V>(role, state));
+                rows.add(measured.map(|(after, counts)| Cost {
+                    after,
+                    counts,
+                    ..cost
+                }));
             }
         }
     }

@@ -43,13 +43,17 @@ pub(crate) struct Standing {
 }
 
 impl Standing {
+    pub(crate) fn of(form: Form, twin: Form, capacity: usize) -> Self {
+        Standing {
+            form,
+            twin,
+            capacity,
+        }
+    }
+
     /// Where a value stands that there isn't.
     pub(crate) fn none() -> Self {
-        Standing {
-            form: Form::Absent,
-            twin: Form::Absent,
-            capacity: 0,
-        }
+        Standing::of(Form::Absent, Form::Absent, 0)
     }
 }
 
@@ -118,11 +122,7 @@ impl Cost {
             state: "",
             counts: None,
             before: Standing::none(),
-            after: Standing {
-                form,
-                twin: Form::Absent,
-                capacity,
-            },
+            after: Standing::of(form, Form::Absent, capacity),
         }
     }
 

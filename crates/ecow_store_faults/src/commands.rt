@@ -91,22 +91,21 @@ const PLAIN: &[Kind] = &[Kind::List, Kind::Bytes];
 /// More than any value may have.
 const TOO_MANY: usize = usize::MAX;
 
-const NONE: &[Arguments] = &[(0, 0, 0)];
+/// Arguments that are a count alone.
+macro_rules! counts {
+    ($($count:expr),*) => { &[$((0, 0, $count)),*] };
+}
+
+const NONE: &[Arguments] = counts!(0);
 
 /// One item: a character of one byte or of four.
-const ONE: &[Arguments] = &[(0, 0, 1), (0, 0, 4)];
+const ONE: &[Arguments] = counts!(1, 4);
 
-const FEW: &[Arguments] = &[(0, 0, 4)];
+const FEW: &[Arguments] = counts!(4);
 
-const ROOMS: &[Arguments] = &[(0, 0, 3), (0, 0, TOO_MANY)];
+const ROOMS: &[Arguments] = counts!(3, TOO_MANY);
 
-const TIMES: &[Arguments] = &[
-    (0, 0, 0),
-    (0, 0, 1),
-    (0, 0, 2),
-    (0, 0, 20),
-    (0, 0, TOO_MANY),
-];
+const TIMES: &[Arguments] = counts!(0, 1, 2, 20, TOO_MANY);
 
 const PLACES: &[Arguments] = &[
     (0, 0, 1),
@@ -128,14 +127,7 @@ const RANGES: &[Arguments] = &[
 
 const MARKS: &[Arguments] = &[(0, 0, 0), (0, 0, 4), (1, 3, 4), (0, 4, 4)];
 
-const PIECES: &[Arguments] = &[
-    (0, 0, 0),
-    (0, 0, 1),
-    (0, 0, 2),
-    (0, 0, 4),
-    (0, 0, 6),
-    (0, 0, 12),
-];
+const PIECES: &[Arguments] = counts!(0, 1, 2, 4, 6, 12);
 
 const SLICES: &[Arguments] = &[
     (0, 0, 0),
