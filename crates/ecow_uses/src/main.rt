@@ -203,8 +203,9 @@ fn set_levels(rt: &HostRuntime) -> Result<()> {
     Ok(())
 }
 
-/// Sets each of many items of a document that nobody shares. A call that copied them would take so
-/// long that the gate ends it.
+/// Sets each of many items of a document that nobody shares, and the last, which then nests as the
+/// only one, as often. A call that copied them, or looked at each, would take so long that the gate
+/// ends it.
 fn set_each(rt: &HostRuntime) -> Result<()> {
     let alloc = rt.alloc();
     let items: EcoVec<Value> = (0..100000i64).map(|n| Value::Number(n)).collect(alloc)?;
@@ -213,6 +214,10 @@ fn set_each(rt: &HostRuntime) -> Result<()> {
     for index in 0..100000usize {
         let path = [Step::Name(name(rt, "items")?), Step::Index(index)];
         document.set_at(&path, Value::Number(7))?;
+    }
+    let last = [Step::Name(name(rt, "items")?), Step::Index(99999)];
+    for _ in 0..100000 {
+        document.set_at(&last, Value::new_list(alloc))?;
     }
     println!(rt; "each is set")?;
     Ok(())
