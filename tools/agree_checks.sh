@@ -65,4 +65,32 @@ done
 refuses costs.sh "$work/pretends"
 refuses refuse.sh "$work/pretends"
 refuses growth.sh "$work/flat"
+
+# A program that says one by one what the table of command lines wants; and then something else on the third.
+mkdir "$work/ends"
+sed -n "/<<'END'/,/^END/p" tools/ends.sh | sed '1d; $d' | awk -F ' *[|] ?' -v folder="$work/ends" '{
+    gsub(/, /, "\n", $3)
+    print $2 > (folder "/status." NR)
+    printf "%s", $3 ($3 == "" ? "" : "\n") > (folder "/out." NR)
+    printf "%s", $4 ($4 == "" ? "" : "\n") > (folder "/message." NR)
+}'
+cat > "$work/ends/program" << 'END'
+#!/bin/sh
+cd "$(dirname "$0")"
+row=$(($(cat row) + 1))
+echo $row > row
+[ ! -s out.$row ] || cat out.$row
+[ ! -s message.$row ] || cat message.$row >&2
+exit "$(cat status.$row)"
+END
+chmod +x "$work/ends/program"
+echo 0 > "$work/ends/row"
+tools/ends.sh "$work/ends/program" > "$work/said" || { cat "$work/said"; exit 1; }
+for part in out message status; do
+    echo 0 > "$work/ends/row"
+    cp "$work/ends/$part.3" "$work/kept"
+    echo 1 > "$work/ends/$part.3"
+    refuses ends.sh "$work/ends/program"
+    cp "$work/kept" "$work/ends/$part.3"
+done
 echo "$checked checks refuse what they must not pass"
