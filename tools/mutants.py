@@ -222,13 +222,14 @@ def not_compiled(tree: str, numbers: dict[int, Mutant], pool: concurrent.futures
         Path(tree, path).write_text(text, encoding="utf-8")
     unproved.reach(tree)
     for crate, said in zip(PROGRAMS[:2], pool.map(functools.partial(unproved.module, tree), PROGRAMS[:2])):
-        lines = re.findall(r"^(\S+\.rt):(\d+):", said, re.M)
-        found = {owners.get(os.path.join(f"{tree}/crates/{crate}", path), {}).get(int(line))
-                 for path, line in lines} - {None}
-        # Some errors name a function in place of a line.
-        for name in re.findall(r"the function `([^`<]+?)(?:::<[^`]*)?`", said):
-            found |= {number for number, mutant in numbers.items()
-                      if mutant.function() == name.split("::")[-1]}
+        found, named = set(), re.findall(r"the function `([^`<]+?)(?:::<[^`]*)?`", said)
+        for path, line in re.findall(r"^(\S+\.rt):(\d+):", said, re.M):
+            path = os.path.join(f"{tree}/crates/{crate}", path)
+            found.add(owners.get(path, {}).get(int(line)))
+            named += re.findall(r"\bfn (\w+)", Path(path).read_text(encoding="utf-8").split("\n")[int(line) - 1])
+        # Some errors name a function, or its first line, in place of a line.
+        found = found - {None} or {number for number, mutant in numbers.items()
+                                   if mutant.function() in [name.split("::")[-1] for name in named]}
         if said and not found:
             sys.exit(f"{crate} isn't built:\n{said}")
         wrong |= found
