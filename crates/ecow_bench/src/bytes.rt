@@ -1,14 +1,13 @@
 //! Loops of one call of `EcoBytes` each, in the form of those of the vector: `bytes` are what the
-//! value is made of.
+//! value is made of. Other loops go round `pairs`.
 
-use crate::pairs;
 use crate::pairs::Seen;
 use crate::rounds::sum_of;
 use ecow_bytes::EcoBytes;
 use std::alloc::Global;
 
 #[inline(never)]
-fn bytes_of(alloc: Global, bytes: &[u8]) -> EcoBytes {
+pub(crate) fn bytes_of(alloc: Global, bytes: &[u8]) -> EcoBytes {
     match EcoBytes::from_slice(alloc, bytes) {
         Ok(value) => value,
         Err(_) => EcoBytes::new(alloc),
@@ -42,11 +41,6 @@ pub(crate) fn push(alloc: Global, bytes: &[u8], count: u64) -> u64 {
     sum_of(count, |_| pushed(alloc, bytes).len() as u64)
 }
 
-/// Makes a clone of one value or another, by turns, and drops it.
-pub(crate) fn clone(alloc: Global, bytes: &[u8], count: u64) -> u64 {
-    pairs::clone(&bytes_of(alloc, bytes), &bytes_of(alloc, bytes), count)
-}
-
 #[inline(never)]
 fn extended(alloc: Global, bytes: &[u8]) -> EcoBytes {
     let mut value = EcoBytes::new(alloc);
@@ -59,18 +53,6 @@ fn extended(alloc: Global, bytes: &[u8]) -> EcoBytes {
 /// Appends the slice ten times to a new value.
 pub(crate) fn extend(alloc: Global, bytes: &[u8], count: u64) -> u64 {
     sum_of(count, |_| extended(alloc, bytes).len() as u64)
-}
-
-/// Compares a value with one and with another that equals it, by turns.
-pub(crate) fn eq(alloc: Global, bytes: &[u8], count: u64) -> u64 {
-    let (even, odd) = (bytes_of(alloc, bytes), bytes_of(alloc, bytes));
-    pairs::eq(&bytes_of(alloc, bytes), &even, &odd, count)
-}
-
-/// Orders a value and one or another that equals it, by turns.
-pub(crate) fn cmp(alloc: Global, bytes: &[u8], count: u64) -> u64 {
-    let (even, odd) = (bytes_of(alloc, bytes), bytes_of(alloc, bytes));
-    pairs::cmp(&bytes_of(alloc, bytes), &even, &odd, count)
 }
 
 /// Makes a value of a thousand copies.
@@ -98,9 +80,4 @@ pub(crate) fn insert_slice(alloc: Global, bytes: &[u8], count: u64) -> u64 {
         let _done = value.truncate(bytes.len());
     }
     sum
-}
-
-/// Hashes one value and another that equals it, by turns.
-pub(crate) fn hash(alloc: Global, bytes: &[u8], count: u64) -> u64 {
-    pairs::hash(&bytes_of(alloc, bytes), &bytes_of(alloc, bytes), count)
 }

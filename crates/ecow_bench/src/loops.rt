@@ -3,12 +3,11 @@
 //! a loop does less, and its sum tells.
 
 use crate::elements::Element;
-use crate::pairs;
 use crate::rounds::sum_of;
 use ecow_list::{EcoVec, range_in};
 use std::alloc::Global;
 
-fn list_of<T: Element>(alloc: Global, items: &[T]) -> EcoVec<T> {
+pub(crate) fn list_of<T: Element>(alloc: Global, items: &[T]) -> EcoVec<T> {
     match EcoVec::from_slice(alloc, items) {
         Ok(list) => list,
         Err(_) => EcoVec::new(alloc),
@@ -256,21 +255,4 @@ pub(crate) fn into_iter<T: Element>(alloc: Global, items: &[T], count: u64) -> u
         }
     }
     sum
-}
-
-/// Compares a vector with one and with another that equals it, by turns.
-pub(crate) fn eq<T: Element>(alloc: Global, items: &[T], count: u64) -> u64 {
-    let list = list_of(alloc, items);
-    pairs::eq(&list, &list_of(alloc, items), &list_of(alloc, items), count)
-}
-
-/// Orders a vector and one or another that equals it, by turns.
-pub(crate) fn cmp<T: Element>(alloc: Global, items: &[T], count: u64) -> u64 {
-    let list = list_of(alloc, items);
-    pairs::cmp(&list, &list_of(alloc, items), &list_of(alloc, items), count)
-}
-
-/// Hashes one vector and another that equals it, by turns.
-pub(crate) fn hash<T: Element>(alloc: Global, items: &[T], count: u64) -> u64 {
-    pairs::hash(&list_of(alloc, items), &list_of(alloc, items), count)
 }

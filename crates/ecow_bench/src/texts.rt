@@ -1,7 +1,6 @@
 //! Loops of one call of `EcoString` each, in the form of those of the vector: `text` is what the
-//! value is made of.
+//! value is made of. Other loops go round `pairs`.
 
-use crate::pairs;
 use crate::pairs::Seen;
 use crate::rounds::sum_of;
 use ecow_list::EcoError;
@@ -9,7 +8,7 @@ use ecow_string::{EcoString, ToEcoString, eco_format};
 use std::alloc::Global;
 
 #[inline(never)]
-fn text_of(alloc: Global, text: &str) -> EcoString {
+pub(crate) fn text_of(alloc: Global, text: &str) -> EcoString {
     match EcoString::from_str(alloc, text) {
         Ok(value) => value,
         Err(_) => EcoString::new(alloc),
@@ -28,11 +27,6 @@ pub(crate) fn from_str(alloc: Global, text: &str, count: u64) -> u64 {
         let text = if round % 2 == 0 { text } else { odd.as_str() };
         text_of(alloc, text).seen()
     })
-}
-
-/// Makes a clone of one value or another, by turns, and drops it.
-pub(crate) fn clone(alloc: Global, text: &str, count: u64) -> u64 {
-    pairs::clone(&text_of(alloc, text), &text_of(alloc, text), count)
 }
 
 #[inline(never)]
@@ -101,23 +95,6 @@ pub(crate) fn insert_str(alloc: Global, text: &str, count: u64) -> u64 {
         }
     }
     sum
-}
-
-/// Compares a value with one and with another that equals it, by turns.
-pub(crate) fn eq(alloc: Global, text: &str, count: u64) -> u64 {
-    let value = text_of(alloc, text);
-    pairs::eq(&value, &text_of(alloc, text), &text_of(alloc, text), count)
-}
-
-/// Orders a value and one or another that equals it, by turns.
-pub(crate) fn cmp(alloc: Global, text: &str, count: u64) -> u64 {
-    let value = text_of(alloc, text);
-    pairs::cmp(&value, &text_of(alloc, text), &text_of(alloc, text), count)
-}
-
-/// Hashes one value and another that equals it, by turns.
-pub(crate) fn hash(alloc: Global, text: &str, count: u64) -> u64 {
-    pairs::hash(&text_of(alloc, text), &text_of(alloc, text), count)
 }
 
 /// Puts three characters in place of each `pattern`.
