@@ -29,6 +29,8 @@ for part in names owners list sizes random memory line texts prose; do
         lines=$((lines + $(wc -l < "$work/wanted")))
     done
 done
+# So a script that leaves commands out is seen.
+[ "$lines" -eq 1530078 ] || { echo "the large scripts have $lines answers, and not 1530078"; exit 1; }
 echo "large scripts: $lines answers are as the rules say"
 
 # Runs PROGRAM so often on the script, and sets `spent` to the hundredths of a second of a processor that it took.
