@@ -203,8 +203,8 @@ fn set_levels(rt: &HostRuntime) -> Result<()> {
     Ok(())
 }
 
-/// Sets each of many items of a document that nobody shares, and the last, which then nests as the
-/// only one, as often. A call that copied them, or looked at each, would take so long that the gate
+/// Sets each of many items of a document that nobody shares, and then the last again and again, the
+/// only one that nests. A call that copied them, or looked at each, would take so long that the gate
 /// ends it.
 fn set_each(rt: &HostRuntime) -> Result<()> {
     let alloc = rt.alloc();
@@ -216,7 +216,7 @@ fn set_each(rt: &HostRuntime) -> Result<()> {
         document.set_at(&path, Value::Number(7))?;
     }
     let last = [Step::Name(name(rt, "items")?), Step::Index(99999)];
-    for _ in 0..100000 {
+    for _ in 0..2000000 {
         document.set_at(&last, Value::new_list(alloc))?;
     }
     println!(rt; "each is set")?;
