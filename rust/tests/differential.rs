@@ -1,6 +1,6 @@
 //! Random edits of values that share memory, each beside the same of std. `EDITS` says how many there are of each type.
 
-use ecow::{EcoString, EcoVec, SmallBytes, SmallText};
+use ecow::{EcoString, EcoVec, SmallBytes, SmallText, Value};
 use std::cell::{Cell, RefCell};
 use std::collections::hash_map::DefaultHasher;
 use std::fmt::Debug;
@@ -440,5 +440,46 @@ fn patterns() {
         let mut some = |most| (0..random.below(most)).map(|_| LETTERS[random.below(letters)]).collect::<String>();
         let (text, pattern) = (some(300), some(5));
         assert_eq!(EcoString::from(&text).replace(&pattern, "-+"), text.replace(&pattern, "-+"), "{pattern} in {text}");
+    }
+}
+
+/// Fields beside names and numbers. From 16 names on they have an index; a removal drops it, and 64 further names make it
+/// anew.
+#[test]
+fn fields() {
+    let mut random = Random(51);
+    let (mut ours, mut std) = (Value::new_fields(), Vec::<(String, i64)>::new());
+    let mut kept = (ours.clone(), std.clone());
+    for edit in 0..edits() {
+        if edit % 2000 == 0 {
+            (ours, std) = (Value::new_fields(), Vec::new());
+        }
+        let is_there = !std.is_empty() && random.below(2) == 0;
+        let name = if is_there { std[random.below(std.len())].0.clone() } else { format!("n{}", random.below(3000)) };
+        let (at, number) = (std.iter().position(|field| field.0 == name), edit as i64);
+        match random.below(if edit % 2000 < 200 { 12 } else { 200 }) {
+            0 => assert_eq!(ours.remove_field(&name).ok(), at.map(|at| std.remove(at).1.into())),
+            1 => kept = (ours.clone(), std.clone()),
+            call if call % 8 == 2 => {
+                ours.push_field(&name, number).unwrap();
+                std.push((name.clone(), number));
+            }
+            call if call % 2 == 1 => {
+                ours.set_field(&name, number).unwrap();
+                match at {
+                    Some(at) => std[at].1 = number,
+                    None => std.push((name.clone(), number)),
+                }
+            }
+            _ => {}
+        }
+        let found = std.iter().find(|field| field.0 == name).map(|field| field.1.into());
+        assert_eq!(ours.get_field(&name).ok(), found, "edit {edit}");
+        if edit % 64 == 0 {
+            for (ours, std) in [(&ours, &std), (&kept.0, &kept.1)] {
+                let pairs = std.iter().map(|(name, number)| (EcoString::from(name), Value::from(*number)));
+                assert!(ours.fields().eq(pairs), "edit {edit}");
+            }
+        }
     }
 }
