@@ -139,25 +139,21 @@ fn prose(alloc: Global, items: &[u64]) -> Result<String, AllocError> {
 }
 
 fn sum_of_texts(alloc: Global, call: &str, text: &str, count: u64) -> u64 {
-    let made = || texts::text_of(alloc, text);
     match call {
         "text_from_str" => texts::from_str(alloc, text, count),
-        "text_clone" => pairs::clone(&made(), &made(), count),
+        "text_clone" => pairs::clone(|| texts::text_of(alloc, text), count),
         "text_push_a" => texts::push(alloc, 'a', text, count),
         "text_push_e" => texts::push(alloc, 'é', text, count),
         "text_push_str" => texts::push_str(alloc, text, count),
         "text_pop" => texts::pop(alloc, text, count),
         "text_insert_str" => texts::insert_str(alloc, text, count),
-        "text_eq" => pairs::eq(&made(), &made(), &made(), count),
-        "text_cmp" => pairs::cmp(&made(), &made(), &made(), count),
-        "text_hash" => pairs::hash(&made(), &made(), count),
         "text_replace_rare" => texts::replace(alloc, "qzx", text, count),
         "text_replace_often" => texts::replace(alloc, "v", text, count),
         "text_to_uppercase" => texts::to_uppercase(alloc, text, count),
         "text_repeat" => texts::repeat(alloc, text, count),
         "text_format" => texts::format(alloc, text, count),
         "text_to_eco_string" => texts::to_eco_string(alloc, count),
-        _ => 0,
+        _ => pairs::compare(call, || texts::text_of(alloc, text), count),
     }
 }
 
@@ -171,18 +167,14 @@ fn letters(alloc: Global, items: &[u64]) -> Result<Vec<u8>, AllocError> {
 }
 
 fn sum_of_bytes(alloc: Global, call: &str, bytes: &[u8], count: u64) -> u64 {
-    let made = || bytes::bytes_of(alloc, bytes);
     match call {
         "bytes_from_slice" => bytes::from_slice(alloc, bytes, count),
+        "bytes_clone" => pairs::clone(|| bytes::bytes_of(alloc, bytes), count),
         "bytes_push" => bytes::push(alloc, bytes, count),
-        "bytes_clone" => pairs::clone(&made(), &made(), count),
         "bytes_extend" => bytes::extend(alloc, bytes, count),
-        "bytes_eq" => pairs::eq(&made(), &made(), &made(), count),
-        "bytes_cmp" => pairs::cmp(&made(), &made(), &made(), count),
         "bytes_repeat" => bytes::repeat(alloc, bytes, count),
         "bytes_insert_slice" => bytes::insert_slice(alloc, bytes, count),
-        "bytes_hash" => pairs::hash(&made(), &made(), count),
-        _ => 0,
+        _ => pairs::compare(call, || bytes::bytes_of(alloc, bytes), count),
     }
 }
 
@@ -201,7 +193,6 @@ fn sum_of_numbers(
     numbers: &[u64],
     count: u64,
 ) -> Result<u64, AllocError> {
-    let made = || loops::list_of(alloc, numbers);
     Ok(match call {
         "push" => loops::push(alloc, numbers, count),
         "clone" => loops::clone(alloc, numbers, count),
@@ -215,8 +206,6 @@ fn sum_of_numbers(
         "retain" => loops::retain(alloc, numbers, count),
         "iter" => loops::iter(alloc, numbers, count),
         "into_iter" => loops::into_iter(alloc, numbers, count),
-        "cmp" => pairs::cmp(&made(), &made(), &made(), count),
-        "hash" => pairs::hash(&made(), &made(), count),
         _ => return sum_of_copies::<u64>(alloc, call, numbers, count),
     })
 }
@@ -242,13 +231,11 @@ fn sum_of_items<T: Element>(
 ) -> Result<u64, AllocError> {
     let items: Vec<T> = elements_of(alloc, numbers)?;
     let items = items.as_slice();
-    let made = || loops::list_of(alloc, items);
     Ok(match call {
         "insert_remove" => loops::insert_remove(alloc, items, count),
         "remove_first" => loops::remove_first(alloc, items, count),
         "write" => loops::write(alloc, items, count),
         "drain" => loops::drain(alloc, items, count),
-        "eq" => pairs::eq(&made(), &made(), &made(), count),
-        _ => 0,
+        _ => pairs::compare(call, || loops::list_of(alloc, items), count),
     })
 }

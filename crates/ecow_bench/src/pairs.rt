@@ -13,7 +13,7 @@ fn same<V: PartialEq>(left: &V, right: &V) -> bool {
 }
 
 /// Compares a value with one and with another that equals it, by turns.
-pub(crate) fn eq<V: PartialEq>(one: &V, even: &V, odd: &V, count: u64) -> u64 {
+fn eq<V: PartialEq>(one: &V, even: &V, odd: &V, count: u64) -> u64 {
     sum_of(count, |round| {
         let other = if round % 2 == 0 { even } else { odd };
         if same(one, other) { round } else { 0 }
@@ -26,7 +26,7 @@ fn compared<V: Ord>(left: &V, right: &V) -> Ordering {
 }
 
 /// Orders a value and one or another that equals it, by turns.
-pub(crate) fn cmp<V: Ord>(one: &V, even: &V, odd: &V, count: u64) -> u64 {
+fn cmp<V: Ord>(one: &V, even: &V, odd: &V, count: u64) -> u64 {
     sum_of(count, |round| {
         let other = if round % 2 == 0 { even } else { odd };
         if compared(one, other).is_eq() {
@@ -45,7 +45,7 @@ fn hashed<V: Hash>(value: &V) -> u64 {
 }
 
 /// Hashes one value and another that equals it, by turns.
-pub(crate) fn hash<V: Hash>(even: &V, odd: &V, count: u64) -> u64 {
+fn hash<V: Hash>(even: &V, odd: &V, count: u64) -> u64 {
     sum_of(
         count,
         |round| hashed(if round % 2 == 0 { even } else { odd }),
@@ -79,10 +79,30 @@ impl Seen for EcoString {
     }
 }
 
-/// Makes a clone of one value or another, by turns, and drops it.
-pub(crate) fn clone<V: Clone + Drop + Seen>(even: &V, odd: &V, count: u64) -> u64 {
+/// Makes a clone of one value or of another that was made alike, by turns, and drops it.
+pub(crate) fn clone<V: Clone + Drop + Seen, F: FnMut() -> V>(mut made: F, count: u64) -> u64
+    requires { F.IsAlwaysCallable made }
+{
+    let (even, odd) = (made(), made());
     sum_of(count, |round| {
-        let one = if round % 2 == 0 { even } else { odd };
+        let one = if round % 2 == 0 { &even } else { &odd };
         one.clone().map_or(0, |copy| copy.seen())
     })
+}
+
+/// What a loop saw of values that are made alike, or 0 where there is no such call.
+pub(crate) fn compare<V: Drop + Ord + Hash, F: FnMut() -> V>(
+    call: &str,
+    mut made: F,
+    count: u64,
+) -> u64
+    requires { F.IsAlwaysCallable made }
+{
+    let (one, even, odd) = (made(), made(), made());
+    match call {
+        "eq" | "bytes_eq" | "text_eq" => eq(&one, &even, &odd, count),
+        "cmp" | "bytes_cmp" | "text_cmp" => cmp(&one, &even, &odd, count),
+        "hash" | "bytes_hash" | "text_hash" => hash(&even, &odd, count),
+        _ => 0,
+    }
 }

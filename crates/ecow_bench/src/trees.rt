@@ -100,6 +100,19 @@ fn path(alloc: Global, random: &mut Random, levels: usize) -> Result<Vec<usize>,
     Ok(path)
 }
 
+/// Gives some leaf another text.
+fn replace_leaf(
+    alloc: Global,
+    random: &mut Random,
+    prose: &str,
+    levels: usize,
+    root: &mut Node,
+) -> Result<(), EcoError> {
+    let path = path(alloc, random, levels)?;
+    let text = EcoString::from_str(alloc, part(random, prose, LONGEST))?;
+    replace(root, path.as_slice(), text)
+}
+
 /// Replaces so many leaves of a tree with so many levels above them, and keeps each tree that there
 /// was.
 pub(crate) fn trees(alloc: Global, levels: usize, edits: u64) -> Result<u64, EcoError> {
@@ -111,9 +124,7 @@ pub(crate) fn trees(alloc: Global, levels: usize, edits: u64) -> Result<u64, Eco
     let mut roots = Vec::new(alloc);
     for _ in 0..edits {
         roots.push(root.clone()?)?;
-        let path = path(alloc, &mut random, levels)?;
-        let text = EcoString::from_str(alloc, part(&mut random, prose.as_str(), LONGEST))?;
-        replace(&mut root, path.as_slice(), text)?;
+        replace_leaf(alloc, &mut random, prose.as_str(), levels, &mut root)?;
     }
     let mut sum = weight(&first).wrapping_add(weight(&root));
     for before in roots.as_slice() {

@@ -336,6 +336,17 @@ fn text_of(alloc: Global, text: &str) -> Result<Text, AllocError> {
     Ok(Text::new(String::from_str(alloc, text)?))
 }
 
+fn replace_of(alloc: Global, order: &Order) -> Result<TextCommand, AllocError> {
+    let (pattern, by) = order.pattern();
+    Ok(TextCommand::Replace {
+        from: order.name,
+        to: order.to,
+        pattern: text_of(alloc, pattern)?,
+        replacement: text_of(alloc, by)?,
+        count: order.count,
+    })
+}
+
 /// A command that an order may stand for.
 pub(crate) trait FromOrder: Drop + Sized {
     /// What its elements are made of.
@@ -523,17 +534,11 @@ impl FromOrder for TextCommand {
     type Source = ();
 
     fn from_order(alloc: Global, _: &(), order: &Order) -> Result<Option<Self>, AllocError> {
-        let Order {
-            name,
-            to,
-            count,
-            ..
-        } = *order;
+        let Order { name, to, .. } = *order;
         let (from, index, target) = (name, order.start, order.start);
-        let (n, capacity, additional) = (count, count, count);
+        let (n, capacity, additional) = (order.count, order.count, order.count);
         let c = order.character().chars().next().unwrap_or('a');
-        let (text, (pattern, by)) = (text_of(alloc, order.letters())?, order.pattern());
-        let (pattern, replacement) = (text_of(alloc, pattern)?, text_of(alloc, by)?);
+        let text = text_of(alloc, order.letters())?;
         Ok(Some(match order.word {
             Word::New => TextCommand::New { name },
             Word::TryInline => TextCommand::TryInline { name, text },
@@ -552,13 +557,7 @@ impl FromOrder for TextCommand {
             Word::Truncate => TextCommand::Truncate { name, target },
             Word::Clear => TextCommand::Clear { name },
             Word::Reserve => TextCommand::Reserve { name, additional },
-            Word::Replace => TextCommand::Replace {
-                from,
-                to,
-                pattern,
-                replacement,
-                count,
-            },
+            Word::Replace => return Ok(Some(replace_of(alloc, order)?)),
             Word::Repeat => TextCommand::Repeat { from, to, n },
             Word::Lower => TextCommand::AsciiLower { name },
             Word::Upper => TextCommand::AsciiUpper { name },

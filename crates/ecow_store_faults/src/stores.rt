@@ -292,6 +292,17 @@ fn is_popped<E: Element>(item: Option<i64>, outcome: &Outcome<E>) -> bool {
     }
 }
 
+/// Whether memory may have been refused, and all is then as before.
+fn refusal_holds<K: NamedStore>(
+    trial: &Trial<'_, K::Element>,
+    store: &mut K,
+    model: &Model,
+    before: &Account,
+) -> bool {
+    let has_rooms = account(store) == *before || !K::keeps_rooms();
+    trial.watch.may_refuse() && has_rooms && agrees(trial, store, model)
+}
+
 /// Carries a command out, again where memory was refused; says whether all is then as it is to be.
 /// `None` where the test itself lacks memory.
 pub(crate) fn order_holds<K: NamedStore>(
@@ -314,11 +325,7 @@ pub(crate) fn order_holds<K: NamedStore>(
     if lacks_memory(&outcome) {
         let is_free = model.is_free(order, room.unwrap_or(0));
         let is_refused = matches!(&want, Want::Refused(_));
-        if is_free || is_refused || !trial.watch.may_refuse() {
-            return Some(false);
-        }
-        let has_rooms = account(store) == before || !K::keeps_rooms();
-        if !has_rooms || !agrees(trial, store, model) {
+        if is_free || is_refused || !refusal_holds(trial, store, model, &before) {
             return Some(false);
         }
         counts = trial.source.counts();

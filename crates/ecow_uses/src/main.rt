@@ -129,17 +129,29 @@ fn shadow_a_name(rt: &HostRuntime) -> Result<()> {
     outer.bind(names.intern("x")?, 1)?;
     let name = names.intern("x")?;
     println!(rt; "names: {}", names.len())?;
-    let (inside, outside) = symbols::shadow(&outer, &name, 2)?;
+    print_shadowed(rt, &outer, &name)
+}
+
+fn print_shadowed(rt: &HostRuntime, outer: &Scope, name: &EcoString) -> Result<()> {
+    let (inside, outside) = symbols::shadow(outer, name, 2)?;
     println!(rt; "{name} inside: {inside:?}, outside: {outside:?}")?;
     Ok(())
 }
 
 fn replace_a_node(rt: &HostRuntime) -> Result<()> {
     let tree = a_tree(rt)?;
-    let node = leaf(rt, "z")?;
-    if let Some((kept, changed)) = tree::replace_and_keep(&tree, &[0, 0], node)? {
-        println!(rt; "{} -> {}", text_of(rt, &kept)?, text_of(rt, &changed)?)?;
+    if let Some((kept, changed)) = tree::replace_and_keep(&tree, &[0, 0], leaf(rt, "z")?)? {
+        print_trees(rt, &kept, &changed)?;
     }
+    print_child(rt, &tree)
+}
+
+fn print_trees(rt: &HostRuntime, before: &Node, after: &Node) -> Result<()> {
+    println!(rt; "{} -> {}", text_of(rt, before)?, text_of(rt, after)?)?;
+    Ok(())
+}
+
+fn print_child(rt: &HostRuntime, tree: &Node) -> Result<()> {
     if let Some(node) = tree.at(&[0]) {
         println!(rt;
             "first child: {}, nodes: {:?}",
@@ -172,12 +184,7 @@ fn text_of(rt: &HostRuntime, tree: &Node) -> Result<EcoString> {
 
 fn set_a_value(rt: &HostRuntime) -> Result<()> {
     let document = a_document(rt)?;
-    let path = [Step::Name(name(rt, "sizes")?), Step::Index(1)];
-    let (kept, changed) = nested::set_and_keep(&document, &path, Value::Number(7))?;
-    for (word, document) in [("before", kept), ("after", changed)] {
-        let number = document.at(&path).and_then(|value| value.number());
-        println!(rt; "{word}, at sizes, 1: {number:?}")?;
-    }
+    set_number(rt, &document)?;
     let refused = nested::set_and_keep(&document, &[Step::Index(1)], Value::Number(7)).is_err();
     println!(rt; "at 1: nothing, and refused: {refused}")?;
     set_levels(rt)?;
@@ -185,17 +192,23 @@ fn set_a_value(rt: &HostRuntime) -> Result<()> {
     set_names(rt)
 }
 
+fn set_number(rt: &HostRuntime, document: &Value) -> Result<()> {
+    let path = [Step::Name(name(rt, "sizes")?), Step::Index(1)];
+    let (kept, changed) = nested::set_and_keep(document, &path, Value::Number(7))?;
+    print_number(rt, "before", &kept, &path)?;
+    print_number(rt, "after", &changed, &path)
+}
+
+fn print_number(rt: &HostRuntime, word: &str, document: &Value, path: &[Step]) -> Result<()> {
+    let number = document.at(path).and_then(|value| value.number());
+    println!(rt; "{word}, at sizes, 1: {number:?}")?;
+    Ok(())
+}
+
 /// Sets values that nest less and more than those there, and says how deep the list nests.
 fn set_levels(rt: &HostRuntime) -> Result<()> {
-    let alloc = rt.alloc();
-    let items = eco_vec![in alloc; a_document(rt)?, Value::Number(1)]?;
-    let mut list = Value::from_items(items)?;
-    let at_first = list.depth();
-    list.set_at(
-        &[Step::Index(0), Step::Name(name(rt, "sizes")?)],
-        Value::Number(3),
-    )?;
-    let lower = list.depth();
+    let mut list = two_items(rt)?;
+    let (at_first, lower) = (list.depth(), lowered(rt, &mut list)?);
     let mut other = a_document(rt)?;
     list.swap_at(&[Step::Index(1)], &mut other)?;
     let (depth, gone) = (list.depth(), other.number());
@@ -203,23 +216,45 @@ fn set_levels(rt: &HostRuntime) -> Result<()> {
     Ok(())
 }
 
+fn two_items(rt: &HostRuntime) -> Result<Value> {
+    let items = eco_vec![in rt.alloc(); a_document(rt)?, Value::Number(1)]?;
+    Ok(Value::from_items(items)?)
+}
+
+/// How deep a list nests once its document has a number in place of the deepest part.
+fn lowered(rt: &HostRuntime, list: &mut Value) -> Result<u32> {
+    let path = [Step::Index(0), Step::Name(name(rt, "sizes")?)];
+    list.set_at(&path, Value::Number(3))?;
+    Ok(list.depth())
+}
+
 /// Sets each of many items of a document that nobody shares, and then the last again and again, the
 /// only one that nests. A call that copied them, or looked at each, would take so long that the gate
 /// ends it.
 fn set_each(rt: &HostRuntime) -> Result<()> {
-    let alloc = rt.alloc();
-    let items: EcoVec<Value> = (0..100000i64).map(|n| Value::Number(n)).collect(alloc)?;
-    let mut document = Value::new_fields(alloc);
-    document.push_field("items", Value::from_items(items)?)?;
+    let mut document = many_items(rt)?;
     for index in 0..100000usize {
-        let path = [Step::Name(name(rt, "items")?), Step::Index(index)];
-        document.set_at(&path, Value::Number(7))?;
+        set_item(rt, &mut document, index, Value::Number(7))?;
     }
-    let last = [Step::Name(name(rt, "items")?), Step::Index(99999)];
     for _ in 0..2000000 {
-        document.set_at(&last, Value::new_list(alloc))?;
+        set_item(rt, &mut document, 99999, Value::new_list(rt.alloc()))?;
     }
     println!(rt; "each is set")?;
+    Ok(())
+}
+
+fn many_items(rt: &HostRuntime) -> Result<Value> {
+    let items: EcoVec<Value> = (0..100000i64)
+        .map(|n| Value::Number(n))
+        .collect(rt.alloc())?;
+    let mut document = Value::new_fields(rt.alloc());
+    document.push_field("items", Value::from_items(items)?)?;
+    Ok(document)
+}
+
+fn set_item(rt: &HostRuntime, document: &mut Value, index: usize, value: Value) -> Result<()> {
+    let path = [Step::Name(name(rt, "items")?), Step::Index(index)];
+    document.set_at(&path, value)?;
     Ok(())
 }
 
@@ -305,10 +340,12 @@ fn collect_items(rt: &HostRuntime) -> Result<()> {
 }
 
 fn collect_texts(rt: &HostRuntime) -> Result<()> {
-    let alloc = rt.alloc();
-    let letters: EcoString = "a b".chars().filter(|c| *c != ' ').collect(alloc)?;
-    let words: EcoString = ["one ", "two"].into_iter().collect(alloc)?;
-    let twice: EcoString = [letters.clone()?, letters].into_iter().collect(alloc)?;
-    println!(rt; "collected: {words}, {twice}")?;
+    let words: EcoString = ["one ", "two"].into_iter().collect(rt.alloc())?;
+    println!(rt; "collected: {words}, {}", letters_twice(rt)?)?;
     Ok(())
+}
+
+fn letters_twice(rt: &HostRuntime) -> Result<EcoString> {
+    let letters: EcoString = "a b".chars().filter(|c| *c != ' ').collect(rt.alloc())?;
+    Ok([letters.clone()?, letters].into_iter().collect(rt.alloc())?)
 }
