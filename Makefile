@@ -1,12 +1,12 @@
 # Proves, builds, runs and tests. Everything but `make lib`, `make dist`, `make python`, `make rust`, `make c-test`,
-# `make c-fuzz`, `make fuzz`, `make hostile`, `make bench`, `make edits` and `make mutants` needs the kit's `rt` on the path,
+# `make c-fuzz`, `make fuzz`, `make hostile`, `make instructions`, `make bench`, `make edits` and `make mutants` needs the kit's `rt` on the path,
 # make, git and the usual POSIX tools, and nothing else.
 
 SOURCES := $(shell find crates -path '*/out' -prune -o \( -name '*.rt' -o -name '*.antt' \) -print) crates.txt
 
 PREFIX := /usr/local
 
-.PHONY: help try build run lib install dist python rust c-test c-fuzz test agree costs vendor vendor-test contracts edits mutants faults fuzz hostile bench clean
+.PHONY: help try build run lib install dist python rust c-test c-fuzz test agree costs instructions vendor vendor-test contracts edits mutants faults fuzz hostile bench clean
 
 help:
 	@echo "To use it:"
@@ -42,6 +42,8 @@ help:
 	@echo "                           JOBS=NUMBER: so many at once; PARTS=\"rattle glue tools\": some of these"
 	@echo "  make costs               counts what each call costs, and compares the tables of costs. COUNT=atomic: over that"
 	@echo "                           count, which the gate proves and does not try from Rattle"
+	@echo "  make instructions        counts those of each call's loop and of large scripts, and compares them with their"
+	@echo "                           table (needs valgrind)"
 	@echo "  make faults              refuses each request for memory in turn, without the rest of the gate; COUNT as above"
 	@echo "  make c-test              tests the library for C from C, C++ and Python, and the archive (needs gcc, clang,"
 	@echo "                           valgrind, cargo, and what make python needs)"
@@ -171,6 +173,10 @@ TRIED = $(if $(filter atomic,$(COUNT)),$(shell tools/for_threads.sh ecow_costs e
 costs:
 	cd $(TRIED)/crates/ecow_costs && rt run > /dev/null
 	tools/costs.sh $(TRIED)/$(COSTS)
+
+instructions: bin/ecow-run
+	cd crates/ecow_bench && rt run > /dev/null
+	tools/instructions.sh $(BENCH) $(RUN)
 
 faults:
 	cd $(TRIED)/crates/ecow_value_faults && rt run -- strict
