@@ -1,6 +1,6 @@
 # Proves, builds, runs and tests. Everything but `make lib`, `make dist`, `make python`, `make rust`, `make c-test`,
-# `make c-fuzz`, `make fuzz`, `make hostile`, `make instructions`, `make bench`, `make edits` and `make mutants` needs the kit's `rt` on the path,
-# make, git and the usual POSIX tools, and nothing else.
+# `make c-fuzz`, `make fuzz`, `make hostile`, `make instructions`, `make bench`, `make edits` and `make mutants` needs the
+# kit's `rt` on the path, make, git and the usual POSIX tools, and nothing else.
 
 SOURCES := $(shell find crates -path '*/out' -prune -o \( -name '*.rt' -o -name '*.antt' \) -print) crates.txt
 
