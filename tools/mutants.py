@@ -38,6 +38,7 @@ PROGRAMS = [f"ecow_{name}" for name in "c run uses cases costs value_faults stor
 
 ONCE = 'said=$("$0" strict < /dev/null) && ! echo "$said" | grep wrong'
 LIBRARY = "tools/lib.sh atomic && PYTHON=none tools/c_short.sh"
+PACKAGE = "tools/lib.sh atomic && tools/python.sh"
 # What the gate tries: of which program or changed files, and how. The command gets the program.
 CHECKS = {
     "rattle": [("ecow_uses", 'cd crates/ecow_uses && "$0" | cmp - stdout'),
@@ -50,8 +51,7 @@ CHECKS = {
                ("ecow_value_faults", 'tools/refuse.sh "$0"'),
                ("ecow_store_faults", 'tools/refuse.sh "$0"'),
                ("ecow_c", LIBRARY)],
-    "glue": [("c/", LIBRARY), ("include/", LIBRARY), ("c/", "tools/python.sh"),
-             ("python/", "tools/python.sh")],
+    "glue": [("c/", LIBRARY), ("include/", LIBRARY), ("c/", PACKAGE), ("python/", PACKAGE)],
     "tools": [("", "tools/costs.sh bin/ecow_costs"), ("", "tools/ends.sh bin/ecow_run"),
               ("tools/large", "tools/large.sh bin/ecow_run"),
               ("", "make --no-print-directory agree"),
