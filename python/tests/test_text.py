@@ -245,7 +245,7 @@ class Methods(unittest.TestCase):
             lambda: value.extend(1), lambda: value.extend(["a", 1]), lambda: value.insert(0, 1),
             lambda: value.__setitem__(0, 1), lambda: value["a"], lambda: value + 1,
             lambda: value + b"a", lambda: 1 + value, lambda: 1 in value, lambda: Text(1),
-            lambda: Text(b"a"), lambda: Text(["a"]), lambda: value.find(1),
+            lambda: Text(b"a"), lambda: Text(["a"]), lambda: value.find(1), lambda: value.pop("a"),
             lambda: value.startswith(["a"]), lambda: value.upper(1), lambda: value.join([1]),
             lambda: Text("a", "b"), lambda: Text(text="a"), lambda: value.__setitem__(None, "a"),
         ):
