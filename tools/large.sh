@@ -56,6 +56,7 @@ for part in names owners line prose; do
             short=${spent:-0}
             spend $((128000 / many))
         done
+        [ "$short" -gt 1 ] || { echo "16 scripts of 8000 of $part take no time"; exit 1; }
         # Were a line's work as long as the script, this would take sixteen times as long as so many short ones.
         if [ "$spent" -gt $((5 * short)) ]; then
             echo "$part${flag:+, with $flag}: $short hundredths for 16 scripts of 8000, $spent for one of 128000"

@@ -304,6 +304,7 @@ class Methods(unittest.TestCase):
             size = 1_000_000
             whole, part = kind(of("a" * size)), of("a" * (size // 4) + "b")
             self.assertEqual(whole.rfind(part), -1)
+            self.assertEqual(whole.count(of("a")), size)
             whole += part
             self.assertEqual(whole.rfind(part), size)
             self.assertEqual(whole.rfind(of("b" + "a" * 9)), -1)
