@@ -286,13 +286,17 @@ class Hostile(unittest.TestCase):
                 self.assertEqual(sorted(map(bytes, parts)), [b"", b"", b"ab"])
 
     def test_arguments(self):
-        """Each call refuses too many arguments."""
+        """Each call refuses too many arguments, and too few."""
         for kind in KINDS:
             value = MAKE[kind](draws("arguments"))
             for name in dir(kind):
                 if name[0] != "_" and callable(getattr(value, name)) and name not in (
                         "format", "update"):
                     self.assertIs(outcome(lambda: getattr(value, name)(*[0] * 5)), TypeError, name)
+            for name, few in (("insert", 1), ("set", 1), ("get", 0)):
+                if hasattr(value, name):
+                    call = lambda: getattr(value, name)(*[0] * few)
+                    self.assertIs(outcome(call), TypeError, name)
 
 
 if __name__ == "__main__":
