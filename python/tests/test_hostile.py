@@ -293,9 +293,10 @@ class Hostile(unittest.TestCase):
                 if name[0] != "_" and callable(getattr(value, name)) and name not in (
                         "format", "update"):
                     self.assertIs(outcome(lambda: getattr(value, name)(*[0] * 5)), TypeError, name)
-            for name, few in (("insert", 1), ("set", 1), ("get", 0)):
+            wrong = [("insert", 1), ("insert", 3), ("set", 1), ("set", 3), ("get", 0), ("get", 3)]
+            for name, count in [*wrong, ("pop", 3 if kind is Value else 2)]:
                 if hasattr(value, name):
-                    call = lambda: getattr(value, name)(*[0] * few)
+                    call = lambda: getattr(value, name)(*[0] * count)
                     self.assertIs(outcome(call), TypeError, name)
 
 
