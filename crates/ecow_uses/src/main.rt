@@ -24,6 +24,7 @@ use ecow_list::{EcoVec, eco_vec};
 use ecow_model::VecCommand;
 use ecow_nested::{Fields, Step, Value};
 use ecow_string::EcoString;
+use std::alloc::Global;
 use std::collections::BTreeMap;
 
 fn main(rt: HostRuntime) -> Result<()> {
@@ -258,10 +259,8 @@ fn set_item(rt: &HostRuntime, document: &mut Value, index: usize, value: Value) 
     Ok(())
 }
 
-/// Sets many names, of which one goes and comes again, and looks each up. Searches through all names
-/// would take so long that the gate ends them.
-fn set_names(rt: &HostRuntime) -> Result<()> {
-    let alloc = rt.alloc();
+/// Fields of many names, of which one goes and comes again.
+fn many_names(alloc: Global) -> Result<Value> {
     let mut fields = Value::new_fields(alloc);
     for number in 0..400000i64 {
         let name = format!(in alloc; "name{number}")?;
@@ -271,6 +270,11 @@ fn set_names(rt: &HostRuntime) -> Result<()> {
             fields.push_field("name0", first)?;
         }
     }
+    Ok(fields)
+}
+
+/// Whether the value of each name is its number.
+fn all_are_found(alloc: Global, fields: &Value) -> Result<bool> {
     let mut found = true;
     for number in 0..400000i64 {
         let name = format!(in alloc; "name{number}")?;
@@ -278,6 +282,14 @@ fn set_names(rt: &HostRuntime) -> Result<()> {
             found = false;
         }
     }
+    Ok(found)
+}
+
+/// Sets many names, and looks each up. Searches through all names would take so long that the gate
+/// ends them.
+fn set_names(rt: &HostRuntime) -> Result<()> {
+    let fields = many_names(rt.alloc())?;
+    let found = all_are_found(rt.alloc(), &fields)?;
     println!(rt; "all names are found: {found}")?;
     Ok(())
 }

@@ -40,17 +40,32 @@ fn empty_clones<T: Drop>(list: EcoVec<T>) -> Result<(EcoVec<T>, EcoVec<T>), EcoE
 }
 
 #[test]
-fn at_counting_elements(rt: HostRuntime) -> Result<(), Fail> {
+fn a_longer_vector_has_clones(rt: HostRuntime) -> Result<(), Fail> {
     let tally = Tally::new(rt.alloc())?;
     let list = tally.list(rt.alloc(), 3)?;
     let longer = with_last(&list, tally.element()?)?;
+    assert!(rt; longer.len() == 4 && tally.has(3, 0));
+    assert_eq!(rt; tally.counts_without(longer), (3, 4));
+    assert_eq!(rt; tally.counts_without(list), (3, 7));
+    Ok(())
+}
+
+#[test]
+fn a_front_has_clones(rt: HostRuntime) -> Result<(), Fail> {
+    let tally = Tally::new(rt.alloc())?;
+    let list = tally.list(rt.alloc(), 3)?;
     let (part, len) = front(&list, 2)?;
-    let (none, all) = empty_clones(list)?;
-    let lens = (longer.len(), none.len(), all.len(), len);
-    assert!(rt; lens == (4, 0, 3, 2) && tally.has(5, 0));
-    drop(all);
-    assert!(rt; tally.has(5, 3));
-    drop((longer, part));
-    assert!(rt; tally.has(5, 9));
+    assert!(rt; len == 2 && tally.has(2, 0));
+    assert_eq!(rt; tally.counts_without(part), (2, 2));
+    assert_eq!(rt; tally.counts_without(list), (2, 5));
+    Ok(())
+}
+
+#[test]
+fn no_element_is_cloned_for_none(rt: HostRuntime) -> Result<(), Fail> {
+    let tally = Tally::new(rt.alloc())?;
+    let (none, all) = empty_clones(tally.list(rt.alloc(), 3)?)?;
+    assert!(rt; none.is_empty() && all.len() == 3 && tally.has(0, 0));
+    assert_eq!(rt; tally.counts_without(all), (0, 3));
     Ok(())
 }

@@ -37,6 +37,12 @@ fn vectors_and_their_iterators_are_found(rt: HostRuntime) -> Result<(), Fail> {
     let list = reversed(changed(ecow::eco_vec![in rt.alloc(); 1u8, 2, 3]?)?)?;
     assert_eq!(rt; list.as_slice(), [3u8, 8, 7].as_slice());
     assert_eq!(rt; ecow_list::range::resolve(&(1..), list.len()), Some((1, 3)));
+    Ok(())
+}
+
+#[test]
+fn arrays_and_iterators_are_found(rt: HostRuntime) -> Result<(), Fail> {
+    let list = ecow::eco_vec![in rt.alloc(); 1u8, 2, 3]?;
     let array: Result<[u8; 3], IntoArray<u8>> = list.clone()?.into_array::<3>();
     let items: Result<ecow_list::iter::IntoIter<u8>, Rejected<EcoVec<u8>>> = list.into_iter();
     let items: Result<IntoIter<u8>, Rejected<EcoVec<u8>>> = items;
@@ -44,21 +50,27 @@ fn vectors_and_their_iterators_are_found(rt: HostRuntime) -> Result<(), Fail> {
     Ok(())
 }
 
-/// So many bytes and the digits of a number, as text.
-fn printed<const N: usize>(alloc: Global, none: &ecow::SmallText<N>) -> Result<bool, EcoError> {
-    let bytes = ecow::SmallBytes::<N>::from_slice(alloc, b"12")?;
+/// The digits of twelve as bytes of `N`, if a text of `N` is empty.
+fn twelve<const N: usize>(
+    alloc: Global,
+    none: ecow::SmallText<N>,
+) -> Result<ecow::SmallBytes<N>, EcoError> {
+    ecow::SmallBytes::<N>::from_slice(alloc, if none.is_empty() { b"12" } else { b"" })
+}
+
+/// The digits of twelve, by two ways.
+fn printed(alloc: Global) -> Result<(EcoString, EcoString), EcoError> {
     let text: EcoString = ecow::eco_format!(in alloc; "{}", 12)?;
-    Ok(
-        none.is_empty()
-            && text.as_bytes() == bytes.as_slice()
-            && text == 12.to_eco_string(alloc)?
-            && ecow::EcoBytes::from_slice(alloc, b"12")? == EcoBytes::from(text),
-    )
+    Ok((text, 12.to_eco_string(alloc)?))
 }
 
 #[test]
 fn bytes_and_texts_are_found(rt: HostRuntime) -> Result<(), Fail> {
     assert_eq!(rt; ecow::INLINE_LIMIT, 15);
-    assert!(rt; printed(rt.alloc(), &ecow::SmallText::<3>::new(rt.alloc()))?);
+    let bytes = twelve(rt.alloc(), ecow::SmallText::<3>::new(rt.alloc()))?;
+    assert!(rt; bytes.as_slice() == b"12".as_slice());
+    let (first, second) = printed(rt.alloc())?;
+    assert!(rt; first.as_str() == "12" && second.as_str() == "12");
+    assert!(rt; ecow::EcoBytes::from_slice(rt.alloc(), b"12")? == EcoBytes::from(first));
     Ok(())
 }

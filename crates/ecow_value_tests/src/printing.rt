@@ -24,16 +24,26 @@ fn debugged<T: Debug>(alloc: Global, value: &T) -> Result<String, AllocError> {
     format!(in alloc; "{value:?}|{value:#?}|{value:3?}|{value:02?}")
 }
 
+/// Whether a value is debugged as these bytes are.
+fn is_debugged_as<T: Debug + Drop>(
+    alloc: Global,
+    value: T,
+    bytes: &[u8],
+) -> Result<bool, AllocError> {
+    Ok(debugged(alloc, &value)? == debugged(alloc, &bytes)?)
+}
+
+/// Bytes that are spilled.
+fn spilled(alloc: Global, bytes: &[u8]) -> Result<EcoBytes, EcoError> {
+    Ok(EcoBytes::from(EcoVec::from_slice(alloc, bytes)?))
+}
+
 /// Whether bytes are debugged as their slice: of a vector, spilled, and as they are made.
 fn is_debugged(alloc: Global, bytes: &[u8]) -> Result<bool, EcoError> {
-    let wanted = debugged(alloc, &bytes)?;
-    let list = EcoVec::from_slice(alloc, bytes)?;
-    let spilled = EcoBytes::from(list.clone()?);
-    let usual = EcoBytes::from_slice(alloc, bytes)?;
     Ok(
-        debugged(alloc, &list)? == wanted
-            && debugged(alloc, &spilled)? == wanted
-            && debugged(alloc, &usual)? == wanted,
+        is_debugged_as(alloc, EcoVec::from_slice(alloc, bytes)?, bytes)?
+            && is_debugged_as(alloc, spilled(alloc, bytes)?, bytes)?
+            && is_debugged_as(alloc, EcoBytes::from_slice(alloc, bytes)?, bytes)?,
     )
 }
 
@@ -46,6 +56,11 @@ fn lists_and_bytes_are_debugged_as_slices(rt: HostRuntime) -> Result<(), Fail> {
         };
         assert!(rt; is_debugged(rt.alloc(), part)?, "{len}");
     }
+    Ok(())
+}
+
+#[test]
+fn a_list_is_debugged(rt: HostRuntime) -> Result<(), Fail> {
     let list = EcoVec::from_slice(rt.alloc(), &[1, -2, 300])?;
     let printed = format!(in rt.alloc(); "{list:?}")?;
     assert_eq!(rt; printed.as_str(), "[1, -2, 300]");
@@ -59,12 +74,14 @@ fn printed<T: Debug + Display>(alloc: Global, text: &T) -> Result<String, AllocE
     format!(in alloc; "{near}{far}")
 }
 
+/// Whether a text is printed as `str` is.
+fn is_printed(alloc: Global, text: &str) -> Result<bool, EcoError> {
+    let value = EcoString::from_str(alloc, text)?;
+    Ok(printed(alloc, &value)? == printed(alloc, &text)?)
+}
+
 #[test]
 fn texts_are_printed_as_str_is(rt: HostRuntime) -> Result<(), Fail> {
-    let mut long = String::new(rt.alloc());
-    for _ in 0..500 {
-        long.push_str("é\t")?;
-    }
     for text in [
         "",
         "a'b",
@@ -73,39 +90,48 @@ fn texts_are_printed_as_str_is(rt: HostRuntime) -> Result<(), Fail> {
         "\u{0}\u{7f}\r\n",
         "0123456789abcdef",
         "sixteen letters 🌱",
-        long.as_str(),
     ] {
-        let value = EcoString::from_str(rt.alloc(), text)?;
-        let (told, wanted) = (printed(rt.alloc(), &value)?, printed(rt.alloc(), &text)?);
-        assert_eq!(rt; told.as_str(), wanted.as_str());
+        assert!(rt; is_printed(rt.alloc(), text)?, "{text}");
     }
+    Ok(())
+}
+
+#[test]
+fn a_long_text_is_printed_as_str_is(rt: HostRuntime) -> Result<(), Fail> {
+    let mut long = String::new(rt.alloc());
+    for _ in 0..500 {
+        long.push_str("é\t")?;
+    }
+    assert!(rt; is_printed(rt.alloc(), long.as_str())?);
+    Ok(())
+}
+
+#[test]
+fn a_text_is_debugged_cut_and_padded(rt: HostRuntime) -> Result<(), Fail> {
     let value = EcoString::from_str(rt.alloc(), "grün\n")?;
     let told = format!(in rt.alloc(); "{value:?}|{value:.3}|{value:_>7}")?;
     assert_eq!(rt; told.as_str(), "\"grün\\n\"|grü|__grün\n");
     Ok(())
 }
 
-/// Errors, what they say, and how they are debugged with the value that was refused.
-const ERRORS: [(EcoError, &str, &str); 2] = [
+/// Errors, and what they say, alone and with the value that was refused.
+const ERRORS: [(EcoError, &str); 2] = [
     (
         EcoError::Memory,
-        "out of memory",
-        "Rejected { error: Memory, value: 7 }",
+        "out of memory|out of memory|Rejected { error: Memory, value: 7 }",
     ),
     (
         EcoError::Capacity,
-        "capacity overflow",
-        "Rejected { error: Capacity, value: 7 }",
+        "capacity overflow|capacity overflow|Rejected { error: Capacity, value: 7 }",
     ),
 ];
 
 #[test]
 fn errors_say_what_is_wanting(rt: HostRuntime) -> Result<(), Fail> {
-    for (error, said, debug) in ERRORS {
+    for (error, said) in ERRORS {
         let rejected = Rejected { error, value: 7 };
         let told = format!(in rt.alloc(); "{error}|{rejected}|{rejected:?}")?;
-        let wanted = format!(in rt.alloc(); "{said}|{said}|{debug}")?;
-        assert_eq!(rt; told.as_str(), wanted.as_str());
+        assert_eq!(rt; told.as_str(), said);
     }
     Ok(())
 }
@@ -116,23 +142,28 @@ fn both_ways(alloc: Global, error: IntoArray<u8>) -> Result<String, AllocError> 
 }
 
 #[test]
-fn vectors_that_are_no_array_say_why(rt: HostRuntime) -> Result<(), Fail> {
+fn a_vector_of_another_length_is_no_array(rt: HostRuntime) -> Result<(), Fail> {
     let list = EcoVec::from_slice(rt.alloc(), &[3, 5])?;
+    let told = both_ways(rt.alloc(), IntoArray::Length(list))?;
+    assert_eq!(rt;
+        told.as_str(),
+        "the vector has another length than the array|Length([3, 5])"
+    );
+    Ok(())
+}
+
+#[test]
+fn a_vector_that_is_refused_is_no_array(rt: HostRuntime) -> Result<(), Fail> {
     for (error, said) in [
+        (EcoError::Memory, "out of memory|Refused(Memory, [3, 5])"),
         (
-            IntoArray::Length(list.clone()?),
-            "the vector has another length than the array|Length([3, 5])",
-        ),
-        (
-            IntoArray::Refused(EcoError::Memory, list.clone()?),
-            "out of memory|Refused(Memory, [3, 5])",
-        ),
-        (
-            IntoArray::Refused(EcoError::Capacity, list.clone()?),
+            EcoError::Capacity,
             "capacity overflow|Refused(Capacity, [3, 5])",
         ),
     ] {
-        assert_eq!(rt; both_ways(rt.alloc(), error)?.as_str(), said);
+        let list = EcoVec::from_slice(rt.alloc(), &[3, 5])?;
+        let told = both_ways(rt.alloc(), IntoArray::Refused(error, list))?;
+        assert_eq!(rt; told.as_str(), said);
     }
     Ok(())
 }

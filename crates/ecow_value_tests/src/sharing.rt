@@ -50,12 +50,16 @@ fn a_vector_has_the_block_that_is_put_in_its_place(rt: HostRuntime) -> Result<()
     Ok(())
 }
 
+fn two_singles(alloc: Global) -> Result<EcoVec<Single>, EcoError> {
+    let mut two = Vec::new(alloc);
+    two.push(Single)?;
+    two.push(Single)?;
+    EcoVec::from_vec(alloc, two).map_err(error_of)
+}
+
 #[test]
 fn elements_without_a_clone_are_shared(rt: HostRuntime) -> Result<(), Fail> {
-    let mut two = Vec::new(rt.alloc());
-    two.push(Single)?;
-    two.push(Single)?;
-    let mut first = EcoVec::from_vec(rt.alloc(), two).map_err(error_of)?;
+    let mut first = two_singles(rt.alloc())?;
     let mut second = shared(&first)?;
     assert!(rt; first.len() == 2 && second.len() == 2 && second.capacity() == 4);
     assert!(rt; !is_unique(&mut first) && !is_unique(&mut second));

@@ -65,28 +65,42 @@ fn syntax_of(alloc: Global, text: &str, below: EcoVec<Syntax>) -> Result<Syntax,
 }
 
 /// Whether a clone of a value is equal to it.
-fn has_equal_clone<T: Clone + Drop + PartialEq>(value: &T) -> Result<bool, AllocError> {
-    let copy = value.clone()?;
-    Ok(copy == *value)
+fn has_equal_clone<T: Clone + Drop + PartialEq>(value: T) -> Result<bool, AllocError> {
+    Ok(value.clone()? == value)
+}
+
+fn a_tree(alloc: Global) -> Result<Syntax, EcoError> {
+    let leaf = syntax_of(alloc, "x", EcoVec::new(alloc))?;
+    syntax_of(alloc, "f", one(alloc, leaf)?)
+}
+
+fn two_rows(alloc: Global) -> Result<Rows, EcoError> {
+    let rows = one(alloc, EcoVec::new(alloc))?;
+    let rows = one(alloc, one(alloc, Rows { rows })?)?;
+    Ok(Rows { rows })
+}
+
+fn a_rose(alloc: Global) -> Result<Rose<u8>, EcoError> {
+    let (label, below) = (2, EcoVec::new(alloc));
+    let below = one(alloc, Rose { label, below })?;
+    Ok(Rose { label: 1, below })
 }
 
 #[test]
 fn nodes_hold_vectors_of_nodes(rt: HostRuntime) -> Result<(), Fail> {
-    let alloc = rt.alloc();
-    let leaf = syntax_of(alloc, "x", EcoVec::new(alloc))?;
-    let tree = syntax_of(alloc, "f", one(alloc, leaf)?)?;
-    assert!(rt; has_equal_clone(&tree)?);
-    let below = Some(one(alloc, Lazy { below: None })?);
-    assert!(rt; has_equal_clone(&Lazy { below })?);
-    let rows = one(alloc, EcoVec::new(alloc))?;
-    let rows = one(alloc, one(alloc, Rows { rows })?)?;
-    assert!(rt; has_equal_clone(&Rows { rows })?);
-    let (label, below) = (2u8, EcoVec::new(alloc));
-    let below = one(alloc, Rose { label, below })?;
-    assert!(rt; has_equal_clone(&Rose { label: 1, below })?);
-    let below = EcoVec::new(alloc);
-    let below = one(alloc, (7, Numbered { below }))?;
-    assert!(rt; has_equal_clone(&Numbered { below })?);
+    assert!(rt; has_equal_clone(a_tree(rt.alloc())?)?);
+    assert!(rt; has_equal_clone(a_rose(rt.alloc())?)?);
+    Ok(())
+}
+
+#[test]
+fn vectors_of_nodes_stand_in_other_types(rt: HostRuntime) -> Result<(), Fail> {
+    let below = Some(one(rt.alloc(), Lazy { below: None })?);
+    assert!(rt; has_equal_clone(Lazy { below })?);
+    assert!(rt; has_equal_clone(two_rows(rt.alloc())?)?);
+    let below = EcoVec::new(rt.alloc());
+    let below = one(rt.alloc(), (7, Numbered { below }))?;
+    assert!(rt; has_equal_clone(Numbered { below })?);
     Ok(())
 }
 
@@ -96,13 +110,16 @@ fn a_list(alloc: Global) -> Result<Datum, EcoError> {
     Ok(Datum::List(one(alloc, text)?))
 }
 
+fn a_pair(alloc: Global) -> Result<Datum, EcoError> {
+    let second = one(alloc, a_list(alloc)?)?;
+    let first = one(alloc, Datum::Number(1))?;
+    Ok(Datum::Pair(first, Some(second)))
+}
+
 #[test]
 fn variants_hold_vectors(rt: HostRuntime) -> Result<(), Fail> {
-    let alloc = rt.alloc();
-    let list = a_list(alloc)?;
-    let second = Some(one(alloc, a_list(alloc)?)?);
-    let pair = Datum::Pair(one(alloc, Datum::Number(1))?, second);
-    assert!(rt; has_equal_clone(&pair)? && pair > list);
+    assert!(rt; has_equal_clone(a_pair(rt.alloc())?)?);
+    assert!(rt; a_pair(rt.alloc())? > a_list(rt.alloc())?);
     Ok(())
 }
 
@@ -157,16 +174,21 @@ fn replace_below(list: &mut EcoVec<Node>, node: Node) -> Result<(), EcoError> {
     Ok(())
 }
 
+/// A clone of the nodes whose third one below the second is another.
+fn changed(tally: &Tally, alloc: Global, tree: &EcoVec<Node>) -> Result<EcoVec<Node>, EcoError> {
+    let mut changed = tree.clone()?;
+    replace_below(&mut changed, leaf(tally, alloc)?)?;
+    Ok(changed)
+}
+
 #[test]
 fn a_change_copies_the_vectors_along_its_path(rt: HostRuntime) -> Result<(), Fail> {
     let tally = Tally::new(rt.alloc())?;
     let tree = nodes(&tally, rt.alloc(), 4, 3)?;
-    let mut changed = tree.clone()?;
-    assert!(rt; tally.has(0, 0));
-    replace_below(&mut changed, leaf(&tally, rt.alloc())?)?;
+    let copy = changed(&tally, rt.alloc(), &tree)?;
     // Four nodes, and the three below one of them, of which one made way.
     assert!(rt; tally.has(7, 1));
-    assert_eq!(rt; tally.counts_without(changed), (7, 8));
+    assert_eq!(rt; tally.counts_without(copy), (7, 8));
     assert_eq!(rt; tally.counts_without(tree), (7, 24));
     Ok(())
 }
