@@ -66,6 +66,11 @@ refuses costs.sh "$work/pretends"
 refuses refuse.sh "$work/pretends"
 refuses growth.sh "$work/flat"
 
+# A program that asks for less than is to be refused.
+tools/shim.sh "$work/shim.so"
+said=$(REFUSE=1000000 LD_PRELOAD="$work/shim.so" git --version 2>&1 > "$work/none")
+[ "$said" = "fewer requests" ] || { echo "tools/refuse.c says \"$said\" where no request is refused"; exit 1; }
+
 # A program that says one by one what the table of command lines wants; and then something else on the third.
 mkdir "$work/ends"
 sed -n "/<<'END'/,/^END/p" tools/ends.sh | sed '1d; $d' | awk -F ' *[|] ?' -v folder="$work/ends" '{
@@ -93,4 +98,5 @@ for part in out message status; do
     refuses ends.sh "$work/ends/program"
     cp "$work/kept" "$work/ends/$part.3"
 done
+[ "$checked" -gt 0 ] || { echo "no check was tried"; exit 1; }
 echo "$checked checks refuse what they must not pass"

@@ -12,8 +12,8 @@ trap 'rm -r "$work"' EXIT
 "$(dirname "$0")/shim.sh" "$work/refuse.so"
 processors=${PROCESSORS:-$(getconf _NPROCESSORS_ONLN 2> "$work/none" || echo 1)}
 each=${EACH:-1}
-watched="env LEFT=1 LD_PRELOAD=$work/refuse.so"
-$watched "$program" < /dev/null > "$work/lines" 2>&1 || {
+export LEFT=1
+LD_PRELOAD="$work/refuse.so" "$program" < /dev/null > "$work/lines" 2>&1 || {
     cat "$work/lines"
     echo "$program ends with another status than 0"
     exit 1
@@ -27,7 +27,8 @@ refuse_from() {
     number=$1
     while [ "$number" -le "$total" ]; do
         status=0
-        got=$($watched REFUSE="$number" "$program" < "$work/part" 2>&1) || status=$?
+        echo "$number" >> "$work/tried.$1"
+        got=$(REFUSE="$number" LD_PRELOAD="$work/refuse.so" "$program" < "$work/part" 2>&1) || status=$?
         if [ "$status" -ne 0 ] || [ "$got" != "$want" ]; then
             echo "part $part, request $number: status $status"
             echo "$got" > "$work/got.$1"
@@ -42,7 +43,7 @@ all=0
 while part=$((part + 1)) && [ "$part" -le "$parts" ]; do
     echo "$part" > "$work/part"
     want=$(sed -n "${part}p" "$work/lines")
-    total=$($watched TOTAL=1 "$program" < "$work/part" 2>&1 > "$work/none")
+    total=$(TOTAL=1 LD_PRELOAD="$work/refuse.so" "$program" < "$work/part" 2>&1 > "$work/none")
     [ "$total" -gt 0 ] || { echo "part $part of $program: $total requests"; exit 1; }
     all=$((all + total))
     first=1
@@ -54,5 +55,6 @@ while part=$((part + 1)) && [ "$part" -le "$parts" ]; do
 done
 cat "$work"/wrong.*
 wrong=$(cat "$work"/wrong.* | grep -c '^part ' || true)
-echo "$((all / each)) requests refused in turn, $wrong wrong"
-[ "$wrong" -eq 0 ] && [ "$all" -gt 0 ]
+tried=$(cat "$work"/tried.* | grep -c '')
+echo "$tried requests refused in turn, $wrong wrong"
+[ "$wrong" -eq 0 ] && [ "$all" -gt 0 ] && [ "$((tried * each))" -ge "$all" ]

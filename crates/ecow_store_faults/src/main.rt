@@ -20,16 +20,20 @@ use ecow_store::SmallStore;
 use std::alloc::Global;
 use std::io;
 
-/// The commands on bytes and texts.
-fn store_holds<K: NamedStore>(trial: &Trial<'_, K::Element>) -> bool {
-    kind_holds::<K>(trial, Kind::Bytes)
-        && kind_holds::<K>(trial, Kind::Text)
-        && makers_hold::<K>(trial, Kind::Bytes)
-        && makers_hold::<K>(trial, Kind::Text)
+/// The commands on values of one kind.
+fn all_of_kind_hold<K: NamedStore>(trial: &Trial<'_, K::Element>, kind: Kind) -> bool {
+    kind_holds::<K>(trial, kind) && makers_hold::<K>(trial, kind)
 }
 
-fn lists_hold<K: NamedStore>(trial: &Trial<'_, K::Element>) -> bool {
-    kind_holds::<K>(trial, Kind::List) && makers_hold::<K>(trial, Kind::List)
+/// The commands of a store on values of one kind. Its limit is that with this number, counted from
+/// 0, among 0, 4, 15 and 23.
+fn store_holds(trial: &Trial<'_, i64>, kind: Kind, limit: usize) -> bool {
+    match limit {
+        0 => all_of_kind_hold::<SmallStore<i64, 0>>(trial, kind),
+        1 => all_of_kind_hold::<SmallStore<i64, 4>>(trial, kind),
+        2 => all_of_kind_hold::<SmallStore<i64, 15>>(trial, kind),
+        _ => all_of_kind_hold::<SmallStore<i64, 23>>(trial, kind),
+    }
 }
 
 /// Elements that count.
@@ -52,13 +56,17 @@ fn runs_hold(trial: &Trial<'_, i64>) -> bool {
         && run_holds::<Counted<i64>>(trial, Kind::List)
 }
 
-const NAMES: [&str; 14] = [
+const NAMES: [&str; 18] = [
     "lists of a store",
     "counted lists",
-    "a store, none inline",
-    "a store, 4 inline",
-    "a store, 15 inline",
-    "a store, 23 inline",
+    "bytes of a store, none inline",
+    "bytes of a store, 4 inline",
+    "bytes of a store, 15 inline",
+    "bytes of a store, 23 inline",
+    "texts of a store, none inline",
+    "texts of a store, 4 inline",
+    "texts of a store, 15 inline",
+    "texts of a store, 23 inline",
     "a store by a seed, 4 inline",
     "a store by a seed, 15 inline",
     "counted lists by a seed",
@@ -79,19 +87,17 @@ impl Parts for Both {
             watch,
         };
         match part {
-            0 => lists_hold::<SmallStore<i64, 15>>(&trial),
-            1 => lists_hold::<Counted<i64>>(&trial),
-            2 => store_holds::<SmallStore<i64, 0>>(&trial),
-            3 => store_holds::<SmallStore<i64, 4>>(&trial),
-            4 => store_holds::<SmallStore<i64, 15>>(&trial),
-            5 => store_holds::<SmallStore<i64, 23>>(&trial),
-            6 => seeds_hold::<SmallStore<i64, 4>>(&trial, 3),
-            7 => seeds_hold::<SmallStore<i64, 15>>(&trial, 3),
-            8 => seeds_hold::<Counted<i64>>(&trial, 1),
-            9 => runs_hold(&trial),
-            10 => filling_holds(&trial),
-            11 => scripts::store_holds(alloc, watch) && scripts::counted_holds(alloc, watch),
-            12 => counting_hold::<SmallStore<Counting, 15>>(alloc, watch),
+            0 => all_of_kind_hold::<SmallStore<i64, 15>>(&trial, Kind::List),
+            1 => all_of_kind_hold::<Counted<i64>>(&trial, Kind::List),
+            2..=5 => store_holds(&trial, Kind::Bytes, part.wrapping_sub(2)),
+            6..=9 => store_holds(&trial, Kind::Text, part.wrapping_sub(6)),
+            10 => seeds_hold::<SmallStore<i64, 4>>(&trial, 3),
+            11 => seeds_hold::<SmallStore<i64, 15>>(&trial, 3),
+            12 => seeds_hold::<Counted<i64>>(&trial, 1),
+            13 => runs_hold(&trial),
+            14 => filling_holds(&trial),
+            15 => scripts::store_holds(alloc, watch) && scripts::counted_holds(alloc, watch),
+            16 => counting_hold::<SmallStore<Counting, 15>>(alloc, watch),
             _ => counting_hold::<Counted<Counting>>(alloc, watch),
         }
     }

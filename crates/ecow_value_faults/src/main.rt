@@ -57,6 +57,33 @@ fn limits_hold(alloc: Global, watch: &Watch) -> bool {
                 && texts_hold::<SmallText<64>>(alloc, watch))
 }
 
+/// Bytes whose limit is that with this number, counted from 0, among 0, 1, 3, 15, 23, 255, 257 and
+/// 600.
+fn bytes_at_hold(limit: usize, alloc: Global, watch: &Watch) -> bool {
+    match limit {
+        0 => bytes_hold::<SmallBytes<0>>(alloc, watch),
+        1 => bytes_hold::<SmallBytes<1>>(alloc, watch),
+        2 => bytes_hold::<SmallBytes<3>>(alloc, watch),
+        3 => bytes_hold::<SmallBytes<15>>(alloc, watch),
+        4 => bytes_hold::<SmallBytes<23>>(alloc, watch),
+        5 => bytes_hold::<SmallBytes<255>>(alloc, watch),
+        6 => bytes_hold::<SmallBytes<257>>(alloc, watch),
+        _ => bytes_hold::<SmallBytes<600>>(alloc, watch),
+    }
+}
+
+/// Texts whose limit is that with this number, counted from 0, among 0, 1, 3, 15, 23 and 255.
+fn texts_at_hold(limit: usize, alloc: Global, watch: &Watch) -> bool {
+    match limit {
+        0 => texts_hold::<SmallText<0>>(alloc, watch),
+        1 => texts_hold::<SmallText<1>>(alloc, watch),
+        2 => texts_hold::<SmallText<3>>(alloc, watch),
+        3 => texts_hold::<SmallText<15>>(alloc, watch),
+        4 => texts_hold::<SmallText<23>>(alloc, watch),
+        _ => texts_hold::<SmallText<255>>(alloc, watch),
+    }
+}
+
 struct Values;
 
 impl Parts for Values {
@@ -66,20 +93,8 @@ impl Parts for Values {
             1 => vectors_hold::<u8>(alloc, watch) && copies_hold::<u8>(alloc, watch, 15),
             2 => vectors_hold::<Named>(alloc, watch) && arrays_hold::<Named>(alloc, watch),
             3 => many_hold(alloc, watch),
-            4 => bytes_hold::<SmallBytes<0>>(alloc, watch),
-            5 => bytes_hold::<SmallBytes<1>>(alloc, watch),
-            6 => bytes_hold::<SmallBytes<3>>(alloc, watch),
-            7 => bytes_hold::<SmallBytes<15>>(alloc, watch),
-            8 => bytes_hold::<SmallBytes<23>>(alloc, watch),
-            9 => bytes_hold::<SmallBytes<255>>(alloc, watch),
-            10 => bytes_hold::<SmallBytes<257>>(alloc, watch),
-            11 => bytes_hold::<SmallBytes<600>>(alloc, watch),
-            12 => texts_hold::<SmallText<0>>(alloc, watch),
-            13 => texts_hold::<SmallText<1>>(alloc, watch),
-            14 => texts_hold::<SmallText<3>>(alloc, watch),
-            15 => texts_hold::<SmallText<15>>(alloc, watch),
-            16 => texts_hold::<SmallText<23>>(alloc, watch),
-            17 => texts_hold::<SmallText<255>>(alloc, watch),
+            4..=11 => bytes_at_hold(part.wrapping_sub(4), alloc, watch),
+            12..=17 => texts_at_hold(part.wrapping_sub(12), alloc, watch),
             18 => prints::printing_holds(alloc, watch),
             19 => clones::clones_hold(alloc, watch),
             20 => seeds::values_hold(alloc, watch),
