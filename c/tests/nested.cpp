@@ -71,6 +71,9 @@ static void traits() {
     static_assert(std::is_same_v<given::iterator_category, std::input_iterator_tag>);
     static_assert(std::is_same_v<given::reference, const std::string_view>);
     static_assert(std::is_same_v<decltype(texts()[0]), const std::string_view>);
+    using gathered = ecow::detail::array<std::string_view>;
+    static_assert(!std::is_copy_constructible_v<gathered>);
+    static_assert(!std::is_copy_assignable_v<gathered>);
     static_assert(!std::is_constructible_v<texts, std::nullptr_t>);
     static_assert(!std::is_constructible_v<texts, const char *>);
     static_assert(!std::is_constructible_v<texts, std::string>);

@@ -278,6 +278,9 @@ class Lists(unittest.TestCase):
         self.assertEqual(List(b"ab"), [97, 98])
         self.assertEqual(List(array.array("q", [1, -2])), [1, -2])
         self.assertEqual(List(array.array("i", [1, -2])), [1, -2])
+        self.assertEqual(List(array.array("l", [1, -2])), [1, -2])
+        self.assertIs(outcome(lambda: List(array.array("d", [1.0]))), TypeError)
+        self.assertIs(outcome(lambda: List(array.array("Q", [2**63]))), OverflowError)
         self.assertEqual(List(memoryview(array.array("q", range(9)))[::2]), [0, 2, 4, 6, 8])
         self.assertEqual(List(memoryview(List([5, 6]))), [5, 6])
         self.assertEqual(List({1: 2}), [1])
@@ -456,7 +459,8 @@ class BytesTests(unittest.TestCase):
                 lambda each: each.translate(None, b"l"), lambda each: each.upper(),
                 lambda each: each.zfill(20), lambda each: each.decode("latin1"),
                 lambda each: each.hex(":"), lambda each: each.decode(),
-                lambda each: each.split(b""),
+                lambda each: each.split(b""), lambda each: each.startswith("a"),
+                lambda each: each.endswith(7), lambda each: each.startswith((b"H", "a")),
             ):
                 self.assertEqual(outcome(lambda: call(value)), outcome(lambda: call(data)))
             self.assertIs(type(value.upper()), Bytes)

@@ -1,5 +1,6 @@
 """`Text` beside `str` and beside a list of characters."""
 
+import itertools
 import time
 import unittest
 
@@ -297,6 +298,19 @@ class Methods(unittest.TestCase):
             passed.append(character)
         self.assertEqual("".join(passed[3:]), "cb\u00e9" + "\u20aca" * 3)
 
+    def test_bounds_that_cross(self):
+        """Nothing is found where the start is past the end, an empty part neither."""
+        for kind, of in ((Text, str), (Bytes, str.encode)):
+            model = of("abcabc")
+            for part, (start, stop), name in itertools.product(
+                ("", "b", "abc", "x"),
+                ((4, 2), (6, 0), (7, 7), (9, 2), (3, 3), (-1, -4)),
+                ("find", "rfind", "count"),
+            ):
+                given = of(part), start, stop
+                wanted = getattr(model, name)(*given)
+                self.assertEqual(getattr(kind(model), name)(*given), wanted, (name, given))
+
     def test_linear(self):
         """Searches from the end, loops in both directions, and jumps take time by the length."""
         start = time.perf_counter()
@@ -310,6 +324,7 @@ class Methods(unittest.TestCase):
             self.assertEqual(whole.rfind(of("b" + "a" * 9)), -1)
             self.assertEqual(whole.rfind(of("a" * 5000)), size + size // 4 - 5000)
             self.assertEqual(kind(of("b" + "a" * 3000)).rfind(of("ba" * 1 + "a" * 99)), 0)
+            self.assertEqual(kind(of("xab" + "a" * 3000)).rfind(of("ab")), 1)
         text, model = Text("\u00e9a" * 100_000), "\u00e9a" * 100_000
         alike = sum(one == other for one, other in zip(text, reversed(text)))
         self.assertEqual(alike, sum(map(str.__eq__, model, reversed(model))))
