@@ -33,17 +33,17 @@ done
 [ "$lines" -eq 1530078 ] || { echo "the large scripts have $lines answers, and not 1530078"; exit 1; }
 echo "large scripts: $lines answers are as the rules say"
 
-# Runs PROGRAM so often on the script, and sets `spent` to the hundredths of a second of a processor that it took.
-spend() { # COUNT
+# Runs PROGRAM so often on a script, and sets `spent` to the hundredths of a second of a processor that it took.
+spend() { # SCRIPT COUNT
     times > "$work/before"
     number=0
-    while [ "$number" -lt "$1" ]; do
-        "$program" $flag "$work/script" > "$work/answers" || { echo "$program fails on many of $part"; exit 1; }
+    while [ "$number" -lt "$2" ]; do
+        "$program" $flag "$1" > "$work/answers" || { echo "$program fails on many of $part"; exit 1; }
         number=$((number + 1))
     done
     times > "$work/after"
     spent=$(sed -n 's/[ms]/ /g; 2p; 4p' "$work/before" "$work/after" |
-        awk '{ seconds = $1 * 60 + $2 + $3 * 60 + $4 - seconds } END { printf "%d", 100 * seconds + 1 }')
+        awk '{ seconds = $1 * 60 + $2 + $3 * 60 + $4 - seconds } END { printf "%d", 100 * seconds + 0.5 }')
 }
 
 grown=0
@@ -51,15 +51,23 @@ for part in names owners line prose; do
     for flag in '' --counted; do
         [ "$part$flag" != prose--counted ] || continue
         for many in 8000 128000; do
-            awk -v part="$part" -v counted=0 -v many=$many -v script="$work/script" -v answers="$work/wanted" \
+            awk -v part="$part" -v counted=0 -v many=$many -v script="$work/$many" -v answers="$work/wanted" \
                 -f tools/large.awk
-            short=${spent:-0}
-            spend $((128000 / many))
         done
-        [ "$short" -gt 1 ] || { echo "16 scripts of 8000 of $part take no time"; exit 1; }
+        # So often that the time can be read from a clock of hundredths, however fast the machine is.
+        rounds=0
+        short=0
+        while [ "$short" -lt 10 ]; do
+            [ "$rounds" -lt 500 ] || { echo "$((16 * rounds)) scripts of 8000 of $part take no time"; exit 1; }
+            rounds=$((2 * rounds + 1))
+            spend "$work/8000" $((16 * rounds))
+            short=$spent
+        done
+        spend "$work/128000" "$rounds"
         # Were a line's work as long as the script, this would take sixteen times as long as so many short ones.
         if [ "$spent" -gt $((5 * short)) ]; then
-            echo "$part${flag:+, with $flag}: $short hundredths for 16 scripts of 8000, $spent for one of 128000"
+            echo "$part${flag:+, with $flag}: $short hundredths for $((16 * rounds)) scripts of 8000, and" \
+                "$spent for $rounds of 128000"
             exit 1
         fi
         grown=$((grown + 1))
