@@ -315,6 +315,10 @@ impl Order {
         Ok(Items::new(marks))
     }
 
+    fn value<E: Element>(&self, alloc: Global, source: &E::Source) -> Result<E, AllocError> {
+        E::of(alloc, source, self.first)
+    }
+
     fn items<E: Element>(&self, alloc: Global, source: &E::Source) -> Result<Items<E>, AllocError> {
         let mut items = Vec::new(alloc);
         for number in Line::from(self.first, self.several()).as_slice() {
@@ -323,28 +327,21 @@ impl Order {
         Ok(Items::new(items))
     }
 
-    fn byte_items(&self, alloc: Global) -> Result<Items<u8>, AllocError> {
+    fn bytes(&self, alloc: Global) -> Result<Items<u8>, AllocError> {
         let mut bytes = Vec::new(alloc);
         for byte in Line::from(self.first, self.several()).as_slice() {
             bytes.push(u8::try_from(*byte).unwrap_or(0))?;
         }
         Ok(Items::new(bytes))
     }
+
+    fn text(&self, alloc: Global) -> Result<Text, AllocError> {
+        text_of(alloc, self.letters())
+    }
 }
 
 fn text_of(alloc: Global, text: &str) -> Result<Text, AllocError> {
     Ok(Text::new(String::from_str(alloc, text)?))
-}
-
-fn replace_of(alloc: Global, order: &Order) -> Result<TextCommand, AllocError> {
-    let (pattern, by) = order.pattern();
-    Ok(TextCommand::Replace {
-        from: order.name,
-        to: order.to,
-        pattern: text_of(alloc, pattern)?,
-        replacement: text_of(alloc, by)?,
-        count: order.count,
-    })
 }
 
 /// A command that an order may stand for.
@@ -411,6 +408,22 @@ impl<E: Element> FromOrder for Command<E> {
     }
 }
 
+/// The command of a word, where it has one: of the variants that have their words' names, and of
+/// the others.
+macro_rules! command_from {
+    ($word:expr, $command:ident {
+        $($same:ident { $($field:ident $(: $value:expr)?),* })*
+    }, {
+        $($other:ident $variant:ident { $($part:ident $(: $given:expr)?),* })*
+    }) => {
+        match $word {
+            $(Word::$same => Some($command::$same { $($field $(: $value)?),* }),)*
+            $(Word::$other => Some($command::$variant { $($part $(: $given)?),* }),)*
+            _ => None,
+        }
+    };
+}
+
 /// The word of a command: of the variants that have their words' names, and of the others.
 macro_rules! word_of {
     ($command:ident, $value:expr, [$($same:ident)*], [$($word:ident $variant:ident,)*]) => {
@@ -436,38 +449,32 @@ impl<E: Element> FromOrder for VecCommand<E> {
             ..
         } = *order;
         let (from, index, target) = (name, order.start, order.start);
-        let value = E::of(alloc, source, order.first)?;
         let (n, capacity, additional) = (order.count, order.count, order.count);
-        let (items, marks) = (order.items(alloc, source)?, order.marks(alloc)?);
-        Ok(Some(match order.word {
-            Word::New => VecCommand::New { name },
-            Word::WithCapacity => VecCommand::WithCapacity { name, capacity },
-            Word::FromItems => VecCommand::FromList { name, items },
-            Word::FromElem => VecCommand::FromElem { name, value, n },
-            Word::Clone => VecCommand::Clone { from, to },
-            Word::Drop => VecCommand::Drop { name },
-            Word::Push => VecCommand::Push { name, value },
-            Word::Pop => VecCommand::Pop { name },
-            Word::Insert => VecCommand::Insert { name, index, value },
-            Word::Remove => VecCommand::Remove { name, index },
-            Word::Truncate => VecCommand::Truncate { name, target },
-            Word::Clear => VecCommand::Clear { name },
-            Word::Retain => VecCommand::Retain { name, marks },
-            Word::Drain => VecCommand::Drain { name, bounds },
-            Word::Splice => VecCommand::Splice {
-                name,
-                bounds,
-                items,
-            },
-            Word::Extend => VecCommand::Extend { name, items },
-            Word::Reserve => VecCommand::Reserve { name, additional },
-            Word::Write => VecCommand::Write { name, index, value },
-            Word::Read => VecCommand::Read { name, index },
-            Word::Len => VecCommand::Len { name },
-            Word::Contents => VecCommand::Contents { name },
-            Word::Capacity => VecCommand::Capacity { name },
-            Word::Unique => VecCommand::Unique { name },
-            _ => return Ok(None),
+        Ok(command_from!(order.word, VecCommand {
+            New { name }
+            WithCapacity { name, capacity }
+            FromElem { name, value: order.value(alloc, source)?, n }
+            Clone { from, to }
+            Drop { name }
+            Push { name, value: order.value(alloc, source)? }
+            Pop { name }
+            Insert { name, index, value: order.value(alloc, source)? }
+            Remove { name, index }
+            Truncate { name, target }
+            Clear { name }
+            Retain { name, marks: order.marks(alloc)? }
+            Drain { name, bounds }
+            Splice { name, bounds, items: order.items(alloc, source)? }
+            Extend { name, items: order.items(alloc, source)? }
+            Reserve { name, additional }
+            Write { name, index, value: order.value(alloc, source)? }
+            Read { name, index }
+            Len { name }
+            Contents { name }
+            Capacity { name }
+            Unique { name }
+        }, {
+            FromItems FromList { name, items: order.items(alloc, source)? }
         }))
     }
 
@@ -489,34 +496,33 @@ impl FromOrder for BytesCommand {
         let (from, index, target) = (name, order.start, order.start);
         let (n, capacity, additional) = (order.count, order.count, order.count);
         let byte = u8::try_from(order.first).unwrap_or(0);
-        let bytes = order.byte_items(alloc)?;
-        Ok(Some(match order.word {
-            Word::New => BytesCommand::New { name },
-            Word::TryInline => BytesCommand::TryInline { name, bytes },
-            Word::WithCapacity => BytesCommand::WithCapacity { name, capacity },
-            Word::FromItems => BytesCommand::FromList { name, bytes },
-            Word::FromEcoVec => BytesCommand::FromEcoVec { name, bytes },
-            Word::FromOther => BytesCommand::FromText { from, to },
-            Word::Clone => BytesCommand::Clone { from, to },
-            Word::Drop => BytesCommand::Drop { name },
-            Word::Push => BytesCommand::Push { name, byte },
-            Word::Pop => BytesCommand::Pop { name },
-            Word::Insert => BytesCommand::Insert { name, index, byte },
-            Word::Remove => BytesCommand::Remove { name, index },
-            Word::Extend => BytesCommand::Extend { name, bytes },
-            Word::InsertSlice => BytesCommand::InsertSlice { name, index, bytes },
-            Word::Truncate => BytesCommand::Truncate { name, target },
-            Word::Clear => BytesCommand::Clear { name },
-            Word::Reserve => BytesCommand::Reserve { name, additional },
-            Word::Write => BytesCommand::Write { name, index, byte },
-            Word::Read => BytesCommand::Read { name, index },
-            Word::Repeat => BytesCommand::Repeat { from, to, n },
-            Word::Shrink => BytesCommand::ShrinkToFit { name },
-            Word::Len => BytesCommand::Len { name },
-            Word::Capacity => BytesCommand::Capacity { name },
-            Word::Contents => BytesCommand::Contents { name },
-            Word::IsInline => BytesCommand::IsInline { name },
-            _ => return Ok(None),
+        Ok(command_from!(order.word, BytesCommand {
+            New { name }
+            TryInline { name, bytes: order.bytes(alloc)? }
+            WithCapacity { name, capacity }
+            FromEcoVec { name, bytes: order.bytes(alloc)? }
+            Clone { from, to }
+            Drop { name }
+            Push { name, byte }
+            Pop { name }
+            Insert { name, index, byte }
+            Remove { name, index }
+            Extend { name, bytes: order.bytes(alloc)? }
+            InsertSlice { name, index, bytes: order.bytes(alloc)? }
+            Truncate { name, target }
+            Clear { name }
+            Reserve { name, additional }
+            Write { name, index, byte }
+            Read { name, index }
+            Repeat { from, to, n }
+            Len { name }
+            Capacity { name }
+            Contents { name }
+            IsInline { name }
+        }, {
+            FromItems FromList { name, bytes: order.bytes(alloc)? }
+            FromOther FromText { from, to }
+            Shrink ShrinkToFit { name }
         }))
     }
 
@@ -536,39 +542,41 @@ impl FromOrder for TextCommand {
     fn from_order(alloc: Global, _: &(), order: &Order) -> Result<Option<Self>, AllocError> {
         let Order { name, to, .. } = *order;
         let (from, index, target) = (name, order.start, order.start);
-        let (n, capacity, additional) = (order.count, order.count, order.count);
+        let (n, count, capacity, additional) = (order.count, order.count, order.count, order.count);
         let c = order.character().chars().next().unwrap_or('a');
-        let text = text_of(alloc, order.letters())?;
-        Ok(Some(match order.word {
-            Word::New => TextCommand::New { name },
-            Word::TryInline => TextCommand::TryInline { name, text },
-            Word::WithCapacity => TextCommand::WithCapacity { name, capacity },
-            Word::FromItems => TextCommand::FromStr { name, text },
-            Word::FromChar => TextCommand::FromChar { name, c },
-            Word::FromOther => TextCommand::FromBytes { from, to },
-            Word::Clone => TextCommand::Clone { from, to },
-            Word::Drop => TextCommand::Drop { name },
-            Word::Push => TextCommand::Push { name, c },
-            Word::Pop => TextCommand::Pop { name },
-            Word::Extend => TextCommand::PushStr { name, text },
-            Word::Insert => TextCommand::Insert { name, index, c },
-            Word::InsertSlice => TextCommand::InsertStr { name, index, text },
-            Word::Remove => TextCommand::Remove { name, index },
-            Word::Truncate => TextCommand::Truncate { name, target },
-            Word::Clear => TextCommand::Clear { name },
-            Word::Reserve => TextCommand::Reserve { name, additional },
-            Word::Replace => return Ok(Some(replace_of(alloc, order)?)),
-            Word::Repeat => TextCommand::Repeat { from, to, n },
-            Word::Lower => TextCommand::AsciiLower { name },
-            Word::Upper => TextCommand::AsciiUpper { name },
-            Word::ToLower => TextCommand::ToAsciiLower { from, to },
-            Word::ToUpper => TextCommand::ToAsciiUpper { from, to },
-            Word::Shrink => TextCommand::ShrinkToFit { name },
-            Word::Len => TextCommand::Len { name },
-            Word::Capacity => TextCommand::Capacity { name },
-            Word::Contents => TextCommand::Contents { name },
-            Word::IsInline => TextCommand::IsInline { name },
-            _ => return Ok(None),
+        let (pattern, by) = order.pattern();
+        Ok(command_from!(order.word, TextCommand {
+            New { name }
+            TryInline { name, text: order.text(alloc)? }
+            WithCapacity { name, capacity }
+            FromChar { name, c }
+            Clone { from, to }
+            Drop { name }
+            Push { name, c }
+            Pop { name }
+            Insert { name, index, c }
+            Remove { name, index }
+            Truncate { name, target }
+            Clear { name }
+            Reserve { name, additional }
+            Replace {
+                from, to, pattern: text_of(alloc, pattern)?, replacement: text_of(alloc, by)?, count
+            }
+            Repeat { from, to, n }
+            Len { name }
+            Capacity { name }
+            Contents { name }
+            IsInline { name }
+        }, {
+            FromItems FromStr { name, text: order.text(alloc)? }
+            FromOther FromBytes { from, to }
+            Extend PushStr { name, text: order.text(alloc)? }
+            InsertSlice InsertStr { name, index, text: order.text(alloc)? }
+            Lower AsciiLower { name }
+            Upper AsciiUpper { name }
+            ToLower ToAsciiLower { from, to }
+            ToUpper ToAsciiUpper { from, to }
+            Shrink ShrinkToFit { name }
         }))
     }
 

@@ -97,8 +97,12 @@ fn count_of<E: Drop>(outcome: Outcome<E>) -> Option<usize> {
     }
 }
 
-fn flag_of<E: Drop>(outcome: Outcome<E>) -> Option<bool> {
-    match outcome {
+/// What the store answers to a question.
+fn asked<E: Element, const N: usize>(
+    store: &mut SmallStore<E, N>,
+    question: Command<E>,
+) -> Option<bool> {
+    match store.step(question) {
         Outcome::Flag(flag) => Some(flag),
         _ => None,
     }
@@ -157,26 +161,25 @@ impl<E: Element, const N: usize> NamedStore for SmallStore<E, N> {
         if held.inline {
             return room == N;
         }
-        let unique = flag_of(self.step(Command::Vec(VecCommand::Unique { name })));
+        let unique = asked(self, Command::Vec(VecCommand::Unique { name }));
         let is_unique = held.kind != Kind::List || unique == Some(!model.is_shared(held));
         room >= held.items.len() && is_unique
     }
 
     fn is_held(&mut self, name: u32, held: &Entry) -> bool {
-        let (is_same, question) = match held.kind {
-            Kind::List => {
-                return matches!(self.get(name), Some(items) if are(items, &held.items));
+        match held.kind {
+            Kind::List => matches!(self.get(name), Some(items) if are(items, &held.items)),
+            Kind::Bytes => {
+                matches!(self.get_bytes(name), Some(bytes) if held.items.is_bytes(bytes))
+                    && asked(self, Command::Bytes(BytesCommand::IsInline { name }))
+                        == Some(held.inline)
             }
-            Kind::Bytes => (
-                matches!(self.get_bytes(name), Some(bytes) if held.items.is_bytes(bytes)),
-                Command::Bytes(BytesCommand::IsInline { name }),
-            ),
-            Kind::Text => (
-                matches!(self.get_str(name), Some(text) if held.items.is_bytes(text.as_bytes())),
-                Command::Text(TextCommand::IsInline { name }),
-            ),
-        };
-        is_same && flag_of(self.step(question)) == Some(held.inline)
+            Kind::Text => {
+                matches!(self.get_str(name), Some(text) if held.items.is_bytes(text.as_bytes()))
+                    && asked(self, Command::Text(TextCommand::IsInline { name }))
+                        == Some(held.inline)
+            }
+        }
     }
 
     fn has_totals(&self, _model: &Model) -> bool {
@@ -303,6 +306,39 @@ fn refusal_holds<K: NamedStore>(
     trial.watch.may_refuse() && has_rooms && agrees(trial, store, model)
 }
 
+/// How a store answers a command.
+#[derive(Clone, Copy)]
+enum Answered {
+    AsWanted,
+    Otherwise,
+    LacksMemory,
+}
+
+/// Carries a command out, which is to clone so many elements. `None` where the test itself lacks
+/// memory.
+fn carry_out<K: NamedStore>(
+    trial: &Trial<'_, K::Element>,
+    store: &mut K,
+    order: &Order,
+    want: &Want,
+    cloned: u64,
+) -> Option<Answered> {
+    let (room, _) = store.room(order.name);
+    let counts = trial.source.counts();
+    let Some(outcome) = store.carry_out(trial, order).ok()? else {
+        return Some(Answered::Otherwise);
+    };
+    if lacks_memory(&outcome) {
+        return Some(Answered::LacksMemory);
+    }
+    let is_right = fits(want, &outcome, room) && trial.source.has_cloned(counts, cloned);
+    Some(if is_right {
+        Answered::AsWanted
+    } else {
+        Answered::Otherwise
+    })
+}
+
 /// Carries a command out, again where memory was refused; says whether all is then as it is to be.
 /// `None` where the test itself lacks memory.
 pub(crate) fn order_holds<K: NamedStore>(
@@ -315,32 +351,21 @@ pub(crate) fn order_holds<K: NamedStore>(
     let Some(want) = next.carry_out(order) else {
         return Some(true);
     };
-    let before = account(store);
-    let (room, _) = store.room(order.name);
-    let mut counts = trial.source.counts();
-    let Some(outcome) = store.carry_out(trial, order).ok()? else {
-        return Some(false);
-    };
-    let mut outcome = outcome;
-    if lacks_memory(&outcome) {
+    let cloned = next.cloned.wrapping_sub(model.cloned);
+    let is_refused = matches!(&want, Want::Refused(_));
+    let (before, (room, _)) = (account(store), store.room(order.name));
+    let mut answered = carry_out(trial, store, order, &want, cloned)?;
+    if let Answered::LacksMemory = answered {
         let is_free = model.is_free(order, room.unwrap_or(0));
-        let is_refused = matches!(&want, Want::Refused(_));
         if is_free || is_refused || !refusal_holds(trial, store, model, &before) {
             return Some(false);
         }
-        counts = trial.source.counts();
-        match store.carry_out(trial, order).ok()? {
-            Some(again) => outcome = again,
-            None => return Some(false),
-        }
+        answered = carry_out(trial, store, order, &want, cloned)?;
     }
-    let cloned = next.cloned.wrapping_sub(model.cloned);
-    if !matches!(&want, Want::Refused(_)) {
+    if !is_refused {
         *model = next;
     }
-    let is_right = fits(&want, &outcome, room) && trial.source.has_cloned(counts, cloned);
-    drop(outcome);
-    Some(is_right && agrees(trial, store, model))
+    Some(matches!(answered, Answered::AsWanted) && agrees(trial, store, model))
 }
 
 /// Carries commands out, one by one, on a new store.
