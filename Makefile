@@ -115,8 +115,7 @@ c-test: lib bin/libecow_c-plain.a
 	tools/c_test.sh
 
 COSTS := crates/ecow_costs/out/ecow_costs
-STORE_FAULTS := crates/ecow_store_faults/out/ecow_store_faults
-VALUE_FAULTS := crates/ecow_value_faults/out/ecow_value_faults
+FAULTS := crates/ecow_faults/out/ecow_faults
 RUN := crates/ecow_run/out/ecow_run
 BENCH := crates/ecow_bench/out/ecow_bench
 
@@ -125,8 +124,7 @@ BENCH := crates/ecow_bench/out/ecow_bench
 test: agree
 	rt ci
 	tools/costs.sh $(COSTS)
-	tools/refuse.sh $(VALUE_FAULTS)
-	tools/refuse.sh $(STORE_FAULTS)
+	tools/refuse.sh $(FAULTS)
 	tools/ends.sh $(RUN)
 	tools/large.sh $(RUN)
 	tools/growth.sh $(BENCH)
@@ -168,7 +166,7 @@ mutants:
 	tools/mutants.py $(N) $(SEED) $(JOBS) $(PARTS)
 
 # Where these are tried: over the plain count here, and over the atomic one beside it.
-TRIED = $(if $(filter atomic,$(COUNT)),$(shell tools/for_threads.sh ecow_costs ecow_value_faults ecow_store_faults),.)
+TRIED = $(if $(filter atomic,$(COUNT)),$(shell tools/for_threads.sh ecow_costs ecow_faults),.)
 
 costs:
 	cd $(TRIED)/crates/ecow_costs && rt run > /dev/null
@@ -179,10 +177,8 @@ instructions: bin/ecow-run
 	tools/instructions.sh $(BENCH) $(RUN)
 
 faults:
-	cd $(TRIED)/crates/ecow_value_faults && rt run -- strict
-	cd $(TRIED)/crates/ecow_store_faults && rt run -- strict
-	tools/refuse.sh $(TRIED)/$(VALUE_FAULTS)
-	tools/refuse.sh $(TRIED)/$(STORE_FAULTS)
+	cd $(TRIED)/crates/ecow_faults && rt run -- strict
+	tools/refuse.sh $(TRIED)/$(FAULTS)
 
 SECONDS := 60
 c-fuzz: lib

@@ -1,5 +1,5 @@
-//! Both stores and the program over them, whose requests for memory are refused in turn by the
-//! gate. A command does its work, or is refused and leaves all names as they were.
+//! Values, both stores, and the program over them, whose requests for memory are refused in turn by
+//! the gate. A call or a command does its work, or is refused and leaves all as it was.
 #![tactic(auto)]
 
 mod commands;
@@ -8,6 +8,7 @@ mod model;
 mod scripts;
 mod seeds;
 mod stores;
+mod values;
 
 use crate::commands::Kind;
 use crate::seeds::{filling_holds, run_holds, seeds_hold};
@@ -56,7 +57,35 @@ fn runs_hold(trial: &Trial<'_, i64>) -> bool {
         && run_holds::<Counted<i64>>(trial, Kind::List)
 }
 
-const NAMES: [&str; 18] = [
+/// How many of the parts are about values. They come first.
+const VALUES: usize = 25;
+
+const NAMES: [&str; 43] = [
+    "vectors of numbers",
+    "vectors of bytes",
+    "vectors of names",
+    "vectors of many elements",
+    "bytes, none inline",
+    "bytes, 1 inline",
+    "bytes, 3 inline",
+    "bytes, 15 inline",
+    "bytes, 23 inline",
+    "bytes, 255 inline",
+    "bytes, 257 inline",
+    "bytes, 600 inline",
+    "texts, none inline",
+    "texts, 1 inline",
+    "texts, 3 inline",
+    "texts, 15 inline",
+    "texts, 23 inline",
+    "texts, 255 inline",
+    "printed texts",
+    "clones of elements",
+    "values by a seed",
+    "many owners",
+    "vectors of elements of no bytes",
+    "elements of no bytes, again and again",
+    "bytes and texts, others inline",
     "lists of a store",
     "counted lists",
     "bytes of a store, none inline",
@@ -77,32 +106,40 @@ const NAMES: [&str; 18] = [
     "clones in counted lists",
 ];
 
-struct Both;
+/// Whether the part of stores with this number, counted from 0, holds.
+fn part_of_stores_holds(part: usize, alloc: Global, watch: &Watch) -> bool {
+    let trial = Trial {
+        alloc,
+        source: &(),
+        watch,
+    };
+    match part {
+        0 => all_of_kind_hold::<SmallStore<i64, 15>>(&trial, Kind::List),
+        1 => all_of_kind_hold::<Counted<i64>>(&trial, Kind::List),
+        2..=5 => store_holds(&trial, Kind::Bytes, part.wrapping_sub(2)),
+        6..=9 => store_holds(&trial, Kind::Text, part.wrapping_sub(6)),
+        10 => seeds_hold::<SmallStore<i64, 4>>(&trial, 3),
+        11 => seeds_hold::<SmallStore<i64, 15>>(&trial, 3),
+        12 => seeds_hold::<Counted<i64>>(&trial, 1),
+        13 => runs_hold(&trial),
+        14 => filling_holds(&trial),
+        15 => scripts::store_holds(alloc, watch) && scripts::counted_holds(alloc, watch),
+        16 => counting_hold::<SmallStore<Counting, 15>>(alloc, watch),
+        _ => counting_hold::<Counted<Counting>>(alloc, watch),
+    }
+}
 
-impl Parts for Both {
+struct All;
+
+impl Parts for All {
     fn holds(part: usize, alloc: Global, watch: &Watch) -> bool {
-        let trial = Trial {
-            alloc,
-            source: &(),
-            watch,
-        };
-        match part {
-            0 => all_of_kind_hold::<SmallStore<i64, 15>>(&trial, Kind::List),
-            1 => all_of_kind_hold::<Counted<i64>>(&trial, Kind::List),
-            2..=5 => store_holds(&trial, Kind::Bytes, part.wrapping_sub(2)),
-            6..=9 => store_holds(&trial, Kind::Text, part.wrapping_sub(6)),
-            10 => seeds_hold::<SmallStore<i64, 4>>(&trial, 3),
-            11 => seeds_hold::<SmallStore<i64, 15>>(&trial, 3),
-            12 => seeds_hold::<Counted<i64>>(&trial, 1),
-            13 => runs_hold(&trial),
-            14 => filling_holds(&trial),
-            15 => scripts::store_holds(alloc, watch) && scripts::counted_holds(alloc, watch),
-            16 => counting_hold::<SmallStore<Counting, 15>>(alloc, watch),
-            _ => counting_hold::<Counted<Counting>>(alloc, watch),
+        if part < VALUES {
+            return values::part_holds(part, alloc, watch);
         }
+        part_of_stores_holds(part.wrapping_sub(VALUES), alloc, watch)
     }
 }
 
 fn main(rt: HostRuntime) -> io::Result<()> {
-    run::<Both>(&rt, &NAMES)
+    run::<All>(&rt, &NAMES)
 }

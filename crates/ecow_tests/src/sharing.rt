@@ -3,7 +3,9 @@ use crate::calls::{error_of, is_unique, shared};
 use ecow_block::Block;
 use ecow_bytes::EcoBytes;
 use ecow_calls::counting::Single;
+use ecow_counted::Counted;
 use ecow_list::{EcoError, EcoVec};
+use ecow_model::{Outcome, Refusal};
 use ecow_string::EcoString;
 use std::alloc::Global;
 use std::test::Fail;
@@ -64,6 +66,13 @@ fn elements_without_a_clone_are_shared(rt: HostRuntime) -> Result<(), Fail> {
     assert!(rt; first.len() == 2 && second.len() == 2 && second.capacity() == 4);
     assert!(rt; !is_unique(&mut first) && !is_unique(&mut second));
     Ok(())
+}
+
+#[test]
+fn a_store_shares_elements_without_a_clone(rt: HostRuntime) {
+    let mut lists: Counted<Single> = Counted::new(rt.alloc());
+    let shared = lists.share(0, 1);
+    assert!(rt; matches!(&shared, Outcome::Refused(Refusal::NoName)) && lists.owners(0).is_none());
 }
 
 /// Whether bytes stand in the block that a vector has, which is made of so many bytes.
