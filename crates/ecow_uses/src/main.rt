@@ -48,8 +48,8 @@ fn edit_a_document(rt: &HostRuntime) -> Result<()> {
     history.insert(0, EcoString::from_str(alloc, "a line of the document")?)?;
     let kept = history.snapshot()?;
     replace_a_line(rt, &mut history)?;
-    print_lines(rt, "now", history.lines())?;
-    print_lines(rt, "in the snapshot", &kept)
+    println!(rt; "now: {:?}, in the snapshot: {kept:?}", history.lines())?;
+    Ok(())
 }
 
 fn replace_a_line(rt: &HostRuntime, history: &mut History) -> Result<()> {
@@ -58,18 +58,8 @@ fn replace_a_line(rt: &HostRuntime, history: &mut History) -> Result<()> {
     }
     let other = EcoString::from_str(rt.alloc(), "another line")?;
     let undone = undo::replace_and_undo(history, 0, other)?;
-    println!(rt; "undone: {undone}, made again: {}", history.redo()?)?;
-    println!(rt;
-        "the same after undo and redo: {}",
-        undo::undo_and_redo(history)?
-    )?;
-    Ok(())
-}
-
-fn print_lines(rt: &HostRuntime, place: &str, lines: &[EcoString]) -> Result<()> {
-    for line in lines {
-        println!(rt; "{place}: {line}")?;
-    }
+    let (again, same) = (history.redo()?, undo::undo_and_redo(history)?);
+    println!(rt; "undone: {undone}, made again: {again}, the same after both: {same}")?;
     Ok(())
 }
 
@@ -77,14 +67,10 @@ fn try_out_settings(rt: &HostRuntime) -> Result<()> {
     let mut settings = Counted::new(rt.alloc());
     let filled = settings.fill(1, vec![in rt.alloc(); 10u64, 20, 30]?);
     let tried = settings::try_out(&mut settings, 1, 2, 0, 11).is_ok();
-    println!(rt; "settings: {}, tried out: {tried}", filled.accepted)?;
-    for version in 1..=2 {
-        if let Some(value) = settings::value(&settings, version, 0) {
-            println!(rt; "version {version}: {value}")?;
-        }
-    }
+    let versions = [1, 2].map(|version| settings::value(&settings, version, 0));
     println!(rt;
-        "copied: {}, blocks: {}",
+        "settings: {}, tried out: {tried}, versions: {versions:?}, copied: {}, blocks: {}",
+        filled.accepted,
         settings.copied(),
         settings.blocks()
     )?;
@@ -116,10 +102,7 @@ fn print_template(
     text: &str,
     values: &BTreeMap<EcoString, EcoString>,
 ) -> Result<()> {
-    match template::fill(rt.alloc(), text, values)? {
-        Some(filled) => println!(rt; "{text} -> {filled}")?,
-        None => println!(rt; "{text} -> a hole isn't closed")?,
-    }
+    println!(rt; "{text} -> {:?}", template::fill(rt.alloc(), text, values)?)?;
     Ok(())
 }
 
