@@ -54,16 +54,16 @@ paste -d ' ' "$out/rows" "$out/counts" | diff c/tests/costs.out - || {
 refuse_each() { # PROGRAM EDITS SETTING.., of the library that refuses
     run="$out/$1 $2"
     shift 2
-    total=$(env TOTAL=1 LD_PRELOAD="$out/shim.so" $run 2>&1 > /dev/null)
-    [ "$total" -gt 0 ] || { echo "$run: $total requests"; exit 1; }
-    number=0
-    while [ "$number" -lt "$total" ]; do
-        number=$((number + 1))
-        silent env "$@" REFUSE=$number LD_PRELOAD="$out/shim.so" $run > /dev/null || {
-            echo "request $number of $run"
-            exit 1
-        }
-    done
+    env "$@" EACH=1 TOTAL=1 LD_PRELOAD="$out/shim.so" $run > "$out/tried" 2> "$out/total" || {
+        echo "$run ends with another status than 0"
+        exit 1
+    }
+    total=$(cat "$out/total")
+    if grep -a '^request .* status [^0]' "$out/tried"; then exit 1; fi
+    [ "$total" -gt 0 ] && [ "$(grep -ac '^request .* status 0$' "$out/tried")" -eq "$total" ] || {
+        echo "$run: $total requests, as it says"
+        exit 1
+    }
     echo "refused in turn: $total requests"
 }
 refuse_each edits 400 LEFT=1

@@ -1,6 +1,9 @@
 /* A library that is loaded before the C library's (LD_PRELOAD) and sees each request for memory.
    REFUSE=K refuses the request with that number, counted from 1. Where the program made fewer
    requests, a line on standard error says so at its end.
+   EACH=N refuses every N-th request, from the first on, each in a copy of the process, which goes on
+   to its end without that block. Then the process itself goes on with it. A line on standard output
+   says how the copy ended: `request 17: status 0`. What it read of standard input is read again.
    COUNT=1 counts requests. A request of 5555551 bytes sets the count to 0; one of 5555553 bytes
    writes it, in digits and a line feed, to standard error. These two are not counted themselves.
    TOTAL=1 writes, at the program's end, how many requests it made in all.
@@ -11,13 +14,18 @@ typedef unsigned long size;
 extern void *dlsym(void *library, const char *name);
 extern char *getenv(const char *name);
 extern long write(int file, const void *bytes, size length);
+extern long lseek(int file, long offset, int whence);
+extern int fork(void);
+extern int waitpid(int process, int *status, int options);
 
 #define NEXT ((void *)-1l)
 #define SETS_TO_ZERO 5555551ul
 #define WRITES 5555553ul
 #define OUT_OF_MEMORY 12
+#define FROM_START 0
+#define FROM_HERE 1
 
-static long refused;
+static long refused, each;
 /* Threads may ask at the same time. */
 static _Atomic long made, counted, held;
 static int counts, totals, leaks;
@@ -28,13 +36,36 @@ static long number_of(const char *digits) {
   return number;
 }
 
+/* Writes words and a number behind them. */
+static void write_words(int file, const char *words, long number) {
+  char digits[24];
+  size length = 0, start = sizeof digits;
+  while (words[length]) length++;
+  do digits[--start] = (char)('0' + number % 10); while (number /= 10);
+  (void)!write(file, words, length);
+  (void)!write(file, digits + start, sizeof digits - start);
+}
+
 static void write_number(long number) {
-  char line[24];
-  size start = sizeof line;
-  long rest = number;
-  line[--start] = '\n';
-  do line[--start] = (char)('0' + rest % 10); while (rest /= 10);
-  (void)!write(2, line + start, sizeof line - start);
+  write_words(2, "", number);
+  (void)!write(2, "\n", 1);
+}
+
+/* Copies the process, and says whether this is the copy. The process itself waits for its end. */
+static int is_copy(void) {
+  long at = lseek(0, 0, FROM_HERE);
+  int status = 0, copy = fork();
+  if (copy == 0) {
+    refused = made;
+    each = totals = 0;
+    return 1;
+  }
+  if (waitpid(copy, &status, 0) != copy) status = 255 << 8;
+  lseek(0, at, FROM_START);
+  write_words(1, "request ", made);
+  write_words(1, ": status ", status & 127 ? 128 + (status & 127) : status >> 8);
+  (void)!write(1, "\n", 1);
+  return 0;
 }
 
 /* Sees a request, and says whether it is refused. */
@@ -42,11 +73,13 @@ static int is_refused(size bytes) {
   if (counts && bytes == SETS_TO_ZERO) counted = 0;
   else if (counts && bytes == WRITES) write_number(counted);
   else counted++;
-  return ++made == refused;
+  if (++made == refused) return 1;
+  return each && (made - 1) % each == 0 && is_copy();
 }
 
 __attribute__((constructor)) static void begin(void) {
   refused = number_of(getenv("REFUSE"));
+  each = number_of(getenv("EACH"));
   counts = number_of(getenv("COUNT")) != 0;
   totals = number_of(getenv("TOTAL")) != 0;
   leaks = number_of(getenv("LEFT")) != 0;

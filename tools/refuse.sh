@@ -1,9 +1,9 @@
 #!/bin/sh
-# Runs each part of a program again and again, each time with another one of its requests for memory
-# refused, from the first to the last. It must end with status 0, give all memory back, and print
-# what it prints where none is refused. A program that finds a number on standard input runs the part
-# with that number alone, counted from 1; where it finds none, it runs all, and prints a line for each.
-# EACH=10 refuses one request in ten; PROCESSORS=1 runs one program at a time.
+# Refuses each request for memory of each part of a program in turn, from the first to the last: a copy of the process
+# goes on without it. The copy must end with status 0, give all memory back, and print what is printed where none is
+# refused. A program that finds a number on standard input runs the part with that number alone, counted from 1; where
+# it finds none, it runs all, and prints a line for each.
+# EACH=10 refuses one request in ten; PROCESSORS=1 tries one part at a time.
 # usage: tools/refuse.sh PROGRAM
 set -eu
 program=$1
@@ -12,6 +12,7 @@ trap 'rm -r "$work"' EXIT
 "$(dirname "$0")/shim.sh" "$work/refuse.so"
 processors=${PROCESSORS:-$(getconf _NPROCESSORS_ONLN 2> "$work/none" || echo 1)}
 each=${EACH:-1}
+unset EACH
 export LEFT=1
 LD_PRELOAD="$work/refuse.so" "$program" < /dev/null > "$work/lines" 2>&1 || {
     cat "$work/lines"
@@ -22,39 +23,37 @@ parts=$(grep -c '' < "$work/lines" || true)
 if grep -e wrong -e left "$work/lines"; then exit 1; fi
 [ "$parts" -gt 0 ] || { echo "$program has no part"; exit 1; }
 
-# Refuses the request with this number, and each that comes so many processors later.
-refuse_from() {
-    number=$1
-    while [ "$number" -le "$total" ]; do
-        status=0
-        echo "$number" >> "$work/tried.$1"
-        got=$(REFUSE="$number" LD_PRELOAD="$work/refuse.so" "$program" < "$work/part" 2>&1) || status=$?
-        if [ "$status" -ne 0 ] || [ "$got" != "$want" ]; then
-            echo "part $part, request $number: status $status"
-            echo "$got" > "$work/got.$1"
-            echo "$want" | diff - "$work/got.$1" || true
-        fi
-        number=$((number + processors * each))
-    done >> "$work/wrong.$1"
+# Runs the part with this number, and each that comes so many processors later.
+run_from() {
+    part=$1
+    while [ "$part" -le "$parts" ]; do
+        echo "$part" > "$work/part.$1"
+        EACH=$each TOTAL=1 LD_PRELOAD="$work/refuse.so" "$program" < "$work/part.$1" > "$work/said.$part" 2>&1 ||
+            echo "status $?" >> "$work/said.$part"
+        part=$((part + processors))
+    done
 }
 
+first=0
+while first=$((first + 1)) && [ "$first" -le "$processors" ]; do run_from "$first" & done
+wait
+
 part=0
-all=0
+tried=0
+wrong=0
 while part=$((part + 1)) && [ "$part" -le "$parts" ]; do
-    echo "$part" > "$work/part"
-    want=$(sed -n "${part}p" "$work/lines")
-    total=$(TOTAL=1 LD_PRELOAD="$work/refuse.so" "$program" < "$work/part" 2>&1 > "$work/none")
+    total=$(tail -n 1 "$work/said.$part")
     [ "$total" -gt 0 ] || { echo "part $part of $program: $total requests"; exit 1; }
-    all=$((all + total))
-    first=1
-    while [ "$first" -le "$processors" ]; do
-        refuse_from "$first" &
-        first=$((first + 1))
-    done
-    wait
+    awk -v line="$(sed -n "${part}p" "$work/lines")" -v total="$total" -v each="$each" 'BEGIN {
+        for (number = 1; number <= total; number += each) print line "\nrequest " number ": status 0"
+        print line "\n" total
+    }' > "$work/wanted"
+    diff "$work/wanted" "$work/said.$part" > "$work/apart" || {
+        wrong=$((wrong + 1))
+        echo "part $part, at the request that a line names, or before it:"
+        cat "$work/apart"
+    }
+    tried=$((tried + (total + each - 1) / each))
 done
-cat "$work"/wrong.*
-wrong=$(cat "$work"/wrong.* | grep -c '^part ' || true)
-tried=$(cat "$work"/tried.* | grep -c '')
-echo "$tried requests refused in turn, $wrong wrong"
-[ "$wrong" -eq 0 ] && [ "$all" -gt 0 ] && [ "$((tried * each))" -ge "$all" ]
+echo "$tried requests refused in turn, $wrong parts wrong"
+[ "$wrong" -eq 0 ]
