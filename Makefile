@@ -114,8 +114,7 @@ c-test: lib bin/libecow_c-plain.a
 	tools/c_short.sh
 	tools/c_test.sh
 
-COSTS := crates/ecow_costs/out/ecow_costs
-FAULTS := crates/ecow_faults/out/ecow_faults
+TRIALS := crates/ecow_trials/out/ecow_trials
 RUN := crates/ecow_run/out/ecow_run
 BENCH := crates/ecow_bench/out/ecow_bench
 
@@ -123,19 +122,18 @@ BENCH := crates/ecow_bench/out/ecow_bench
 # is run on command lines and on large scripts, and calls are timed as values grow.
 test: agree
 	rt ci
-	tools/costs.sh $(COSTS)
-	tools/refuse.sh $(FAULTS)
+	tools/costs.sh $(TRIALS)
+	tools/refuse.sh $(TRIALS)
 	tools/ends.sh $(RUN)
+	tools/cases.sh $(RUN)
 	tools/large.sh $(RUN)
 	tools/growth.sh $(BENCH)
 	tools/threads_gate.sh
 	tools/c_gate.sh
 	tools/rust_gate.sh
 
-# The examples are cases too, and the gate runs the program on the first, of which there is a theorem. The kit takes no
-# linked file.
+# `rt ci` runs the program on the first example, of which there is a theorem. The kit takes no linked file.
 agree:
-	@for file in examples/*.eco; do cmp $$file crates/ecow_cases/data/$$(basename $$file) || exit 1; done
 	@cmp examples/first.eco crates/ecow_run/data/first.eco
 	@sed -n '/^first_script =/,/^$$/s/^[ +]*codes "\(.*\)\\n"$$/\1/p' crates/ecow_script/specs/FirstExample.antt | cmp - examples/first.eco
 	@tools/agree_statuses.sh
@@ -166,19 +164,19 @@ mutants:
 	tools/mutants.py $(N) $(SEED) $(JOBS) $(PARTS)
 
 # Where these are tried: over the plain count here, and over the atomic one beside it.
-TRIED = $(if $(filter atomic,$(COUNT)),$(shell tools/for_threads.sh ecow_costs ecow_faults),.)
+TRIED = $(if $(filter atomic,$(COUNT)),$(shell tools/for_threads.sh ecow_trials),.)
 
 costs:
-	cd $(TRIED)/crates/ecow_costs && rt run > /dev/null
-	tools/costs.sh $(TRIED)/$(COSTS)
+	cd $(TRIED)/crates/ecow_trials && rt run -- costs > /dev/null
+	tools/costs.sh $(TRIED)/$(TRIALS)
 
 instructions: bin/ecow-run
 	cd crates/ecow_bench && rt run > /dev/null
 	tools/instructions.sh $(BENCH) $(RUN)
 
 faults:
-	cd $(TRIED)/crates/ecow_faults && rt run -- strict
-	tools/refuse.sh $(TRIED)/$(FAULTS)
+	cd $(TRIED)/crates/ecow_trials && rt run -- strict
+	tools/refuse.sh $(TRIED)/$(TRIALS)
 
 SECONDS := 60
 c-fuzz: lib

@@ -59,7 +59,7 @@ echo a part
 END
 printf '#!/bin/sh\nexec awk -v rounds="$4" "BEGIN { while (i < rounds) i++; print 1 }"\n' > "$work/flat"
 chmod +x "$work/silent" "$work/repeats" "$work/constant" "$work/pretends" "$work/flat"
-for tool in costs.sh refuse.sh ends.sh large.sh growth.sh; do
+for tool in costs.sh refuse.sh ends.sh cases.sh large.sh growth.sh; do
     for program in silent repeats constant; do refuses "$tool" "$work/$program"; done
 done
 refuses costs.sh "$work/pretends"

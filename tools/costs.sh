@@ -1,5 +1,5 @@
 #!/bin/sh
-# Compares the tables of costs, docs/COSTS.md and those in crates/ecow_costs, with what PROGRAM, that crate's program
+# Compares the tables of costs, docs/COSTS.md and those in crates/ecow_trials, with what PROGRAM, that crate's program
 # built, prints while its requests for memory are counted. Says what differs, and whether memory isn't given back.
 # usage: tools/costs.sh PROGRAM
 set -eu
@@ -9,10 +9,10 @@ work=$(mktemp -d)
 trap 'rm -r "$work"' EXIT
 export LC_ALL=C
 
-awk -f tools/costs.awk docs/COSTS.md crates/ecow_costs/*.md | sort > "$work/said"
+awk -f tools/costs.awk docs/COSTS.md crates/ecow_trials/*.md | sort > "$work/said"
 
 tools/shim.sh "$work/shim.so"
-COUNT=1 LEFT=1 LD_PRELOAD=$work/shim.so "$program" marked > "$work/rows" 2> "$work/counts" || {
+COUNT=1 LEFT=1 LD_PRELOAD=$work/shim.so "$program" costs > "$work/rows" 2> "$work/counts" || {
     cat "$work/counts"
     echo "$program ends with another status than 0"
     exit 1

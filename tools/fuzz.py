@@ -27,7 +27,7 @@ LIMIT = 2 << 30
 
 
 def corpus():
-    paths = glob.glob(f"{TOP}/crates/ecow_cases/data/*.eco")
+    paths = glob.glob(f"{TOP}/cases/*.eco") + glob.glob(f"{TOP}/examples/*.eco")
     scripts = [open(path, "rb").read() for path in sorted(paths)]
     return [[line for line in script.split(b"\n") if not line.startswith(b"#")] for script in scripts]
 

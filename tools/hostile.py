@@ -45,7 +45,7 @@ FEWER = b"fewer requests\n"
 
 def scripts(limit):
     """The examples and the cases of fewer bytes than the limit."""
-    paths = glob.glob(f"{TOP}/crates/ecow_cases/data/*.eco")
+    paths = glob.glob(f"{TOP}/cases/*.eco") + glob.glob(f"{TOP}/examples/*.eco")
     return [path for path in sorted(paths) if os.path.getsize(path) < limit]
 
 

@@ -34,7 +34,7 @@ FILES = {
               "tools/agree_*.sh"],
 }
 # The first two stand on each of those crates.
-PROGRAMS = [f"ecow_{name}" for name in "c run uses cases costs faults".split()]
+PROGRAMS = [f"ecow_{name}" for name in "c run uses trials".split()]
 
 ONCE = 'said=$("$0" strict < /dev/null) && ! echo "$said" | grep wrong'
 LIBRARY = "tools/lib.sh atomic && PYTHON=none tools/c_short.sh"
@@ -42,18 +42,18 @@ PACKAGE = "tools/lib.sh atomic && tools/python.sh"
 # What the gate tries: of which program or changed files, and how. The command gets the program.
 CHECKS = {
     "rattle": [("ecow_uses", 'cd crates/ecow_uses && "$0" | cmp - stdout'),
-               ("ecow_cases", 'cd crates/ecow_cases/data && "$0" | cmp - ../stdout'),
-               ("ecow_costs", 'tools/costs.sh "$0"'),
-               ("ecow_run", 'tools/ends.sh "$0"'),
-               ("ecow_faults", ONCE),
+               ("ecow_trials", 'tools/costs.sh "$0"'),
+               ("ecow_run", 'tools/ends.sh "$0" && tools/cases.sh "$0"'),
+               ("ecow_trials", ONCE),
                ("ecow_run", 'tools/large.sh "$0"'),
-               ("ecow_faults", 'tools/refuse.sh "$0"'),
+               ("ecow_trials", 'tools/refuse.sh "$0"'),
                ("ecow_c", LIBRARY)],
     "glue": [("c/", LIBRARY), ("include/", LIBRARY), ("c/", PACKAGE), ("python/", PACKAGE)],
-    "tools": [("", "tools/costs.sh bin/ecow_costs"), ("", "tools/ends.sh bin/ecow_run"),
+    "tools": [("", "tools/costs.sh bin/ecow_trials"), ("", "tools/ends.sh bin/ecow_run"),
+              ("tools/cases", "tools/cases.sh bin/ecow_run"),
               ("tools/large", "tools/large.sh bin/ecow_run"),
               ("", "make --no-print-directory agree"),
-              ("tools/refuse", "tools/refuse.sh bin/ecow_faults")],
+              ("tools/refuse", "tools/refuse.sh bin/ecow_trials")],
 }
 # A glue that isn't compiled so is no mutant.
 SYNTAX = '-Iinclude "-I$(python3 -c "import sysconfig; print(sysconfig.get_path(\'include\'))")"'

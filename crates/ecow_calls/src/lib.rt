@@ -10,7 +10,6 @@ pub mod elements;
 mod letters;
 pub mod model;
 pub mod numbers;
-pub mod parts;
 pub mod prints;
 pub mod states;
 pub mod tables;

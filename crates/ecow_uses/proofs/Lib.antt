@@ -4,3 +4,6 @@ pub mod Holes
 pub mod Said
 pub mod Trees
 pub mod Runs
+pub mod Tables
+pub mod BlockFacts
+pub mod MemoryFacts

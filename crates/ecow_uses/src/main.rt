@@ -11,6 +11,7 @@ mod template;
 mod tree;
 mod undo;
 mod versions;
+mod worked;
 mod writing;
 
 use crate::symbols::{Interner, Scope};

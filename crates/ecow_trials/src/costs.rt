@@ -1,0 +1,60 @@
+//! What each call costs, measured: a row for each call and each state in which its value may be, as
+//! the tables of `docs/COSTS.md` have them. Calls may be marked, so that requests for memory, the
+//! last column, are counted from outside.
+mod marks;
+mod measure;
+mod prints;
+mod rows;
+
+use crate::costs::marks::Meter;
+use crate::costs::measure::{add_bytes, add_copies, add_texts, add_units, add_vectors};
+use crate::costs::rows::Rows;
+use ecow_bytes::SmallBytes;
+use ecow_string::SmallText;
+use std::alloc::Global;
+use std::hash::{DefaultHasher, Hash, Hasher};
+use std::io;
+
+/// The rows of bytes and texts at each limit of the tables.
+fn add_small(meter: Meter, rows: &mut Rows) {
+    add_bytes::<SmallBytes<0>>(meter, rows);
+    add_bytes::<SmallBytes<1>>(meter, rows);
+    add_bytes::<SmallBytes<3>>(meter, rows);
+    add_bytes::<SmallBytes<15>>(meter, rows);
+    add_bytes::<SmallBytes<23>>(meter, rows);
+    add_bytes::<SmallBytes<255>>(meter, rows);
+    add_texts::<SmallText<0>>(meter, rows);
+    add_texts::<SmallText<1>>(meter, rows);
+    add_texts::<SmallText<3>>(meter, rows);
+    add_texts::<SmallText<15>>(meter, rows);
+    add_texts::<SmallText<23>>(meter, rows);
+    add_texts::<SmallText<255>>(meter, rows);
+}
+
+/// The rows of all tables.
+fn all_rows(alloc: Global, marked: bool) -> Rows {
+    let (meter, mut rows) = (Meter::new(alloc, marked), Rows::new(alloc));
+    add_vectors(meter, &mut rows);
+    add_copies(meter, &mut rows);
+    add_units(meter, &mut rows);
+    add_small(meter, &mut rows);
+    prints::add_rows(meter, &mut rows);
+    rows
+}
+
+/// Prints the rows, with calls marked.
+pub(crate) fn print_rows(rt: &HostRuntime) -> io::Result<()> {
+    print!(rt; "{}", all_rows(rt.alloc(), true).text)
+}
+
+/// Prints how many rows there are, and their hash: two builds of the program must agree.
+pub(crate) fn print_hash(rt: &HostRuntime) -> io::Result<()> {
+    let rows = all_rows(rt.alloc(), false);
+    let mut hasher = DefaultHasher::new();
+    rows.text.as_str().hash(&mut hasher);
+    println!(rt;
+        "{} rows, hash {}",
+        rows.text.as_str().lines().count(),
+        hasher.finish()
+    )
+}

@@ -1,0 +1,281 @@
+//! What calls cost of any value.
+use crate::costs::marks::Meter;
+use crate::costs::rows::{Cost, Form, Rows, Standing, USUAL};
+use ecow_calls::calls::{Role, Row};
+use ecow_calls::counting::{Counting, Source, Tally};
+use ecow_calls::states::{State, edge, few_bytes, few_elements, few_spilled, no_byte, thousand};
+use ecow_calls::tables;
+use ecow_calls::trials::twin_of;
+use ecow_calls::value::Value;
+use ecow_list::{EcoError, EcoVec};
+
+fn form_of<V: Value>(block: &mut Option<V::Block>) -> Form {
+    match block {
+        Some(block) => {
+            if V::is_sole(block) {
+                Form::Sole
+            } else {
+                Form::Shared
+            }
+        }
+        None => Form::Inline,
+    }
+}
+
+/// Where two values stand, of which there may be one.
+fn forms<V: Value>(value: V, other: Option<V>) -> (Form, Form) {
+    let mut block = value.into_block();
+    match other {
+        Some(other) => {
+            let mut other = other.into_block();
+            (form_of::<V>(&mut block), form_of::<V>(&mut other))
+        }
+        None => (form_of::<V>(&mut block), Form::Absent),
+    }
+}
+
+/// Where the value stands in a state, and its clone or what is to be made of it.
+fn before<V: Value>(role: Role, state: &State) -> Standing {
+    let form = match state.room {
+        None => Form::Inline,
+        Some(_) if state.shared => Form::Shared,
+        Some(_) => Form::Sole,
+    };
+    let capacity = state.room.or(V::limit()).unwrap_or(0);
+    let (form, twin) = match role {
+        Role::Change if state.shared => (form, form),
+        Role::Change => (form, Form::Absent),
+        Role::Derive => (Form::Absent, form),
+        Role::Make => (Form::Absent, Form::Absent),
+    };
+    Standing::of(form, twin, capacity)
+}
+
+/// Where the value stands after a change, and its clone.
+fn after_change<V: Value>(row: &Row, value: V, twin: Option<V>) -> Standing {
+    let capacity = value.capacity();
+    let (form, twin) = forms(value, twin);
+    if row.gives_away() {
+        return Standing::of(Form::Absent, twin, 0);
+    }
+    Standing::of(form, twin, capacity)
+}
+
+/// Where a value stands that was made, if one was, and what it was made of.
+fn after_making<V: Value>(made: Option<V>, source: Option<V>) -> Standing {
+    match (made, source) {
+        (Some(made), source) => {
+            let capacity = made.capacity();
+            let (form, twin) = forms(made, source);
+            Standing::of(form, twin, capacity)
+        }
+        (None, Some(source)) => Standing::of(Form::Absent, forms(source, None).0, 0),
+        (None, None) => Standing::none(),
+    }
+}
+
+/// What has been counted since.
+fn since(before: Option<(u64, u64)>, after: Option<(u64, u64)>) -> Option<(u64, u64)> {
+    let (before, after) = (before?, after?);
+    Some((
+        after.0.wrapping_sub(before.0),
+        after.1.wrapping_sub(before.1),
+    ))
+}
+
+/// Where values stand behind a call, and how often elements were cloned and dropped in it.
+type Measured = Result<(Standing, Option<(u64, u64)>), EcoError>;
+
+fn measured_change<V: Value>(
+    meter: Meter,
+    source: &V::Source,
+    (row, state): (&Row, &State),
+) -> Measured {
+    let mut value = V::made(meter.alloc, source, state)?;
+    let twin = twin_of(&value, state)?;
+    let mut gift = V::gift(meter.alloc, source, row)?;
+    let (counted, _begun) = (source.counts(), meter.begin());
+    let mut out = None;
+    for _ in 0..row.times {
+        out = Some(value.change(row, &mut gift)?);
+    }
+    let (_ended, counts) = (meter.end(), since(counted, source.counts()));
+    drop(out);
+    Ok((after_change(row, value, twin), counts))
+}
+
+fn measured_derivation<V: Value>(
+    meter: Meter,
+    source: &V::Source,
+    (row, state): (&Row, &State),
+) -> Measured {
+    let value = V::made(meter.alloc, source, state)?;
+    let twin = twin_of(&value, state)?;
+    let (counted, _begun) = (source.counts(), meter.begin());
+    let made = value.derive(row)?;
+    let (_ended, counts) = (meter.end(), since(counted, source.counts()));
+    let after = after_making(made, Some(value));
+    drop(twin);
+    Ok((after, counts))
+}
+
+fn measured_making<V: Value>(meter: Meter, source: &V::Source, row: &Row) -> Measured {
+    let mut gift = V::gift(meter.alloc, source, row)?;
+    let (counted, _begun) = (source.counts(), meter.begin());
+    let made = V::make(row, &mut gift)?;
+    let (_ended, counts) = (meter.end(), since(counted, source.counts()));
+    Ok((after_making(Some(made), None), counts))
+}
+
+/// Adds a row of each call of a table in each of the states in which it fits.
+fn add<V: Value>(
+    meter: Meter,
+    rows: &mut Rows,
+    source: &V::Source,
+    role: Role,
+    (calls, states): (&[Row], &[State]),
+) {
+    for row in calls {
+        for state in states {
+            if row.needs <= state.len {
+                let at = (row, state);
+                let measured = match role {
+                    Role::Change => measured_change::<V>(meter, source, at),
+                    Role::Derive => measured_derivation::<V>(meter, source, at),
+                    Role::Make => measured_making::<V>(meter, source, row),
+                };
+                let cost = Cost::of::<V>(role, row, state, before::<V>(role, state));
+                rows.add(measured.map(|(after, counts)| Cost {
+                    after,
+                    counts,
+                    ..cost
+                }));
+            }
+        }
+    }
+}
+
+/// The rows of vectors of elements that count, in these states.
+fn add_vectors_in(meter: Meter, rows: &mut Rows, tally: &Tally, states: &[State]) {
+    let (changes, arrays) = (tables::VECTOR_CHANGES, tables::INTO_ARRAYS);
+    let derivations = tables::VECTOR_DERIVATIONS;
+    add::<EcoVec<Counting>>(meter, rows, tally, Role::Change, (changes, states));
+    add::<EcoVec<Counting>>(meter, rows, tally, Role::Change, (arrays, states));
+    add::<EcoVec<Counting>>(meter, rows, tally, Role::Derive, (derivations, states));
+}
+
+/// The rows of vectors of elements that count.
+pub(crate) fn add_vectors(meter: Meter, rows: &mut Rows) {
+    let Ok(tally) = Tally::new(meter.alloc) else {
+        return;
+    };
+    let (few, growth) = (few_elements(), tables::VECTOR_GROWTH);
+    let (makers, more) = (tables::VECTOR_MAKERS, tables::VECTOR_MAKERS_OF_MANY);
+    let (none, arrays) = (&few[..1], tables::ARRAY_MAKERS);
+    add_vectors_in(meter, rows, &tally, &few);
+    add_vectors_in(meter, rows, &tally, &thousand());
+    add::<EcoVec<Counting>>(meter, rows, &tally, Role::Change, (growth, none));
+    add::<EcoVec<Counting>>(meter, rows, &tally, Role::Make, (makers, none));
+    add::<EcoVec<Counting>>(meter, rows, &tally, Role::Make, (more, none));
+    add::<EcoVec<Counting>>(meter, rows, &tally, Role::Make, (arrays, none));
+}
+
+/// The rows of calls that take elements as memory, of bytes.
+pub(crate) fn add_copies(meter: Meter, rows: &mut Rows) {
+    let (few, many, copies) = (few_elements(), thousand(), tables::COPIES);
+    let (growth, within, makers) = (
+        tables::COPIES_GROWTH,
+        tables::COPIES_WITHIN,
+        tables::COPIES_MAKERS,
+    );
+    add::<EcoVec<u8>>(meter, rows, &(), Role::Change, (copies, &few));
+    add::<EcoVec<u8>>(meter, rows, &(), Role::Change, (copies, &many));
+    add::<EcoVec<u8>>(meter, rows, &(), Role::Change, (within, &many));
+    add::<EcoVec<u8>>(meter, rows, &(), Role::Change, (growth, &few[..1]));
+    add::<EcoVec<u8>>(meter, rows, &(), Role::Make, (makers, &few[..1]));
+}
+
+/// The rows of elements of no bytes.
+pub(crate) fn add_units(meter: Meter, rows: &mut Rows) {
+    let (none, growth, makers) = (
+        &few_elements()[..1],
+        tables::UNIT_GROWTH,
+        tables::UNIT_MAKERS,
+    );
+    add::<EcoVec<()>>(meter, rows, &(), Role::Change, (growth, none));
+    add::<EcoVec<()>>(meter, rows, &(), Role::Make, (makers, none));
+}
+
+/// The rows of changes and derivations of bytes or texts in these states.
+fn add_in<V: Value<Source = ()>>(
+    meter: Meter,
+    rows: &mut Rows,
+    changes: &[Row],
+    derivations: &[Row],
+    states: &[State],
+) {
+    add::<V>(meter, rows, &(), Role::Change, (changes, states));
+    add::<V>(meter, rows, &(), Role::Change, (tables::REDUCTIONS, states));
+    add::<V>(meter, rows, &(), Role::Derive, (derivations, states));
+}
+
+/// The rows of changes and derivations of bytes or texts at their limit.
+fn add_states<V: Value<Source = ()>>(
+    meter: Meter,
+    rows: &mut Rows,
+    changes: &[Row],
+    derivations: &[Row],
+) {
+    let limit = V::limit().unwrap_or(0);
+    match limit {
+        USUAL => add_in::<V>(meter, rows, changes, derivations, &few_bytes()),
+        0 => add_in::<V>(meter, rows, changes, derivations, &edge(limit)[..1]),
+        _ => add_in::<V>(meter, rows, changes, derivations, &edge(limit)),
+    }
+    add_in::<V>(meter, rows, changes, derivations, &thousand());
+    let few = few_spilled(limit);
+    add::<V>(meter, rows, &(), Role::Change, (tables::SHRINKING, &few));
+}
+
+/// The rows of makers of bytes or texts, at the usual limit or at another; of growth at the first.
+fn add_made<V: Value<Source = ()>>(
+    meter: Meter,
+    rows: &mut Rows,
+    makers: &[Row],
+    makers_at: &[Row],
+    growth: &[Row],
+) {
+    let limit = V::limit().unwrap_or(0);
+    let (states, none) = (edge(limit), no_byte());
+    let first = &states[..1];
+    if limit == USUAL {
+        add::<V>(meter, rows, &(), Role::Make, (tables::FIRST_MAKERS, first));
+        add::<V>(meter, rows, &(), Role::Make, (makers, first));
+        add::<V>(meter, rows, &(), Role::Change, (growth, &none));
+    } else {
+        add::<V>(
+            meter,
+            rows,
+            &(),
+            Role::Make,
+            (&tables::first_makers_at(limit), first),
+        );
+        add::<V>(meter, rows, &(), Role::Make, (makers_at, first));
+    }
+}
+
+pub(crate) fn add_bytes<V: Value<Source = ()>>(meter: Meter, rows: &mut Rows) {
+    let limit = V::limit().unwrap_or(0);
+    let (makers, makers_at) = (tables::BYTES_MAKERS, tables::bytes_makers_at(limit));
+    let (changes, derivations) = (tables::BYTES_CHANGES, tables::BYTES_DERIVATIONS);
+    add_states::<V>(meter, rows, changes, derivations);
+    add_made::<V>(meter, rows, makers, &makers_at, tables::BYTES_GROWTH);
+}
+
+pub(crate) fn add_texts<V: Value<Source = ()>>(meter: Meter, rows: &mut Rows) {
+    let limit = V::limit().unwrap_or(0);
+    let (makers, makers_at) = (tables::TEXT_MAKERS, tables::text_makers_at(limit));
+    let (changes, derivations) = (tables::TEXT_CHANGES, tables::TEXT_DERIVATIONS);
+    add_states::<V>(meter, rows, changes, derivations);
+    add_made::<V>(meter, rows, makers, &makers_at, tables::TEXT_GROWTH);
+}

@@ -1,0 +1,103 @@
+//! Vectors, bytes and texts: each call of the tables in each state. Where no request is refused, the
+//! clones of elements are, and calls are made on values of many items and of lengths that a seed
+//! decides.
+mod clones;
+mod each_call;
+mod owners;
+mod seeds;
+mod units;
+
+use crate::values::each_call::{
+    arrays_hold, bytes_hold, copies_hold, many_hold, texts_hold, vectors_hold,
+};
+use ecow_bytes::SmallBytes;
+use ecow_calls::elements::Named;
+use ecow_calls::prints;
+use ecow_calls::watch::Watch;
+use ecow_string::SmallText;
+use std::alloc::Global;
+
+/// Values with limits that no other row has. Of one of them requests are refused.
+fn limits_hold(alloc: Global, watch: &Watch) -> bool {
+    bytes_hold::<SmallBytes<64>>(alloc, watch)
+        && (!watch.is_strict()
+            || bytes_hold::<SmallBytes<7>>(alloc, watch)
+                && bytes_hold::<SmallBytes<31>>(alloc, watch)
+                && texts_hold::<SmallText<31>>(alloc, watch)
+                && texts_hold::<SmallText<64>>(alloc, watch))
+}
+
+/// Bytes whose limit is that with this number, counted from 0, among 0, 1, 3, 15, 23, 255, 257 and
+/// 600.
+fn bytes_at_hold(limit: usize, alloc: Global, watch: &Watch) -> bool {
+    match limit {
+        0 => bytes_hold::<SmallBytes<0>>(alloc, watch),
+        1 => bytes_hold::<SmallBytes<1>>(alloc, watch),
+        2 => bytes_hold::<SmallBytes<3>>(alloc, watch),
+        3 => bytes_hold::<SmallBytes<15>>(alloc, watch),
+        4 => bytes_hold::<SmallBytes<23>>(alloc, watch),
+        5 => bytes_hold::<SmallBytes<255>>(alloc, watch),
+        6 => bytes_hold::<SmallBytes<257>>(alloc, watch),
+        _ => bytes_hold::<SmallBytes<600>>(alloc, watch),
+    }
+}
+
+/// Texts whose limit is that with this number, counted from 0, among 0, 1, 3, 15, 23 and 255.
+fn texts_at_hold(limit: usize, alloc: Global, watch: &Watch) -> bool {
+    match limit {
+        0 => texts_hold::<SmallText<0>>(alloc, watch),
+        1 => texts_hold::<SmallText<1>>(alloc, watch),
+        2 => texts_hold::<SmallText<3>>(alloc, watch),
+        3 => texts_hold::<SmallText<15>>(alloc, watch),
+        4 => texts_hold::<SmallText<23>>(alloc, watch),
+        _ => texts_hold::<SmallText<255>>(alloc, watch),
+    }
+}
+
+/// What each part is about.
+pub(crate) const NAMES: [&str; 25] = [
+    "vectors of numbers",
+    "vectors of bytes",
+    "vectors of names",
+    "vectors of many elements",
+    "bytes, none inline",
+    "bytes, 1 inline",
+    "bytes, 3 inline",
+    "bytes, 15 inline",
+    "bytes, 23 inline",
+    "bytes, 255 inline",
+    "bytes, 257 inline",
+    "bytes, 600 inline",
+    "texts, none inline",
+    "texts, 1 inline",
+    "texts, 3 inline",
+    "texts, 15 inline",
+    "texts, 23 inline",
+    "texts, 255 inline",
+    "printed texts",
+    "clones of elements",
+    "values by a seed",
+    "many owners",
+    "vectors of elements of no bytes",
+    "elements of no bytes, again and again",
+    "bytes and texts, others inline",
+];
+
+/// Whether the part of values with this number, counted from 0, holds.
+pub(crate) fn part_holds(part: usize, alloc: Global, watch: &Watch) -> bool {
+    match part {
+        0 => vectors_hold::<i64>(alloc, watch) && copies_hold::<i64>(alloc, watch, 11),
+        1 => vectors_hold::<u8>(alloc, watch) && copies_hold::<u8>(alloc, watch, 15),
+        2 => vectors_hold::<Named>(alloc, watch) && arrays_hold::<Named>(alloc, watch),
+        3 => many_hold(alloc, watch),
+        4..=11 => bytes_at_hold(part.wrapping_sub(4), alloc, watch),
+        12..=17 => texts_at_hold(part.wrapping_sub(12), alloc, watch),
+        18 => prints::printing_holds(alloc, watch),
+        19 => clones::clones_hold(alloc, watch),
+        20 => seeds::values_hold(alloc, watch),
+        21 => owners::owners_hold(alloc, watch),
+        22 => vectors_hold::<()>(alloc, watch),
+        23 => units::units_hold(alloc, watch),
+        _ => limits_hold(alloc, watch),
+    }
+}
