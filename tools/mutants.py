@@ -30,7 +30,7 @@ LOWER = "base block shared list bytes string model store counted script tool run
 FILES = {
     "rattle": [f"crates/ecow_{crate}/src/**/*.rt" for crate in LOWER.split()],
     "glue": ["c/*.[ch]", "include/*", "python/core/*"],
-    "tools": ["tools/costs.*", "tools/refuse.*", "tools/ends.sh", "tools/large.*", "tools/below.awk",
+    "tools": ["tools/costs.*", "tools/refuse.*", "tools/ends.sh", "tools/cases.sh", "tools/large.*", "tools/below.awk",
               "tools/agree_*.sh"],
 }
 # The first two stand on each of those crates.
