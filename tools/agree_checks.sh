@@ -54,7 +54,7 @@ cat > "$work/pretends" << 'END'
 #!/bin/sh
 if [ -n "${LD_PRELOAD:-}" ]; then export LD_PRELOAD=; exec "$0" "$@"; fi
 echo a part
-[ -z "${EACH:-}" ] || printf '%s\n' 'request 1: status 1' 'a part'
+[ -z "${REFUSE_EACH:-}" ] || printf '%s\n' 'request 1: status 1' 'a part'
 [ -z "${COUNT:-}${TOTAL:-}" ] || echo 1 >&2
 END
 printf '#!/bin/sh\nexec awk -v rounds="$4" "BEGIN { while (i < rounds) i++; print 1 }"\n' > "$work/flat"

@@ -54,7 +54,7 @@ paste -d ' ' "$out/rows" "$out/counts" | diff c/tests/costs.out - || {
 refuse_each() { # PROGRAM EDITS SETTING.., of the library that refuses
     run="$out/$1 $2"
     shift 2
-    env "$@" EACH=1 TOTAL=1 LD_PRELOAD="$out/shim.so" $run > "$out/tried" 2> "$out/total" || {
+    env "$@" REFUSE_EACH=1 TOTAL=1 LD_PRELOAD="$out/shim.so" $run > "$out/tried" 2> "$out/total" || {
         echo "$run ends with another status than 0"
         exit 1
     }

@@ -1,9 +1,10 @@
 /* A library that is loaded before the C library's (LD_PRELOAD) and sees each request for memory.
    REFUSE=K refuses the request with that number, counted from 1. Where the program made fewer
    requests, a line on standard error says so at its end.
-   EACH=N refuses every N-th request, from the first on, each in a copy of the process, which goes on
-   to its end without that block. Then the process itself goes on with it. A line on standard output
-   says how the copy ended: `request 17: status 0`. What it read of standard input is read again.
+   REFUSE_EACH=N refuses every N-th request, from the first on, each in a copy of the process, which
+   goes on to its end without that block. Then the process itself goes on with it. A line on standard
+   output says how the copy ended: `request 17: status 0`. What it read of standard input is read
+   again.
    COUNT=1 counts requests. A request of 5555551 bytes sets the count to 0; one of 5555553 bytes
    writes it, in digits and a line feed, to standard error. These two are not counted themselves.
    TOTAL=1 writes, at the program's end, how many requests it made in all.
@@ -79,7 +80,7 @@ static int is_refused(size bytes) {
 
 __attribute__((constructor)) static void begin(void) {
   refused = number_of(getenv("REFUSE"));
-  each = number_of(getenv("EACH"));
+  each = number_of(getenv("REFUSE_EACH"));
   counts = number_of(getenv("COUNT")) != 0;
   totals = number_of(getenv("TOTAL")) != 0;
   leaks = number_of(getenv("LEFT")) != 0;

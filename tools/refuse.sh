@@ -12,7 +12,6 @@ trap 'rm -r "$work"' EXIT
 "$(dirname "$0")/shim.sh" "$work/refuse.so"
 processors=${PROCESSORS:-$(getconf _NPROCESSORS_ONLN 2> "$work/none" || echo 1)}
 each=${EACH:-1}
-unset EACH
 export LEFT=1
 LD_PRELOAD="$work/refuse.so" "$program" < /dev/null > "$work/lines" 2>&1 || {
     cat "$work/lines"
@@ -28,7 +27,7 @@ run_from() {
     part=$1
     while [ "$part" -le "$parts" ]; do
         echo "$part" > "$work/part.$1"
-        EACH=$each TOTAL=1 LD_PRELOAD="$work/refuse.so" "$program" < "$work/part.$1" > "$work/said.$part" 2>&1 ||
+        REFUSE_EACH=$each TOTAL=1 LD_PRELOAD="$work/refuse.so" "$program" < "$work/part.$1" > "$work/said.$part" 2>&1 ||
             echo "status $?" >> "$work/said.$part"
         part=$((part + processors))
     done
