@@ -10,9 +10,12 @@ work=$(mktemp -d)
 trap 'rm -r "$work"' EXIT
 export LC_ALL=C
 
+# What the program says of itself comes with a status up to 3; any other is a crash.
 run() { # [--counted] SCRIPT
-    "$program" "$@" 2> "$work/message" || true
+    status=0
+    "$program" "$@" 2> "$work/message" || status=$?
     cat "$work/message"
+    [ "$status" -le 3 ] || echo "status $status"
 }
 
 run_lines() { # SCRIPT
