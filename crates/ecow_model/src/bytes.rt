@@ -5,7 +5,7 @@ ghost use Rattle.ecow_model.specs.Refusing.{verdict};
 ghost use Rattle.ecow_base.specs.declared.plain.PlainBytes.{PlainBytes};
 
 use crate::command::{Name, Refusal};
-use crate::usage::{Usage, allowed, in_bounds};
+use crate::usage::{Usage, allowed, in_bounds, usage_of};
 use ecow_base::Items;
 
 /// A command on bytes, inline or spilled. Counts and indexes are of bytes.
@@ -186,52 +186,18 @@ impl BytesCommand {
     pub fn usage(self) -> BytesUsage
         ensures { result ≡ bytes_usage self }
     {
-        match self {
-            BytesCommand::New { name } => Usage::make(name, BytesMake::New),
-            BytesCommand::TryInline { name, bytes } => Usage::make(
-                name,
-                BytesMake::TryInline(bytes),
-            ),
-            BytesCommand::WithCapacity { name, capacity } => {
-                Usage::make(name, BytesMake::WithCapacity(capacity))
+        usage_of!(self, BytesCommand {
+            BytesMake {
+                New TryInline(bytes) WithCapacity(capacity) FromList(bytes) FromEcoVec(bytes)
             }
-            BytesCommand::FromList { name, bytes } => Usage::make(name, BytesMake::FromList(bytes)),
-            BytesCommand::FromEcoVec { name, bytes } => Usage::make(
-                name,
-                BytesMake::FromEcoVec(bytes),
-            ),
-            BytesCommand::FromText { from, to } => Usage::derive(from, to, BytesDerive::FromText),
-            BytesCommand::Clone { from, to } => Usage::derive(from, to, BytesDerive::Clone),
-            BytesCommand::Drop { name } => Usage::Drop { name },
-            BytesCommand::Push { name, byte } => Usage::edit(name, BytesEdit::Push(byte)),
-            BytesCommand::Pop { name } => Usage::edit(name, BytesEdit::Pop),
-            BytesCommand::Insert { name, index, byte } => {
-                Usage::edit(name, BytesEdit::Insert(index, byte))
+            BytesDerive { FromText Clone Repeat(n) }
+            BytesEdit {
+                Push(byte) Pop Insert(index, byte) Remove(index) Extend(bytes)
+                InsertSlice(index, bytes) Truncate(target) Clear Reserve(additional)
+                Write(index, byte) ShrinkToFit
             }
-            BytesCommand::Remove { name, index } => Usage::edit(name, BytesEdit::Remove(index)),
-            BytesCommand::Extend { name, bytes } => Usage::edit(name, BytesEdit::Extend(bytes)),
-            BytesCommand::InsertSlice { name, index, bytes } => {
-                Usage::edit(name, BytesEdit::InsertSlice(index, bytes))
-            }
-            BytesCommand::Truncate { name, target } => Usage::edit(
-                name,
-                BytesEdit::Truncate(target),
-            ),
-            BytesCommand::Clear { name } => Usage::edit(name, BytesEdit::Clear),
-            BytesCommand::Reserve { name, additional } => {
-                Usage::edit(name, BytesEdit::Reserve(additional))
-            }
-            BytesCommand::Write { name, index, byte } => {
-                Usage::edit(name, BytesEdit::Write(index, byte))
-            }
-            BytesCommand::Read { name, index } => Usage::ask(name, BytesAsk::Read(index)),
-            BytesCommand::Repeat { from, to, n } => Usage::derive(from, to, BytesDerive::Repeat(n)),
-            BytesCommand::ShrinkToFit { name } => Usage::edit(name, BytesEdit::ShrinkToFit),
-            BytesCommand::Len { name } => Usage::ask(name, BytesAsk::Len),
-            BytesCommand::Capacity { name } => Usage::ask(name, BytesAsk::Capacity),
-            BytesCommand::Contents { name } => Usage::ask(name, BytesAsk::Contents),
-            BytesCommand::IsInline { name } => Usage::ask(name, BytesAsk::IsInline),
-        }
+            BytesAsk { Read(index) Len Capacity Contents IsInline }
+        })
     }
 }
 

@@ -3,7 +3,7 @@ ghost use Rattle.std.specs.Prelude.{◌≡◌};
 ghost use Rattle.ecow_model.specs.Texts.{text_usage};
 
 use crate::command::Name;
-use crate::usage::Usage;
+use crate::usage::{Usage, usage_of};
 use ecow_base::Text;
 
 /// A command on a text, inline or spilled. Counts and indexes are of its UTF-8 bytes.
@@ -204,56 +204,17 @@ impl TextCommand {
     pub fn usage(self) -> TextUsage
         ensures { result ≡ text_usage self }
     {
-        match self {
-            TextCommand::New { name } => Usage::make(name, TextMake::New),
-            TextCommand::TryInline { name, text } => Usage::make(name, TextMake::TryInline(text)),
-            TextCommand::WithCapacity { name, capacity } => {
-                Usage::make(name, TextMake::WithCapacity(capacity))
+        usage_of!(self, TextCommand {
+            TextMake { New TryInline(text) WithCapacity(capacity) FromStr(text) FromChar(c) }
+            TextDerive {
+                FromBytes Clone Replace(pattern, replacement, count) Repeat(n)
+                ToAsciiLower ToAsciiUpper
             }
-            TextCommand::FromStr { name, text } => Usage::make(name, TextMake::FromStr(text)),
-            TextCommand::FromChar { name, c } => Usage::make(name, TextMake::FromChar(c)),
-            TextCommand::FromBytes { from, to } => Usage::derive(from, to, TextDerive::FromBytes),
-            TextCommand::Clone { from, to } => Usage::derive(from, to, TextDerive::Clone),
-            TextCommand::Drop { name } => Usage::Drop { name },
-            TextCommand::Push { name, c } => Usage::edit(name, TextEdit::Push(c)),
-            TextCommand::Pop { name } => Usage::edit(name, TextEdit::Pop),
-            TextCommand::PushStr { name, text } => Usage::edit(name, TextEdit::PushStr(text)),
-            TextCommand::Insert { name, index, c } => Usage::edit(name, TextEdit::Insert(index, c)),
-            TextCommand::InsertStr { name, index, text } => {
-                Usage::edit(name, TextEdit::InsertStr(index, text))
+            TextEdit {
+                Push(c) Pop PushStr(text) Insert(index, c) InsertStr(index, text) Remove(index)
+                Truncate(target) Clear Reserve(additional) AsciiLower AsciiUpper ShrinkToFit
             }
-            TextCommand::Remove { name, index } => Usage::edit(name, TextEdit::Remove(index)),
-            TextCommand::Truncate { name, target } => Usage::edit(name, TextEdit::Truncate(target)),
-            TextCommand::Clear { name } => Usage::edit(name, TextEdit::Clear),
-            TextCommand::Reserve { name, additional } => Usage::edit(
-                name,
-                TextEdit::Reserve(additional),
-            ),
-            TextCommand::Replace {
-                from,
-                to,
-                pattern,
-                replacement,
-                count,
-            } => Usage::derive(from, to, TextDerive::Replace(pattern, replacement, count)),
-            TextCommand::Repeat { from, to, n } => Usage::derive(from, to, TextDerive::Repeat(n)),
-            TextCommand::AsciiLower { name } => Usage::edit(name, TextEdit::AsciiLower),
-            TextCommand::AsciiUpper { name } => Usage::edit(name, TextEdit::AsciiUpper),
-            TextCommand::ToAsciiLower { from, to } => Usage::derive(
-                from,
-                to,
-                TextDerive::ToAsciiLower,
-            ),
-            TextCommand::ToAsciiUpper { from, to } => Usage::derive(
-                from,
-                to,
-                TextDerive::ToAsciiUpper,
-            ),
-            TextCommand::ShrinkToFit { name } => Usage::edit(name, TextEdit::ShrinkToFit),
-            TextCommand::Len { name } => Usage::ask(name, TextAsk::Len),
-            TextCommand::Capacity { name } => Usage::ask(name, TextAsk::Capacity),
-            TextCommand::Contents { name } => Usage::ask(name, TextAsk::Contents),
-            TextCommand::IsInline { name } => Usage::ask(name, TextAsk::IsInline),
-        }
+            TextAsk { Len Capacity Contents IsInline }
+        })
     }
 }

@@ -56,6 +56,35 @@ impl<Make, Derive, Edit, Ask> Usage<Make, Derive, Edit, Ask> {
     }
 }
 
+/// The parts of a command. Each word of a part stands with the fields that it has there beside the
+/// names, in their order.
+macro_rules! usage_of {
+    ($command:expr, $words:ident {
+        $make:ident { $($made:ident $(($($making:ident),*))?)* }
+        $derive:ident { $($derived:ident $(($($deriving:ident),*))?)* }
+        $edit:ident { $($edited:ident $(($($editing:ident),*))?)* }
+        $ask:ident { $($asked:ident $(($($asking:ident),*))?)* }
+    }) => {
+        match $command {
+            $($words::$made { name $($(, $making)*)? } => {
+                Usage::make(name, $make::$made $(($($making),*))?)
+            })*
+            $($words::$derived { from, to $($(, $deriving)*)? } => {
+                Usage::derive(from, to, $derive::$derived $(($($deriving),*))?)
+            })*
+            $words::Drop { name } => Usage::Drop { name },
+            $($words::$edited { name $($(, $editing)*)? } => {
+                Usage::edit(name, $edit::$edited $(($($editing),*))?)
+            })*
+            $($words::$asked { name $($(, $asking)*)? } => {
+                Usage::ask(name, $ask::$asked $(($($asking),*))?)
+            })*
+        }
+    };
+}
+
+pub(crate) use usage_of;
+
 /// Whether a value of `len` items may have `additional` more.
 pub fn allowed(len: usize, additional: usize) -> Result<(), Refusal>
     ensures { result ≡ is_allowed (len + additional) }

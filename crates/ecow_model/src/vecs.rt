@@ -4,7 +4,7 @@ ghost use Rattle.ecow_model.specs.Vecs.{edit_vec, vec_usage};
 ghost use Rattle.ecow_model.specs.Refusing.{verdict};
 
 use crate::command::{Bounds, Name, Refusal};
-use crate::usage::{Usage, allowed, in_bounds};
+use crate::usage::{Usage, allowed, in_bounds, usage_of};
 use ecow_base::{Items, resolve};
 
 /// A command on a list of elements. Counts and indexes are of elements.
@@ -173,48 +173,16 @@ impl<T> VecCommand<T> {
     pub fn usage(self) -> VecUsage<T>
         ensures { result ≡ vec_usage self }
     {
-        match self {
-            VecCommand::New { name } => Usage::make(name, VecMake::New),
-            VecCommand::WithCapacity { name, capacity } => {
-                Usage::make(name, VecMake::WithCapacity(capacity))
+        usage_of!(self, VecCommand {
+            VecMake { New WithCapacity(capacity) FromList(items) FromElem(value, n) }
+            VecDerive { Clone }
+            VecEdit {
+                Push(value) Pop Insert(index, value) Remove(index) Truncate(target) Clear
+                Retain(marks) Drain(bounds) Splice(bounds, items) Extend(items) Reserve(additional)
+                Write(index, value)
             }
-            VecCommand::FromList { name, items } => Usage::make(name, VecMake::FromList(items)),
-            VecCommand::FromElem { name, value, n } => Usage::make(
-                name,
-                VecMake::FromElem(value, n),
-            ),
-            VecCommand::Clone { from, to } => Usage::derive(from, to, VecDerive::Clone),
-            VecCommand::Drop { name } => Usage::Drop { name },
-            VecCommand::Push { name, value } => Usage::edit(name, VecEdit::Push(value)),
-            VecCommand::Pop { name } => Usage::edit(name, VecEdit::Pop),
-            VecCommand::Insert { name, index, value } => {
-                Usage::edit(name, VecEdit::Insert(index, value))
-            }
-            VecCommand::Remove { name, index } => Usage::edit(name, VecEdit::Remove(index)),
-            VecCommand::Truncate { name, target } => Usage::edit(name, VecEdit::Truncate(target)),
-            VecCommand::Clear { name } => Usage::edit(name, VecEdit::Clear),
-            VecCommand::Retain { name, marks } => Usage::edit(name, VecEdit::Retain(marks)),
-            VecCommand::Drain { name, bounds } => Usage::edit(name, VecEdit::Drain(bounds)),
-            VecCommand::Splice {
-                name,
-                bounds,
-                items,
-            } => Usage::edit(name, VecEdit::Splice(bounds, items)),
-            VecCommand::Extend { name, items } => Usage::edit(name, VecEdit::Extend(items)),
-            VecCommand::Reserve { name, additional } => Usage::edit(
-                name,
-                VecEdit::Reserve(additional),
-            ),
-            VecCommand::Write { name, index, value } => Usage::edit(
-                name,
-                VecEdit::Write(index, value),
-            ),
-            VecCommand::Read { name, index } => Usage::ask(name, VecAsk::Read(index)),
-            VecCommand::Len { name } => Usage::ask(name, VecAsk::Len),
-            VecCommand::Contents { name } => Usage::ask(name, VecAsk::Contents),
-            VecCommand::Capacity { name } => Usage::ask(name, VecAsk::Capacity),
-            VecCommand::Unique { name } => Usage::ask(name, VecAsk::Unique),
-        }
+            VecAsk { Read(index) Len Contents Capacity Unique }
+        })
     }
 }
 
