@@ -30,6 +30,18 @@ pub(crate) fn answer_change<T: Drop, E: Drop>(change: Result<(), E>) -> Outcome<
     }
 }
 
+/// Answers what a call gives that memory alone refuses.
+macro_rules! answer_given {
+    ($answer:ident, $given:expr) => {
+        match $given {
+            Ok(given) => Outcome::$answer(given),
+            Err(_) => Outcome::Refused(Refusal::Memory),
+        }
+    };
+}
+
+pub(crate) use answer_given;
+
 /// A new value, or why there is none.
 pub(crate) fn answer_make<V>(value: Result<V, EcoError>) -> Result<NewValue<V>, Refusal>
     ensures { MatchResult value (λ value. result ≡ Ok (NewValue.Always value))

@@ -3,10 +3,9 @@ ghost use Rattle.std.specs.Prelude.{⊤};
 ghost use Rattle.ecow_model.specs.Bytes.{bytes_rules};
 ghost use Rattle.ecow_model.proofs.Uses.{bytes_wraps};
 
-use crate::answers::{answer_change, answer_make, refusal_of};
+use crate::answers::{answer_change, answer_given, answer_make, refusal_of};
 use crate::kinds::ValueKind;
 use crate::store::Stored;
-use crate::values::bytes_in;
 use ecow_bytes::SmallBytes;
 use ecow_list::EcoVec;
 use ecow_model::bytes::{BytesAsk, BytesDerive, BytesEdit, BytesMake};
@@ -89,15 +88,9 @@ impl<T: Clone, const N: usize> ValueKind<T, Stored<T, N>> for BytesKind {
         }
         match edit {
             BytesEdit::Push(byte) => answer_change(bytes.push(byte)),
-            BytesEdit::Pop => match bytes.pop() {
-                Ok(last) => Outcome::PoppedByte(last),
-                Err(_) => Outcome::Refused(Refusal::Memory),
-            },
+            BytesEdit::Pop => answer_given!(PoppedByte, bytes.pop()),
             BytesEdit::Insert(index, byte) => answer_change(bytes.insert(index, byte)),
-            BytesEdit::Remove(index) => match bytes.remove(index) {
-                Ok(byte) => Outcome::Byte(byte),
-                Err(_) => Outcome::Refused(Refusal::Memory),
-            },
+            BytesEdit::Remove(index) => answer_given!(Byte, bytes.remove(index)),
             BytesEdit::Extend(more) => answer_change(bytes.extend_from_slice(more.as_slice())),
             BytesEdit::InsertSlice(index, more) => {
                 answer_change(bytes.insert_slice(index, more.as_slice()))
@@ -124,16 +117,9 @@ impl<T: Clone, const N: usize> ValueKind<T, Stored<T, N>> for BytesKind {
             },
             BytesAsk::Len => Outcome::Count(bytes.len()),
             BytesAsk::Capacity => Outcome::Count(bytes.capacity()),
-            BytesAsk::Contents => match Items::from_slice(alloc, bytes.as_slice()) {
-                Ok(copy) => Outcome::Bytes(copy),
-                Err(_) => Outcome::Refused(Refusal::Memory),
-            },
+            BytesAsk::Contents => answer_given!(Bytes, Items::from_slice(alloc, bytes.as_slice())),
             BytesAsk::IsInline => Outcome::Flag(bytes.is_inline()),
         }
-    }
-
-    fn payload(value: &Stored<T, N>) -> Result<&SmallBytes<N>, Refusal> {
-        bytes_in(value)
     }
 
     fn payload_mut(value: &mut Stored<T, N>) -> Result<&mut SmallBytes<N>, Refusal> {

@@ -60,12 +60,7 @@ pub(crate) trait ValueKind<T: Clone, V: Drop> {
         ensures verdict { IsAnswerVerdict rules question payload.old result }
         ensures unchanged { payload.new ≡ payload.old };
 
-    /// The value of this kind that `value` is, for reading, and else the refusal.
-    fn payload(value: &V) -> Result<&Self::Payload, Refusal>
-        ensures { MatchResult result (λ x. rules.payload value.now ≡ Ok x.now)
-            (λ refusal. rules.payload value.now ≡ Err refusal) };
-
-    /// The value of this kind that `value` is, for writing, and else the refusal.
+    /// The value of this kind that `value` is, and else the refusal.
     fn payload_mut(value: &mut V) -> Result<&mut Self::Payload, Refusal>
         ensures* writes_back { sem 𝓛
             (LendsPayload V.row Self.Payload.row rules.wrap value.entry result) }
@@ -157,10 +152,7 @@ pub(crate) fn carry_out<T: Clone, V: Drop, K: ValueKind<T, V>>(
             }
         }
         Usage::Drop { name } => {
-            let Some(value) = values.get(name) else {
-                return Outcome::Refused(Refusal::NoName);
-            };
-            let payload: Result<&K::Payload, Refusal> = K::payload(value);
+            let payload: Result<&mut K::Payload, Refusal> = payload_at::<T, V, K>(values, name);
             if let Err(refusal) = payload {
                 return Outcome::Refused(refusal);
             }

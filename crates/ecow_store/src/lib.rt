@@ -6,7 +6,6 @@ mod bytes;
 mod kinds;
 pub mod store;
 mod texts;
-mod values;
 mod vecs;
 
 pub use store::{SmallStore, Store};

@@ -5,10 +5,9 @@ ghost use Rattle.ecow_model.specs.Texts.{edit_text, text_rules, text_from_bytes}
 ghost use Rattle.ecow_model.specs.Uses.{IsGiven};
 ghost use Rattle.ecow_model.proofs.Uses.{text_wraps};
 
-use crate::answers::{answer_change, answer_make, refusal_of};
+use crate::answers::{answer_change, answer_given, answer_make, refusal_of};
 use crate::kinds::ValueKind;
 use crate::store::Stored;
-use crate::values::text_in;
 use ecow_bytes::SmallBytes;
 use ecow_list::EcoError;
 use ecow_model::texts::{TextAsk, TextDerive, TextEdit, TextMake};
@@ -63,7 +62,9 @@ impl<T: Clone, const N: usize> ValueKind<T, Stored<T, N>> for TextKind {
                 _ => Err(Refusal::Kind),
             };
         }
-        let text = text_in(source)?;
+        let Value::Text(text) = source else {
+            return Err(Refusal::Kind);
+        };
         let derived: Result<SmallText<N>, EcoError> = match how {
             TextDerive::FromBytes => return Err(Refusal::Kind),
             TextDerive::Clone => {
@@ -93,20 +94,14 @@ impl<T: Clone, const N: usize> ValueKind<T, Stored<T, N>> for TextKind {
         }
         match edit {
             TextEdit::Push(c) => answer_change(text.push(c)),
-            TextEdit::Pop => match text.pop() {
-                Ok(last) => Outcome::PoppedChar(last),
-                Err(_) => Outcome::Refused(Refusal::Memory),
-            },
+            TextEdit::Pop => answer_given!(PoppedChar, text.pop()),
             TextEdit::PushStr(more) => answer_change(text.push_str(more.as_str())),
             TextEdit::Insert(index, c) => answer_change(text.insert(index, c)),
             TextEdit::InsertStr(index, more) => answer_change(text.insert_str(
                 index,
                 more.as_str(),
             )),
-            TextEdit::Remove(index) => match text.remove(index) {
-                Ok(c) => Outcome::Char(c),
-                Err(_) => Outcome::Refused(Refusal::Memory),
-            },
+            TextEdit::Remove(index) => answer_given!(Char, text.remove(index)),
             TextEdit::Truncate(target) => answer_change(text.truncate(target)),
             TextEdit::Clear => {
                 text.clear();
@@ -132,10 +127,6 @@ impl<T: Clone, const N: usize> ValueKind<T, Stored<T, N>> for TextKind {
             },
             TextAsk::IsInline => Outcome::Flag(text.is_inline()),
         }
-    }
-
-    fn payload(value: &Stored<T, N>) -> Result<&SmallText<N>, Refusal> {
-        text_in(value)
     }
 
     fn payload_mut(value: &mut Stored<T, N>) -> Result<&mut SmallText<N>, Refusal> {

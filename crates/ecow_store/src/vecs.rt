@@ -11,10 +11,9 @@ ghost use Rattle.ecow_model.specs.declared.command.Refusal.{Refusal};
 ghost use Rattle.ecow_model.specs.declared.vecs.VecEdit.{VecEdit};
 ghost use Rattle.ecow_model.proofs.Uses.{vec_wraps};
 
-use crate::answers::{answer_change, answer_make};
+use crate::answers::{answer_change, answer_given, answer_make};
 use crate::kinds::ValueKind;
 use crate::store::Stored;
-use crate::values::vec_in;
 use ecow_base::resolve;
 use ecow_list::{EcoError, EcoVec};
 use ecow_model::usage::NewValue;
@@ -76,15 +75,9 @@ impl<T: Clone, const N: usize> ValueKind<T, Stored<T, N>> for VecKind {
         }
         match edit {
             VecEdit::Push(value) => answer_change(list.push(value)),
-            VecEdit::Pop => match list.pop() {
-                Ok(last) => Outcome::Popped(last),
-                Err(_) => Outcome::Refused(Refusal::Memory),
-            },
+            VecEdit::Pop => answer_given!(Popped, list.pop()),
             VecEdit::Insert(index, value) => answer_change(list.insert(index, value)),
-            VecEdit::Remove(index) => match list.remove(index) {
-                Ok(value) => Outcome::Element(value),
-                Err(_) => Outcome::Refused(Refusal::Memory),
-            },
+            VecEdit::Remove(index) => answer_given!(Element, list.remove(index)),
             VecEdit::Truncate(target) => answer_change(list.truncate(target)),
             VecEdit::Clear => {
                 list.clear();
@@ -103,23 +96,13 @@ impl<T: Clone, const N: usize> ValueKind<T, Stored<T, N>> for VecKind {
         match question {
             VecAsk::Read(index) => match list.as_slice().get(index) {
                 None => Outcome::Refused(Refusal::Index),
-                Some(item) => match item.clone() {
-                    Ok(copy) => Outcome::Element(copy),
-                    Err(_) => Outcome::Refused(Refusal::Memory),
-                },
+                Some(item) => answer_given!(Element, item.clone()),
             },
             VecAsk::Len => Outcome::Count(list.len()),
-            VecAsk::Contents => match Items::from_slice(alloc, list.as_slice()) {
-                Ok(elements) => Outcome::Elements(elements),
-                Err(_) => Outcome::Refused(Refusal::Memory),
-            },
+            VecAsk::Contents => answer_given!(Elements, Items::from_slice(alloc, list.as_slice())),
             VecAsk::Capacity => Outcome::Count(list.capacity()),
             VecAsk::Unique => Outcome::Flag(list.is_unique()),
         }
-    }
-
-    fn payload(value: &Stored<T, N>) -> Result<&EcoVec<T>, Refusal> {
-        vec_in(value)
     }
 
     fn payload_mut(value: &mut Stored<T, N>) -> Result<&mut EcoVec<T>, Refusal> {

@@ -5,16 +5,18 @@ ghost use Rattle.std.specs.Str.{encode_utf8_all};
 ghost use Rattle.ecow_store.specs.Reading.{bytes_under, vec_under, text_under};
 
 use crate::store::{NamedValues, Stored};
-use crate::values::{bytes_in, text_in, vec_in};
 use ecow_model::Name;
+use ecow_model::value::Value;
 
 impl<T, const N: usize> NamedValues<Stored<T, N>> {
     /// The list of a name; `None` where no list stands there. Takes no memory.
     pub fn get(&self, name: Name) -> Option<&[T]>
         ensures { option_copied result ≡ vec_under self.now name }
     {
-        let list = vec_in(self.values.get(name)?).ok()?;
-        Some(list.as_slice())
+        match self.values.get(name)? {
+            Value::Vec(list) => Some(list.as_slice()),
+            _ => None,
+        }
     }
 
     /// The bytes of a name; `None` where no bytes stand there. Takes no memory.
@@ -22,8 +24,10 @@ impl<T, const N: usize> NamedValues<Stored<T, N>> {
         ensures { option_copied result ≡ option_map (λ value. value.bytes)
             (bytes_under self.now name) }
     {
-        let bytes = bytes_in(self.values.get(name)?).ok()?;
-        Some(bytes.as_slice())
+        match self.values.get(name)? {
+            Value::Bytes(bytes) => Some(bytes.as_slice()),
+            _ => None,
+        }
     }
 
     /// The text of a name; `None` where no text stands there. Takes no memory.
@@ -31,7 +35,9 @@ impl<T, const N: usize> NamedValues<Stored<T, N>> {
         ensures { option_copied result ≡ option_map (λ text. encode_utf8_all text.chars)
             (text_under self.now name) }
     {
-        let text = text_in(self.values.get(name)?).ok()?;
-        Some(text.as_str())
+        match self.values.get(name)? {
+            Value::Text(text) => Some(text.as_str()),
+            _ => None,
+        }
     }
 }
