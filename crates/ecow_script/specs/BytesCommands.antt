@@ -2,8 +2,8 @@
 use Rattle.std.specs.Prelude.{ℕ, List, [], ◌∷◌, codes, Option}
 use Rattle.ecow_script.specs.Words.{Reading, ◌>>=◌, gives, next_word, name, count, byte, bytes}
 use Rattle.ecow_script.specs.Forms.{one, two, beside, command_at}
-use Rattle.ecow_script.specs.declared.commands.bytes.BytesWord.{BytesWord}
-use Rattle.ecow_script.specs.declared.commands.bytes.BytesWord.TheVariants as word
+use Rattle.ecow_script.specs.declared.commands.BytesWord.{BytesWord}
+use Rattle.ecow_script.specs.declared.commands.BytesWord.TheVariants as word
 use Rattle.ecow_model.specs.declared.bytes.BytesCommand.{BytesCommand}
 use Rattle.ecow_model.specs.declared.bytes.BytesCommand.TheVariants.{New, TryInline, WithCapacity, FromList, FromEcoVec, FromText, Clone, Drop, Push, Pop, Insert, Remove, Extend, InsertSlice, Truncate, Clear, Reserve, Write, Read, Repeat, ShrinkToFit, Len, Capacity, Contents, IsInline}
 

@@ -2,8 +2,8 @@
 use Rattle.std.specs.Prelude.{ℕ, List, [], ◌∷◌, codes, Option}
 use Rattle.ecow_script.specs.Words.{Reading, ◌>>=◌, gives, next_word, name, count, character, text}
 use Rattle.ecow_script.specs.Forms.{one, two, four, beside, command_at}
-use Rattle.ecow_script.specs.declared.commands.texts.TextWord.{TextWord}
-use Rattle.ecow_script.specs.declared.commands.texts.TextWord.TheVariants as word
+use Rattle.ecow_script.specs.declared.commands.TextWord.{TextWord}
+use Rattle.ecow_script.specs.declared.commands.TextWord.TheVariants as word
 use Rattle.ecow_model.specs.declared.texts.TextCommand.{TextCommand}
 use Rattle.ecow_model.specs.declared.texts.TextCommand.TheVariants.{New, TryInline, WithCapacity, FromStr, FromChar, FromBytes, Clone, Drop, Push, Pop, PushStr, Insert, InsertStr, Remove, Truncate, Clear, Reserve, Replace, Repeat, AsciiLower, AsciiUpper, ToAsciiLower, ToAsciiUpper, ShrinkToFit, Len, Capacity, Contents, IsInline}
 

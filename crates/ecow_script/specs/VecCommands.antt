@@ -2,8 +2,8 @@
 use Rattle.std.specs.Prelude.{ℕ, ℤ, List, [], ◌∷◌, codes, Option}
 use Rattle.ecow_script.specs.Words.{Reading, ◌>>=◌, gives, next_word, name, count, integer, integers, bounds, marks}
 use Rattle.ecow_script.specs.Forms.{one, two, beside, command_at}
-use Rattle.ecow_script.specs.declared.commands.vecs.VecWord.{VecWord}
-use Rattle.ecow_script.specs.declared.commands.vecs.VecWord.TheVariants as word
+use Rattle.ecow_script.specs.declared.commands.VecWord.{VecWord}
+use Rattle.ecow_script.specs.declared.commands.VecWord.TheVariants as word
 use Rattle.ecow_model.specs.declared.vecs.VecCommand.{VecCommand}
 use Rattle.ecow_model.specs.declared.vecs.VecCommand.TheVariants.{New, WithCapacity, FromList, FromElem, Clone, Drop, Push, Pop, Insert, Remove, Write, Truncate, Clear, Retain, Drain, Splice, Extend, Reserve, Read, Len, Contents, Capacity, Unique}
 

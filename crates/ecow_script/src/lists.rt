@@ -139,28 +139,30 @@ fn behind_dots(rest: &[u8]) -> Option<&[u8]>
     }
 }
 
+/// A bound, if a word is one: nothing, or an index, which may stand behind a mark.
+macro_rules! bound_in {
+    ($word:expr, $mark:literal => $marked:ident, else $plain:ident) => {
+        if $word.is_empty() {
+            Some(Bound::Unbounded)
+        } else {
+            match $word.strip_prefix($mark) {
+                Some(index) => Some(Bound::$marked(count_in(index)?)),
+                None => Some(Bound::$plain(count_in($word)?)),
+            }
+        }
+    };
+}
+
 /// Nothing, an included index, or `>` and an excluded one.
 fn start_in(word: &[u8]) -> Option<Bound<usize>>
     ensures { result ≡ start_in word.now }
 {
-    if word.is_empty() {
-        return Some(Bound::Unbounded);
-    }
-    match word.strip_prefix(b">") {
-        Some(index) => Some(Bound::Excluded(count_in(index)?)),
-        None => Some(Bound::Included(count_in(word)?)),
-    }
+    bound_in!(word, b">" => Excluded, else Included)
 }
 
 /// Nothing, an excluded index, or `=` and an included one.
 fn end_in(word: &[u8]) -> Option<Bound<usize>>
     ensures { result ≡ end_in word.now }
 {
-    if word.is_empty() {
-        return Some(Bound::Unbounded);
-    }
-    match word.strip_prefix(b"=") {
-        Some(index) => Some(Bound::Included(count_in(index)?)),
-        None => Some(Bound::Excluded(count_in(word)?)),
-    }
+    bound_in!(word, b"=" => Included, else Excluded)
 }

@@ -50,7 +50,7 @@ impl fmt::Display for Reason {
 }
 
 /// Why a line was not read.
-#[derive(Clone, Copy, Debug, PartialEq, Eq)]
+#[derive(Clone, Copy)]
 pub(crate) enum Misfit {
     /// This was expected in place of a word.
     Expected(Reason),
