@@ -70,9 +70,8 @@ pub extern "C" fn ecow_proved_list_clone(from: &mut ListPointer, to: &mut ListPo
     ensures list { ReadsTo Some from.old.value result from.new.value to.old.value to.new.value }
     ensures statuses { IsAmong (OK ∷ MEMORY ∷ NULL ∷ []) result }
 {
-    let list = some_or!(from.list(), NULL);
     let to = some_or!(to.list(), NULL);
-    put(list.clone(), to)
+    put(some_or!(from.list(), NULL).clone(), to)
 }
 
 /// Puts a clone of the bytes at `from`, which shares their block, in place of the bytes at `to`.
@@ -81,9 +80,8 @@ pub extern "C" fn ecow_proved_bytes_clone(from: &mut BytesPointer, to: &mut Byte
     ensures bytes { ReadsTo Some from.old.value result from.new.value to.old.value to.new.value }
     ensures statuses { IsAmong (OK ∷ MEMORY ∷ NULL ∷ []) result }
 {
-    let bytes = some_or!(from.bytes(), NULL);
     let to = some_or!(to.bytes(), NULL);
-    put(bytes.clone(), to)
+    put(some_or!(from.bytes(), NULL).clone(), to)
 }
 
 /// Puts a clone of the text at `from`, which shares its block, in place of the text at `to`.
@@ -92,9 +90,8 @@ pub extern "C" fn ecow_proved_text_clone(from: &mut TextPointer, to: &mut TextPo
     ensures text { ReadsTo Some from.old.value result from.new.value to.old.value to.new.value }
     ensures statuses { IsAmong (OK ∷ MEMORY ∷ NULL ∷ []) result }
 {
-    let text = some_or!(from.text(), NULL);
     let to = some_or!(to.text(), NULL);
-    put(text.clone(), to)
+    put(some_or!(from.text(), NULL).clone(), to)
 }
 
 /// Puts a clone of the list at `from`, which shares its block, in place of the list at `to`.
@@ -103,9 +100,8 @@ pub extern "C" fn ecow_proved_texts_clone(from: &mut TextsPointer, to: &mut Text
     ensures texts { ReadsTo Some from.old.value result from.new.value to.old.value to.new.value }
     ensures statuses { IsAmong (OK ∷ MEMORY ∷ NULL ∷ []) result }
 {
-    let texts = some_or!(from.texts(), NULL);
     let to = some_or!(to.texts(), NULL);
-    put(texts.clone(), to)
+    put(some_or!(from.texts(), NULL).clone(), to)
 }
 
 /// Puts a clone of the value at `from`, which shares its memory, in place of the value at `to`.
@@ -114,9 +110,8 @@ pub extern "C" fn ecow_proved_value_clone(from: &mut ValuePointer, to: &mut Valu
     ensures value { ReadsTo Some from.old.value result from.new.value to.old.value to.new.value }
     ensures statuses { IsAmong (OK ∷ MEMORY ∷ NULL ∷ []) result }
 {
-    let value = some_or!(from.value(), NULL);
     let to = some_or!(to.value(), NULL);
-    put(value.clone(), to)
+    put(some_or!(from.value(), NULL).clone(), to)
 }
 
 /// Gives the list up: an empty one stands in its place.
@@ -178,8 +173,7 @@ pub extern "C" fn ecow_proved_list_clear(pointer: &mut ListPointer) -> u32
     ensures list { AltersList (λ _. []) pointer.old.value result pointer.new.value }
     ensures statuses { IsAmong (OK ∷ NULL ∷ []) result }
 {
-    let list = some_or!(pointer.list(), NULL);
-    list.clear();
+    some_or!(pointer.list(), NULL).clear();
     OK
 }
 
@@ -189,8 +183,7 @@ pub extern "C" fn ecow_proved_bytes_clear(pointer: &mut BytesPointer) -> u32
     ensures bytes { AltersBytes (λ _. []) pointer.old.value result pointer.new.value }
     ensures statuses { IsAmong (OK ∷ NULL ∷ []) result }
 {
-    let bytes = some_or!(pointer.bytes(), NULL);
-    bytes.clear();
+    some_or!(pointer.bytes(), NULL).clear();
     OK
 }
 
@@ -200,8 +193,7 @@ pub extern "C" fn ecow_proved_text_clear(pointer: &mut TextPointer) -> u32
     ensures text { AltersText (λ _. []) pointer.old.value result pointer.new.value }
     ensures statuses { IsAmong (OK ∷ NULL ∷ []) result }
 {
-    let text = some_or!(pointer.text(), NULL);
-    text.clear();
+    some_or!(pointer.text(), NULL).clear();
     OK
 }
 
@@ -211,7 +203,6 @@ pub extern "C" fn ecow_proved_texts_clear(pointer: &mut TextsPointer) -> u32
     ensures texts { AltersTexts (λ _. []) pointer.old.value result pointer.new.value }
     ensures statuses { IsAmong (OK ∷ NULL ∷ []) result }
 {
-    let texts = some_or!(pointer.texts(), NULL);
-    texts.clear();
+    some_or!(pointer.texts(), NULL).clear();
     OK
 }

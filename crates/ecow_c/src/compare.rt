@@ -17,77 +17,87 @@ use ecow_string::EcoString;
 use std::alloc::Global;
 use std::hash::{DefaultHasher, Hash, Hasher};
 
-/// Whether two lists hold the same numbers. A null pointer equals a null pointer
-/// alone.
+/// Whether two values are equal, of which each may be missing.
+macro_rules! equal {
+    ($left:expr, $right:expr; $one:ident, $other:ident => $equal:expr) => {
+        match $left {
+            Some($one) => {
+                let $other = some_or!($right, false);
+                $equal
+            }
+            None => matches!($right, None),
+        }
+    };
+}
+
+/// How two values compare, of which each may be missing: it then comes first.
+macro_rules! compare {
+    ($left:expr, $right:expr, $shown:ident) => {
+        match $left {
+            Some(left) => order(left.$shown().cmp(&some_or!($right, 1).$shown())),
+            None => if matches!($right, None) { 0 } else { -1 },
+        }
+    };
+}
+
+/// The hash of a value, or of `$none` where it is missing.
+macro_rules! hash {
+    ($value:expr, $none:expr) => {{
+        let mut hasher = DefaultHasher::new();
+        match $value {
+            Some(value) => value.hash(&mut hasher),
+            None => $none.hash(&mut hasher),
+        }
+        hasher.finish()
+    }};
+}
+
+/// Whether two lists hold the same numbers. A null pointer equals a null pointer alone.
 #[unsafe(no_mangle)]
 pub extern "C" fn ecow_proved_list_equal(left: &mut ListPointer, right: &mut ListPointer) -> bool
     ensures equal { result
         ≡ are_equal (pointwise int_eq) left.old.value right.old.value }
     ensures unchanged { (left.new.value ≡ left.old.value) × (right.new.value ≡ right.old.value) }
 {
-    let Some(left) = left.list() else {
-        return matches!(right.list(), None);
-    };
-    let right = some_or!(right.list(), false);
-    *left == *right
+    equal!(left.list(), right.list(); one, other => *one == *other)
 }
 
-/// Whether two values hold the same bytes. A null pointer equals a null pointer
-/// alone.
+/// Whether two values hold the same bytes. A null pointer equals a null pointer alone.
 #[unsafe(no_mangle)]
 pub extern "C" fn ecow_proved_bytes_equal(left: &mut BytesPointer, right: &mut BytesPointer) -> bool
     ensures equal { result
         ≡ are_equal (λ x y. pointwise nat_eq x.bytes y.bytes) left.old.value right.old.value }
     ensures unchanged { (left.new.value ≡ left.old.value) × (right.new.value ≡ right.old.value) }
 {
-    let Some(left) = left.bytes() else {
-        return matches!(right.bytes(), None);
-    };
-    let right = some_or!(right.bytes(), false);
-    left.as_slice() == right.as_slice()
+    equal!(left.bytes(), right.bytes(); one, other => one.as_slice() == other.as_slice())
 }
 
-/// Whether two texts are equal. A null pointer equals a null pointer
-/// alone.
+/// Whether two texts are equal. A null pointer equals a null pointer alone.
 #[unsafe(no_mangle)]
 pub extern "C" fn ecow_proved_text_equal(left: &mut TextPointer, right: &mut TextPointer) -> bool
     ensures equal { result ≡ are_equal text_eq left.old.value right.old.value }
     ensures unchanged { (left.new.value ≡ left.old.value) × (right.new.value ≡ right.old.value) }
 {
-    let Some(left) = left.text() else {
-        return matches!(right.text(), None);
-    };
-    let right = some_or!(right.text(), false);
-    left.as_str() == right.as_str()
+    equal!(left.text(), right.text(); one, other => one.as_str() == other.as_str())
 }
 
-/// Whether two lists hold the same texts. A null pointer equals a null pointer
-/// alone.
+/// Whether two lists hold the same texts. A null pointer equals a null pointer alone.
 #[unsafe(no_mangle)]
 pub extern "C" fn ecow_proved_texts_equal(left: &mut TextsPointer, right: &mut TextsPointer) -> bool
     ensures equal { result
         ≡ are_equal (pointwise text_eq) left.old.value right.old.value }
     ensures unchanged { (left.new.value ≡ left.old.value) × (right.new.value ≡ right.old.value) }
 {
-    let Some(left) = left.texts() else {
-        return matches!(right.texts(), None);
-    };
-    let right = some_or!(right.texts(), false);
-    left.as_slice() == right.as_slice()
+    equal!(left.texts(), right.texts(); one, other => one.as_slice() == other.as_slice())
 }
 
-/// Whether two values are equal. A null pointer equals a null pointer
-/// alone.
+/// Whether two values are equal. A null pointer equals a null pointer alone.
 #[unsafe(no_mangle)]
 pub extern "C" fn ecow_proved_value_equal(left: &mut ValuePointer, right: &mut ValuePointer) -> bool
     ensures equal { result ≡ are_equal value_eq left.old.value right.old.value }
     ensures unchanged { (left.new.value ≡ left.old.value) × (right.new.value ≡ right.old.value) }
 {
-    let Some(left) = left.value() else {
-        return matches!(right.value(), None);
-    };
-    let right = some_or!(right.value(), false);
-    left.equals(right)
+    equal!(left.value(), right.value(); one, other => one.equals(other))
 }
 
 /// How two lists compare: below 0 where the left one comes first, 0 where they are equal. A null
@@ -97,11 +107,7 @@ pub extern "C" fn ecow_proved_list_compare(left: &mut ListPointer, right: &mut L
     ensures order { result ≡ order_of (slice_cmp int_cmp) left.old.value right.old.value }
     ensures unchanged { (left.new.value ≡ left.old.value) × (right.new.value ≡ right.old.value) }
 {
-    let Some(left) = left.list() else {
-        return if matches!(right.list(), None) { 0 } else { -1 };
-    };
-    let right = some_or!(right.list(), 1);
-    order(left.as_slice().cmp(&right.as_slice()))
+    compare!(left.list(), right.list(), as_slice)
 }
 
 /// How the bytes of two values compare: below 0 where the left ones come first, 0 where they are
@@ -115,11 +121,7 @@ pub extern "C" fn ecow_proved_bytes_compare(
         left.old.value right.old.value }
     ensures unchanged { (left.new.value ≡ left.old.value) × (right.new.value ≡ right.old.value) }
 {
-    let Some(left) = left.bytes() else {
-        return if matches!(right.bytes(), None) { 0 } else { -1 };
-    };
-    let right = some_or!(right.bytes(), 1);
-    order(left.as_slice().cmp(&right.as_slice()))
+    compare!(left.bytes(), right.bytes(), as_slice)
 }
 
 /// How two texts compare: below 0 where the left one comes first, 0 where they are equal. A null
@@ -129,11 +131,7 @@ pub extern "C" fn ecow_proved_text_compare(left: &mut TextPointer, right: &mut T
     ensures order { result ≡ order_of text_cmp left.old.value right.old.value }
     ensures unchanged { (left.new.value ≡ left.old.value) × (right.new.value ≡ right.old.value) }
 {
-    let Some(left) = left.text() else {
-        return if matches!(right.text(), None) { 0 } else { -1 };
-    };
-    let right = some_or!(right.text(), 1);
-    order(left.as_str().cmp(&right.as_str()))
+    compare!(left.text(), right.text(), as_str)
 }
 
 /// How two lists compare: below 0 where the left one comes first, 0 where they are equal. A null
@@ -147,11 +145,7 @@ pub extern "C" fn ecow_proved_texts_compare(
         ≡ order_of (slice_cmp text_cmp) left.old.value right.old.value }
     ensures unchanged { (left.new.value ≡ left.old.value) × (right.new.value ≡ right.old.value) }
 {
-    let Some(left) = left.texts() else {
-        return if matches!(right.texts(), None) { 0 } else { -1 };
-    };
-    let right = some_or!(right.texts(), 1);
-    order(left.as_slice().cmp(&right.as_slice()))
+    compare!(left.texts(), right.texts(), as_slice)
 }
 
 /// The hash of the numbers, by std's hasher. Equal lists have the same.
@@ -160,12 +154,7 @@ pub extern "C" fn ecow_proved_list_hash(alloc: Global, pointer: &mut ListPointer
     ensures hash { result ≡ hash_of (fed.slice fed.i64 (numbers_at pointer.old.value)) }
     ensures unchanged { pointer.new.value ≡ pointer.old.value }
 {
-    let mut hasher = DefaultHasher::new();
-    match pointer.list() {
-        Some(list) => list.hash(&mut hasher),
-        None => EcoVec::<i64>::new(alloc).hash(&mut hasher),
-    }
-    hasher.finish()
+    hash!(pointer.list(), EcoVec::<i64>::new(alloc))
 }
 
 /// The hash of the bytes, by std's hasher. Equal bytes have the same.
@@ -174,12 +163,7 @@ pub extern "C" fn ecow_proved_bytes_hash(alloc: Global, pointer: &mut BytesPoint
     ensures hash { result ≡ hash_of (hash_writes (bytes_at pointer.old.value)) }
     ensures unchanged { pointer.new.value ≡ pointer.old.value }
 {
-    let mut hasher = DefaultHasher::new();
-    match pointer.bytes() {
-        Some(bytes) => bytes.hash(&mut hasher),
-        None => EcoBytes::new(alloc).hash(&mut hasher),
-    }
-    hasher.finish()
+    hash!(pointer.bytes(), EcoBytes::new(alloc))
 }
 
 /// The hash of the text, by std's hasher. Equal texts have the same.
@@ -188,12 +172,7 @@ pub extern "C" fn ecow_proved_text_hash(alloc: Global, pointer: &mut TextPointer
     ensures hash { result ≡ hash_of (fed.str (encode_utf8_all (chars_at pointer.old.value))) }
     ensures unchanged { pointer.new.value ≡ pointer.old.value }
 {
-    let mut hasher = DefaultHasher::new();
-    match pointer.text() {
-        Some(text) => text.hash(&mut hasher),
-        None => EcoString::new(alloc).hash(&mut hasher),
-    }
-    hasher.finish()
+    hash!(pointer.text(), EcoString::new(alloc))
 }
 
 /// The hash of the texts, by std's hasher. Equal lists have the same.
@@ -202,10 +181,5 @@ pub extern "C" fn ecow_proved_texts_hash(alloc: Global, pointer: &mut TextsPoint
     ensures hash { result ≡ hash_of (fed.slice text_fed (texts_at pointer.old.value)) }
     ensures unchanged { pointer.new.value ≡ pointer.old.value }
 {
-    let mut hasher = DefaultHasher::new();
-    match pointer.texts() {
-        Some(texts) => texts.hash(&mut hasher),
-        None => EcoVec::<EcoString>::new(alloc).hash(&mut hasher),
-    }
-    hasher.finish()
+    hash!(pointer.texts(), EcoVec::<EcoString>::new(alloc))
 }

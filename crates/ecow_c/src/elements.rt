@@ -123,8 +123,7 @@ pub extern "C" fn ecow_proved_list_push(pointer: &mut ListPointer, number: i64) 
     ensures statuses { IsAmong (OK ∷ MEMORY ∷ CAPACITY ∷ NULL ∷ []) result }
     ensures capacity { RefusesPast (λ xs. length xs + 1) pointer.old.value result }
 {
-    let list = some_or!(pointer.list(), NULL);
-    status(list.push(number))
+    status(some_or!(pointer.list(), NULL).push(number))
 }
 
 /// Appends a byte.
@@ -134,8 +133,7 @@ pub extern "C" fn ecow_proved_bytes_push(pointer: &mut BytesPointer, byte: u8) -
     ensures statuses { IsAmong (OK ∷ MEMORY ∷ CAPACITY ∷ NULL ∷ []) result }
     ensures capacity { RefusesPast (λ value. length value.bytes + 1) pointer.old.value result }
 {
-    let bytes = some_or!(pointer.bytes(), NULL);
-    status(bytes.push(byte))
+    status(some_or!(pointer.bytes(), NULL).push(byte))
 }
 
 /// Appends a clone of the text at `item`.
@@ -585,8 +583,7 @@ pub extern "C" fn ecow_proved_list_truncate(pointer: &mut ListPointer, len: usiz
     ensures list { AltersList (λ xs. take len xs) pointer.old.value result pointer.new.value }
     ensures statuses { IsAmong (OK ∷ MEMORY ∷ NULL ∷ []) result }
 {
-    let list = some_or!(pointer.list(), NULL);
-    status(list.truncate(len))
+    status(some_or!(pointer.list(), NULL).truncate(len))
 }
 
 /// Keeps the first `len` bytes, or all where there are fewer.
@@ -595,8 +592,7 @@ pub extern "C" fn ecow_proved_bytes_truncate(pointer: &mut BytesPointer, len: us
     ensures bytes { AltersBytes (λ xs. take len xs) pointer.old.value result pointer.new.value }
     ensures statuses { IsAmong (OK ∷ MEMORY ∷ NULL ∷ []) result }
 {
-    let bytes = some_or!(pointer.bytes(), NULL);
-    status(bytes.truncate(len))
+    status(some_or!(pointer.bytes(), NULL).truncate(len))
 }
 
 /// Keeps the first `len` texts, or all where there are fewer.
@@ -605,8 +601,7 @@ pub extern "C" fn ecow_proved_texts_truncate(pointer: &mut TextsPointer, len: us
     ensures texts { AltersTexts (λ xs. take len xs) pointer.old.value result pointer.new.value }
     ensures statuses { IsAmong (OK ∷ MEMORY ∷ NULL ∷ []) result }
 {
-    let texts = some_or!(pointer.texts(), NULL);
-    status(texts.truncate(len))
+    status(some_or!(pointer.texts(), NULL).truncate(len))
 }
 
 /// Keeps the first `len` items, or all where there are fewer.
@@ -619,8 +614,7 @@ pub extern "C" fn ecow_proved_value_truncate(pointer: &mut ValuePointer, len: us
     ensures statuses { IsAmong (OK ∷ MEMORY ∷ KIND ∷ NULL ∷ []) result }
     ensures kind { result ≡ KIND ↔ IsSomeAnd pointer.old.value (λ value. items_of value ≡ None) }
 {
-    let value = some_or!(pointer.value(), NULL);
-    status(value.truncate(len))
+    status(some_or!(pointer.value(), NULL).truncate(len))
 }
 
 /// Appends copies of `numbers`.
@@ -631,8 +625,7 @@ pub extern "C" fn ecow_proved_list_extend(pointer: &mut ListPointer, numbers: &[
     ensures capacity { RefusesPast (λ xs. length xs + length numbers.now)
         pointer.old.value result }
 {
-    let list = some_or!(pointer.list(), NULL);
-    status(list.extend_from_copied(numbers))
+    status(some_or!(pointer.list(), NULL).extend_from_copied(numbers))
 }
 
 /// Appends copies of `added`.
@@ -643,8 +636,7 @@ pub extern "C" fn ecow_proved_bytes_extend(pointer: &mut BytesPointer, added: &[
     ensures capacity { RefusesPast (λ value. length value.bytes + length added.now)
         pointer.old.value result }
 {
-    let bytes = some_or!(pointer.bytes(), NULL);
-    status(bytes.extend_from_slice(added))
+    status(some_or!(pointer.bytes(), NULL).extend_from_slice(added))
 }
 
 /// Appends clones of the texts at `added`.

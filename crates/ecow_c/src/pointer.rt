@@ -1,9 +1,9 @@
 //! The pointers at which C keeps values: C passes the address of each. A pointer may be null. The
 //! structs of `include/ecow.h` are as large as the values.
-ghost use Rattle.std.specs.Prelude.{◌≡◌, ℤ, List, Option};
 ghost use Rattle.std.specs.Borrow.{sem};
 ghost use Rattle.std.specs.Coded.{coded_option};
 ghost use Rattle.std.specs.Option.{option_map};
+ghost use Rattle.std.specs.Prelude.{◌≡◌, ℤ, List, Option};
 ghost use Rattle.ecow_base.specs.declared.plain.PlainBytes.{PlainBytes};
 ghost use Rattle.ecow_base.specs.declared.plain.PlainText.{PlainText};
 ghost use Rattle.ecow_nested.specs.declared.value.Value.{Value};

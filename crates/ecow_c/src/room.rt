@@ -52,8 +52,7 @@ pub extern "C" fn ecow_proved_list_reserve(pointer: &mut ListPointer, additional
     ensures statuses { IsAmong (OK ∷ MEMORY ∷ CAPACITY ∷ NULL ∷ []) result }
     ensures capacity { RefusesPast (λ xs. length xs + additional) pointer.old.value result }
 {
-    let list = some_or!(pointer.list(), NULL);
-    status(list.reserve(additional))
+    status(some_or!(pointer.list(), NULL).reserve(additional))
 }
 
 /// Asks for room for `additional` more bytes.
@@ -64,8 +63,7 @@ pub extern "C" fn ecow_proved_bytes_reserve(pointer: &mut BytesPointer, addition
     ensures capacity { RefusesPast (λ value. length value.bytes + additional)
         pointer.old.value result }
 {
-    let bytes = some_or!(pointer.bytes(), NULL);
-    status(bytes.reserve(additional))
+    status(some_or!(pointer.bytes(), NULL).reserve(additional))
 }
 
 /// Asks for room for `additional` more bytes.
@@ -76,8 +74,7 @@ pub extern "C" fn ecow_proved_text_reserve(pointer: &mut TextPointer, additional
     ensures capacity { RefusesPast (λ text. utf8_len text.chars + additional)
         pointer.old.value result }
 {
-    let text = some_or!(pointer.text(), NULL);
-    status(text.reserve(additional))
+    status(some_or!(pointer.text(), NULL).reserve(additional))
 }
 
 /// Asks for room for `additional` more texts.
@@ -87,8 +84,7 @@ pub extern "C" fn ecow_proved_texts_reserve(pointer: &mut TextsPointer, addition
     ensures statuses { IsAmong (OK ∷ MEMORY ∷ CAPACITY ∷ NULL ∷ []) result }
     ensures capacity { RefusesPast (λ xs. length xs + additional) pointer.old.value result }
 {
-    let texts = some_or!(pointer.texts(), NULL);
-    status(texts.reserve(additional))
+    status(some_or!(pointer.texts(), NULL).reserve(additional))
 }
 
 /// Gives up room that isn't used, unless another list shares the block.
@@ -113,8 +109,7 @@ pub extern "C" fn ecow_proved_bytes_shrink_to_fit(pointer: &mut BytesPointer) ->
     ensures bytes { AltersBytes (λ xs. xs) pointer.old.value result pointer.new.value }
     ensures statuses { IsAmong (OK ∷ NULL ∷ []) result }
 {
-    let bytes = some_or!(pointer.bytes(), NULL);
-    bytes.shrink_to_fit();
+    some_or!(pointer.bytes(), NULL).shrink_to_fit();
     OK
 }
 
@@ -124,8 +119,7 @@ pub extern "C" fn ecow_proved_text_shrink_to_fit(pointer: &mut TextPointer) -> u
     ensures text { AltersText (λ cs. cs) pointer.old.value result pointer.new.value }
     ensures statuses { IsAmong (OK ∷ NULL ∷ []) result }
 {
-    let text = some_or!(pointer.text(), NULL);
-    text.shrink_to_fit();
+    some_or!(pointer.text(), NULL).shrink_to_fit();
     OK
 }
 
