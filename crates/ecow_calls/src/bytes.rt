@@ -77,17 +77,15 @@ fn write<const N: usize>(value: &mut SmallBytes<N>, bytes: &[u8]) -> Result<(), 
     }
 }
 
-fn push_reserved<const N: usize>(value: &mut SmallBytes<N>, byte: u8) -> Result<(), EcoError> {
-    value.reserve(1)?;
-    value.push(byte)
-}
-
 /// Makes a call that adds a byte.
 fn put<const N: usize>(value: &mut SmallBytes<N>, row: &Row, byte: u8) -> Result<(), EcoError> {
     let start = row.start_in(value.len());
     match row.call {
         Call::Push => value.push(byte),
-        Call::PushReserved => push_reserved(value, byte),
+        Call::PushReserved => {
+            value.reserve(1)?;
+            value.push(byte)
+        }
         Call::Insert if start <= value.len() => value.insert(start, byte),
         Call::Set if start < value.len() => value.set(start, byte),
         _ => Err(EcoError::Capacity),
@@ -154,7 +152,7 @@ impl<const N: usize> Value for SmallBytes<N> {
 
     type Out = Option<u8>;
 
-    type Block = EcoVec<u8>;
+    type Item = u8;
 
     fn limit() -> Option<usize> {
         Some(N)
@@ -267,16 +265,12 @@ impl<const N: usize> Value for SmallBytes<N> {
         }
     }
 
-    fn len(&self) -> usize {
-        SmallBytes::len(self)
-    }
-
-    fn capacity(&self) -> usize {
-        SmallBytes::capacity(self)
-    }
-
-    fn is_inline(&self) -> bool {
-        SmallBytes::is_inline(self)
+    fn size(&self) -> (usize, usize, bool) {
+        (
+            SmallBytes::len(self),
+            SmallBytes::capacity(self),
+            SmallBytes::is_inline(self),
+        )
     }
 
     fn item(&self, place: usize) -> Option<i64> {
@@ -303,9 +297,5 @@ impl<const N: usize> Value for SmallBytes<N> {
             return None;
         }
         self.into_eco_vec().ok()
-    }
-
-    fn is_sole(block: &mut EcoVec<u8>) -> bool {
-        block.is_unique()
     }
 }

@@ -42,16 +42,14 @@ fn read<const N: usize>(text: &SmallText<N>) {
     compare(text, text);
 }
 
-fn push_reserved<const N: usize>(text: &mut SmallText<N>, c: char) -> Result<(), EcoError> {
-    text.reserve(1)?;
-    text.push(c)
-}
-
 /// Makes a call that is given a character.
 fn put<const N: usize>(text: &mut SmallText<N>, row: &Row, c: char) -> Result<(), EcoError> {
     let start = row.start_in(text.len());
     match row.call {
-        Call::PushReserved => push_reserved(text, c),
+        Call::PushReserved => {
+            text.reserve(1)?;
+            text.push(c)
+        }
         Call::Insert if text.is_char_boundary(start) => text.insert(start, c),
         Call::Push => text.push(c),
         _ => Err(EcoError::Capacity),
@@ -229,7 +227,7 @@ impl<const N: usize> Value for SmallText<N> {
 
     type Out = Out;
 
-    type Block = EcoVec<u8>;
+    type Item = u8;
 
     fn limit() -> Option<usize> {
         Some(N)
@@ -353,16 +351,12 @@ impl<const N: usize> Value for SmallText<N> {
         }
     }
 
-    fn len(&self) -> usize {
-        SmallText::len(self)
-    }
-
-    fn capacity(&self) -> usize {
-        SmallText::capacity(self)
-    }
-
-    fn is_inline(&self) -> bool {
-        SmallText::is_inline(self)
+    fn size(&self) -> (usize, usize, bool) {
+        (
+            SmallText::len(self),
+            SmallText::capacity(self),
+            SmallText::is_inline(self),
+        )
     }
 
     fn item(&self, place: usize) -> Option<i64> {
@@ -396,9 +390,5 @@ impl<const N: usize> Value for SmallText<N> {
             return None;
         }
         self.into_eco_vec().ok()
-    }
-
-    fn is_sole(block: &mut EcoVec<u8>) -> bool {
-        block.is_unique()
     }
 }

@@ -180,7 +180,7 @@ fn twin_holds<V: Value>(case: &Case, twin: Option<V>, has_left: bool) -> bool {
     };
     let is_kept = is_before(case, &twin);
     match twin.into_block() {
-        Some(mut block) => is_kept && V::is_sole(&mut block) == has_left,
+        Some(mut block) => is_kept && block.is_unique() == has_left,
         None => is_kept,
     }
 }
@@ -246,7 +246,7 @@ fn is_made<V: Value>(case: &Case, value: &V) -> bool {
 fn is_shared_by_clones<V: Value>(case: &Case, made: V) -> bool {
     let has_block = case.state.room.is_some_and(|room| room > 0);
     match made.into_block() {
-        Some(mut block) => V::is_sole(&mut block) != (case.row.call == Call::Clone && has_block),
+        Some(mut block) => block.is_unique() != (case.row.call == Call::Clone && has_block),
         None => true,
     }
 }

@@ -4,7 +4,7 @@ use crate::counting::Source;
 use crate::model::Case;
 use crate::states::State;
 use crate::watched::Asks;
-use ecow_list::EcoError;
+use ecow_list::{EcoError, EcoVec};
 use std::alloc::{AllocError, Global};
 
 /// A vector, bytes or a text. A call that hands back another value than it was given answers
@@ -19,8 +19,8 @@ pub trait Value: Clone + Drop {
     /// What a call hands out.
     type Out: Drop;
 
-    /// The block of a value that isn't inline.
-    type Block: Drop;
+    /// What stands in its block.
+    type Item: Drop;
 
     /// How many items stand in the value itself; vectors have none there.
     fn limit() -> Option<usize> {
@@ -56,12 +56,19 @@ pub trait Value: Clone + Drop {
     /// Makes a value of what the call is given.
     fn make(row: &Row, gift: &mut Self::Gift) -> Result<Self, EcoError>;
 
-    fn len(&self) -> usize;
+    /// The length, the capacity, and whether the items stand in the value itself.
+    fn size(&self) -> (usize, usize, bool);
 
-    fn capacity(&self) -> usize;
+    fn len(&self) -> usize {
+        self.size().0
+    }
+
+    fn capacity(&self) -> usize {
+        self.size().1
+    }
 
     fn is_inline(&self) -> bool {
-        false
+        self.size().2
     }
 
     fn item(&self, place: usize) -> Option<i64>;
@@ -75,9 +82,7 @@ pub trait Value: Clone + Drop {
     fn asks(gift: &Self::Gift) -> &Asks;
 
     /// The block of a value; none of an inline one.
-    fn into_block(self) -> Option<Self::Block>;
-
-    fn is_sole(block: &mut Self::Block) -> bool;
+    fn into_block(self) -> Option<EcoVec<Self::Item>>;
 }
 
 /// A call on a value in a state.

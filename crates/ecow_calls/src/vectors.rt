@@ -239,7 +239,7 @@ impl<T: Element> Value for EcoVec<T> {
 
     type Out = Out<T>;
 
-    type Block = EcoVec<T>;
+    type Item = T;
 
     fn is_plain() -> bool {
         T::is_plain()
@@ -339,12 +339,8 @@ impl<T: Element> Value for EcoVec<T> {
         }
     }
 
-    fn len(&self) -> usize {
-        EcoVec::len(self)
-    }
-
-    fn capacity(&self) -> usize {
-        EcoVec::capacity(self)
+    fn size(&self) -> (usize, usize, bool) {
+        (EcoVec::len(self), EcoVec::capacity(self), false)
     }
 
     fn item(&self, place: usize) -> Option<i64> {
@@ -384,9 +380,5 @@ impl<T: Element> Value for EcoVec<T> {
 
     fn into_block(self) -> Option<Self> {
         Some(self)
-    }
-
-    fn is_sole(block: &mut Self) -> bool {
-        block.is_unique()
     }
 }

@@ -96,6 +96,11 @@ macro_rules! counts {
     ($($count:expr),*) => { &[$((0, 0, $count)),*] };
 }
 
+/// A start, an end and a count each.
+macro_rules! arguments {
+    ($($start:literal $end:literal $count:expr),*) => { &[$(($start, $end, $count)),*] };
+}
+
 const NONE: &[Arguments] = counts!(0);
 
 /// One item: a character of one byte or of four.
@@ -107,40 +112,18 @@ const ROOMS: &[Arguments] = counts!(3, TOO_MANY);
 
 const TIMES: &[Arguments] = counts!(0, 1, 2, 20, TOO_MANY);
 
-const PLACES: &[Arguments] = &[
-    (0, 0, 1),
-    (2, 2, 1),
-    (2, 2, 4),
-    (3, 3, 1),
-    (4, 4, 1),
-    (100, 0, 1),
-];
+const PLACES: &[Arguments] = arguments!(0 0 1, 2 2 1, 2 2 4, 3 3 1, 4 4 1, 100 0 1);
 
-const RANGES: &[Arguments] = &[
-    (0, 0, 0),
-    (1, 3, 1),
-    (0, 4, 0),
-    (1, 2, 3),
-    (0, 0, 9),
-    (2, 1, 0),
-];
+const RANGES: &[Arguments] = arguments!(0 0 0, 1 3 1, 0 4 0, 1 2 3, 0 0 9, 2 1 0);
 
-const MARKS: &[Arguments] = &[(0, 0, 0), (0, 0, 4), (1, 3, 4), (0, 4, 4)];
+const MARKS: &[Arguments] = arguments!(0 0 0, 0 0 4, 1 3 4, 0 4 4);
 
 const PIECES: &[Arguments] = counts!(0, 1, 2, 4, 6, 12);
 
-const SLICES: &[Arguments] = &[
-    (0, 0, 0),
-    (0, 0, 1),
-    (2, 2, 1),
-    (2, 2, 2),
-    (2, 2, 4),
-    (0, 0, 12),
-    (2, 2, 12),
-];
+const SLICES: &[Arguments] = arguments!(0 0 0, 0 0 1, 2 2 1, 2 2 2, 2 2 4, 0 0 12, 2 2 12);
 
 /// From the start 1 on another pattern is replaced.
-const PATTERNS: &[Arguments] = &[(0, 0, 9), (1, 0, 2), (1, 0, TOO_MANY)];
+const PATTERNS: &[Arguments] = arguments!(0 0 9, 1 0 2, 1 0 TOO_MANY);
 
 pub(crate) static ROWS: [Row; Word::Drop as usize + 1] = [
     (Word::New, Part::Makes, ALL, 1, NONE),
@@ -344,17 +327,16 @@ fn text_of(alloc: Global, text: &str) -> Result<Text, AllocError> {
     Ok(Text::new(String::from_str(alloc, text)?))
 }
 
+/// A command, where there is one of its kind.
+type Made<C> = Result<Option<C>, AllocError>;
+
 /// A command that an order may stand for.
 pub(crate) trait FromOrder: Drop + Sized {
     /// What its elements are made of.
     type Source: Drop;
 
-    /// The command that stands for an order, where there is one of its kind.
-    fn from_order(
-        alloc: Global,
-        source: &Self::Source,
-        order: &Order,
-    ) -> Result<Option<Self>, AllocError>;
+    /// The command that stands for an order.
+    fn from_order(alloc: Global, source: &Self::Source, order: &Order) -> Made<Self>;
 
     /// The word of the command. Each has one, which a row must have.
     fn word(&self) -> Word;
@@ -367,22 +349,13 @@ pub(crate) fn command_of<C: FromOrder>(
     order: &Order,
 ) -> Result<Option<C>, AllocError> {
     let command: Option<C> = C::from_order(alloc, source, order)?;
-    Ok(match command {
-        Some(command) if command.word() == order.word && order.word.row().is_some() => Some(
-            command,
-        ),
-        _ => None,
-    })
+    Ok(command.filter(|command| command.word() == order.word && order.word.row().is_some()))
 }
 
 impl<E: Element> FromOrder for Command<E> {
     type Source = E::Source;
 
-    fn from_order(
-        alloc: Global,
-        source: &E::Source,
-        order: &Order,
-    ) -> Result<Option<Self>, AllocError> {
+    fn from_order(alloc: Global, source: &E::Source, order: &Order) -> Made<Self> {
         Ok(match order.kind {
             Kind::List => match VecCommand::from_order(alloc, source, order)? {
                 Some(command) => Some(Command::Vec(command)),
@@ -437,42 +410,25 @@ macro_rules! word_of {
 impl<E: Element> FromOrder for VecCommand<E> {
     type Source = E::Source;
 
-    fn from_order(
-        alloc: Global,
-        source: &E::Source,
-        order: &Order,
-    ) -> Result<Option<Self>, AllocError> {
-        let Order {
-            name,
-            to,
-            bounds,
-            ..
-        } = *order;
-        let (from, index, target) = (name, order.start, order.start);
-        let (n, capacity, additional) = (order.count, order.count, order.count);
+    fn from_order(alloc: Global, source: &E::Source, order: &Order) -> Made<Self> {
+        let (name, index, count) = (order.name, order.start, order.count);
         Ok(command_from!(order.word, VecCommand {
-            New { name }
-            WithCapacity { name, capacity }
-            FromElem { name, value: order.value(alloc, source)?, n }
-            Clone { from, to }
-            Drop { name }
+            New { name } Drop { name } Pop { name } Clear { name } Len { name } Contents { name }
+            Capacity { name } Unique { name }
+            WithCapacity { name, capacity: count }
+            FromElem { name, value: order.value(alloc, source)?, n: count }
+            Clone { from: name, to: order.to }
             Push { name, value: order.value(alloc, source)? }
-            Pop { name }
             Insert { name, index, value: order.value(alloc, source)? }
             Remove { name, index }
-            Truncate { name, target }
-            Clear { name }
+            Truncate { name, target: index }
             Retain { name, marks: order.marks(alloc)? }
-            Drain { name, bounds }
-            Splice { name, bounds, items: order.items(alloc, source)? }
+            Drain { name, bounds: order.bounds }
+            Splice { name, bounds: order.bounds, items: order.items(alloc, source)? }
             Extend { name, items: order.items(alloc, source)? }
-            Reserve { name, additional }
+            Reserve { name, additional: count }
             Write { name, index, value: order.value(alloc, source)? }
             Read { name, index }
-            Len { name }
-            Contents { name }
-            Capacity { name }
-            Unique { name }
         }, {
             FromItems FromList { name, items: order.items(alloc, source)? }
         }))
@@ -491,37 +447,29 @@ impl<E: Element> FromOrder for VecCommand<E> {
 impl FromOrder for BytesCommand {
     type Source = ();
 
-    fn from_order(alloc: Global, _: &(), order: &Order) -> Result<Option<Self>, AllocError> {
-        let Order { name, to, .. } = *order;
-        let (from, index, target) = (name, order.start, order.start);
-        let (n, capacity, additional) = (order.count, order.count, order.count);
+    fn from_order(alloc: Global, _: &(), order: &Order) -> Made<Self> {
+        let (name, index, count) = (order.name, order.start, order.count);
         let byte = u8::try_from(order.first).unwrap_or(0);
         Ok(command_from!(order.word, BytesCommand {
-            New { name }
+            New { name } Drop { name } Pop { name } Clear { name } Len { name } Capacity { name }
+            Contents { name } IsInline { name }
             TryInline { name, bytes: order.bytes(alloc)? }
-            WithCapacity { name, capacity }
+            WithCapacity { name, capacity: count }
             FromEcoVec { name, bytes: order.bytes(alloc)? }
-            Clone { from, to }
-            Drop { name }
+            Clone { from: name, to: order.to }
             Push { name, byte }
-            Pop { name }
             Insert { name, index, byte }
             Remove { name, index }
             Extend { name, bytes: order.bytes(alloc)? }
             InsertSlice { name, index, bytes: order.bytes(alloc)? }
-            Truncate { name, target }
-            Clear { name }
-            Reserve { name, additional }
+            Truncate { name, target: index }
+            Reserve { name, additional: count }
             Write { name, index, byte }
             Read { name, index }
-            Repeat { from, to, n }
-            Len { name }
-            Capacity { name }
-            Contents { name }
-            IsInline { name }
+            Repeat { from: name, to: order.to, n: count }
         }, {
             FromItems FromList { name, bytes: order.bytes(alloc)? }
-            FromOther FromText { from, to }
+            FromOther FromText { from: name, to: order.to }
             Shrink ShrinkToFit { name }
         }))
     }
@@ -539,43 +487,36 @@ impl FromOrder for BytesCommand {
 impl FromOrder for TextCommand {
     type Source = ();
 
-    fn from_order(alloc: Global, _: &(), order: &Order) -> Result<Option<Self>, AllocError> {
-        let Order { name, to, .. } = *order;
-        let (from, index, target) = (name, order.start, order.start);
-        let (n, count, capacity, additional) = (order.count, order.count, order.count, order.count);
+    fn from_order(alloc: Global, _: &(), order: &Order) -> Made<Self> {
+        let (name, index, count) = (order.name, order.start, order.count);
         let c = order.character().chars().next().unwrap_or('a');
         let (pattern, by) = order.pattern();
         Ok(command_from!(order.word, TextCommand {
-            New { name }
+            New { name } Drop { name } Pop { name } Clear { name } Len { name } Capacity { name }
+            Contents { name } IsInline { name }
             TryInline { name, text: order.text(alloc)? }
-            WithCapacity { name, capacity }
+            WithCapacity { name, capacity: count }
             FromChar { name, c }
-            Clone { from, to }
-            Drop { name }
+            Clone { from: name, to: order.to }
             Push { name, c }
-            Pop { name }
             Insert { name, index, c }
             Remove { name, index }
-            Truncate { name, target }
-            Clear { name }
-            Reserve { name, additional }
+            Truncate { name, target: index }
+            Reserve { name, additional: count }
             Replace {
-                from, to, pattern: text_of(alloc, pattern)?, replacement: text_of(alloc, by)?, count
+                from: name, to: order.to, pattern: text_of(alloc, pattern)?,
+                replacement: text_of(alloc, by)?, count
             }
-            Repeat { from, to, n }
-            Len { name }
-            Capacity { name }
-            Contents { name }
-            IsInline { name }
+            Repeat { from: name, to: order.to, n: count }
         }, {
             FromItems FromStr { name, text: order.text(alloc)? }
-            FromOther FromBytes { from, to }
+            FromOther FromBytes { from: name, to: order.to }
             Extend PushStr { name, text: order.text(alloc)? }
             InsertSlice InsertStr { name, index, text: order.text(alloc)? }
             Lower AsciiLower { name }
             Upper AsciiUpper { name }
-            ToLower ToAsciiLower { from, to }
-            ToUpper ToAsciiUpper { from, to }
+            ToLower ToAsciiLower { from: name, to: order.to }
+            ToUpper ToAsciiUpper { from: name, to: order.to }
             Shrink ShrinkToFit { name }
         }))
     }

@@ -15,20 +15,11 @@ use std::alloc::Global;
 use std::hash::{DefaultHasher, Hash, Hasher};
 use std::io;
 
-/// The rows of bytes and texts at each limit of the tables.
-fn add_small(meter: Meter, rows: &mut Rows) {
-    add_bytes::<SmallBytes<0>>(meter, rows);
-    add_bytes::<SmallBytes<1>>(meter, rows);
-    add_bytes::<SmallBytes<3>>(meter, rows);
-    add_bytes::<SmallBytes<15>>(meter, rows);
-    add_bytes::<SmallBytes<23>>(meter, rows);
-    add_bytes::<SmallBytes<255>>(meter, rows);
-    add_texts::<SmallText<0>>(meter, rows);
-    add_texts::<SmallText<1>>(meter, rows);
-    add_texts::<SmallText<3>>(meter, rows);
-    add_texts::<SmallText<15>>(meter, rows);
-    add_texts::<SmallText<23>>(meter, rows);
-    add_texts::<SmallText<255>>(meter, rows);
+/// Adds the rows of values of one type, at each of its limits.
+macro_rules! add_at {
+    ($add:ident $value:ident($meter:expr, $rows:expr): [$($limit:literal),*]) => {
+        $($add::<$value<$limit>>($meter, $rows);)*
+    };
 }
 
 /// The rows of all tables.
@@ -37,7 +28,8 @@ fn all_rows(alloc: Global, marked: bool) -> Rows {
     add_vectors(meter, &mut rows);
     add_copies(meter, &mut rows);
     add_units(meter, &mut rows);
-    add_small(meter, &mut rows);
+    add_at!(add_bytes SmallBytes(meter, &mut rows): [0, 1, 3, 15, 23, 255]);
+    add_at!(add_texts SmallText(meter, &mut rows): [0, 1, 3, 15, 23, 255]);
     prints::add_rows(meter, &mut rows);
     rows
 }

@@ -30,17 +30,6 @@ fn all_of_kind_hold<K: NamedStore>(trial: &Trial<'_, K::Element>, kind: Kind) ->
     kind_holds::<K>(trial, kind) && makers_hold::<K>(trial, kind)
 }
 
-/// The commands of a store on values of one kind. Its limit is that with this number, counted from
-/// 0, among 0, 4, 15 and 23.
-fn store_holds(trial: &Trial<'_, i64>, kind: Kind, limit: usize) -> bool {
-    match limit {
-        0 => all_of_kind_hold::<SmallStore<i64, 0>>(trial, kind),
-        1 => all_of_kind_hold::<SmallStore<i64, 4>>(trial, kind),
-        2 => all_of_kind_hold::<SmallStore<i64, 15>>(trial, kind),
-        _ => all_of_kind_hold::<SmallStore<i64, 23>>(trial, kind),
-    }
-}
-
 /// Elements that count.
 fn counting_hold<K: NamedStore<Element = Counting>>(alloc: Global, watch: &Watch) -> bool {
     let Ok(tally) = Tally::new(alloc) else {
@@ -93,8 +82,14 @@ fn part_of_stores_holds(part: usize, alloc: Global, watch: &Watch) -> bool {
     match part {
         0 => all_of_kind_hold::<SmallStore<i64, 15>>(&trial, Kind::List),
         1 => all_of_kind_hold::<Counted<i64>>(&trial, Kind::List),
-        2..=5 => store_holds(&trial, Kind::Bytes, part.wrapping_sub(2)),
-        6..=9 => store_holds(&trial, Kind::Text, part.wrapping_sub(6)),
+        2 => all_of_kind_hold::<SmallStore<i64, 0>>(&trial, Kind::Bytes),
+        3 => all_of_kind_hold::<SmallStore<i64, 4>>(&trial, Kind::Bytes),
+        4 => all_of_kind_hold::<SmallStore<i64, 15>>(&trial, Kind::Bytes),
+        5 => all_of_kind_hold::<SmallStore<i64, 23>>(&trial, Kind::Bytes),
+        6 => all_of_kind_hold::<SmallStore<i64, 0>>(&trial, Kind::Text),
+        7 => all_of_kind_hold::<SmallStore<i64, 4>>(&trial, Kind::Text),
+        8 => all_of_kind_hold::<SmallStore<i64, 15>>(&trial, Kind::Text),
+        9 => all_of_kind_hold::<SmallStore<i64, 23>>(&trial, Kind::Text),
         10 => seeds_hold::<SmallStore<i64, 4>>(&trial, 3),
         11 => seeds_hold::<SmallStore<i64, 15>>(&trial, 3),
         12 => seeds_hold::<Counted<i64>>(&trial, 1),

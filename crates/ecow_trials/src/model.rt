@@ -6,11 +6,11 @@ use ecow_model::{Bounds, Refusal};
 use std::ops::Bound;
 use std::str;
 
-/// The most elements that a block has room for.
-const MAX: usize = 9223372036854775807;
-
 /// Longer values are left to others.
 pub(crate) const LONGEST: usize = 150;
+
+/// The most elements that a block has room for.
+const MAX: usize = 9223372036854775807;
 
 /// What stands under a name.
 #[derive(Clone, Copy)]

@@ -27,31 +27,16 @@ fn limits_hold(alloc: Global, watch: &Watch) -> bool {
                 && texts_hold::<SmallText<64>>(alloc, watch))
 }
 
-/// Bytes whose limit is that with this number, counted from 0, among 0, 1, 3, 15, 23, 255, 257 and
-/// 600.
-fn bytes_at_hold(limit: usize, alloc: Global, watch: &Watch) -> bool {
-    match limit {
-        0 => bytes_hold::<SmallBytes<0>>(alloc, watch),
-        1 => bytes_hold::<SmallBytes<1>>(alloc, watch),
-        2 => bytes_hold::<SmallBytes<3>>(alloc, watch),
-        3 => bytes_hold::<SmallBytes<15>>(alloc, watch),
-        4 => bytes_hold::<SmallBytes<23>>(alloc, watch),
-        5 => bytes_hold::<SmallBytes<255>>(alloc, watch),
-        6 => bytes_hold::<SmallBytes<257>>(alloc, watch),
-        _ => bytes_hold::<SmallBytes<600>>(alloc, watch),
-    }
-}
-
-/// Texts whose limit is that with this number, counted from 0, among 0, 1, 3, 15, 23 and 255.
-fn texts_at_hold(limit: usize, alloc: Global, watch: &Watch) -> bool {
-    match limit {
-        0 => texts_hold::<SmallText<0>>(alloc, watch),
-        1 => texts_hold::<SmallText<1>>(alloc, watch),
-        2 => texts_hold::<SmallText<3>>(alloc, watch),
-        3 => texts_hold::<SmallText<15>>(alloc, watch),
-        4 => texts_hold::<SmallText<23>>(alloc, watch),
-        _ => texts_hold::<SmallText<255>>(alloc, watch),
-    }
+/// Whether values of one type hold, at the limit that stands beside the part's number.
+macro_rules! hold_at {
+    ($part:expr, $hold:ident $value:ident($alloc:expr, $watch:expr): [
+        $($number:literal: $limit:literal),*
+    ]) => {
+        match $part {
+            $($number => $hold::<$value<$limit>>($alloc, $watch),)*
+            _ => false,
+        }
+    };
 }
 
 /// What each part is about.
@@ -90,8 +75,12 @@ pub(crate) fn part_holds(part: usize, alloc: Global, watch: &Watch) -> bool {
         1 => vectors_hold::<u8>(alloc, watch) && copies_hold::<u8>(alloc, watch, 15),
         2 => vectors_hold::<Named>(alloc, watch) && arrays_hold::<Named>(alloc, watch),
         3 => many_hold(alloc, watch),
-        4..=11 => bytes_at_hold(part.wrapping_sub(4), alloc, watch),
-        12..=17 => texts_at_hold(part.wrapping_sub(12), alloc, watch),
+        4..=11 => hold_at!(part, bytes_hold SmallBytes(alloc, watch): [
+            4: 0, 5: 1, 6: 3, 7: 15, 8: 23, 9: 255, 10: 257, 11: 600
+        ]),
+        12..=17 => hold_at!(part, texts_hold SmallText(alloc, watch): [
+            12: 0, 13: 1, 14: 3, 15: 15, 16: 23, 17: 255
+        ]),
         18 => prints::printing_holds(alloc, watch),
         19 => clones::clones_hold(alloc, watch),
         20 => seeds::values_hold(alloc, watch),

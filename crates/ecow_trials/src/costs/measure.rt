@@ -9,15 +9,10 @@ use ecow_calls::trials::twin_of;
 use ecow_calls::value::Value;
 use ecow_list::{EcoError, EcoVec};
 
-fn form_of<V: Value>(block: &mut Option<V::Block>) -> Form {
-    match block {
-        Some(block) => {
-            if V::is_sole(block) {
-                Form::Sole
-            } else {
-                Form::Shared
-            }
-        }
+fn form_of<T: Drop>(block: &mut Option<EcoVec<T>>) -> Form {
+    match block.as_mut().map(|block| block.is_unique()) {
+        Some(true) => Form::Sole,
+        Some(false) => Form::Shared,
         None => Form::Inline,
     }
 }
@@ -28,9 +23,9 @@ fn forms<V: Value>(value: V, other: Option<V>) -> (Form, Form) {
     match other {
         Some(other) => {
             let mut other = other.into_block();
-            (form_of::<V>(&mut block), form_of::<V>(&mut other))
+            (form_of(&mut block), form_of(&mut other))
         }
-        None => (form_of::<V>(&mut block), Form::Absent),
+        None => (form_of(&mut block), Form::Absent),
     }
 }
 
@@ -241,8 +236,7 @@ fn add_states<V: Value<Source = ()>>(
 fn add_made<V: Value<Source = ()>>(
     meter: Meter,
     rows: &mut Rows,
-    makers: &[Row],
-    makers_at: &[Row],
+    (makers, makers_at): (&[Row], &[Row]),
     growth: &[Row],
 ) {
     let limit = V::limit().unwrap_or(0);
@@ -265,17 +259,28 @@ fn add_made<V: Value<Source = ()>>(
 }
 
 pub(crate) fn add_bytes<V: Value<Source = ()>>(meter: Meter, rows: &mut Rows) {
-    let limit = V::limit().unwrap_or(0);
-    let (makers, makers_at) = (tables::BYTES_MAKERS, tables::bytes_makers_at(limit));
-    let (changes, derivations) = (tables::BYTES_CHANGES, tables::BYTES_DERIVATIONS);
-    add_states::<V>(meter, rows, changes, derivations);
-    add_made::<V>(meter, rows, makers, &makers_at, tables::BYTES_GROWTH);
+    let makers_at = tables::bytes_makers_at(V::limit().unwrap_or(0));
+    add_states::<V>(
+        meter,
+        rows,
+        tables::BYTES_CHANGES,
+        tables::BYTES_DERIVATIONS,
+    );
+    add_made::<V>(
+        meter,
+        rows,
+        (tables::BYTES_MAKERS, &makers_at),
+        tables::BYTES_GROWTH,
+    );
 }
 
 pub(crate) fn add_texts<V: Value<Source = ()>>(meter: Meter, rows: &mut Rows) {
-    let limit = V::limit().unwrap_or(0);
-    let (makers, makers_at) = (tables::TEXT_MAKERS, tables::text_makers_at(limit));
-    let (changes, derivations) = (tables::TEXT_CHANGES, tables::TEXT_DERIVATIONS);
-    add_states::<V>(meter, rows, changes, derivations);
-    add_made::<V>(meter, rows, makers, &makers_at, tables::TEXT_GROWTH);
+    let makers_at = tables::text_makers_at(V::limit().unwrap_or(0));
+    add_states::<V>(meter, rows, tables::TEXT_CHANGES, tables::TEXT_DERIVATIONS);
+    add_made::<V>(
+        meter,
+        rows,
+        (tables::TEXT_MAKERS, &makers_at),
+        tables::TEXT_GROWTH,
+    );
 }

@@ -27,10 +27,10 @@ fn many_hold<V: Value<Source = ()>>(alloc: Global) -> Result<bool, EcoError> {
     };
     for owner in owners {
         let last = owner.item(999) == Some(V::letter(&state, 999));
-        is_right = is_right && last && !V::is_sole(&mut block);
+        is_right = is_right && last && !block.is_unique();
         drop(owner);
     }
-    Ok(is_right && V::is_sole(&mut block))
+    Ok(is_right && block.is_unique())
 }
 
 fn all_hold(alloc: Global) -> Result<bool, EcoError> {
