@@ -40,24 +40,17 @@ fn empty_clones<T: Drop>(list: EcoVec<T>) -> Result<(EcoVec<T>, EcoVec<T>), EcoE
 }
 
 #[test]
-fn a_longer_vector_has_clones(rt: HostRuntime) -> Result<(), Fail> {
+fn what_is_made_of_a_vector_has_clones(rt: HostRuntime) -> Result<(), Fail> {
     let tally = Tally::new(rt.alloc())?;
     let list = tally.list(rt.alloc(), 3)?;
     let longer = with_last(&list, tally.element()?)?;
-    assert!(rt; longer.len() == 4 && tally.has(3, 0));
-    assert_eq!(rt; tally.counts_without(longer), (3, 4));
-    assert_eq!(rt; tally.counts_without(list), (3, 7));
-    Ok(())
-}
-
-#[test]
-fn a_front_has_clones(rt: HostRuntime) -> Result<(), Fail> {
-    let tally = Tally::new(rt.alloc())?;
-    let list = tally.list(rt.alloc(), 3)?;
     let (part, len) = front(&list, 2)?;
-    assert!(rt; len == 2 && tally.has(2, 0));
-    assert_eq!(rt; tally.counts_without(part), (2, 2));
-    assert_eq!(rt; tally.counts_without(list), (2, 5));
+    assert!(rt; longer.len() == 4 && len == 2 && tally.has(5, 0));
+    let counts = (tally.counts_without(longer), tally.counts_without(part));
+    assert_eq!(rt;
+        (counts, tally.counts_without(list)),
+        (((5, 4), (5, 6)), (5, 9))
+    );
     Ok(())
 }
 
