@@ -49,7 +49,8 @@ returns-in-Ok-payload-2-clause-unchanged g c =
 
 pub returns-in_default-payload-clause-step : goal.returns-in_default-payload-clause-step
 returns-in_default-payload-clause-step g c =
-    λ clones. rw (c.in-Drop.is, c.in_default-payload.ensures.value) (inl (ap (λ values. (Done, values))
+    λ clones. rw (c.in-Drop.is, c.in_default-payload.ensures.value)
+    (inl (ap (λ values. (Done, values))
     (c.remove.ensures.removed ∙ ap (λ (values : Named g.row.V.Denot). remove values c.in-Drop.name)
     (put_wrap g.K.ValueKind.rules g.met.K.ValueKind.wraps c.args.values.now c.in-Drop.name
     c.in_default-payload.field-0.now c.in_default-payload.ensures.value _ (search rules)))))
