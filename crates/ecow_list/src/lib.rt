@@ -4,6 +4,7 @@
 pub mod comparisons;
 pub mod error;
 pub mod iter;
+pub mod laws;
 mod macros;
 mod threads;
 pub mod traits;

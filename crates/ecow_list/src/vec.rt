@@ -147,8 +147,8 @@ impl<T> EcoVec<T> {
 }
 
 impl<T: Drop> EcoVec<T> {
-    /// An empty vector with room for exactly `capacity` elements: without a block, and never
-    /// refused, for none. Answers `Capacity` where that passes 2^63 - 1, and else `Memory`.
+    /// An empty vector. Asks for room for `capacity` elements, and no capacity is promised; without
+    /// a block, and never refused, for none. Answers `Capacity` past 2^63 - 1, and else `Memory`.
     pub fn with_capacity(alloc: Global, capacity: usize) -> Result<Self, EcoError>
         ensures ok { IfOk result (λ v. v ≡ []) }
         ensures capacity { IsErrOf result EcoError.Capacity ↔ (MAX_LEN < capacity) }

@@ -122,9 +122,9 @@ impl<T: Clone> EcoVec<T> {
         })
     }
 
-    /// `n` clones of `value`, with room for no more; without a block, and never refused, for none.
-    /// `value` is dropped in the end. A refusal hands it back, with `Capacity` where `n` passes
-    /// 2^63 - 1, and else with `Memory`.
+    /// `n` clones of `value`; without a block, and never refused, for none. `value` is dropped in
+    /// the end. A refusal hands it back, with `Capacity` where `n` passes 2^63 - 1, and else with
+    /// `Memory`.
     pub fn from_elem(alloc: Global, value: T, n: usize) -> Result<Self, Rejected<T>>
         ensures ok { ClonesAreEqual T.is_clone → IfOk result (λ v. v ≡ replicate n value) }
         ensures clones { IfOk result (All (T.is_clone value)) }
