@@ -1,7 +1,8 @@
 #!/bin/sh
 # Runs PROGRAM on the golden scripts, in cases/ and examples/, and says which answers otherwise than expected. In a script
 # each expected answer stands behind `#> `, and what the program says on standard error is the last one. A script whose
-# name ends in counted.eco is run with --counted. Of one whose name ends in lines.eco each line is run alone.
+# name ends in counted.eco is run with --counted. Of one whose name ends in lines.eco each line is run alone. And runs it
+# on the first example cut at each byte, in either store: a front of the answers, or an unreadable line and none of them.
 # usage: tools/cases.sh PROGRAM
 set -eu
 program=$(realpath "$1")
@@ -41,5 +42,29 @@ for script in cases/*.eco examples/*.eco; do
         cat "$work/apart"
     }
 done
-echo "$cases golden scripts, $wrong answered otherwise than expected"
-[ "$cases" -ge 85 ] && [ "$wrong" -eq 0 ]
+
+cuts=0
+sed -n 's/^#> //p' examples/first.eco > "$work/expected"
+for counted in '' --counted; do
+    bytes=$(wc -c < examples/first.eco)
+    while [ "$bytes" -gt 0 ]; do
+        bytes=$((bytes - 1))
+        cuts=$((cuts + 1))
+        head -c "$bytes" examples/first.eco > "$work/cut"
+        status=0
+        "$program" $counted "$work/cut" > "$work/said" 2> "$work/message" || status=$?
+        [ -z "$counted" ] || sed '$d' "$work/said" > "$work/answers"
+        [ -n "$counted" ] || cp "$work/said" "$work/answers"
+        head -n "$(wc -l < "$work/answers")" "$work/expected" > "$work/front"
+        case $status in
+            0) [ ! -s "$work/message" ] && cmp -s "$work/front" "$work/answers" ;;
+            1) grep -q '^ecow-run: line [1-9]' "$work/message" && [ ! -s "$work/said" ] ;;
+            *) false ;;
+        esac || {
+            wrong=$((wrong + 1))
+            echo "the first example, cut after $bytes bytes ($counted): status $status"
+        }
+    done
+done
+echo "$cases golden scripts, $cuts cut ones, $wrong answered otherwise than expected"
+[ "$cases" -ge 85 ] && [ "$cuts" -ge 500 ] && [ "$wrong" -eq 0 ]

@@ -20,7 +20,7 @@ use Rattle.ecow_model.specs.declared.vecs.VecCommand.TheVariants.{New, Push}
 use Rattle.ecow_model.specs.declared.command.Outcome.{Outcome}
 use Rattle.ecow_model.specs.declared.command.Outcome.TheVariants.{Done, Refused}
 use Rattle.ecow_model.specs.declared.command.Refusal.{Refusal}
-use Rattle.ecow_model.specs.declared.command.Refusal.TheVariants.{Taken}
+use Rattle.ecow_model.specs.declared.command.Refusal.TheVariants.{NoName, Taken}
 use Rattle.ecow_counted.proofs.Bounds.{bound, same_answer, step_paid}
 use Rattle.ecow_counted.proofs.Lengths.{is_answer}
 use Rattle.ecow_counted.proofs.Settled.{get-settle}
@@ -231,6 +231,14 @@ is_taken {T} old name outcome new h there =
 abbrev pub refusal_in : {T : Type 0} → Outcome T → Option Refusal
 refusal_in (Refused refusal) = Some refusal
 refusal_in _ = None
+
+-- a push to a name that isn't there is refused for that
+pub lacks_the_name : {T : Type 0} (old : Names T) (name : ℕ) (value : T) (refusal : Refusal) (new : Names T)
+    → CountedVerdict old (Push name value) (Refused refusal) new → finite.get old name ≡ None → Some refusal ≡ Some NoName
+lacks_the_name {T} old name value refusal new h missing =
+    let given : counted_carry_out old (Edit name (Append value)) ≡ Err NoName = rw missing refl in
+    ap (λ (o : Outcome T). refusal_in o)
+    (subst (λ g. IsVerdict {A = Outcome T × Names T} g (counted_is_free old (Edit name (Append value))) (Refused refusal)) given h.0)
 
 pub not_refused_by : {T : Type 0} (outcome : Outcome T) → ((refusal : Refusal) → outcome ≡ Refused refusal → ⊥) → OnRefused outcome ⊥
 not_refused_by (Refused refusal) h = h refusal refl

@@ -8,6 +8,8 @@ mod callers;
 #[cfg(test)]
 mod calls;
 #[cfg(test)]
+mod comparisons;
+#[cfg(test)]
 mod names;
 #[cfg(test)]
 mod paths;

@@ -1,15 +1,16 @@
-use Rattle.std.proofs.Common.{◌≡◌, ◌+◌, ◌*◌, ◌≤◌, length, drop, take, [], ◌∷◌, ◌++◌, refl, sym, ◌∙◌, ap, subst, arith, inl, inr, length-drop}
+use Rattle.std.proofs.Common.{◌≡◌, ◌+◌, ◌*◌, ◌≤◌, None, Some, length, drop, take, [], ◌∷◌, ◌++◌, refl, sym, ◌∙◌, ap, subst, arith, inl, inr, length-drop}
 use Rattle.std.specs.Vec.Iter.{into_iter_items}
 use Rattle.std.proofs.lemmas.List.{nil_from_length, take_all}
 use Rattle.ecow_base.specs.Clones.{ClonesAreEqual}
 use Rattle.ecow_model.specs.Refusing.{OnRefused}
 use Rattle.ecow_model.specs.declared.command.Outcome.{Outcome}
 use Rattle.ecow_model.specs.declared.command.Outcome.TheVariants.{Refused}
-use Rattle.ecow_model.specs.declared.command.Refusal.TheVariants.{Taken}
+use Rattle.std.specs.FinMap as finite
+use Rattle.ecow_model.specs.declared.command.Refusal.TheVariants.{Memory, NoName, Taken}
 use Rattle.ecow_model.specs.declared.vecs.VecCommand.TheVariants.{New, Push}
 use Rattle.ecow_counted.specs.Filling.{IsRunOf, filling, accepted}
 use Rattle.ecow_counted.specs.State.{CountedState}
-use Rattle.ecow_counted.proofs.Filling.{paid, next_of, accepted_more, filling_more, runs_one, runs_more, begins, pushes, moves_at_most, not_refused_by, is_taken, refusal_in}
+use Rattle.ecow_counted.proofs.Filling.{paid, next_of, accepted_more, filling_more, runs_one, runs_more, begins, pushes, moves_at_most, not_refused_by, is_taken, lacks_the_name, refusal_in}
 use Rattle.ecow_counted.proofs.counted.Counted.fill.Goals as goal
 
 pub returns-in-Refused-clause-run : goal.returns-in-Refused-clause-run
@@ -63,6 +64,14 @@ pub returns-in-Refused-step-clause-taken : goal.returns-in-Refused-step-clause-t
 returns-in-Refused-step-clause-taken g c =
     λ there. absurd (c.in_default.not-Refused Taken
     (is_taken c.args.self.now.names c.args.name c.step.result c.step.new.self.names c.step.ensures.verdict there))
+
+pub returns-in-Refused-step-clause-unchanged : goal.returns-in-Refused-step-clause-unchanged
+returns-in-Refused-step-clause-unchanged g c = λ lacking missing.
+    let is = c.in-Refused-step.ensures in
+    let was_missing : finite.get c.loop-value.self.names c.args.name ≡ None =
+    subst (λ (k : CountedState g.row.T.Denot). finite.get k.names c.args.name ≡ None) is.unchanged missing in
+    let other : Some Memory ≡ Some NoName = sym lacking
+    ∙ lacks_the_name c.loop-value.self.names c.args.name c.in-Some.value c.in-Refused-step.refusal c.step-in-Some.new.self.names is.verdict was_missing in cc
 
 pub returns-in-Refused-step-clause-moves : goal.returns-in-Refused-step-clause-moves
 returns-in-Refused-step-clause-moves g c =
