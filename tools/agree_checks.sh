@@ -32,7 +32,7 @@ agree_calls.sh crates/ecow_list/src/vec/edits.rt s/^    pub fn insert/&_one_more
 agree_shipped.sh tools/vendor.sh s/^    vector) tops=.*/    vector) tops=ecow_block ;;/
 agree_shipped.sh tools/copy_crate.sh s/s.$from.$crate.g/&;1d/
 agree_shipped.sh tools/dist.sh s/ c.CPP.md / /
-agree_edits.sh crates/ecow_list/edits/splice_stops_at_the_hint.edit s/^old: /&not there/
+agree_edits.sh crates/ecow_list/must-fail/splice_stops_at_the_hint.edit s/^old: /&not there/
 agree_c.sh c/examples/first.c s/main/other/
 agree_c.sh VERSION s/^/1/
 END

@@ -18,7 +18,8 @@ LEFT_OUT = {
     "ecow_base/laws.rt": "laws alone",
     "ecow_base/items.rt": "what contracts and the stores speak of",
     "ecow_base/plain.rt": "the same",
-    "ecow_nested/value/laws.rt": "laws alone",
+    "ecow_list/laws.rt": "the same",
+    "ecow_nested/value/laws.rt": "the same",
     "ecow_list/macros.rt": "the crate has the original's macros",
     "ecow_string/macros.rt": "the same",
 }
