@@ -31,7 +31,7 @@ for folder in crates/*; do
     echo "$crate $(proved_by_hand "$crate") $blocks"
 done | grep -v ' 0 0$' | sort | compare "docs/PROVED.md (<) and the code (>)"
 
-for kind in vector text nested store tool; do
+for kind in vector text nested store tool all; do
     sed -n "s/^| \`$kind\` | [^|]* | \([0-9]*\) |.*/\1/p" docs/CALLING.md > "$work/said"
     tops=$(sed -n "s/^    $kind) tops=\"*\([a-z_ ]*\)\"* *;;/\1/p" tools/vendor.sh)
     awk -F: -v tops="$tops" -f tools/below.awk crates.txt | grep -c '' | compare "docs/CALLING.md (<) and the code (>)"

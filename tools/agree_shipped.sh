@@ -14,6 +14,7 @@ text base block shared list bytes string ecow
 nested base block shared list bytes string nested ecow
 store base model block shared list bytes string ecow counted store
 tool base model block shared list bytes string ecow counted store script tool
+all base model block shared list bytes string nested ecow counted store script tool
 END
 
 copies=0
@@ -53,7 +54,7 @@ while read -r kind names; do
         copies=$((copies + 1))
     done
 done < "$work/table"
-[ "$copies" -eq 10 ] && [ "$files" -gt 1000 ] || { echo "$copies copies of $files files"; exit 1; }
+[ "$copies" -eq 12 ] && [ "$files" -gt 1000 ] || { echo "$copies copies of $files files"; exit 1; }
 echo "$copies copies have the $files files that they are to have"
 
 command -v python3 > "$work/said" && command -v rustfmt > "$work/said" && tar --version | grep -q GNU || {

@@ -2,9 +2,9 @@
 # Copies crates into another repository, as plain folders below its crates/, with their rows in its
 # crates.txt, so that its gate proves them: tools/vendor.sh FOLDER [KIND [COUNT]]. KIND says what is
 # needed: vector (EcoVec), text (vector, bytes and text), nested (these and nested values), store
-# (text and both stores, with their laws), or tool (with scripts and the program over any reader and
-# writer). COUNT says how owners are counted: plain, for one thread, or
-# atomic. Tests and edits stay here. A folder that isn't there is made.
+# (text and both stores, with their laws), tool (with scripts and the program over any reader and
+# writer), or all of these. COUNT says how owners are counted: plain, for one thread, or atomic. Tests
+# and edits stay here. A folder that isn't there is made.
 #
 # Where crates of an earlier call are there, it updates them, their rows too, and touches nothing
 # else; a crate that has another name now is replaced, and it says so. It refuses to, and changes
@@ -14,7 +14,7 @@ export LC_ALL=C
 to=${1:-}
 kind=${2:-vector}
 count=${3:-plain}
-use="make vendor TO=FOLDER [KIND=vector|text|nested|store|tool] [COUNT=plain|atomic]"
+use="make vendor TO=FOLDER [KIND=vector|text|nested|store|tool|all] [COUNT=plain|atomic]"
 
 refuse() { # WHY..
     printf '%s\n' "$@" >&2
@@ -27,7 +27,8 @@ case $kind in
     nested) tops="ecow ecow_nested" ;;
     store) tops="ecow ecow_store ecow_counted" ;;
     tool) tops="ecow ecow_tool" ;;
-    *) refuse "$use" "KIND is vector, text, nested, store or tool, and not $kind" ;;
+    all) tops="ecow ecow_nested ecow_tool" ;;
+    *) refuse "$use" "KIND is vector, text, nested, store, tool or all, and not $kind" ;;
 esac
 case $count in
     plain | atomic) ;;
@@ -82,7 +83,7 @@ for crate in $(cut -d : -f 1 crates.txt); do
     look_at "$crate"
 done
 [ -z "$beyond" ] || refuse "$to has crates that KIND=$kind doesn't bring up to date:$beyond" \
-    "Name their KIND, or remove their folders and their rows in crates.txt first."
+    "KIND=all does; or remove their folders and their rows in crates.txt first."
 has=$(cat "$to/crates/ecow_shared/COUNT" 2> /dev/null || true)
 if [ -n "$has" ] && [ "$has" != "$count" ]; then
     refuse "$to counts owners by COUNT=$has: name that, or remove $to/crates/ecow_shared first"

@@ -2,7 +2,7 @@
 # Tries `make vendor` on a repository that is new: a second call changes nothing, and the gate there
 # proves what was copied and, above it, the code of README and of docs/CALLING.md:
 # tools/vendor_test.sh [KIND [COUNT]].
-# But for KIND=vector the worked tree is copied out too, and for KIND=store all worked programs. The
+# But for KIND=vector the worked tree is copied out too, and for KIND=all all worked programs. The
 # gate there runs them. With COUNT=atomic the code of docs/uses/threads.md is proved too, for which
 # the repository has the handle Threads.
 set -eu
@@ -78,14 +78,12 @@ if [ "$count" = atomic ]; then
     (cd "$new/crates/forks" && rt fmt > /dev/null)
     echo 'Handles allowed: Threads.' > "$new/HANDLES"
 fi
-if [ "$kind" = store ]; then
+if [ "$kind" = all ]; then
     mkdir "$new/crates/ecow_uses"
     for part in src specs proofs stdout; do
         cp -Rp "crates/ecow_uses/$part" "$new/crates/ecow_uses/$part"
     done
-    # One of them is of nested values.
-    tools/copy_crate.sh ecow_nested "$new/crates/ecow_nested" "$count"
-    grep '^ecow_nested:\|^ecow_uses:' crates.txt >> "$new/crates.txt"
+    grep '^ecow_uses:' crates.txt >> "$new/crates.txt"
 fi
 cd "$new"
 git init -q
