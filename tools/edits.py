@@ -1,7 +1,8 @@
 #!/usr/bin/env python3
 """Tries the edits that the prover must refuse, those of the gate (crates/NAME/must-fail) and those
 beside them (crates/NAME/edits): of the crates that are named, or of all. Works on a copy of the
-repository. Ends with 1 where an edit is not refused, or can't be tried."""
+repository, and takes what `rt ci` proved before. Ends with 1 where an edit is not refused, or can't
+be tried."""
 
 import glob
 import os
@@ -11,7 +12,6 @@ import shutil
 import subprocess
 import sys
 import tempfile
-import time
 
 TOP = os.path.dirname(os.path.dirname(os.path.abspath(__file__)))
 TIERS = ("must-fail", "edits")
@@ -54,34 +54,28 @@ def goal(folder, said):
     return f"{function_at(f'{folder}/{path}', line)} ({path}): {names[0] if names else text}"
 
 
-def tried(copy, crate):
-    """Tries a crate's edits in the copy: the lines to print, how many were refused by a goal, and whether all were refused."""
-    folder = f"{copy}/crates/{crate}"
-    os.makedirs(f"{folder}/must-fail", exist_ok=True)
-    for path in glob.glob(f"{folder}/edits/*.edit"):
-        shutil.move(path, f"{folder}/must-fail")
-    ran = subprocess.run(["rt", "must-fail", crate], cwd=copy, stdout=subprocess.PIPE, stderr=subprocess.STDOUT, text=True, errors="replace")
-    lines, by_goal, well, seen = [], 0, True, 0
-    for line in ran.stdout.split("\n"):
-        found = re.match(r"(?:rt: )?must-fail \w+/(\S+)\.edit: (.*)", line)
-        if not found:
-            continue
-        name, text = found[1], found[2]
-        seen += 1
+def laid_out(copy, crates):
+    """Copies the repository, with all edits of the crates where `rt ci` looks for them, and no others."""
+    shutil.copytree(TOP, copy, symlinks=True, ignore=shutil.ignore_patterns(".git", "bin", "out"))
+    for path in glob.glob(f"{copy}/crates/*/must-fail"):
+        if path.split("/")[-2] not in crates:
+            shutil.rmtree(path)
+    for crate in crates:
+        os.makedirs(f"{copy}/crates/{crate}/must-fail", exist_ok=True)
+        for path in glob.glob(f"{copy}/crates/{crate}/edits/*.edit"):
+            shutil.move(path, f"{copy}/crates/{crate}/must-fail")
+
+
+def answers(folder, said):
+    """What is said of each edit of a crate: whether it was refused by a goal, whether it was refused, and a line to print."""
+    for name, text in re.findall(rf"must-fail {os.path.basename(folder)}/(\S+)\.edit: (.*)", said):
         refused = re.match(r"refused, as it must be:? ?(.*)", text)
-        if refused and not refused[1].startswith("(only because"):
-            by_goal += 1
-            lines.append(f"  {name}: {goal(folder, refused[1])}")
-        elif refused:
-            lines.append(f"  BY NAME {name}: {refused[1]}")
+        if not refused:
+            yield False, False, f"  {name}: {text}" if "NOT REFUSED" in text else f"  BAD EDIT {name}: {text}"
+        elif refused[1].startswith("(only"):
+            yield False, True, f"  BY NAME {name}: {refused[1]}"
         else:
-            well = False
-            lines.append(f"  {name}: {text}" if "NOT REFUSED" in text else f"  BAD EDIT {name}: {text}")
-    wanted = len(glob.glob(f"{folder}/must-fail/*.edit"))
-    if seen != wanted:
-        well = False
-        lines.append(f"  {wanted - seen} of {wanted} edits were not tried: {ran.stdout[-600:]}")
-    return lines, by_goal, well
+            yield True, True, f"  {name}: {goal(folder, refused[1])}"
 
 
 def main(names):
@@ -93,16 +87,18 @@ def main(names):
     all_well = True
     with tempfile.TemporaryDirectory(prefix="edits-") as room:
         copy = f"{room}/repository"
-        shutil.copytree(TOP, copy, symlinks=True)
+        laid_out(copy, crates)
+        ran = subprocess.run(["rt", "ci", *crates], cwd=copy, stdout=subprocess.PIPE, stderr=subprocess.STDOUT, text=True, errors="replace")
         for crate in crates:
-            used, began = resource.getrusage(resource.RUSAGE_CHILDREN), time.time()
-            lines, by_goal, well = tried(copy, crate)
-            after = resource.getrusage(resource.RUSAGE_CHILDREN)
-            seconds = after.ru_utime + after.ru_stime - used.ru_utime - used.ru_stime
+            found = list(answers(f"{copy}/crates/{crate}", ran.stdout))
             count = len(edits_of(TOP, crate))
-            print(f"{crate}: {by_goal} of {count} refused by a goal, {time.time() - began:.0f} s, {seconds:.0f} s of processors")
-            print("\n".join(lines), flush=True)
-            all_well = all_well and well
+            print(f"{crate}: {sum(by_goal for by_goal, _, _ in found)} of {count} refused by a goal")
+            print("\n".join(line for _, _, line in found))
+            if len(found) != count:
+                print(f"  {count - len(found)} were not tried: {ran.stdout[-600:]}")
+            all_well = all_well and len(found) == count and all(refused for _, refused, _ in found)
+    seconds = resource.getrusage(resource.RUSAGE_CHILDREN)
+    print(f"{(seconds.ru_utime + seconds.ru_stime) / 60:.0f} minutes of processors")
     return 0 if all_well else 1
 
 
