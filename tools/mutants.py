@@ -83,7 +83,7 @@ PASSIVE = {
     ".c": re.compile(r"""//.*|/\*[\s\S]*?\*/|"(?:[^"\\\n]|\\.)*"|'(?:[^'\\]|\\.[^']*)'|^\#(?!def).*""", re.M),
 }
 PROVED = re.compile(r"\b(?:requires|ensures|invariant|decreases|ghost|prove!)[^;{()]*([;{(])")
-FUNCTION = re.compile(r"( *)(?:pub(?:\(\w+\))? )?(?:unsafe )?(?:extern \"C\" )?fn ")
+FUNCTION = re.compile(r"( *)(?:pub(?:\(\w+\))? )?(?:unsafe )?(?:extern +)?fn ")
 
 # In LLVM's words: the variable is read once, before the program begins.
 CHOICE = """
