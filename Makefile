@@ -121,7 +121,7 @@ BENCH := crates/ecow_bench/out/ecow_bench
 # `rt ci` leaves these programs built: what calls cost is counted, requests for memory are refused in turn, the program
 # is run on command lines and on large scripts, and calls are timed as values grow.
 test: agree
-	rt ci
+	tools/ci.sh ci.sh .
 	tools/costs.sh $(TRIALS)
 	tools/refuse.sh $(TRIALS)
 	tools/ends.sh $(RUN)
@@ -131,9 +131,11 @@ test: agree
 	tools/threads_gate.sh
 	tools/c_gate.sh
 	tools/rust_gate.sh
+	tools/counts.sh
 
 # `rt ci` runs the program on the first example, of which there is a theorem. The kit takes no linked file.
 agree:
+	@rm -f bin/counts
 	@cmp examples/first.eco crates/ecow_run/data/first.eco
 	@sed -n '/^first_script =/,/^$$/s/^[ +]*codes "\(.*\)\\n"$$/\1/p' crates/ecow_script/specs/FirstExample.antt | cmp - examples/first.eco
 	@tools/agree_statuses.sh

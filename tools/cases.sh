@@ -26,6 +26,7 @@ run_lines() { # SCRIPT
 }
 
 cases=0
+answers=0
 wrong=0
 for script in cases/*.eco examples/*.eco; do
     case $script in
@@ -35,6 +36,7 @@ for script in cases/*.eco examples/*.eco; do
     esac > "$work/answers"
     tr -d '\r' < "$script" | sed -n 's/^#> //p' > "$work/expected"
     cases=$((cases + 1))
+    answers=$((answers + $(wc -l < "$work/expected")))
     diff "$work/expected" "$work/answers" > "$work/apart" || {
         wrong=$((wrong + 1))
         echo "$script expects (<) and is answered (>):"
@@ -42,4 +44,5 @@ for script in cases/*.eco examples/*.eco; do
     }
 done
 echo "$cases golden scripts, $wrong answered otherwise than expected"
-[ "$cases" -ge 85 ] && [ "$wrong" -eq 0 ]
+[ "$wrong" -eq 0 ]
+tools/counts.sh cases.sh "$cases golden scripts" "$answers answers"

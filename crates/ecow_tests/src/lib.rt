@@ -26,3 +26,5 @@ mod streams;
 mod trees;
 #[cfg(test)]
 mod units;
+#[cfg(test)]
+mod watching;
