@@ -30,7 +30,7 @@ help:
 	@echo "  make test                the whole gate: every proof from nothing, must-fail edits, tests, programs, costs,"
 	@echo "                           each request for memory refused in turn, command lines, large scripts, growth,"
 	@echo "                           and the library for C where there is a C compiler; writes the crate for Rust, and tests"
-	@echo "                           it where there is a Rust compiler"
+	@echo "                           it where there is a Rust compiler; compares how much each check has compared"
 	@echo "  make agree               compares documents, examples and edits with the code, and tries what compares on what it must"
 	@echo "                           refuse"
 	@echo "  make contracts           writes every public call with its clauses, and where their words come from, into"

@@ -1,7 +1,7 @@
 #!/bin/sh
-# Runs each tool that compares on what it must not pass: on a copy of what git has, in which one line says something else,
-# and on programs that are wrong in one answer, cost, block or status. One that is wrong in nothing must pass. The last line
-# says how many checks refused theirs.
+# Runs each tool that compares on what it must not pass: on a copy of what git has, in which one line says something
+# else, and on programs that are wrong in one answer, cost, block or status. One that is wrong in nothing must pass. The
+# last line says how many checks refused theirs.
 set -eu
 cd "$(dirname "$0")/.."
 work=$(mktemp -d)
@@ -131,8 +131,9 @@ awk -F ' [|] ' -v OFS=' | ' -v at="$WRONG" 'NR == 2 && at == "row" { next }
     { print }' costs > costs.said
 sed 's/ [^ ]* |$//' costs.said
 sed 's/.* \([^ ]*\) |$/\1/' costs.said >&2
-[ "$LEFT$WRONG" != 1left ] || echo "blocks left: 1" >&2
-[ "$LEFT$WRONG" = 1left ] || echo "blocks left: 0" >&2
+blocks=0
+[ "$WRONG" != left ] || blocks=1
+[ -z "${LEFT:-}" ] || echo "blocks left: $blocks" >&2
 [ "$WRONG" != status ]
 END
 sees "1 2 3 4 5 6 7 8 row left status" costs.sh "$work/program"
@@ -147,13 +148,17 @@ sees "answer keeps status" refuse.sh "$work/fake"
 
 # Golden scripts: each command is answered by its word.
 rm "$work"/copy/cases/*.eco "$work"/copy/examples/*.eco
-for script in examples/plain cases/lines; do printf '%s\n' one '#> did one' two '#> did two' > "$work/copy/$script.eco"; done
+for script in examples/plain cases/lines; do
+    printf '%s\n' one '#> did one' two '#> did two' > "$work/copy/$script.eco"
+done
 printf '%s\n' one '#> counted' '#> did one' > "$work/copy/cases/counted.eco"
 program << 'END'
 #!/bin/sh
 case $1$WRONG in --countedflag) ;; --counted*) echo counted ;; esac
 for script; do :; done
-awk -v wrong="$WRONG" '/^[a-z]/ { print "did " ($1 == wrong || wrong == "alone" && FILENAME ~ /line$/ ? "none" : $1) }' "$script"
+awk -v wrong="$WRONG" '/^[a-z]/ {
+    print "did " ($1 == wrong || wrong == "alone" && FILENAME ~ /line$/ ? "none" : $1)
+}' "$script"
 [ "$WRONG" != message ] || echo wrong >&2
 [ "$WRONG" != status ] || exit 4
 END
@@ -218,9 +223,28 @@ END
 chmod +x "$work/ends/program"
 sees "out message status" ends.sh "$work/ends/program"
 
+# The kit's gate.
+mkdir "$work/kit" "$work/tools"
+cat > "$work/kit/rt" << 'END'
+#!/bin/sh
+[ "$WRONG" = test ] || echo "test first ... ok"
+echo "test second ... ok"
+[ "$WRONG" = run ] || echo "rt: ecow_run ran, and wrote what its file stdout has"
+[ "$WRONG" = edit ] || echo "3 passed, 0 failed"
+[ "$WRONG" != edit ] || echo "2 passed, 0 failed"
+[ "$WRONG" != status ]
+END
+chmod +x "$work/kit/rt"
+counts ci.sh "3 crates and edits" "2 tests" "1 runs of programs"
+kept=$PATH
+PATH=$work/kit:$PATH
+sees "test run edit status" ci.sh ci.sh .
+PATH=$kept
+
 # The libraries for C, Python and Rust: compilers and what they make are stood for by tools/fake.sh.
-mkdir "$work/tools"
-for name in cc make nm pkg-config cmake valgrind python mypy cargo rustc rustfmt; do cp tools/fake.sh "$work/tools/$name"; done
+for name in cc make nm pkg-config cmake valgrind python mypy cargo rustc rustfmt; do
+    cp tools/fake.sh "$work/tools/$name"
+done
 VERSION=$(cat VERSION) PATH=$work/tools:$PATH CC=cc CXX=none
 export VERSION PATH CC CXX
 mkdir -p "$work/copy/bin"
