@@ -73,28 +73,7 @@ while read -r tool file WRONG; do
     refuses "$tool"
     cp -p "$work/kept" "$work/copy/$file"
 done < "$work/table"
-
-# A program that says nothing, one that repeats its file, one that always says the same, one that pretends to have asked
-# for memory once, and one whose time grows by its rounds alone.
 WRONG=
-printf '#!/bin/sh\n' > "$work/silent"
-printf '#!/bin/sh\ncat "$1"\n' > "$work/repeats"
-printf '#!/bin/sh\necho a part\n' > "$work/constant"
-cat > "$work/pretends" << 'END'
-#!/bin/sh
-if [ -n "${LD_PRELOAD:-}" ]; then export LD_PRELOAD=; exec "$0" "$@"; fi
-echo a part
-[ -z "${REFUSE_EACH:-}" ] || printf '%s\n' 'request 1: status 1' 'a part'
-[ -z "${COUNT:-}${TOTAL:-}" ] || echo 1 >&2
-END
-printf '#!/bin/sh\nexec awk -v rounds="$4" "BEGIN { while (i < rounds) i++; print 1 }"\n' > "$work/flat"
-chmod +x "$work/silent" "$work/repeats" "$work/constant" "$work/pretends" "$work/flat"
-for tool in costs.sh refuse.sh ends.sh cases.sh large.sh growth.sh; do
-    for program in silent repeats constant; do refuses "$tool" "$work/$program"; done
-done
-refuses costs.sh "$work/pretends"
-refuses refuse.sh "$work/pretends"
-refuses growth.sh "$work/flat"
 
 # A program that asks for less than is to be refused.
 tools/shim.sh "$work/shim.so"
