@@ -152,7 +152,7 @@ for script; do :; done
 wanted=${script%/*}/wanted
 case $WRONG$(head -n 1 "$script" | cut -c 1-27) in
     'answertext from_str t "xxx'*) sed '$s/^/1/' "$wanted" ;;
-    'statustext from_str t "xxx'*) cat "$wanted"; exit 1 ;;
+    'statustext from_str t "abc'*) cat "$wanted"; exit 1 ;;
     'memoryvec from_elem a 5 4194'*)
         awk 'BEGIN { held = "x"; while (length(held) < 50000000) held = held held }' || exit 1
         cat "$wanted" ;;
