@@ -2,7 +2,9 @@
 # Stands for programs that this machine may lack, under whose names tools/agree_checks.sh copies it, and does what the
 # tests of the libraries want of each, but for the fault in WRONG. As a compiler it makes a copy of itself.
 set -eu
-is() { case " $* " in *" ${WRONG:-none} "*) ;; *) return 1 ;; esac; }
+is() { [ "$WRONG" = "$1" ]; }
+pick() { if is "$1"; then echo "$2"; else echo "${3:-}"; fi; } # FAULT WRONG RIGHT
+left() { [ -z "${LEFT:-}" ] || echo "blocks left: $1" >&2; }
 for last; do :; done
 
 case ${0##*/}${1:+ $*} in
@@ -22,20 +24,20 @@ case ${0##*/}${1:+ $*} in
         library=$(cat "${0%/*}"/prefix/lib/libecow.so.1 2>&1) || { is removed; exit; }
         [ "$library" = right ] || { echo ecow_library_counts_owners_plain >&2; is other; exit; }
         cat c/examples/first.out ;;
-    first-static) if is first; then echo 1; else cat c/examples/first.out; fi ;;
+    first-static) pick first 1 "$(cat c/examples/first.out)" ;;
     costs)
-        sed "s/ [0-9]*$//; $(if is cost; then echo 5s/^/1/; fi)" c/tests/costs.out
-        sed "s/.* //; $(if is requests; then echo 5s/^/1/; fi)" c/tests/costs.out >&2
-        echo "blocks left: 0" >&2 ;;
+        sed "s/ [0-9]*$//; $(pick cost 5s/^/1/)" c/tests/costs.out
+        sed "s/.* //; $(pick requests 5s/^/1/)" c/tests/costs.out >&2
+        left 0 ;;
     "edits 400")
         for number in 1 2; do
-            echo "blocks left: $(if is refused-left; then echo 1; else echo 0; fi)" >&2
-            echo "request $number: status $(if is refused-status; then echo 1; else echo 0; fi)"
+            left "$(pick refused-left 1 0)"
+            echo "request $number: status $(pick refused-status 1 0)"
         done
-        echo "$(if is total; then echo 3; else echo 2; fi)" >&2
-        echo "blocks left: 0" >&2 ;;
+        pick total 3 2 >&2
+        left 0 ;;
     calls | arrays | layout | edits* | threads*)
-        [ -z "${LEFT:-}" ] || echo "blocks left: $(if is left; then echo 1; else echo 0; fi)" >&2
+        left "$(pick left 1 0)"
         ! is status ;;
 
     python*get_path*) echo "${0%/*}" ;;
@@ -45,24 +47,21 @@ case ${0##*/}${1:+ $*} in
     python*' wheel '*)
         while [ "$1" != -w ]; do shift; done
         mkdir "$2"
-        if is wheel; then echo "$2"; fi > "$2/ecow.whl" ;;
+        pick wheel "$2" 1 > "$2/ecow.whl" ;;
     python*build_sdist*) : > "$last/ecow-1.tar.gz" ;;
-    python*importlib*) if is version; then echo 0; else echo "$VERSION"; fi ;;
+    python*importlib*) pick version 0 "$VERSION" ;;
     python*zipfile*)
-        echo names
-        for file in ecow/_core.abi3.so "ecow-$VERSION.dist-info"/METADATA "ecow-$VERSION.dist-info"/RECORD \
-            "ecow-$VERSION.dist-info"/WHEEL; do echo "$file"; done
-        git ls-files python/ecow | sed "s|^python/||$(if is file; then echo '; 1s/^/1/'; fi)" ;;
-    python*unittest) echo "Ran $(if is tests; then echo 4; else echo 5; fi) tests in 1s" ;;
-    python*versions.py) if is example; then echo 1; else cat python/examples/versions.out; fi ;;
+        printf '%s\n' names ecow/_core.abi3.so
+        for file in METADATA RECORD WHEEL; do echo "ecow-$VERSION.dist-info/$file"; done
+        git ls-files python/ecow | sed "s|^python/||; $(pick file 1s/^/1/)" ;;
+    python*unittest) echo "Ran $(pick tests 4 5) tests in 1s" ;;
+    python*versions.py) pick example 1 "$(cat python/examples/versions.out)" ;;
 
     cargo*clippy*) ! is warning || [ $# -eq 2 ] || echo warning >&2 ;;
     cargo*test*)
         if is left-out; then rm tests/b*.rs; fi
-        for file in tests/*.rs; do
-            echo "test result: ok. $(if is empty; then echo 0; else echo 3; fi) passed; 0 failed"
-        done
+        for file in tests/*.rs; do echo "test result: ok. $(pick empty 0 3) passed; 0 failed"; done
         ! is status ;;
-    cargo*example*) if is example; then echo "said by none"; else head -n 1 README.md; fi ;;
+    cargo*example*) pick example "said by none" "$(head -n 1 README.md)" ;;
     rustc*) echo rustc 1.100 ;;
 esac
