@@ -31,7 +31,7 @@ help:
 	@echo "  make test                the whole gate: every proof from nothing, must-fail edits, tests, programs, costs,"
 	@echo "                           each request for memory refused in turn, command lines, large scripts, growth,"
 	@echo "                           and the library for C where there is a C compiler; writes the crate for Rust, and tests"
-	@echo "                           it where there is a Rust compiler"
+	@echo "                           it where there is a Rust compiler; compares how much each check has compared"
 	@echo "  make agree               compares documents, examples and edits with the code, and tries what compares on what it must"
 	@echo "                           refuse"
 	@echo "  make contracts           writes every public call with its clauses, and where their words come from, into"
@@ -122,7 +122,7 @@ BENCH := crates/ecow_bench/out/ecow_bench
 # `rt ci` leaves these programs built: what calls cost is counted, requests for memory are refused in turn, the program
 # is run on command lines and on large scripts, and calls are timed as values grow.
 test: agree
-	rt ci
+	tools/ci.sh ci.sh .
 	tools/costs.sh $(TRIALS)
 	tools/refuse.sh $(TRIALS)
 	tools/ends.sh $(RUN)
@@ -132,9 +132,11 @@ test: agree
 	tools/threads_gate.sh
 	tools/c_gate.sh
 	tools/rust_gate.sh
+	tools/counts.sh
 
 # `rt ci` runs the program on the first example, of which there is a theorem. The kit takes no linked file.
 agree:
+	@rm -f bin/counts
 	@cmp examples/first.eco crates/ecow_run/data/first.eco
 	@sed -n '/^first_script =/,/^$$/s/^[ +]*codes "\(.*\)\\n"$$/\1/p' crates/ecow_script/specs/FirstExample.antt | cmp - examples/first.eco
 	@tools/agree_statuses.sh

@@ -24,7 +24,10 @@ version=$(cat VERSION)
 numbers=$(sed -n 's/^#define ECOW_VERSION_[MP][A-Z]* //p' include/ecow.h | paste -s -d . -)
 quoted=$(sed -n 's/^#define ECOW_VERSION "\(.*\)"$/\1/p' include/ecow.h)
 crate=$(sed -n 's/^version = "\(.*\)"$/\1/p' rust/Cargo.toml)
+versions=0
 for said in "include/ecow.h: $numbers" "include/ecow.h: $quoted" "rust/Cargo.toml: $crate"; do
     [ "${said#*: }" = "$version" ] || { echo "VERSION is $version, and that of $said"; exit 1; }
+    versions=$((versions + 1))
 done
 echo "$quoted_files programs stand in their pages, of version $version"
+tools/counts.sh agree_c.sh "$quoted_files programs" "$versions versions"

@@ -14,3 +14,4 @@ names=$(sed -n 's/.*"\([^"]*\)".*/\1/p' crates/ecow_calls/src/tables.rt | grep -
 missing=$(echo "$calls" | while read -r call; do echo "$names" | grep -qx "$call" || echo "$call"; done)
 [ -z "$missing" ] || { echo "no row in the tables of calls: $missing"; exit 1; }
 echo "$(echo "$calls" | wc -l) calls have their rows"
+tools/counts.sh agree_calls.sh "$(echo "$calls" | wc -l) calls"

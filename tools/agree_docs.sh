@@ -63,5 +63,5 @@ promised() { # CRATE
 
 promised ecow_shared | sed 's/ecow_shared/ecow_atomic/g' > "$work/said"
 promised ecow_atomic | compare "ecow_shared (<) and ecow_atomic (>)"
-[ "$pages" -gt 0 ]
 echo "$(wc -l < "$work/compared") lines and $pages pages say what the code has"
+tools/counts.sh agree_docs.sh "$(wc -l < "$work/compared") lines" "$pages pages"

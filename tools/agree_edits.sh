@@ -5,7 +5,7 @@ set -eu
 cd "$(dirname "$0")/.."
 export LC_ALL=C
 
-awk '
+edits=$(awk '
 /^file: / {
     split(FILENAME, part, "/")
     file = part[1] "/" part[2] "/" substr($0, 7)
@@ -24,6 +24,8 @@ FNR == 1 { edits++ }
 }
 /^new: / { text = substr(text, 1, at - 1) substr($0, 6) substr(text, at + length(old)) }
 END {
-    print edits + 0 " edits fit their files"
-    exit apart || !edits
-}' crates/*/must-fail/*.edit crates/*/edits/*.edit
+    if (!apart) print edits + 0
+    exit apart
+}' crates/*/must-fail/*.edit crates/*/edits/*.edit) || { echo "$edits"; exit 1; }
+echo "$edits edits fit their files"
+tools/counts.sh agree_edits.sh "$edits edits"

@@ -54,11 +54,12 @@ while read -r kind names; do
         copies=$((copies + 1))
     done
 done < "$work/table"
-[ "$copies" -eq 12 ] && [ "$files" -gt 1000 ] || { echo "$copies copies of $files files"; exit 1; }
 echo "$copies copies have the $files files that they are to have"
+tools/counts.sh agree_shipped.sh "$copies copies" "$files files"
 
 command -v python3 > "$work/said" && command -v rustfmt > "$work/said" && tar --version | grep -q GNU || {
     echo "the archives were not compared: this machine has no python3, rustfmt or GNU tar"
+    tools/counts.sh dist.sh skipped
     exit 0
 }
 mkdir -p "$work/here/bin"
@@ -84,7 +85,9 @@ rust/LICENSE-APACHE
 rust/LICENSE-MIT
 END
 } | sort > "$work/wanted"
+archives=0
 for count in atomic plain; do
+    archives=$((archives + 1))
     echo "($count count)" > "$work/here/bin/ecow.pc"
     archive=$(cd "$work/here" && tools/dist.sh "$count")
     # What is proved has a gate of its own, which compiles it.
@@ -94,4 +97,5 @@ for count in atomic plain; do
         exit 1
     }
 done
-echo "two archives have their $(grep -c '' "$work/wanted") files"
+echo "$archives archives have their $(grep -c '' "$work/packed") files"
+tools/counts.sh dist.sh "$archives archives" "$(grep -c '' "$work/packed") files"

@@ -34,3 +34,4 @@ constants "$work/ecow.h" statuses ' *ECOW_' ''
 cases include/ecow.hpp
 cases c/ecow.c
 echo "$(grep -c '' "$work/compared") files have the $(grep -c '' "$work/statuses") statuses"
+tools/counts.sh agree_statuses.sh "$(grep -c '' "$work/compared") files" "$(grep -c '' "$work/statuses") statuses"

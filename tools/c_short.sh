@@ -11,41 +11,44 @@ export LC_ALL=C
 # Those of Python run beside the others.
 ECOW_EDITS=100 tools/python.sh > "$out/python" 2>&1 &
 python=$!
-with= without=
+with= without= runs=0 requests=0 returned=0
 
 # Whether a program is there: has NAME COMMAND.., which is tried.
 has() {
     name=$1
     shift
-    if "$@" > /dev/null 2>&1; then with="$with, $name"; else without="$without, $name"; return 1; fi
+    if "$@" > /dev/null 2>&1; then with="$with, $name"; return; fi
+    without="$without, $name"
+    tools/counts.sh "$name" skipped
+    return 1
 }
 
-# Runs a test that says nothing on standard error.
-silent() {
-    status=0
+# Runs a test that says on standard error what a file has.
+says() { # FILE COMMAND..
+    wanted=$1 status=0
+    shift
     "$@" 2> "$out/said" || status=$?
-    cat "$out/said" >&2
-    [ "$status" -eq 0 ] && [ ! -s "$out/said" ]
+    [ "$status" -eq 0 ] && cmp "$wanted" "$out/said" || { cat "$out/said"; echo "$*: status $status"; exit 1; }
+    runs=$((runs + 1))
 }
 
 # The library that counts requests or refuses them, and says at the end what wasn't given back.
 tools/shim.sh "$out/shim.so"
 watched="env LEFT=1 LD_PRELOAD=$out/shim.so"
+echo "blocks left: 0" > "$out/none-left"
 
 for test in calls arrays layout edits costs threads; do
     $cc -std=c11 -O2 -pthread -Iinclude "c/tests/$test.c" bin/libecow.a -o "$out/$test"
 done
-silent $watched "$out/calls"
-silent $watched "$out/arrays"
-silent $watched "$out/layout"
-silent $watched "$out/edits" 100000
+for test in calls arrays layout "edits 100000"; do says "$out/none-left" $watched "$out"/$test; done
 # A thread's end leaves blocks of the C library's.
-silent "$out/threads" 500000
-silent "$out/threads" 200000 handover
+says /dev/null "$out/threads" 500000
+says /dev/null "$out/threads" 200000 handover
 
 # What calls ask for.
 $watched COUNT=1 "$out/costs" > "$out/rows" 2> "$out/counts" || { cat "$out/counts"; exit 1; }
-paste -d ' ' "$out/rows" "$out/counts" | diff c/tests/costs.out - || {
+paste -d ' ' "$out/rows" "$out/counts" > "$out/counted"
+echo " blocks left: 0" | cat c/tests/costs.out - | diff - "$out/counted" || {
     echo "c/tests/costs.out (<) and what was counted (>) differ"
     exit 1
 }
@@ -58,15 +61,19 @@ refuse_each() { # PROGRAM EDITS SETTING.., of the library that refuses
         echo "$run ends with another status than 0"
         exit 1
     }
-    total=$(cat "$out/total")
+    total=$(grep -vxf "$out/none-left" "$out/total")
     if grep -a '^request .* status [^0]' "$out/tried"; then exit 1; fi
     [ "$total" -gt 0 ] && [ "$(grep -ac '^request .* status 0$' "$out/tried")" -eq "$total" ] || {
         echo "$run: $total requests, as it says"
         exit 1
     }
     echo "refused in turn: $total requests"
+    requests=$((requests + total))
+    returned=$((returned + $(grep -cxf "$out/none-left" "$out/total" || true)))
 }
 refuse_each edits 400 LEFT=1
+tools/counts.sh c_short.sh "$runs runs" "$(wc -l < "$out/counted") costs" "$(wc -w < "$out/counted") words of costs" \
+    "$requests requests refused" "$returned processes that gave all back"
 
 # The count of the library, and the other one, which comes second in the header.
 needed=1 count=ATOMIC other=PLAIN
@@ -85,6 +92,7 @@ if has nm nm --version; then
         echo "include/ecow.h (<) and bin/libecow.so (>) have other names"
         exit 1
     }
+    tools/counts.sh nm "$(wc -l < "$out/declared") names"
 fi
 
 # What is installed compiles and runs the first program, with the shared library and with the other one.
@@ -95,6 +103,7 @@ for header in ecow.h ecow.hpp; do cmp "include/$header" "$prefix/include/$header
 grep -qx "Version: $(cat VERSION)" "$described" || { echo "ecow.pc has another version"; exit 1; }
 if has pkg-config pkg-config --version; then
     flags=$(PKG_CONFIG_PATH=${described%/*} pkg-config --cflags --libs ecow)
+    tools/counts.sh pkg-config "$(echo $flags | wc -w) flags"
 else
     eval "$(grep '^[a-z]*=' "$described")"
     eval "flags=\"$(sed -n 's/^Cflags: //p; s/^Libs: //p' "$described" | tr '\n' ' ')\""
@@ -108,7 +117,13 @@ fi
 grep -q "undefined.*ecow_library_counts_owners_" "$out/said" || { cat "$out/said"; exit 1; }
 $cc "$out/first.c" $flags -Wl,-rpath,"$prefix/lib" -o "$out/first-shared"
 $cc "$out/first.c" -I"$prefix/include" "$prefix/lib/libecow.a" -o "$out/first-static"
-for program in first-shared first-static; do "$out/$program" | cmp - c/examples/first.out; done
+firsts=0
+first() { # PROGRAM
+    "$1" | cmp - c/examples/first.out
+    firsts=$((firsts + 1))
+}
+for program in first-shared first-static; do first "$out/$program"; done
+tools/counts.sh first "$firsts programs"
 if has CMake cmake --version; then
     mkdir "$out/project"
     cp c/examples/first.c "$out/project"
@@ -123,7 +138,9 @@ endforeach()
 EOF
     cmake -S "$out/project" -B "$out/built" -DCMAKE_PREFIX_PATH="$prefix" -DCMAKE_C_COMPILER="${cc%% *}" > "$out/said" 2>&1 \
         && cmake --build "$out/built" >> "$out/said" 2>&1 || { cat "$out/said"; exit 1; }
-    for kind in ecow static; do "$out/built/first-$kind" | cmp - c/examples/first.out; done
+    firsts=0
+    for kind in ecow static; do first "$out/built/first-$kind"; done
+    tools/counts.sh CMake "$firsts programs"
 fi
 shared=$(echo "$prefix"/lib/libecow.so.*)
 $cc -std=c11 -fPIC -DECOW_COUNT_$other -Iinclude -c c/ecow.c -o "$out/other.o"
@@ -138,14 +155,7 @@ if "$out/first-shared" > /dev/null 2>&1; then
     exit 1
 fi
 
-# Runs a program of C++ that gives all back but what the runtime took to print a line.
-leaves_nothing() {
-    status=0
-    $watched "$@" 2> "$out/said" || status=$?
-    [ "$status" -eq 0 ] && cmp "$out/said" "$out/runtime" || { cat "$out/said"; return 1; }
-}
-
-# Tests the header for C++ by one standard.
+# Tests the header for C++ by one standard. Its programs give all back but what the runtime took to print a line.
 test_cpp() { # STANDARD
     printf '#include <cstdio>\nint main() { std::puts("a line"); }\n' > "$out/empty.cpp"
     $cxx -std=c++$1 "$out/empty.cpp" -o "$out/empty-cpp"
@@ -153,11 +163,9 @@ test_cpp() { # STANDARD
     for test in test attempts nested edits threads; do
         $cxx -std=c++$1 -O1 -pthread -Iinclude "c/tests/$test.cpp" bin/libecow.a -o "$out/$test-cpp"
     done
-    leaves_nothing "$out/test-cpp"
-    leaves_nothing "$out/attempts-cpp"
-    leaves_nothing "$out/nested-cpp"
-    leaves_nothing "$out/edits-cpp" 20000
-    silent "$out/threads-cpp" 20000
+    runs=0
+    for test in test-cpp attempts-cpp nested-cpp "edits-cpp 20000"; do says "$out/runtime" $watched "$out"/$test; done
+    says /dev/null "$out/threads-cpp" 20000
 }
 
 # A line of C++ isn't compiled, for one reason, which is told in words.
@@ -189,18 +197,26 @@ if has C++17 $cxx -std=c++17 -fsyntax-only -include string_view -x c++ /dev/null
     refused -std=c++17 'no matching ' 'ecow::bytes f(const std::vector<int> &v) { return ecow::bytes(v); }'
     echo "c++: $told lines refused with words that say why"
     test_cpp 17
+    requests=0
     refuse_each test-cpp 0
     refuse_each nested-cpp 0
     refuse_each edits-cpp 200
-    if has C++20 $cxx -std=c++20 -fsyntax-only -include compare -x c++ /dev/null; then test_cpp 20; fi
+    tools/counts.sh C++17 "$told lines refused" "$runs runs" "$requests requests refused"
+fi
+if has C++20 $cxx -std=c++20 -fsyntax-only -include compare -x c++ /dev/null; then
+    test_cpp 20
+    tools/counts.sh C++20 "$runs runs"
 fi
 wait "$python" || { cat "$out/python"; exit 1; }
 cat "$out/python"
 if grep -q '^python:' "$out/python"; then with="$with, Python"; else without="$without, Python"; fi
 if has valgrind valgrind --version; then
+    runs=0
     for run in calls arrays layout "edits 500" "threads 400" "threads 400 handover"; do
         valgrind -q --leak-check=full --error-exitcode=1 "$out"/$run > /dev/null
+        runs=$((runs + 1))
     done
     tools/helgrind.sh 400
+    tools/counts.sh valgrind "$runs runs"
 fi
 echo "the library for C was tested with $cc$with${without:+; not here: ${without#, }}"

@@ -27,6 +27,7 @@ run_lines() { # SCRIPT
 }
 
 cases=0
+answers=0
 wrong=0
 for script in cases/*.eco examples/*.eco; do
     case $script in
@@ -36,6 +37,7 @@ for script in cases/*.eco examples/*.eco; do
     esac > "$work/answers"
     tr -d '\r' < "$script" | sed -n 's/^#> //p' > "$work/expected"
     cases=$((cases + 1))
+    answers=$((answers + $(wc -l < "$work/expected")))
     diff "$work/expected" "$work/answers" > "$work/apart" || {
         wrong=$((wrong + 1))
         echo "$script expects (<) and is answered (>):"
@@ -67,4 +69,5 @@ for counted in '' --counted; do
     done
 done
 echo "$cases golden scripts, $cuts cut ones, $wrong answered otherwise than expected"
-[ "$cases" -ge 85 ] && [ "$cuts" -ge 500 ] && [ "$wrong" -eq 0 ]
+[ "$wrong" -eq 0 ]
+tools/counts.sh cases.sh "$cases golden scripts" "$answers answers" "$cuts cut scripts"

