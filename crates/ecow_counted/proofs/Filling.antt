@@ -237,8 +237,9 @@ pub lacks_the_name : {T : Type 0} (old : Names T) (name : ℕ) (value : T) (refu
     → CountedVerdict old (Push name value) (Refused refusal) new → finite.get old name ≡ None → Some refusal ≡ Some NoName
 lacks_the_name {T} old name value refusal new h missing =
     let given : counted_carry_out old (Edit name (Append value)) ≡ Err NoName = rw missing refl in
-    ap (λ (o : Outcome T). refusal_in o)
-    (subst (λ g. IsVerdict {A = Outcome T × Names T} g (counted_is_free old (Edit name (Append value))) (Refused refusal)) given h.0)
+    let same : ◌≡◌ {A = Outcome T} (Refused refusal) (Refused NoName) =
+    subst (λ g. IsVerdict {T = T} {A = Outcome T × Names T} g (counted_is_free old (Edit name (Append value))) (Refused refusal)) given h.0 in
+    ap (λ (o : Outcome T). refusal_in o) same
 
 pub not_refused_by : {T : Type 0} (outcome : Outcome T) → ((refusal : Refusal) → outcome ≡ Refused refusal → ⊥) → OnRefused outcome ⊥
 not_refused_by (Refused refusal) h = h refusal refl
