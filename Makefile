@@ -127,6 +127,7 @@ test: agree
 	tools/refuse.sh $(TRIALS)
 	tools/ends.sh $(RUN)
 	tools/cases.sh $(RUN)
+	tools/refuse_scripts.sh $(RUN)
 	tools/large.sh $(RUN)
 	tools/growth.sh $(BENCH)
 	tools/threads_gate.sh

@@ -119,7 +119,7 @@ sees "1 2 3 4 5 6 7 8 row left status" costs.sh "$work/program"
 
 # Refusals: each taken well, but for one.
 kit=$(dirname "$(rt doc | head -n 1)")
-"$kit/toolchain/bin/clang" -O1 -fPIC -nostdinc -c tools/fake.c -o "$work/fake.o"
+"$kit/toolchain/bin/clang" -O1 -fno-builtin -fPIC -nostdinc -c tools/fake.c -o "$work/fake.o"
 "$kit/bin/rattle-link" --target x86_64-unknown-linux-gnu --toolchain "$kit/toolchain" -o "$work/fake" "$work/fake.o" \
     2> "$work/none"
 counts refuse.sh "2 parts" "6 requests refused, of status 0" "8 processes that gave all back"
@@ -147,6 +147,11 @@ case $1$WRONG in --countedflag) ;; --counted*) echo counted ;; esac
 END
 counts cases.sh "3 golden scripts" "6 answers" "60 cut scripts"
 sees "two flag alone message status cut" cases.sh "$work/program"
+
+# Scripts of which each request is refused: three for each with a command or two, in either store.
+printf '%s\n' 'state vec vec new x' 'vec pop x' > "$work/copy/tools/states.txt"
+counts refuse_scripts.sh "6 scripts" "40 requests refused" "34 commands refused" "46 processes that gave all back"
+sees "output later keeps status" refuse_scripts.sh "$work/fake"
 
 # Large scripts, which aren't so large here: answered by what is wanted, in time that grows as their bytes.
 sed 's/many = 70000/many = 700/; s/count = 100000/count = 1000/' tools/large.awk > "$work/copy/tools/large.awk"
