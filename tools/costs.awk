@@ -1,8 +1,8 @@
 # Prints a row for each call and each state of the tables of costs: a row of several says the same of each.
 # A cell of several parts, "5; 1000", says another thing of each: of few elements and of 1000, or of the limits
 # that the state names. What vectors cost they cost of each element; a last column has the requests of `()`. What bytes
-# and texts cost of 1000 they cost at each limit. A row without calls is of those in the row above. A table without states
-# has calls that make something of nothing. An empty cell is 0.
+# and texts cost of 1000 they cost at each limit. A row without calls is of those in the row above. A table without
+# states has calls that make something of nothing. An empty cell is 0.
 BEGIN {
     FS = " *[|] *"
     others = split("0 1 3 23 255", other, " ")

@@ -1,6 +1,7 @@
 #!/bin/sh
 # Runs PROGRAM on large scripts, in both stores, and compares what it answers with what tools/large.awk works
-# out by the rules. It must give all memory back. Then sees that a line takes no longer where there are many before it or behind it.
+# out by the rules. It must give all memory back. Then sees that a line takes no longer where there are many before it
+# or behind it.
 # usage: tools/large.sh PROGRAM
 set -eu
 program=$(realpath "$1")
@@ -25,12 +26,12 @@ for part in names owners list sizes random memory line texts prose quoted bytes;
             export LEFT=1 LD_PRELOAD="$work/shim.so"
             exec "$program" $flag "$work/script"
         ) > "$work/answers" 2> "$work/message" || status=$?
+        if grep . "$work/message"; then echo "says so on the large script of $part${flag:+, with $flag}"; exit 1; fi
         if [ "$status" -ne 0 ] || ! cmp "$work/answers" "$work/wanted"; then
             echo "the large script of $part${flag:+, with $flag}: status $status, other answers than by the rules"
             diff "$work/wanted" "$work/answers" | cut -c 1-200 | head -n 10
             exit 1
         fi
-        if grep . "$work/message"; then echo "the large script of $part${flag:+, with $flag}, at its end"; exit 1; fi
         [ -s "$work/wanted" ] || { echo "the large script of $part has no answers"; exit 1; }
         lines=$((lines + $(wc -l < "$work/wanted")))
     done
