@@ -157,6 +157,7 @@ sees "output later keeps status" refuse_scripts.sh "$work/fake"
 sed 's/many = 70000/many = 700/; s/count = 100000/count = 1000/' tools/large.awk > "$work/copy/tools/large.awk"
 program << 'END'
 #!/bin/sh
+if [ -n "${LD_PRELOAD:-}" ]; then LD_PRELOAD='' exec "$0" "$@"; fi
 for script; do :; done
 wanted=${script%/*}/wanted
 case $WRONG$(head -n 1 "$script" | cut -c 1-27) in
@@ -171,9 +172,12 @@ awk -v bytes="$(wc -c < "$script")" -v wrong="$WRONG" 'BEGIN {
     rounds = wrong == "time" ? bytes * bytes / 4000000 : bytes / 4
     while (i < rounds) i++
 }'
+blocks=0
+[ "$WRONG" != left ] || blocks=1
+[ -z "${LEFT:-}" ] || echo "blocks left: $blocks" >&2
 END
-counts large.sh "16 scripts" "33642 answers" "7 times of longer scripts"
-sees "answer status memory time" large.sh "$work/program"
+counts large.sh "18 scripts" "33646 answers" "9 times of longer scripts"
+sees "answer status memory time left" large.sh "$work/program"
 
 # Calls whose time grows as their names say.
 for growth in constant linear quadratic; do echo "| \`$growth\` | u64 | 20 | $growth | 1 | 1 |"; done \

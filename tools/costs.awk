@@ -1,8 +1,13 @@
 # Prints a row for each call and each state of the tables of costs: a row of several says the same of each.
 # A cell of several parts, "5; 1000", says another thing of each: of few elements and of 1000, or of the limits
-# that the state names. What bytes and texts cost of 1000 they cost at each limit. A row without calls is of those
-# in the row above. A table without states has calls that make something of nothing. An empty cell is 0.
-BEGIN { FS = " *[|] *"; others = split("0 1 3 23 255", other, " ") }
+# that the state names. What vectors cost they cost of each element; a last column has the requests of `()`. What bytes
+# and texts cost of 1000 they cost at each limit. A row without calls is of those in the row above. A table without
+# states has calls that make something of nothing. An empty cell is 0.
+BEGIN {
+    FS = " *[|] *"
+    others = split("0 1 3 23 255", other, " ")
+    elements = split("u8,u16,u32,i64,[i64; 3],[i64; 13],()", element, ",")
+}
 
 # Where the clone of a value stands that stands so afterwards, or the source of one that is made.
 function twin(name, state, after) {
@@ -11,18 +16,29 @@ function twin(name, state, after) {
     return state ~ /^shared/ && after != "same" ? "sole" : "same"
 }
 
-function print_rows(state, part,    i, j, cell, value, front, after, back) {
+function print_rows(state, part,    i, j, k, cell, value, front, after, back, asked) {
     for (j = states_at + 1; j <= NF; j++) {
         value = split($j, cell, "; ") < 2 ? $j : cell[part]
         if (value == "") value = 0
-        if (j <= after_at) front = front " | " value
-        else back = back " | " value
         if (j == after_at) after = value
+        if (j <= after_at) front = front " | " value
+        else if (j == after_at + 1) back = " | " value " | "
+        else asked[j - after_at - 1] = value
     }
-    for (i = 1; i <= calls; i++) print "| `" call[i] "` | " state front " | " twin(call[i], state, after) back " |"
+    for (i = 1; i <= calls; i++) {
+        value = " | " twin(call[i], state, after) back
+        print "| `" call[i] "` | " state front value asked[1] " |"
+        # Arrays are of no other elements, and bytes alone are written or compared.
+        if (is_vectors && call[i] !~ /array|write|==/)
+            for (k = 1; k <= elements; k++)
+                print "| `" call[i] "` | " state ": " element[k] " | " after value asked[1 + (element[k] == "()")] " |"
+    }
 }
 
-/^#/ { is_small = /Bytes|Texts/ }
+/^#/ {
+    is_small = /Bytes|Texts/
+    is_vectors = /^## Vectors/
+}
 
 /^[|]/ { gsub(/^[|] *| *[|]$/, "") }
 

@@ -1,7 +1,7 @@
 # A large script and its answers, worked out by the rules of docs/SCRIPT.md with awk's own arrays and texts:
 # awk -v part=PART -v counted=0|1 -v script=FILE -v answers=FILE [-v many=NUMBER] -f tools/large.awk
-# PART is names, owners, list, sizes, random, memory, line, or texts and prose, which only a store has. NUMBER is that
-# of names, owners, items in a line, or twice that of random commands: 70,000 without it.
+# PART is names, owners, list, sizes, random, memory, line, or texts, prose, quoted and bytes, which only a store has.
+# NUMBER is that of names, owners, items in a line, or twice that of random commands: 70,000 without it.
 
 function says(command, answer) {
     print command > script
@@ -88,6 +88,20 @@ function prose(    whole) {
     says("text from_str t \"" whole "\"", "ok")
     says("text replace t u \"x\" \"yy\" 18446744073709551615", "ok")
     says("text contents u", "\"" times(2 * many, "y") "\"")
+}
+
+# Many escapes likewise.
+function quoted(    whole) {
+    whole = times(many / 4, "\\n\\\"\\\\\\u{7f}")
+    says("text from_str t \"" whole "\"", "ok")
+    says("text contents t", "\"" whole "\"")
+}
+
+# Many bytes likewise.
+function byte_list(    whole) {
+    whole = times(many - 1, "7,") "7"
+    says("bytes from_list b [" whole "]", "ok")
+    says("bytes contents b", "[" whole "]")
 }
 
 # A list of 100,000 numbers: made at once, pushed one by one, changed while it is shared and while it isn't.
@@ -555,6 +569,8 @@ BEGIN {
     else if (part == "sizes") sizes()
     else if (part == "line") line()
     else if (part == "prose") prose()
+    else if (part == "quoted") quoted()
+    else if (part == "bytes") byte_list()
     else if (part == "random") random()
     else if (part == "memory") memory()
     else { print "there is no part " part > "/dev/stderr"; exit 1 }

@@ -1,6 +1,7 @@
 #!/bin/sh
 # Runs PROGRAM on large scripts, in both stores, and compares what it answers with what tools/large.awk works
-# out by the rules. Then sees that a line takes no longer where there are many before it or behind it.
+# out by the rules. It must give all memory back. Then sees that a line takes no longer where there are many before it
+# or behind it.
 # usage: tools/large.sh PROGRAM
 set -eu
 program=$(realpath "$1")
@@ -9,18 +10,28 @@ work=$(mktemp -d)
 trap 'rm -r "$work"' EXIT
 export LC_ALL=C
 
+tools/shim.sh "$work/shim.so"
 scripts=0
 lines=0
-for part in names owners list sizes random memory line texts prose; do
+for part in names owners list sizes random memory line texts prose quoted bytes; do
     for counted in 0 1; do
         flag=
         [ "$counted" -eq 0 ] || flag=--counted
         # Only a store has texts.
-        case $part$counted in texts1 | prose1) continue ;; esac
+        case $part$counted in texts1 | prose1 | quoted1 | bytes1) continue ;; esac
         awk -v part="$part" -v counted="$counted" -v script="$work/script" -v answers="$work/wanted" -f tools/large.awk
         status=0
         # In kilobytes: what memory() needs, and less than half of that beside it.
-        ([ "$part" != memory ] || ulimit -v 48000; exec "$program" $flag "$work/script") > "$work/answers" || status=$?
+        (
+            [ "$part" != memory ] || ulimit -v 48000
+            export LEFT=1 LD_PRELOAD="$work/shim.so"
+            exec "$program" $flag "$work/script"
+        ) > "$work/answers" 2> "$work/message" || status=$?
+        [ "$(cat "$work/message")" = "blocks left: 0" ] || {
+            cat "$work/message"
+            echo "is said on the large script of $part${flag:+, with $flag}, and not blocks left: 0"
+            exit 1
+        }
         if [ "$status" -ne 0 ] || ! cmp "$work/answers" "$work/wanted"; then
             echo "the large script of $part${flag:+, with $flag}: status $status, other answers than by the rules"
             diff "$work/wanted" "$work/answers" | cut -c 1-200 | head -n 10
@@ -46,9 +57,9 @@ spend() { # SCRIPT COUNT
 }
 
 grown=0
-for part in names owners line prose; do
+for part in names owners line prose quoted bytes; do
     for flag in '' --counted; do
-        [ "$part$flag" != prose--counted ] || continue
+        case $part$flag in prose--counted | quoted--counted | bytes--counted) continue ;; esac
         for many in 8000 128000; do
             awk -v part="$part" -v counted=0 -v many=$many -v script="$work/$many" -v answers="$work/wanted" \
                 -f tools/large.awk

@@ -228,7 +228,7 @@ impl<const N: usize> Value for SmallBytes<N> {
         match row.call {
             Call::ToStd => {
                 let copy = self.to_vec()?;
-                if copy.as_slice() != self.as_slice() {
+                if copy.as_slice() != self.as_slice() || copy.capacity() != copy.len() {
                     return Err(EcoError::Capacity);
                 }
                 Ok(None)

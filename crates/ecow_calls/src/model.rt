@@ -48,6 +48,15 @@ fn with_room(needed: usize, room: usize) -> usize {
     }
 }
 
+/// How often a block asks for memory that has so much room, or isn't there, and is to have so much.
+fn requests(before: usize, after: usize) -> usize {
+    match after {
+        _ if after <= before => 0,
+        1025.. if before <= 1024 => 2,
+        _ => 1,
+    }
+}
+
 /// The room of so many bytes that spill, of which fewer stood in the value itself.
 fn spilled(needed: usize, len: usize) -> usize {
     let least = needed.max(len.saturating_mul(2)).max(4);
@@ -294,22 +303,28 @@ impl Case {
         }
     }
 
+    /// The room once pieces went in, so often, behind so many items in so much room, or in the value
+    /// itself; and how often memory was asked for.
+    fn grown(&self, len: usize, room: Option<usize>, piece: usize, times: usize) -> (usize, usize) {
+        let (mut len, mut room, mut asked) = (len, room, 0usize);
+        for _ in 0..times {
+            let needed = len.saturating_add(piece);
+            let (before, after) = match room {
+                Some(room) => (room, Some(with_room(needed, room))),
+                None if self.fits_inline(needed) => (0, None),
+                None => (0, Some(spilled(needed, len))),
+            };
+            asked = asked.saturating_add(requests(before, after.unwrap_or(0)));
+            (len, room) = (needed, after);
+        }
+        (room.or(self.limit).unwrap_or(0), asked)
+    }
+
     /// The room once so many items went in, piece by piece.
     pub fn room_by_pieces(&self, count: usize) -> usize {
         let piece = self.row.piece().unwrap_or(count).max(1);
-        let (mut len, mut is_inline) = (self.state.len, self.state.room.is_none());
-        let mut room = self.state.room.or(self.limit).unwrap_or(0);
-        for _ in 0..count / piece {
-            let needed = len.saturating_add(piece);
-            if is_inline && needed > room {
-                is_inline = false;
-                room = spilled(needed, len);
-            } else if !is_inline {
-                room = with_room(needed, room);
-            }
-            len = needed;
-        }
-        room
+        self.grown(self.state.len, self.state.room, piece, count / piece)
+            .0
     }
 
     /// The room once the call is done.
@@ -372,6 +387,32 @@ impl Case {
             Call::WithCapacity => self.fits_inline(self.row.count),
             _ => self.fits_inline(self.made_len()),
         }
+    }
+
+    /// The room of the value that the call makes, and how often it asks for memory. What makes a
+    /// `Vec` or a `String` asks too.
+    pub fn made_room(&self) -> (usize, usize) {
+        let (len, limit, count) = (self.made_len(), self.limit.unwrap_or(0), self.row.count);
+        let none = if self.limit.is_some() { None } else { Some(0) };
+        let room = match self.row.call {
+            Call::Clone => return (self.state.room.unwrap_or(limit), 0),
+            Call::FromEcoVec => return (fresh(len), 0),
+            Call::ToStd => return (0, self.state.len.min(1)),
+            _ if self.is_made_inline() => return (limit, 0),
+            Call::FromIter | Call::Collect => return self.grown(0, none, 1, len),
+            Call::FromManyStrs(times) => return self.grown(0, none, count, times),
+            Call::FromEcoStrings if count > limit => {
+                let first = spilled(count, 0);
+                let (room, asked) = self.grown(count, Some(first), 8, 1);
+                return (room, asked.saturating_add(requests(0, first)));
+            }
+            Call::FromEcoStrings => spilled(len, count),
+            Call::FromStrs | Call::Format => spilled(len, 0),
+            Call::WithCapacity | Call::FromElem => count,
+            Call::Repeat | Call::Replace(_, _, _) => len,
+            _ => fresh(len),
+        };
+        (room, requests(0, room))
     }
 
     /// Whether the call that makes a value can't be refused.

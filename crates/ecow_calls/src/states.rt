@@ -71,6 +71,14 @@ pub fn thousand() -> [State; 4] {
     ]
 }
 
+/// As many items as have room behind a block's head.
+pub fn brimful() -> [State; 2] {
+    [
+        sole("full of 1024", 1024, 1024),
+        shared("shared full of 1024", 1024, 1024),
+    ]
+}
+
 /// Few bytes at the usual limit.
 pub fn few_bytes() -> [State; 7] {
     [

@@ -135,6 +135,12 @@ pub static UNIT_MAKERS: &[Row] = &[
     row!(Call::FromElem, "::from_elem((), 100000)", 100000),
 ];
 
+/// What hands out 1024 elements in another block, which asks twice with room for one more.
+pub static HANDED_OUT: &[Row] = &[
+    row!(Call::Drain, "drain(..)", (0, LAST), 0, at 1024),
+    row!(Call::IntoIter, "into_iter()", 0, at 1024),
+];
+
 /// Calls that make another vector of a vector.
 pub static VECTOR_DERIVATIONS: &[Row] = &[row!(Call::Clone, "clone()", 0)];
 
@@ -188,11 +194,11 @@ pub static VECTOR_MAKERS_OF_MANY: &[Row] = &[
     row!(Call::WithCapacity, "::with_capacity(1000)", 1000),
     row!(Call::WithCapacity, "::with_capacity(1024)", 1024),
     row!(Call::WithCapacity, "::with_capacity(1025)", 1025),
-    row!(Call::FromArray, "::from_array(1000)", 1000),
     row!(Call::FromSlice, "::from_slice(1000)", 1000),
     row!(Call::FromElem, "::from_elem(x, 1000)", 1000),
     row!(Call::FromIter, "::from_iter(1000)", 1000),
     row!(Call::Collect, "collect(1000)", 1000),
+    row!(Call::FromArray, "::from_array(1000)", 1000),
     row!(Call::FromIter, "::from_iter(100000)", 100000),
     row!(Call::Collect, "collect(100000)", 100000),
 ];
@@ -247,6 +253,7 @@ pub static COPIES_GROWTH: &[Row] = &[
     row!(Call::ExtendFromCopied, "extend_from_copied(7)", 7, times TIMES),
     row!(Call::InsertSlice, "insert_slice(len, 7)", (LAST, LAST), 7, at 0, times TIMES),
     row!(Call::Write, "write(7)", 7, times TIMES),
+    row!(Call::Write, "write(16)", 16, times 6250),
 ];
 
 /// A vector of a thousand elements and more takes its own first seven again and again.
@@ -347,6 +354,7 @@ pub static BYTES_GROWTH: &[Row] = &[
     row!(Call::InsertSlice, "insert_slice(len, 7)", (LAST, LAST), 7, at 0, times TIMES),
     row!(Call::ExtendFromSlice, "extend_from_slice(7)", 7, times TIMES),
     row!(Call::Write, "write(7)", 7, times TIMES),
+    row!(Call::Write, "write(16)", 16, times 6250),
     row!(Call::Extend, "extend(7)", 7, times TIMES),
     row!(Call::Extend, "extend(100000)", 100000),
 ];
@@ -494,6 +502,7 @@ pub static TEXT_GROWTH: &[Row] = &[
     row!(Call::InsertSlice, "insert_str(len, 7)", (LAST, LAST), 7, at 0, times TIMES),
     row!(Call::ExtendFromSlice, "push_str(7)", 7, times TIMES),
     row!(Call::Write, "write_str(7)", 7, times TIMES),
+    row!(Call::Write, "write_str(16)", 16, times 6250),
     row!(Call::Add, "add(7)", 7, times TIMES),
     row!(Call::Extend, "extend_chars(7)", 7, times TIMES),
     row!(Call::ExtendStrs, "extend_strs(one of 7)", 7, times TIMES),

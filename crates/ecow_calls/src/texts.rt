@@ -315,7 +315,7 @@ impl<const N: usize> Value for SmallText<N> {
     fn derive(&self, row: &Row) -> Result<Option<Self>, EcoError> {
         if row.call == Call::ToStd {
             let copy = self.to_std_string()?;
-            if copy.as_str() != self.as_str() {
+            if copy.as_str() != self.as_str() || copy.capacity() != copy.len() {
                 return Err(EcoError::Capacity);
             }
             return Ok(None);

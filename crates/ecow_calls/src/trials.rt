@@ -229,17 +229,10 @@ fn derive_trial<V: Value>(alloc: Global, source: &V::Source, watch: &Watch, case
 
 /// Whether a value that was made is as it is to be.
 fn is_made<V: Value>(case: &Case, value: &V) -> bool {
-    let inline = case.is_made_inline();
-    let has_room = match case.row.call {
-        Call::Clone => value.capacity() == room_before(case),
-        _ if inline => value.capacity() == case.limit.unwrap_or(0),
-        Call::WithCapacity => value.capacity() == case.row.count,
-        _ => value.capacity() >= case.made_len(),
-    };
-    let holds_made = has_items(value, case.made_len(), |place| {
+    has_items(value, case.made_len(), |place| {
         item_of::<V>(case, case.row.made_of(case.state.len, place))
-    });
-    holds_made && value.is_inline() == inline && has_room
+    }) && value.is_inline() == case.is_made_inline()
+        && value.capacity() == case.made_room().0
 }
 
 /// Whether a value shares its block where it is a clone, and else has its own.

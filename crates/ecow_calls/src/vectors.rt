@@ -199,7 +199,8 @@ fn give<T: Element>(list: &mut EcoVec<T>, row: &Row, alloc: Global) -> Outcome<T
     let whole = mem::replace(list, EcoVec::new(alloc));
     let (error, back) = match row.call {
         Call::IntoVec => match whole.into_vec() {
-            Ok(all) => return Ok(Out::All(all)),
+            Ok(all) if all.capacity() == all.len() => return Ok(Out::All(all)),
+            Ok(_) => return Err(EcoError::Capacity),
             Err(rejected) => (rejected.error, rejected.value),
         },
         Call::IntoIter => match whole.into_iter() {

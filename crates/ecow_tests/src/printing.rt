@@ -109,8 +109,8 @@ fn a_long_text_is_printed_as_str_is(rt: HostRuntime) -> Result<(), Fail> {
 #[test]
 fn a_text_is_debugged_cut_and_padded(rt: HostRuntime) -> Result<(), Fail> {
     let value = EcoString::from_str(rt.alloc(), "grün\n")?;
-    let told = format!(in rt.alloc(); "{value:?}|{value:.3}|{value:_>7}")?;
-    assert_eq!(rt; told.as_str(), "\"grün\\n\"|grü|__grün\n");
+    let told = format!(in rt.alloc(); "{value:?}|{value:12?}|{value:.3}|{value:_>7}")?;
+    assert_eq!(rt; told.as_str(), "\"grün\\n\"|\"grün\\n\"|grü|__grün\n");
     Ok(())
 }
 

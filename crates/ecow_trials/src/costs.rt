@@ -7,7 +7,9 @@ mod prints;
 mod rows;
 
 use crate::costs::marks::Meter;
-use crate::costs::measure::{add_bytes, add_copies, add_texts, add_units, add_vectors};
+use crate::costs::measure::{
+    add_bytes, add_copies, add_elements, add_texts, add_units, add_vectors,
+};
 use crate::costs::rows::Rows;
 use ecow_bytes::SmallBytes;
 use ecow_string::SmallText;
@@ -28,6 +30,13 @@ fn all_rows(alloc: Global, marked: bool) -> Rows {
     add_vectors(meter, &mut rows);
     add_copies(meter, &mut rows);
     add_units(meter, &mut rows);
+    add_elements::<()>(meter, &mut rows, ": ()");
+    add_elements::<u8>(meter, &mut rows, ": u8");
+    add_elements::<u16>(meter, &mut rows, ": u16");
+    add_elements::<u32>(meter, &mut rows, ": u32");
+    add_elements::<i64>(meter, &mut rows, ": i64");
+    add_elements::<[i64; 3]>(meter, &mut rows, ": [i64; 3]");
+    add_elements::<[i64; 13]>(meter, &mut rows, ": [i64; 13]");
     add_at!(add_bytes SmallBytes(meter, &mut rows): [0, 1, 3, 15, 23, 255]);
     add_at!(add_texts SmallText(meter, &mut rows): [0, 1, 3, 15, 23, 255]);
     prints::add_rows(meter, &mut rows);

@@ -4,7 +4,7 @@
 mod clones;
 mod each_call;
 mod owners;
-mod seeds;
+pub(crate) mod seeds;
 mod units;
 
 use crate::values::each_call::{

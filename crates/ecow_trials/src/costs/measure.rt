@@ -1,12 +1,17 @@
 //! What calls cost of any value.
 use crate::costs::marks::Meter;
 use crate::costs::rows::{Cost, Form, Rows, Standing, USUAL};
+use crate::values::seeds;
 use ecow_calls::calls::{Role, Row};
 use ecow_calls::counting::{Counting, Source, Tally};
-use ecow_calls::states::{State, edge, few_bytes, few_elements, few_spilled, no_byte, thousand};
+use ecow_calls::elements::Element;
+use ecow_calls::numbers::Numbers;
+use ecow_calls::states::{
+    State, brimful, edge, few_bytes, few_elements, few_spilled, no_byte, thousand,
+};
 use ecow_calls::tables;
 use ecow_calls::trials::twin_of;
-use ecow_calls::value::Value;
+use ecow_calls::value::{Value, case_of};
 use ecow_list::{EcoError, EcoVec};
 
 fn form_of<T: Drop>(block: &mut Option<EcoVec<T>>) -> Form {
@@ -150,6 +155,46 @@ fn add<V: Value>(
     }
 }
 
+/// Derives or makes fifty values as a seed says, and asks for memory besides, so often that there
+/// are a thousand requests where these ask as the rules say.
+fn drawn<V: Value>(
+    meter: Meter,
+    numbers: &mut Numbers,
+    source: &V::Source,
+    (role, row): (Role, &Row),
+) -> Result<Cost, EcoError> {
+    let (mut drawn, mut left) = (Vec::new(meter.alloc), 1000usize);
+    for _ in 0..50 {
+        let (row, state) = seeds::drawn(numbers, row, V::limit());
+        left = left.saturating_sub(case_of::<V>(&row, &state).made_room().1);
+        let value = V::made(meter.alloc, source, &state)?;
+        drawn.push((row, value, V::gift(meter.alloc, source, &row)?))?;
+    }
+    let _begun = meter.begin();
+    for (row, value, gift) in drawn.as_mut_slice() {
+        let _made = match role {
+            Role::Make => Some(V::make(row, gift)?),
+            _ => value.derive(row)?,
+        };
+    }
+    for _ in 0..left {
+        let _asked: Vec<u8> = Vec::with_capacity(meter.alloc, 1)?;
+    }
+    let _ended = meter.end();
+    let (_, state) = seeds::drawn(numbers, row, V::limit());
+    let mut cost = Cost::of::<V>(role, row, &state, Standing::none());
+    cost.role = Role::Derive;
+    Ok(cost)
+}
+
+/// The rows of calls by a seed.
+fn add_drawn<V: Value>(meter: Meter, rows: &mut Rows, source: &V::Source, calls: (Role, &[Row])) {
+    let mut numbers = Numbers::new(5);
+    for row in calls.1 {
+        rows.add(drawn::<V>(meter, &mut numbers, source, (calls.0, row)));
+    }
+}
+
 /// The rows of vectors of elements that count, in these states.
 fn add_vectors_in(meter: Meter, rows: &mut Rows, tally: &Tally, states: &[State]) {
     let (changes, arrays) = (tables::VECTOR_CHANGES, tables::INTO_ARRAYS);
@@ -173,6 +218,31 @@ pub(crate) fn add_vectors(meter: Meter, rows: &mut Rows) {
     add::<EcoVec<Counting>>(meter, rows, &tally, Role::Make, (makers, none));
     add::<EcoVec<Counting>>(meter, rows, &tally, Role::Make, (more, none));
     add::<EcoVec<Counting>>(meter, rows, &tally, Role::Make, (arrays, none));
+    let (handed, brimful) = (tables::HANDED_OUT, brimful());
+    add::<EcoVec<Counting>>(meter, rows, &tally, Role::Change, (handed, &brimful));
+    add_drawn::<EcoVec<Counting>>(meter, rows, &tally, (Role::Make, makers));
+}
+
+/// The rows of vectors of other elements, which cost what the tables say of those that count.
+pub(crate) fn add_elements<T: Element<Source = ()>>(
+    meter: Meter,
+    rows: &mut Rows,
+    element: &'static str,
+) {
+    let (few, many, first) = (few_elements(), thousand(), &few_elements()[..1]);
+    let (changes, clones) = (tables::VECTOR_CHANGES, tables::VECTOR_DERIVATIONS);
+    // Those behind are of bytes alone, of arrays, or of too many.
+    let (copies, more) = (&tables::COPIES[..11], &tables::VECTOR_MAKERS_OF_MANY[..8]);
+    rows.element = element;
+    for states in [few.as_slice(), many.as_slice()] {
+        add::<EcoVec<T>>(meter, rows, &(), Role::Change, (changes, states));
+        add::<EcoVec<T>>(meter, rows, &(), Role::Change, (copies, states));
+        add::<EcoVec<T>>(meter, rows, &(), Role::Derive, (clones, states));
+    }
+    for makers in [tables::VECTOR_MAKERS, more, tables::COPIES_MAKERS] {
+        add::<EcoVec<T>>(meter, rows, &(), Role::Make, (makers, first));
+    }
+    rows.element = "";
 }
 
 /// The rows of calls that take elements as memory, of bytes.
@@ -230,6 +300,7 @@ fn add_states<V: Value<Source = ()>>(
     add_in::<V>(meter, rows, changes, derivations, &thousand());
     let few = few_spilled(limit);
     add::<V>(meter, rows, &(), Role::Change, (tables::SHRINKING, &few));
+    add_drawn::<V>(meter, rows, &(), (Role::Derive, derivations));
 }
 
 /// The rows of makers of bytes or texts, at the usual limit or at another; of growth at the first.
@@ -246,6 +317,7 @@ fn add_made<V: Value<Source = ()>>(
         add::<V>(meter, rows, &(), Role::Make, (tables::FIRST_MAKERS, first));
         add::<V>(meter, rows, &(), Role::Make, (makers, first));
         add::<V>(meter, rows, &(), Role::Change, (growth, &none));
+        add_drawn::<V>(meter, rows, &(), (Role::Make, makers_at));
     } else {
         add::<V>(
             meter,

@@ -179,7 +179,7 @@ impl Cost {
         }
     }
 
-    fn line(&self, alloc: Global) -> Result<String, AllocError> {
+    fn line(&self, alloc: Global, element: &str) -> Result<String, AllocError> {
         let (room, counted) = (self.room(alloc)?, self.counted(alloc)?);
         let (call, state) = (self.call.text(alloc)?, self.state(alloc)?);
         let twin = self.twin();
@@ -188,7 +188,7 @@ impl Cost {
         } else {
             self.after.form.now(self.before.form)
         };
-        format!(in alloc; "| `{call}` | {state} |{counted} {form} | {twin} | {room} |\n")
+        format!(in alloc; "| `{call}` | {state}{element} |{counted} {form} | {twin} | {room} |\n")
     }
 }
 
@@ -196,6 +196,8 @@ impl Cost {
 #[derive(Drop)]
 pub(crate) struct Rows {
     pub(crate) text: String,
+    /// What stands behind a state: which elements the next rows are of.
+    pub(crate) element: &'static str,
     alloc: Global,
 }
 
@@ -203,6 +205,7 @@ impl Rows {
     pub(crate) fn new(alloc: Global) -> Self {
         Rows {
             text: String::new(alloc),
+            element: "",
             alloc,
         }
     }
@@ -216,7 +219,7 @@ impl Rows {
     }
 
     fn add_line(&mut self, cost: Cost) -> Result<(), AllocError> {
-        let line = cost.line(self.alloc)?;
+        let line = cost.line(self.alloc, self.element)?;
         self.text.push_str(line.as_str())
     }
 }

@@ -50,8 +50,8 @@ fn state(numbers: &mut Numbers, limit: Option<usize>) -> State {
     }
 }
 
-/// The call with another part and number, where it is about such.
-fn drawn(numbers: &mut Numbers, row: &Row, len: usize) -> Row {
+/// The call with another part, where it is about one.
+fn parted(numbers: &mut Numbers, row: &Row, len: usize) -> Row {
     let start = up_to(numbers, len);
     let mut row = *row;
     if row.end > row.start {
@@ -67,14 +67,16 @@ fn drawn(numbers: &mut Numbers, row: &Row, len: usize) -> Row {
 
 /// The call with another number of items, where any does.
 fn counted(numbers: &mut Numbers, row: Row) -> Row {
-    let is_one = matches!(row.call, Call::Push | Call::PushReserved | Call::Insert);
-    if is_one || row.count < 2 || row.count > 1000 {
+    if row.count < 2 || row.count > 1000 {
         return row;
     }
-    Row {
-        count: size(numbers),
-        ..row
-    }
+    let count = match row.call {
+        Call::Push | Call::PushReserved | Call::Insert | Call::FromArray => row.count,
+        Call::Inline | Call::TryInline => up_to(numbers, row.count),
+        Call::Repeat => up_to(numbers, 9),
+        _ => size(numbers),
+    };
+    Row { count, ..row }
 }
 
 fn rows_hold<V: Value>(
@@ -82,42 +84,71 @@ fn rows_hold<V: Value>(
     source: &V::Source,
     watch: &Watch,
     numbers: &mut Numbers,
-    rows: &[Row],
+    tables: &[(Role, &[Row])],
 ) -> bool {
     let mut hold = true;
-    for row in rows {
-        for _ in 0..ROUNDS {
-            let state = state(numbers, V::limit());
-            let row = drawn(numbers, row, state.len);
-            let row = counted(numbers, row);
-            hold = trial::<V>(alloc, source, watch, Role::Change, (&row, &state)) && hold;
+    for (role, rows) in tables {
+        for row in *rows {
+            for _ in 0..ROUNDS {
+                let (row, mut state) = drawn(numbers, row, V::limit());
+                // Letters past ASCII.
+                if matches!(row.call, Call::ToLowercase | Call::ToUppercase) && state.len % 2 == 0 {
+                    state = state.varied();
+                }
+                hold = trial::<V>(alloc, source, watch, *role, (&row, &state)) && hold;
+            }
         }
     }
     hold
+}
+
+/// A call, and a state.
+pub(crate) fn drawn(numbers: &mut Numbers, row: &Row, limit: Option<usize>) -> (Row, State) {
+    let state = state(numbers, limit);
+    let row = parted(numbers, row, state.len);
+    (counted(numbers, row), state)
 }
 
 fn vectors_hold(alloc: Global, watch: &Watch, numbers: &mut Numbers) -> bool {
     let Ok(tally) = Tally::new(alloc) else {
         return false;
     };
-    let (changes, further) = (tables::VECTOR_CHANGES, tables::FURTHER_VECTOR_CHANGES);
-    rows_hold::<EcoVec<i64>>(alloc, &(), watch, numbers, changes)
-        && rows_hold::<EcoVec<i64>>(alloc, &(), watch, numbers, further)
-        && rows_hold::<EcoVec<u8>>(alloc, &(), watch, numbers, tables::COPIES)
-        && rows_hold::<EcoVec<i64>>(alloc, &(), watch, numbers, tables::FURTHER_COPIES)
-        && rows_hold::<EcoVec<Counting>>(alloc, &tally, watch, numbers, changes)
-        && rows_hold::<EcoVec<Counting>>(alloc, &tally, watch, numbers, further)
+    let (change, make) = (Role::Change, Role::Make);
+    let all = [
+        (change, tables::FURTHER_COPIES),
+        (make, tables::COPIES_MAKERS),
+        (change, tables::VECTOR_CHANGES),
+        (change, tables::FURTHER_VECTOR_CHANGES),
+        (make, tables::VECTOR_MAKERS),
+        (make, tables::FURTHER_VECTOR_MAKERS),
+    ];
+    rows_hold::<EcoVec<i64>>(alloc, &(), watch, numbers, &all)
+        && rows_hold::<EcoVec<u8>>(alloc, &(), watch, numbers, &[(change, tables::COPIES)])
+        && rows_hold::<EcoVec<Counting>>(alloc, &tally, watch, numbers, &all[2..])
 }
 
 fn bytes_hold<V: Value<Source = ()>>(alloc: Global, watch: &Watch, numbers: &mut Numbers) -> bool {
-    rows_hold::<V>(alloc, &(), watch, numbers, tables::BYTES_CHANGES)
-        && rows_hold::<V>(alloc, &(), watch, numbers, tables::FURTHER_BYTES_CHANGES)
-        && rows_hold::<V>(alloc, &(), watch, numbers, tables::REDUCTIONS)
+    let makers = tables::bytes_makers_at(V::limit().unwrap_or(0));
+    let all = [
+        (Role::Change, tables::BYTES_CHANGES),
+        (Role::Change, tables::FURTHER_BYTES_CHANGES),
+        (Role::Change, tables::REDUCTIONS),
+        (Role::Derive, tables::BYTES_DERIVATIONS),
+        (Role::Make, &makers),
+    ];
+    rows_hold::<V>(alloc, &(), watch, numbers, &all)
 }
 
 fn texts_hold<V: Value<Source = ()>>(alloc: Global, watch: &Watch, numbers: &mut Numbers) -> bool {
-    rows_hold::<V>(alloc, &(), watch, numbers, tables::TEXT_CHANGES)
-        && rows_hold::<V>(alloc, &(), watch, numbers, tables::REDUCTIONS)
+    let makers = tables::text_makers_at(V::limit().unwrap_or(0));
+    let all = [
+        (Role::Change, tables::TEXT_CHANGES),
+        (Role::Change, tables::REDUCTIONS),
+        (Role::Derive, tables::TEXT_DERIVATIONS),
+        (Role::Derive, tables::FURTHER_TEXT_DERIVATIONS),
+        (Role::Make, &makers),
+    ];
+    rows_hold::<V>(alloc, &(), watch, numbers, &all)
 }
 
 /// Where no request is refused.
