@@ -3,8 +3,8 @@
    else (WRONG=a), keeps a block (WRONG=k), or ends with status 1 (WRONG=s).
 
    With arguments it runs the script that the last one names. It asks for memory once, without which
-   it ends with status 3, and once for each command, which answers `ok` or is refused. With WRONG=o
-   it says something where it ends with 3. Where a command is refused, the later ones answer
+   it ends with status 3, and once for each command, which answers `ok` or is refused. All answers
+   are said at the end. With WRONG=o it says something where it ends with 3. Where a command is refused, the later ones answer
    something else (WRONG=l), or it keeps a block or ends with status 1, as above. */
 typedef unsigned long size;
 
@@ -14,6 +14,13 @@ extern void free(void *block);
 extern int open(const char *path, int how);
 extern long read(int file, void *bytes, size length);
 extern long write(int file, const void *bytes, size length);
+
+static char answers[10000];
+static size said;
+
+static void say(const char *answer) {
+  while (*answer) answers[said++] = *answer++;
+}
 
 static int run_script(const char *path, char wrong) {
   static char script[100000];
@@ -27,13 +34,12 @@ static int run_script(const char *path, char wrong) {
   for (long at = 0; at < length; at++) {
     if (at && script[at - 1] != '\n' || script[at] == '#' || script[at] == '\n') continue;
     void *block = malloc(8);
-    if (!block) (void)!write(1, "refused memory\n", 15);
-    else if (fault == 'l') (void)!write(1, "other\n", 6);
-    else (void)!write(1, "ok\n", 3);
+    say(!block ? "refused memory\n" : fault == 'l' ? "other\n" : "ok\n");
     if (!block) fault = wrong;
     free(block);
   }
   if (fault != 'k') free(held);
+  (void)!write(1, answers, said);
   return fault == 's';
 }
 
