@@ -11,14 +11,8 @@ use std::alloc::{AllocError, Global};
 use std::test::Fail;
 
 /// An element that counts. A call that replaces nothing in its vectors does so where `needs` is 0.
-#[derive(Drop)]
+#[derive(Clone, Drop)]
 struct Faulty(Counting);
-
-impl Clone for Faulty {
-    fn clone(&self) -> Result<Self, AllocError> {
-        Ok(Faulty(self.0.clone()?))
-    }
-}
 
 impl Element for Faulty {
     type Source = Tally;
@@ -34,15 +28,12 @@ impl Element for Faulty {
     }
 
     fn copy(list: &mut EcoVec<Self>, row: &Row, _given: &[Self]) -> Result<(), EcoError> {
-        match row.needs {
-            0 => Ok(()),
-            1 => list.reserve(100),
-            2 => Ok(list.make_mut()?.reverse()),
-            3 => list.pop().map(drop),
-            4 => list
-                .as_slice()
-                .first()
-                .map_or(Ok(()), |first| or_memory(first.clone()).map(drop)),
+        match (row.needs, list.as_slice().first()) {
+            (0, _) => Ok(()),
+            (1, _) => list.reserve(100),
+            (2, _) => list.make_mut().map(|items| items.reverse()),
+            (3, _) => list.pop().map(drop),
+            (4, Some(first)) => or_memory(first.clone()).map(drop),
             _ => Err(EcoError::Memory),
         }
     }
@@ -50,15 +41,15 @@ impl Element for Faulty {
 
 /// Whether a trial passes the call with this fault.
 fn passes(alloc: Global, tally: &Tally, needs: usize) -> bool {
-    let (name, call) = ("", Call::ReplaceRange);
+    let (name, call, start, end, count, times) = ("", Call::ReplaceRange, 0, 0, 0, 1);
     let row = Row {
         call,
         name,
-        start: 0,
-        end: 0,
-        count: 0,
+        start,
+        end,
+        count,
         needs,
-        times: 1,
+        times,
     };
     let case = (&row, &few_elements()[2]);
     trial::<EcoVec<Faulty>>(alloc, tally, &Watch::new(true), Role::Change, case)
@@ -73,16 +64,13 @@ fn a_trial_refuses_a_call_that_is_wrong_in_one_thing(rt: HostRuntime) -> Result<
     }
     let _kept = tally.element()?;
     assert!(rt; !passes(alloc, &tally, 0));
-    Ok(())
-}
-
-#[test]
-fn refusals_and_what_is_asked_are_counted(rt: HostRuntime) -> Result<(), Fail> {
     let (strict, once, asks) = (Watch::new(true), Watch::new(false), Asks::new());
     assert!(rt; !strict.may_refuse() && !strict.is_kept());
     assert!(rt; once.may_refuse() && once.is_kept() && !once.may_refuse() && !once.is_kept());
-    assert!(rt; asks.of([1, 2].iter()).count() == 2 && asks.times() == Some(3));
-    let _hint = asks.of([1].iter()).size_hint();
+    let numbers = [1, 2];
+    let mut items = asks.of(numbers.iter());
+    assert!(rt; items.next().is_some() && asks.times() == Some(1));
+    let _hint = items.size_hint();
     assert!(rt; asks.times().is_none());
     Ok(())
 }
