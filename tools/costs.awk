@@ -6,7 +6,7 @@
 BEGIN {
     FS = " *[|] *"
     others = split("0 1 3 23 255", other, " ")
-    elements = split("u8,u16,u32,i64,[i64; 3],[i64; 13],()", element, ",")
+    elements = split("u8,u32,i64,[i64; 13],()", element, ",")
 }
 
 # Where the clone of a value stands that stands so afterwards, or the source of one that is made.

@@ -88,46 +88,100 @@ fn copied<T: Copy>(list: &mut EcoVec<T>, row: &Row, given: &[T]) -> Result<(), E
     }
 }
 
-/// Elements that are made of a number, of which a number is read, and which are taken as memory.
-macro_rules! numbers {
-    ($($element:ty: $number:ident => $made:expr, $value:ident => $read:expr;)*) => {
-        $(impl Element for $element {
-            type Source = ();
+impl Element for () {
+    type Source = ();
 
-            type Array = ();
+    type Array = ();
 
-            fn of(_alloc: Global, _source: &(), $number: i64) -> Result<Self, AllocError> {
-                Ok($made)
-            }
+    fn of(_alloc: Global, _source: &(), _number: i64) -> Result<Self, AllocError> {
+        Ok(())
+    }
 
-            fn number(&self) -> i64 {
-                let $value = self;
-                $read
-            }
+    fn number(&self) -> i64 {
+        0
+    }
 
-            fn shown($number: i64) -> i64 {
-                let $value = &$made;
-                $read
-            }
+    fn shown(_number: i64) -> i64 {
+        0
+    }
 
-            fn from_copied(alloc: Global, elements: &[Self]) -> Result<EcoVec<Self>, EcoError> {
-                EcoVec::from_copied(alloc, elements)
-            }
+    fn from_copied(alloc: Global, elements: &[Self]) -> Result<EcoVec<Self>, EcoError> {
+        EcoVec::from_copied(alloc, elements)
+    }
 
-            fn copy(list: &mut EcoVec<Self>, row: &Row, given: &[Self]) -> Result<(), EcoError> {
-                copied(list, row, given)
-            }
-        })*
-    };
+    fn copy(list: &mut EcoVec<Self>, row: &Row, given: &[Self]) -> Result<(), EcoError> {
+        copied(list, row, given)
+    }
 }
 
-numbers! {
-    (): _number => (), _value => 0;
-    u16: number => u16::try_from(number).unwrap_or(0), value => i64::from(*value);
-    u32: number => u32::try_from(number).unwrap_or(0), value => i64::from(*value);
-    i64: number => number, value => *value;
-    [i64; 3]: number => [number; 3], value => value[2];
-    [i64; 13]: number => [number; 13], value => value[12];
+impl Element for u32 {
+    type Source = ();
+
+    type Array = ();
+
+    fn of(_alloc: Global, _source: &(), number: i64) -> Result<Self, AllocError> {
+        Ok(u32::try_from(number).unwrap_or(0))
+    }
+
+    fn number(&self) -> i64 {
+        i64::from(*self)
+    }
+
+    fn shown(number: i64) -> i64 {
+        i64::from(u32::try_from(number).unwrap_or(0))
+    }
+
+    fn from_copied(alloc: Global, elements: &[Self]) -> Result<EcoVec<Self>, EcoError> {
+        EcoVec::from_copied(alloc, elements)
+    }
+
+    fn copy(list: &mut EcoVec<Self>, row: &Row, given: &[Self]) -> Result<(), EcoError> {
+        copied(list, row, given)
+    }
+}
+
+impl Element for i64 {
+    type Source = ();
+
+    type Array = ();
+
+    fn of(_alloc: Global, _source: &(), number: i64) -> Result<Self, AllocError> {
+        Ok(number)
+    }
+
+    fn number(&self) -> i64 {
+        *self
+    }
+
+    fn from_copied(alloc: Global, elements: &[Self]) -> Result<EcoVec<Self>, EcoError> {
+        EcoVec::from_copied(alloc, elements)
+    }
+
+    fn copy(list: &mut EcoVec<Self>, row: &Row, given: &[Self]) -> Result<(), EcoError> {
+        copied(list, row, given)
+    }
+}
+
+impl Element for [i64; 13] {
+    type Source = ();
+
+    type Array = ();
+
+    fn of(_alloc: Global, _source: &(), number: i64) -> Result<Self, AllocError> {
+        Ok([number; 13])
+    }
+
+    fn number(&self) -> i64 {
+        self[12]
+    }
+
+    fn from_copied(alloc: Global, elements: &[Self]) -> Result<EcoVec<Self>, EcoError> {
+        EcoVec::from_copied(alloc, elements)
+    }
+
+    fn copy(list: &mut EcoVec<Self>, row: &Row, given: &[Self]) -> Result<(), EcoError> {
+        copied(list, row, given)
+    }
 }
 
 impl Element for u8 {

@@ -32,10 +32,8 @@ fn all_rows(alloc: Global, marked: bool) -> Rows {
     add_units(meter, &mut rows);
     add_elements::<()>(meter, &mut rows, ": ()");
     add_elements::<u8>(meter, &mut rows, ": u8");
-    add_elements::<u16>(meter, &mut rows, ": u16");
     add_elements::<u32>(meter, &mut rows, ": u32");
     add_elements::<i64>(meter, &mut rows, ": i64");
-    add_elements::<[i64; 3]>(meter, &mut rows, ": [i64; 3]");
     add_elements::<[i64; 13]>(meter, &mut rows, ": [i64; 13]");
     add_at!(add_bytes SmallBytes(meter, &mut rows): [0, 1, 3, 15, 23, 255]);
     add_at!(add_texts SmallText(meter, &mut rows): [0, 1, 3, 15, 23, 255]);
