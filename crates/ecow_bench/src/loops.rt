@@ -6,6 +6,7 @@ use crate::elements::Element;
 use crate::rounds::sum_of;
 use ecow_list::{EcoVec, range_in};
 use std::alloc::Global;
+use std::mem::replace;
 
 pub(crate) fn list_of<T: Element>(alloc: Global, items: &[T]) -> EcoVec<T> {
     match EcoVec::from_slice(alloc, items) {
@@ -94,6 +95,21 @@ pub(crate) fn remove_first<T: Element>(alloc: Global, items: &[T], count: u64) -
         {
             sum = sum.wrapping_add(item.seen());
             let _done = list.push(item);
+        }
+    }
+    sum
+}
+
+/// Changes the element in the middle.
+pub(crate) fn update(alloc: Global, items: &[u64], count: u64) -> u64 {
+    let mut list = list_of(alloc, items);
+    let middle = items.len() / 2;
+    let mut sum = 0u64;
+    for round in 0..count {
+        if middle < list.len()
+            && let Ok(item) = list.update(middle, |item| replace(item, round))
+        {
+            sum = sum.wrapping_add(item);
         }
     }
     sum

@@ -1,13 +1,14 @@
 //! What `make bench` times: `ecow_bench CALL ELEMENT LENGTH COUNT` goes round one loop on a list of
-//! so many elements, or on so many bytes or letters where CALL begins with `bytes_` or `text_`, and
-//! prints a sum of what it saw. `ecow_bench NAME workload SIZE COUNT` runs a whole program. Without
-//! arguments it runs each program on little.
+//! so many elements, or on so many bytes, letters or parts where CALL begins with `bytes_`, `text_`
+//! or `nested_`, and prints a sum of what it saw. `ecow_bench NAME workload SIZE COUNT` runs a whole
+//! program. Without arguments it runs each program on little.
 #![tactic(auto)]
 
 mod bytes;
 mod elements;
 mod history;
 mod loops;
+mod nested;
 mod pairs;
 mod random;
 mod rounds;
@@ -119,6 +120,9 @@ fn sum(
         let text = prose(alloc, numbers)?;
         return Ok(sum_of_texts(alloc, call, text.as_str(), count));
     }
+    if call.starts_with("nested_") {
+        return Ok(nested::sum(alloc, call, numbers.len(), count).unwrap_or(0));
+    }
     match element {
         "u8" => sum_of_copies::<u8>(alloc, call, numbers, count),
         "[u64;3]" => sum_of_copies::<[u64; 3]>(alloc, call, numbers, count),
@@ -198,6 +202,7 @@ fn sum_of_numbers(
         "clone" => loops::clone(alloc, numbers, count),
         "clone_push" => loops::clone_push(alloc, numbers, count),
         "pop" => loops::pop(alloc, numbers, count),
+        "update" => loops::update(alloc, numbers, count),
         "from_slice" => loops::from_slice(alloc, numbers, count),
         "extend" => loops::extend(alloc, numbers, count),
         "extend_pieces" => loops::extend_pieces(alloc, numbers, count),

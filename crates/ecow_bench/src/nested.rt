@@ -1,0 +1,52 @@
+//! Loops of calls of nested values, whose lists and fields have so many parts, and a last one.
+
+use ecow_nested::{Refusal, Step, Value};
+use ecow_string::{EcoString, ToEcoString};
+use std::alloc::Global;
+
+const LAST: &str = "last";
+
+fn list(alloc: Global, len: usize, last: Value) -> Result<Value, Refusal> {
+    let mut list = Value::new_list(alloc);
+    for _ in 0..len {
+        list.push(Value::Number(0))?;
+    }
+    list.push(last)?;
+    Ok(list)
+}
+
+fn fields(alloc: Global, len: usize, last: Value) -> Result<Value, Refusal> {
+    let mut fields = Value::new_fields(alloc);
+    for number in 0..len {
+        let name = number.to_eco_string(alloc).map_err(|_| Refusal::Memory)?;
+        fields.push_field(name.as_str(), Value::Number(0))?;
+    }
+    fields.push_field(LAST, last)?;
+    Ok(fields)
+}
+
+/// How many parts there were in all rounds of a call.
+pub(crate) fn sum(alloc: Global, call: &str, len: usize, count: u64) -> Result<u64, Refusal> {
+    let name = Step::Name(EcoString::inline(alloc, LAST));
+    let path = [Step::Index(len), name.clone()?, Step::Index(len), name];
+    let mut value = match call {
+        "nested_set" => list(alloc, len, Value::Nothing)?,
+        "nested_set_at" => {
+            let inner = list(alloc, len, fields(alloc, len, Value::Nothing)?)?;
+            list(alloc, len, fields(alloc, len, inner)?)?
+        }
+        _ => fields(alloc, len, Value::Nothing)?,
+    };
+    let mut sum = 0u64;
+    for _ in 0..count {
+        match call {
+            "nested_set" => value.set(len, Value::Nothing)?,
+            "nested_set_field" => value.set_field(LAST, Value::Nothing)?,
+            "nested_set_at" => value.set_at(&path, Value::Nothing)?,
+            "nested_push_field" => value = fields(alloc, len, Value::Nothing)?,
+            _ => drop(value.clone()?),
+        }
+        sum = sum.wrapping_add(value.len().unwrap_or(0) as u64);
+    }
+    Ok(sum)
+}
