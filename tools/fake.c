@@ -1,6 +1,6 @@
 /* What tools/agree_checks.sh refuses memory to: a program of two parts, each of which asks for
    memory three times. Where the second request of the second part is refused, it says something
-   else (WRONG=a), keeps a block (WRONG=k), or ends with status 1 (WRONG=s). */
+   else (WRONG=a), keeps a block (WRONG=k), ends with status 1 (WRONG=s), or crashes (WRONG=c). */
 typedef unsigned long size;
 
 extern char *getenv(const char *name);
@@ -24,6 +24,7 @@ int main(void) {
     if (fault == 'a') line[8] = 'n';
     (void)!write(1, line, sizeof line - 1);
     if (fault == 's') return 1;
+    if (fault == 'c') __builtin_trap();
   }
   return 0;
 }
