@@ -80,7 +80,6 @@ tools/shim.sh "$work/shim.so"
 said=$(REFUSE=1000000 LD_PRELOAD="$work/shim.so" git --version 2>&1 > "$work/none")
 [ "$said" = "fewer requests" ] || { echo "tools/refuse.c says \"$said\" where no request is refused"; exit 1; }
 
-
 # Counts: another number, one below the least, what the table hasn't, one that isn't said, and checks that say nothing.
 counts sum.sh "3 rows" "2+ lines"
 (cd "$work/copy" && tools/counts.sh sum.sh "3 rows" "4 lines")
@@ -123,7 +122,11 @@ kit=$(dirname "$(rt doc | head -n 1)")
 "$kit/bin/rattle-link" --target x86_64-unknown-linux-gnu --toolchain "$kit/toolchain" -o "$work/fake" "$work/fake.o" \
     2> "$work/none"
 counts refuse.sh "2 parts" "6 requests refused, of status 0" "8 processes that gave all back"
-sees "answer keeps status" refuse.sh "$work/fake"
+sees "answer keeps status crash" refuse.sh "$work/fake"
+echo 2 | WRONG=crash REFUSE_EACH=1 LD_PRELOAD="$work/shim.so" "$work/fake" | grep -q '^request 2: status 13' || {
+    echo "tools/refuse.c says that a copy that crashes ends well"
+    exit 1
+}
 
 # Golden scripts: each of two commands is answered by its word, and no other line is read.
 rm "$work"/copy/cases/*.eco "$work"/copy/examples/*.eco

@@ -100,8 +100,6 @@ while IFS= read -r words && IFS= read -r status && IFS= read -r out && IFS= read
     lines_of "$out" > "$work/out.wanted"
     lines_of "$message" > "$work/message.wanted"
     lines=$((lines + $(cat "$work/out.wanted" "$work/message.wanted" | wc -l)))
-    : > "$work/out"
-    : > "$work/message"
     got=0
     eval "\"\$program\" > \"\$work/out\" 2> \"\$work/message\" $words" < /dev/null || got=$?
     if [ "$got" != "$status" ] || ! cmp -s "$work/out" "$work/out.wanted" ||

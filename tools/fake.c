@@ -1,11 +1,12 @@
 /* What tools/agree_checks.sh refuses memory to: a program of two parts, each of which asks for
    memory three times. Where the second request of the second part is refused, it says something
-   else (WRONG=a), keeps a block (WRONG=k), or ends with status 1 (WRONG=s).
+   else (WRONG=a), keeps a block (WRONG=k), ends with status 1 (WRONG=s), or crashes (WRONG=c).
 
    With arguments it runs the script that the last one names. It asks for memory once, without which
    it ends with status 3, and once for each command, which answers `ok` or is refused. All answers
-   are said at the end. With WRONG=o it says something where it ends with 3. Where a command is refused, the later ones answer
-   something else (WRONG=l), or it keeps a block or ends with status 1, as above. */
+   are said at the end. With WRONG=o it says something where it ends with 3. Where a command is
+   refused, the later ones answer something else (WRONG=l), or it keeps a block or ends with status
+   1, as above. */
 typedef unsigned long size;
 
 extern char *getenv(const char *name);
@@ -59,6 +60,7 @@ int main(int count, char **arguments) {
     if (fault == 'a') line[8] = 'n';
     (void)!write(1, line, sizeof line - 1);
     if (fault == 's') return 1;
+    if (fault == 'c') __builtin_trap();
   }
   return 0;
 }
