@@ -151,7 +151,9 @@ fn a_sigma_at_the_end_of_a_word_is_final(rt: HostRuntime) -> Result<(), Fail> {
 #[test]
 fn a_text_is_inline_by_the_limit_of_its_type(rt: HostRuntime) -> Result<(), Fail> {
     let welcome: SmallText<23> = SmallText::from_str(rt.alloc(), "Welcome")?;
-    let whole = welcome.add(" to earth! 🌱").map_err(|rejected| rejected.error)?;
+    let whole = welcome
+        .add(" to earth! 🌱")
+        .map_err(|rejected| rejected.error)?;
     let mut part = whole.clone()?;
     assert!(rt; part.pop()? == Some('🌱') && part.is_inline() && whole.is_inline());
     assert!(rt; part.as_str() == "Welcome to earth! " && whole.as_str() == "Welcome to earth! 🌱");
