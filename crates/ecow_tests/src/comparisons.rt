@@ -1,12 +1,11 @@
 //! What is compared by what elements say of themselves, and texts of which maps and vectors make
 //! more than they do alone.
-ghost use Rattle.std.specs.Prelude.{ℕ, ◌==◌};
+ghost use Rattle.std.specs.Prelude.{◌==◌, ◌%◌};
 ghost use Rattle.std.proofs.Common.{rules};
 ghost use Rattle.std.specs.Cmp.{partial_order_from_own_ties};
 ghost use Rattle.std.specs.Cmp.Rules.{comparing, hashing};
 ghost use Rattle.std.specs.Ordering.{on, nat_cmp, as_partial_cmp};
 ghost use Rattle.std.specs.Hash as fed;
-ghost use Rattle.ecow_tests.specs.Digits.{last_digit};
 
 use crate::calls::shared;
 use ecow_list::{EcoError, EcoVec};
@@ -22,7 +21,7 @@ use std::test::Fail;
 struct Digit(u64);
 
 impl PartialEq for Digit {
-    ghost eq = { on last_digit ◌==◌ };
+    ghost eq = { on (λ d. d.0 % 10) ◌==◌ };
 
     ghost laws = { Prim.search (comparing, rules) };
 
@@ -36,7 +35,7 @@ impl Eq for Digit {
 }
 
 impl Ord for Digit {
-    ghost cmp = { on last_digit nat_cmp };
+    ghost cmp = { on (λ d. d.0 % 10) nat_cmp };
 
     ghost total = { Prim.search (comparing, rules) };
 
@@ -50,7 +49,7 @@ impl Ord for Digit {
 }
 
 impl PartialOrd for Digit {
-    ghost partial_cmp = { as_partial_cmp (on last_digit nat_cmp) };
+    ghost partial_cmp = { as_partial_cmp (on (λ d. d.0 % 10) nat_cmp) };
 
     ghost laws = { partial_order_from_own_ties (Prim.search (comparing, rules))
         (Prim.search (comparing, rules)) };
@@ -61,7 +60,7 @@ impl PartialOrd for Digit {
 }
 
 impl Hash for Digit {
-    ghost hash_input = { λ d. fed.u64 (last_digit d) };
+    ghost hash_input = { λ d. fed.u64 (d.0 % 10) };
 
     ghost respects_eq = { Prim.search (hashing, rules) };
 
