@@ -159,18 +159,12 @@ fn a_text_is_inline_by_the_limit_of_its_type(rt: HostRuntime) -> Result<(), Fail
     Ok(())
 }
 
-/// Whether "ab" with dashes at its boundaries, which takes five bytes, is made inline at a limit.
-fn are_dashes_inline<const N: usize>(alloc: Global) -> Result<bool, Fail> {
-    let text: SmallText<N> = SmallText::from_str(alloc, "ab")?;
-    let dashes = text.replace("", "-")?;
-    if dashes.as_str() != "-a-b-" {
-        return Err("the boundaries of two letters".into());
-    }
-    Ok(dashes.is_inline())
-}
-
 #[test]
 fn what_is_replaced_is_inline_by_its_length(rt: HostRuntime) -> Result<(), Fail> {
-    assert!(rt; !are_dashes_inline::<3>(rt.alloc())? && are_dashes_inline::<5>(rt.alloc())?);
+    let three: SmallText<3> = SmallText::from_str(rt.alloc(), "ab")?;
+    let five: SmallText<5> = SmallText::from_str(rt.alloc(), "ab")?;
+    let (three, five) = (three.replace("", "-")?, five.replace("", "-")?);
+    assert!(rt; three.as_str() == "-a-b-" && five.as_str() == "-a-b-");
+    assert!(rt; !three.is_inline() && five.is_inline());
     Ok(())
 }
