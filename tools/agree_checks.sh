@@ -6,7 +6,7 @@ set -eu
 cd "$(dirname "$0")/.."
 work=$(mktemp -d)
 trap 'rm -rf "$work"' EXIT
-export LC_ALL=C WRONG=
+export LC_ALL=C WRONG= EACH= PROCESSORS=
 checked=0
 
 # Says so where a tool passes.
@@ -151,10 +151,10 @@ END
 counts cases.sh "3 golden scripts" "6 answers" "60 cut scripts"
 sees "two flag alone message status cut" cases.sh "$work/program"
 
-# Scripts of which each request is refused: three for each with a command or two, in either store.
-printf '%s\n' 'state vec vec new x' 'vec pop x' > "$work/copy/tools/states.txt"
-counts refuse_scripts.sh "6 scripts" "40 requests refused" "34 commands refused" "46 processes that gave all back"
-sees "output later keeps status" refuse_scripts.sh "$work/fake"
+# Scripts of which each request is refused: three for each with a command or two, and two that are drawn, in either store.
+printf '%s\n' 'draw 2 3' 'state vec vec new x' 'vec pop x' > "$work/copy/tools/states.txt"
+counts refuse_scripts.sh "10 scripts" "56 requests refused" "46 commands refused" "66 processes that gave all back"
+sees "output later keeps memory status" refuse_scripts.sh "$work/fake"
 
 # Large scripts, which aren't so large here: answered by what is wanted, in time that grows as their bytes.
 sed 's/many = 70000/many = 700/; s/count = 100000/count = 1000/' tools/large.awk > "$work/copy/tools/large.awk"

@@ -6,7 +6,7 @@
    it ends with status 3, and once for each command, which answers `ok` or is refused. All answers
    are said at the end. With WRONG=o it says something where it ends with 3. Where a command is
    refused, the later ones answer something else (WRONG=l), or it keeps a block or ends with status
-   1, as above. */
+   1, as above. With WRONG=m its first line lacks memory, whatever is refused. */
 typedef unsigned long size;
 
 extern char *getenv(const char *name);
@@ -35,7 +35,7 @@ static int run_script(const char *path, char wrong) {
   for (long at = 0; at < length; at++) {
     if (at && script[at - 1] != '\n' || script[at] == '#' || script[at] == '\n') continue;
     void *block = malloc(8);
-    say(!block ? "refused memory\n" : fault == 'l' ? "other\n" : "ok\n");
+    say(!block || wrong == 'm' && !at ? "refused memory\n" : fault == 'l' ? "other\n" : "ok\n");
     if (!block) fault = wrong;
     free(block);
   }

@@ -30,7 +30,7 @@ LOWER = "base block shared list bytes string model store counted script tool run
 FILES = {
     "rattle": [f"crates/ecow_{crate}/src/**/*.rt" for crate in LOWER.split()],
     "glue": ["c/*.[ch]", "include/*", "python/core/*"],
-    "tools": ["tools/costs.*", "tools/refuse.*", "tools/ends.sh", "tools/cases.sh", "tools/large.*", "tools/below.awk",
+    "tools": ["tools/costs.*", "tools/refuse*", "tools/ends.sh", "tools/cases.sh", "tools/large.*", "tools/below.awk",
               "tools/counts.sh", "tools/agree_*.sh"],
 }
 # The first two stand on each of those crates.
@@ -46,6 +46,7 @@ CHECKS = {
                ("ecow_run", 'tools/ends.sh "$0" && tools/cases.sh "$0"'),
                ("ecow_trials", ONCE),
                ("ecow_run", 'tools/large.sh "$0"'),
+               ("ecow_run", 'tools/refuse_scripts.sh "$0"'),
                ("ecow_trials", 'tools/refuse.sh "$0"'),
                ("ecow_c", LIBRARY)],
     "glue": [("c/", LIBRARY), ("include/", LIBRARY), ("c/", PACKAGE), ("python/", PACKAGE)],
@@ -53,7 +54,8 @@ CHECKS = {
               ("tools/cases", "tools/cases.sh bin/ecow_run"),
               ("tools/large", "tools/large.sh bin/ecow_run"),
               ("", "make --no-print-directory agree"),
-              ("tools/refuse", "tools/refuse.sh bin/ecow_trials")],
+              ("tools/refuse", "tools/refuse.sh bin/ecow_trials"),
+              ("tools/refuse_scripts", "tools/refuse_scripts.sh bin/ecow_run")],
 }
 # A glue that isn't compiled so is no mutant.
 SYNTAX = '-Iinclude "-I$(python3 -c "import sysconfig; print(sysconfig.get_path(\'include\'))")"'

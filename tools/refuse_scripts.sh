@@ -1,8 +1,9 @@
 #!/bin/sh
 # Runs PROGRAM on scripts, in either store, and refuses each of its requests for memory in turn: a copy of the process goes
 # on without it. The copy ends with status 3 and no output, or it refuses a command, and answers all others as it answers
-# the script without that command. So a refused command changes nothing, under every name. The scripts are the golden ones,
-# and one for each state of tools/states.txt, with each command in it.
+# the script without that command. So a refused command changes nothing, under every name. Where no request is refused, no
+# command may lack memory. The scripts are the golden ones; one for each state of tools/states.txt, with each command in it;
+# and some of lines drawn from that table, with other names, half of them of lists alone.
 # usage: tools/refuse_scripts.sh PROGRAM
 set -eu
 program=$(realpath "$1")
@@ -19,9 +20,33 @@ done
 # Each command is carried out on x in each state of its kind. Then x is looked at, y, which shares its memory in some
 # states, and z, which some commands make.
 awk -v folder="$work/scripts" '
+# A whole number from 0 up to one that is less than this.
+function below(most) {
+    seed = seed * 16807 % 2147483647
+    return int(seed / 2147483647 * most)
+}
+function a_name() { return substr("wxyz", below(4) + 1, 1) }
+# A line of the table with other names.
+function drawn(line,    words, count, at, made) {
+    count = split(line, words, " ")
+    for (at = 1; at <= count; at++) made = made (at > 1 ? " " : "") (words[at] ~ /^[w-z]$/ ? a_name() : words[at])
+    return made
+}
+function is_list(line) { return line ~ /^vec / }
 /^#/ { next }
-/^state / { states++; kind[states] = $2; sub(/^state [a-z]* /, ""); gsub(/; /, "\n"); made[states] = $0; next }
+$1 == "draw" { scripts = $2; lines_of_each = $3; next }
+/^state / {
+    states++
+    kind[states] = $2
+    sub(/^state [a-z]* /, "")
+    count = split($0, makers, "; ")
+    for (i = 1; i <= count; i++) lines[++drawable] = makers[i]
+    gsub(/; /, "\n")
+    made[states] = $0
+    next
+}
 {
+    lines[++drawable] = $0
     made_kind = $1
     changed = $2 == "from_text" ? "text" : $1
     for (state = 1; state <= states; state++) {
@@ -35,6 +60,20 @@ awk -v folder="$work/scripts" '
             print of (of == "vec" ? " unique " : " is_inline ") name > script
         }
         for (i = 1; i <= 3; i++) print (i == 3 ? made_kind : changed) " drop " substr("xyz", i, 1) > script
+    }
+}
+END {
+    seed = 7
+    split("vec bytes text", kinds, " ")
+    for (number = 1; number <= scripts; number++) {
+        script = sprintf("%s/drawn_%02d.eco", folder, number)
+        for (i = 1; i <= lines_of_each; i++) {
+            do line = lines[below(drawable) + 1]; while (number % 2 && !is_list(line))
+            if (below(6) == 0) line = kinds[number % 2 ? 1 : below(3) + 1] " drop x"
+            print drawn(line) > script
+            if (i % 10 == 0) for (of = 1; of <= (number % 2 ? 1 : 3); of++)
+                for (at = 1; at <= 4; at++) print kinds[of] " contents " substr("wxyz", at, 1) > script
+        }
     }
 }' tools/states.txt
 
@@ -78,10 +117,27 @@ END {
 }
 END
 
-# What remains of a script without a command.
-without() { # NUMBER SCRIPT
-    tr -d '\r' < "$2" | awk -v number="$1" '!/^[ \t]*(#|$)/ && ++commands == number { next } { print }'
+# Prints each command that lacks memory where no request is refused. The largest capacity is more than any machine has.
+cat > "$work/lacking.awk" << 'END'
+NR == FNR { line[NR] = $0; next }
+$0 == "refused memory" && line[FNR] !~ / 9223372036854775807$/ { print "without memory: " line[FNR] }
+END
+
+# Writes a script without each of some commands to SHORTER.NUMBER.
+cat > "$work/without.awk" << 'END'
+NR == FNR { numbers[++count] = $1; next }
+{
+    line[++lines] = $0
+    if (!/^[ \t]*(#|$)/) number_of[lines] = ++commands
 }
+END {
+    for (i = 1; i <= count; i++) {
+        file = shorter "." numbers[i]
+        for (at = 1; at <= lines; at++) if (number_of[at] != numbers[i]) print line[at] > file
+        close(file)
+    }
+}
+END
 
 scripts=0
 requests=0
@@ -98,16 +154,19 @@ for script in "$work"/scripts/*.eco; do
             > "$work/said" 2> "$work/messages" || true
         total=$(grep -x '[0-9]*' "$work/messages" | tail -n 1)
         set -- -v base="$work/base" -v without="$work/without" -v wanted="$status" -v total="$total" -f "$work/compare.awk"
-        for number in $(awk -v finds=1 "$@" "$work/said" | sort -nu); do
-            without "$number" "$script" > "$work/shorter"
-            "$program" $counted "$work/shorter" > "$work/without.$number" || true
+        awk -v finds=1 "$@" "$work/said" | sort -nu > "$work/numbers"
+        tr -d '\r' < "$script" > "$work/lines"
+        [ ! -s "$work/numbers" ] || awk -v shorter="$work/shorter" -f "$work/without.awk" "$work/numbers" "$work/lines"
+        while read -r number; do
+            "$program" $counted "$work/shorter.$number" > "$work/without.$number" || true
             commands=$((commands + 1))
-        done
+        done < "$work/numbers"
         {
             awk "$@" "$work/said"
             grep '^blocks left: [1-9]' "$work/messages" || true
+            case $script in */state_* | */drawn_*) awk -f "$work/lacking.awk" "$work/lines" "$work/base" ;; esac
         } > "$work/apart"
-        rm -f "$work"/without.*
+        rm -f "$work"/without.[0-9]* "$work"/shorter.*
         [ ! -s "$work/apart" ] || {
             wrong=$((wrong + 1))
             echo "${script##*/} $counted:"
