@@ -1,6 +1,7 @@
-/* The calls of the header that read a value where it stands, beside the proved ones: in every state,
- * on both sides of the room from which on items stand apart from their head. */
+/* What the header reads where a value stands, beside what the proved calls get of it item by item: in
+ * every state, on both sides of the number from which on items stand apart from their head. */
 #include "check.h"
+#include "../proved.h"
 
 static const size_t lengths[] = {0, 1, 2, 13, 14, 15, 16, 17, 1023, 1024, 1025, 5000};
 
@@ -9,44 +10,45 @@ static const size_t lengths[] = {0, 1, 2, 13, 14, 15, 16, 17, 1023, 1024, 1025, 
 static size_t compared;
 
 /* Compares what both say of a value, or of a null pointer. */
-#define COMPARES(kind, item)                                                    \
-    size_t ecow_proved_##kind##_len(ecow_##kind **value);                       \
-    void ecow_proved_##kind##_slice(ecow_##kind **, const item **, size_t *);   \
-    static void compare_##kind(const ecow_##kind *value) {                      \
-        ecow_##kind *place = (ecow_##kind *)value;                              \
-        size_t len = 99, proved_len = 0;                                        \
-        const item *start = ecow_##kind##_slice(value, &len), *proved = NULL;   \
-        CHECK(start && start == ecow_##kind##_slice(value, NULL));              \
-        CHECK(len == ecow_proved_##kind##_len(&place));                         \
-        CHECK(len == ecow_##kind##_len(value));                                 \
-        ecow_proved_##kind##_slice(&place, &proved, &proved_len);               \
-        CHECK(len == proved_len && (len == 0 || start == proved));              \
-        compared++;                                                             \
+#define COMPARES(kind, item, got)                                                          \
+    static void compare_##kind(const ecow_##kind *value) {                                 \
+        ecow_##kind *place = (ecow_##kind *)value;                                         \
+        size_t len = 99;                                                                   \
+        got found = 0;                                                                     \
+        const item *start = ecow_##kind##_slice(value, &len);                              \
+        CHECK(start && start == ecow_##kind##_slice(value, NULL));                         \
+        CHECK(len == ecow_##kind##_len(value));                                            \
+        for (size_t at = 0; at < len; at++) {                                              \
+            CHECK(ecow_proved_##kind##_get(&place, at, &found) == ECOW_OK);                \
+            CHECK(found == (got)start[at]);                                                \
+        }                                                                                  \
+        ecow_status behind = ecow_proved_##kind##_get(&place, len, &found);                \
+        CHECK(value ? behind != ECOW_OK && behind != ECOW_NULL : behind == ECOW_NULL);     \
+        compared++;                                                                        \
     }
 
-COMPARES(list, int64_t)
-COMPARES(bytes, uint8_t)
-COMPARES(text, char)
-
-size_t ecow_proved_texts_len(ecow_texts **value);
-ecow_status ecow_proved_texts_at(ecow_texts **, size_t index, const char **start, size_t *len);
+COMPARES(list, int64_t, int64_t)
+COMPARES(bytes, uint8_t, uint8_t)
+COMPARES(text, char, uint32_t)
 
 static void compare_texts(const ecow_texts *value) {
     ecow_texts *place = (ecow_texts *)value;
+    ecow_text found = {{0}}, *out = &found;
     size_t len = 99, count;
     const ecow_text *start = ecow_texts_slice(value, &len);
-    CHECK(start && len == ecow_texts_len(value) && len == ecow_proved_texts_len(&place));
+    CHECK(start && len == ecow_texts_len(value));
     for (size_t index = 0; index < len; index++) {
-        const char *proved = NULL;
-        size_t proved_count = 99;
-        CHECK(ecow_proved_texts_at(&place, index, &proved, &proved_count) == ECOW_OK);
+        CHECK(ecow_proved_texts_get(&place, index, &out) == ECOW_OK);
         const char *text = ecow_texts_at(value, index, &count);
-        CHECK(count == proved_count && (count == 0 || text == proved));
         CHECK(text && ecow_text_len(start + index) == count);
         CHECK(ecow_text_slice(start + index, NULL) == text);
+        CHECK(ecow_text_len(out) == count && memcmp(ecow_text_slice(out, NULL), text, count) == 0);
     }
+    ecow_status behind = ecow_proved_texts_get(&place, len, &out);
+    CHECK(behind == (value ? ECOW_INDEX : ECOW_NULL));
     CHECK(ecow_texts_at(value, len, &count) == NULL && count == 0);
     CHECK(ecow_texts_at(value, SIZE_MAX, NULL) == NULL);
+    ecow_text_drop(out);
     compared++;
 }
 

@@ -2,7 +2,6 @@
 use Rattle.std.specs.Prelude.{ℕ, Bool, List, Option, nat_eq, slice_get}
 use Rattle.std.specs.Cmp.Lexicographic.{pointwise, slice_cmp}
 use Rattle.std.specs.Ordering.{nat_cmp}
-use Rattle.std.specs.Option.{option_map}
 use Rattle.std.specs.Hash as fed
 use Rattle.std.specs.Str.{encode_utf8_all}
 use Rattle.std.specs.declared.cmp.Ordering.{Ordering}
@@ -20,10 +19,6 @@ text_eq x y = pointwise nat_eq (encode_utf8_all x.chars) (encode_utf8_all y.char
 -- the order of their bytes
 abbrev pub text_cmp : PlainText → PlainText → Ordering
 text_cmp x y = slice_cmp nat_cmp (encode_utf8_all x.chars) (encode_utf8_all y.chars)
-
--- how many bytes the text at an index has
-abbrev pub text_len_at : ℕ → List PlainText → Option ℕ
-text_len_at index texts = option_map (λ text. utf8_len text.chars) (slice_get texts index)
 
 -- the pieces that a hasher is fed: those of a `str`
 abbrev pub text_fed : PlainText → List (List ℕ)

@@ -6,7 +6,6 @@ ghost use Rattle.std.specs.Option.{option_map};
 ghost use Rattle.ecow_nested.specs.Values.{depth_of, items_of, len_of, part_of};
 ghost use Rattle.ecow_c.specs.Answers.{Alters, AltersBy, AltersBytes, AltersList, AltersTexts, AltersTextsBy, AreBothAnd, IsAmong, Reads, ReadsTo, RefusesPast, Writes, WritesTo};
 ghost use Rattle.ecow_c.specs.Indices.{InsertPasses, SplicePasses, is_outside};
-ghost use Rattle.ecow_c.specs.Texts.{text_len_at};
 ghost use Rattle.ecow_c.specs.Values.{CoversAt, IsDeepest, RisesAtMostBy, depth_at, item_at, last_item};
 
 use crate::pointer::{BytesPointer, ListPointer, TextPointer, TextsPointer, ValuePointer};
@@ -16,7 +15,6 @@ use crate::status::{
 use ecow_base::MAX_LEN;
 use ecow_nested::MAX_DEPTH;
 use std::alloc::Global;
-use std::ptr::from_ref;
 
 /// Writes the number at `index` to `out`.
 #[unsafe(no_mangle)]
@@ -91,29 +89,6 @@ pub extern "C" fn ecow_proved_value_get(
     let value = some_or!(pointer.value(), NULL);
     let out = some_or!(out.value(), NULL);
     put(ok_or_status!(value.part(index)).clone(), out)
-}
-
-/// Writes where the bytes of the text at `index` begin to `start`, unless it has none, and how many
-/// there are to `len`.
-#[unsafe(no_mangle)]
-pub extern "C" fn ecow_proved_texts_at(
-    pointer: &mut TextsPointer,
-    index: usize,
-    start: &mut *const u8,
-    len: &mut usize,
-) -> u32
-    ensures len { Reads (text_len_at index)
-        pointer.old.value result pointer.new.value len.old len.new }
-    ensures statuses { IsAmong (OK ∷ INDEX ∷ NULL ∷ []) result }
-    ensures index { result ≡ INDEX ↔ IsSomeAnd pointer.old.value (λ xs. length xs ≤ index) }
-{
-    let texts = some_or!(pointer.texts(), NULL);
-    let text = some_or!(texts.as_slice().get(index), INDEX);
-    *len = text.len();
-    if let Some(first) = text.as_str().as_bytes().first() {
-        *start = from_ref(first);
-    }
-    OK
 }
 
 /// Appends a number.

@@ -7,7 +7,6 @@ mod compare;
 mod elements;
 mod paths;
 mod pointer;
-mod read;
 mod room;
 mod status;
 mod text;

@@ -5,7 +5,7 @@ ghost use Rattle.std.specs.Option.{option_map};
 ghost use Rattle.std.specs.Str.{is_utf8};
 ghost use Rattle.ecow_nested.specs.Values.{truth_of, number_of, real_of, text_of, items_of, fields_of, new_field, with_field, without_field};
 ghost use Rattle.ecow_c.specs.Answers.{Alters, AltersBy, AreBothAnd, IsAmong, Reads, ReadsTo, WritesTo};
-ghost use Rattle.ecow_c.specs.Values.{CoversAt, HasNoFields, HasField, IsDeepest, LacksField, RisesAtMostBy, depth_at, field_at, kind_at, kind_number, name_at};
+ghost use Rattle.ecow_c.specs.Values.{CoversAt, HasNoFields, HasField, IsDeepest, LacksField, RisesAtMostBy, depth_at, field_at, kind_at, kind_number, len_at, name_at};
 
 use crate::pointer::{TextPointer, ValuePointer};
 use crate::status::{
@@ -48,6 +48,15 @@ pub extern "C" fn ecow_proved_value_kind(pointer: &mut ValuePointer) -> u32
     ensures unchanged { pointer.new.value ≡ pointer.old.value }
 {
     number(some_or!(pointer.value(), 0).kind())
+}
+
+/// The number of items or fields; 0 at a value of another kind and at a null pointer.
+#[unsafe(no_mangle)]
+pub extern "C" fn ecow_proved_value_len(pointer: &mut ValuePointer) -> usize
+    ensures len { result ≡ len_at pointer.old.value }
+    ensures unchanged { pointer.new.value ≡ pointer.old.value }
+{
+    some_or!(pointer.value(), 0).len().unwrap_or(0)
 }
 
 /// How deep the value nests; a null pointer as nothing does.
