@@ -12,7 +12,7 @@ use std::io::Write;
 use std::iter::Copied;
 use std::{mem, slice};
 
-/// Bytes that a call is given, in each form that one takes.
+/// The bytes that a call gets, in each form that some call takes.
 #[derive(Drop)]
 pub struct Gift {
     alloc: Global,
@@ -22,26 +22,30 @@ pub struct Gift {
 }
 
 impl Gift {
-    /// The bytes, one by one.
+    /// An iterator over the bytes.
     fn items(&self) -> Watched<'_, Copied<slice::Iter<'_, u8>>> {
         self.asks.of(self.bytes.as_slice().iter().copied())
     }
 }
 
-/// The letters in a block with so much room.
-pub(crate) fn block_of(alloc: Global, letters: &[u8], room: usize) -> Result<EcoVec<u8>, EcoError> {
-    let mut list = EcoVec::with_capacity(alloc, room)?;
+/// A block of the given capacity that holds the letters.
+pub(crate) fn block_of(
+    alloc: Global,
+    letters: &[u8],
+    capacity: usize,
+) -> Result<EcoVec<u8>, EcoError> {
+    let mut list = EcoVec::with_capacity(alloc, capacity)?;
     list.extend_from_slice(letters)?;
     Ok(list)
 }
 
 fn read<const N: usize>(value: &SmallBytes<N>) {
     let _seen = value.as_slice().len() == value.len() && value.is_empty();
-    let _room = value.capacity() > 0 && value.is_inline();
+    let _capacity = value.capacity() > 0 && value.is_inline();
     compare(value, value);
 }
 
-/// Makes a call that takes bytes out.
+/// Makes a call that removes bytes.
 fn take<const N: usize>(value: &mut SmallBytes<N>, row: &Row) -> Result<Option<u8>, EcoError> {
     let start = row.start_in(value.len());
     match row.call {
@@ -106,7 +110,7 @@ fn add<const N: usize>(value: &mut SmallBytes<N>, row: &Row, bytes: &[u8]) -> Re
     }
 }
 
-/// Bytes of the vector take the value's place; where there is none, it is there as before.
+/// Turns the value into a vector and back into bytes. If that is refused, the value is unchanged.
 fn give<const N: usize>(value: &mut SmallBytes<N>, alloc: Global) -> Result<(), EcoError> {
     let whole = mem::replace(value, SmallBytes::new(alloc));
     match whole.into_eco_vec() {
@@ -119,7 +123,7 @@ fn give<const N: usize>(value: &mut SmallBytes<N>, alloc: Global) -> Result<(), 
     Ok(())
 }
 
-/// Bytes of an array of so many, or of `N`.
+/// Bytes made of an array of 16, 1000 or `N` bytes.
 fn from_array<const N: usize>(alloc: Global, bytes: Vec<u8>) -> Result<SmallBytes<N>, EcoError> {
     if bytes.len() == 16 {
         let array: [u8; 16] = bytes.try_into().unwrap();
@@ -136,7 +140,7 @@ fn from_array<const N: usize>(alloc: Global, bytes: Vec<u8>) -> Result<SmallByte
     SmallBytes::from_array(alloc, array)
 }
 
-/// A refused `Vec` comes back.
+/// The error of a refused call, which must give its `Vec` back.
 fn error_of_vec(rejected: Rejected<Vec<u8>>, row: &Row) -> EcoError {
     if rejected.value.len() == row.count {
         rejected.error
@@ -184,9 +188,9 @@ impl<const N: usize> Value for SmallBytes<N> {
 
     fn made(alloc: Global, _source: &(), state: &State) -> Result<Self, EcoError> {
         let letters = letters::letters(alloc, false, state)?;
-        match state.room {
+        match state.capacity {
             None => SmallBytes::from_slice(alloc, letters.as_slice()),
-            Some(room) => Ok(SmallBytes::from(block_of(alloc, letters.as_slice(), room)?)),
+            Some(capacity) => Ok(SmallBytes::from(block_of(alloc, letters.as_slice(), capacity)?)),
         }
     }
 

@@ -1,14 +1,15 @@
-//! Calls as data: what is called, and with what.
+//! Calls as data: which method is called, and with which arguments.
 
-/// A call of vectors, bytes or texts. Where these name it apart, the comment says how.
+/// A method of vectors, bytes or texts. The comment gives the names if these types name it
+/// differently.
 #[derive(Clone, Copy, PartialEq, Eq)]
 pub enum Call {
-    /// All that only read.
+    /// All methods that only read.
     Read,
     /// `==`, `cmp` and `hash`.
     Compare,
     Push,
-    /// Room for one is reserved, and it is pushed.
+    /// Reserves capacity for one more item and pushes it.
     PushReserved,
     Insert,
     Set,
@@ -19,13 +20,13 @@ pub enum Call {
     Clear,
     Retain,
     Reserve,
-    /// The items are lent, and reversed.
+    /// Borrows the items and reverses them.
     MakeMut,
-    /// The block is lent, and its items reversed.
+    /// Borrows the block and reverses its items.
     OwnMut,
-    /// It is lent with room for more, and its items reversed.
+    /// Borrows the block with capacity for more items and reverses its items.
     OwnWithRoom,
-    /// The items are lent and reversed, and so many of them kept.
+    /// Borrows the items, reverses them, and keeps the first `count`.
     Rewrite,
     Drain,
     Splice,
@@ -33,11 +34,11 @@ pub enum Call {
     ExtendFromSlice,
     /// `extend`, `extend_chars`.
     Extend,
-    /// All of the text as one piece.
+    /// One piece, which is the whole given text.
     ExtendStrs,
-    /// Half of the text, nothing, and half again.
+    /// Half of the given text, an empty piece, and the same half again.
     ExtendHalves,
-    /// All of the text, so often.
+    /// The whole given text, this many times.
     ExtendManyStrs(usize),
     ExtendFromCopied,
     ExtendFromWithin,
@@ -52,20 +53,20 @@ pub enum Call {
     MakeAsciiUppercase,
     IntoVec,
     IntoIter,
-    /// An array of 5, or of 1000.
+    /// An array of 5 or of 1000 elements.
     IntoArray,
-    /// An array of another length than the vector's.
+    /// An array of a length that the vector doesn't have.
     IntoOtherArray,
-    /// Bytes or a text of the vector take the value's place.
+    /// Turns the value into a vector, and makes bytes or a text of that again.
     IntoEcoVec,
-    /// A text to bytes and back.
+    /// Turns a text into bytes and back.
     IntoBytes,
     Drop,
     Clone,
     /// `to_vec`, `to_std_string`.
     ToStd,
     Repeat,
-    /// What takes the place of which text, and how often at most.
+    /// The pattern, its replacement, and the most occurrences that are replaced.
     Replace(&'static str, &'static str, usize),
     ToAsciiLowercase,
     ToAsciiUppercase,
@@ -85,54 +86,54 @@ pub enum Call {
     FromIter,
     Collect,
     FromEcoVec,
-    /// The letter `é`.
+    /// The text `é`.
     FromChar,
     FromStrs,
-    /// All of the text, so often.
+    /// The whole given text, this many times.
     FromManyStrs(usize),
-    /// The text, and eight letters.
+    /// The given text, and then eight letters.
     FromEcoStrings,
     Format,
 }
 
-/// What a call does with a value.
+/// What a call does to a value.
 #[derive(Clone, Copy, PartialEq, Eq)]
 pub enum Role {
-    /// It changes it, reads it or gives it away.
+    /// It changes, reads or consumes the value.
     Change,
-    /// It makes another of it.
+    /// It makes another value from the value.
     Derive,
-    /// It needs none, and makes one.
+    /// It makes a value and needs none.
     Make,
 }
 
-/// The end of a value, whatever its length.
+/// As an index, the end of a value, whatever its length.
 pub const LAST: usize = 18446744073709551615;
 
 /// A row of the tables of calls.
 #[derive(Clone, Copy)]
 pub struct Row {
     pub call: Call,
-    /// How the tables of costs write it, but for its owner.
+    /// How the tables of costs write the call, without what stands before its dot.
     pub name: &'static str,
-    /// The part of the value that it is about, and none where both are 0.
+    /// The range of the value that the call is about; both are 0 if there is none.
     pub start: usize,
     pub end: usize,
-    /// How many items it is given, keeps, or asks room for.
+    /// How many items the call gets, keeps, or reserves capacity for.
     pub count: usize,
-    /// How many items there must be.
+    /// The least number of items that the value must have.
     pub needs: usize,
-    /// How often it is made, one after another.
+    /// How many times in a row the call is made.
     pub times: usize,
 }
 
 impl Row {
-    /// Where the part begins among so many items.
+    /// Where the range starts in a value of `len` items.
     pub fn start_in(&self, len: usize) -> usize {
         self.start.min(len)
     }
 
-    /// Where the part ends among so many items.
+    /// Where the range ends in a value of `len` items.
     pub fn end_in(&self, len: usize) -> usize {
         self.end.min(len)
     }

@@ -1,11 +1,11 @@
-//! Elements that tell what is done to them.
+//! Elements that count how often they are cloned and dropped.
 use ecow_list::{EcoError, EcoVec};
 use std::alloc::{AllocError, Global};
 use std::cell::Cell;
 use std::rc::Rc;
 
-/// How often elements were made, clones among them; how often one was cloned, refused clones among
-/// them, and how often dropped. The clone with this number, counted from 1, is refused.
+/// How many elements were made (clones included), cloned (refused clones included) and dropped. The
+/// clone with the number `refused`, counted from 1, is refused.
 #[derive(Drop)]
 struct Counts {
     made: Cell<u64>,
@@ -14,19 +14,19 @@ struct Counts {
     refused: u64,
 }
 
-/// What elements are made of, beside memory. It may count them.
+/// What elements are made from, besides memory. It may count them.
 pub trait Source: Drop {
-    /// How often elements were cloned so far, and how often dropped.
+    /// How many clones and how many drops there were so far, if they are counted.
     fn counts(&self) -> Option<(u64, u64)> {
         None
     }
 
-    /// Whether there are so many elements.
+    /// Whether exactly this many elements exist; true if they aren't counted.
     fn has_live(&self, _count: u64) -> bool {
         true
     }
 
-    /// Whether so many elements were cloned since.
+    /// Whether exactly `count` elements were cloned since; true if they aren't counted.
     fn has_cloned(&self, before: Option<(u64, u64)>, count: u64) -> bool {
         match (before, self.counts()) {
             (Some((before, _)), Some((after, _))) => after.wrapping_sub(before) == count,
@@ -37,7 +37,7 @@ pub trait Source: Drop {
 
 impl Source for () {}
 
-/// What was done to the elements that count here.
+/// Counts what is done to the elements that are made from it.
 #[derive(Drop)]
 pub struct Tally {
     counts: Rc<Counts>,
@@ -48,7 +48,7 @@ impl Tally {
         Tally::refusing(alloc, 0)
     }
 
-    /// Elements that count here refuse the clone with this number, counted from 1.
+    /// A tally whose elements refuse the clone with this number, counted from 1.
     pub fn refusing(alloc: Global, refused: u64) -> Result<Self, AllocError> {
         let counts = Counts {
             made: Cell::new(0),
@@ -69,28 +69,28 @@ impl Tally {
         self.counts.drops.get()
     }
 
-    /// Whether so many clones were made, and so many elements dropped.
+    /// Whether there were exactly this many clones and drops.
     pub fn has(&self, clones: u64, drops: u64) -> bool {
         self.clones() == clones && self.drops() == drops
     }
 
-    /// How many clones were made, and how many elements dropped, once the value is dropped.
+    /// Drops the value, and tells how many clones and drops there were then.
     pub fn counts_without<V: Drop>(&self, value: V) -> (u64, u64) {
         drop(value);
         (self.clones(), self.drops())
     }
 
-    /// An element that counts here.
+    /// A new element, with the number 0.
     pub fn element(&self) -> Result<Counting, AllocError> {
         self.numbered(0)
     }
 
-    /// An element that counts here, with a number.
+    /// A new element with this number.
     pub fn numbered(&self, number: i64) -> Result<Counting, AllocError> {
         one_more(number, &self.counts)
     }
 
-    /// Elements that count here.
+    /// `n` new elements.
     pub fn elements(&self, alloc: Global, n: usize) -> Result<Vec<Counting>, AllocError> {
         let mut elements = Vec::new(alloc);
         for _ in 0..n {
@@ -99,7 +99,7 @@ impl Tally {
         Ok(elements)
     }
 
-    /// A vector of elements that count here.
+    /// A vector of `n` new elements.
     pub fn list(&self, alloc: Global, n: usize) -> Result<EcoVec<Counting>, EcoError> {
         EcoVec::from_vec(alloc, self.elements(alloc, n)?).map_err(|rejected| rejected.error)
     }
@@ -115,7 +115,7 @@ impl Source for Tally {
     }
 }
 
-/// An element that counts its clones and its drop.
+/// An element that counts its clones and its drop in a `Tally`.
 pub struct Counting {
     pub number: i64,
     counts: Rc<Counts>,
@@ -132,7 +132,7 @@ impl Clone for Counting {
     }
 }
 
-/// One more element that counts there.
+/// Makes one more element that is counted there.
 fn one_more(number: i64, counts: &Rc<Counts>) -> Result<Counting, AllocError> {
     let counts = counts.clone()?;
     counts.made.set(counts.made.get().wrapping_add(1));
@@ -149,6 +149,6 @@ impl Drop for Counting {
     }
 }
 
-/// An element that can't be cloned.
+/// An element without a clone.
 #[derive(Drop)]
 pub struct Single;

@@ -1,4 +1,5 @@
-//! Elements of vectors: numbers, bytes, such whose clones take memory, and such that count.
+//! Elements of vectors: numbers, bytes, elements whose clones take memory, and elements that count
+//! their clones.
 use crate::calls::{Call, Row};
 use crate::counting::{Counting, Source, Tally};
 use ecow_list::{EcoError, EcoVec, IntoArray, Rejected, range_in};
@@ -6,24 +7,24 @@ use std::alloc::{AllocError, Global};
 use std::hash::{DefaultHasher, Hash};
 use std::io::Write;
 
-/// An element that is known by a number.
+/// An element that has a number, by which tests tell it from others.
 pub trait Element: Clone + Drop {
-    /// What it is made of, beside memory.
+    /// What elements are made from, besides memory.
     type Source: Source;
 
-    /// Five elements, or a thousand. Not all elements are tried in arrays.
+    /// An array of 5 or of 1000 elements. Only some elements are tried in arrays.
     type Array: Drop;
 
     fn of(alloc: Global, source: &Self::Source, number: i64) -> Result<Self, AllocError>;
 
     fn number(&self) -> i64;
 
-    /// The number of an element that is made of this one.
+    /// The number that an element has which is made from `number`.
     fn shown(number: i64) -> i64 {
         number
     }
 
-    /// Whether a clone is a copy, which takes no memory.
+    /// Whether a clone takes no memory.
     fn is_plain() -> bool {
         true
     }
@@ -40,23 +41,23 @@ pub trait Element: Clone + Drop {
         Err(EcoError::Capacity)
     }
 
-    /// Makes a vector by a call that takes elements as memory.
+    /// Makes a vector by a call that copies elements as plain memory.
     fn from_copied(_alloc: Global, _elements: &[Self]) -> Result<EcoVec<Self>, EcoError> {
         Err(EcoError::Capacity)
     }
 
-    /// Makes a call that takes elements as memory, or compares them.
+    /// Makes a call that copies elements as plain memory, or that compares them.
     fn copy(_list: &mut EcoVec<Self>, _row: &Row, _given: &[Self]) -> Result<(), EcoError> {
         Err(EcoError::Capacity)
     }
 }
 
-/// Why a value came back. It is let go.
+/// Why a value came back. The value is dropped.
 pub fn error_of<V: Drop>(rejected: Rejected<V>) -> EcoError {
     rejected.error
 }
 
-/// What a call made that only memory refuses.
+/// The result of a call that only a lack of memory refuses.
 pub fn or_memory<V>(value: Result<V, AllocError>) -> Result<V, EcoError> {
     match value {
         Ok(value) => Ok(value),
@@ -64,7 +65,7 @@ pub fn or_memory<V>(value: Result<V, AllocError>) -> Result<V, EcoError> {
     }
 }
 
-/// Compares a value, and hashes it.
+/// Compares two values, and hashes one.
 pub fn compare<V: Ord + Hash>(value: &V, other: &V) {
     let _equal = value == other;
     let _order = value.cmp(other);
@@ -72,7 +73,7 @@ pub fn compare<V: Ord + Hash>(value: &V, other: &V) {
     value.hash(&mut hasher);
 }
 
-/// A call that takes elements of a slice as memory.
+/// Makes a call that copies the elements of a slice as plain memory.
 fn copied<T: Copy>(list: &mut EcoVec<T>, row: &Row, given: &[T]) -> Result<(), EcoError> {
     let (start, end) = (row.start_in(list.len()), row.end_in(list.len()));
     match row.call {
@@ -221,7 +222,7 @@ impl Element for u8 {
     }
 }
 
-/// A number with a name, so that its clone takes memory.
+/// A number with a name. Its clone takes memory, since it clones the name.
 #[derive(Clone, Drop)]
 pub struct Named {
     number: i64,
@@ -271,14 +272,14 @@ impl Element for Named {
     }
 }
 
-/// The arrays of elements that count.
+/// The arrays of `Counting` that a test makes.
 #[derive(Drop)]
 pub enum Counted {
     Few([Counting; 5]),
     Many([Counting; 1000]),
 }
 
-/// An element that counts, of 72 bytes.
+/// An element of 72 bytes that counts its clones and its drop.
 #[derive(Clone, Drop)]
 pub struct Wide {
     counting: Counting,

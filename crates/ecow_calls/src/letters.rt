@@ -1,9 +1,9 @@
-//! The letters of bytes and texts: those that stand in a value, and those that a call is given.
+//! The letters of bytes and texts: those that a value holds, and those that a call gets.
 use crate::calls::{Call, Row};
 use crate::states::State;
 use std::alloc::{AllocError, Global};
 
-/// Two bytes, or four, of the one character that they are.
+/// A character of two bytes, and one of four.
 const TWO: &str = "é";
 
 const FOUR: &str = "😀";
@@ -12,14 +12,14 @@ fn byte_at(text: &str, place: usize) -> u8 {
     text.as_bytes().get(place).copied().unwrap_or(0)
 }
 
-/// One of so many bytes from the first on, again and again.
+/// The byte at a place of a cycle of `count` consecutive bytes, of which `first` is the first.
 pub(crate) fn in_turn(first: u8, count: usize, place: usize) -> u8 {
     let shift = place.checked_rem(count).unwrap_or(0);
     first.wrapping_add(u8::try_from(shift).unwrap_or(0))
 }
 
-/// The byte at a place. Those of a plain value are an A and then b alone; of a text's letters that
-/// differ the fourth is `é`, where there are more than five bytes.
+/// The byte at a place of a value. A plain value is an `A` and then only `b`. In a text of more
+/// than five bytes whose letters differ, the fourth letter is `é`.
 pub(crate) fn letter(is_text: bool, state: &State, place: usize) -> u8 {
     if state.is_plain {
         return if place == 0 { b'A' } else { b'b' };
@@ -38,12 +38,12 @@ pub(crate) fn letters(alloc: Global, is_text: bool, state: &State) -> Result<Vec
     Ok(bytes)
 }
 
-/// Whether a call of a text is given one character.
+/// Whether a call of a text gets a single character.
 fn is_given_a_char(row: &Row) -> bool {
     matches!(row.call, Call::Push | Call::PushReserved | Call::Insert)
 }
 
-/// Whether a call of a text is given four bytes one by one, or as it is printed.
+/// Whether a call of a text gets its letters from an iterator.
 fn is_given_pieces(row: &Row) -> bool {
     match row.call {
         Call::Extend | Call::ExtendStrs | Call::ExtendHalves | Call::ExtendManyStrs(_) => true,
@@ -52,7 +52,7 @@ fn is_given_pieces(row: &Row) -> bool {
     }
 }
 
-/// A byte that a call is given. Of texts two or four bytes may be one character.
+/// A byte that a call gets. For texts, two or four bytes may be one character.
 pub(crate) fn given(is_text: bool, row: &Row, place: usize) -> u8 {
     match row.count {
         _ if !is_text => in_turn(b'.', 12, place),
@@ -62,7 +62,7 @@ pub(crate) fn given(is_text: bool, row: &Row, place: usize) -> u8 {
     }
 }
 
-/// The bytes that a call is given.
+/// The bytes that a call gets.
 pub(crate) fn gift(alloc: Global, is_text: bool, row: &Row) -> Result<Vec<u8>, AllocError> {
     let len = match row.call {
         Call::Truncate | Call::Reserve | Call::Rewrite | Call::Repeat | Call::WithCapacity => 0,

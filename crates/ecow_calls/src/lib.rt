@@ -1,6 +1,7 @@
-//! The calls of vectors, bytes and texts as data: the tables of calls, the states of a value, what a
-//! call does by the rules, and what makes it. Programs observe them: what they cost, and what is left
-//! where a request for memory or a clone of an element is refused.
+//! Support for tests: the calls of vectors, bytes and texts as data. It has tables of calls, the
+//! states of a value, a model of what each call does, and the functions that make each call and
+//! compare. The programs that use it measure what calls cost, and refuse requests for memory and
+//! clones of elements.
 #![tactic(auto)]
 
 pub mod bytes;

@@ -1,9 +1,10 @@
-//! What a call does, by the rules of `docs/COSTS.md` and of the values, written by hand: which items
-//! stand there behind it, what it hands out, in which form, in how much room, and who shares it.
+//! A model of each call, written by hand from the rules in `docs/COSTS.md` and of the values: which
+//! items the value has afterwards, what the call returns, whether the value is inline, its
+//! capacity, and who shares its block.
 use crate::calls::{Call, Role, Row};
 use crate::states::State;
 
-/// So many items are put in the place of a part.
+/// A change: `count` items replace those from `start` up to `end`.
 #[derive(Clone, Copy)]
 pub struct Edit {
     pub start: usize,
@@ -11,12 +12,12 @@ pub struct Edit {
     pub count: usize,
 }
 
-/// Where an item comes from.
+/// Where an item of a value comes from after a call.
 #[derive(Clone, Copy)]
 pub enum Origin {
-    /// It stood at this place before.
+    /// From this index of the value before the call.
     Before(usize),
-    /// It is the one of this number that the call was given.
+    /// From this index of the items that the call got.
     Given(usize),
     Byte(u8),
 }
@@ -26,29 +27,29 @@ pub enum Origin {
 pub struct Case {
     pub row: Row,
     pub state: State,
-    /// How many items stand in the value itself; vectors have none there.
+    /// The inline limit; `None` for vectors.
     pub limit: Option<usize>,
     /// Whether the items are a text's bytes.
     pub is_text: bool,
-    /// Whether a clone of an item can't be refused.
+    /// Whether clones of items can't be refused.
     pub is_plain: bool,
 }
 
-/// The room of a new block for so many.
+/// The capacity of a new block for `len` items.
 fn fresh(len: usize) -> usize {
     if len == 0 { 0 } else { len.max(4) }
 }
 
-/// The room that there is, or that of a block which grows.
-fn with_room(needed: usize, room: usize) -> usize {
-    if needed <= room {
-        room
+/// The capacity of a block that had `capacity` and needs `needed`: the same, or that of a larger block.
+fn grown_capacity(needed: usize, capacity: usize) -> usize {
+    if needed <= capacity {
+        capacity
     } else {
-        needed.max(room.saturating_mul(2)).max(4)
+        needed.max(capacity.saturating_mul(2)).max(4)
     }
 }
 
-/// How often a block asks for memory that has so much room, or isn't there, and is to have so much.
+/// How many requests for memory take a block from one capacity to another; one of 0 is no block.
 fn requests(before: usize, after: usize) -> usize {
     match after {
         _ if after <= before => 0,
@@ -57,14 +58,14 @@ fn requests(before: usize, after: usize) -> usize {
     }
 }
 
-/// The room of so many bytes that spill, of which fewer stood in the value itself.
+/// The capacity of the block that `needed` bytes spill to from an inline value of `len` bytes.
 fn spilled(needed: usize, len: usize) -> usize {
     let least = needed.max(len.saturating_mul(2)).max(4);
     least.checked_next_power_of_two().unwrap_or(least)
 }
 
 impl Row {
-    /// Which part of so many items the call changes.
+    /// What the call changes in a value of `len` items.
     pub fn edit(&self, len: usize) -> Edit {
         let (start, end) = (self.start_in(len), self.end_in(len));
         let (start, end, count) = match self.call {
@@ -88,7 +89,7 @@ impl Row {
         Edit { start, end, count }
     }
 
-    /// Whether the part that goes is handed out.
+    /// Whether the call returns the items that it removes.
     pub fn hands_out(&self) -> bool {
         match self.call {
             Call::Update | Call::Pop | Call::Remove | Call::Drain | Call::Splice => true,
@@ -97,7 +98,7 @@ impl Row {
         }
     }
 
-    /// Whether a vector is given away.
+    /// Whether the call consumes the vector.
     pub fn gives_away(&self) -> bool {
         match self.call {
             Call::IntoVec | Call::IntoIter | Call::IntoArray | Call::Drop => true,
@@ -105,7 +106,7 @@ impl Row {
         }
     }
 
-    /// Whether a value that is shared stays so where nothing is changed.
+    /// Whether a shared value stays shared if the call changes nothing.
     fn is_lazy(&self) -> bool {
         match self.call {
             Call::Pop | Call::Truncate | Call::Clear | Call::Write | Call::Add => true,
@@ -116,8 +117,8 @@ impl Row {
         }
     }
 
-    /// Whether a copy has no less room than the block had that was shared.
-    fn keeps_room(&self) -> bool {
+    /// Whether the copy of a shared block has at least the block's capacity.
+    fn keeps_capacity(&self) -> bool {
         match self.call {
             Call::Push | Call::PushReserved | Call::Insert | Call::InsertSlice => true,
             Call::ExtendFromSlice | Call::Extend | Call::ExtendStrs | Call::ExtendHalves => true,
@@ -128,7 +129,7 @@ impl Row {
         }
     }
 
-    /// How many items go in at once, where they go in piece by piece.
+    /// How many items each piece has, if the call adds items piece by piece.
     pub fn piece(&self) -> Option<usize> {
         match self.call {
             Call::Extend => Some(1),
@@ -138,7 +139,7 @@ impl Row {
         }
     }
 
-    /// How many items the iterator gives that a call is given.
+    /// How many items the iterator has that the call gets, if it gets one.
     pub fn items(&self) -> Option<usize> {
         match self.call {
             Call::Extend | Call::Splice | Call::FromIter | Call::Collect => Some(self.count),
@@ -150,7 +151,7 @@ impl Row {
         }
     }
 
-    /// How long a value is that a call makes of one of so many items, or of nothing.
+    /// The length of the value that the call makes, from a value of `len` items if it needs one.
     pub fn made_len(&self, len: usize) -> usize {
         match self.call {
             Call::New | Call::WithCapacity => 0,
@@ -165,7 +166,7 @@ impl Row {
         }
     }
 
-    /// Where the item at a place comes from that a call makes.
+    /// Where the item at a place of the value that the call makes comes from.
     pub fn made_of(&self, len: usize, place: usize) -> Origin {
         let eight = |place: usize| b"12345678".get(place).copied().unwrap_or(0);
         match self.call {
@@ -181,7 +182,7 @@ impl Row {
         }
     }
 
-    /// Where the item at a place comes from behind a change.
+    /// Where the item at a place comes from after a change.
     pub fn origin(&self, len: usize, place: usize) -> Origin {
         let Edit { start, end, count } = self.edit(len);
         match self.call {
@@ -201,7 +202,7 @@ impl Row {
     }
 }
 
-/// How long a text of an A and letters b is in which another text took a pattern's place.
+/// The length of a text of an `A` and then only `b` in which a pattern was replaced.
 fn replaced_len(len: usize, pattern: &str, by: usize, times: usize) -> usize {
     match (pattern, times) {
         (_, 0) => len,
@@ -213,7 +214,7 @@ fn replaced_len(len: usize, pattern: &str, by: usize, times: usize) -> usize {
     }
 }
 
-/// Where the byte at a place comes from in such a text. All letters b are alike.
+/// Where the byte at a place of such a text comes from. One `b` is as good as another.
 fn replaced(place: usize, pattern: &str, by: &str, times: usize) -> Origin {
     let new = |place: usize| Origin::Byte(by.as_bytes().get(place).copied().unwrap_or(0));
     let rest = Origin::Before(place.saturating_sub(by.len()));
@@ -224,7 +225,7 @@ fn replaced(place: usize, pattern: &str, by: &str, times: usize) -> Origin {
         ("b", _) if place > 0 => new((place - 1).checked_rem(by.len()).unwrap_or(0)),
         ("", 1) if place < by.len() => new(place),
         ("", 1) => rest,
-        // One byte stands before each and behind all.
+        // The replacement has one byte here. It comes before each letter and after the last.
         ("", _) if place % 2 == 0 => new(0),
         ("", _) => Origin::Before(place / 2),
         _ => Origin::Before(place),
@@ -236,7 +237,7 @@ impl Case {
         self.row.edit(self.state.len)
     }
 
-    /// Whether the items are there that the call is about.
+    /// Whether the value has the items that the call needs.
     pub fn fits(&self) -> bool {
         self.row.needs <= self.state.len
     }
@@ -247,11 +248,11 @@ impl Case {
         kept.saturating_add(count)
     }
 
-    /// For how many items there must be room.
+    /// The least capacity that the value has after the call.
     fn needed(&self) -> usize {
         match self.row.call {
             Call::Reserve => self.state.len.saturating_add(self.row.count),
-            // A vector always has a block then.
+            // A vector has a block then, even an empty one.
             Call::OwnWithRoom => self.state.len.saturating_add(self.row.count).max(1),
             _ => self.len_after(),
         }
@@ -262,7 +263,7 @@ impl Case {
     }
 
     pub fn is_inline_after(&self) -> bool {
-        let is_inline = self.state.room.is_none();
+        let is_inline = self.state.capacity.is_none();
         match self.row.call {
             Call::IntoEcoVec => false,
             Call::ShrinkToFit => is_inline || self.fits_inline(self.state.len),
@@ -270,7 +271,7 @@ impl Case {
         }
     }
 
-    /// Whether the value shares no block any more, once the call is done.
+    /// Whether the call takes a shared value out of the block that it shared.
     pub fn leaves(&self) -> bool {
         let Edit { start, end, count } = self.edit();
         self.state.shared
@@ -281,7 +282,7 @@ impl Case {
             }
     }
 
-    /// How many items are copied where the value leaves its block.
+    /// How many items the call copies out of a shared block.
     fn copied(&self) -> usize {
         match self.row.call {
             _ if !self.leaves() => 0,
@@ -292,7 +293,7 @@ impl Case {
         }
     }
 
-    /// How many elements are cloned.
+    /// How many elements the call clones.
     pub fn clones(&self, role: Role) -> usize {
         match (role, self.row.call) {
             (Role::Derive, _) => 0,
@@ -303,85 +304,92 @@ impl Case {
         }
     }
 
-    /// The room once pieces went in, so often, behind so many items in so much room, or in the value
-    /// itself; and how often memory was asked for.
-    fn grown(&self, len: usize, room: Option<usize>, piece: usize, times: usize) -> (usize, usize) {
-        let (mut len, mut room, mut asked) = (len, room, 0usize);
+    /// The capacity after `times` pieces were added to `len` items, and how many requests that
+    /// took. `capacity` is the capacity before; `None` says that the value is inline.
+    fn grown(
+        &self,
+        len: usize,
+        capacity: Option<usize>,
+        piece: usize,
+        times: usize,
+    ) -> (usize, usize) {
+        let (mut len, mut capacity, mut asked) = (len, capacity, 0usize);
         for _ in 0..times {
             let needed = len.saturating_add(piece);
-            let (before, after) = match room {
-                Some(room) => (room, Some(with_room(needed, room))),
+            let (before, after) = match capacity {
+                Some(capacity) => (capacity, Some(grown_capacity(needed, capacity))),
                 None if self.fits_inline(needed) => (0, None),
                 None => (0, Some(spilled(needed, len))),
             };
             asked = asked.saturating_add(requests(before, after.unwrap_or(0)));
-            (len, room) = (needed, after);
+            (len, capacity) = (needed, after);
         }
-        (room.or(self.limit).unwrap_or(0), asked)
+        (capacity.or(self.limit).unwrap_or(0), asked)
     }
 
-    /// The room once so many items went in, piece by piece.
-    pub fn room_by_pieces(&self, count: usize) -> usize {
+    /// The capacity after `count` items were added piece by piece.
+    pub fn capacity_by_pieces(&self, count: usize) -> usize {
         let piece = self.row.piece().unwrap_or(count).max(1);
-        self.grown(self.state.len, self.state.room, piece, count / piece)
+        self.grown(self.state.len, self.state.capacity, piece, count / piece)
             .0
     }
 
-    /// The room once the call is done.
-    pub fn room_after(&self) -> usize {
+    /// The capacity after the call.
+    pub fn capacity_after(&self) -> usize {
         let len = self.state.len;
         let (needed, limit) = (self.needed(), self.limit.unwrap_or(0));
         if self.row.piece().is_some() {
-            return self.room_by_pieces(self.edit().count);
+            return self.capacity_by_pieces(self.edit().count);
         }
-        match (self.row.call, self.state.room) {
+        match (self.row.call, self.state.capacity) {
             _ if self.is_inline_after() => limit,
             (_, Some(_)) if self.row.gives_away() => 0,
             (Call::IntoEcoVec, None) => fresh(len),
             (_, None) => spilled(needed, len),
-            (_, Some(room)) if !self.state.shared => with_room(needed, room),
-            (_, Some(room)) if !self.leaves() => room,
-            (Call::Splice, _) => with_room(needed, fresh(len)),
-            (_, Some(room)) if self.row.keeps_room() => with_room(needed, room),
+            (_, Some(capacity)) if !self.state.shared => grown_capacity(needed, capacity),
+            (_, Some(capacity)) if !self.leaves() => capacity,
+            (Call::Splice, _) => grown_capacity(needed, fresh(len)),
+            (_, Some(capacity)) if self.row.keeps_capacity() => grown_capacity(needed, capacity),
             _ => fresh(self.copied()),
         }
     }
 
-    /// Whether what goes or comes stands in a block of its own meanwhile.
+    /// Whether the call needs another block for the items that it adds or removes.
     fn asks_beside(&self) -> bool {
         let Edit { start, end, count } = self.edit();
         match self.row.call {
             Call::Drain => start < end,
             Call::Splice => start < end || count > 0,
             Call::IntoVec | Call::IntoArray => self.state.len > 0,
-            Call::IntoEcoVec => self.state.room.is_none() && self.state.len > 0,
+            Call::IntoEcoVec => self.state.capacity.is_none() && self.state.len > 0,
             Call::ExtendFromSlice => !self.is_plain && count > 0,
             _ => false,
         }
     }
 
-    /// Whether the call can't be refused.
+    /// Whether the call can't be refused for memory.
     pub fn is_free(&self) -> bool {
-        match self.state.room {
+        match self.state.capacity {
             _ if self.asks_beside() => false,
             None => self.is_inline_after() || self.row.call == Call::IntoEcoVec,
             Some(_) if self.row.call == Call::IntoIter => self.copied() == 0,
             Some(_) if !self.state.shared && self.row.gives_away() => true,
-            Some(room) if !self.leaves() => self.room_after() == room || self.is_inline_after(),
-            Some(_) => self.copied() == 0 && (self.room_after() == 0 || self.is_inline_after()),
+            Some(capacity) if !self.leaves() => self.capacity_after() == capacity
+                || self.is_inline_after(),
+            Some(_) => self.copied() == 0 && (self.capacity_after() == 0 || self.is_inline_after()),
         }
     }
 
-    /// How long the value is that the call makes.
+    /// The length of the value that the call makes.
     pub fn made_len(&self) -> usize {
         self.row.made_len(self.state.len)
     }
 
-    /// Whether the value that the call makes stands inline.
+    /// Whether the value that the call makes is inline.
     pub fn is_made_inline(&self) -> bool {
         match self.row.call {
             Call::Clone | Call::ToAsciiLowercase | Call::ToAsciiUppercase => {
-                self.state.room.is_none()
+                self.state.capacity.is_none()
             }
             Call::FromEcoVec => false,
             Call::WithCapacity => self.fits_inline(self.row.count),
@@ -389,13 +397,13 @@ impl Case {
         }
     }
 
-    /// The room of the value that the call makes, and how often it asks for memory. What makes a
-    /// `Vec` or a `String` asks too.
-    pub fn made_room(&self) -> (usize, usize) {
+    /// The capacity of the value that the call makes, and how many requests that takes. A `Vec` or
+    /// a `String` takes requests too, and has no capacity here.
+    pub fn made_capacity(&self) -> (usize, usize) {
         let (len, limit, count) = (self.made_len(), self.limit.unwrap_or(0), self.row.count);
         let none = if self.limit.is_some() { None } else { Some(0) };
-        let room = match self.row.call {
-            Call::Clone => return (self.state.room.unwrap_or(limit), 0),
+        let capacity = match self.row.call {
+            Call::Clone => return (self.state.capacity.unwrap_or(limit), 0),
             Call::FromEcoVec => return (fresh(len), 0),
             Call::ToStd => return (0, self.state.len.min(1)),
             _ if self.is_made_inline() => return (limit, 0),
@@ -403,8 +411,8 @@ impl Case {
             Call::FromManyStrs(times) => return self.grown(0, none, count, times),
             Call::FromEcoStrings if count > limit => {
                 let first = spilled(count, 0);
-                let (room, asked) = self.grown(count, Some(first), 8, 1);
-                return (room, asked.saturating_add(requests(0, first)));
+                let (capacity, asked) = self.grown(count, Some(first), 8, 1);
+                return (capacity, asked.saturating_add(requests(0, first)));
             }
             Call::FromEcoStrings => spilled(len, count),
             Call::FromStrs | Call::Format => spilled(len, 0),
@@ -412,14 +420,14 @@ impl Case {
             Call::Repeat | Call::Replace(_, _, _) => len,
             _ => fresh(len),
         };
-        (room, requests(0, room))
+        (capacity, requests(0, capacity))
     }
 
-    /// Whether the call that makes a value can't be refused.
+    /// Whether the call, which makes a value, can't be refused for memory.
     pub fn is_made_free(&self) -> bool {
         match self.row.call {
             Call::Clone | Call::FromEcoVec => true,
-            // Both ask for what std gives.
+            // Both make a value of std's first.
             Call::FromArray if self.limit.is_none() => false,
             Call::ToLowercase | Call::ToUppercase if !self.state.is_plain => false,
             Call::ToStd => self.state.len == 0,

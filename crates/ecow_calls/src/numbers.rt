@@ -1,6 +1,6 @@
-//! Numbers that a seed decides.
+//! Pseudo-random numbers.
 
-/// A row of numbers that a seed decides.
+/// A generator of pseudo-random numbers, which a seed decides.
 #[derive(Drop)]
 pub struct Numbers(u64);
 
@@ -9,7 +9,7 @@ impl Numbers {
         Numbers(seed)
     }
 
-    /// A number below `limit`, or 0 where that is 0.
+    /// A number below `limit`; 0 if `limit` is 0.
     pub fn below(&mut self, limit: u64) -> u64 {
         self.0 = self
             .0

@@ -1,11 +1,11 @@
-//! Values that print themselves into texts.
+//! Values that are formatted into texts.
 use crate::watch::Watch;
 use ecow_string::{EcoString, ToEcoString, eco_format};
 use std::alloc::Global;
 use std::fmt;
 
-/// Whether a value was printed as it is to be, or for want of memory not at all. An inline text
-/// takes no memory.
+/// Whether a value was formatted as expected, or refused for memory. A text that fits inline takes
+/// no memory.
 fn is_printed(watch: &Watch, printed: Result<EcoString, fmt::Error>, want: &str) -> bool {
     match printed {
         Ok(text) => text.as_str() == want && text.is_inline() == (want.len() <= 15),

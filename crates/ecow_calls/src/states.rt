@@ -1,45 +1,45 @@
-//! The states of a value before a call that tell.
+//! The states in which a value is before a call.
 
-/// So many items, in a block with so much room or in the value itself, and whether a clone shares
-/// the block.
+/// How many items a value has, where they are, and whether a clone shares its block.
 #[derive(Clone, Copy)]
 pub struct State {
     pub name: &'static str,
     pub len: usize,
-    /// `None` where the items stand in the value itself; without room a vector has no block.
-    pub room: Option<usize>,
+    /// The capacity of the block; `None` if the value is inline. A vector of capacity 0 has no
+    /// block.
+    pub capacity: Option<usize>,
     pub shared: bool,
-    /// Whether the letters are an A and so many b, or differ from one to the next.
+    /// Whether the letters are an `A` and then only `b`. Otherwise each differs from the next.
     pub is_plain: bool,
 }
 
-/// Items in a block that is the value's alone.
-fn sole(name: &'static str, len: usize, room: usize) -> State {
+/// A value that shares its block with none.
+fn sole(name: &'static str, len: usize, capacity: usize) -> State {
     State {
         name,
         len,
-        room: Some(room),
+        capacity: Some(capacity),
         shared: false,
         is_plain: true,
     }
 }
 
-fn shared(name: &'static str, len: usize, room: usize) -> State {
+fn shared(name: &'static str, len: usize, capacity: usize) -> State {
     State {
         shared: true,
-        ..sole(name, len, room)
+        ..sole(name, len, capacity)
     }
 }
 
 fn inline(name: &'static str, len: usize) -> State {
     State {
-        room: None,
+        capacity: None,
         ..sole(name, len, 0)
     }
 }
 
 impl State {
-    /// The state with letters that differ.
+    /// The same state, with letters that differ.
     pub fn varied(self) -> State {
         State {
             is_plain: false,
@@ -48,7 +48,7 @@ impl State {
     }
 }
 
-/// Few elements of a vector.
+/// Vectors of few elements.
 pub fn few_elements() -> [State; 7] {
     [
         sole("no block", 0, 0),
@@ -61,7 +61,7 @@ pub fn few_elements() -> [State; 7] {
     ]
 }
 
-/// A thousand items of any value.
+/// Values of a thousand items, of any type.
 pub fn thousand() -> [State; 4] {
     [
         sole("room of 1000", 1000, 1600),
@@ -71,7 +71,7 @@ pub fn thousand() -> [State; 4] {
     ]
 }
 
-/// As many items as have room behind a block's head.
+/// As many items as fit behind a block's head; with one more they are apart from it.
 pub fn brimful() -> [State; 2] {
     [
         sole("full of 1024", 1024, 1024),
@@ -79,7 +79,7 @@ pub fn brimful() -> [State; 2] {
     ]
 }
 
-/// Few bytes at the usual limit.
+/// Few bytes, at the inline limit 15.
 pub fn few_bytes() -> [State; 7] {
     [
         inline("inline", 5),
@@ -92,7 +92,7 @@ pub fn few_bytes() -> [State; 7] {
     ]
 }
 
-/// On both sides of a limit; none is one left at a limit of 0.
+/// Inline values with no place left, and with one. At a limit of 0 the second is like the first.
 pub fn edge(limit: usize) -> [State; 2] {
     [
         inline("inline full", limit),
@@ -100,23 +100,23 @@ pub fn edge(limit: usize) -> [State; 2] {
     ]
 }
 
-/// No byte at all.
+/// An empty inline value.
 pub fn no_byte() -> [State; 1] {
     [inline("empty", 0)]
 }
 
-/// Spilled bytes that would stand inline, and one more.
+/// Spilled bytes that would fit inline, and one byte more than that.
 pub fn few_spilled(limit: usize) -> [State; 3] {
-    let (more, room) = (limit.saturating_add(1), limit.saturating_add(17));
+    let (more, capacity) = (limit.saturating_add(1), limit.saturating_add(17));
     [
-        sole("few", limit, room),
-        shared("shared few", limit, room),
-        sole("one too many", more, room),
+        sole("few", limit, capacity),
+        shared("shared few", limit, capacity),
+        sole("one too many", more, capacity),
     ]
 }
 
-/// Inline with a place left, inline and full, spilled with room, spilled and full, and shared
-/// ones.
+/// Values around an inline limit: inline with a place left, inline and full, spilled with capacity
+/// to spare, spilled and full, and shared ones.
 pub fn around(limit: usize) -> [State; 7] {
     let (more, roomy) = (limit.saturating_add(5), limit.saturating_add(8));
     [

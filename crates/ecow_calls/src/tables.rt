@@ -1,19 +1,19 @@
-//! The tables of calls: of vectors first, then of bytes and texts. The costs of those that are
-//! named by `further` stand in no table.
+//! The tables of calls: first those of vectors, then those of bytes and texts. A table whose name
+//! has `FURTHER` in it has no rows in the documented tables of costs.
 use crate::calls::{Call, LAST, Row};
 
-/// How often calls of seven items are made.
+/// How many times a call of seven items is made, for 100,000 items in all.
 pub const TIMES: usize = 14286;
 
-/// What stands between the brackets, or else what follows.
+/// What is between the parentheses, or the default if they are empty.
 macro_rules! given {
     (() $default:expr) => { $default };
     (($given:expr) $default:expr) => { $given };
 }
 
-/// A row: a call, its name, the part that it is about, where it is about one, and how many items it
-/// brings. The part must be there, or as many items as `at` says. The call is made once, or as often
-/// as `times` says.
+/// A row: a call, its name, the range that it is about, if any, and a count of items. The value
+/// must have the items of the range, or as many as `at` says. The call is made once, or `times`
+/// times.
 macro_rules! row {
     (
         $call:expr, $name:expr, ($start:expr, $end:expr), $count:expr
@@ -34,7 +34,7 @@ macro_rules! row {
     };
 }
 
-/// Calls that change a vector, read it or give it away.
+/// Calls that change, read or consume a vector.
 pub static VECTOR_CHANGES: &[Row] = &[
     row!(
         Call::Read,
@@ -80,7 +80,7 @@ pub static VECTOR_CHANGES: &[Row] = &[
     row!(Call::Splice, "splice(100..900, 1000)", (100, 900), 1000, at 1000),
 ];
 
-/// Further changes, on few elements.
+/// More changes of vectors, on few elements.
 pub static FURTHER_VECTOR_CHANGES: &[Row] = &[
     row!(Call::Insert, "insert(3, x)", (3, 3), 1),
     row!(Call::Insert, "insert(len, x)", (LAST, LAST), 1, at 0),
@@ -111,7 +111,7 @@ pub static FURTHER_VECTOR_CHANGES: &[Row] = &[
     row!(Call::OwnWithRoom, "own_with_room(4)", 4),
 ];
 
-/// Calls by which a vector without a block grows.
+/// Calls that grow a vector from no block.
 pub static VECTOR_GROWTH: &[Row] = &[
     row!(Call::Push, "push(x)", 1, times 100000),
     row!(Call::PushReserved, "reserve(1), push(x)", 1, times 100000),
@@ -122,29 +122,29 @@ pub static VECTOR_GROWTH: &[Row] = &[
     row!(Call::Splice, "splice(0..0, 100000)", (0, 0), 100000),
 ];
 
-/// Calls by which a vector of elements of no bytes grows.
+/// Calls that grow a vector of zero-sized elements.
 pub static UNIT_GROWTH: &[Row] = &[
     row!(Call::Push, "push(())", 1, times 100000),
     row!(Call::PushReserved, "reserve(1), push(())", 1, times 100000),
     row!(Call::ExtendFromSlice, "extend_from_slice(7 of ())", 7, times TIMES),
 ];
 
-/// What makes such a vector.
+/// Calls that make a vector of zero-sized elements.
 pub static UNIT_MAKERS: &[Row] = &[
     row!(Call::FromElem, "::from_elem((), 1)", 1),
     row!(Call::FromElem, "::from_elem((), 100000)", 100000),
 ];
 
-/// What hands out 1024 elements in another block, which asks twice with room for one more.
+/// Calls that return 1024 elements in another block. Capacity for one more would take two requests.
 pub static HANDED_OUT: &[Row] = &[
     row!(Call::Drain, "drain(..)", (0, LAST), 0, at 1024),
     row!(Call::IntoIter, "into_iter()", 0, at 1024),
 ];
 
-/// Calls that make another vector of a vector.
+/// Calls that make another vector from a vector.
 pub static VECTOR_DERIVATIONS: &[Row] = &[row!(Call::Clone, "clone()", 0)];
 
-/// Calls that make a vector of something else, of few elements.
+/// Calls that make a vector of few elements from something else.
 pub static VECTOR_MAKERS: &[Row] = &[
     row!(Call::FromVec, "::from_vec(none)", 0),
     row!(Call::FromVec, "::from_vec(5)", 5),
@@ -162,23 +162,23 @@ pub static VECTOR_MAKERS: &[Row] = &[
     row!(Call::New, "::new()", 0),
 ];
 
-/// What makes an array of a vector.
+/// Calls that make an array from a vector.
 pub static INTO_ARRAYS: &[Row] = &[row!(Call::IntoArray, "into_array()", 0, at 5)];
 
-/// What makes no array, of a vector of none.
+/// Calls that refuse to make an array, since the length differs.
 pub static INTO_OTHER_ARRAYS: &[Row] = &[row!(
     Call::IntoOtherArray,
     "into_array of another length",
     0
 )];
 
-/// What makes a vector of an array.
+/// Calls that make a vector from an array.
 pub static ARRAY_MAKERS: &[Row] = &[
     row!(Call::FromArray, "::from_array(none)", 0),
     row!(Call::FromArray, "::from_array(5)", 5),
 ];
 
-/// Further ones, of few elements.
+/// More calls that make a vector of few elements.
 pub static FURTHER_VECTOR_MAKERS: &[Row] = &[
     row!(Call::FromVec, "::from_vec(1)", 1),
     row!(Call::FromSlice, "::from_slice(9)", 9),
@@ -188,7 +188,7 @@ pub static FURTHER_VECTOR_MAKERS: &[Row] = &[
     row!(Call::Collect, "collect(40)", 40),
 ];
 
-/// Those that make a vector of many elements.
+/// Calls that make a vector of many elements.
 pub static VECTOR_MAKERS_OF_MANY: &[Row] = &[
     row!(Call::FromVec, "::from_vec(1000)", 1000),
     row!(Call::WithCapacity, "::with_capacity(1000)", 1000),
@@ -203,8 +203,8 @@ pub static VECTOR_MAKERS_OF_MANY: &[Row] = &[
     row!(Call::Collect, "collect(100000)", 100000),
 ];
 
-/// Calls that take elements as memory, and those that compare. The last is of bytes alone, as
-/// `write` is.
+/// Calls that copy elements as plain memory, and calls that compare. `write` and the last row are
+/// for bytes only.
 pub static COPIES: &[Row] = &[
     row!(Call::ExtendFromCopied, "extend_from_copied(2)", 2),
     row!(Call::ExtendFromCopied, "extend_from_copied(none)", 0),
@@ -228,7 +228,7 @@ pub static COPIES: &[Row] = &[
     row!(Call::Compare, "==, cmp, hash", 0),
 ];
 
-/// Further calls of numbers that take elements as memory.
+/// More calls that copy elements as plain memory.
 pub static FURTHER_COPIES: &[Row] = &[
     row!(Call::ExtendFromCopied, "extend_from_copied(6)", 6),
     row!(
@@ -248,7 +248,7 @@ pub static FURTHER_COPIES: &[Row] = &[
     row!(Call::ReplaceRange, "replace_range(1..5, none)", (1, 5), 0),
 ];
 
-/// Calls by which a vector of bytes grows.
+/// Calls that grow a vector of bytes.
 pub static COPIES_GROWTH: &[Row] = &[
     row!(Call::ExtendFromCopied, "extend_from_copied(7)", 7, times TIMES),
     row!(Call::InsertSlice, "insert_slice(len, 7)", (LAST, LAST), 7, at 0, times TIMES),
@@ -256,12 +256,12 @@ pub static COPIES_GROWTH: &[Row] = &[
     row!(Call::Write, "write(16)", 16, times 6250),
 ];
 
-/// A vector of a thousand elements and more takes its own first seven again and again.
+/// A vector of a thousand elements or more that appends its own first seven again and again.
 pub static COPIES_WITHIN: &[Row] = &[
     row!(Call::ExtendFromWithin, "extend_from_within(..7)", (0, 7), 0, at 1000, times TIMES),
 ];
 
-/// Calls that make a vector of elements that are taken as memory.
+/// Calls that make a vector and copy its elements as plain memory.
 pub static COPIES_MAKERS: &[Row] = &[
     row!(Call::FromCopied, "::from_copied(none)", 0),
     row!(Call::FromCopied, "::from_copied(2)", 2),
@@ -269,7 +269,7 @@ pub static COPIES_MAKERS: &[Row] = &[
     row!(Call::FromCopied, "::from_copied(1000)", 1000),
 ];
 
-/// What bytes and texts have in common: calls that take away, and those that make room.
+/// Calls of both bytes and texts that remove items or reserve capacity.
 pub static REDUCTIONS: &[Row] = &[
     row!(Call::Pop, "pop()", 0),
     row!(Call::Remove, "remove(0)", (0, 1), 0),
@@ -285,10 +285,10 @@ pub static REDUCTIONS: &[Row] = &[
     row!(Call::IntoEcoVec, "into_eco_vec()", 0),
 ];
 
-/// What brings few spilled bytes back inline.
+/// Calls that bring few spilled bytes back inline.
 pub static SHRINKING: &[Row] = &[row!(Call::ShrinkToFit, "shrink_to_fit()", 0)];
 
-/// Further ones, which fit letters that differ.
+/// More of these calls, for letters that differ.
 pub static FURTHER_REDUCTIONS: &[Row] = &[
     row!(Call::Reserve, "reserve(2)", 2),
     row!(Call::Reserve, "reserve(12)", 12),
@@ -324,7 +324,7 @@ pub static BYTES_CHANGES: &[Row] = &[
     row!(Call::Rewrite, "rewrite(f)", LAST),
 ];
 
-/// Further ones, on few bytes.
+/// More changes of bytes, on few bytes.
 pub static FURTHER_BYTES_CHANGES: &[Row] = &[
     row!(Call::Insert, "insert(2, x)", (2, 2), 1),
     row!(Call::Insert, "insert(len, x)", (LAST, LAST), 1, at 0),
@@ -346,7 +346,7 @@ pub static FURTHER_BYTES_CHANGES: &[Row] = &[
     row!(Call::PushReserved, "reserve(1), push(x)", 1),
 ];
 
-/// Calls by which bytes grow.
+/// Calls that grow bytes.
 pub static BYTES_GROWTH: &[Row] = &[
     row!(Call::Push, "push(x)", 1, times 100000),
     row!(Call::PushReserved, "reserve(1), b.push(x)", 1, times 100000),
@@ -359,7 +359,7 @@ pub static BYTES_GROWTH: &[Row] = &[
     row!(Call::Extend, "extend(100000)", 100000),
 ];
 
-/// Calls that make something else of bytes.
+/// Calls that make something else from bytes.
 pub static BYTES_DERIVATIONS: &[Row] = &[
     row!(Call::Clone, "clone()", 0),
     row!(Call::ToStd, "to_vec()", 0),
@@ -368,7 +368,7 @@ pub static BYTES_DERIVATIONS: &[Row] = &[
     row!(Call::Repeat, "repeat(3)", 3),
 ];
 
-/// Calls that make bytes or a text: none, inline, or with room, at the usual limit.
+/// Calls that make empty bytes or an empty text, or inline ones, at the inline limit 15.
 pub static FIRST_MAKERS: &[Row] = &[
     row!(Call::New, "::new()", 0),
     row!(Call::Inline, "::inline(15)", 15),
@@ -378,7 +378,7 @@ pub static FIRST_MAKERS: &[Row] = &[
     row!(Call::WithCapacity, "::with_capacity(1000)", 1000),
 ];
 
-/// At another limit, on both sides of it.
+/// The same calls at another inline limit, on both sides of it.
 pub fn first_makers_at(limit: usize) -> [Row; 5] {
     let more = limit.saturating_add(1);
     [
@@ -390,7 +390,7 @@ pub fn first_makers_at(limit: usize) -> [Row; 5] {
     ]
 }
 
-/// Calls that make bytes of something else, at the usual limit.
+/// Calls that make bytes from something else, at the inline limit 15.
 pub static BYTES_MAKERS: &[Row] = &[
     row!(Call::FromSlice, "::from_slice(15)", 15),
     row!(Call::FromSlice, "::from_slice(16)", 16),
@@ -412,7 +412,7 @@ pub static BYTES_MAKERS: &[Row] = &[
     row!(Call::FromEcoVec, "::from(vector of 1000)", 1000),
 ];
 
-/// At another limit, on both sides of it.
+/// The same calls at another inline limit, on both sides of it.
 pub fn bytes_makers_at(limit: usize) -> [Row; 11] {
     let more = limit.saturating_add(1);
     [
@@ -465,7 +465,7 @@ pub static TEXT_CHANGES: &[Row] = &[
     row!(Call::MakeAsciiUppercase, "make_ascii_uppercase()", 0),
 ];
 
-/// Further ones, on few letters that differ.
+/// More changes of texts, on few letters that differ.
 pub static FURTHER_TEXT_CHANGES: &[Row] = &[
     row!(Call::Push, "push(😀)", 4),
     row!(Call::Insert, "insert(2, c)", (2, 2), 1),
@@ -494,7 +494,7 @@ pub static FURTHER_TEXT_CHANGES: &[Row] = &[
     row!(Call::PushReserved, "reserve(1), push(c)", 1),
 ];
 
-/// Calls by which a text grows.
+/// Calls that grow a text.
 pub static TEXT_GROWTH: &[Row] = &[
     row!(Call::Push, "push(c)", 1, times 100000),
     row!(Call::PushReserved, "reserve(1), t.push(c)", 1, times 100000),
@@ -511,7 +511,7 @@ pub static TEXT_GROWTH: &[Row] = &[
     row!(Call::Push, "push(é)", 2, times 50000),
 ];
 
-/// Calls that make something else of a text.
+/// Calls that make something else from a text.
 pub static TEXT_DERIVATIONS: &[Row] = &[
     row!(Call::ToStd, "to_std_string()", 0),
     row!(Call::Clone, "clone()", 0),
@@ -528,7 +528,7 @@ pub static TEXT_DERIVATIONS: &[Row] = &[
     row!(Call::ToUppercase, "to_uppercase()", 0),
 ];
 
-/// Further replacements, of a text's plain letters.
+/// More replacements, in texts whose letters don't differ.
 pub static FURTHER_TEXT_DERIVATIONS: &[Row] = &[
     row!(Call::Replace("A", "", 9), "replacen(1, none, 9)", 0),
     row!(Call::Replace("A", "é.😀", 9), "replacen(1, 7, 9)", 0),
@@ -538,7 +538,7 @@ pub static FURTHER_TEXT_DERIVATIONS: &[Row] = &[
     row!(Call::Replace("b", "é", LAST), "replace(all but 1, é)", 0),
 ];
 
-/// Calls that make a text of something else, at the usual limit.
+/// Calls that make a text from something else, at the inline limit 15.
 pub static TEXT_MAKERS: &[Row] = &[
     row!(Call::FromChar, "::from_char(c)", 2),
     row!(Call::FromSlice, "::from_str(15)", 15),
@@ -564,7 +564,7 @@ pub static TEXT_MAKERS: &[Row] = &[
     row!(Call::Format, "::format(16)", 16),
 ];
 
-/// At another limit, on both sides of it.
+/// The same calls at another inline limit, on both sides of it.
 pub fn text_makers_at(limit: usize) -> [Row; 15] {
     let more = limit.saturating_add(1);
     [

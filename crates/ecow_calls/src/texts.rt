@@ -17,7 +17,7 @@ use std::fmt::Write;
 use std::iter::repeat_n;
 use std::{fmt, mem};
 
-/// A text that a call is given, and two texts where it takes such.
+/// The text that a call gets, and two texts for a call that takes texts.
 #[derive(Drop)]
 pub struct Gift<V> {
     alloc: Global,
@@ -26,7 +26,7 @@ pub struct Gift<V> {
     asks: Asks,
 }
 
-/// What a call answers that took a character out.
+/// The character that a call removed, if it removes one.
 type Out = Option<char>;
 
 fn string_of(bytes: Vec<u8>) -> Result<String, AllocError> {
@@ -38,11 +38,11 @@ fn string_of(bytes: Vec<u8>) -> Result<String, AllocError> {
 
 fn read<const N: usize>(text: &SmallText<N>) {
     let _seen = text.as_str().len() == text.len() && text.is_empty();
-    let _room = text.capacity() > 0 && text.is_inline() && text.is_char_boundary(0);
+    let _capacity = text.capacity() > 0 && text.is_inline() && text.is_char_boundary(0);
     compare(text, text);
 }
 
-/// Makes a call that is given a character.
+/// Makes a call that gets a character.
 fn put<const N: usize>(text: &mut SmallText<N>, row: &Row, c: char) -> Result<(), EcoError> {
     let start = row.start_in(text.len());
     match row.call {
@@ -56,7 +56,7 @@ fn put<const N: usize>(text: &mut SmallText<N>, row: &Row, c: char) -> Result<()
     }
 }
 
-/// Whether these are boundaries of the text, in order.
+/// Whether `start` and `end` are character boundaries of the text, in this order.
 fn has_part<const N: usize>(text: &SmallText<N>, start: usize, end: usize) -> bool
     ensures boundaries { IsTrue result
         → (is_boundary text.now.chars start ≡ true) × (is_boundary text.now.chars end ≡ true) }
@@ -72,7 +72,7 @@ fn write<const N: usize>(text: &mut SmallText<N>, more: &str) -> Result<(), EcoE
     }
 }
 
-/// The text with more behind it; where that is refused, it is there as before.
+/// Appends to the text by `add`. If that is refused, the text is unchanged.
 fn sum<const N: usize>(text: &mut SmallText<N>, more: &str, alloc: Global) -> Result<(), EcoError> {
     let whole = mem::replace(text, SmallText::new(alloc));
     match whole.add(more) {
@@ -85,7 +85,7 @@ fn sum<const N: usize>(text: &mut SmallText<N>, more: &str, alloc: Global) -> Re
     Ok(())
 }
 
-/// Makes a call that adds a text.
+/// Makes a call that adds a string slice.
 fn add<const N: usize>(text: &mut SmallText<N>, row: &Row, more: &str) -> Result<(), EcoError> {
     let (start, end) = (row.start_in(text.len()), row.end_in(text.len()));
     match row.call {
@@ -97,7 +97,7 @@ fn add<const N: usize>(text: &mut SmallText<N>, row: &Row, more: &str) -> Result
     }
 }
 
-/// Makes a call that adds the pieces of an iterator.
+/// Makes a call that adds what an iterator gives.
 fn extend<const N: usize>(
     text: &mut SmallText<N>,
     row: &Row,
@@ -114,7 +114,7 @@ fn extend<const N: usize>(
     }
 }
 
-/// Makes a call that takes a character out.
+/// Makes a call that removes a character.
 fn take<const N: usize>(text: &mut SmallText<N>, row: &Row) -> Result<Out, EcoError> {
     let start = row.start_in(text.len());
     match row.call {
@@ -155,8 +155,7 @@ fn text_of<const N: usize>(bytes: SmallBytes<N>) -> Result<SmallText<N>, EcoErro
     }
 }
 
-/// Bytes and back, or by way of the vector, which takes the text's place; where there is none, it is
-/// there as before.
+/// Turns the text into bytes or a vector, and back. If that is refused, the text is unchanged.
 fn give<const N: usize>(text: &mut SmallText<N>, row: &Row, alloc: Global) -> Result<(), EcoError> {
     let whole = mem::replace(text, SmallText::new(alloc));
     if row.call == Call::IntoBytes {
@@ -173,7 +172,7 @@ fn give<const N: usize>(text: &mut SmallText<N>, row: &Row, alloc: Global) -> Re
     Ok(())
 }
 
-/// Makes a text of a text.
+/// Makes another text from a text.
 fn derived<const N: usize>(text: &SmallText<N>, row: &Row) -> Result<SmallText<N>, EcoError> {
     match row.call {
         Call::Repeat => text.repeat(row.count),
@@ -196,7 +195,7 @@ fn printed<const N: usize>(
     }
 }
 
-/// A refused `String` comes back.
+/// The error of a refused call, which must give its `String` back.
 fn error_of_string(rejected: Rejected<String>, row: &Row) -> EcoError {
     if rejected.value.len() == row.count {
         rejected.error
@@ -205,7 +204,7 @@ fn error_of_string(rejected: Rejected<String>, row: &Row) -> EcoError {
     }
 }
 
-/// The text of an iterator.
+/// A text made from what an iterator gives.
 fn collected<const N: usize>(
     alloc: Global,
     row: &Row,
@@ -260,10 +259,10 @@ impl<const N: usize> Value for SmallText<N> {
 
     fn made(alloc: Global, _source: &(), state: &State) -> Result<Self, EcoError> {
         let letters = letters::letters(alloc, true, state)?;
-        match state.room {
+        match state.capacity {
             None => SmallText::from_str(alloc, string_of(letters)?.as_str()),
-            Some(room) => {
-                let block = block_of(alloc, letters.as_slice(), room)?;
+            Some(capacity) => {
+                let block = block_of(alloc, letters.as_slice(), capacity)?;
                 match SmallText::try_from(block) {
                     Ok(text) => Ok(text),
                     Err(_) => Err(EcoError::Capacity),

@@ -1,5 +1,5 @@
-//! A call on a value in a state, seen from outside: it does what the model says, or is refused where
-//! that may be, and leaves all as it was.
+//! Makes a call on a value in a state, and compares what can be seen afterwards with the model. A
+//! call that is refused must leave everything as it was.
 use crate::calls::{Call, Role, Row};
 use crate::counting::Source;
 use crate::elements::or_memory;
@@ -10,7 +10,7 @@ use crate::watch::Watch;
 use ecow_list::EcoError;
 use std::alloc::Global;
 
-/// An item in the case that a call gives it.
+/// An item as the call leaves it, which may change the case of a letter.
 fn in_case(row: &Row, item: i64) -> i64 {
     match row.call {
         Call::MakeAsciiUppercase | Call::ToAsciiUppercase if item >= 97 && item <= 122 => item - 32,
@@ -31,7 +31,7 @@ fn item_of<V: Value>(case: &Case, origin: Origin) -> i64 {
     }
 }
 
-/// Whether a value has so many items, each as it is to be at its place.
+/// Whether a value has `len` items, at each place the one that `item` names.
 fn has_items<V: Value, F: FnMut(usize) -> i64>(value: &V, len: usize, mut item: F) -> bool
     requires { F.IsAlwaysCallable item }
 {
@@ -42,25 +42,25 @@ fn has_items<V: Value, F: FnMut(usize) -> i64>(value: &V, len: usize, mut item: 
     hold
 }
 
-/// Whether a value has so many items, each from where it is to come.
+/// Whether a value has `len` items, each from where the model says.
 fn holds_change<V: Value>(case: &Case, value: &V, len: usize) -> bool {
     has_items(value, len, |place| {
         item_of::<V>(case, case.row.origin(case.state.len, place))
     })
 }
 
-/// Whether a value is as it was made.
+/// Whether a value is unchanged since it was made.
 fn is_before<V: Value>(case: &Case, value: &V) -> bool {
     has_items(value, case.state.len, |place| V::letter(&case.state, place))
-        && value.is_inline() == case.state.room.is_none()
-        && value.capacity() == room_before(case)
+        && value.is_inline() == case.state.capacity.is_none()
+        && value.capacity() == capacity_before(case)
 }
 
-fn room_before(case: &Case) -> usize {
-    case.state.room.or(case.limit).unwrap_or(0)
+fn capacity_before(case: &Case) -> usize {
+    case.state.capacity.or(case.limit).unwrap_or(0)
 }
 
-/// Whether what is handed out is what went.
+/// Whether the call returned exactly the items that it removed.
 fn hands_out<V: Value>(case: &Case, out: &V::Out) -> bool {
     let edit = case.edit();
     let count = if case.row.hands_out() {
@@ -76,8 +76,8 @@ fn hands_out<V: Value>(case: &Case, out: &V::Out) -> bool {
     hold
 }
 
-/// Whether what is handed out gives its first item and its last, where it has more than two. It is
-/// dropped with the others.
+/// Whether an iterator that the call returned gives its first and its last item, if it has more
+/// than two. The caller drops it with the others still in it.
 fn gives_ends<V: Value>(case: &Case, out: &mut V::Out) -> bool {
     let Edit { start, end, .. } = case.edit();
     if !case.row.hands_out() || end.saturating_sub(start) < 3 {
@@ -90,8 +90,8 @@ fn gives_ends<V: Value>(case: &Case, out: &mut V::Out) -> bool {
     V::ends(out).is_none_or(|ends| ends == (Some(first), Some(last)))
 }
 
-/// Whether an iterator was asked for so many items and once more, where a call is given one, and for
-/// no hint.
+/// Whether a call asked its iterator for each item and then once more, and never for a hint. A call
+/// without an iterator is right, too.
 fn is_asked<V: Value>(gift: &V::Gift, items: Option<usize>) -> bool {
     match (V::asks(gift).times(), items) {
         (Some(times), Some(items)) => times == items.saturating_add(1),
@@ -100,30 +100,31 @@ fn is_asked<V: Value>(gift: &V::Gift, items: Option<usize>) -> bool {
     }
 }
 
-/// Whether a call that is refused may have left so many items more: those that went in piece by
-/// piece, up to one for which there was no room.
+/// Whether a refused call may have added `count` items. A call that adds items piece by piece keeps
+/// the pieces before the one that found no capacity.
 fn is_cut(case: &Case, count: usize) -> bool {
     let Some(piece) = case.row.piece() else {
         return count == 0;
     };
     let len = case.state.len.saturating_add(count);
-    let is_full = len.saturating_add(piece) > case.room_by_pieces(count);
+    let is_full = len.saturating_add(piece) > case.capacity_by_pieces(count);
     let is_whole = count.checked_rem(piece).unwrap_or(0) == 0;
     count < case.edit().count && is_whole && (is_full || case.state.shared && count == 0)
 }
 
-/// Whether the room is that of a refused call that left so many items more.
-fn is_room_left(case: &Case, count: usize, room: usize) -> bool {
+/// Whether the capacity is right after a refused call that added `count` items.
+fn is_capacity_left(case: &Case, count: usize, capacity: usize) -> bool {
     if count > 0 {
-        return room == case.room_by_pieces(count);
+        return capacity == case.capacity_by_pieces(count);
     }
-    // A block has grown before the first clone, and stays so where a clone is refused.
+    // The block grows before the first clone. If a clone is refused, it stays large.
     let has_grown = case.row.call == Call::ExtendFromSlice && !case.state.shared;
-    room == room_before(case) || has_grown && !case.is_plain && room == case.room_after()
+    capacity == capacity_before(case)
+        || has_grown && !case.is_plain && capacity == case.capacity_after()
 }
 
-/// Whether a change did what it is to do, or was refused and left all; and whether the value then
-/// shares no block.
+/// Whether a change did what the model says, or was refused and left everything as it was; and
+/// whether the value left the block that it shared.
 fn change_holds<V: Value>(
     watch: &Watch,
     case: &Case,
@@ -136,7 +137,7 @@ fn change_holds<V: Value>(
             let hold = holds_change(case, value, case.len_after())
                 && hands_out::<V>(case, out)
                 && value.is_inline() == case.is_inline_after()
-                && value.capacity() == case.room_after()
+                && value.capacity() == case.capacity_after()
                 && is_asked::<V>(gift, case.row.items());
             (hold, case.leaves())
         }
@@ -145,7 +146,7 @@ fn change_holds<V: Value>(
             let asked = (case.row.call == Call::Extend).then_some(count);
             let hold = is_cut(case, count)
                 && holds_front(case, value, count)
-                && is_room_left(case, count, value.capacity())
+                && is_capacity_left(case, count, value.capacity())
                 && is_asked::<V>(gift, asked);
             (hold, count > 0)
         }
@@ -153,7 +154,7 @@ fn change_holds<V: Value>(
     }
 }
 
-/// Whether a value is as before, with so many of the items that it was given behind.
+/// Whether a value is as before but for `count` of the given items, which are appended.
 fn holds_front<V: Value>(case: &Case, value: &V, count: usize) -> bool {
     let before = case.state.len;
     let len = before.saturating_add(count);
@@ -162,10 +163,10 @@ fn holds_front<V: Value>(case: &Case, value: &V, count: usize) -> bool {
             return V::letter(&case.state, place);
         }
         item_of::<V>(case, case.row.origin(before, place))
-    }) && value.is_inline() == (case.state.room.is_none() && case.fits_inline(len))
+    }) && value.is_inline() == (case.state.capacity.is_none() && case.fits_inline(len))
 }
 
-/// A clone of a value that is to be shared.
+/// A clone of the value, if the state is a shared one.
 pub fn twin_of<V: Value>(value: &V, state: &State) -> Result<Option<V>, EcoError> {
     if !state.shared {
         return Ok(None);
@@ -173,7 +174,7 @@ pub fn twin_of<V: Value>(value: &V, state: &State) -> Result<Option<V>, EcoError
     or_memory(value.clone()).map(|twin| Some(twin))
 }
 
-/// Whether a twin is as it was made, and alone where the value left it.
+/// Whether the clone is unchanged, and is the only owner of its block if the value left it.
 fn twin_holds<V: Value>(case: &Case, twin: Option<V>, has_left: bool) -> bool {
     let Some(twin) = twin else {
         return true;
@@ -185,7 +186,7 @@ fn twin_holds<V: Value>(case: &Case, twin: Option<V>, has_left: bool) -> bool {
     }
 }
 
-/// Makes a change on a value in a state.
+/// Makes a change to a value in a state.
 fn change_trial<V: Value>(alloc: Global, source: &V::Source, watch: &Watch, case: &Case) -> bool {
     let (Ok(value), Ok(gift)) = (
         V::made(alloc, source, &case.state),
@@ -208,7 +209,7 @@ fn change_trial<V: Value>(alloc: Global, source: &V::Source, watch: &Watch, case
     hold && is_cloned && gives_ends && twin_holds(case, twin, has_left)
 }
 
-/// Makes a value of a value in a state, which stays as it was.
+/// Makes a value from another in a state, which must stay as it was.
 fn derive_trial<V: Value>(alloc: Global, source: &V::Source, watch: &Watch, case: &Case) -> bool {
     let Ok(value) = V::made(alloc, source, &case.state) else {
         return watch.may_refuse();
@@ -227,24 +228,24 @@ fn derive_trial<V: Value>(alloc: Global, source: &V::Source, watch: &Watch, case
     hold && is_cloned && is_before(case, &value) && twin_holds(case, twin, false)
 }
 
-/// Whether a value that was made is as it is to be.
+/// Whether a new value is as the model says.
 fn is_made<V: Value>(case: &Case, value: &V) -> bool {
     has_items(value, case.made_len(), |place| {
         item_of::<V>(case, case.row.made_of(case.state.len, place))
     }) && value.is_inline() == case.is_made_inline()
-        && value.capacity() == case.made_room().0
+        && value.capacity() == case.made_capacity().0
 }
 
-/// Whether a value shares its block where it is a clone, and else has its own.
+/// Whether the new value shares the block of the old one if it is a clone, and has its own if not.
 fn is_shared_by_clones<V: Value>(case: &Case, made: V) -> bool {
-    let has_block = case.state.room.is_some_and(|room| room > 0);
+    let has_block = case.state.capacity.is_some_and(|capacity| capacity > 0);
     match made.into_block() {
         Some(mut block) => block.is_unique() != (case.row.call == Call::Clone && has_block),
         None => true,
     }
 }
 
-/// Makes a value of what a call is given.
+/// Makes a value from what the call gets.
 fn make_trial<V: Value>(alloc: Global, source: &V::Source, watch: &Watch, case: &Case) -> bool {
     let Ok(mut gift) = V::gift(alloc, source, &case.row) else {
         return watch.may_refuse();
@@ -261,7 +262,8 @@ fn make_trial<V: Value>(alloc: Global, source: &V::Source, watch: &Watch, case: 
     }
 }
 
-/// Whether a call in a state holds; so does one that doesn't fit there.
+/// Whether a call does what it must in a state. A call that needs more items than there are is
+/// skipped.
 pub fn trial<V: Value>(
     alloc: Global,
     source: &V::Source,
@@ -281,8 +283,8 @@ pub fn trial<V: Value>(
     watch.sees(hold && source.has_live(0), row, state)
 }
 
-/// Whether each call of a table holds in each of the states. Those behind one in which a request was
-/// refused are left out: they are made where none is.
+/// Whether each call of a table does what it must in each state. After a refused request the rest
+/// is skipped: the run in which no request is refused makes those calls.
 pub fn table_holds<V: Value>(
     alloc: Global,
     source: &V::Source,

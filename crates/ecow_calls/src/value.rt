@@ -1,4 +1,4 @@
-//! What those see of a value that watch its calls.
+//! What a test sees of a vector, of bytes or of a text.
 use crate::calls::{Role, Row};
 use crate::counting::Source;
 use crate::model::Case;
@@ -7,22 +7,22 @@ use crate::watched::Asks;
 use ecow_list::{EcoError, EcoVec};
 use std::alloc::{AllocError, Global};
 
-/// A vector, bytes or a text. A call that hands back another value than it was given answers
-/// `Capacity`, which none is refused for here.
+/// A vector, bytes or a text. If a refused call doesn't give back what it got, its error here is
+/// `Capacity`, which no call has otherwise.
 pub trait Value: Clone + Drop {
-    /// What elements are made of, beside memory.
+    /// What elements are made from, besides memory.
     type Source: Source;
 
-    /// What a call is given, made before it.
+    /// What a call gets. It is made before the call.
     type Gift: Drop;
 
-    /// What a call hands out.
+    /// What a call returns.
     type Out: Drop;
 
-    /// What stands in its block.
+    /// The items of its block.
     type Item: Drop;
 
-    /// How many items stand in the value itself; vectors have none there.
+    /// The inline limit; `None` for vectors.
     fn limit() -> Option<usize> {
         None
     }
@@ -31,32 +31,32 @@ pub trait Value: Clone + Drop {
         false
     }
 
-    /// Whether a clone of an item can't be refused.
+    /// Whether clones of items can't be refused.
     fn is_plain() -> bool;
 
-    /// What stands before a call's name in the tables of costs.
+    /// What the tables of costs write before a call's name.
     fn owner(role: Role, row: &Row) -> &'static str;
 
-    /// The item at a place of a value of so many.
+    /// The item at a place of a value in this state.
     fn letter(state: &State, place: usize) -> i64;
 
-    /// An item that a call is given.
+    /// The item at a place of what a call gets.
     fn given(row: &Row, place: usize) -> i64;
 
     fn made(alloc: Global, source: &Self::Source, state: &State) -> Result<Self, EcoError>;
 
     fn gift(alloc: Global, source: &Self::Source, row: &Row) -> Result<Self::Gift, AllocError>;
 
-    /// Makes a call that changes the value, reads it or gives it away.
+    /// Makes a call that changes, reads or consumes the value.
     fn change(&mut self, row: &Row, gift: &mut Self::Gift) -> Result<Self::Out, EcoError>;
 
-    /// Makes another of the value; `None` where that is none of ours.
+    /// Makes another value from this one; `None` if the call makes a value of std's.
     fn derive(&self, row: &Row) -> Result<Option<Self>, EcoError>;
 
-    /// Makes a value of what the call is given.
+    /// Makes a value from what the call gets.
     fn make(row: &Row, gift: &mut Self::Gift) -> Result<Self, EcoError>;
 
-    /// The length, the capacity, and whether the items stand in the value itself.
+    /// The length, the capacity, and whether the value is inline.
     fn size(&self) -> (usize, usize, bool);
 
     fn len(&self) -> usize {
@@ -75,17 +75,17 @@ pub trait Value: Clone + Drop {
 
     fn handed(out: &Self::Out, place: usize) -> Option<i64>;
 
-    /// Takes one item from each end of what is handed out, where that goes by steps.
+    /// Takes the first and the last item of what a call returned, if that is an iterator.
     fn ends(out: &mut Self::Out) -> Option<(Option<i64>, Option<i64>)>;
 
-    /// What the iterator was asked that a call is given.
+    /// What the call asked its iterator for.
     fn asks(gift: &Self::Gift) -> &Asks;
 
-    /// The block of a value; none of an inline one.
+    /// The block of the value; `None` if the value is inline.
     fn into_block(self) -> Option<EcoVec<Self::Item>>;
 }
 
-/// A call on a value in a state.
+/// The model of a call on a value in a state.
 pub fn case_of<V: Value>(row: &Row, state: &State) -> Case {
     Case {
         row: *row,

@@ -8,7 +8,7 @@ use ecow_list::{Drain, EcoError, EcoVec, IntoArray, IntoIter, Rejected, Splice, 
 use std::alloc::{AllocError, Global};
 use std::{mem, vec};
 
-/// What a call is given: elements, or such as it takes one by one.
+/// What a call gets: elements, or an iterator over elements.
 #[derive(Drop)]
 pub struct Gift<T> {
     alloc: Global,
@@ -18,13 +18,13 @@ pub struct Gift<T> {
 }
 
 impl<T: Drop> Gift<T> {
-    /// All elements that are left.
+    /// Takes all elements out.
     fn take(&mut self) -> Vec<T> {
         mem::replace(&mut self.elements, Vec::new(self.alloc))
     }
 }
 
-/// What a call hands out.
+/// What a call returns.
 #[derive(Drop)]
 pub enum Out<T: Element> {
     Nothing,
@@ -45,7 +45,7 @@ fn nothing<T: Element>(done: Result<(), EcoError>) -> Outcome<T> {
     }
 }
 
-/// How many elements a call is given.
+/// How many elements a call gets.
 fn gift_len(row: &Row) -> usize {
     match row.call {
         Call::Push | Call::PushReserved | Call::Insert | Call::Set | Call::Update => {
@@ -63,7 +63,7 @@ fn number_at(place: usize) -> i64 {
     i64::try_from(place).unwrap_or(0)
 }
 
-/// The numbers of elements that are given begin here.
+/// The number of the first element that a call gets.
 const FIRST_GIVEN: i64 = 91;
 
 fn elements<T: Element>(
@@ -79,7 +79,7 @@ fn elements<T: Element>(
     Ok(elements)
 }
 
-/// A refused call hands the element back that it was given.
+/// The error of a refused call, which must give its element back.
 fn error_of_one<T: Element>(rejected: Rejected<T>) -> EcoError {
     if rejected.value.number() == T::shown(FIRST_GIVEN) {
         rejected.error
@@ -88,7 +88,7 @@ fn error_of_one<T: Element>(rejected: Rejected<T>) -> EcoError {
     }
 }
 
-/// A refused call hands the elements back that it was given.
+/// The error of a refused call, which must give its elements back.
 fn error_beside<T: Element>(error: EcoError, back: &[T], row: &Row) -> EcoError {
     let is_first = match back.first() {
         Some(first) => first.number() == T::shown(FIRST_GIVEN),
@@ -108,7 +108,7 @@ fn returned<T: Element>(put: Result<(), Rejected<T>>) -> Outcome<T> {
     }
 }
 
-/// Makes a call that is given an element.
+/// Makes a call that gets an element.
 fn put<T: Element>(list: &mut EcoVec<T>, row: &Row, value: T) -> Outcome<T> {
     let start = row.start_in(list.len());
     match row.call {
@@ -127,7 +127,8 @@ fn put<T: Element>(list: &mut EcoVec<T>, row: &Row, value: T) -> Outcome<T> {
     }
 }
 
-/// Drops the elements of a part. Each is given once, and none where that is refused.
+/// Removes the elements of a range by `retain`, whose closure must see each element once, and none
+/// if the call is refused.
 fn retain<T: Element>(list: &mut EcoVec<T>, row: &Row) -> Result<(), EcoError> {
     let (len, mut place) = (list.len(), 0usize);
     let done = list.retain(|_| {
@@ -150,7 +151,7 @@ fn own_and_reverse<T: Element>(list: &mut EcoVec<T>) -> Result<(), EcoError> {
     }
 }
 
-/// Makes a call that is given no element and hands none out.
+/// Makes a call that gets no element and returns none.
 fn settle<T: Element>(list: &mut EcoVec<T>, row: &Row) -> Result<(), EcoError> {
     match row.call {
         Call::Truncate => list.truncate(row.count)?,
@@ -162,14 +163,14 @@ fn settle<T: Element>(list: &mut EcoVec<T>, row: &Row) -> Result<(), EcoError> {
         Call::OwnWithRoom => list.own_with_room(row.count)?.as_mut_slice().reverse(),
         Call::Read => {
             let _seen = list.as_slice().len() == list.iter().count() && list.is_empty();
-            let _room = list.capacity() > 0 && list.is_unique();
+            let _capacity = list.capacity() > 0 && list.is_unique();
         }
         _ => return Err(EcoError::Capacity),
     }
     Ok(())
 }
 
-/// Makes a call that hands out what it takes.
+/// Makes a call that returns what it removes.
 fn take<T: Element>(list: &mut EcoVec<T>, row: &Row, gift: &mut Gift<T>) -> Outcome<T> {
     let (start, end) = (row.start_in(list.len()), row.end_in(list.len()));
     match row.call {
@@ -194,7 +195,7 @@ fn take<T: Element>(list: &mut EcoVec<T>, row: &Row, gift: &mut Gift<T>) -> Outc
     }
 }
 
-/// Gives a vector away. Where that is refused it is there as before.
+/// Makes a call that consumes the vector. If it is refused, the vector is unchanged.
 fn give<T: Element>(list: &mut EcoVec<T>, row: &Row, alloc: Global) -> Outcome<T> {
     let whole = mem::replace(list, EcoVec::new(alloc));
     let (error, back) = match row.call {
@@ -221,7 +222,7 @@ fn give<T: Element>(list: &mut EcoVec<T>, row: &Row, alloc: Global) -> Outcome<T
     Err(error)
 }
 
-/// An array of another length than the vector's. The vector comes back at once.
+/// Asks for an array of a length that the vector doesn't have. The vector must come back.
 fn refuse_array<T: Element>(list: &mut EcoVec<T>, alloc: Global) -> Outcome<T> {
     let whole = mem::replace(list, EcoVec::new(alloc));
     match T::into_array(whole) {
@@ -264,7 +265,7 @@ impl<T: Element> Value for EcoVec<T> {
 
     fn made(alloc: Global, source: &T::Source, state: &State) -> Result<Self, EcoError> {
         let elements = elements(alloc, source, 1, state.len)?;
-        let mut list = EcoVec::with_capacity(alloc, state.room.unwrap_or(0))?;
+        let mut list = EcoVec::with_capacity(alloc, state.capacity.unwrap_or(0))?;
         list.extend(elements)?;
         Ok(list)
     }

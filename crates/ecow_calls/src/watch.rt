@@ -1,10 +1,10 @@
-//! How often memory was wanting in a run, and at which call something was wrong.
+//! How many calls of a run were refused for memory, and the first call that was wrong.
 use crate::calls::Row;
 use crate::states::State;
 use std::cell::Cell;
 
-/// Counts the answers that memory is wanting. In a run one request at most is refused; in a
-/// strict one none is.
+/// Counts the calls that are refused for memory. In a run at most one request is refused; in a
+/// strict run none is.
 #[derive(Drop)]
 pub struct Watch {
     strict: bool,
@@ -21,19 +21,19 @@ impl Watch {
         }
     }
 
-    /// Whether no request is refused in this run.
+    /// Whether no request may be refused in this run.
     pub fn is_strict(&self) -> bool {
         self.strict
     }
 
-    /// Counts an answer that memory is wanting, and says whether it may be right.
+    /// Counts a call that was refused for memory, and tells whether it may have been.
     pub fn may_refuse(&self) -> bool {
         let refusals = self.refusals.get().saturating_add(1);
         self.refusals.set(refusals);
         !self.strict && refusals == 1
     }
 
-    /// Whether no more requests were refused than may be.
+    /// Whether no more calls were refused than may be.
     pub fn is_kept(&self) -> bool {
         if self.strict {
             self.refusals.get() == 0
@@ -42,12 +42,12 @@ impl Watch {
         }
     }
 
-    /// Whether no request was refused.
+    /// Whether no call was refused so far.
     pub fn is_untouched(&self) -> bool {
         self.refusals.get() == 0
     }
 
-    /// Keeps the call and its state at which something is wrong first. Hands the answer on.
+    /// Returns `is_right`. The first time that it is false, remembers the call and its state.
     pub fn sees(&self, is_right: bool, row: &Row, state: &State) -> bool {
         if !is_right && self.wrong.get().is_none() {
             self.wrong.set(Some((row.name, state.name)));
@@ -55,7 +55,7 @@ impl Watch {
         is_right
     }
 
-    /// The call and the state at which something was wrong first.
+    /// The first call that was wrong, and its state.
     pub fn wrong(&self) -> Option<(&'static str, &'static str)> {
         self.wrong.get()
     }

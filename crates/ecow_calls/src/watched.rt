@@ -1,7 +1,7 @@
-//! An iterator that tells what it was asked.
+//! An iterator that counts what it is asked for.
 use std::cell::Cell;
 
-/// How often an iterator was asked for an item, and whether for a hint.
+/// How many times an iterator was asked for an item, and whether it was asked for a hint.
 #[derive(Drop)]
 pub struct Asks {
     times: Cell<usize>,
@@ -16,12 +16,12 @@ impl Asks {
         }
     }
 
-    /// The items of an iterator that counts here.
+    /// The items of `iter`, by an iterator that counts here.
     pub fn of<I>(&self, items: I) -> Watched<'_, I> {
         Watched { items, asks: self }
     }
 
-    /// How often one was asked for an item; `None` where it was asked for a hint.
+    /// How many times it was asked for an item; `None` if it was asked for a hint.
     pub fn times(&self) -> Option<usize> {
         if self.is_hint_asked.get() {
             return None;
@@ -30,7 +30,7 @@ impl Asks {
     }
 }
 
-/// The items of another iterator. Its hint is of no use.
+/// The items of another iterator. Its hint says nothing.
 #[derive(Drop)]
 pub struct Watched<'a, I> {
     items: I,

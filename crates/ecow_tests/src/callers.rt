@@ -1,5 +1,5 @@
-//! Callers that know no more of their elements than a bound, with contracts that rest on those of
-//! the vector.
+//! Generic callers, which know their elements only by a bound. Their contracts rest on those of the
+//! vector.
 ghost use Rattle.std.specs.Prelude.{◌≡◌, ◌+◌, [], ◌∷◌, ◌++◌, length, take, IfOk};
 ghost use Rattle.ecow_base.specs.Clones.{ClonesAreEqual};
 
@@ -7,7 +7,7 @@ use ecow_calls::counting::Tally;
 use ecow_list::{EcoError, EcoVec};
 use std::test::Fail;
 
-/// The elements of `list` and one more, in a vector of their own.
+/// A new vector of the elements of `list` and of one more.
 fn with_last<T: Clone>(list: &EcoVec<T>, last: T) -> Result<EcoVec<T>, EcoError>
     ensures items { ClonesAreEqual T.is_clone
         → IfOk result (λ longer. longer ≡ list.now ++ last ∷ []) }
@@ -18,7 +18,7 @@ fn with_last<T: Clone>(list: &EcoVec<T>, last: T) -> Result<EcoVec<T>, EcoError>
     Ok(longer)
 }
 
-/// The first elements of `list`, and how many there are.
+/// A vector of the first `len` elements of `list`, and its length.
 fn front<T: Clone>(list: &EcoVec<T>, len: usize) -> Result<(EcoVec<T>, usize), EcoError>
     ensures items { ClonesAreEqual T.is_clone → IfOk result (λ part. part.0 ≡ take len list.now) }
     ensures len { IfOk result (λ part. part.1 ≡ length part.0) }
@@ -29,8 +29,7 @@ fn front<T: Clone>(list: &EcoVec<T>, len: usize) -> Result<(EcoVec<T>, usize), E
     Ok((part, len))
 }
 
-/// How many vectors there are once one without elements is made and cloned, of elements that need
-/// not be cloned.
+/// An empty vector that is made from a clone of `list`, and `list`. Its elements need no clone.
 fn empty_clones<T: Drop>(list: EcoVec<T>) -> Result<(EcoVec<T>, EcoVec<T>), EcoError>
     ensures { IfOk result (λ both. (both.0 ≡ []) × (both.1 ≡ list)) }
 {

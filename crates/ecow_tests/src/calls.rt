@@ -1,8 +1,8 @@
-//! Calls of vectors, without what their contracts say: a test of many calls is proved faster over
+//! Calls of vectors without their contracts. A test that makes many calls is proved faster over
 //! these.
 use ecow_list::{EcoError, EcoVec, Rejected};
 
-/// What a refusal says, without the value.
+/// The error of a refused call, without the value.
 pub(crate) fn error_of<V: Drop>(rejected: Rejected<V>) -> EcoError {
     rejected.error
 }

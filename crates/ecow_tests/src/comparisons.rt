@@ -1,5 +1,4 @@
-//! What is compared by what elements say of themselves, and texts of which maps and vectors make
-//! more than they do alone.
+//! Comparisons that follow an element's own equality and order, and texts in maps and vectors.
 ghost use Rattle.std.specs.Prelude.{◌==◌, ◌%◌};
 ghost use Rattle.std.proofs.Common.{rules};
 ghost use Rattle.std.specs.Cmp.{partial_order_from_own_ties};
@@ -16,7 +15,7 @@ use std::collections::{BTreeMap, HashMap};
 use std::hash::{BuildHasher, BuildHasherDefault, FoldHasher, Hash, Hasher};
 use std::test::Fail;
 
-/// A number of which the last decimal digit alone counts.
+/// A number that is compared by its last decimal digit only.
 #[derive(Clone, Copy)]
 struct Digit(u64);
 
@@ -101,7 +100,7 @@ fn texts_are_ordered_as_their_bytes(rt: HostRuntime) -> Result<(), Fail> {
     Ok(())
 }
 
-/// A text that is spilled, whatever its length.
+/// A spilled text, however short it is.
 fn spilled(alloc: Global, text: &str) -> Result<EcoString, Fail> {
     let bytes = EcoVec::from_slice(alloc, text.as_bytes())?;
     EcoString::try_from(bytes).map_err(|_| "a str".into())
@@ -119,7 +118,7 @@ fn a_key_is_found_in_either_mode(rt: HostRuntime) -> Result<(), Fail> {
     Ok(())
 }
 
-/// These texts in a vector.
+/// A vector of these texts.
 fn texts(alloc: Global, texts: [&str; 3]) -> Result<EcoVec<EcoString>, EcoError> {
     let mut list = EcoVec::new(alloc);
     for text in texts {

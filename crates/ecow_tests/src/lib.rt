@@ -1,6 +1,6 @@
-//! Tests of what no contract says, and neither the programs over `ecow_calls` nor scripts see: what a
-//! splice clones and when, what values print, elements of other kinds; readers and writers that are
-//! slow or fail, and names that lie close together.
+//! Tests of what no contract says, and what neither scripts nor the programs over `ecow_calls` see:
+//! when a splice clones, how values are formatted, other kinds of elements, readers and writers
+//! that are slow or fail, and names that are close together.
 #![tactic(auto)]
 
 #[cfg(test)]

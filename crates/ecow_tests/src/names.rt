@@ -1,4 +1,4 @@
-//! How long names take that lie close together in a map that hashes.
+//! Measures how long a script takes whose names are close together in a hash map.
 use crate::streams::{Reader, Writer, ended};
 use ecow_tool::End;
 use std::alloc::Global;
@@ -11,11 +11,11 @@ use std::time::CpuClock;
 /// How many names are timed.
 const TIMED: u32 = 100_000;
 
-/// In how many groups a map that hashes keeps so many names.
+/// The number of groups in which a hash map keeps this many names.
 const GROUPS: u64 = 16_384;
 
-/// The standard library's hash of a name, as a number where it has at most seven bytes, else as a
-/// text.
+/// The standard library's hash of a name: of a number if the name has at most seven bytes, and of a
+/// text otherwise.
 fn hash_of(name: &str) -> u64 {
     let hasher: BuildHasherDefault<FoldHasher> = BuildHasherDefault::new();
     if name.len() > 7 {
@@ -28,13 +28,13 @@ fn hash_of(name: &str) -> u64 {
     hasher.hash_one(key)
 }
 
-/// Whether a map that hashes keeps a name in the first sixteenth of its groups.
+/// Whether a hash map keeps a name in the first sixteenth of its groups.
 fn is_close(name: &str) -> bool {
     let hash = hash_of(name);
     ((hash ^ hash >> 32) & (GROUPS - 1)) < GROUPS / 16
 }
 
-/// A script of `TIMED` names that begin so, all of them or only such as are close.
+/// A script that makes `TIMED` names with this beginning: any names, or only close ones.
 fn named(alloc: Global, front: &str, close: bool) -> io::Result<Vec<u8>> {
     let mut script = Vec::new(alloc);
     let mut left = TIMED;
@@ -51,7 +51,7 @@ fn named(alloc: Global, front: &str, close: bool) -> io::Result<Vec<u8>> {
     Ok(script)
 }
 
-/// The milliseconds of the processor that such a script takes; `None` where a name isn't made.
+/// The milliseconds of processor time that a script takes; `None` if it doesn't make each name.
 fn time_of(
     rt: &(impl AllocGlobal + CpuClock),
     front: &str,

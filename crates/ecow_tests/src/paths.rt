@@ -1,4 +1,5 @@
-//! All that `ecow` hands on, by the paths of the original, and what `ecow_list` shows beside it.
+//! Names everything that `ecow` re-exports by the original's paths, and what `ecow_list` exports
+//! besides.
 use ecow::bytes::EcoBytes;
 use ecow::string::{EcoString, ToEcoString};
 use ecow::vec::{Drain, EcoVec, IntoIter, Splice};
@@ -6,7 +7,7 @@ use ecow::{EcoError, IntoArray, Rejected};
 use std::alloc::Global;
 use std::test::Fail;
 
-/// The first element is drained, and the next one replaced.
+/// Drains the first element, and replaces the next one.
 fn changed(list: EcoVec<u8>) -> Result<EcoVec<u8>, EcoError> {
     let mut list = list;
     if ecow::range_in(&(..1), list.len()) {
@@ -20,7 +21,7 @@ fn changed(list: EcoVec<u8>) -> Result<EcoVec<u8>, EcoError> {
     Ok(list)
 }
 
-/// By the paths of `ecow_list`: the elements are written to in their block.
+/// Writes to the elements in their block, by the paths of `ecow_list`.
 fn reversed(
     list: ecow_list::vec::EcoVec<u8>,
 ) -> Result<ecow_list::vec::EcoVec<u8>, ecow_list::error::EcoError> {
@@ -50,7 +51,7 @@ fn arrays_and_iterators_are_found(rt: HostRuntime) -> Result<(), Fail> {
     Ok(())
 }
 
-/// The digits of twelve as bytes of `N`, if a text of `N` is empty.
+/// The digits of twelve as bytes with the limit `N`, if a text with this limit is empty.
 fn twelve<const N: usize>(
     alloc: Global,
     none: ecow::SmallText<N>,
@@ -58,7 +59,7 @@ fn twelve<const N: usize>(
     ecow::SmallBytes::<N>::from_slice(alloc, if none.is_empty() { b"12" } else { b"" })
 }
 
-/// The digits of twelve, by two ways.
+/// The digits of twelve, made in two ways.
 fn printed(alloc: Global) -> Result<(EcoString, EcoString), EcoError> {
     let text: EcoString = ecow::eco_format!(in alloc; "{}", 12)?;
     Ok((text, 12.to_eco_string(alloc)?))

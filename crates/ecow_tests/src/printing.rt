@@ -1,5 +1,4 @@
-//! What values print: vectors and bytes what their slices do, texts what their `str`s do, by the
-//! standard library. And what errors say.
+//! How values and errors are formatted: vectors and bytes as their slices, texts as their `str`s.
 use ecow_bytes::{EcoBytes, SmallBytes};
 use ecow_list::{EcoError, EcoVec, IntoArray, Rejected};
 use ecow_string::{EcoString, SmallText};
@@ -7,7 +6,7 @@ use std::alloc::{AllocError, Global};
 use std::fmt::{Debug, Display};
 use std::test::Fail;
 
-/// Whether so many bytes at most stand inline, in bytes and in texts whose types say `N`.
+/// Whether exactly up to `N` bytes are inline, in bytes and in texts with this limit.
 fn is_limit<const N: usize>(limit: usize) -> bool {
     SmallBytes::<N>::INLINE_LIMIT == limit && SmallText::<N>::INLINE_LIMIT == limit
 }
@@ -19,12 +18,12 @@ fn limits_are_those_of_the_type(rt: HostRuntime) {
     assert!(rt; is_limit::<23>(23) && is_limit::<255>(255));
 }
 
-/// The debug text of a list, in each form.
+/// The debug text of a list, in each format.
 fn debugged<T: Debug>(alloc: Global, value: &T) -> Result<String, AllocError> {
     format!(in alloc; "{value:?}|{value:#?}|{value:3?}|{value:02?}")
 }
 
-/// Whether a value is debugged as these bytes are.
+/// Whether the debug text of a value is that of these bytes.
 fn is_debugged_as<T: Debug + Drop>(
     alloc: Global,
     value: T,
@@ -33,12 +32,13 @@ fn is_debugged_as<T: Debug + Drop>(
     Ok(debugged(alloc, &value)? == debugged(alloc, &bytes)?)
 }
 
-/// Bytes that are spilled.
+/// Spilled bytes.
 fn spilled(alloc: Global, bytes: &[u8]) -> Result<EcoBytes, EcoError> {
     Ok(EcoBytes::from(EcoVec::from_slice(alloc, bytes)?))
 }
 
-/// Whether bytes are debugged as their slice: of a vector, spilled, and as they are made.
+/// Whether the debug text of bytes is that of their slice: as a vector, spilled, and as they are
+/// made.
 fn is_debugged(alloc: Global, bytes: &[u8]) -> Result<bool, EcoError> {
     Ok(
         is_debugged_as(alloc, EcoVec::from_slice(alloc, bytes)?, bytes)?
@@ -67,14 +67,14 @@ fn a_list_is_debugged(rt: HostRuntime) -> Result<(), Fail> {
     Ok(())
 }
 
-/// A text printed in each form: padded on each side, far too, cut, and for debugging.
+/// A text in each format: padded on each side, padded far, cut, and for debugging.
 fn printed<T: Debug + Display>(alloc: Global, text: &T) -> Result<String, AllocError> {
     let near = format!(in alloc; "{text}|{text:?}|{text:>8}|{text:*^8}|{text:<8}|{text:.2}|")?;
     let far = format!(in alloc; "{text:-^7.3}|{text:02}|{text:>204}|{text:*^304}|{text:<1004}")?;
     format!(in alloc; "{near}{far}")
 }
 
-/// Whether a text is printed as `str` is.
+/// Whether a text is formatted as its `str` is.
 fn is_printed(alloc: Global, text: &str) -> Result<bool, EcoError> {
     let value = EcoString::from_str(alloc, text)?;
     Ok(printed(alloc, &value)? == printed(alloc, &text)?)
@@ -114,7 +114,7 @@ fn a_text_is_debugged_cut_and_padded(rt: HostRuntime) -> Result<(), Fail> {
     Ok(())
 }
 
-/// Errors, and what they say, alone and with the value that was refused.
+/// Errors and their messages, alone and with the value that came back.
 const ERRORS: [(EcoError, &str); 2] = [
     (
         EcoError::Memory,
@@ -136,7 +136,7 @@ fn errors_say_what_is_wanting(rt: HostRuntime) -> Result<(), Fail> {
     Ok(())
 }
 
-/// What an error prints, and how it is debugged.
+/// The message of an error, and its debug text.
 fn both_ways(alloc: Global, error: IntoArray<u8>) -> Result<String, AllocError> {
     format!(in alloc; "{error}|{error:?}")
 }

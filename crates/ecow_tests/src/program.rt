@@ -1,10 +1,10 @@
-//! The program in both stores, over readers and writers that are slow, are interrupted or fail. What
-//! it answers to scripts, cases say; what it makes of files and outputs, `tools/ends.sh` does.
+//! Runs the program over readers and writers that are slow, are interrupted or fail, in both
+//! stores. The golden scripts test its answers, and `tools/ends.sh` real files and outputs.
 use crate::streams::{Reader, Writer, ended};
 use ecow_tool::End;
 use std::process::Abort;
 
-/// Texts that are cut and made of bytes, and what is answered.
+/// A script of texts, and the answers to it.
 const STORED: (&[u8], &[u8]) = (
     b"text from_str t \"abcd\\u{1F600}\"
 text truncate t 5
@@ -24,7 +24,7 @@ refused kind
 ",
 );
 
-/// Lists that share a block until one is written to, and what is answered.
+/// A script of lists that share a block until one is written to, and the answers to it.
 const COUNTED: (&[u8], &[u8]) = (
     b"vec from_list a [1,2,3]
 vec clone a b
@@ -39,9 +39,9 @@ blocks 2 copied 3 moved 0
 ",
 );
 
-/// How a script comes and goes: the bytes at once that are read, whether each read is interrupted
-/// first, and which fails; the bytes at once that are written, which write fails, and whether what was
-/// written is lost. Then how it ends, and how many bytes are taken.
+/// How a script is read: how many bytes at a time, whether each read is interrupted first, and
+/// which read fails. How its answers are written: how many bytes at a time, which write fails, and
+/// whether flushing fails. Then how the program ends, and how many bytes the writer took.
 type Row = ((usize, bool, usize), (usize, usize, bool), End, usize);
 
 const MAX: usize = usize::MAX;
@@ -67,7 +67,7 @@ const ROWS: [Row; 18] = [
     ((MAX, false, 0), (MAX, 0, true), End::Output, MAX),
 ];
 
-/// Whether the script of a store is answered as the row says: with a front of its answers, or all.
+/// Whether the run of a script ends as the row says, and writes that many bytes of its answers.
 fn is_answered(rt: &(impl Abort + AllocGlobal), counted: bool, row: &Row) -> bool {
     let (script, answers) = if counted { COUNTED } else { STORED };
     let ((read, interrupts, failing), (written, refused, loses), wanted, count) = *row;

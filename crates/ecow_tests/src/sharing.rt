@@ -1,4 +1,4 @@
-//! Who shares a block, and what is cloned and dropped, where no script says it.
+//! Who shares a block, and what is cloned and dropped, as far as no script can say it.
 use crate::calls::{error_of, is_unique, shared};
 use ecow_block::Block;
 use ecow_bytes::EcoBytes;
@@ -10,7 +10,7 @@ use ecow_string::EcoString;
 use std::alloc::Global;
 use std::test::Fail;
 
-/// A vector with room for three that shares its block.
+/// A vector of capacity 3 that shares its block.
 fn with_clone(alloc: Global, values: &[u8]) -> Result<(EcoVec<u8>, EcoVec<u8>), EcoError> {
     let mut first = EcoVec::with_capacity(alloc, 3)?;
     first.extend_from_slice(values)?;
@@ -18,7 +18,7 @@ fn with_clone(alloc: Global, values: &[u8]) -> Result<(EcoVec<u8>, EcoVec<u8>), 
     Ok((first, second))
 }
 
-/// The room of a vector that shares no block.
+/// The capacity of a vector that shares no block.
 fn room_of_a_unique(list: &mut EcoVec<u8>) -> Option<usize> {
     if list.is_unique() {
         return Some(list.capacity());
@@ -26,7 +26,7 @@ fn room_of_a_unique(list: &mut EcoVec<u8>) -> Option<usize> {
     None
 }
 
-/// Puts a block without room in the place of a vector's own.
+/// Replaces the block of a vector by one without capacity.
 fn give_its_block_away(alloc: Global, list: &mut EcoVec<u8>) -> Result<(), EcoError> {
     match list.own_mut() {
         Ok(block) => {
@@ -75,7 +75,7 @@ fn a_store_shares_elements_without_a_clone(rt: HostRuntime) {
     assert!(rt; matches!(&shared, Outcome::Refused(Refusal::NoName)) && lists.owners(0).is_none());
 }
 
-/// Whether bytes stand in the block that a vector has, which is made of so many bytes.
+/// Whether bytes that were made from a vector have its block.
 fn is_block_of(list: &mut EcoVec<u8>, bytes: EcoBytes) -> bool {
     match bytes.into_eco_vec() {
         Ok(block) => !is_unique(list) && block.capacity() == list.capacity(),

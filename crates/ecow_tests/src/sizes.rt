@@ -1,4 +1,4 @@
-//! How many bytes values take.
+//! How many bytes values have.
 use ecow::{EcoBytes, EcoString, EcoVec};
 use ecow_bytes::SmallBytes;
 use std::mem::size_of;

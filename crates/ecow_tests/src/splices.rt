@@ -1,5 +1,4 @@
-//! When a splice of a shared vector clones its elements: not before its items have come to their
-//! end.
+//! When a splice of a shared vector clones its elements: not before its iterator has ended.
 ghost use Rattle.std.specs.Prelude.{vec_len};
 ghost use Rattle.std.specs.Iterator.{at_most};
 
@@ -8,7 +7,7 @@ use ecow_calls::counting::{Counting, Tally};
 use ecow_list::{EcoError, EcoVec, range_in};
 use std::test::Fail;
 
-/// Gives its elements, and sees whether one that counts beside them was cloned before it was asked.
+/// An iterator that also sees whether an element was cloned before the iterator was asked.
 #[derive(Drop)]
 struct Watching {
     items: Vec<Counting>,

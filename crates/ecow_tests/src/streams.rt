@@ -4,8 +4,8 @@ use std::alloc::Global;
 use std::io;
 use std::io::{ErrorKind, Read, Write};
 
-/// A reader of so many bytes at a time, which counts how often it says that it is at its end. It may
-/// be interrupted before each piece, and fail at one read, counted from 1.
+/// A reader that gives a number of bytes at a time, and counts how many times it was asked at its
+/// end. It may be interrupted before each piece, and fail at one read, counted from 1.
 #[derive(Drop)]
 pub(crate) struct Reader<'a> {
     left: &'a [u8],
@@ -50,8 +50,8 @@ impl<'a> Read for Reader<'a> {
     }
 }
 
-/// A writer that takes so many bytes at a time, and refuses one write, counted from 1. It may lose
-/// all where it is flushed.
+/// A writer that takes a number of bytes at a time, and refuses one write, counted from 1. Flushing
+/// it may fail.
 #[derive(Drop)]
 pub(crate) struct Writer {
     pub(crate) taken: Vec<u8>,
@@ -90,7 +90,7 @@ impl Write for Writer {
     }
 }
 
-/// Runs what a reader gives, with `--counted` or without.
+/// Runs the script that a reader gives, with `--counted` or without.
 pub(crate) fn ended(
     alloc: Global,
     counted: bool,

@@ -1,5 +1,5 @@
-//! Types that hold a vector of themselves: which shapes there may be, what a change below copies,
-//! and how deep a tree may be that is dropped.
+//! Types that hold a vector of themselves: which shapes are possible, what a change deep in a tree
+//! copies, and how deep a tree may be to be dropped.
 use crate::calls::push;
 use ecow_bytes::EcoBytes;
 use ecow_calls::counting::{Counting, Tally};
@@ -8,7 +8,7 @@ use ecow_string::EcoString;
 use std::alloc::{AllocError, Global};
 use std::test::Fail;
 
-/// A text and bytes beside the nodes below, and what is derived.
+/// A node with a text and bytes beside its children, and derived traits.
 #[derive(Clone, Drop, PartialEq)]
 struct Syntax {
     text: EcoString,
@@ -16,25 +16,25 @@ struct Syntax {
     below: EcoVec<Syntax>,
 }
 
-/// A vector that may be missing.
+/// A node whose children are optional.
 #[derive(Clone, Drop, PartialEq)]
 struct Lazy {
     below: Option<EcoVec<Lazy>>,
 }
 
-/// A vector of vectors.
+/// A node with a vector of vectors of children.
 #[derive(Clone, Drop, PartialEq)]
 struct Rows {
     rows: EcoVec<EcoVec<Rows>>,
 }
 
-/// Nodes with a number each.
+/// A node whose children have a number each.
 #[derive(Clone, Drop, PartialEq)]
 struct Numbered {
     below: EcoVec<(u64, Numbered)>,
 }
 
-/// Variants of all these kinds.
+/// An enum with variants of all these kinds.
 #[derive(Clone, Debug, Drop, Eq, Hash, Ord, PartialEq, PartialOrd)]
 enum Datum {
     Number(u64),
@@ -43,7 +43,7 @@ enum Datum {
     Pair(EcoVec<Datum>, Option<EcoVec<Datum>>),
 }
 
-/// A label of the user's.
+/// A generic node, with a label of any type.
 #[derive(Clone, Drop, PartialEq)]
 struct Rose<T> {
     label: T,
@@ -64,7 +64,7 @@ fn syntax_of(alloc: Global, text: &str, below: EcoVec<Syntax>) -> Result<Syntax,
     })
 }
 
-/// Whether a clone of a value is equal to it.
+/// Whether a value equals its clone.
 fn has_equal_clone<T: Clone + Drop + PartialEq>(value: T) -> Result<bool, AllocError> {
     Ok(value.clone()? == value)
 }
@@ -145,7 +145,7 @@ fn leaves(tally: &Tally, alloc: Global, n: usize) -> Result<EcoVec<Node>, EcoErr
     Ok(nodes)
 }
 
-/// So many nodes, with so many below each.
+/// A vector of nodes, with this many children each.
 fn nodes(tally: &Tally, alloc: Global, n: usize, each: usize) -> Result<EcoVec<Node>, EcoError> {
     let mut nodes = leaves(tally, alloc, n)?;
     for index in 0..n {
@@ -157,7 +157,7 @@ fn nodes(tally: &Tally, alloc: Global, n: usize, each: usize) -> Result<EcoVec<N
     Ok(nodes)
 }
 
-/// Puts another node in the place of the third.
+/// Replaces the third node.
 fn write(list: &mut EcoVec<Node>, node: Node) -> Result<(), Rejected<Node>> {
     if list.len() < 3 {
         return Ok(());
@@ -165,7 +165,7 @@ fn write(list: &mut EcoVec<Node>, node: Node) -> Result<(), Rejected<Node>> {
     list.set(2, node)
 }
 
-/// Puts another node in the place of the third below the second.
+/// Replaces the third child of the second node.
 fn replace_below(list: &mut EcoVec<Node>, node: Node) -> Result<(), EcoError> {
     if list.len() < 2 {
         return Ok(());
@@ -174,7 +174,7 @@ fn replace_below(list: &mut EcoVec<Node>, node: Node) -> Result<(), EcoError> {
     Ok(())
 }
 
-/// A clone of the nodes whose third one below the second is another.
+/// A clone of the nodes in which the third child of the second node is replaced.
 fn changed(tally: &Tally, alloc: Global, tree: &EcoVec<Node>) -> Result<EcoVec<Node>, EcoError> {
     let mut changed = tree.clone()?;
     replace_below(&mut changed, leaf(tally, alloc)?)?;
@@ -186,7 +186,7 @@ fn a_change_copies_the_vectors_along_its_path(rt: HostRuntime) -> Result<(), Fai
     let tally = Tally::new(rt.alloc())?;
     let tree = nodes(&tally, rt.alloc(), 4, 3)?;
     let copy = changed(&tally, rt.alloc(), &tree)?;
-    // Four nodes, and the three below one of them, of which one made way.
+    // Four nodes, and the three children of one of them, of which one was replaced.
     assert!(rt; tally.has(7, 1));
     assert_eq!(rt; tally.counts_without(copy), (7, 8));
     assert_eq!(rt; tally.counts_without(tree), (7, 24));
@@ -201,7 +201,7 @@ fn a_million_nodes_are_dropped(rt: HostRuntime) -> Result<(), Fail> {
     Ok(())
 }
 
-/// A chain of so many nodes, one below the other.
+/// A chain of this many nodes, each the only child of the one before.
 fn chain(tally: &Tally, alloc: Global, n: usize) -> Result<EcoVec<Node>, EcoError> {
     let mut below = EcoVec::new(alloc);
     for _ in 0..n {
@@ -211,7 +211,7 @@ fn chain(tally: &Tally, alloc: Global, n: usize) -> Result<EcoVec<Node>, EcoErro
     Ok(below)
 }
 
-// The checked build of `rt try` takes more stack for each node, and runs out of it.
+// The checked build of `rt try` needs more stack for each node, and runs out of it.
 #[test]
 fn a_chain_of_ten_thousand_nodes_is_dropped(rt: HostRuntime) -> Result<(), Fail> {
     let tally = Tally::new(rt.alloc())?;

@@ -1,4 +1,4 @@
-//! The forms of `eco_vec!`, and elements of no bytes.
+//! The forms of `eco_vec!`, and zero-sized elements.
 use crate::calls::{error_of, push};
 use ecow_list::{EcoError, EcoVec, eco_vec};
 use std::test::Fail;

@@ -1,4 +1,4 @@
-//! What watches the calls of the trials refuses a call that is wrong in one thing.
+//! The functions that watch a call must refuse a call with one fault.
 use ecow_calls::calls::{Call, Role, Row};
 use ecow_calls::counting::{Counting, Tally};
 use ecow_calls::elements::{Element, or_memory};
@@ -10,7 +10,8 @@ use ecow_list::{EcoError, EcoVec};
 use std::alloc::{AllocError, Global};
 use std::test::Fail;
 
-/// An element that counts. A call that replaces nothing in its vectors does so where `needs` is 0.
+/// An element that counts. Its call should change nothing, and has the fault that `needs` numbers; 0
+/// is none.
 #[derive(Clone, Drop)]
 struct Faulty(Counting);
 
@@ -39,7 +40,7 @@ impl Element for Faulty {
     }
 }
 
-/// Whether a trial passes the call with this fault.
+/// Whether a trial passes a call with this fault.
 fn passes(alloc: Global, tally: &Tally, needs: usize) -> bool {
     let (name, call, start, end, count, times) = ("", Call::ReplaceRange, 0, 0, 0, 1);
     let row = Row {

@@ -1,6 +1,6 @@
-//! What each call costs, measured: a row for each call and each state in which its value may be, as
-//! the tables of `docs/COSTS.md` have them. Calls may be marked, so that requests for memory, the
-//! last column, are counted from outside.
+//! Measures what each call costs, and prints a row for each call in each state, as the tables of
+//! `docs/COSTS.md` have them. Calls can be marked, so that their requests for memory, the last
+//! column, can be counted from outside the program.
 mod marks;
 mod measure;
 mod prints;
@@ -17,7 +17,7 @@ use std::alloc::Global;
 use std::hash::{DefaultHasher, Hash, Hasher};
 use std::io;
 
-/// Adds the rows of values of one type, at each of its limits.
+/// Adds the rows of one type, at each inline limit.
 macro_rules! add_at {
     ($add:ident $value:ident($meter:expr, $rows:expr): [$($limit:literal),*]) => {
         $($add::<$value<$limit>>($meter, $rows);)*
@@ -41,12 +41,12 @@ fn all_rows(alloc: Global, marked: bool) -> Rows {
     rows
 }
 
-/// Prints the rows, with calls marked.
+/// Prints all rows, with calls marked.
 pub(crate) fn print_rows(rt: &HostRuntime) -> io::Result<()> {
     print!(rt; "{}", all_rows(rt.alloc(), true).text)
 }
 
-/// Prints how many rows there are, and their hash: two builds of the program must agree.
+/// Prints the number of rows and their hash, in which two builds of the program must agree.
 pub(crate) fn print_hash(rt: &HostRuntime) -> io::Result<()> {
     let rows = all_rows(rt.alloc(), false);
     let mut hasher = DefaultHasher::new();

@@ -1,7 +1,8 @@
-//! Trials of values, of both stores, and of the program over them. The gate refuses the requests for
-//! memory of each part in turn: a call or a command does its work, or is refused and leaves all as it
-//! was. With the argument `strict` none may say that memory is wanting, since none is refused then;
-//! the rows of costs are hashed besides. With `costs` those are printed, and nothing is tried.
+//! Two programs. Without an argument it tries the calls of values, and what no script can say of
+//! the stores. The gate refuses each request for memory of each part in turn: a call or a command
+//! then does its work, or is refused and leaves everything as it was. With the argument `strict` no
+//! request is refused, so no call may be refused for memory; the rows of costs are hashed, too.
+//! With `costs` it measures what calls cost, and prints the rows.
 #![tactic(auto)]
 
 mod costs;
@@ -13,7 +14,7 @@ use std::env::Env;
 use std::io::Read;
 use std::{env, io};
 
-/// Whether the program is given an argument.
+/// Whether the program got this argument.
 fn is_given(rt: &(impl Env + AllocGlobal), argument: &str) -> bool {
     let Ok(words) = env::args(rt) else {
         return false;
@@ -26,7 +27,8 @@ fn is_given(rt: &(impl Env + AllocGlobal), argument: &str) -> bool {
     false
 }
 
-/// The one part whose number stands on standard input, counted from 1; 0 where none does.
+/// The number of the one part to run, counted from 1, which is read from standard input; 0 if there
+/// is none.
 fn wanted_part(rt: &HostRuntime) -> usize {
     let mut word = [0u8; 4];
     let mut number = 0usize;
@@ -42,7 +44,7 @@ fn wanted_part(rt: &HostRuntime) -> usize {
     number
 }
 
-/// Prints whether a part holds.
+/// Prints whether a part is as it must be.
 fn report(rt: &HostRuntime, name: &str, holds: bool, watch: Watch) -> io::Result<()> {
     if holds && watch.is_kept() {
         return println!(rt; "{name}: as before or done");
@@ -51,7 +53,7 @@ fn report(rt: &HostRuntime, name: &str, holds: bool, watch: Watch) -> io::Result
     println!(rt; "{name}: wrong {call} {state}")
 }
 
-/// Runs the part that is wanted, or all, and prints a line for each.
+/// Runs the wanted part or all parts, and prints a line for each.
 fn main(rt: HostRuntime) -> io::Result<()> {
     if is_given(&rt, "costs") {
         return costs::print_rows(&rt);

@@ -1,5 +1,5 @@
-//! What no script can say of the stores: lists that are filled in one call, runs that lack memory
-//! for their outcomes, clones of elements that are counted and refused, and inline limits beside 15.
+//! Tries what no script can say of the stores: `fill`, runs without memory for their outcomes,
+//! clones of elements that are counted and refused, and other inline limits than 15.
 use ecow_calls::counting::{Counting, Source, Tally};
 use ecow_calls::watch::Watch;
 use ecow_counted::{Counted, Filled};
@@ -31,7 +31,7 @@ pub(crate) fn part_holds(part: usize, alloc: Global, watch: &Watch) -> bool {
         5 => limit_holds::<4>(alloc, watch),
         _ => limit_holds::<23>(alloc, watch),
     };
-    // Memory for what is given to a store may be refused too.
+    // Memory for what the test gives to a store may be refused, too.
     match said {
         Ok(holds) => holds,
         Err(AllocError) => watch.may_refuse(),
@@ -42,7 +42,7 @@ fn lacks_memory<E>(outcome: &Outcome<E>) -> bool {
     matches!(outcome, Outcome::Refused(Refusal::Memory))
 }
 
-/// How many numbers a list is filled with, how many of them move, and its capacity.
+/// How many numbers a list is filled with, how many of them move, and the list's capacity.
 const FILLED: [(usize, u64, usize); 5] = [
     (0, 0, 0),
     (4, 0, 4),
@@ -51,11 +51,11 @@ const FILLED: [(usize, u64, usize); 5] = [
     (17, 28, 32),
 ];
 
-/// The same where the request for the name, for the first block or for a larger one is refused.
+/// The same after a refused request: for the name or the first block, or for a larger block.
 const FULL: [(usize, u64, usize); 4] = [(0, 0, 0), (4, 0, 4), (8, 4, 8), (16, 12, 16)];
 
-/// Fills lists with the numbers from 0 on, and with elements of no bytes, which ask for memory for
-/// the name and for the first block alone.
+/// Fills lists with the numbers from 0 on, and with zero-sized elements, which take memory only for
+/// the name and the first block.
 fn filling_holds(alloc: Global, watch: &Watch) -> Result<bool, AllocError> {
     let mut hold = true;
     for wanted in FILLED {
@@ -90,7 +90,7 @@ fn costs_are_right<T>(
     }
 }
 
-/// A list of three is made, gets one more, and tells its length.
+/// Makes a list of three, appends one more, and asks for the length.
 fn list_commands(alloc: Global) -> Result<[VecCommand<i64>; 3], AllocError> {
     let (name, items) = (0, Items::new(Vec::from_array(alloc, [1, 2, 3])?));
     Ok([
@@ -100,7 +100,7 @@ fn list_commands(alloc: Global) -> Result<[VecCommand<i64>; 3], AllocError> {
     ])
 }
 
-/// Runs commands, which come back where there is no memory for their outcomes.
+/// Runs commands in both stores. They come back if there is no memory for their outcomes.
 fn runs_hold(alloc: Global, watch: &Watch) -> Result<bool, AllocError> {
     let mut commands = Vec::new(alloc);
     for command in list_commands(alloc)? {
@@ -136,7 +136,7 @@ trait Lists: Drop {
 
     fn carry_out(&mut self, command: VecCommand<Counting>) -> Outcome<Counting>;
 
-    /// How many elements were copied so far, where the store counts them.
+    /// How many elements were copied so far, if the store counts them.
     fn copies(&self) -> Option<u64>;
 }
 
@@ -168,10 +168,10 @@ impl Lists for Counted<Counting> {
     }
 }
 
-/// How many elements a command copies, how many it clones in all, and how many there are afterwards.
+/// How many elements a command copies, how many it clones in all, and how many exist afterwards.
 type Costs = (u64, u64, u64);
 
-/// The command with a number, on a list of four whose block another name shares.
+/// The command with this number, on a list of four whose block another name shares.
 fn nth_command(
     number: usize,
     alloc: Global,
@@ -221,8 +221,8 @@ fn nth_command(
     })
 }
 
-/// Carries each command out, with none of its clones refused and with each in turn, up to one more
-/// than any makes. No request for memory may be refused beside.
+/// Carries out each command: with no clone refused, and with each of its clones refused in turn. No
+/// request for memory may be refused here.
 fn clones_hold<K: Lists>(alloc: Global, watch: &Watch) -> Result<bool, AllocError> {
     let mut hold = true;
     if watch.is_strict() {
@@ -254,9 +254,9 @@ fn clone_holds<K: Lists>(alloc: Global, number: usize, refused: u64) -> Result<b
 
 const LETTERS: &str = "abcdefghijklmnopqrstuvwxyz";
 
-/// Makes bytes and a text of as many letters as are inline, and clones them; then appends a letter,
-/// takes it away again, keeps no more room than is needed, and asks for room for one more. One that
-/// lacks memory leaves all as it was.
+/// Makes bytes and a text of as many letters as fit inline, and clones them. Then it appends a
+/// letter, removes it again, shrinks the capacity, and reserves capacity for one more. A command
+/// that is refused for memory must change nothing.
 fn limit_holds<const N: usize>(alloc: Global, watch: &Watch) -> Result<bool, AllocError> {
     let name = 0;
     let (all, letter) = (LETTERS.get(..N).unwrap_or(""), LETTERS.as_bytes().get(N));
@@ -306,7 +306,7 @@ fn limit_holds<const N: usize>(alloc: Global, watch: &Watch) -> Result<bool, All
     Ok(held(&mut store, 1) == full && held(&mut store, 2) == full)
 }
 
-/// How many letters stand under a name, and whether they are inline.
+/// How many letters the value under a name has, and whether it is inline.
 fn held<const N: usize>(store: &mut SmallStore<i64, N>, name: u32) -> Option<(usize, bool)> {
     let (bytes, question) = match (store.get_bytes(name), store.get_str(name)) {
         (Some(bytes), _) => (bytes, Command::Bytes(BytesCommand::IsInline { name })),

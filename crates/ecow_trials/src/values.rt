@@ -1,6 +1,6 @@
-//! Vectors, bytes and texts: each call of the tables in each state. Where no request is refused, the
-//! clones of elements are, and calls are made on values of many items and of lengths that a seed
-//! decides.
+//! Tries each call of the tables in each state of vectors, bytes and texts. In the strict run, in
+//! which no request is refused, it also refuses clones of elements, and makes calls on values of
+//! many items and on random lengths.
 mod clones;
 mod each_call;
 mod owners;
@@ -17,7 +17,7 @@ use ecow_calls::watch::Watch;
 use ecow_string::SmallText;
 use std::alloc::Global;
 
-/// Values with limits that no other row has. Of one of them requests are refused.
+/// Values with inline limits that no other part has. Requests are refused for only one of them.
 fn limits_hold(alloc: Global, watch: &Watch) -> bool {
     bytes_hold::<SmallBytes<64>>(alloc, watch)
         && (!watch.is_strict()
@@ -27,7 +27,7 @@ fn limits_hold(alloc: Global, watch: &Watch) -> bool {
                 && texts_hold::<SmallText<64>>(alloc, watch))
 }
 
-/// Whether values of one type hold, at the limit that stands beside the part's number.
+/// Tries the values of one type, at the inline limit beside the part's number.
 macro_rules! hold_at {
     ($part:expr, $hold:ident $value:ident($alloc:expr, $watch:expr): [
         $($number:literal: $limit:literal),*
@@ -68,7 +68,7 @@ pub(crate) const NAMES: [&str; 25] = [
     "bytes and texts, others inline",
 ];
 
-/// Whether the part of values with this number, counted from 0, holds.
+/// Whether the part with this number, counted from 0, holds.
 pub(crate) fn part_holds(part: usize, alloc: Global, watch: &Watch) -> bool {
     match part {
         0 => vectors_hold::<i64>(alloc, watch) && copies_hold::<i64>(alloc, watch, 11),

@@ -1,8 +1,8 @@
-//! Marks before and behind a call, for a library that counts the requests for memory between them:
-//! a request for so many bytes, and for nothing else.
+//! Marks before and after a call: requests for a number of bytes that nothing else asks for. A
+//! library that sees all requests counts those between two marks.
 use std::alloc::Global;
 
-/// Where memory comes from, and whether calls are marked.
+/// The allocator, and whether calls are marked.
 #[derive(Clone, Copy)]
 pub(crate) struct Meter {
     pub(crate) alloc: Global,
@@ -14,12 +14,12 @@ impl Meter {
         Meter { alloc, marked }
     }
 
-    /// The request at which counting begins.
+    /// Makes the request at which counting begins.
     pub(crate) fn begin(self) -> Option<Vec<u8>> {
         self.mark(5555551)
     }
 
-    /// The request at which the count is written.
+    /// Makes the request at which the count is written.
     pub(crate) fn end(self) -> Option<Vec<u8>> {
         self.mark(5555553)
     }

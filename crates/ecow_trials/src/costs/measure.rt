@@ -1,4 +1,4 @@
-//! What calls cost of any value.
+//! Measures the calls of vectors, bytes and texts.
 use crate::costs::marks::Meter;
 use crate::costs::rows::{Cost, Form, Rows, Standing, USUAL};
 use crate::values::seeds;
@@ -22,7 +22,7 @@ fn form_of<T: Drop>(block: &mut Option<EcoVec<T>>) -> Form {
     }
 }
 
-/// Where two values stand, of which there may be one.
+/// Where the elements of two values are; there may be only one.
 fn forms<V: Value>(value: V, other: Option<V>) -> (Form, Form) {
     let mut block = value.into_block();
     match other {
@@ -34,14 +34,15 @@ fn forms<V: Value>(value: V, other: Option<V>) -> (Form, Form) {
     }
 }
 
-/// Where the value stands in a state, and its clone or what is to be made of it.
+/// Where the elements of the value and of its clone, or of the value that it is made from, are
+/// before the call.
 fn before<V: Value>(role: Role, state: &State) -> Standing {
-    let form = match state.room {
+    let form = match state.capacity {
         None => Form::Inline,
         Some(_) if state.shared => Form::Shared,
         Some(_) => Form::Sole,
     };
-    let capacity = state.room.or(V::limit()).unwrap_or(0);
+    let capacity = state.capacity.or(V::limit()).unwrap_or(0);
     let (form, twin) = match role {
         Role::Change if state.shared => (form, form),
         Role::Change => (form, Form::Absent),
@@ -51,7 +52,7 @@ fn before<V: Value>(role: Role, state: &State) -> Standing {
     Standing::of(form, twin, capacity)
 }
 
-/// Where the value stands after a change, and its clone.
+/// Where the elements of the value and of its clone are after a change.
 fn after_change<V: Value>(row: &Row, value: V, twin: Option<V>) -> Standing {
     let capacity = value.capacity();
     let (form, twin) = forms(value, twin);
@@ -61,7 +62,8 @@ fn after_change<V: Value>(row: &Row, value: V, twin: Option<V>) -> Standing {
     Standing::of(form, twin, capacity)
 }
 
-/// Where a value stands that was made, if one was, and what it was made of.
+/// Where the elements of the new value, if there is one, and of the value that it was made from
+/// are.
 fn after_making<V: Value>(made: Option<V>, source: Option<V>) -> Standing {
     match (made, source) {
         (Some(made), source) => {
@@ -74,7 +76,7 @@ fn after_making<V: Value>(made: Option<V>, source: Option<V>) -> Standing {
     }
 }
 
-/// What has been counted since.
+/// The clones and drops between two counts.
 fn since(before: Option<(u64, u64)>, after: Option<(u64, u64)>) -> Option<(u64, u64)> {
     let (before, after) = (before?, after?);
     Some((
@@ -83,7 +85,7 @@ fn since(before: Option<(u64, u64)>, after: Option<(u64, u64)>) -> Option<(u64, 
     ))
 }
 
-/// Where values stand behind a call, and how often elements were cloned and dropped in it.
+/// Where the elements are after a call, and how many were cloned and dropped in it.
 type Measured = Result<(Standing, Option<(u64, u64)>), EcoError>;
 
 fn measured_change<V: Value>(
@@ -127,7 +129,7 @@ fn measured_making<V: Value>(meter: Meter, source: &V::Source, row: &Row) -> Mea
     Ok((after_making(Some(made), None), counts))
 }
 
-/// Adds a row of each call of a table in each of the states in which it fits.
+/// Adds a row for each call of a table and each state that has the items which the call needs.
 fn add<V: Value>(
     meter: Meter,
     rows: &mut Rows,
@@ -155,8 +157,8 @@ fn add<V: Value>(
     }
 }
 
-/// Derives or makes fifty values as a seed says, and asks for memory besides, so often that there
-/// are a thousand requests where these ask as the rules say.
+/// Makes fifty values that a seed decides, and then requests memory as often as makes 1000 requests
+/// in all, if the fifty made as many as the rules say.
 fn drawn<V: Value>(
     meter: Meter,
     numbers: &mut Numbers,
@@ -166,7 +168,7 @@ fn drawn<V: Value>(
     let (mut drawn, mut left) = (Vec::new(meter.alloc), 1000usize);
     for _ in 0..50 {
         let (row, state) = seeds::drawn(numbers, row, V::limit());
-        left = left.saturating_sub(case_of::<V>(&row, &state).made_room().1);
+        left = left.saturating_sub(case_of::<V>(&row, &state).made_capacity().1);
         let value = V::made(meter.alloc, source, &state)?;
         drawn.push((row, value, V::gift(meter.alloc, source, &row)?))?;
     }
@@ -187,7 +189,7 @@ fn drawn<V: Value>(
     Ok(cost)
 }
 
-/// The rows of calls by a seed.
+/// Adds a row for each call, made with arguments that a seed decides.
 fn add_drawn<V: Value>(meter: Meter, rows: &mut Rows, source: &V::Source, calls: (Role, &[Row])) {
     let mut numbers = Numbers::new(5);
     for row in calls.1 {
@@ -195,7 +197,7 @@ fn add_drawn<V: Value>(meter: Meter, rows: &mut Rows, source: &V::Source, calls:
     }
 }
 
-/// The rows of vectors of elements that count, in these states.
+/// Adds the rows of vectors of `Counting` in these states.
 fn add_vectors_in(meter: Meter, rows: &mut Rows, tally: &Tally, states: &[State]) {
     let (changes, arrays) = (tables::VECTOR_CHANGES, tables::INTO_ARRAYS);
     let derivations = tables::VECTOR_DERIVATIONS;
@@ -204,7 +206,7 @@ fn add_vectors_in(meter: Meter, rows: &mut Rows, tally: &Tally, states: &[State]
     add::<EcoVec<Counting>>(meter, rows, tally, Role::Derive, (derivations, states));
 }
 
-/// The rows of vectors of elements that count.
+/// Adds the rows of vectors of `Counting`.
 pub(crate) fn add_vectors(meter: Meter, rows: &mut Rows) {
     let Ok(tally) = Tally::new(meter.alloc) else {
         return;
@@ -223,7 +225,7 @@ pub(crate) fn add_vectors(meter: Meter, rows: &mut Rows) {
     add_drawn::<EcoVec<Counting>>(meter, rows, &tally, (Role::Make, makers));
 }
 
-/// The rows of vectors of other elements, which cost what the tables say of those that count.
+/// Adds the rows of vectors of other elements. Their calls cost the same as those of `Counting`.
 pub(crate) fn add_elements<T: Element<Source = ()>>(
     meter: Meter,
     rows: &mut Rows,
@@ -231,7 +233,7 @@ pub(crate) fn add_elements<T: Element<Source = ()>>(
 ) {
     let (few, many, first) = (few_elements(), thousand(), &few_elements()[..1]);
     let (changes, clones) = (tables::VECTOR_CHANGES, tables::VECTOR_DERIVATIONS);
-    // Those behind are of bytes alone, of arrays, or of too many.
+    // The rows after these are for bytes only, for arrays, or for too many elements.
     let (copies, more) = (&tables::COPIES[..11], &tables::VECTOR_MAKERS_OF_MANY[..8]);
     rows.element = element;
     for states in [few.as_slice(), many.as_slice()] {
@@ -245,7 +247,7 @@ pub(crate) fn add_elements<T: Element<Source = ()>>(
     rows.element = "";
 }
 
-/// The rows of calls that take elements as memory, of bytes.
+/// Adds the rows of vectors of bytes for calls that copy elements as plain memory.
 pub(crate) fn add_copies(meter: Meter, rows: &mut Rows) {
     let (few, many, copies) = (few_elements(), thousand(), tables::COPIES);
     let (growth, within, makers) = (
@@ -260,7 +262,7 @@ pub(crate) fn add_copies(meter: Meter, rows: &mut Rows) {
     add::<EcoVec<u8>>(meter, rows, &(), Role::Make, (makers, &few[..1]));
 }
 
-/// The rows of elements of no bytes.
+/// Adds the rows of zero-sized elements.
 pub(crate) fn add_units(meter: Meter, rows: &mut Rows) {
     let (none, growth, makers) = (
         &few_elements()[..1],
@@ -271,7 +273,7 @@ pub(crate) fn add_units(meter: Meter, rows: &mut Rows) {
     add::<EcoVec<()>>(meter, rows, &(), Role::Make, (makers, none));
 }
 
-/// The rows of changes and derivations of bytes or texts in these states.
+/// Adds the rows of calls that change bytes or a text in these states, or make a value from them.
 fn add_in<V: Value<Source = ()>>(
     meter: Meter,
     rows: &mut Rows,
@@ -284,7 +286,7 @@ fn add_in<V: Value<Source = ()>>(
     add::<V>(meter, rows, &(), Role::Derive, (derivations, states));
 }
 
-/// The rows of changes and derivations of bytes or texts at their limit.
+/// Adds the rows of calls that change bytes or a text, or make a value from them.
 fn add_states<V: Value<Source = ()>>(
     meter: Meter,
     rows: &mut Rows,
@@ -303,7 +305,8 @@ fn add_states<V: Value<Source = ()>>(
     add_drawn::<V>(meter, rows, &(), (Role::Derive, derivations));
 }
 
-/// The rows of makers of bytes or texts, at the usual limit or at another; of growth at the first.
+/// Adds the rows of calls that make bytes or a text; at the inline limit 15 also those that grow
+/// them.
 fn add_made<V: Value<Source = ()>>(
     meter: Meter,
     rows: &mut Rows,

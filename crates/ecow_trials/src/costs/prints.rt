@@ -1,4 +1,4 @@
-//! Texts that are printed. What `eco_format!` and `to_eco_string` make is an `EcoString`.
+//! Measures `eco_format!` and `to_eco_string`, which make an `EcoString`.
 use crate::costs::marks::Meter;
 use crate::costs::rows::{Cost, Form, Rows};
 use ecow_calls::tables::TIMES;
@@ -7,7 +7,7 @@ use ecow_string::{EcoString, ToEcoString, eco_format};
 use std::alloc::{AllocError, Global};
 use std::fmt;
 
-/// Prints seven letters so often.
+/// Formats seven letters this many times.
 #[derive(Drop)]
 struct Pieces(usize);
 
@@ -20,7 +20,7 @@ impl fmt::Display for Pieces {
     }
 }
 
-/// A call, with the number of letters, or of pieces of seven, that are printed.
+/// A call, with the number of letters, or of pieces of seven letters, that it formats.
 #[derive(Clone, Copy)]
 enum Print {
     Format(usize),
@@ -51,7 +51,7 @@ fn printed(call: Print, letters: &str, alloc: Global) -> Result<EcoString, fmt::
     }
 }
 
-/// So many letters.
+/// A string of `len` letters.
 fn letters(alloc: Global, len: usize) -> Result<String, AllocError> {
     let mut letters = String::new(alloc);
     for _ in 0..len {

@@ -1,25 +1,25 @@
-//! Where values stand, and the rows of the tables.
+//! The rows of the tables of costs, and where the elements of values are.
 use ecow_calls::calls::{Role, Row};
 use ecow_calls::states::State;
 use ecow_calls::value::Value;
 use ecow_list::EcoError;
 use std::alloc::{AllocError, Global};
 
-/// Where a value's elements stand.
+/// Where the elements of a value are.
 #[derive(Clone, Copy, PartialEq)]
 pub(crate) enum Form {
     /// There is no such value.
     Absent,
     /// In the value itself.
     Inline,
-    /// In a block that no other value shares, or there is no block.
+    /// In a block that no other value shares. A value without a block counts as such.
     Sole,
-    /// In a block that another shares.
+    /// In a block that another value shares.
     Shared,
 }
 
 impl Form {
-    /// How it is now that it was `before`.
+    /// How a table writes it, if it was `before` ahead of the call.
     fn now(self, before: Form) -> &'static str {
         if self == before {
             return "same";
@@ -33,8 +33,8 @@ impl Form {
     }
 }
 
-/// Where a value and its twin, or what it was made of, stand, and for how many elements the value
-/// has room.
+/// Where the elements of a value, and of its clone or of the value that it was made from, are; and
+/// the capacity of the value.
 #[derive(Clone, Copy)]
 pub(crate) struct Standing {
     pub(crate) form: Form,
@@ -51,13 +51,13 @@ impl Standing {
         }
     }
 
-    /// Where a value stands that there isn't.
+    /// There is no value.
     pub(crate) fn none() -> Self {
         Standing::of(Form::Absent, Form::Absent, 0)
     }
 }
 
-/// How a call is written: whose it is, its name, and how often it is made.
+/// How a table writes a call: what comes before its name, the name, and how many times it is made.
 #[derive(Clone, Copy)]
 pub(crate) struct Written {
     pub(crate) owner: &'static str,
@@ -75,11 +75,11 @@ impl Written {
     }
 }
 
-/// The inline limit of `EcoBytes` and `EcoString`. A state of theirs is named without it.
+/// The inline limit of `EcoBytes` and `EcoString`. The tables don't write it behind a state.
 pub(crate) const USUAL: usize = 15;
 
-/// A call, the state before it, and what it cost. Clones and drops are counted of some elements.
-/// `limit` is the inline limit of bytes and texts; vectors have the usual one here.
+/// A call, the state before it, and what it cost. Clones and drops are counted for `Counting` only.
+/// `limit` is the inline limit of bytes and texts, and 15 for vectors.
 #[derive(Clone, Copy)]
 pub(crate) struct Cost {
     pub(crate) role: Role,
@@ -92,7 +92,8 @@ pub(crate) struct Cost {
 }
 
 impl Cost {
-    /// What a call costs in a state, but for what is measured: it leaves all as it was.
+    /// The row of a call in a state, as if the call had changed nothing. The caller puts in what is
+    /// measured.
     pub(crate) fn of<V: Value>(role: Role, row: &Row, state: &State, before: Standing) -> Self {
         Cost {
             role,
@@ -109,7 +110,7 @@ impl Cost {
         }
     }
 
-    /// What it costs to make a value that then stands so.
+    /// The row of a call that made a value.
     pub(crate) fn of_making(name: &'static str, form: Form, capacity: usize) -> Self {
         Cost {
             role: Role::Make,
@@ -126,18 +127,18 @@ impl Cost {
         }
     }
 
-    /// Whether the value stands as before, and has as much room.
-    fn keeps_room(&self) -> bool {
+    /// Whether the elements are where they were, with the same capacity.
+    fn keeps_capacity(&self) -> bool {
         let keeps = self.after.form == self.before.form || self.after.form == Form::Shared;
         keeps && self.after.capacity == self.before.capacity
     }
 
-    /// Whether the value is made inline, in the room that such a value has.
+    /// Whether the value is inline, with the capacity of an inline value.
     fn is_within_limit(&self) -> bool {
         self.after.form == Form::Inline && self.after.capacity == self.limit
     }
 
-    /// The state in which the value was; a call that makes one needs none.
+    /// How a table writes the state before the call; a call that makes a value has none.
     fn state(&self, alloc: Global) -> Result<String, AllocError> {
         let state = if self.role != Role::Make {
             self.state
@@ -159,11 +160,11 @@ impl Cost {
         self.after.twin.now(self.before.twin)
     }
 
-    fn room(&self, alloc: Global) -> Result<String, AllocError> {
+    fn capacity(&self, alloc: Global) -> Result<String, AllocError> {
         if self.after.form == Form::Absent {
             return format!(in alloc; "–");
         }
-        if self.keeps_room() {
+        if self.keeps_capacity() {
             return format!(in alloc; "same");
         }
         if self.is_within_limit() {
@@ -180,7 +181,7 @@ impl Cost {
     }
 
     fn line(&self, alloc: Global, element: &str) -> Result<String, AllocError> {
-        let (room, counted) = (self.room(alloc)?, self.counted(alloc)?);
+        let (capacity, counted) = (self.capacity(alloc)?, self.counted(alloc)?);
         let (call, state) = (self.call.text(alloc)?, self.state(alloc)?);
         let twin = self.twin();
         let form = if self.after.form == Form::Absent {
@@ -196,7 +197,7 @@ impl Cost {
 #[derive(Drop)]
 pub(crate) struct Rows {
     pub(crate) text: String,
-    /// What stands behind a state: which elements the next rows are of.
+    /// Which elements the next rows are for. The tables write it behind the state.
     pub(crate) element: &'static str,
     alloc: Global,
 }
@@ -210,7 +211,7 @@ impl Rows {
         }
     }
 
-    /// Adds the row of a call, or what was refused.
+    /// Adds the row of a call. If the call was refused, the row says so.
     pub(crate) fn add(&mut self, cost: Result<Cost, EcoError>) {
         let _done = match cost {
             Ok(cost) => self.add_line(cost),

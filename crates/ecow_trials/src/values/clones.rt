@@ -1,4 +1,4 @@
-//! Calls whose clones of elements are refused: the first, the second and so on.
+//! Refuses each clone of an element that a call makes: the first, the second and so on.
 use ecow_calls::calls::{Role, Row};
 use ecow_calls::counting::{Counting, Tally};
 use ecow_calls::elements::{Element, Wide};
@@ -9,8 +9,8 @@ use ecow_calls::watch::Watch;
 use ecow_list::EcoVec;
 use std::alloc::Global;
 
-/// Refuses each clone of a call in turn, until none is refused. `None` where the elements can't be
-/// made.
+/// Refuses each clone of a call in turn, until no clone is left to refuse. `None` if the elements
+/// can't be made.
 fn each_clone_is_refused<E: Element<Source = Tally>>(
     alloc: Global,
     role: Role,
@@ -46,7 +46,7 @@ fn rows_hold<E: Element<Source = Tally>>(
     hold
 }
 
-/// No request for memory may be refused beside.
+/// Tries this in the strict run only, since no request for memory may be refused here.
 pub(crate) fn clones_hold(alloc: Global, watch: &Watch) -> bool {
     let (changes, further) = (tables::VECTOR_CHANGES, tables::FURTHER_VECTOR_CHANGES);
     let (makers, more) = (tables::VECTOR_MAKERS, tables::FURTHER_VECTOR_MAKERS);

@@ -1,4 +1,4 @@
-//! Each call of the tables in each state.
+//! Makes each call of the tables in each state.
 use ecow_calls::calls::{Role, Row};
 use ecow_calls::counting::{Counting, Tally};
 use ecow_calls::elements::Element;
@@ -10,7 +10,7 @@ use ecow_calls::watch::Watch;
 use ecow_list::EcoVec;
 use std::alloc::Global;
 
-/// Vectors of a thousand elements that count, where no request is refused.
+/// Tries vectors of a thousand `Counting`, in the strict run only.
 pub(crate) fn many_hold(alloc: Global, watch: &Watch) -> bool {
     let Ok(tally) = Tally::new(alloc) else {
         return watch.may_refuse();
@@ -23,7 +23,7 @@ pub(crate) fn many_hold(alloc: Global, watch: &Watch) -> bool {
             && table_holds::<EcoVec<Counting>>(alloc, &tally, watch, Role::Make, (makers, first))
 }
 
-/// Vectors with few elements in each state, which come of memory alone.
+/// Tries vectors of few elements in each state.
 pub(crate) fn vectors_hold<T: Element<Source = ()>>(alloc: Global, watch: &Watch) -> bool {
     let source = &();
     let (changes, further) = (tables::VECTOR_CHANGES, tables::FURTHER_VECTOR_CHANGES);
@@ -37,7 +37,7 @@ pub(crate) fn vectors_hold<T: Element<Source = ()>>(alloc: Global, watch: &Watch
         && table_holds::<EcoVec<T>>(alloc, source, watch, Role::Make, (more, first))
 }
 
-/// Arrays of elements whose clones take memory, and vectors of such.
+/// Tries arrays that are made from vectors, and vectors that are made from arrays.
 pub(crate) fn arrays_hold<T: Element<Source = ()>>(alloc: Global, watch: &Watch) -> bool {
     let (arrays, others) = (tables::INTO_ARRAYS, tables::INTO_OTHER_ARRAYS);
     let (makers, states) = (tables::ARRAY_MAKERS, few_elements());
@@ -46,7 +46,8 @@ pub(crate) fn arrays_hold<T: Element<Source = ()>>(alloc: Global, watch: &Watch)
         && table_holds::<EcoVec<T>>(alloc, &(), watch, Role::Make, (makers, &states[..1]))
 }
 
-/// Calls of vectors that take elements as memory. Those behind the first eleven are of bytes alone.
+/// Tries the calls that copy elements as plain memory, the first `copies` of them: those after the
+/// first eleven are for bytes only.
 pub(crate) fn copies_hold<T: Element<Source = ()>>(
     alloc: Global,
     watch: &Watch,
@@ -72,7 +73,7 @@ pub(crate) fn copies_hold<T: Element<Source = ()>>(
         && hold
 }
 
-/// Letters that differ, in each of the states.
+/// The same states, with letters that differ.
 fn varied(states: [State; 7]) -> [State; 7] {
     let mut states = states;
     for state in &mut states {
@@ -81,7 +82,7 @@ fn varied(states: [State; 7]) -> [State; 7] {
     states
 }
 
-/// Changes of bytes or texts on both sides of their limit, and of many.
+/// Tries changes of bytes or texts: around the inline limit, and of a thousand bytes.
 fn changes_hold<V: Value<Source = ()>>(alloc: Global, watch: &Watch, rows: &[Row]) -> bool {
     let few = few_spilled(V::limit().unwrap_or(0));
     further_hold::<V>(alloc, watch, rows)
@@ -89,7 +90,7 @@ fn changes_hold<V: Value<Source = ()>>(alloc: Global, watch: &Watch, rows: &[Row
         && table_holds::<V>(alloc, &(), watch, Role::Change, (rows, &thousand()))
 }
 
-/// Changes of letters that differ, on both sides of the limit.
+/// Tries changes of letters that differ, around the inline limit.
 fn further_hold<V: Value<Source = ()>>(alloc: Global, watch: &Watch, rows: &[Row]) -> bool {
     let states = varied(around(V::limit().unwrap_or(0)));
     table_holds::<V>(alloc, &(), watch, Role::Change, (rows, &states))
@@ -105,7 +106,7 @@ fn makers_hold<V: Value<Source = ()>>(alloc: Global, watch: &Watch, rows: &[Row]
     table_holds::<V>(alloc, &(), watch, Role::Make, (rows, &states[..1]))
 }
 
-/// What bytes and texts have in common.
+/// Tries the calls that bytes and texts have in common.
 fn small_hold<V: Value<Source = ()>>(alloc: Global, watch: &Watch) -> bool {
     let limit = V::limit().unwrap_or(0);
     changes_hold::<V>(alloc, watch, tables::REDUCTIONS)
@@ -124,7 +125,7 @@ pub(crate) fn bytes_hold<V: Value<Source = ()>>(alloc: Global, watch: &Watch) ->
 
 pub(crate) fn texts_hold<V: Value<Source = ()>>(alloc: Global, watch: &Watch) -> bool {
     let (limit, derivations) = (V::limit().unwrap_or(0), tables::TEXT_DERIVATIONS);
-    // Past ASCII the case of letters asks for std's text besides.
+    // Past ASCII, changing the case of letters makes a `String` first.
     let differ = varied(around(limit));
     small_hold::<V>(alloc, watch)
         && changes_hold::<V>(alloc, watch, tables::TEXT_CHANGES)

@@ -1,4 +1,4 @@
-//! Values with more owners than two bytes count.
+//! Tries values with more owners than a number of two bytes can count.
 use ecow_bytes::EcoBytes;
 use ecow_calls::states::thousand;
 use ecow_calls::value::Value;
@@ -9,13 +9,13 @@ use std::alloc::Global;
 
 const OWNERS: usize = 70_000;
 
-/// Whether a block is shared exactly as long as there is another owner.
+/// Whether a block is shared for exactly as long as it has another owner.
 fn many_hold<V: Value<Source = ()>>(alloc: Global) -> Result<bool, EcoError> {
     let state = thousand()[0];
     let first = V::made(alloc, &(), &state)?;
     let mut owners = Vec::new(alloc);
     for _ in 0..OWNERS {
-        // A clone asks for no memory.
+        // A clone takes no memory.
         match first.clone() {
             Ok(owner) => owners.push(owner)?,
             Err(_) => return Ok(false),
@@ -41,7 +41,7 @@ fn all_hold(alloc: Global) -> Result<bool, EcoError> {
     )
 }
 
-/// Whether values may have many clones, and are sole owners again behind them.
+/// Whether values can have many clones, and are the only owners again once those are dropped.
 pub(crate) fn owners_hold(alloc: Global, watch: &Watch) -> bool {
     match all_hold(alloc) {
         Ok(hold) => hold,

@@ -1,4 +1,4 @@
-//! Calls about parts, of numbers and on lengths that a seed decides.
+//! Makes each call of the tables with random ranges, counts and lengths.
 use ecow_bytes::SmallBytes;
 use ecow_calls::calls::{Call, Role, Row};
 use ecow_calls::counting::{Counting, Tally};
@@ -12,10 +12,10 @@ use ecow_list::EcoVec;
 use ecow_string::SmallText;
 use std::alloc::Global;
 
-/// How often each call of a table is made.
+/// How many times each call of a table is made.
 const ROUNDS: usize = 600;
 
-/// A number of one of several sizes.
+/// A random number, from one of several ranges.
 fn size(numbers: &mut Numbers) -> usize {
     let most = match numbers.below(8) {
         0 => 1,
@@ -27,7 +27,7 @@ fn size(numbers: &mut Numbers) -> usize {
     usize::try_from(numbers.below(most)).unwrap_or(0)
 }
 
-/// Fewer than so many, and one more.
+/// A random number of at most `most`.
 fn up_to(numbers: &mut Numbers, most: usize) -> usize {
     usize::try_from(numbers.below((most as u64).saturating_add(1))).unwrap_or(0)
 }
@@ -36,7 +36,7 @@ fn state(numbers: &mut Numbers, limit: Option<usize>) -> State {
     let len = size(numbers);
     let fits = limit.is_some_and(|limit| len <= limit);
     let is_inline = fits && numbers.below(2) == 0;
-    let room = match numbers.below(3) {
+    let capacity = match numbers.below(3) {
         0 => len,
         1 => len.saturating_add(1),
         _ => len.saturating_add(size(numbers)),
@@ -44,13 +44,13 @@ fn state(numbers: &mut Numbers, limit: Option<usize>) -> State {
     State {
         name: "by a seed",
         len,
-        room: if is_inline { None } else { Some(room) },
-        shared: !is_inline && room > 0 && numbers.below(2) == 0,
+        capacity: if is_inline { None } else { Some(capacity) },
+        shared: !is_inline && capacity > 0 && numbers.below(2) == 0,
         is_plain: true,
     }
 }
 
-/// The call with another part, where it is about one.
+/// The call with a random range, if it is about one.
 fn parted(numbers: &mut Numbers, row: &Row, len: usize) -> Row {
     let start = up_to(numbers, len);
     let mut row = *row;
@@ -65,7 +65,7 @@ fn parted(numbers: &mut Numbers, row: &Row, len: usize) -> Row {
     row
 }
 
-/// The call with another number of items, where any does.
+/// The call with a random number of items, if any number does.
 fn counted(numbers: &mut Numbers, row: Row) -> Row {
     if row.count < 2 || row.count > 1000 {
         return row;
@@ -91,7 +91,7 @@ fn rows_hold<V: Value>(
         for row in *rows {
             for _ in 0..ROUNDS {
                 let (row, mut state) = drawn(numbers, row, V::limit());
-                // Letters past ASCII.
+                // Half of the texts have letters past ASCII.
                 if matches!(row.call, Call::ToLowercase | Call::ToUppercase) && state.len % 2 == 0 {
                     state = state.varied();
                 }
@@ -102,7 +102,7 @@ fn rows_hold<V: Value>(
     hold
 }
 
-/// A call, and a state.
+/// A call with random arguments, and a random state.
 pub(crate) fn drawn(numbers: &mut Numbers, row: &Row, limit: Option<usize>) -> (Row, State) {
     let state = state(numbers, limit);
     let row = parted(numbers, row, state.len);
@@ -151,7 +151,7 @@ fn texts_hold<V: Value<Source = ()>>(alloc: Global, watch: &Watch, numbers: &mut
     rows_hold::<V>(alloc, &(), watch, numbers, &all)
 }
 
-/// Where no request is refused.
+/// Tries this in the strict run only.
 pub(crate) fn values_hold(alloc: Global, watch: &Watch) -> bool {
     let mut numbers = Numbers::new(11);
     !watch.is_strict()

@@ -1,12 +1,12 @@
-//! Elements of no bytes: a vector asks for its block alone, however much it grows.
+//! Tries vectors of zero-sized elements, which request memory for one block however long they grow.
 use ecow_calls::watch::Watch;
 use ecow_list::EcoVec;
 use std::alloc::Global;
 
-/// How many elements are put in.
+/// How many elements are added.
 const MANY: usize = 1000;
 
-/// One by one, of which only the first may be refused.
+/// Pushes one by one. Only the first may be refused.
 fn pushes_hold(alloc: Global, watch: &Watch) -> bool {
     let mut list = EcoVec::new(alloc);
     for _ in 0..MANY {
@@ -17,7 +17,7 @@ fn pushes_hold(alloc: Global, watch: &Watch) -> bool {
     list.len() == MANY && list.capacity() >= MANY
 }
 
-/// Some at a time, into a block that is shared once.
+/// Appends slices to a vector that shares its block.
 fn extensions_hold(alloc: Global, watch: &Watch) -> bool {
     let Ok(mut list) = EcoVec::from_slice(alloc, &[(), (), ()]) else {
         return watch.may_refuse();
