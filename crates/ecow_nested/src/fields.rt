@@ -1,4 +1,4 @@
-//! `Fields`: values under names, in order.
+//! `Fields`: values with names, in order.
 ghost use Rattle.std.specs.Prelude.{◌≡◌, ◌≤◌, ◌<◌, [], length, slice_get, MatchOption, Some, position};
 ghost use Rattle.ecow_nested.specs.Names.{has_name};
 
@@ -11,15 +11,15 @@ use ecow_string::EcoString;
 use std::alloc::{AllocError, Global};
 use std::marker::Model;
 
-/// A value under a name.
+/// A value with a name.
 #[derive(Drop)]
 pub struct Field<T> {
     pub name: EcoString,
     pub value: T,
 }
 
-/// A field, and the places of two further ones, at which the search for a name goes on: 0 where
-/// there is none. It is public because it is a part of `Fields`.
+/// A field, and the indexes of two later fields, where the search for a name continues; 0 if there
+/// is none. The type is public because `Fields` holds it.
 #[derive(Drop)]
 pub struct Entry<T> {
     pub(crate) field: Field<T>,
@@ -27,15 +27,23 @@ pub struct Entry<T> {
     pub(crate) right: usize,
 }
 
-/// Fields in order. A name that stands twice means the first of them. From 16 fields on names are
-/// found by an index, which a removal drops: so removals take no longer. Some further names, and it
-/// is there again.
+/// Fields in order. If a name occurs twice, calls by that name mean the first field.
+///
+/// From 16 fields on, an index finds a name without looking at each field. A removal drops the
+/// index, so that it takes no longer than without one, and calls look at each field again. After
+/// some more fields were appended, the index is made anew.
+///
+/// ```
+/// let mut fields = Fields::new(alloc);
+/// fields.push(EcoString::inline(alloc, "width"), Value::Number(3))?;
+/// assert_eq!(fields.position("width"), Some(0));
+/// ```
 #[derive(Drop)]
 pub struct Fields<T> {
     pub(crate) entries: EcoVec<Entry<T>>,
 }
 
-/// From so many fields on there is an index.
+/// The number of fields from which on there is an index.
 pub const INDEXED: usize = 16;
 
 impl<T> Model for Fields<T> {
@@ -51,7 +59,7 @@ impl<T> Model for Fields<T> {
 }
 
 impl<T: Drop> Fields<T> {
-    /// No fields. Takes no memory.
+    /// Makes empty fields. Takes no memory.
     pub fn new(alloc: Global) -> Self
         ensures { result ≡ [] }
     {
@@ -60,19 +68,19 @@ impl<T: Drop> Fields<T> {
         }
     }
 
-    /// The allocator of which memory is asked.
+    /// The allocator that the memory comes from.
     pub fn allocator(&self) -> Global {
         self.entries.allocator()
     }
 
-    /// How many fields there are.
+    /// The number of fields.
     pub fn len(&self) -> usize
         ensures { result ≡ length self.now }
     {
         self.entries.len()
     }
 
-    /// The field at `index`.
+    /// The field at `index`; `None` if there are no more than `index` fields.
     pub fn get(&self, index: usize) -> Option<&Field<T>>
         ensures { MatchOption result (length self.now ≤ index)
             (λ field. (index < length self.now) × (slice_get self.now index ≡ Some field.now)) }
@@ -93,7 +101,7 @@ impl<T> Fields<T> {
         &self.entries.as_slice()[index].field
     }
 
-    /// The place of the first field of that name.
+    /// The index of the first field with this name.
     pub fn position(&self, name: &str) -> Option<usize>
         ensures { result ≡ position (has_name name.now) self.now }
     {

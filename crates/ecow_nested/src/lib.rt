@@ -1,5 +1,6 @@
-//! Nested values: nothing, a truth value, a number, a text, a list of values, fields by name. A
-//! clone shares all its lists and texts, and a change copies the lists along its way alone.
+//! Nested values: nothing, a truth value, a number, a text, a list of values, or fields by name. A
+//! clone shares all lists and texts of its source. A change copies only the shared lists on the
+//! path to what it changes.
 #![tactic(auto)]
 
 mod fields;

@@ -1,4 +1,4 @@
-//! `Nested`: the items of a container, and how deep they nest.
+//! `Nested`: the items of a container, and its depth.
 ghost use Rattle.std.specs.Prelude.{◌≡◌, ◌+◌, ◌<◌, ◌≤◌, ℕ, map, max, min};
 ghost use Rattle.ecow_nested.specs.Depths.{largest};
 
@@ -7,11 +7,12 @@ use crate::value::Value;
 use ecow_list::EcoVec;
 use std::alloc::AllocError;
 
-/// How deep a value may nest. What recurs into the deepest needs less than 128 KiB of stack.
+/// The greatest depth of a value. A recursion into the deepest value needs less than 128 KiB of
+/// stack.
 pub const MAX_DEPTH: u32 = 512;
 
-/// The items of a list, or fields, and how deep the container nests: one more than the deepest
-/// part.
+/// The items of a list, or fields, with the depth of the container, which is one more than that of
+/// its deepest part.
 #[derive(Drop)]
 pub struct Nested<C> {
     pub(crate) items: C,
@@ -40,14 +41,14 @@ impl Clone for Nested<Fields<Value>> {
 
 /// An item of a list, or a field.
 pub(crate) trait Part: Drop {
-    /// How deep it nests.
+    /// Its depth.
     ghost depth_in: { Self → ℕ };
 
     fn depth_in(&self) -> u32
         ensures { result ≡ depth_in self.now };
 }
 
-/// How deep the deepest part nests; `most` where one nests so deep or deeper.
+/// The depth of the deepest part, but at most `most`.
 #[tactic(auto, using(crate::proofs::Depths::taken_all))]
 pub(crate) fn deepest<T: Part>(parts: &[T], most: u32) -> u32
     ensures { result ≡ min most (largest (map T.depth_in parts.now)) }
@@ -62,7 +63,7 @@ pub(crate) fn deepest<T: Part>(parts: &[T], most: u32) -> u32
     found
 }
 
-/// Raises the depth of a container that gets a part.
+/// Raises the depth of a container to which a part of the depth `below` is added.
 pub(crate) fn raise(depth: &mut u32, part: u32)
     requires { part < MAX_DEPTH }
     ensures { depth.new ≡ max depth.old (part + 1) }
@@ -72,8 +73,9 @@ pub(crate) fn raise(depth: &mut u32, part: u32)
     }
 }
 
-/// Lowers the depth of a container in which a part went, and another came: where the first may have
-/// been the deepest, and the second isn't as deep, all are looked at.
+/// Lowers the depth of a container in which a part of the depth `gone` was replaced by one of the
+/// depth `came`. Reads the depth of each part if the old part may have been the deepest and the new
+/// one isn't as deep.
 pub(crate) fn settle<T: Part>(depth: &mut u32, parts: &[T], gone: u32, came: u32)
     ensures lower { depth.new ≤ depth.old }
     ensures covers { largest (map T.depth_in parts.now) < depth.old

@@ -13,16 +13,16 @@ pub enum Refusal {
     /// The value is of another kind.
     #[error("value of another kind")]
     Kind,
-    /// The index passes the end, there is nothing to take, or no field has the name.
+    /// The index is past the end, the list is empty, or no field has the name.
     #[error("index past the end")]
     Index,
-    /// The value would nest deeper than `MAX_DEPTH`.
+    /// The value would be deeper than `MAX_DEPTH`.
     #[error("nested too deep")]
     Depth,
     /// The length would pass 2^63 - 1.
     #[error("capacity overflow")]
     Capacity,
-    /// There was no memory.
+    /// The allocator refused the memory.
     #[error("out of memory")]
     Memory,
 }
@@ -39,7 +39,7 @@ impl From<EcoError> for Refusal {
     }
 }
 
-/// The reason alone: what was handed in is dropped.
+/// Only the reason. The value that came back is dropped.
 impl<V: Drop> From<Rejected<V>> for Refusal {
     ghost from_gives = { λ rejected refusal. (rejected.error ≡ list.Capacity → refusal ≡ Capacity)
         × (rejected.error ≡ list.Memory → refusal ≡ Memory) };

@@ -1,5 +1,4 @@
-//! Nested values may be given to another thread, and several may look at them, where the count of
-//! owners is atomic.
+//! With the atomic owner count, nested values may be sent to other threads and shared between them.
 use crate::value::Value;
 use ecow_shared::{may_be_sent, may_be_shared};
 

@@ -1,4 +1,4 @@
-//! `Value`.
+//! `Value`, and what it tells of itself.
 ghost use Rattle.std.specs.Prelude.{◌≡◌, ◌<◌, ◌≤◌, MatchOption, MatchResult, None, Some};
 ghost use Rattle.ecow_nested.specs.Values.{depth_of, field_depth, kind_of, truth_of, number_of, real_of, text_of, items_of, fields_of};
 
@@ -18,7 +18,15 @@ use ecow_string::EcoString;
 pub use paths::Step;
 use std::alloc::AllocError;
 
-/// A nested value. A clone shares all its lists and texts.
+/// A nested value. Its clones share all its lists and texts, and take no memory.
+///
+/// ```
+/// let mut list = Value::new_list(alloc);
+/// list.push(Value::Number(1))?;
+/// let before = list.clone()?;
+/// list.push(Value::Truth(true))?;
+/// assert_eq!((before.len(), list.len()), (Some(1), Some(2)));
+/// ```
 #[derive(Drop)]
 pub enum Value {
     Nothing,
@@ -30,7 +38,7 @@ pub enum Value {
     Fields(Nested<Fields<Value>>),
 }
 
-/// Which kind of value one is.
+/// The kind of a value.
 #[derive(Clone, Copy, Debug, PartialEq, Eq)]
 pub enum Kind {
     Nothing,
@@ -75,8 +83,8 @@ impl Part for Entry<Value> {
 }
 
 impl Value {
-    /// How deep the value nests: 0 of what is no container, else one more than its deepest part,
-    /// and at most `MAX_DEPTH`.
+    /// The depth of the value: 0 if it is no container, else one more than that of its deepest
+    /// part. It is at most `MAX_DEPTH`. Takes constant time.
     pub fn depth(&self) -> u32
         ensures { result ≡ depth_of self.now }
     {
@@ -87,7 +95,7 @@ impl Value {
         }
     }
 
-    /// How deep the value nests, unless that is as deep as a value may: then no container takes it.
+    /// The depth of the value, or `Depth` if it is `MAX_DEPTH`, so that no container can hold it.
     pub(super) fn depth_as_part(&self) -> Result<u32, Refusal>
         ensures { MatchResult result
             (λ depth. (depth ≡ depth_of self.now) × (depth < MAX_DEPTH))
@@ -100,7 +108,7 @@ impl Value {
         Ok(depth)
     }
 
-    /// Which kind of value this is.
+    /// The kind of the value.
     pub fn kind(&self) -> Kind
         ensures { result ≡ kind_of self.now }
     {
@@ -115,7 +123,7 @@ impl Value {
         }
     }
 
-    /// The truth value, if this is one.
+    /// The truth value; `None` if the value is of another kind.
     pub fn truth(&self) -> Option<bool>
         ensures { result ≡ truth_of self.now }
     {
@@ -125,7 +133,7 @@ impl Value {
         }
     }
 
-    /// The number, if this is one.
+    /// The number; `None` if the value is of another kind.
     pub fn number(&self) -> Option<i64>
         ensures { result ≡ number_of self.now }
     {
@@ -135,7 +143,7 @@ impl Value {
         }
     }
 
-    /// The floating-point number, if this is one.
+    /// The floating-point number; `None` if the value is of another kind.
     pub fn real(&self) -> Option<f64>
         ensures { result ≡ real_of self.now }
     {
@@ -145,7 +153,7 @@ impl Value {
         }
     }
 
-    /// The text, if this is one.
+    /// The text; `None` if the value is of another kind.
     pub fn text(&self) -> Option<&EcoString>
         ensures { MatchOption result (text_of self.now ≡ None)
             (λ text. text_of self.now ≡ Some text.now) }
@@ -156,7 +164,7 @@ impl Value {
         }
     }
 
-    /// The items, if this is a list.
+    /// The items of a list; `None` if the value is of another kind.
     pub fn items(&self) -> Option<&EcoVec<Value>>
         ensures { MatchOption result (items_of self.now ≡ None)
             (λ items. items_of self.now ≡ Some items.now) }
@@ -167,7 +175,7 @@ impl Value {
         }
     }
 
-    /// The fields, if this has fields.
+    /// The fields; `None` if the value is of another kind.
     pub fn fields(&self) -> Option<&Fields<Value>>
         ensures { MatchOption result (fields_of self.now ≡ None)
             (λ fields. fields_of self.now ≡ Some fields.now) }

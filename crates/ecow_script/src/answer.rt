@@ -1,4 +1,4 @@
-//! The answer lines of outcomes.
+//! Writes the answer lines of outcomes.
 ghost use Rattle.std.specs.Prelude.{◌≡◌, ◌++◌, ◌∷◌, [], OnOk, codes};
 ghost use Rattle.std.specs.List.{flat_map};
 ghost use Rattle.ecow_script.specs.Answers.{Appended, list_text, items_text, text_form, escaped, refusal_word, answer_line, answer_lines};
@@ -40,7 +40,7 @@ pub(crate) fn write_number<I: Integer>(answers: &mut String, number: I) -> Resul
     answers.push_str(digits.format(number))
 }
 
-/// Numbers in brackets, parted by commas.
+/// Appends numbers in brackets, separated by commas.
 fn write_list<I: Integer>(answers: &mut String, items: &[I]) -> Result<(), AllocError>
     ensures { OnOk result (Appended answers.old answers.new (list_text I.text items.now)) }
 {
@@ -49,7 +49,7 @@ fn write_list<I: Integer>(answers: &mut String, items: &[I]) -> Result<(), Alloc
     answers.push(']')
 }
 
-/// Numbers parted by commas.
+/// Appends numbers, separated by commas.
 fn write_items<I: Integer>(answers: &mut String, items: &[I]) -> Result<(), AllocError>
     ensures { OnOk result (Appended answers.old answers.new (items_text I.text items.now)) }
 {
@@ -87,7 +87,7 @@ fn write_inner(answers: &mut String, text: &str) -> Result<(), AllocError>
     Ok(())
 }
 
-/// A character as it stands in a quoted text.
+/// Appends a character as a quoted text has it.
 fn write_escaped(answers: &mut String, c: char) -> Result<(), AllocError>
     ensures { OnOk result (Appended answers.old answers.new (escaped c)) }
 {

@@ -1,4 +1,4 @@
-//! The commands of a script: a word, and its arguments.
+//! Reads the commands of a script: a word, and its arguments.
 ghost use Rattle.std.specs.Prelude.{◌≡◌};
 ghost use Rattle.ecow_script.specs.Words.{Reads};
 ghost use Rattle.ecow_script.specs.VecCommands.{vec_word, vec_form, vec_command};
@@ -10,7 +10,7 @@ use crate::script::Scripted;
 use crate::words::Reader;
 use ecow_model::{BytesCommand, Command, TextCommand, VecCommand};
 
-/// The command that a word stands for, by the rows of its kind.
+/// The command that a word means, by the rows of its kind of value.
 macro_rules! word_in {
     ($text:expr; $word:ident => $command:ident {
         $($text_of:literal $variant:ident { $($fields:tt)* })*
@@ -22,8 +22,8 @@ macro_rules! word_in {
     };
 }
 
-/// Reads the arguments of a command: its name, and the other fields of its row in the order in which
-/// they stand on the line, each with its form.
+/// Reads the arguments of a command: its name, and then the other fields of its row in the order of
+/// the line, each in its form.
 macro_rules! form_of {
     ($reader:ident, $of:expr; $word:ident => $command:ident {
         $($text_of:literal $variant:ident { $name:ident $(, $field:ident: $form:ident)* })*
@@ -302,7 +302,7 @@ impl<'a> Reader<'a> {
     }
 }
 
-/// Commands on lists alone: those of the counted store.
+/// The commands of the counted store, which are on lists only.
 impl Scripted for VecCommand<i64> {
     ghost use Rattle.ecow_script.specs.Commands.{counted_form};
 
@@ -316,7 +316,7 @@ impl Scripted for VecCommand<i64> {
     }
 }
 
-/// Commands on all kinds of value.
+/// The commands of the store, which are on all kinds of value.
 impl Scripted for Command<i64> {
     ghost use Rattle.ecow_script.specs.Commands.{store_form};
 

@@ -1,4 +1,4 @@
-//! A script carried out on a table of blocks with owner counts.
+//! Carries out a script on the counted store.
 ghost use Rattle.std.specs.Prelude.{◌<◌, ◌^◌, length, IfOk, IfErr, OnOk, string_bytes};
 ghost use Rattle.ecow_script.specs.Answers.{Appended};
 ghost use Rattle.ecow_script.specs.Scripts.{script_commands, IsFaultOf};
@@ -30,9 +30,13 @@ impl NamedStore<VecCommand<i64>> for Counted<i64> {
     }
 }
 
-/// The answer lines of a new `Counted` to the commands of a script, all on lists, and a last line:
-/// the number of blocks, and how many elements were copied and moved. The script has fewer than
-/// 2^63 bytes. The errors are those of `answers_to`.
+/// Carries out a script on a new `Counted`, and returns the answer lines. Its commands are all on
+/// lists. The last line has the number of blocks, and how many elements were copied and moved. The
+/// script has fewer than 2^63 bytes.
+///
+/// # Errors
+///
+/// As `answers_to`.
 pub fn counted_answers_to(alloc: Global, script: &str) -> Result<String, Fault>
     requires { length script.now < 2 ^ 63 }
     ensures answers { IfOk result (λ answers. CountedAnswers script.now (string_bytes answers)) }
@@ -45,7 +49,7 @@ pub fn counted_answers_to(alloc: Global, script: &str) -> Result<String, Fault>
     Ok(answers)
 }
 
-/// Appends the line of what a table of blocks holds and did.
+/// Appends the line with the number of blocks and both totals.
 fn write_totals(answers: &mut String, counted: &Counted<i64>) -> Result<(), AllocError>
     ensures { OnOk result (Appended answers.old answers.new (totals_line counted.now)) }
 {

@@ -1,4 +1,4 @@
-//! The first example, from the characters of its file to the lines of its answers.
+//! The theorem about the first example, from the characters of its file to its answer lines.
 ghost use Rattle.std.specs.Prelude.{◌≡◌, ◌++◌, ℤ, List, Ok};
 ghost use Rattle.std.specs.FinMap as finite;
 ghost use Rattle.ecow_counted.specs.Filling.{IsRunOf};
@@ -12,8 +12,9 @@ ghost use Rattle.ecow_script.specs.FirstExample.{LackNothing, first_answers, fir
 ghost use Rattle.ecow_script.specs.Runs.{new_table, totals_line};
 ghost use Rattle.ecow_script.specs.Scripts.{script_commands};
 
-/// The characters of `examples/first.eco` are nine commands. Where no memory is lacking a store
-/// answers them with the nine lines that the file foretells, and a table with these and its totals.
+/// The file `examples/first.eco` has nine commands. Unless memory is refused, the store answers
+/// them with the nine lines that stand in the file's comments, and the counted store adds its
+/// totals.
 pub fn first_example()
     ensures commands { script_commands store_form first_script ≡ Ok first_commands }
     ensures answers { (outcomes : List (Outcome ℤ)) (last : State ℤ)

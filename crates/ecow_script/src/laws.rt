@@ -1,4 +1,4 @@
-//! What is printed is read again as the same value.
+//! The law that a printed value is read again as the same value.
 ghost use Rattle.std.specs.Prelude.{◌≡◌, ◌<◌, ◌^◌, ◌++◌, [], ℕ, ℤ, List, Ok, true};
 ghost use Rattle.std.specs.Fmt.{decimal, signed_decimal};
 ghost use Rattle.std.specs.List.{All};
@@ -7,8 +7,8 @@ ghost use Rattle.ecow_script.specs.Answers.{list_text, text_form};
 ghost use Rattle.ecow_script.specs.Numbers.{IsI64};
 ghost use Rattle.ecow_script.specs.Words.{place, count, integer, byte, integers, bytes, text, ends_word};
 
-/// A number, a list or a text that an answer shows is the same one as an argument, whatever names
-/// were read before. So what `contents` answers can be given to `from_list` or `from_str`.
+/// A number, a list or a text in an answer means the same as an argument, whatever names were read
+/// before. So what `contents` answers can be given to `from_list` or `from_str`.
 pub fn answers_are_arguments()
     ensures counts { (n : ℕ) (names : List (List ℕ)) → n < 2 ^ 64
         → count (place (decimal n) names) ≡ Ok (n, place [] names) }

@@ -1,4 +1,5 @@
-//! Scripts and answers: the text of commands, read and carried out, and the text of their outcomes.
+//! Scripts and answers: reads the text of commands, carries the commands out, and writes the text
+//! of their outcomes.
 #![tactic(auto)]
 
 mod answer;

@@ -1,4 +1,4 @@
-//! The forms of lists and bounds.
+//! Reads lists and bounds.
 ghost use Rattle.std.specs.Prelude.{◌≡◌, List, Option, ◌==◌};
 ghost use Rattle.std.specs.Option.{option_copied};
 ghost use Rattle.std.specs.List.{slice_split, position};
@@ -12,7 +12,7 @@ use ecow_model::{Bounds, Items};
 use std::alloc::Global;
 use std::ops::Bound;
 
-/// What stands between brackets.
+/// What is between brackets; `None` if the word has none.
 fn bracketed(word: &[u8]) -> Option<&[u8]>
     ensures { option_copied result ≡ bracketed word.now }
 {
@@ -22,7 +22,7 @@ fn bracketed(word: &[u8]) -> Option<&[u8]>
     }
 }
 
-/// What stands in front of a closing bracket, which is the last.
+/// What is before a closing bracket at the end; `None` if there is none.
 #[tactic(auto, using(crate::proofs::Digits::closed_push))]
 fn closed(word: &[u8]) -> Option<&[u8]>
     ensures { option_copied result ≡ closed word.now }
@@ -139,7 +139,7 @@ fn behind_dots(rest: &[u8]) -> Option<&[u8]>
     }
 }
 
-/// A bound, if a word is one: nothing, or an index, which may stand behind a mark.
+/// The bound that a word spells: none, or an index, which may have a mark before it.
 macro_rules! bound_in {
     ($word:expr, $mark:literal => $marked:ident, else $plain:ident) => {
         if $word.is_empty() {
@@ -153,14 +153,14 @@ macro_rules! bound_in {
     };
 }
 
-/// Nothing, an included index, or `>` and an excluded one.
+/// A lower bound: nothing, an included index, or `>` and an excluded index.
 fn start_in(word: &[u8]) -> Option<Bound<usize>>
     ensures { result ≡ start_in word.now }
 {
     bound_in!(word, b">" => Excluded, else Included)
 }
 
-/// Nothing, an excluded index, or `=` and an included one.
+/// An upper bound: nothing, an excluded index, or `=` and an included index.
 fn end_in(word: &[u8]) -> Option<Bound<usize>>
     ensures { result ≡ end_in word.now }
 {

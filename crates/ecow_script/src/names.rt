@@ -1,4 +1,4 @@
-//! The numbers of names.
+//! Gives each name of a script a number.
 ghost use Rattle.std.specs.Prelude.{◌≡◌, ◌∷◌, [], ◌++◌, length, IfOk, OnOk, OnErr, map, None, List, ℕ, Some, if◌then◌else◌, nat_eq};
 ghost use Rattle.std.specs.Str.{bytes_eq};
 ghost use Rattle.ecow_script.specs.Words.{number_of};
@@ -13,12 +13,13 @@ use std::marker::Model;
 /// The most bytes of a name that is kept as a number.
 const SHORT: usize = 7;
 
-/// How many names stand in maps that hash. Who makes a script can choose names that lie close
-/// together there and are found one after another; so further names stand in a tree.
+/// How many names are kept in hash maps. The author of a script can choose names that collide
+/// there, and colliding names are found one after another. So all names after these are kept in a
+/// tree.
 const HASHED: usize = 1024;
 
-/// The names that were read so far, numbered from 0 in the order in which they came. Their list is
-/// known to a proof alone.
+/// The names that were read so far, numbered from 0 in their order. Only proofs know the list of
+/// names.
 #[derive(Drop)]
 pub(crate) struct Names<'a> {
     /// The number of the next new name.
@@ -28,10 +29,10 @@ pub(crate) struct Names<'a> {
     ghost listed: { Numbering (number_at maps) count } by { Numbering-prop (number_at maps) count },
 }
 
-/// The numbers of names by their text, found by a hash.
+/// The numbers of names, in a hash map by their text.
 type Long<'a> = HashMap<&'a str, Name>;
 
-/// The numbers of names by their text, in a tree.
+/// The numbers of names, in a tree by their text.
 type Further<'a> = BTreeMap<&'a str, Name>;
 
 /// The numbers of names.
@@ -39,9 +40,9 @@ type Further<'a> = BTreeMap<&'a str, Name>;
 pub(crate) struct Maps<'a> {
     /// Names of seven bytes or fewer, each as one number.
     short: HashMap<u64, Name>,
-    /// Longer ones among the first names.
+    /// Longer names among the first.
     long: Long<'a>,
-    /// All that came after the first names.
+    /// All names after the first.
     further: Further<'a>,
 }
 
@@ -56,7 +57,7 @@ impl<'a> Maps<'a> {
         }
     }
 
-    /// The number that is kept for a word.
+    /// The number of a word; `None` if it has none.
     fn get(&self, word: &'a str) -> Option<Name>
         ensures { result ≡ number_at self.now word.now }
     {
@@ -76,7 +77,7 @@ impl<'a> Maps<'a> {
         }
     }
 
-    /// Keeps a number for a word that has none.
+    /// Keeps the number of a new word.
     fn put(&mut self, word: &'a str, number: Name) -> Result<(), AllocError>
         requires { number_at self.old word.now ≡ None }
         ensures ok { OnOk result ((w : List ℕ) → IsBytes w
@@ -120,8 +121,8 @@ fn put_further<'a>(map: &mut Further<'a>, word: &'a str, number: Name) -> Result
     Ok(())
 }
 
-/// A short word as a number, which is found sooner than its bytes: the length, and then the bytes.
-/// So different words have different numbers.
+/// A short word as a number, which is found faster than its bytes: the length, and then the bytes.
+/// Different words give different numbers.
 fn packed(word: &[u8]) -> Option<u64>
     ensures { result ≡ packed word.now }
 {
@@ -144,7 +145,7 @@ impl<'a> Model for Names<'a> {
 }
 
 impl<'a> Names<'a> {
-    /// No names. Takes no memory.
+    /// Makes empty names. Takes no memory.
     pub(crate) fn new(alloc: Global) -> Self
         ensures { result ≡ [] }
     {
@@ -154,7 +155,7 @@ impl<'a> Names<'a> {
         }
     }
 
-    /// The number of a name that was read before.
+    /// The number of a name; `None` if it wasn't read before.
     pub(crate) fn get(&self, word: &'a str) -> Option<Name>
         ensures { result ≡ number_of word.now self.now }
     {

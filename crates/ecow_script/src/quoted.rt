@@ -1,4 +1,4 @@
-//! Quoted texts, and the escapes in them.
+//! Reads quoted texts, and the escapes in them.
 ghost use Rattle.std.specs.Prelude.{◌≡◌, ◌<◌, ◌≤◌, length, drop, slice_index, IfSome};
 ghost use Rattle.ecow_script.specs.Quoted.{scalar_in, plain_escape, hex_behind, escape_at, brace_at, digits_at, is_special, is_close, text_from, behind_bytes};
 ghost use Rattle.std.specs.List.{position, position_or_len, before_first};
@@ -12,7 +12,7 @@ use crate::words::{Reader, is_blank};
 use ecow_model::Text;
 use std::alloc::Global;
 
-/// The most digits that an escaped character is named with.
+/// The most digits of an escaped character.
 const DIGITS_LIMIT: usize = 6;
 
 /// The Unicode scalar value that one to six hexadecimal digits spell.
@@ -37,7 +37,7 @@ fn hex_in(digits: &[u8]) -> Option<u32>
     Some(number)
 }
 
-/// The text behind a first character of one byte.
+/// The text after its first character, which has one byte.
 fn behind_first(text: &str) -> &str
     requires some { 0 < length text.now }
     requires ascii { slice_index text.now 0 < 128 }
@@ -46,7 +46,7 @@ fn behind_first(text: &str) -> &str
     text.split_at(1).1
 }
 
-/// The character that one letter behind a backslash stands for.
+/// The character that a letter after a backslash means; `None` if it means none.
 fn plain_escape(letter: u8) -> Option<char>
     ensures value { result ≡ plain_escape letter }
     ensures ascii { IfSome result (λ c. letter < 128) }
@@ -61,7 +61,7 @@ fn plain_escape(letter: u8) -> Option<char>
     }
 }
 
-/// What an escape stands for, from behind its backslash on, and what stands behind it.
+/// The character of an escape, and the text after the escape. `text` is what follows the backslash.
 fn escape_at(text: &str) -> Option<(char, &str)>
     ensures value { escape_view result ≡ escape_at text.now }
     ensures shorter { IfSome result (λ e. length e.1.now < length text.now) }
@@ -102,7 +102,7 @@ fn close_in(bytes: &[u8]) -> Option<usize>
     bytes.iter().position(|byte| *byte == b'}')
 }
 
-/// What stands before the first quote or backslash, and the text from that on.
+/// The text before the first quote or backslash, and the text from there on.
 #[tactic(auto, using(crate::proofs::Quotes::plain_front, crate::proofs::Quotes::at_special, crate::proofs::Digits::or_all))]
 fn plain_part(text: &str) -> (&str, &str)
     ensures spelling { text_from text.now ≡ behind_bytes result.0.now (text_from result.1.now) }
@@ -122,7 +122,7 @@ fn first_special(bytes: &[u8]) -> Option<usize>
         .position(|byte| *byte == b'"' || *byte == b'\\')
 }
 
-/// What stands at a quote, a backslash or the end.
+/// What is found at a quote, a backslash or the end of the text.
 enum Turn<'a> {
     End(&'a str),
     Char(char, &'a str),
@@ -145,8 +145,8 @@ fn turn_at<'a>(text: &'a str) -> Turn<'a>
     }
 }
 
-/// Reads up to the closing quote: the text, and what stands behind it. Each turn reads one escape,
-/// with what stands before it.
+/// Reads up to the closing quote. Returns the text, and what is after the quote. Each round of the
+/// loop reads one escape and the text before it.
 pub(crate) fn read_quoted<'a>(alloc: Global, quoted: &'a str) -> Result<(String, &'a str), Misfit>
     ensures { GivesText result (text_from quoted.now) }
 {
@@ -167,7 +167,7 @@ pub(crate) fn read_quoted<'a>(alloc: Global, quoted: &'a str) -> Result<(String,
 }
 
 impl<'a> Reader<'a> {
-    /// TEXT: characters and escapes in double quotes, which a blank or the line's end follows.
+    /// TEXT: characters and escapes in double quotes, and then a blank or the end of the line.
     pub(crate) fn text(&mut self) -> Result<Text, Misfit>
         ensures { Reads text self.old result self.new }
     {
@@ -197,7 +197,7 @@ impl<'a> Reader<'a> {
     }
 }
 
-/// The character of a text of one.
+/// The only character of a text; `None` if it has none or more.
 fn only_char(text: &str) -> Option<char>
     ensures { result ≡ only (chars text.now) }
 {
@@ -218,7 +218,7 @@ fn behind_quote(text: &str) -> Option<&str>
     }
 }
 
-/// Whether a blank or the line's end stands here.
+/// Whether a text starts with a blank, or is at the end of the line.
 fn ends_word(rest: &str) -> bool
     ensures { result ≡ ends_word rest.now }
 {

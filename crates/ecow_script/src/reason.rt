@@ -1,16 +1,16 @@
-//! Why a line was not read.
+//! Why a line can't be read.
 ghost use Rattle.std.specs.Prelude.{◌≡◌};
 ghost use Rattle.ecow_script.specs.declared.reason.Misfit.TheVariants.{Memory};
 
 use std::alloc::{AllocError, AllocFailed};
 use std::fmt;
 
-/// What was expected at the first word of a line that doesn't fit.
+/// What was expected at the first word of a line that is wrong.
 #[derive(Clone, Copy, Debug, PartialEq, Eq)]
 pub enum Reason {
-    /// The kind of value that the command is for.
+    /// The kind of value of the command.
     Kind,
-    /// A command of that kind.
+    /// A command on this kind of value.
     Command,
     /// The name of a value.
     Name,
@@ -18,13 +18,13 @@ pub enum Reason {
     Number,
     /// A list of numbers.
     List,
-    /// Marks of what is kept.
+    /// The marks of what is kept.
     Marks,
     /// A pair of bounds.
     Bounds,
     /// A quoted text.
     Text,
-    /// One word more, or the end of the line.
+    /// One more word, or the end of the line.
     Arguments,
 }
 
@@ -49,12 +49,12 @@ impl fmt::Display for Reason {
     }
 }
 
-/// Why a line was not read.
+/// Why a line can't be read.
 #[derive(Clone, Copy)]
 pub(crate) enum Misfit {
-    /// This was expected in place of a word.
+    /// This was expected instead of a word.
     Expected(Reason),
-    /// There was no memory.
+    /// The allocator refused the memory.
     Memory,
 }
 

@@ -1,4 +1,4 @@
-//! A script carried out.
+//! Carries out a script.
 ghost use Rattle.std.specs.Prelude.{◌≡◌, ◌<◌, ◌^◌, [], ◌++◌, List, length, IfOk, IfErr, Ok, string_bytes, ℤ, IsTrue};
 ghost use Rattle.ecow_script.specs.Scripts.{script_commands, IsFaultOf};
 ghost use Rattle.ecow_script.specs.Answers.{Appended, answer_lines};
@@ -9,15 +9,15 @@ use crate::script::{Fault, Script, Scripted};
 use ecow_model::Outcome;
 use std::alloc::{AllocError, Global};
 
-/// What carries commands out.
+/// What carries out commands: one of the stores.
 pub(crate) trait NamedStore<C: Scripted>: Drop {
-    /// How commands with these outcomes lead from one state to another.
+    /// Whether commands with these outcomes lead from one state to another.
     ghost runs: { Self → List C → List (Outcome ℤ) → Self → Type 0 };
 
     /// No commands.
     ghost runs_none: { (a : Self) → runs a [] [] a };
 
-    /// Commands behind others.
+    /// Commands after other commands.
     ghost runs_on: { (a b d : Self) (cs ds : List C) (os ps : List (Outcome ℤ))
         → runs a cs os b → runs b ds ps d → runs a (cs ++ ds) (os ++ ps) d };
 
@@ -53,7 +53,7 @@ pub(crate) fn answers_of<C: Scripted, K: NamedStore<C>>(
     if ran { Ok(answers) } else { Err(Fault::Memory) }
 }
 
-/// Carries commands out and appends their answers, unless there was no memory before.
+/// Carries out commands and appends their answers, unless memory was refused before.
 fn run_piece<C: Scripted, K: NamedStore<C>>(
     ran: bool,
     store: &mut K,

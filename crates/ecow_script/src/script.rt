@@ -1,4 +1,4 @@
-//! Scripts: the text of a file, read into commands.
+//! Reads the text of a script into commands.
 ghost use Rattle.std.specs.Prelude.{◌≡◌, ◌<◌, ◌+◌, ◌^◌, [], List, ℕ, length, IfOk, IfErr, OnOk, Ok, ◌++◌};
 ghost use Rattle.std.specs.Option.{option_to_list};
 ghost use Rattle.std.specs.List.{before_first, after_first, position};
@@ -12,24 +12,24 @@ use memchr::memchr;
 use std::alloc::{AllocError, Global};
 use std::marker::Model;
 
-/// How many commands are read before they are carried out.
+/// How many commands are read at a time, before they are carried out.
 const COMMANDS_AT_ONCE: usize = 1024;
 
-/// Why a script was not read.
+/// Why a script isn't answered.
 #[derive(Clone, Copy, Debug, PartialEq, Eq)]
 pub enum Fault {
-    /// A line, counted from 1, doesn't fit.
+    /// This line, counted from 1, is wrong.
     Unreadable(usize, Reason),
-    /// There was no memory.
+    /// The allocator refused the memory.
     Memory,
 }
 
-/// Commands that are read from a script.
+/// Commands that can be read from a script.
 pub(crate) trait Scripted: Drop + Sized {
-    /// The form of a command behind its first word.
+    /// The form of a command after its first word.
     ghost form: { List ℕ → Reading Self };
 
-    /// The command on a line, of which `kind` is the first word.
+    /// Reads the command on a line whose first word is `kind`.
     fn read<'a>(reader: &mut Reader<'a>, kind: &str) -> Result<Self, Misfit>
         ensures { Reads (form kind.now) reader.old result reader.new };
 }
@@ -42,12 +42,12 @@ impl From<AllocError> for Fault {
     }
 }
 
-/// What is left of a script.
+/// The part of a script that isn't read yet.
 #[derive(Drop)]
 pub(crate) struct Script<'a> {
-    /// Of which memory for commands is asked.
+    /// Where the memory for commands comes from.
     alloc: Global,
-    /// Reads a line, and knows the names.
+    /// Reads lines, and knows the names.
     reader: Reader<'a>,
     /// The lines that aren't read yet.
     text: &'a str,
@@ -65,7 +65,7 @@ impl<'a> Model for Script<'a> {
 }
 
 impl<'a> Script<'a> {
-    /// The whole of a script.
+    /// Makes the reader of a whole script.
     pub(crate) fn new(alloc: Global, text: &'a str) -> Self
         requires { length text.now < 2 ^ 63 }
         ensures { result ≡ unread text.now 1 [] }
@@ -78,7 +78,7 @@ impl<'a> Script<'a> {
         }
     }
 
-    /// The next commands, at most `COMMANDS_AT_ONCE`; none where the script is at its end.
+    /// Reads the next commands, at most `COMMANDS_AT_ONCE`; none at the end of the script.
     #[tactic(auto, using(crate::proofs::Lines::front_behind, crate::proofs::Lines::front_nil))]
     pub(crate) fn next_piece<C: Scripted>(&mut self) -> Result<Vec<C>, Fault>
         ensures commands { IfOk result
@@ -98,7 +98,7 @@ impl<'a> Script<'a> {
         Ok(piece)
     }
 
-    /// The command on the next line, if there is one on it.
+    /// Reads the next line; `None` if it has no command.
     #[tactic(auto, using(crate::proofs::Lines::commands_step))]
     fn next_line<C: Scripted>(&mut self) -> Result<Option<C>, Fault>
         requires { 0 < length self.old.text }
@@ -130,7 +130,7 @@ fn put<C: Drop>(piece: &mut Vec<C>, command: Option<C>) -> Result<(), AllocError
 }
 
 impl<'a> Reader<'a> {
-    /// The command on a line; none on a line of blanks, and none on a comment.
+    /// The command on a line; `None` if the line is blank or a comment.
     fn read_line<C: Scripted>(&mut self, line: &'a str) -> Result<Option<C>, Misfit>
         ensures { Reads (line_command C.form) (place line.now self.old.names) result self.new }
     {
@@ -164,8 +164,8 @@ fn is_comment(kind: &str) -> bool
     }
 }
 
-/// A text up to its first line feed without a carriage return before that, and what stands behind
-/// it.
+/// The first line of a text without its line end, and the text after it. A line ends with a line
+/// feed, which may have a carriage return before it.
 #[tactic(auto, using(crate::proofs::Digits::or_all))]
 fn first_line(text: &str) -> (&str, &str)
     requires { 0 < length text.now }

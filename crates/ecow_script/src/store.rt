@@ -1,4 +1,4 @@
-//! A script carried out on a store.
+//! Carries out a script on the store.
 ghost use Rattle.std.specs.Prelude.{◌<◌, ◌^◌, length, IfOk, IfErr, string_bytes};
 ghost use Rattle.ecow_script.specs.Scripts.{script_commands, IsFaultOf};
 ghost use Rattle.ecow_script.specs.Commands.{store_form};
@@ -29,11 +29,13 @@ impl NamedStore<Command<i64>> for Store<i64> {
     }
 }
 
-/// The answer lines of a new `Store` to the commands of a script, which has fewer than 2^63 bytes,
-/// as every text in memory has.
+/// Carries out a script on a new `Store`, and returns the answer lines. The script has fewer than
+/// 2^63 bytes, as every text in memory has.
 ///
-/// Answers `Unreadable` for the first line that doesn't fit, whatever memory is lacking for the
-/// commands before it, and else `Memory`.
+/// # Errors
+///
+/// `Unreadable` for the first line that is wrong, even if memory was refused for a command before
+/// it; `Memory` if no line is wrong.
 pub fn answers_to(alloc: Global, script: &str) -> Result<String, Fault>
     requires { length script.now < 2 ^ 63 }
     ensures answers { IfOk result (λ answers. Answers script.now (string_bytes answers)) }

@@ -1,4 +1,4 @@
-//! The words of a line.
+//! Reads the words of a line.
 ghost use Rattle.std.specs.Prelude.{◌≡◌, []};
 ghost use Rattle.std.specs.Option.{option_copied};
 ghost use Rattle.std.specs.List.{list_all, position};
@@ -12,14 +12,14 @@ use ecow_model::{Bounds, Items, Name};
 use std::alloc::Global;
 use std::marker::Model;
 
-/// What is left of a line, and the names that were read so far.
+/// The part of a line that isn't read yet, and the names that were read so far.
 #[derive(Drop)]
 pub(crate) struct Reader<'a> {
-    /// Of which memory for arguments is asked.
+    /// Where the memory for arguments comes from.
     alloc: Global,
-    /// What isn't read yet of the line.
+    /// The part of the line that isn't read yet.
     rest: &'a str,
-    /// The names so far.
+    /// The names that were read so far.
     names: Names<'a>,
 }
 
@@ -32,7 +32,7 @@ impl<'a> Model for Reader<'a> {
 }
 
 impl<'a> Reader<'a> {
-    /// No line and no names.
+    /// Makes a reader without a line and without names.
     pub(crate) fn new(alloc: Global) -> Self
         ensures { result ≡ place [] [] }
     {
@@ -43,7 +43,7 @@ impl<'a> Reader<'a> {
         }
     }
 
-    /// Goes on to a line.
+    /// Starts to read a line.
     pub(crate) fn begin(&mut self, line: &'a str)
         ensures { self.new ≡ place line.now self.old.names }
     {
@@ -55,7 +55,7 @@ impl<'a> Reader<'a> {
         self.alloc
     }
 
-    /// What is left of the line, from the next word on.
+    /// The part of the line that isn't read yet, from the next word on.
     pub(crate) fn next_text(&mut self) -> &'a str
         ensures text { result.now ≡ behind_blanks self.old.rest }
         ensures rest { self.new ≡ place (behind_blanks self.old.rest) self.old.names }
@@ -65,7 +65,7 @@ impl<'a> Reader<'a> {
         text
     }
 
-    /// The next word of the line, if there is one. Words are parted by blanks.
+    /// The next word of the line; `None` if there is none. Blanks separate words.
     pub(crate) fn next_word(&mut self) -> Option<&'a str>
         ensures { next_word self.old ≡ (option_copied result, self.new) }
     {
@@ -79,7 +79,7 @@ impl<'a> Reader<'a> {
         Some(word)
     }
 
-    /// The next word of a line that must have one.
+    /// The next word of the line, which must have one.
     pub(crate) fn argument(&mut self) -> Result<&'a str, Misfit>
         ensures { ReadsRef argument self.old result self.new }
     {
@@ -125,7 +125,7 @@ impl<'a> Reader<'a> {
         integer_in(word.as_bytes()).ok_or(Misfit::Expected(Reason::Number))
     }
 
-    /// INTS: signed numbers of 64 bits in brackets, parted by commas.
+    /// INTS: signed numbers of 64 bits in brackets, separated by commas.
     pub(crate) fn integers(&mut self) -> Result<Items<i64>, Misfit>
         ensures { Reads integers self.old result self.new }
     {
@@ -141,7 +141,7 @@ impl<'a> Reader<'a> {
         byte_in(word.as_bytes()).ok_or(Misfit::Expected(Reason::Number))
     }
 
-    /// BYTES: numbers of 8 bits in brackets, parted by commas.
+    /// BYTES: numbers of 8 bits in brackets, separated by commas.
     pub(crate) fn bytes(&mut self) -> Result<Items<u8>, Misfit>
         ensures { Reads bytes self.old result self.new }
     {
@@ -149,7 +149,7 @@ impl<'a> Reader<'a> {
         byte_list(self.alloc, word.as_bytes())
     }
 
-    /// MARKS: `+` and `-` in brackets, for what is kept and what is not.
+    /// MARKS: in brackets a `+` for each element that is kept, and a `-` for each other.
     pub(crate) fn marks(&mut self) -> Result<Items<bool>, Misfit>
         ensures { Reads marks self.old result self.new }
     {
@@ -157,7 +157,7 @@ impl<'a> Reader<'a> {
         marks_in(self.alloc, word.as_bytes())
     }
 
-    /// BOUNDS: where a range starts and where it ends, parted by `..`.
+    /// BOUNDS: where a range starts and where it ends, separated by `..`.
     pub(crate) fn bounds(&mut self) -> Result<Bounds, Misfit>
         ensures { Reads bounds self.old result self.new }
     {
@@ -166,7 +166,8 @@ impl<'a> Reader<'a> {
     }
 }
 
-/// Whether a word is a lower case letter and at most 31 further letters, digits and underscores.
+/// Whether a word is a name: a lower case letter, and then at most 31 letters, digits and
+/// underscores.
 fn is_name(word: &[u8]) -> bool
     ensures { result ≡ is_name word.now }
 {
@@ -195,7 +196,7 @@ pub(crate) fn is_blank(byte: u8) -> bool
     byte == b' ' || byte == b'\t'
 }
 
-/// What is left of a text from its first word on.
+/// The text from its first word on.
 #[tactic(auto, using(crate::proofs::Digits::or_all))]
 fn behind_blanks(text: &str) -> &str
     ensures { result.now ≡ behind_blanks text.now }
@@ -210,7 +211,7 @@ fn first_ink(bytes: &[u8]) -> Option<usize>
     bytes.iter().position(|byte| !is_blank(*byte))
 }
 
-/// The word at the front of a text, and what stands behind it.
+/// The word at the start of a text, and the text after it.
 #[tactic(auto, using(crate::proofs::Digits::or_all))]
 fn first_word(text: &str) -> (&str, &str)
     ensures word { result.0.now ≡ word_at text.now }

@@ -1,4 +1,4 @@
-//! What the calls of values answer, as outcomes and refusals.
+//! Turns what the calls of values return into outcomes and refusals.
 ghost use Rattle.std.specs.Prelude.{◌≡◌, Ok, Err, MatchResult};
 ghost use Rattle.ecow_model.specs.declared.command.Outcome.{Outcome};
 ghost use Rattle.ecow_model.specs.declared.command.Refusal.{Refusal};
@@ -9,7 +9,7 @@ use ecow_list::EcoError;
 use ecow_model::usage::NewValue;
 use ecow_model::{Outcome, Refusal};
 
-/// Why a command was refused whose call was.
+/// The refusal of a command whose call returned this error.
 pub(crate) fn refusal_of(error: EcoError) -> Refusal
     ensures { result ≡ refusal_for error }
 {
@@ -19,7 +19,7 @@ pub(crate) fn refusal_of(error: EcoError) -> Refusal
     }
 }
 
-/// What a change answers: that it was made, or that memory was wanting.
+/// The outcome of a change: done, or refused for memory.
 pub(crate) fn answer_change<T: Drop, E: Drop>(change: Result<(), E>) -> Outcome<T>
     ensures { MatchResult change (λ _. result ≡ Outcome.Done)
         (λ _. result ≡ Outcome.Refused Refusal.Memory) }
@@ -30,7 +30,7 @@ pub(crate) fn answer_change<T: Drop, E: Drop>(change: Result<(), E>) -> Outcome<
     }
 }
 
-/// Answers what a call gives that memory alone refuses.
+/// The outcome of a call that returns a value and is refused only for memory.
 macro_rules! answer_given {
     ($answer:ident, $given:expr) => {
         match $given {
@@ -42,7 +42,7 @@ macro_rules! answer_given {
 
 pub(crate) use answer_given;
 
-/// A new value, or why there is none.
+/// A new value, or the refusal of the command that makes it.
 pub(crate) fn answer_make<V>(value: Result<V, EcoError>) -> Result<NewValue<V>, Refusal>
     ensures { MatchResult value (λ value. result ≡ Ok (NewValue.Always value))
         (λ error. result ≡ Err (refusal_for error)) }

@@ -1,4 +1,4 @@
-//! What the store does with bytes: each table of the definitions is one `match`.
+//! Commands on bytes, carried out on handles. Each `match` is one table of the definitions.
 ghost use Rattle.std.specs.Prelude.{⊤};
 ghost use Rattle.ecow_model.specs.Bytes.{bytes_rules};
 ghost use Rattle.ecow_model.proofs.Uses.{bytes_wraps};
@@ -15,7 +15,7 @@ use ecow_model::{Items, Outcome, Refusal};
 use ecow_string::SmallText;
 use std::alloc::{AllocError, Global};
 
-/// Bytes, inline or in handles.
+/// The kind of bytes, which are inline or in a shared block.
 pub(crate) struct BytesKind;
 
 impl<T: Clone, const N: usize> ValueKind<T, Stored<T, N>> for BytesKind {

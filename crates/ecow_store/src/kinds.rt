@@ -1,4 +1,4 @@
-//! How a command on named values is carried out by its parts, once for all kinds of value.
+//! Carries out the parts of a command on named values, in the same way for all kinds of value.
 ghost use Rattle.std.specs.Prelude.{◌≡◌, ◌⊎◌, MatchResult, Ok, Err};
 ghost use Rattle.std.specs.Borrow.{sem};
 ghost use Rattle.std.specs.FinMap as map;
@@ -13,37 +13,37 @@ use ecow_model::usage::{NewValue, Usage};
 use ecow_model::{Name, Outcome, Refusal};
 use std::alloc::Global;
 
-/// A kind of value: what the parts of a command do with one of its values. Values of type `V` stand
-/// under names, and lists have elements of type `T`.
+/// A kind of value, and what each part of a command does to a value of this kind. Values under
+/// names have the type `V`, and lists have elements of type `T`.
 ///
-/// `rules` are the definitions that the kind keeps where `premise` holds. Which refusal comes
-/// doesn't depend on `premise`. `wraps` says that a value under a name is its payload and no more.
+/// The kind follows the definitions `rules` if `premise` holds. Which refusal comes doesn't depend
+/// on `premise`. `wraps` says that a value under a name consists of its payload only.
 pub(crate) trait ValueKind<T: Clone, V: Drop> {
-    /// The values of the kind.
+    /// The values of this kind.
     type Payload: Drop;
 
-    /// The ways to make a value of the kind.
+    /// The commands that make a value of this kind.
     type Make: Drop;
 
-    /// The ways to make a value of the kind from a value of any kind.
+    /// The commands that make a value of this kind from a value of any kind.
     type Derive: Drop;
 
-    /// The changes of a value of the kind.
+    /// The commands that change a value of this kind.
     type Edit: Drop;
 
-    /// The questions to a value of the kind.
+    /// The commands that read a value of this kind.
     type Ask: Drop;
 
     ghost rules: { Rules T V Self.Payload Self.Make Self.Derive Self.Edit Self.Ask };
 
     ghost premise: { Type 0 };
 
-    /// Makes a value, or says why it is refused.
+    /// Makes a value, or returns the refusal.
     fn make(alloc: Global, how: Self::Make) -> Result<NewValue<Self::Payload>, Refusal>
         ensures value { premise → IsMade rules how result }
         ensures verdict { IsMadeOrRefused rules how result };
 
-    /// Makes a value from `source`, which stays as it is, or says why it is refused.
+    /// Makes a value from `source`, which stays as it is, or returns the refusal.
     fn derive(alloc: Global, how: Self::Derive, source: &V) -> Result<Self::Payload, Refusal>
         ensures derived { premise → IsDerived rules how source.now result }
         ensures verdict { IsDerivedOrRefused rules how source.now result };
@@ -60,22 +60,22 @@ pub(crate) trait ValueKind<T: Clone, V: Drop> {
         ensures verdict { IsAnswerVerdict rules question payload.old result }
         ensures unchanged { payload.new ≡ payload.old };
 
-    /// The value of this kind that `value` is, and else the refusal.
+    /// Borrows a value of this kind; the refusal `Kind` if `value` is of another kind.
     fn payload_mut(value: &mut V) -> Result<&mut Self::Payload, Refusal>
         ensures* writes_back { sem 𝓛
             (LendsPayload V.row Self.Payload.row rules.wrap value.entry result) }
         ensures value { MatchResult result (λ x. rules.payload value.old ≡ Ok x.now)
             (λ refusal. rules.payload value.old ≡ Err refusal) };
 
-    /// `payload` as a value that may stand under a name.
+    /// Turns `payload` into a value for a name.
     fn wrap(payload: Self::Payload) -> V
         ensures { result ≡ rules.wrap payload };
 
     ghost wraps: { WrapsPayloads rules };
 }
 
-/// The value of a kind under a name, for writing: `NoName` where nothing stands there, and the
-/// refusal of `K::payload_mut` where a value of another kind does.
+/// Borrows the value of this kind under a name for writing. Returns `NoName` if there is no such
+/// name, and the refusal of `K::payload_mut` if the value is of another kind.
 fn payload_at<T: Clone, V: Drop, K: ValueKind<T, V>>(
     values: &mut Table<V>,
     name: Name,
@@ -91,8 +91,7 @@ fn payload_at<T: Clone, V: Drop, K: ValueKind<T, V>>(
     }
 }
 
-/// Puts a value under a name, and then answers `outcome`. Without memory for the name it answers
-/// `Memory`.
+/// Puts a value under a name and answers `outcome`; `Memory` if there is no memory for the name.
 fn put<T: Drop, V: Drop>(
     values: &mut Table<V>,
     name: Name,
@@ -108,7 +107,7 @@ fn put<T: Drop, V: Drop>(
     }
 }
 
-/// Carries out one command on values of one kind, by its parts.
+/// Carries out one command, given in parts, on a value of this kind.
 pub(crate) fn carry_out<T: Clone, V: Drop, K: ValueKind<T, V>>(
     alloc: Global,
     values: &mut Table<V>,

@@ -1,4 +1,4 @@
-//! `Store`: commands on named values that are handles, which share their blocks.
+//! `Store` carries out commands on named values. The values are handles: clones share their blocks.
 #![tactic(auto)]
 
 mod answers;

@@ -1,4 +1,4 @@
-//! Named handles, and the commands on them.
+//! `Store`, and what its commands do.
 ghost use Rattle.std.specs.Prelude.{◌≡◌, IfOk};
 ghost use Rattle.std.specs.FinMap as map;
 ghost use Rattle.ecow_base.specs.Clones.{ClonesAreEqual};
@@ -21,23 +21,32 @@ use ecow_string::SmallText;
 use std::alloc::Global;
 use std::marker::Model;
 
-/// What stands under a name.
+/// A value under a name.
 pub type Stored<T, const N: usize> = Value<EcoVec<T>, SmallBytes<N>, SmallText<N>>;
 
-/// Named values of which `V` is the type.
+/// Values of type `V` under names.
 #[derive(Drop)]
 pub struct NamedValues<V> {
-    /// Of which all memory is asked.
+    /// Where all memory comes from.
     alloc: Global,
-    /// What stands under each name.
+    /// The value under each name.
     values: Table<V>,
 }
 
-/// Named lists, bytes and texts that share their blocks, where up to `N` bytes of a value
-/// of bytes or of a text stand in the value itself.
+/// Named lists, bytes and texts, whose clones share their blocks. Bytes and texts keep up to `N`
+/// bytes inline.
 pub type SmallStore<T, const N: usize> = NamedValues<Stored<T, N>>;
 
-/// The store with an inline limit of 15 bytes.
+/// A store with an inline limit of 15 bytes.
+///
+/// ```
+/// let mut store = Store::new(alloc);
+/// store.step(Command::Vec(VecCommand::New { name: 0 }));
+/// store.step(Command::Vec(VecCommand::Push { name: 0, value: 7 }));
+/// store.step(Command::Vec(VecCommand::Clone { from: 0, to: 1 }));
+/// store.step(Command::Vec(VecCommand::Clear { name: 0 }));
+/// assert!(store.get(0) == Some(&[]) && store.get(1) == Some(&[7]));
+/// ```
 pub type Store<T> = SmallStore<T, 15>;
 
 impl<V> Model for NamedValues<V> {
@@ -53,7 +62,7 @@ impl<V> Model for NamedValues<V> {
 }
 
 impl<V> NamedValues<V> {
-    /// No name is there. Takes no memory.
+    /// Makes a store without names. Takes no memory.
     pub fn new(alloc: Global) -> Self
         ensures { result ≡ map.empty }
     {
@@ -65,7 +74,14 @@ impl<V> NamedValues<V> {
 }
 
 impl<T: Clone, const N: usize> NamedValues<Stored<T, N>> {
-    /// Carries out one command. A refused command changes nothing; what it carried is dropped.
+    /// Carries out one command.
+    ///
+    /// # Errors
+    ///
+    /// `Outcome::Refused` with the first refusal that applies. The command changes nothing then,
+    /// and what it carried is dropped.
+    ///
+    /// Costs what the call of the value costs, and a look-up of each name.
     pub fn step(&mut self, command: Command<T>) -> Outcome<T>
         ensures step { ClonesAreEqual T.is_clone → Step N self.old command result self.new }
         ensures bytes_and_texts { StepWhere N
@@ -92,8 +108,14 @@ impl<T: Clone, const N: usize> NamedValues<Stored<T, N>> {
         }
     }
 
-    /// Carries out commands in order and answers the outcome of each. Room for the outcomes is
-    /// taken first.
+    /// Carries out commands in order, and returns the outcome of each.
+    ///
+    /// # Errors
+    ///
+    /// `Memory` if there is no memory for the outcomes. Then no command is carried out, and the
+    /// commands come back.
+    ///
+    /// Takes memory for all outcomes first, and then what each command takes.
     pub fn run(
         &mut self,
         commands: Vec<Command<T>>,
@@ -106,7 +128,7 @@ impl<T: Clone, const N: usize> NamedValues<Stored<T, N>> {
         ensures verdicts { IfOk result
             (λ outcomes. RunBy (StepVerdict N) self.old commands.items outcomes.items self.new) }
 
-        // Where there is no room for the outcomes, nothing is carried out.
+        // Without memory for the outcomes, nothing is carried out.
         ensures refused { RejectsForMemory commands self.old result self.new }
     {
         let Ok(mut outcomes) = Vec::with_capacity(self.alloc, commands.len()) else {

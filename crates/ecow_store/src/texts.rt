@@ -1,4 +1,4 @@
-//! What the store does with texts: each table of the definitions is one `match`.
+//! Commands on texts, carried out on handles. Each `match` is one table of the definitions.
 ghost use Rattle.std.specs.Prelude.{◌≡◌, ⊤};
 ghost use Rattle.ecow_model.specs.Refusing.{verdict};
 ghost use Rattle.ecow_model.specs.Texts.{edit_text, text_rules, text_from_bytes};
@@ -17,7 +17,7 @@ use ecow_model::{Outcome, Refusal, Text};
 use ecow_string::SmallText;
 use std::alloc::{AllocError, Global};
 
-/// Texts, inline or in handles.
+/// The kind of texts, which are inline or in a shared block.
 pub(crate) struct TextKind;
 
 impl<T: Clone, const N: usize> ValueKind<T, Stored<T, N>> for TextKind {
@@ -144,8 +144,8 @@ impl<T: Clone, const N: usize> ValueKind<T, Stored<T, N>> for TextKind {
     ghost wraps = { text_wraps N };
 }
 
-/// Whether an edit of a text may be made, and else why not: the first refusal that applies, want of
-/// memory apart.
+/// Checks whether a text may be edited so. Returns the first refusal that applies; `Memory` comes
+/// later.
 #[tactic(auto, using(crate::proofs::Characters::texts))]
 fn check<T, const N: usize>(text: &SmallText<N>, edit: &TextEdit) -> Result<(), Refusal>
     ensures { result ≡ verdict (edit_text {T = T} N edit.now text.now) }
@@ -187,7 +187,7 @@ fn check<T, const N: usize>(text: &SmallText<N>, edit: &TextEdit) -> Result<(), 
     }
 }
 
-/// The text that bytes spell, in their mode: `NotUtf8` where they spell none.
+/// Makes a text from bytes, inline if these are; `NotUtf8` if they are no text.
 #[tactic(auto, using(crate::proofs::Characters::texts))]
 fn from_bytes<const N: usize>(bytes: &SmallBytes<N>) -> Result<SmallText<N>, Refusal>
     ensures { IsGiven (text_from_bytes bytes.now) result }

@@ -1,4 +1,4 @@
-//! What the store does with a list: each table of the definitions is one `match`.
+//! Commands on lists, carried out on handles. Each `match` is one table of the definitions.
 ghost use Rattle.std.specs.Prelude.{◌≡◌, Ok, length, OnOk, OnErr, IfErr};
 ghost use Rattle.std.specs.List.{items_where_true};
 ghost use Rattle.ecow_base.specs.Clones.{ClonesAreEqual};
@@ -22,7 +22,7 @@ use ecow_model::vecs::{VecAsk, VecDerive, VecEdit, VecMake};
 use ecow_model::{Bounds, Items, Outcome, Refusal};
 use std::alloc::{AllocError, Global};
 
-/// Lists, which are handles.
+/// The kind of lists, which are handles of shared blocks.
 pub(crate) struct VecKind;
 
 impl<T: Clone, const N: usize> ValueKind<T, Stored<T, N>> for VecKind {
@@ -138,7 +138,7 @@ fn retain_by_marks<T: Clone>(list: &mut EcoVec<T>, marks: &[bool]) -> Result<(),
     })
 }
 
-/// Takes the elements within bounds out of a list.
+/// Removes the elements within bounds from a list, and answers them.
 #[tactic(auto, using(ecow_model::proofs::Lengths::edits))]
 fn drain<T: Clone>(alloc: Global, list: &mut EcoVec<T>, bounds: Bounds) -> Outcome<T>
     ensures step { ClonesAreEqual T.is_clone
@@ -161,7 +161,7 @@ fn drain<T: Clone>(alloc: Global, list: &mut EcoVec<T>, bounds: Bounds) -> Outco
     }
 }
 
-/// Puts items in place of the elements of a list within bounds.
+/// Replaces the elements of a list within bounds by items, and answers the old ones.
 #[tactic(auto, using(ecow_model::proofs::Lengths::edits))]
 fn splice<T: Clone>(
     alloc: Global,

@@ -1,11 +1,11 @@
-//! The status and the message of each end, written out by hand beside the definitions.
+//! The status and the message of each end of the program, written by hand once more.
 ghost use Rattle.std.specs.Prelude.{◌≡◌, [], codes};
 ghost use Rattle.ecow_script.specs.declared.reason.Reason.TheVariants as reason;
 ghost use Rattle.ecow_tool.specs.Ends.{exit_text, status_of, unreadable_text};
 ghost use Rattle.ecow_tool.specs.declared.program.End.TheVariants as program;
 ghost use Rattle.ecow_tool.specs.declared.program.Exit.TheVariants.{After, Usage};
 
-/// What the program ends with.
+/// The status that the program ends with.
 pub fn statuses()
     ensures usage { status_of Usage ≡ 2 }
     ensures done { status_of (After program.Done) ≡ 0 }
@@ -17,7 +17,7 @@ pub fn statuses()
     ensures output { status_of (After program.Output) ≡ 3 }
 {}
 
-/// What it prints to standard error.
+/// What the program prints to standard error.
 pub fn messages()
     ensures usage { exit_text Usage ≡ codes "usage: ecow-run [--counted] FILE\n" }
     ensures done { exit_text (After program.Done) ≡ [] }
@@ -28,7 +28,7 @@ pub fn messages()
     ensures output { exit_text (After program.Output) ≡ codes "ecow-run: output\n" }
 {}
 
-/// What it prints where a line doesn't fit.
+/// What the program prints if a line is wrong.
 pub fn unreadable_lines()
     ensures kind { unreadable_text 1 reason.Kind ≡ codes "ecow-run: line 1: kind\n" }
     ensures command { unreadable_text 2 reason.Command ≡ codes "ecow-run: line 2: command\n" }

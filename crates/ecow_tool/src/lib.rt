@@ -1,4 +1,4 @@
-//! Commands on named values: both stores, the script, and the program over either.
+//! The program: runs a script on either store, over any reader and writer.
 #![tactic(auto)]
 
 pub mod examples;

@@ -1,4 +1,4 @@
-//! The program over any reader and writer.
+//! Runs a script over any reader and writer.
 ghost use Rattle.std.specs.Prelude.{◌≡◌, ◌<◌, ◌≤◌, ◌++◌, [], length, List, ℕ, IfOk, OnOk, IfErr, IfSome, IsNone, IsTrue, Some};
 ghost use Rattle.std.specs.Io.KnownBytes.{Appends, Consumes, IsAtEnd};
 ghost use Rattle.ecow_script.specs.Commands.{counted_form, store_form};
@@ -16,16 +16,16 @@ use std::io::{ErrorKind, Read, Write};
 /// The most bytes that a script has.
 pub const SIZE_LIMIT: usize = 16777216;
 
-/// How many bytes are asked for at once.
+/// How many bytes are read at a time.
 const BYTES_AT_ONCE: usize = 65536;
 
-/// How the program ends once its arguments are read. Its `Display` is the message on standard
+/// How the program ends after its arguments were read. Its `Display` is the message on standard
 /// error, without the program's name.
 #[derive(Clone, Copy, Debug, PartialEq, Eq)]
 pub enum End {
-    /// The script was run to its end, and all answer lines are written.
+    /// The whole script was run, and all answer lines are written.
     Done,
-    /// A line, counted from 1, doesn't fit.
+    /// This line, counted from 1, is wrong.
     Unreadable(usize, Reason),
     /// The script isn't UTF-8.
     NotUtf8,
@@ -33,7 +33,7 @@ pub enum End {
     File,
     /// The script has more than `SIZE_LIMIT` bytes.
     TooLarge,
-    /// There is no memory for the arguments, the script, the outcomes or the answer lines.
+    /// Memory was refused for the arguments, the script, the outcomes or the answer lines.
     Memory,
     /// The answer lines can't be written.
     Output,
@@ -42,9 +42,9 @@ pub enum End {
 /// How the program ends. Its `Display` is all that is printed to standard error.
 #[derive(Clone, Copy, Debug, PartialEq, Eq)]
 pub enum Exit {
-    /// The words after the program's name are no use of it.
+    /// The words after the program's name aren't as its usage says.
     Usage,
-    /// They were read, and the script was taken up.
+    /// The words were read, and the program ended so after that.
     After(End),
 }
 
@@ -67,8 +67,8 @@ impl From<Fault> for End {
     }
 }
 
-/// Whether the counted store is asked for, and the place of the file's name among the words
-/// after the program's name. `None` where they are no use of the program.
+/// Reads the words after the program's name: whether the counted store is wanted, and the index of
+/// the file's name. `None` if the words aren't as the program's usage says.
 pub fn read_arguments(words: &[String]) -> Option<(bool, usize)>
     ensures request { result ≡ request words.now }
     ensures place { IfSome result (λ found. found.1 < length words.now) }
@@ -80,16 +80,16 @@ pub fn read_arguments(words: &[String]) -> Option<(bool, usize)>
     }
 }
 
-/// Whether a word asks for the counted store.
+/// Whether a word is `--counted`.
 fn is_flag(word: &String) -> bool
     ensures { result ≡ is_flag word.now }
 {
     word.as_str() == "--counted"
 }
 
-/// Reads a script, carries its commands out on a new `Store`, and writes an answer line for each.
-/// Nothing is written before all lines are made; so only where the writer fails is there a front of
-/// them. A read or a write that is interrupted is tried again.
+/// Reads a script, carries out its commands on a new `Store`, and writes an answer line for each.
+/// Nothing is written before all lines are made. So only a writer that fails gets some of the lines
+/// and not all. A read or a write that is interrupted is tried again.
 pub fn run_store<R: Read, W: Write>(alloc: Global, reader: &mut R, writer: &mut W) -> End
     ensures { IfSome (R.remaining reader.old)
         (λ bytes. (written : List ℕ)
@@ -109,8 +109,8 @@ pub fn run_store<R: Read, W: Write>(alloc: Global, reader: &mut R, writer: &mut 
     }
 }
 
-/// Does the same on a new `Counted`, and writes a last line: the number of blocks, and how many
-/// elements were copied and moved.
+/// Does the same on a new `Counted`. The last line that it writes has the number of blocks, and how
+/// many elements were copied and moved.
 pub fn run_counted<R: Read, W: Write>(alloc: Global, reader: &mut R, writer: &mut W) -> End
     ensures { IfSome (R.remaining reader.old)
         (λ bytes. (written : List ℕ)
@@ -153,8 +153,8 @@ fn write_out<W: Write>(writer: &mut W, answers: &[u8]) -> End
     }
 }
 
-/// Writes some of the bytes, none after an interruption: those that are left. `None` where the
-/// writer fails.
+/// Writes some of the bytes, or none after an interruption, and returns the bytes that are left.
+/// `None` if the writer fails.
 fn write_some<'a, W: Write>(writer: &mut W, bytes: &'a [u8]) -> Option<&'a [u8]>
     ensures written { IfSome result
         (λ rest. (written : List ℕ)
@@ -170,7 +170,7 @@ fn write_some<'a, W: Write>(writer: &mut W, bytes: &'a [u8]) -> Option<&'a [u8]>
     }
 }
 
-/// Whether no byte is left to write, and what was written is flushed.
+/// Flushes what was written. False if bytes are left to write, or flushing fails.
 fn is_flushed<W: Write>(writer: &mut W, rest: &[u8]) -> bool
     ensures whole { IsTrue result → rest.now ≡ [] }
     ensures nothing { Appends (W.contents writer.old) (W.contents writer.new) [] }
@@ -181,7 +181,7 @@ fn is_flushed<W: Write>(writer: &mut W, rest: &[u8]) -> bool
     writer.flush().is_ok()
 }
 
-/// All that the reader gives, if it is within `SIZE_LIMIT`.
+/// Reads everything that the reader gives, up to `SIZE_LIMIT`.
 fn read_script<R: Read>(alloc: Global, reader: &mut R) -> Result<Vec<u8>, End>
     ensures script { IfOk result
         (λ script. IfSome (R.remaining reader.old) (λ bytes. script.items ≡ bytes)) }
@@ -199,18 +199,19 @@ fn read_script<R: Read>(alloc: Global, reader: &mut R) -> Result<Vec<u8>, End>
     Err(End::File)
 }
 
-/// Appends what one read gives, nothing after an interruption: whether the reader is at its end.
+/// Appends what one read gives, or nothing after an interruption. Returns whether the reader is at
+/// its end.
 fn read_piece<R: Read>(reader: &mut R, piece: &mut [u8], script: &mut Vec<u8>) -> Result<bool, End>
     requires room { 0 < length piece.old }
     requires fits { length script.old.items ≤ size_limit }
 
-    // The bytes that were read go behind the others.
+    // The bytes that were read are appended.
     ensures read { OnOk result ((bytes : List ℕ)
         × (script.new.items ≡ script.old.items ++ bytes)
         × Consumes (R.remaining reader.old) (R.remaining reader.new) bytes) }
     ensures ended { IfOk result (λ ended. IsTrue ended → IsAtEnd (R.remaining reader.new)) }
 
-    // The script stays within its limit, and the piece as long as it was.
+    // The script stays within its limit, and the piece keeps its length.
     ensures fits { OnOk result (length script.new.items ≤ size_limit) }
     ensures room { length piece.new ≡ length piece.old }
     ensures end { IfErr result (λ end. IfSome (R.remaining reader.old)

@@ -1,4 +1,4 @@
-//! Edits of fields, at places. A refusal changes nothing.
+//! Edits of fields by their index. A refused call changes nothing.
 ghost use Rattle.std.specs.Prelude.{◌≡◌, ◌<◌, ◌∷◌, ◌++◌, [], length, map, remove, slice_get, slice_set, IfErr, IfOk, OnErr, OnOk, Some};
 ghost use Rattle.std.specs.Fn.{FnOnceTakesAtMut, FnOnceReturnsAtMut};
 ghost use Rattle.ecow_nested.specs.Index.{fields_in, node_of, IsFoundFrom};
@@ -30,7 +30,7 @@ impl Clone for Entry<Value> {
     }
 }
 
-/// Takes the entry at `index` out of a block, and drops the index.
+/// Removes the entry at `index` from a block, and drops the index of names.
 fn take_out<T>(block: &mut Block<Entry<T>>, index: usize) -> Field<T>
     requires { index < length block.old.items }
     ensures value { slice_get (fields_in block.old.items) index ≡ Some result }
@@ -43,7 +43,7 @@ fn take_out<T>(block: &mut Block<Entry<T>>, index: usize) -> Field<T>
 }
 
 impl Fields<Value> {
-    /// The fields with what the index has of them.
+    /// The fields, each with its part of the index of names.
     #[tactic(auto, using(crate::proofs::Depths::entry_depths))]
     pub(crate) fn entries(&self) -> &[Entry<Value>]
         ensures fields { fields_in result.now ≡ self.now }
@@ -54,12 +54,16 @@ impl Fields<Value> {
     }
 
     /// Appends a field.
+    ///
+    /// # Errors
+    ///
+    /// `Capacity` or `Memory`; the field is dropped.
     pub fn push(&mut self, name: EcoString, value: Value) -> Result<(), EcoError>
         ensures ok { OnOk result (self.new ≡ self.old ++ named name value ∷ []) }
         ensures unchanged { OnErr result (self.new ≡ self.old) }
         ensures memory { IfErr result (λ error. error ≡ EcoError.Memory) }
     {
-        // For the proof alone: a slice of fields is shorter than the greatest length.
+        // Only for the proof: a slice of fields is shorter than the greatest length.
         let _entries = self.entries.as_slice();
         let entry = Entry {
             field: Field { name, value },
@@ -72,7 +76,11 @@ impl Fields<Value> {
         Ok(())
     }
 
-    /// Puts `value` in place of the value of the field at `index`, and gives what was there.
+    /// Replaces the value of the field at `index` by `value`, and returns the old one.
+    ///
+    /// # Errors
+    ///
+    /// `Memory`; `value` is dropped.
     pub fn replace(&mut self, index: usize, value: Value) -> Result<Value, EcoError>
         requires { index < length self.old }
         ensures ok { IfOk result (λ was. Revalues self.old index was value self.new) }
@@ -85,7 +93,11 @@ impl Fields<Value> {
         Ok(was)
     }
 
-    /// Lends the value of the field at `index` to `f`, once, and gives what `f` answers.
+    /// Calls `f` once with the value of the field at `index`, and returns what `f` returns.
+    ///
+    /// # Errors
+    ///
+    /// `Memory`; `f` isn't called.
     pub(crate) fn update<R, F: FnOnce(&mut Value) -> R>(
         &mut self,
         index: usize,
@@ -110,7 +122,11 @@ impl Fields<Value> {
         Ok(answer)
     }
 
-    /// Takes the field at `index`.
+    /// Removes the field at `index` and returns it.
+    ///
+    /// # Errors
+    ///
+    /// `Memory`.
     pub fn remove(&mut self, index: usize) -> Result<Field<Value>, EcoError>
         requires { index < length self.old }
         ensures ok { IfOk result (λ field. (slice_get self.old index ≡ Some field)

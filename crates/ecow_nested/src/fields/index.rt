@@ -1,17 +1,18 @@
 //! How a name is found among many fields.
 //!
-//! Each entry may link two that stand further on. The way of a name begins at the first entry, and
-//! goes on along the left or the right link, as the bits of the name's hash say in turn, and behind
-//! them the bits of the name. It comes to the first entry of the name, or ends where there is no
-//! link: there the entry of a new name is linked. So a way has about as many steps as the number of
-//! names has bits, and whatever names are chosen, at most 72 more than its name has.
+//! The entries are the nodes of a binary tree: each may have a link to a left and a right entry
+//! with a higher index. The search for a name starts at the first entry. At each step the next bit
+//! decides between left and right: first the bits of the name's hash, and after them the bits of
+//! the name itself. The search ends at the first entry with that name, or where there is no link;
+//! there the entry of a new name is linked. So a search takes about as many steps as the number of
+//! names has bits. For any choice of names it takes at most 72 steps more than the name has bits.
 ghost use Rattle.std.specs.Prelude.{◌≡◌, ◌+◌, ◌-◌, ◌<◌, MatchResult, Some, length, position, take, true};
 ghost use Rattle.ecow_nested.specs.Index.{Ascends, IsFoundFrom, IsIndexed, bare, end_of, fields_in, hash_of, is_dropped, link_of, node_of, nodes_in, turns, with_link};
 ghost use Rattle.ecow_nested.specs.Names.{has_name};
 
 use crate::fields::Entry;
 
-/// A number that is about as often even as odd in each of its upper bits.
+/// The hash of a name. Over many names, each of its upper bits is 0 about as often as 1.
 fn hash(name: &[u8]) -> u64
     ensures { result ≡ hash_of name.now }
 {
@@ -21,7 +22,7 @@ fn hash(name: &[u8]) -> u64
     })
 }
 
-/// On which side the way of a name goes on at a depth.
+/// Whether the search for a name continues on the right at this depth.
 fn turns_right(name: &[u8], hash: u64, depth: usize) -> bool
     requires { hash ≡ hash_of name.now }
     ensures { result ≡ turns name.now depth }
@@ -31,26 +32,26 @@ fn turns_right(name: &[u8], hash: u64, depth: usize) -> bool
     }
     match name.get((depth - 64) / 8) {
         Some(byte) => (*byte >> ((depth - 64) % 8) as u32) % 2 == 1,
-        // No text has a byte of 255, so names differ at the latest behind the shorter one.
+        // No text has a byte 255, so two names differ at the latest right after the shorter one.
         None => true,
     }
 }
 
-/// A first entry whose left link is greater says that there is no index.
+/// There is no index if the left link of the first entry is greater than this.
 const DROPPED: usize = 1 << 63;
 
-/// So many names come after a removal before the index is made anew.
+/// How many fields are appended after a removal until the index is made anew.
 const PENDING: usize = 64;
 
 impl<T> Entry<T> {
-    /// The place that the entry links on a side, and 0 where it links none there.
+    /// The index of the entry that is linked on a side; 0 if there is none.
     fn link(&self, right: bool) -> usize
         ensures { result ≡ link_of right (node_of self.now) }
     {
         if right { self.right } else { self.left }
     }
 
-    /// Takes the links away.
+    /// Removes both links.
     fn clear_links(&mut self)
         ensures { self.new ≡ bare self.old }
     {
@@ -58,7 +59,7 @@ impl<T> Entry<T> {
         self.right = 0;
     }
 
-    /// Links an entry on a side.
+    /// Links the entry at `at` on a side.
     fn set_link(&mut self, right: bool, place: usize)
         ensures { self.new ≡ with_link right place self.old }
     {
@@ -70,7 +71,7 @@ impl<T> Entry<T> {
     }
 }
 
-/// The place of the first entry of a name, of which each is looked at.
+/// The index of the first entry with this name, found by looking at each entry.
 pub(crate) fn scan<T>(entries: &[Entry<T>], name: &str) -> Option<usize>
     ensures { result ≡ position (λ entry. has_name name.now entry.field) entries.now }
 {
@@ -79,8 +80,8 @@ pub(crate) fn scan<T>(entries: &[Entry<T>], name: &str) -> Option<usize>
         .position(|entry| entry.field.name.as_str() == name)
 }
 
-/// The place of the first entry of a name, or else the place and the side where the entry of that
-/// name is to be linked.
+/// The index of the first entry with this name. If there is none, the entry and its side where an
+/// entry with this name would be linked.
 pub(crate) fn seek<T>(entries: &[Entry<T>], name: &str) -> Result<usize, (usize, bool)>
     requires some { 0 < length entries.now }
     requires ascends { Ascends (nodes_in entries.now) }
@@ -107,7 +108,7 @@ pub(crate) fn seek<T>(entries: &[Entry<T>], name: &str) -> Result<usize, (usize,
     }
 }
 
-/// Links the entry at `count` where the way of its name ends among those before it.
+/// Links the entry at `count` where the search for its name ends among the entries before it.
 fn include<T>(entries: &mut [Entry<T>], count: usize)
     requires within { count < length entries.old }
     requires before { IsIndexed (nodes_in (take count entries.old)) }
@@ -124,7 +125,7 @@ fn include<T>(entries: &mut [Entry<T>], count: usize)
     }
 }
 
-/// Whether there is no index.
+/// Whether the index is dropped.
 pub(crate) fn is_dropped<T>(entries: &[Entry<T>]) -> bool
     ensures { result ≡ is_dropped entries.now }
 {
@@ -134,7 +135,7 @@ pub(crate) fn is_dropped<T>(entries: &[Entry<T>]) -> bool
     }
 }
 
-/// Makes the index of all entries, where those before `count` have one.
+/// Completes the index, which the entries before `count` have already.
 fn index_from<T>(entries: &mut [Entry<T>], count: usize)
     requires before { IsIndexed (nodes_in (take count entries.old)) }
     ensures indexed { IsIndexed (nodes_in entries.new) }
@@ -146,7 +147,7 @@ fn index_from<T>(entries: &mut [Entry<T>], count: usize)
     }
 }
 
-/// Puts the last entry into the index, or counts it where that was dropped.
+/// Adds the last entry to the index. If the index was dropped, counts the entry.
 pub(crate) fn include_last<T>(entries: &mut [Entry<T>], few: usize)
     requires some { 0 < length entries.old }
     requires found { IsFoundFrom few (take (length entries.old - 1) entries.old) }
@@ -168,7 +169,7 @@ pub(crate) fn include_last<T>(entries: &mut [Entry<T>], few: usize)
     }
 }
 
-/// Drops the index: after a removal all links beyond it are others.
+/// Drops the index, whose links are wrong after a removal.
 pub(crate) fn drop_index<T>(entries: &mut [Entry<T>])
     ensures dropped { is_dropped entries.new ≡ true }
     ensures fields { fields_in entries.new ≡ fields_in entries.old }

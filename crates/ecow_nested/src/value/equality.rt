@@ -5,9 +5,9 @@ ghost use Rattle.ecow_nested.specs.Values.{value_eq};
 use crate::value::Value;
 
 impl Value {
-    /// Whether two values are equal: of one kind, and their texts, numbers, items and fields in
-    /// order. Each NaN equals each other, so a value equals its clones. Where a text stands, inline
-    /// or not, makes no difference.
+    /// Whether two values have the same kind and equal contents; items and fields are compared in
+    /// order. Every NaN equals every other, so a value equals its clones. An inline text can equal
+    /// a spilled one. Stops at the first difference.
     pub fn equals(&self, other: &Value) -> bool
         ensures { result ≡ value_eq self.now other.now }
     {

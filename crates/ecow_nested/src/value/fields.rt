@@ -1,5 +1,5 @@
-//! Fields by name. A refusal changes nothing. Where several apply, the answer is the first of
-//! `Kind`, `Index`, `Depth` and `Memory`.
+//! Fields by name. A refused call changes nothing. If several errors apply, the call returns the
+//! first of `Kind`, `Index`, `Depth` and `Memory`.
 ghost use Rattle.std.specs.Prelude.{◌≡◌, ◌≢◌, ◌≤◌, ◌↔◌, [], ◌∷◌, ◌++◌, None, Some, IfOk, IfSome, OnOk, OnErr, IsErrOf, IsSomeAnd, MatchOption};
 ghost use Rattle.ecow_nested.specs.Values.{depth_of, fields_of, look_up, new_field, with_field, without_field, EditsFields, Covers, IsErrAmong, RisesAtMost};
 
@@ -9,7 +9,7 @@ use crate::refusal::Refusal;
 use crate::value::Value;
 use ecow_string::EcoString;
 
-/// The value of the first field of that name.
+/// The value of the first field with this name.
 pub(super) fn find<'a>(fields: &'a Fields<Value>, name: &str) -> Option<&'a Value>
     ensures { MatchOption result (look_up name.now fields.now ≡ None)
         (λ value. look_up name.now fields.now ≡ Some value.now) }
@@ -20,7 +20,7 @@ pub(super) fn find<'a>(fields: &'a Fields<Value>, name: &str) -> Option<&'a Valu
     }
 }
 
-/// Appends a field. A refusal changes nothing.
+/// Appends a field. A refused call changes nothing.
 fn append(fields: &mut Fields<Value>, name: &str, value: Value) -> Result<(), Refusal>
     ensures ok { OnOk result (fields.new ≡ fields.old ++ new_field name.now value ∷ []) }
     ensures unchanged { OnErr result (fields.new ≡ fields.old) }
@@ -31,8 +31,8 @@ fn append(fields: &mut Fields<Value>, name: &str, value: Value) -> Result<(), Re
     Ok(())
 }
 
-/// Puts `value` in place of the value of the first field of that name, or appends a field where
-/// there is none. A refusal changes nothing.
+/// Replaces the value of the first field with this name, or appends a field if there is none. A
+/// refused call changes nothing.
 fn put(fields: &mut Fields<Value>, name: &str, value: Value) -> Result<(), Refusal>
     ensures ok { OnOk result (fields.new ≡ with_field name.now value fields.old) }
     ensures unchanged { OnErr result (fields.new ≡ fields.old) }
@@ -47,7 +47,7 @@ fn put(fields: &mut Fields<Value>, name: &str, value: Value) -> Result<(), Refus
     }
 }
 
-/// Takes the first field of that name out, and gives its value. A refusal changes nothing.
+/// Removes the first field with this name and returns its value. A refused call changes nothing.
 fn take(fields: &mut Fields<Value>, name: &str) -> Result<Value, Refusal>
     ensures ok { OnOk result (fields.new ≡ without_field name.now fields.old) }
     ensures value { IfOk result (λ value. look_up name.now fields.old ≡ Some value) }
@@ -64,7 +64,8 @@ fn take(fields: &mut Fields<Value>, name: &str) -> Result<Value, Refusal>
     }
 }
 
-/// Exchanges the value of the first field of that name and `other`. A refusal changes neither.
+/// Exchanges the value of the first field with this name with `other`. A refused call changes
+/// neither.
 fn exchange(fields: &mut Fields<Value>, name: &str, other: &mut Value) -> Result<(), Refusal>
     ensures ok { OnOk result (fields.new ≡ with_field name.now other.old fields.old) }
     ensures other { OnOk result (look_up name.now fields.old ≡ Some other.new) }
@@ -90,7 +91,14 @@ fn exchange(fields: &mut Fields<Value>, name: &str, other: &mut Value) -> Result
 }
 
 impl Value {
-    /// The value of the first field of that name.
+    /// The value of the first field with this name.
+    ///
+    /// # Errors
+    ///
+    /// `Kind` if the value has no fields; `Index` if no field has the name.
+    ///
+    /// With 16 fields or more, the time grows as the logarithm of their number. With fewer, and
+    /// after a removal, each field is looked at.
     pub fn field(&self, name: &str) -> Result<&Value, Refusal>
         ensures ok { IfOk result (λ value. IfSome (fields_of self.now)
             (λ fields. look_up name.now fields ≡ Some value.now)) }
@@ -108,9 +116,16 @@ impl Value {
         }
     }
 
-    /// Puts `value` in place of the value of the first field of that name, or appends a field where
-    /// there is none. It never answers `Capacity`: memory holds no name and no fields past the
-    /// greatest length.
+    /// Replaces the value of the first field with this name, or appends a field if there is none.
+    ///
+    /// # Errors
+    ///
+    /// `Kind` if the value has no fields; `Depth` if `value` nests as deep as a value may;
+    /// `Memory`. `value` is dropped. No call gives `Capacity`, since no memory holds so long a name
+    /// or so many fields.
+    ///
+    /// Finds the name as `field` does. Shared fields are copied first. If the old value was the
+    /// deepest, the depth of each field is read.
     #[tactic(auto, using(crate::proofs::Parts::out_of_fields, crate::proofs::Depths::with_less))]
     pub fn set_field(&mut self, name: &str, value: Value) -> Result<(), Refusal>
         ensures change { EditsFields (with_field name.now value) self.old result self.new }
@@ -131,8 +146,15 @@ impl Value {
         Ok(())
     }
 
-    /// Appends a field, and looks for none of that name. Where there is one already, calls by the
-    /// name go on to mean the first. It never answers `Capacity`, as `set_field` doesn't.
+    /// Appends a field without looking for its name. If another field has the name already, calls
+    /// by that name still mean the first.
+    ///
+    /// # Errors
+    ///
+    /// As `set_field`.
+    ///
+    /// Takes constant time on average, and with 16 fields or more as long as a search for the name.
+    /// Shared fields are copied first.
     #[tactic(auto, using(crate::proofs::Parts::out_of_fields, crate::proofs::Depths::pushed))]
     pub fn push_field(&mut self, name: &str, value: Value) -> Result<(), Refusal>
         ensures change { EditsFields (λ fields. fields ++ new_field name.now value ∷ [])
@@ -152,7 +174,14 @@ impl Value {
         Ok(())
     }
 
-    /// Exchanges the value of the first field of that name and `other`.
+    /// Exchanges the value of the first field with this name with `other`.
+    ///
+    /// # Errors
+    ///
+    /// `Kind` if the value has no fields; `Index` if no field has the name; `Depth` if `other`
+    /// nests as deep as a value may; `Memory`. `other` is unchanged.
+    ///
+    /// Costs what `set_field` costs.
     #[tactic(auto, using(crate::proofs::Parts::out_of_fields, crate::proofs::Depths::with_less))]
     pub fn swap_field(&mut self, name: &str, other: &mut Value) -> Result<(), Refusal>
         ensures change { EditsFields (with_field name.now other.old) self.old result self.new }
@@ -178,7 +207,14 @@ impl Value {
         Ok(())
     }
 
-    /// Takes the first field of that name out, and gives its value.
+    /// Removes the first field with this name and returns its value.
+    ///
+    /// # Errors
+    ///
+    /// `Kind` if the value has no fields; `Index` if no field has the name; `Memory`.
+    ///
+    /// Moves the fields after it. Shared fields are copied first. If the value was the deepest, the
+    /// depth of each field is read.
     #[tactic(auto, using(crate::proofs::Parts::out_of_fields, crate::proofs::Depths::without_less))]
     pub fn remove_field(&mut self, name: &str) -> Result<Value, Refusal>
         ensures change { EditsFields (without_field name.now) self.old result self.new }

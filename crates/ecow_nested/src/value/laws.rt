@@ -5,14 +5,14 @@ ghost use Rattle.ecow_nested.specs.Values.{value_eq};
 ghost use Rattle.ecow_nested.specs.declared.value.paths.Step.{Step};
 ghost use Rattle.ecow_nested.specs.declared.value.Value.{Value};
 
-/// A value equals itself, and so each of its clones.
+/// A value equals itself, and so it equals each of its clones.
 #[tactic(auto, using(crate::proofs::Reflexive::value_eq_self))]
 pub fn values_equal_themselves()
     ensures { (value : Value) → value_eq value value ≡ true }
 {}
 
-/// A path leads to what was set at its end, and each path that parts from it to what it led to
-/// before.
+/// After a set, its path leads to the new value. A path that leaves this path before its end leads
+/// where it led before.
 #[tactic(auto, using(crate::proofs::Paths::set_there, crate::proofs::Paths::set_elsewhere))]
 pub fn paths_lead_to_what_was_set()
     ensures there { (path : List Step) (value : Value) (old : Value) (new : Value)

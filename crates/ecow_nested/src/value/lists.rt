@@ -1,5 +1,5 @@
-//! Edits of a list. A refusal changes nothing. Where several apply, the answer is the first of
-//! `Kind`, `Index`, `Depth`, `Capacity` and `Memory`.
+//! Edits of a list. A refused call changes nothing. If several errors apply, the call returns the
+//! first of `Kind`, `Index`, `Depth`, `Capacity` and `Memory`.
 ghost use Rattle.std.specs.Prelude.{◌≡◌, ◌+◌, ◌-◌, ◌<◌, ◌≤◌, ◌↔◌, [], ◌∷◌, ◌++◌, None, Some, length, take, insert, remove, slice_get, slice_set, IfOk, IfSome, IsErrOf, IsSomeAnd, OnErr, OnOk};
 ghost use Rattle.ecow_nested.specs.Values.{depth_of, items_of, Covers, EditsItems, IsErrAmong, RisesAtMost};
 
@@ -13,6 +13,13 @@ use std::mem::replace;
 
 impl Value {
     /// Appends an item.
+    ///
+    /// # Errors
+    ///
+    /// `Kind` if the value is no list; `Depth` if `item` nests as deep as a value may; `Capacity`
+    /// if the list has 2^63 - 1 items; `Memory`. `item` is dropped.
+    ///
+    /// Takes constant time on average. A shared list is copied first.
     #[tactic(auto, using(crate::proofs::Parts::out_of_list, crate::proofs::Depths::pushed))]
     pub fn push(&mut self, item: Value) -> Result<(), Refusal>
         ensures change { EditsItems (λ items. items ++ item ∷ []) self.old result self.new }
@@ -34,7 +41,14 @@ impl Value {
         Ok(())
     }
 
-    /// Takes the last item.
+    /// Removes the last item and returns it.
+    ///
+    /// # Errors
+    ///
+    /// `Kind` if the value is no list; `Index` if the list is empty; `Memory`.
+    ///
+    /// Takes constant time, but a shared list is copied first. If the item was the deepest, the
+    /// depth of each other item is read.
     #[tactic(auto, using(crate::proofs::Parts::out_of_list, crate::proofs::Depths::taken_less))]
     pub fn pop(&mut self) -> Result<Value, Refusal>
         ensures change { EditsItems (λ items. take (length items - 1) items)
@@ -58,7 +72,15 @@ impl Value {
         }
     }
 
-    /// Puts `item` in place of the item at `index`.
+    /// Replaces the item at `index`.
+    ///
+    /// # Errors
+    ///
+    /// `Kind` if the value is no list; `Index` if it has no such item; `Depth` if `item` nests as
+    /// deep as a value may; `Memory`. `item` is dropped.
+    ///
+    /// Takes constant time, but a shared list is copied first. If the old item was the deepest, the
+    /// depth of each item is read.
     #[tactic(auto, using(crate::proofs::Parts::out_of_list, crate::proofs::Depths::set_less))]
     pub fn set(&mut self, index: usize, item: Value) -> Result<(), Refusal>
         ensures change { EditsItems (λ items. slice_set items index item)
@@ -86,8 +108,14 @@ impl Value {
         Ok(())
     }
 
-    /// Exchanges the item at `index` and `other`. So an item that holds a list itself is changed
-    /// outside this one and put in again, and no list is copied but a shared one.
+    /// Exchanges the item at `index` with `other`. To change a list within this list, swap it out,
+    /// change it, and swap it in again: then only shared lists are copied.
+    ///
+    /// # Errors
+    ///
+    /// As `set`; `other` is unchanged.
+    ///
+    /// Costs what `set` costs.
     #[tactic(auto, using(crate::proofs::Parts::out_of_list, crate::proofs::Depths::set_less))]
     pub fn swap(&mut self, index: usize, other: &mut Value) -> Result<(), Refusal>
         ensures change { EditsItems (λ items. slice_set items index other.old)
@@ -126,7 +154,15 @@ impl Value {
         }
     }
 
-    /// Puts `item` in at `index`, before the item that stands there.
+    /// Inserts an item before the one at `index`. At the length of the list it appends the item.
+    ///
+    /// # Errors
+    ///
+    /// `Kind` if the value is no list; `Index` if `index` is past the length; `Depth` if `item`
+    /// nests as deep as a value may; `Capacity` if the list has 2^63 - 1 items; `Memory`. `item` is
+    /// dropped.
+    ///
+    /// Moves the items after it. A shared list is copied first.
     #[tactic(auto, using(crate::proofs::Parts::out_of_list, crate::proofs::Depths::inserted))]
     pub fn insert(&mut self, index: usize, item: Value) -> Result<(), Refusal>
         ensures change { EditsItems (λ items. insert items index item) self.old result self.new }
@@ -154,7 +190,14 @@ impl Value {
         Ok(())
     }
 
-    /// Takes the item at `index`.
+    /// Removes the item at `index` and returns it.
+    ///
+    /// # Errors
+    ///
+    /// `Kind` if the value is no list; `Index` if it has no such item; `Memory`.
+    ///
+    /// Moves the items after it. A shared list is copied first. If the item was the deepest, the
+    /// depth of each other item is read.
     #[tactic(auto, using(crate::proofs::Parts::out_of_list, crate::proofs::Depths::removed_less))]
     pub fn remove(&mut self, index: usize) -> Result<Value, Refusal>
         ensures change { EditsItems (λ items. remove items index) self.old result self.new }
@@ -177,7 +220,13 @@ impl Value {
         Ok(item)
     }
 
-    /// Keeps the first `len` items, or all where there are fewer.
+    /// Shortens the list to its first `len` items. A list of no more items stays as it is.
+    ///
+    /// # Errors
+    ///
+    /// `Kind` if the value is no list; `Memory`.
+    ///
+    /// Reads the depth of each item that stays. A shared list copies those items.
     #[tactic(auto, using(crate::proofs::Parts::out_of_list, crate::proofs::Depths::taken_less))]
     pub fn truncate(&mut self, len: usize) -> Result<(), Refusal>
         ensures change { EditsItems (λ items. take len items) self.old result self.new }

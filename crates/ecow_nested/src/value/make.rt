@@ -1,4 +1,4 @@
-//! Containers made of their parts. A refusal drops them.
+//! Containers that are made from their parts. A refused call drops the parts.
 ghost use Rattle.std.specs.Prelude.{◌≡◌, ◌+◌, ◌≤◌, ◌↔◌, [], Some, IfErr, IfOk, IsErr};
 ghost use Rattle.ecow_nested.specs.Values.{depth_of, deepest, deepest_field, fields_of, items_of};
 
@@ -10,7 +10,7 @@ use ecow_list::EcoVec;
 use std::alloc::Global;
 
 impl Value {
-    /// A list of no items. Takes no memory.
+    /// Makes an empty list. Takes no memory.
     #[tactic(auto, using(crate::proofs::Parts::out_of_list))]
     pub fn new_list(alloc: Global) -> Value
         ensures items { items_of result ≡ Some [] }
@@ -22,7 +22,7 @@ impl Value {
         })
     }
 
-    /// A value with no fields. Takes no memory.
+    /// Makes a value with empty fields. Takes no memory.
     #[tactic(auto, using(crate::proofs::Parts::out_of_fields))]
     pub fn new_fields(alloc: Global) -> Value
         ensures fields { fields_of result ≡ Some [] }
@@ -34,7 +34,13 @@ impl Value {
         })
     }
 
-    /// The list of these items. Answers `Depth` where one of them nests as deep as a value may.
+    /// Makes a list of these items.
+    ///
+    /// # Errors
+    ///
+    /// `Depth` if an item nests as deep as a value may.
+    ///
+    /// Reads the depth of each item, and takes no memory.
     #[tactic(auto, using(crate::proofs::Parts::out_of_list))]
     pub fn from_items(items: EcoVec<Value>) -> Result<Value, Refusal>
         ensures items { IfOk result (λ list. items_of list ≡ Some items) }
@@ -50,7 +56,13 @@ impl Value {
         Ok(Value::List(Nested { items, depth }))
     }
 
-    /// The value with these fields. Answers `Depth` where one of them nests as deep as a value may.
+    /// Makes a value with these fields.
+    ///
+    /// # Errors
+    ///
+    /// `Depth` if the value of a field nests as deep as a value may.
+    ///
+    /// Reads the depth of each field, and takes no memory.
     #[tactic(auto, using(crate::proofs::Parts::out_of_fields))]
     pub fn from_fields(fields: Fields<Value>) -> Result<Value, Refusal>
         ensures fields { IfOk result (λ value. fields_of value ≡ Some fields) }

@@ -7,7 +7,7 @@ use crate::value::Value;
 use ecow_string::EcoString;
 
 impl Value {
-    /// How many items a list has, or how many fields there are; `None` where this is neither.
+    /// The number of items of a list, or of fields; `None` if the value is no container.
     pub fn len(&self) -> Option<usize>
         ensures { result ≡ len_of self.now }
     {
@@ -18,7 +18,11 @@ impl Value {
         }
     }
 
-    /// The item of a list, or the value of a field, at `index`.
+    /// The item of a list, or the value of the field, at `index`.
+    ///
+    /// # Errors
+    ///
+    /// `Kind` if the value is no container; `Index` if it has no such part.
     pub fn part(&self, index: usize) -> Result<&Value, Refusal>
         ensures ok { IfOk result (λ part. part_of self.now index ≡ Some part.now) }
         ensures kind { IsErrOf result Refusal.Kind ↔ (len_of self.now ≡ None) }
@@ -40,6 +44,10 @@ impl Value {
     }
 
     /// The name of the field at `index`.
+    ///
+    /// # Errors
+    ///
+    /// `Kind` if the value has no fields; `Index` if there is no such field.
     pub fn name(&self, index: usize) -> Result<&EcoString, Refusal>
         ensures ok { IfOk result (λ name. IfSome (fields_of self.now)
             (λ fields. name_in (slice_get fields index) ≡ Some name.now)) }

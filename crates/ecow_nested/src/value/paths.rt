@@ -1,5 +1,5 @@
-//! Parts by paths. What a path leads to is read, or replaced where it stands. A refusal changes
-//! nothing.
+//! Parts by lookup paths. What a path leads to is read, or replaced in its place. A refused call
+//! changes nothing.
 ghost use Rattle.std.specs.Prelude.{◌≡◌, ◌≢◌, ◌+◌, ◌≤◌, ◌<◌, ◌↔◌, length, max, [], ◌∷◌, List, None, Some, IfSome, OnOk, OnErr, IsErrOf, MatchOption, slice_get, slice_set};
 ghost use Rattle.std.specs.Option.{option_and_then};
 ghost use Rattle.ecow_nested.specs.Names.{named};
@@ -20,14 +20,14 @@ use std::mem::swap;
 /// A step from a value to one of its parts.
 #[derive(Clone, Debug, Drop, PartialEq)]
 pub enum Step {
-    /// To the item of a list at that index.
+    /// To the item of a list at this index.
     Index(usize),
-    /// To the value of the first field of that name.
+    /// To the value of the first field with this name.
     Name(EcoString),
 }
 
 impl Value {
-    /// The part that a step leads to, if there is one.
+    /// The part that a step leads to; `None` if there is none.
     fn step(&self, step: &Step) -> Option<&Value>
         ensures { MatchOption result (part_at self.now step.now ≡ None)
             (λ part. part_at self.now step.now ≡ Some part.now) }
@@ -38,7 +38,8 @@ impl Value {
         }
     }
 
-    /// The value that the path leads to, if there is one.
+    /// The value that a path leads to; `None` if there is none. The empty path leads to the value
+    /// itself.
     pub fn at(&self, path: &[Step]) -> Option<&Value>
         ensures { MatchOption result (value_at self.now path.now ≡ None)
             (λ value. value_at self.now path.now ≡ Some value.now) }
@@ -49,10 +50,14 @@ impl Value {
         }
     }
 
-    /// Exchanges the value that the path leads to and `other`, where it stands: of the lists and
-    /// fields on the way those alone are copied that are shared. Answers `Index` where the path
-    /// leads to no value, else `Depth` where the steps and the depth of `other` come to more than
-    /// `MAX_DEPTH`, and `Memory`.
+    /// Exchanges the value that a path leads to with `other`, in its place.
+    ///
+    /// # Errors
+    ///
+    /// `Index` if the path leads to no value; `Depth` if the number of steps and the depth of
+    /// `other` add up to more than `MAX_DEPTH`; `Memory`. `other` is unchanged.
+    ///
+    /// Copies only the shared lists and fields on the path, and none below its end.
     pub fn swap_at(&mut self, path: &[Step], other: &mut Value) -> Result<(), Refusal>
         ensures set { OnOk result (IsSet path.now other.old self.old self.new) }
         ensures other { OnOk result (value_at self.old path.now ≡ Some other.new) }
@@ -76,7 +81,13 @@ impl Value {
         self.exchange_at(path, other)
     }
 
-    /// Puts `value` in place of the one that the path leads to, as `swap_at` does.
+    /// Replaces the value that a path leads to.
+    ///
+    /// # Errors
+    ///
+    /// As `swap_at`; `value` is dropped.
+    ///
+    /// Costs what `swap_at` costs.
     pub fn set_at(&mut self, path: &[Step], mut value: Value) -> Result<(), Refusal>
         ensures set { OnOk result (IsSet path.now value self.old self.new) }
         ensures covers { Covers self.old → Covers value → Covers self.new }
@@ -91,8 +102,8 @@ impl Value {
         self.swap_at(path, &mut value)
     }
 
-    /// Exchanges them as `swap_at` does, but may copy what is shared before it finds that the path
-    /// leads to no value.
+    /// Does what `swap_at` does, but may copy shared lists before it finds that the path leads to
+    /// no value.
     #[cycle(exchange)]
     fn exchange_at(&mut self, path: &[Step], other: &mut Value) -> Result<(), Refusal>
         requires { length path.now + depth_of other.old ≤ MAX_DEPTH }
@@ -129,7 +140,7 @@ impl Value {
     }
 }
 
-/// Exchanges the value that a path leads to from the item of that index, and `other`.
+/// Exchanges the value that a path leads to from the item at `index` with `other`.
 #[cycle(exchange)]
 fn exchange_in_item(
     nested: &mut Nested<EcoVec<Value>>,
@@ -170,7 +181,7 @@ fn exchange_in_item(
     Ok(())
 }
 
-/// Exchanges the value that a path leads to from the first field of that name, and `other`.
+/// Exchanges the value that a path leads to from the first field with this name with `other`.
 #[cycle(exchange)]
 fn exchange_in_field(
     nested: &mut Nested<Fields<Value>>,
@@ -208,7 +219,7 @@ fn exchange_in_field(
     Ok(())
 }
 
-/// Exchanges the value that a path leads to from the field at `at`, and `other`.
+/// Exchanges the value that a path leads to from the field at `at` with `other`.
 #[cycle(exchange)]
 fn exchange_in_place(
     fields: &mut Fields<Value>,

@@ -1,4 +1,4 @@
-//! What stands under a name, read without a command.
+//! Reads the value under a name without a command.
 ghost use Rattle.std.specs.Prelude.{◌≡◌};
 ghost use Rattle.std.specs.Option.{option_copied, option_map};
 ghost use Rattle.std.specs.Str.{encode_utf8_all};
@@ -9,7 +9,7 @@ use ecow_model::Name;
 use ecow_model::value::Value;
 
 impl<T, const N: usize> NamedValues<Stored<T, N>> {
-    /// The list of a name; `None` where no list stands there. Takes no memory.
+    /// The list under a name; `None` if there is none. Takes no memory.
     pub fn get(&self, name: Name) -> Option<&[T]>
         ensures { option_copied result ≡ vec_under self.now name }
     {
@@ -19,7 +19,7 @@ impl<T, const N: usize> NamedValues<Stored<T, N>> {
         }
     }
 
-    /// The bytes of a name; `None` where no bytes stand there. Takes no memory.
+    /// The bytes under a name; `None` if there are none. Takes no memory.
     pub fn get_bytes(&self, name: Name) -> Option<&[u8]>
         ensures { option_copied result ≡ option_map (λ value. value.bytes)
             (bytes_under self.now name) }
@@ -30,7 +30,7 @@ impl<T, const N: usize> NamedValues<Stored<T, N>> {
         }
     }
 
-    /// The text of a name; `None` where no text stands there. Takes no memory.
+    /// The text under a name; `None` if there is none. Takes no memory.
     pub fn get_str(&self, name: Name) -> Option<&str>
         ensures { option_copied result ≡ option_map (λ text. encode_utf8_all text.chars)
             (text_under self.now name) }
