@@ -1,5 +1,5 @@
-//! Loops of one call of `EcoBytes` each, in the form of those of the vector: `bytes` are what the
-//! value is made of. Other loops go round `pairs`.
+//! Loops that repeat one call of `EcoBytes`, in the form of the vector's loops. The value is made
+//! from `bytes`. `pairs` has more loops.
 
 use crate::pairs::Seen;
 use crate::rounds::sum_of;
@@ -14,7 +14,7 @@ pub(crate) fn bytes_of(alloc: Global, bytes: &[u8]) -> EcoBytes {
     }
 }
 
-/// Makes a value from one slice or another that equals it, by turns, and drops it.
+/// Makes a value from a slice and drops it. Two equal slices take turns.
 pub(crate) fn from_slice(alloc: Global, bytes: &[u8], count: u64) -> u64 {
     let odd = bytes_of(alloc, bytes);
     sum_of(count, |round| {
@@ -36,7 +36,7 @@ fn pushed(alloc: Global, bytes: &[u8]) -> EcoBytes {
     value
 }
 
-/// Fills a new value by pushes.
+/// Fills an empty value by pushes.
 pub(crate) fn push(alloc: Global, bytes: &[u8], count: u64) -> u64 {
     sum_of(count, |_| pushed(alloc, bytes).len() as u64)
 }
@@ -50,12 +50,12 @@ fn extended(alloc: Global, bytes: &[u8]) -> EcoBytes {
     value
 }
 
-/// Appends the slice ten times to a new value.
+/// Appends the slice ten times to an empty value.
 pub(crate) fn extend(alloc: Global, bytes: &[u8], count: u64) -> u64 {
     sum_of(count, |_| extended(alloc, bytes).len() as u64)
 }
 
-/// Makes a value of a thousand copies.
+/// Makes a value of a thousand copies of the slice.
 pub(crate) fn repeat(alloc: Global, bytes: &[u8], count: u64) -> u64 {
     let value = bytes_of(alloc, bytes);
     sum_of(
@@ -70,7 +70,8 @@ fn inserted(value: &mut EcoBytes, bytes: &[u8]) {
     let _done = value.insert_slice(middle, bytes);
 }
 
-/// Puts the slice into the middle of a value made from it, and keeps as many bytes as there were.
+/// Inserts the slice into the middle of a value that is made from it, and truncates it to the old
+/// length.
 pub(crate) fn insert_slice(alloc: Global, bytes: &[u8], count: u64) -> u64 {
     let mut value = bytes_of(alloc, bytes);
     let mut sum = 0u64;

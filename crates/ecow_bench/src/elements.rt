@@ -1,10 +1,10 @@
-//! What the lists of the loops hold.
+//! The elements of the lists in the loops.
 
 use ecow_list::EcoVec;
 use std::alloc::{AllocError, Global};
 use std::hash::Hash;
 
-/// An element that is made of a number, and of which a number is seen.
+/// An element that is made from a number, and gives a number for the sum.
 pub(crate) trait Element: Clone + Drop + Ord + Hash {
     fn from_number(alloc: Global, number: u64) -> Result<Self, AllocError>;
 

@@ -1,11 +1,11 @@
-//! An undo history: a document in three levels, of which a clone is kept before each edit.
+//! An undo history: a document in three levels. A clone of it is kept before each edit.
 
 use crate::random::{Random, part, prose};
 use ecow_list::{EcoError, EcoVec};
 use ecow_string::EcoString;
 use std::alloc::Global;
 
-/// How many lines stand in a part, and how many parts on a page.
+/// How many lines a part has, and how many parts a page has.
 const FAN: usize = 50;
 
 /// The most letters of a line at first.
@@ -17,7 +17,7 @@ type Page = EcoVec<Lines>;
 
 type Document = EcoVec<Page>;
 
-/// A document of so many lines.
+/// A document of this many lines.
 fn document_of(
     alloc: Global,
     random: &mut Random,
@@ -43,12 +43,12 @@ fn few_lines(alloc: Global, random: &mut Random, prose: &str) -> Result<Lines, E
     Ok(few)
 }
 
-/// What stands in a document, at each of its levels.
+/// What a document consists of, at each of its levels.
 trait Part {
-    /// Puts a letter into some line.
+    /// Inserts a letter into a random line.
     fn edit(&mut self, random: &mut Random) -> Result<(), EcoError>;
 
-    /// The length of some line; 0 where there is none.
+    /// The length of a random line; 0 if there is none.
     fn looked_at(&self, random: &mut Random) -> u64;
 }
 
@@ -85,7 +85,7 @@ impl<T: Part + Clone> Part for EcoVec<T> {
     }
 }
 
-/// Edits a document so often, keeps what it was before each edit, and goes back.
+/// Edits a document this many times, keeps a clone before each edit, and goes back.
 pub(crate) fn history(alloc: Global, lines: usize, edits: u64) -> Result<u64, EcoError> {
     let mut random = Random::new();
     let prose = prose(alloc, &mut random)?;

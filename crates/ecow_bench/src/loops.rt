@@ -1,6 +1,6 @@
-//! Loops of one call of `EcoVec` each, or of a few. `items` are the elements of the list, and the
-//! loop goes round `count` times; a function returns a sum of what it saw. Where memory is refused
-//! a loop does less, and its sum tells.
+//! Loops that repeat one call of `EcoVec`, or a few. The vector has the elements `items`, and the
+//! loop is repeated `count` times. Each function returns a sum of what it saw. If memory is
+//! refused, a loop does less, and returns another sum.
 
 use crate::elements::Element;
 use crate::rounds::sum_of;
@@ -15,7 +15,7 @@ pub(crate) fn list_of<T: Element>(alloc: Global, items: &[T]) -> EcoVec<T> {
     }
 }
 
-/// Fills a new vector by pushes.
+/// Fills an empty vector by pushes.
 pub(crate) fn push<T: Element + Copy>(alloc: Global, items: &[T], count: u64) -> u64 {
     sum_of(count, |_| {
         let mut list = EcoVec::new(alloc);
@@ -52,7 +52,7 @@ pub(crate) fn clone_push<T: Element + Copy>(alloc: Global, items: &[T], count: u
     sum
 }
 
-/// Fills a vector, which has room, from the slice, and pops all.
+/// Fills a vector that has the capacity from the slice, and pops all elements.
 pub(crate) fn pop<T: Element>(alloc: Global, items: &[T], count: u64) -> u64 {
     let mut list = list_of(alloc, items);
     let mut sum = 0u64;
@@ -67,7 +67,7 @@ pub(crate) fn pop<T: Element>(alloc: Global, items: &[T], count: u64) -> u64 {
     sum
 }
 
-/// Takes the element in the middle out and puts it in again.
+/// Removes the element in the middle and inserts it again.
 pub(crate) fn insert_remove<T: Element>(alloc: Global, items: &[T], count: u64) -> u64 {
     let mut list = list_of(alloc, items);
     let middle = items.len() / 2;
@@ -85,7 +85,7 @@ pub(crate) fn insert_remove<T: Element>(alloc: Global, items: &[T], count: u64) 
     sum
 }
 
-/// Takes the first element out and appends it.
+/// Removes the first element and appends it.
 pub(crate) fn remove_first<T: Element>(alloc: Global, items: &[T], count: u64) -> u64 {
     let mut list = list_of(alloc, items);
     let mut sum = 0u64;
@@ -115,12 +115,12 @@ pub(crate) fn update(alloc: Global, items: &[u64], count: u64) -> u64 {
     sum
 }
 
-/// Makes a vector of the slice.
+/// Makes a vector from the slice.
 pub(crate) fn from_slice<T: Element>(alloc: Global, items: &[T], count: u64) -> u64 {
     sum_of(count, |_| list_of(alloc, items).len() as u64)
 }
 
-/// Appends the slice to a new vector.
+/// Appends the slice to an empty vector.
 pub(crate) fn extend<T: Element>(alloc: Global, items: &[T], count: u64) -> u64 {
     sum_of(count, |_| {
         let mut list = EcoVec::new(alloc);
@@ -129,7 +129,7 @@ pub(crate) fn extend<T: Element>(alloc: Global, items: &[T], count: u64) -> u64 
     })
 }
 
-/// Appends the slice to a new vector in pieces of at most eight.
+/// Appends the slice to an empty vector in pieces of at most eight elements.
 pub(crate) fn extend_pieces<T: Element>(alloc: Global, items: &[T], count: u64) -> u64 {
     sum_of(count, |_| {
         let mut list = EcoVec::new(alloc);
@@ -140,7 +140,7 @@ pub(crate) fn extend_pieces<T: Element>(alloc: Global, items: &[T], count: u64) 
     })
 }
 
-/// Appends the slice to a vector of at most a thousand elements, which is emptied now and then.
+/// Appends the slice to a vector, which is cleared whenever it has more than a thousand elements.
 pub(crate) fn extend_few<T: Element>(alloc: Global, items: &[T], count: u64) -> u64 {
     let mut list = EcoVec::new(alloc);
     let mut sum = 0u64;
@@ -154,7 +154,7 @@ pub(crate) fn extend_few<T: Element>(alloc: Global, items: &[T], count: u64) -> 
     sum
 }
 
-/// A clone that is borrowed for writing, with two elements exchanged.
+/// Makes a clone, borrows it for writing, and exchanges two elements.
 fn written<T: Element>(list: &EcoVec<T>) -> Option<EcoVec<T>> {
     let mut copy = cloned(list)?;
     if let Ok(slice) = copy.make_mut()
@@ -198,8 +198,8 @@ pub(crate) fn retain<T: Element>(alloc: Global, items: &[T], count: u64) -> u64 
     })
 }
 
-/// Fills a vector from the slice, and puts the last third of the slice in place of the quarter of
-/// it that begins at its middle.
+/// Fills a vector from the slice, and replaces the quarter that begins at the middle by the last
+/// third of the slice.
 pub(crate) fn splice<T: Element + Copy>(alloc: Global, items: &[T], count: u64) -> u64 {
     let added = &items[items.len() - items.len() / 3..];
     let (start, end) = quarter(items);
@@ -218,13 +218,13 @@ pub(crate) fn splice<T: Element + Copy>(alloc: Global, items: &[T], count: u64) 
     sum
 }
 
-/// Where the quarter of a slice begins and ends that begins at its middle.
+/// The range of the quarter that begins at the middle of a slice.
 fn quarter<T>(items: &[T]) -> (usize, usize) {
     let start = items.len() / 2;
     (start, start + items.len() / 4)
 }
 
-/// Fills a vector from the slice, and takes the quarter out that begins at its middle.
+/// Fills a vector from the slice, and drains the quarter that begins at the middle.
 pub(crate) fn drain<T: Element>(alloc: Global, items: &[T], count: u64) -> u64 {
     let (start, end) = quarter(items);
     let mut sum = 0u64;
@@ -251,7 +251,7 @@ fn total<T: Element>(list: &EcoVec<T>) -> u64 {
     sum
 }
 
-/// Adds up the elements of the one and of the other of two vectors by reference, by turns.
+/// Adds up the elements of two vectors by reference. The vectors take turns.
 pub(crate) fn iter<T: Element>(alloc: Global, items: &[T], count: u64) -> u64 {
     let (even, odd) = (list_of(alloc, items), list_of(alloc, items));
     sum_of(
@@ -260,7 +260,7 @@ pub(crate) fn iter<T: Element>(alloc: Global, items: &[T], count: u64) -> u64 {
     )
 }
 
-/// Fills a vector from the slice and adds its elements up by value.
+/// Fills a vector from the slice, and adds up its elements by value.
 pub(crate) fn into_iter<T: Element>(alloc: Global, items: &[T], count: u64) -> u64 {
     let mut sum = 0u64;
     for _ in 0..count {

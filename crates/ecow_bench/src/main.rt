@@ -1,7 +1,7 @@
-//! What `make bench` times: `ecow_bench CALL ELEMENT LENGTH COUNT` goes round one loop on a list of
-//! so many elements, or on so many bytes, letters or parts where CALL begins with `bytes_`, `text_`
-//! or `nested_`, and prints a sum of what it saw. `ecow_bench NAME workload SIZE COUNT` runs a whole
-//! program. Without arguments it runs each program on little.
+//! What `make bench` times. `ecow_bench CALL ELEMENT LENGTH COUNT` repeats a loop COUNT times on a
+//! list of LENGTH elements, and prints a sum of what it saw. If CALL begins with `bytes_`, `text_`
+//! or `nested_`, the loop is on LENGTH bytes, letters or parts. `ecow_bench NAME workload SIZE
+//! COUNT` runs a whole program. Without arguments it runs each whole program at two small sizes.
 #![tactic(auto)]
 
 mod bytes;
@@ -42,7 +42,7 @@ fn main(rt: HostRuntime) -> io::Result<()> {
     }
 }
 
-/// What a workload saw, or 0 where there is no such one or no memory.
+/// What a whole program saw; 0 if there is no such program or no memory.
 fn workload(alloc: Global, name: &str, length: usize, count: u64) -> u64 {
     let seen: Result<u64, EcoError> = match name {
         "history" => history::history(alloc, length, count),
@@ -54,7 +54,7 @@ fn workload(alloc: Global, name: &str, length: usize, count: u64) -> u64 {
     seen.unwrap_or(0)
 }
 
-/// Prints what each whole program saw of little.
+/// Prints what each whole program saw at small sizes.
 fn print_all(rt: &HostRuntime) -> io::Result<()> {
     for (name, length, count) in WORKLOADS {
         println!(rt; "{name} {}", workload(rt.alloc(), name, length, count))?;
@@ -62,7 +62,7 @@ fn print_all(rt: &HostRuntime) -> io::Result<()> {
     Ok(())
 }
 
-/// Prints what the loop of one call saw, `count` times on so many elements.
+/// Prints what the loop of one call saw, on `len` elements and `count` times.
 fn print_one(
     rt: &HostRuntime,
     call: &str,
@@ -87,8 +87,8 @@ fn arguments(rt: &(impl Env + AllocGlobal)) -> io::Result<Vec<String>> {
     Ok(words.collect(rt.alloc())?)
 }
 
-/// Numbers in no order. One large block is given back first, so that the C library keeps such
-/// blocks from then on.
+/// Unordered numbers. A large block is freed first, so that the C library keeps such blocks from
+/// then on.
 fn numbers(alloc: Global, length: usize) -> Result<Vec<u64>, AllocError> {
     let large: Vec<u8> = Vec::with_capacity(alloc, 32505856)?;
     drop(large);
@@ -103,8 +103,8 @@ fn numbers(alloc: Global, length: usize) -> Result<Vec<u64>, AllocError> {
     Ok(numbers)
 }
 
-/// What a loop saw, or 0 where there is no such call. All loops on lists are for numbers, and some
-/// for other elements.
+/// What a loop saw; 0 if there is no such call. All loops on lists are for numbers, and some are
+/// for other elements, too.
 fn sum(
     alloc: Global,
     call: &str,
@@ -133,7 +133,7 @@ fn sum(
     }
 }
 
-/// As many lower case letters as there are numbers.
+/// A lower case letter for each number.
 fn prose(alloc: Global, items: &[u64]) -> Result<String, AllocError> {
     let mut prose = String::with_capacity(alloc, items.len())?;
     for item in items {
@@ -161,7 +161,7 @@ fn sum_of_texts(alloc: Global, call: &str, text: &str, count: u64) -> u64 {
     }
 }
 
-/// As many bytes as there are numbers.
+/// A byte for each number.
 fn letters(alloc: Global, items: &[u64]) -> Result<Vec<u8>, AllocError> {
     let mut letters = Vec::with_capacity(alloc, items.len())?;
     for item in items {
@@ -182,7 +182,7 @@ fn sum_of_bytes(alloc: Global, call: &str, bytes: &[u8], count: u64) -> u64 {
     }
 }
 
-/// The list's elements, made of the numbers.
+/// The elements of the list, made from the numbers.
 fn elements_of<T: Element>(alloc: Global, numbers: &[u64]) -> Result<Vec<T>, AllocError> {
     let mut items = Vec::with_capacity(alloc, numbers.len())?;
     for number in numbers {

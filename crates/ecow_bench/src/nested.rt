@@ -1,4 +1,4 @@
-//! Loops of calls of nested values, whose lists and fields have so many parts, and a last one.
+//! Loops of calls of nested values. Their lists and fields have a number of parts and a last one.
 
 use ecow_nested::{Refusal, Step, Value};
 use ecow_string::{EcoString, ToEcoString};
@@ -15,22 +15,29 @@ fn list(alloc: Global, len: usize, last: Value) -> Result<Value, Refusal> {
     Ok(list)
 }
 
+/// Fields of which the first was removed halfway and appended again, so that the index of names was
+/// dropped, and made anew some fields later.
 fn fields(alloc: Global, len: usize, last: Value) -> Result<Value, Refusal> {
     let mut fields = Value::new_fields(alloc);
     for number in 0..len {
         let name = number.to_eco_string(alloc).map_err(|_| Refusal::Memory)?;
         fields.push_field(name.as_str(), Value::Number(0))?;
+        if number == len / 2 {
+            let first = fields.remove_field("0")?;
+            fields.push_field("0", first)?;
+        }
     }
     fields.push_field(LAST, last)?;
     Ok(fields)
 }
 
-/// How many parts there were in all rounds of a call.
+/// Makes rounds of one call, and adds up how many parts the value has after each. The item that
+/// `nested_set` replaces is the only one of the list that is a list itself.
 pub(crate) fn sum(alloc: Global, call: &str, len: usize, count: u64) -> Result<u64, Refusal> {
     let name = Step::Name(EcoString::inline(alloc, LAST));
     let path = [Step::Index(len), name.clone()?, Step::Index(len), name];
     let mut value = match call {
-        "nested_set" => list(alloc, len, Value::Nothing)?,
+        "nested_set" => list(alloc, len, Value::new_list(alloc))?,
         "nested_set_at" => {
             let inner = list(alloc, len, fields(alloc, len, Value::Nothing)?)?;
             list(alloc, len, fields(alloc, len, inner)?)?
@@ -40,7 +47,7 @@ pub(crate) fn sum(alloc: Global, call: &str, len: usize, count: u64) -> Result<u
     let mut sum = 0u64;
     for _ in 0..count {
         match call {
-            "nested_set" => value.set(len, Value::Nothing)?,
+            "nested_set" => value.set(len, Value::new_list(alloc))?,
             "nested_set_field" => value.set_field(LAST, Value::Nothing)?,
             "nested_set_at" => value.set_at(&path, Value::Nothing)?,
             "nested_push_field" => value = fields(alloc, len, Value::Nothing)?,

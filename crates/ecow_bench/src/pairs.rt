@@ -1,5 +1,5 @@
-//! Loops of calls that vectors, bytes and texts have alike, and that leave their values as they
-//! are: two of them, `even` and `odd`, take turns.
+//! Loops of calls that vectors, bytes and texts have in common, and that only read. Two values,
+//! `even` and `odd`, take turns.
 
 use crate::rounds::sum_of;
 use ecow_bytes::EcoBytes;
@@ -12,7 +12,7 @@ fn same<V: PartialEq>(left: &V, right: &V) -> bool {
     left == right
 }
 
-/// Compares a value with one and with another that equals it, by turns.
+/// Compares a value with two others that equal it, which take turns.
 fn eq<V: PartialEq>(one: &V, even: &V, odd: &V, count: u64) -> u64 {
     sum_of(count, |round| {
         let other = if round % 2 == 0 { even } else { odd };
@@ -25,7 +25,7 @@ fn compared<V: Ord>(left: &V, right: &V) -> Ordering {
     left.cmp(right)
 }
 
-/// Orders a value and one or another that equals it, by turns.
+/// Finds the order of a value and of two others that equal it, which take turns.
 fn cmp<V: Ord>(one: &V, even: &V, odd: &V, count: u64) -> u64 {
     sum_of(count, |round| {
         let other = if round % 2 == 0 { even } else { odd };
@@ -44,7 +44,7 @@ fn hashed<V: Hash>(value: &V) -> u64 {
     hasher.finish()
 }
 
-/// Hashes one value and another that equals it, by turns.
+/// Hashes two equal values, which take turns.
 fn hash<V: Hash>(even: &V, odd: &V, count: u64) -> u64 {
     sum_of(
         count,
@@ -52,7 +52,7 @@ fn hash<V: Hash>(even: &V, odd: &V, count: u64) -> u64 {
     )
 }
 
-/// A value of which something is seen that stands in memory.
+/// A value of which a loop sees something that is in memory.
 pub(crate) trait Seen {
     /// Its length and its last byte.
     fn seen(&self) -> u64;
@@ -79,7 +79,7 @@ impl Seen for EcoString {
     }
 }
 
-/// Makes a clone of one value or of another that was made alike, by turns, and drops it.
+/// Makes a clone and drops it. Two values that were made alike take turns.
 pub(crate) fn clone<V: Clone + Drop + Seen, F: FnMut() -> V>(mut made: F, count: u64) -> u64
     requires { F.IsAlwaysCallable made }
 {
@@ -90,7 +90,7 @@ pub(crate) fn clone<V: Clone + Drop + Seen, F: FnMut() -> V>(mut made: F, count:
     })
 }
 
-/// What a loop saw of values that are made alike, or 0 where there is no such call.
+/// What a loop saw of values that are made alike; 0 if there is no such call.
 pub(crate) fn compare<V: Drop + Ord + Hash, F: FnMut() -> V>(
     call: &str,
     mut made: F,

@@ -1,11 +1,12 @@
-//! What the workloads are made of: numbers and parts of a text, in no order and each time the same.
+//! What the whole programs are made from: pseudo-random numbers and parts of a text, the same in
+//! each run.
 
 use std::alloc::{AllocError, Global};
 
-/// How many letters there are.
+/// The number of letters.
 pub(crate) const PROSE: usize = 4096;
 
-/// Numbers, each from the last.
+/// A generator of numbers, each from the one before.
 #[derive(Drop)]
 pub(crate) struct Random {
     state: u64,
@@ -37,13 +38,13 @@ impl Random {
 pub(crate) fn prose(alloc: Global, random: &mut Random) -> Result<String, AllocError> {
     let mut prose = String::with_capacity(alloc, PROSE)?;
     for _ in 0..PROSE {
-        // The second remainder is for the proof alone.
+        // The second remainder is only for the proof.
         prose.push(char::from(b'a' + (random.below(26) % 26) as u8))?;
     }
     Ok(prose)
 }
 
-/// A part of the letters, of at most so many.
+/// A random part of the letters, of at most `longest` letters.
 pub(crate) fn part<'a>(random: &mut Random, prose: &'a str, longest: usize) -> &'a str {
     let length = random.below(longest.saturating_add(1));
     let start = random.below(PROSE.saturating_sub(longest));

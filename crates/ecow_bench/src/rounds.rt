@@ -1,6 +1,6 @@
-//! Rounds of a loop, of which each sees a number.
+//! Rounds of a loop, each of which sees a number.
 
-/// The sum of what so many rounds see. Each is told how many came before it.
+/// The sum of what `count` rounds see. Each round gets the number of rounds before it.
 pub(crate) fn sum_of<F: FnMut(u64) -> u64>(count: u64, mut seen: F) -> u64
     requires { F.IsAlwaysCallable seen }
 {

@@ -1,12 +1,12 @@
-//! A symbol table: words that are read, found or kept once, and bound in scopes that are forked.
+//! A symbol table: each word is read and kept once, and bound in scopes that are forked.
 
 use crate::random::Random;
 use ecow_list::{EcoError, EcoVec};
 use ecow_string::EcoString;
 use std::alloc::{AllocError, Global};
 
-/// The names that were read, each once, and a table that finds their numbers: each number stands
-/// one higher there, and 0 in a gap.
+/// The names that were read, each once, and a table that finds their numbers. An entry of the table
+/// is the number plus one, or 0 for a gap.
 #[derive(Drop)]
 struct Interner {
     alloc: Global,
@@ -17,7 +17,7 @@ struct Interner {
 /// A name's number, and where it was bound.
 type Scope = EcoVec<(u32, u32)>;
 
-/// The number in 32 bits, into which all that this program counts go.
+/// The number in 32 bits, which all numbers of this program fit.
 fn narrow(number: usize) -> u32 {
     u32::try_from(number).unwrap_or(u32::MAX)
 }
@@ -40,12 +40,12 @@ impl Interner {
         })
     }
 
-    /// The name that has this number in the table.
+    /// The name whose entry in the table is this one.
     fn name(&self, number: u32) -> Option<&EcoString> {
         self.names.as_slice().get((number as usize).wrapping_sub(1))
     }
 
-    /// Whether a place holds this word, or nothing.
+    /// Whether a place of the table has this word or is a gap.
     fn fits(&self, place: usize, word: &str) -> bool {
         match self.table.get(place) {
             Some(0) => true,
@@ -77,7 +77,7 @@ impl Interner {
         }
     }
 
-    /// Twice as many places.
+    /// Doubles the places of the table.
     fn grow(&mut self) -> Result<(), AllocError> {
         self.table = Vec::from_elem(self.alloc, 0u32, self.table.len().saturating_mul(2))?;
         for number in 0..self.names.len() {
@@ -89,7 +89,7 @@ impl Interner {
         Ok(())
     }
 
-    /// The number of a word, a new one where it wasn't read before.
+    /// The number of a word; a new one if the word wasn't read before.
     fn intern(&mut self, word: &str) -> Result<u32, EcoError> {
         let place = self.place(word);
         let found = match self.table.get(place) {
@@ -109,7 +109,7 @@ impl Interner {
     }
 }
 
-/// Writes the word with this number: mostly three to twelve letters, now and then eight more.
+/// Writes the word with this number: mostly of three to twelve letters, sometimes of eight more.
 fn spell(word: &mut String, number: u64) -> Result<(), AllocError> {
     word.clear();
     let mut letters = number.wrapping_add(1).wrapping_mul(0x9E3779B97F4A7C15);
@@ -126,7 +126,7 @@ fn spell(word: &mut String, number: u64) -> Result<(), AllocError> {
     Ok(())
 }
 
-/// Where a name was bound last, among the last 16.
+/// Where a name was bound last, among the last 16 bindings.
 fn bound(scope: &Scope, symbol: u32) -> u64 {
     for bound in scope.as_slice().iter().rev().take(16) {
         if bound.0 == symbol {
@@ -136,7 +136,8 @@ fn bound(scope: &Scope, symbol: u32) -> u64 {
     1
 }
 
-/// Reads so many words, finds or keeps each, and binds some in scopes that are forked and left.
+/// Reads this many words, finds or keeps each, and binds some of them in scopes that are forked and
+/// left.
 pub(crate) fn symbols(alloc: Global, bits: usize, words: u64) -> Result<u64, EcoError> {
     let mut random = Random::new();
     let mut word = String::new(alloc);
@@ -146,8 +147,8 @@ pub(crate) fn symbols(alloc: Global, bits: usize, words: u64) -> Result<u64, Eco
     let mut outer: Vec<Scope> = Vec::new(alloc);
     let mut sum = 0u64;
     for at in 0..words {
-        // Of 2, 4, 8, .. words by turns, so that few words are frequent. The remainder by 63 is for
-        // the proof alone.
+        // One of 2, 4, 8, .. words in turn, so that few words are frequent. The remainder by 63 is
+        // only for the proof.
         let range = 1usize << (random.below(bits) % 63 + 1);
         spell(&mut word, random.below(range) as u64)?;
         let symbol = interner.intern(word.as_str())?;

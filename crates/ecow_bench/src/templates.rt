@@ -1,21 +1,21 @@
-//! A template that is filled again and again, each time with one value more that is new.
+//! A template that is filled many times, each time with one more new value.
 
 use crate::random::{Random, part, prose};
 use ecow_list::{EcoError, EcoVec};
 use ecow_string::EcoString;
 use std::alloc::Global;
 
-/// How many values there are.
+/// The number of values.
 const NAMES: usize = 20;
 
-/// A part of the template: a text, and which value stands behind it.
+/// A part of the template: a text, and the number of the value after it.
 #[derive(Drop)]
 struct Hole {
     literal: EcoString,
     name: usize,
 }
 
-/// A template with so many holes.
+/// A template with this many holes.
 fn template(
     alloc: Global,
     random: &mut Random,
@@ -41,7 +41,7 @@ fn values(alloc: Global, random: &mut Random, prose: &str) -> Result<EcoVec<EcoS
     Ok(values)
 }
 
-/// The values with some other one.
+/// The values, with a random one replaced.
 fn changed(
     alloc: Global,
     random: &mut Random,
@@ -72,7 +72,7 @@ fn filled(
     Ok(page)
 }
 
-/// Fills a template with so many holes so often, and keeps the pages.
+/// Fills a template with `holes` holes `fills` times, and keeps the pages.
 pub(crate) fn templates(alloc: Global, holes: usize, fills: u64) -> Result<u64, EcoError> {
     let mut random = Random::new();
     let prose = prose(alloc, &mut random)?;

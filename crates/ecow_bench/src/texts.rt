@@ -1,5 +1,5 @@
-//! Loops of one call of `EcoString` each, in the form of those of the vector: `text` is what the
-//! value is made of. Other loops go round `pairs`.
+//! Loops that repeat one call of `EcoString`, in the form of the vector's loops. The value is made
+//! from `text`. `pairs` has more loops.
 
 use crate::pairs::Seen;
 use crate::rounds::sum_of;
@@ -15,12 +15,12 @@ pub(crate) fn text_of(alloc: Global, text: &str) -> EcoString {
     }
 }
 
-/// The length of what a call made.
+/// The length of what a call returned.
 fn len_of(value: Result<EcoString, EcoError>) -> u64 {
     value.map_or(0, |value| value.len() as u64)
 }
 
-/// Makes a value from one text or another that equals it, by turns, and drops it.
+/// Makes a value from a text and drops it. Two equal texts take turns.
 pub(crate) fn from_str(alloc: Global, text: &str, count: u64) -> u64 {
     let odd = text_of(alloc, text);
     sum_of(count, |round| {
@@ -38,7 +38,7 @@ fn pushed(alloc: Global, c: char, times: usize) -> EcoString {
     value
 }
 
-/// Fills a new value by pushes of one character.
+/// Fills an empty value by pushes of one character.
 pub(crate) fn push(alloc: Global, c: char, text: &str, count: u64) -> u64 {
     sum_of(count, |_| pushed(alloc, c, text.len()).len() as u64)
 }
@@ -52,7 +52,7 @@ fn extended(alloc: Global, text: &str) -> EcoString {
     value
 }
 
-/// Appends the text ten times to a new value.
+/// Appends the text ten times to an empty value.
 pub(crate) fn push_str(alloc: Global, text: &str, count: u64) -> u64 {
     sum_of(count, |_| extended(alloc, text).len() as u64)
 }
@@ -62,7 +62,7 @@ fn popped(value: &mut EcoString) -> Option<char> {
     value.pop().unwrap_or(None)
 }
 
-/// Takes the last character and puts it back.
+/// Pops the last character and pushes it again.
 pub(crate) fn pop(alloc: Global, text: &str, count: u64) -> u64 {
     let mut value = text_of(alloc, text);
     let mut sum = 0u64;
@@ -83,7 +83,7 @@ fn inserted(value: &mut EcoString) {
     }
 }
 
-/// Puts two characters into the middle, and keeps as many bytes as there were.
+/// Inserts two characters into the middle, and truncates the value to the old length.
 pub(crate) fn insert_str(alloc: Global, text: &str, count: u64) -> u64 {
     let mut value = text_of(alloc, text);
     let mut sum = 0u64;
@@ -97,7 +97,7 @@ pub(crate) fn insert_str(alloc: Global, text: &str, count: u64) -> u64 {
     sum
 }
 
-/// Puts three characters in place of each `pattern`.
+/// Replaces each `pattern` by three characters.
 pub(crate) fn replace(alloc: Global, pattern: &str, text: &str, count: u64) -> u64 {
     let value = text_of(alloc, text);
     sum_of(count, |_| len_of(value.replace(pattern, "...")))
@@ -109,7 +109,7 @@ pub(crate) fn to_uppercase(alloc: Global, text: &str, count: u64) -> u64 {
     sum_of(count, |_| len_of(value.to_uppercase()))
 }
 
-/// Makes a value of a thousand copies.
+/// Makes a value of a thousand copies of the text.
 pub(crate) fn repeat(alloc: Global, text: &str, count: u64) -> u64 {
     let value = text_of(alloc, text);
     sum_of(count, |_| len_of(value.repeat(1000)))
@@ -123,7 +123,7 @@ fn formatted(alloc: Global, text: &str, number: u64) -> usize {
     }
 }
 
-/// Prints the text twice, and a number.
+/// Formats the text twice, and a number.
 pub(crate) fn format(alloc: Global, text: &str, count: u64) -> u64 {
     sum_of(count, |round| formatted(alloc, text, round % 1000) as u64)
 }
@@ -136,7 +136,7 @@ fn printed(alloc: Global, number: u64) -> usize {
     }
 }
 
-/// Prints a number.
+/// Formats a number.
 pub(crate) fn to_eco_string(alloc: Global, count: u64) -> u64 {
     sum_of(count, |round| printed(alloc, round % 1000000) as u64)
 }

@@ -1,4 +1,4 @@
-//! A syntax tree in which leaves are replaced while the old trees live.
+//! A syntax tree in which leaves are replaced while the old trees are kept.
 ghost use Rattle.std.specs.Prelude.{◌≡◌};
 
 use crate::random::{Random, part, prose};
@@ -6,7 +6,7 @@ use ecow_list::{EcoError, EcoVec};
 use ecow_string::EcoString;
 use std::alloc::{AllocError, Global};
 
-/// How many nodes stand below each that is no leaf.
+/// The number of children of each node that is no leaf.
 const BRANCHES: usize = 10;
 
 /// The most letters of a node's text.
@@ -34,7 +34,7 @@ impl Clone for Node {
     }
 }
 
-/// A tree with a level of nodes of each of these kinds above its leaves.
+/// A tree with a level of nodes for each of these kinds above its leaves.
 fn tree(alloc: Global, random: &mut Random, prose: &str, kinds: &[u32]) -> Result<Node, EcoError> {
     let text = EcoString::from_str(alloc, part(random, prose, LONGEST))?;
     let mut children = EcoVec::new(alloc);
@@ -57,7 +57,7 @@ fn tree(alloc: Global, random: &mut Random, prose: &str, kinds: &[u32]) -> Resul
     }
 }
 
-/// Gives the node at the end of a path another text.
+/// Replaces the text of the node at the end of a path.
 fn replace(node: &mut Node, path: &[usize], text: EcoString) -> Result<(), EcoError> {
     match path {
         [] => {
@@ -71,7 +71,7 @@ fn replace(node: &mut Node, path: &[usize], text: EcoString) -> Result<(), EcoEr
     }
 }
 
-/// The lengths of the texts and the kinds, from a node down.
+/// The sum of text lengths and kinds in a subtree.
 fn weight(node: &Node) -> u64 {
     let mut sum = u64::from(node.kind).wrapping_add(node.text.len() as u64);
     for child in node.children.as_slice() {
@@ -80,7 +80,7 @@ fn weight(node: &Node) -> u64 {
     sum
 }
 
-/// The kinds of so many levels.
+/// The kinds of this many levels.
 fn kinds(alloc: Global, levels: usize) -> Result<Vec<u32>, AllocError> {
     let mut kinds = Vec::new(alloc);
     let mut kind = 0u32;
@@ -91,7 +91,7 @@ fn kinds(alloc: Global, levels: usize) -> Result<Vec<u32>, AllocError> {
     Ok(kinds)
 }
 
-/// A path to some leaf.
+/// A path to a random leaf.
 fn path(alloc: Global, random: &mut Random, levels: usize) -> Result<Vec<usize>, AllocError> {
     let mut path = Vec::with_capacity(alloc, levels)?;
     for _ in 0..levels {
@@ -100,7 +100,7 @@ fn path(alloc: Global, random: &mut Random, levels: usize) -> Result<Vec<usize>,
     Ok(path)
 }
 
-/// Gives some leaf another text.
+/// Replaces the text of a random leaf.
 fn replace_leaf(
     alloc: Global,
     random: &mut Random,
@@ -113,8 +113,8 @@ fn replace_leaf(
     replace(root, path.as_slice(), text)
 }
 
-/// Replaces so many leaves of a tree with so many levels above them, and keeps each tree that there
-/// was.
+/// Replaces `count` leaves of a tree with `levels` levels above its leaves, and keeps each old
+/// tree.
 pub(crate) fn trees(alloc: Global, levels: usize, edits: u64) -> Result<u64, EcoError> {
     let mut random = Random::new();
     let prose = prose(alloc, &mut random)?;

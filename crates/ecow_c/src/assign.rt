@@ -1,4 +1,5 @@
-//! The calls that put all of a value anew: a copy of what C hands over, a clone, or nothing.
+//! The calls that replace a whole value: by a copy of what C passes, by a clone, or by an empty
+//! one.
 ghost use Rattle.std.specs.Prelude.{◌≡◌, ◌↔◌, ◌<◌, ◌∷◌, [], length, Some, IsSomeAnd, true, false};
 ghost use Rattle.std.specs.Str.{chars, is_utf8};
 ghost use Rattle.ecow_nested.specs.Values.{kind_of};
@@ -16,7 +17,7 @@ use ecow_nested::Value;
 use ecow_string::EcoString;
 use std::alloc::Global;
 
-/// Puts a copy of `numbers` in place of the list.
+/// Replaces the list by a copy of `numbers`.
 #[unsafe(no_mangle)]
 pub extern "C" fn ecow_proved_list_assign(
     alloc: Global,
@@ -31,7 +32,7 @@ pub extern "C" fn ecow_proved_list_assign(
     put(EcoVec::from_copied(alloc, numbers), list)
 }
 
-/// Puts a copy of `added` in place of the bytes.
+/// Replaces the bytes by a copy of `added`.
 #[unsafe(no_mangle)]
 pub extern "C" fn ecow_proved_bytes_assign(
     alloc: Global,
@@ -46,7 +47,7 @@ pub extern "C" fn ecow_proved_bytes_assign(
     put(EcoBytes::from_slice(alloc, added), bytes)
 }
 
-/// Puts a copy of the text that `added` spells in place of the text.
+/// Replaces the text by a copy of the bytes `added`, which must be UTF-8.
 #[unsafe(no_mangle)]
 pub extern "C" fn ecow_proved_text_assign(
     alloc: Global,
@@ -64,7 +65,7 @@ pub extern "C" fn ecow_proved_text_assign(
     put(EcoString::from_str(alloc, added), text)
 }
 
-/// Puts a clone of the list at `from`, which shares its block, in place of the list at `to`.
+/// Replaces the list at `to` by a clone of the list at `from`, which shares its block.
 #[unsafe(no_mangle)]
 pub extern "C" fn ecow_proved_list_clone(from: &mut ListPointer, to: &mut ListPointer) -> u32
     ensures list { ReadsTo Some from.old.value result from.new.value to.old.value to.new.value }
@@ -74,7 +75,7 @@ pub extern "C" fn ecow_proved_list_clone(from: &mut ListPointer, to: &mut ListPo
     put(some_or!(from.list(), NULL).clone(), to)
 }
 
-/// Puts a clone of the bytes at `from`, which shares their block, in place of the bytes at `to`.
+/// Replaces the bytes at `to` by a clone of the bytes at `from`, which shares their block.
 #[unsafe(no_mangle)]
 pub extern "C" fn ecow_proved_bytes_clone(from: &mut BytesPointer, to: &mut BytesPointer) -> u32
     ensures bytes { ReadsTo Some from.old.value result from.new.value to.old.value to.new.value }
@@ -84,7 +85,7 @@ pub extern "C" fn ecow_proved_bytes_clone(from: &mut BytesPointer, to: &mut Byte
     put(some_or!(from.bytes(), NULL).clone(), to)
 }
 
-/// Puts a clone of the text at `from`, which shares its block, in place of the text at `to`.
+/// Replaces the text at `to` by a clone of the text at `from`, which shares its block.
 #[unsafe(no_mangle)]
 pub extern "C" fn ecow_proved_text_clone(from: &mut TextPointer, to: &mut TextPointer) -> u32
     ensures text { ReadsTo Some from.old.value result from.new.value to.old.value to.new.value }
@@ -94,7 +95,7 @@ pub extern "C" fn ecow_proved_text_clone(from: &mut TextPointer, to: &mut TextPo
     put(some_or!(from.text(), NULL).clone(), to)
 }
 
-/// Puts a clone of the list at `from`, which shares its block, in place of the list at `to`.
+/// Replaces the list at `to` by a clone of the list at `from`, which shares its block.
 #[unsafe(no_mangle)]
 pub extern "C" fn ecow_proved_texts_clone(from: &mut TextsPointer, to: &mut TextsPointer) -> u32
     ensures texts { ReadsTo Some from.old.value result from.new.value to.old.value to.new.value }
@@ -104,7 +105,7 @@ pub extern "C" fn ecow_proved_texts_clone(from: &mut TextsPointer, to: &mut Text
     put(some_or!(from.texts(), NULL).clone(), to)
 }
 
-/// Puts a clone of the value at `from`, which shares its memory, in place of the value at `to`.
+/// Replaces the value at `to` by a clone of the value at `from`, which shares its memory.
 #[unsafe(no_mangle)]
 pub extern "C" fn ecow_proved_value_clone(from: &mut ValuePointer, to: &mut ValuePointer) -> u32
     ensures value { ReadsTo Some from.old.value result from.new.value to.old.value to.new.value }
@@ -114,7 +115,7 @@ pub extern "C" fn ecow_proved_value_clone(from: &mut ValuePointer, to: &mut Valu
     put(some_or!(from.value(), NULL).clone(), to)
 }
 
-/// Gives the list up: an empty one stands in its place.
+/// Drops the list and leaves an empty one.
 #[unsafe(no_mangle)]
 pub extern "C" fn ecow_proved_list_drop(alloc: Global, pointer: &mut ListPointer) -> u32
     ensures list { AltersList (λ _. []) pointer.old.value result pointer.new.value }
@@ -125,7 +126,7 @@ pub extern "C" fn ecow_proved_list_drop(alloc: Global, pointer: &mut ListPointer
     OK
 }
 
-/// Gives the bytes up: none stand in their place.
+/// Drops the bytes and leaves empty ones.
 #[unsafe(no_mangle)]
 pub extern "C" fn ecow_proved_bytes_drop(alloc: Global, pointer: &mut BytesPointer) -> u32
     ensures bytes { AltersBytes (λ _. []) pointer.old.value result pointer.new.value }
@@ -136,7 +137,7 @@ pub extern "C" fn ecow_proved_bytes_drop(alloc: Global, pointer: &mut BytesPoint
     OK
 }
 
-/// Gives the text up: an empty one stands in its place.
+/// Drops the text and leaves an empty one.
 #[unsafe(no_mangle)]
 pub extern "C" fn ecow_proved_text_drop(alloc: Global, pointer: &mut TextPointer) -> u32
     ensures text { AltersText (λ _. []) pointer.old.value result pointer.new.value }
@@ -147,7 +148,7 @@ pub extern "C" fn ecow_proved_text_drop(alloc: Global, pointer: &mut TextPointer
     OK
 }
 
-/// Gives the list up: an empty one stands in its place.
+/// Drops the list and leaves an empty one.
 #[unsafe(no_mangle)]
 pub extern "C" fn ecow_proved_texts_drop(alloc: Global, pointer: &mut TextsPointer) -> u32
     ensures texts { AltersTexts (λ _. []) pointer.old.value result pointer.new.value }
@@ -158,7 +159,7 @@ pub extern "C" fn ecow_proved_texts_drop(alloc: Global, pointer: &mut TextsPoint
     OK
 }
 
-/// Gives the value up: nothing stands in its place.
+/// Drops the value and leaves `nothing`.
 #[unsafe(no_mangle)]
 pub extern "C" fn ecow_proved_value_drop(pointer: &mut ValuePointer) -> u32
     ensures value { Alters kind_of (λ _. kind.Nothing) pointer.old.value result pointer.new.value }
@@ -167,7 +168,7 @@ pub extern "C" fn ecow_proved_value_drop(pointer: &mut ValuePointer) -> u32
     assign(pointer, Value::Nothing)
 }
 
-/// Keeps no number. A block that no other list shares stays, with its room.
+/// Removes all numbers. A block that no other list shares is kept, with its capacity.
 #[unsafe(no_mangle)]
 pub extern "C" fn ecow_proved_list_clear(pointer: &mut ListPointer) -> u32
     ensures list { AltersList (λ _. []) pointer.old.value result pointer.new.value }
@@ -177,7 +178,7 @@ pub extern "C" fn ecow_proved_list_clear(pointer: &mut ListPointer) -> u32
     OK
 }
 
-/// Keeps no byte. A block that no other value shares stays, with its room.
+/// Removes all bytes. A block that no other value shares is kept, with its capacity.
 #[unsafe(no_mangle)]
 pub extern "C" fn ecow_proved_bytes_clear(pointer: &mut BytesPointer) -> u32
     ensures bytes { AltersBytes (λ _. []) pointer.old.value result pointer.new.value }
@@ -187,7 +188,7 @@ pub extern "C" fn ecow_proved_bytes_clear(pointer: &mut BytesPointer) -> u32
     OK
 }
 
-/// Keeps no character. A block that no other text shares stays, with its room.
+/// Removes all characters. A block that no other text shares is kept, with its capacity.
 #[unsafe(no_mangle)]
 pub extern "C" fn ecow_proved_text_clear(pointer: &mut TextPointer) -> u32
     ensures text { AltersText (λ _. []) pointer.old.value result pointer.new.value }
@@ -197,7 +198,7 @@ pub extern "C" fn ecow_proved_text_clear(pointer: &mut TextPointer) -> u32
     OK
 }
 
-/// Keeps no text. A block that no other list shares stays, with its room.
+/// Removes all texts. A block that no other list shares is kept, with its capacity.
 #[unsafe(no_mangle)]
 pub extern "C" fn ecow_proved_texts_clear(pointer: &mut TextsPointer) -> u32
     ensures texts { AltersTexts (λ _. []) pointer.old.value result pointer.new.value }

@@ -17,7 +17,7 @@ use ecow_string::EcoString;
 use std::alloc::Global;
 use std::hash::{DefaultHasher, Hash, Hasher};
 
-/// Whether two values are equal, of which each may be missing.
+/// Whether two values are equal, each of which may be missing.
 macro_rules! equal {
     ($left:expr, $right:expr; $one:ident, $other:ident => $equal:expr) => {
         match $left {
@@ -30,7 +30,7 @@ macro_rules! equal {
     };
 }
 
-/// How two values compare, of which each may be missing: it then comes first.
+/// How two values compare, each of which may be missing. A missing value comes first.
 macro_rules! compare {
     ($left:expr, $right:expr, $shown:ident) => {
         match $left {
@@ -40,7 +40,7 @@ macro_rules! compare {
     };
 }
 
-/// The hash of a value, or of `$none` where it is missing.
+/// The hash of a value, or `$none` if it is missing.
 macro_rules! hash {
     ($value:expr, $none:expr) => {{
         let mut hasher = DefaultHasher::new();
@@ -52,7 +52,7 @@ macro_rules! hash {
     }};
 }
 
-/// Whether two lists hold the same numbers. A null pointer equals a null pointer alone.
+/// Whether two lists hold the same numbers. A null pointer equals only a null pointer.
 #[unsafe(no_mangle)]
 pub extern "C" fn ecow_proved_list_equal(left: &mut ListPointer, right: &mut ListPointer) -> bool
     ensures equal { result
@@ -62,7 +62,7 @@ pub extern "C" fn ecow_proved_list_equal(left: &mut ListPointer, right: &mut Lis
     equal!(left.list(), right.list(); one, other => *one == *other)
 }
 
-/// Whether two values hold the same bytes. A null pointer equals a null pointer alone.
+/// Whether two values hold the same bytes. A null pointer equals only a null pointer.
 #[unsafe(no_mangle)]
 pub extern "C" fn ecow_proved_bytes_equal(left: &mut BytesPointer, right: &mut BytesPointer) -> bool
     ensures equal { result
@@ -72,7 +72,7 @@ pub extern "C" fn ecow_proved_bytes_equal(left: &mut BytesPointer, right: &mut B
     equal!(left.bytes(), right.bytes(); one, other => one.as_slice() == other.as_slice())
 }
 
-/// Whether two texts are equal. A null pointer equals a null pointer alone.
+/// Whether two texts are equal. A null pointer equals only a null pointer.
 #[unsafe(no_mangle)]
 pub extern "C" fn ecow_proved_text_equal(left: &mut TextPointer, right: &mut TextPointer) -> bool
     ensures equal { result ≡ are_equal text_eq left.old.value right.old.value }
@@ -81,7 +81,7 @@ pub extern "C" fn ecow_proved_text_equal(left: &mut TextPointer, right: &mut Tex
     equal!(left.text(), right.text(); one, other => one.as_str() == other.as_str())
 }
 
-/// Whether two lists hold the same texts. A null pointer equals a null pointer alone.
+/// Whether two lists hold the same texts. A null pointer equals only a null pointer.
 #[unsafe(no_mangle)]
 pub extern "C" fn ecow_proved_texts_equal(left: &mut TextsPointer, right: &mut TextsPointer) -> bool
     ensures equal { result
@@ -91,7 +91,7 @@ pub extern "C" fn ecow_proved_texts_equal(left: &mut TextsPointer, right: &mut T
     equal!(left.texts(), right.texts(); one, other => one.as_slice() == other.as_slice())
 }
 
-/// Whether two values are equal. A null pointer equals a null pointer alone.
+/// Whether two values are equal. A null pointer equals only a null pointer.
 #[unsafe(no_mangle)]
 pub extern "C" fn ecow_proved_value_equal(left: &mut ValuePointer, right: &mut ValuePointer) -> bool
     ensures equal { result ≡ are_equal value_eq left.old.value right.old.value }
@@ -100,8 +100,8 @@ pub extern "C" fn ecow_proved_value_equal(left: &mut ValuePointer, right: &mut V
     equal!(left.value(), right.value(); one, other => one.equals(other))
 }
 
-/// How two lists compare: below 0 where the left one comes first, 0 where they are equal. A null
-/// pointer comes before every list.
+/// How two lists compare: below 0 if the left one comes first, 0 if they are equal. A null pointer
+/// comes before every list.
 #[unsafe(no_mangle)]
 pub extern "C" fn ecow_proved_list_compare(left: &mut ListPointer, right: &mut ListPointer) -> i32
     ensures order { result ≡ order_of (slice_cmp int_cmp) left.old.value right.old.value }
@@ -110,8 +110,8 @@ pub extern "C" fn ecow_proved_list_compare(left: &mut ListPointer, right: &mut L
     compare!(left.list(), right.list(), as_slice)
 }
 
-/// How the bytes of two values compare: below 0 where the left ones come first, 0 where they are
-/// equal. A null pointer comes before every value.
+/// How the bytes of two values compare: below 0 if the left ones come first, 0 if they are equal. A
+/// null pointer comes before every value.
 #[unsafe(no_mangle)]
 pub extern "C" fn ecow_proved_bytes_compare(
     left: &mut BytesPointer,
@@ -124,8 +124,8 @@ pub extern "C" fn ecow_proved_bytes_compare(
     compare!(left.bytes(), right.bytes(), as_slice)
 }
 
-/// How two texts compare: below 0 where the left one comes first, 0 where they are equal. A null
-/// pointer comes before every text.
+/// How two texts compare: below 0 if the left one comes first, 0 if they are equal. A null pointer
+/// comes before every text.
 #[unsafe(no_mangle)]
 pub extern "C" fn ecow_proved_text_compare(left: &mut TextPointer, right: &mut TextPointer) -> i32
     ensures order { result ≡ order_of text_cmp left.old.value right.old.value }
@@ -134,8 +134,8 @@ pub extern "C" fn ecow_proved_text_compare(left: &mut TextPointer, right: &mut T
     compare!(left.text(), right.text(), as_str)
 }
 
-/// How two lists compare: below 0 where the left one comes first, 0 where they are equal. A null
-/// pointer comes before every list.
+/// How two lists compare: below 0 if the left one comes first, 0 if they are equal. A null pointer
+/// comes before every list.
 #[unsafe(no_mangle)]
 pub extern "C" fn ecow_proved_texts_compare(
     left: &mut TextsPointer,
@@ -148,7 +148,7 @@ pub extern "C" fn ecow_proved_texts_compare(
     compare!(left.texts(), right.texts(), as_slice)
 }
 
-/// The hash of the numbers, by std's hasher. Equal lists have the same.
+/// The hash of the numbers, by std's hasher. Equal lists have equal hashes.
 #[unsafe(no_mangle)]
 pub extern "C" fn ecow_proved_list_hash(alloc: Global, pointer: &mut ListPointer) -> u64
     ensures hash { result ≡ hash_of (fed.slice fed.i64 (numbers_at pointer.old.value)) }
@@ -157,7 +157,7 @@ pub extern "C" fn ecow_proved_list_hash(alloc: Global, pointer: &mut ListPointer
     hash!(pointer.list(), EcoVec::<i64>::new(alloc))
 }
 
-/// The hash of the bytes, by std's hasher. Equal bytes have the same.
+/// The hash of the bytes, by std's hasher. Equal bytes have equal hashes.
 #[unsafe(no_mangle)]
 pub extern "C" fn ecow_proved_bytes_hash(alloc: Global, pointer: &mut BytesPointer) -> u64
     ensures hash { result ≡ hash_of (hash_writes (bytes_at pointer.old.value)) }
@@ -166,7 +166,7 @@ pub extern "C" fn ecow_proved_bytes_hash(alloc: Global, pointer: &mut BytesPoint
     hash!(pointer.bytes(), EcoBytes::new(alloc))
 }
 
-/// The hash of the text, by std's hasher. Equal texts have the same.
+/// The hash of the text, by std's hasher. Equal texts have equal hashes.
 #[unsafe(no_mangle)]
 pub extern "C" fn ecow_proved_text_hash(alloc: Global, pointer: &mut TextPointer) -> u64
     ensures hash { result ≡ hash_of (fed.str (encode_utf8_all (chars_at pointer.old.value))) }
@@ -175,7 +175,7 @@ pub extern "C" fn ecow_proved_text_hash(alloc: Global, pointer: &mut TextPointer
     hash!(pointer.text(), EcoString::new(alloc))
 }
 
-/// The hash of the texts, by std's hasher. Equal lists have the same.
+/// The hash of the texts, by std's hasher. Equal lists have equal hashes.
 #[unsafe(no_mangle)]
 pub extern "C" fn ecow_proved_texts_hash(alloc: Global, pointer: &mut TextsPointer) -> u64
     ensures hash { result ≡ hash_of (fed.slice text_fed (texts_at pointer.old.value)) }

@@ -1,5 +1,5 @@
 //! The calls on elements: the numbers of a list, bytes, the texts of a list, and the items of a
-//! nested value. A text and a nested value go in and out as clones, which share their memory.
+//! nested value. Texts and nested values are passed and returned as clones, which share memory.
 ghost use Rattle.std.specs.Prelude.{◌≡◌, ◌↔◌, ◌≤◌, ◌<◌, ◌+◌, ◌-◌, ◌∷◌, ◌++◌, [], length, take, insert, remove, slice_get, slice_set, true, None, Some, IsSomeAnd};
 ghost use Rattle.std.specs.List.{replace_range, splice};
 ghost use Rattle.std.specs.Option.{option_map};
@@ -51,7 +51,7 @@ pub extern "C" fn ecow_proved_bytes_get(
     OK
 }
 
-/// Puts a clone of the text at `index` in place of the text at `out`.
+/// Replaces the text at `out` by a clone of the text at `index`.
 #[unsafe(no_mangle)]
 pub extern "C" fn ecow_proved_texts_get(
     pointer: &mut TextsPointer,
@@ -70,8 +70,7 @@ pub extern "C" fn ecow_proved_texts_get(
     put(text.clone(), out)
 }
 
-/// Puts a clone of the item of a list, or of a field's value, at `index` in place of the value at
-/// `out`.
+/// Replaces the value at `out` by a clone of the item, or of the field's value, at `index`.
 #[unsafe(no_mangle)]
 pub extern "C" fn ecow_proved_value_get(
     pointer: &mut ValuePointer,
@@ -139,7 +138,7 @@ pub extern "C" fn ecow_proved_value_push(pointer: &mut ValuePointer, item: &mut 
     ensures bound { RisesAtMostBy pointer.old.value item.old.value result pointer.new.value }
     ensures item { item.new.value ≡ item.old.value }
 
-    // When each status is answered.
+    // When each status is returned.
     ensures statuses { IsAmong (OK ∷ MEMORY ∷ CAPACITY ∷ DEPTH ∷ KIND ∷ NULL ∷ []) result }
     ensures kind { result ≡ KIND
         ↔ AreBothAnd pointer.old.value item.old.value (λ value _. items_of value ≡ None) }
@@ -162,7 +161,7 @@ pub extern "C" fn ecow_proved_value_push(pointer: &mut ValuePointer, item: &mut 
     status(value.push(clone))
 }
 
-/// Takes the last number out and writes it to `out`; `INDEX` where there is none.
+/// Removes the last number and writes it to `out`; `INDEX` if there is none.
 #[unsafe(no_mangle)]
 pub extern "C" fn ecow_proved_list_pop(pointer: &mut ListPointer, out: &mut i64) -> u32
     ensures list { AltersList (λ xs. take (length xs - 1) xs)
@@ -177,7 +176,7 @@ pub extern "C" fn ecow_proved_list_pop(pointer: &mut ListPointer, out: &mut i64)
     OK
 }
 
-/// Takes the last byte out and writes it to `out`; `INDEX` where there is none.
+/// Removes the last byte and writes it to `out`; `INDEX` if there is none.
 #[unsafe(no_mangle)]
 pub extern "C" fn ecow_proved_bytes_pop(pointer: &mut BytesPointer, out: &mut u8) -> u32
     ensures bytes { AltersBytes (λ xs. take (length xs - 1) xs)
@@ -193,7 +192,7 @@ pub extern "C" fn ecow_proved_bytes_pop(pointer: &mut BytesPointer, out: &mut u8
     OK
 }
 
-/// Takes the last text out, in place of the text at `out`; `INDEX` where there is none.
+/// Removes the last text, which replaces the text at `out`; `INDEX` if there is none.
 #[unsafe(no_mangle)]
 pub extern "C" fn ecow_proved_texts_pop(pointer: &mut TextsPointer, out: &mut TextPointer) -> u32
     ensures texts { AltersTextsBy (λ _ xs. take (length xs - 1) xs)
@@ -210,7 +209,7 @@ pub extern "C" fn ecow_proved_texts_pop(pointer: &mut TextsPointer, out: &mut Te
     OK
 }
 
-/// Takes the last item out, in place of the value at `out`; `INDEX` where there is none.
+/// Removes the last item, which replaces the value at `out`; `INDEX` if there is none.
 #[unsafe(no_mangle)]
 pub extern "C" fn ecow_proved_value_pop(pointer: &mut ValuePointer, out: &mut ValuePointer) -> u32
     ensures value { AltersBy items_of (λ _. option_map (λ xs. take (length xs - 1) xs))
@@ -219,7 +218,7 @@ pub extern "C" fn ecow_proved_value_pop(pointer: &mut ValuePointer, out: &mut Va
     ensures covers { CoversAt pointer.old.value → CoversAt pointer.new.value }
     ensures bound { depth_at pointer.new.value ≤ depth_at pointer.old.value }
 
-    // When each status is answered.
+    // When each status is returned.
     ensures statuses { IsAmong (OK ∷ MEMORY ∷ INDEX ∷ KIND ∷ NULL ∷ []) result }
     ensures kind { result ≡ KIND
         ↔ AreBothAnd pointer.old.value out.old.value (λ value _. items_of value ≡ None) }
@@ -231,7 +230,7 @@ pub extern "C" fn ecow_proved_value_pop(pointer: &mut ValuePointer, out: &mut Va
     put(value.pop(), out)
 }
 
-/// Puts `number` in place of the number at `index`.
+/// Replaces the number at `index` by `number`.
 #[unsafe(no_mangle)]
 pub extern "C" fn ecow_proved_list_set(pointer: &mut ListPointer, index: usize, number: i64) -> u32
     ensures list { AltersList (λ xs. slice_set xs index number)
@@ -246,7 +245,7 @@ pub extern "C" fn ecow_proved_list_set(pointer: &mut ListPointer, index: usize, 
     status(list.set(index, number))
 }
 
-/// Puts `byte` in place of the byte at `index`.
+/// Replaces the byte at `index` by `byte`.
 #[unsafe(no_mangle)]
 pub extern "C" fn ecow_proved_bytes_set(pointer: &mut BytesPointer, index: usize, byte: u8) -> u32
     ensures bytes { AltersBytes (λ xs. slice_set xs index byte)
@@ -262,7 +261,7 @@ pub extern "C" fn ecow_proved_bytes_set(pointer: &mut BytesPointer, index: usize
     status(bytes.set(index, byte))
 }
 
-/// Puts a clone of the text at `item` in place of the text at `index`.
+/// Replaces the text at `index` by a clone of the text at `item`.
 #[unsafe(no_mangle)]
 pub extern "C" fn ecow_proved_texts_set(
     pointer: &mut TextsPointer,
@@ -285,7 +284,7 @@ pub extern "C" fn ecow_proved_texts_set(
     status(texts.set(index, clone))
 }
 
-/// Puts a clone of the value at `item` in place of the item at `index`.
+/// Replaces the item at `index` by a clone of the value at `item`.
 #[unsafe(no_mangle)]
 pub extern "C" fn ecow_proved_value_set(
     pointer: &mut ValuePointer,
@@ -298,7 +297,7 @@ pub extern "C" fn ecow_proved_value_set(
     ensures bound { RisesAtMostBy pointer.old.value item.old.value result pointer.new.value }
     ensures item { item.new.value ≡ item.old.value }
 
-    // When each status is answered.
+    // When each status is returned.
     ensures statuses { IsAmong (OK ∷ MEMORY ∷ DEPTH ∷ INDEX ∷ KIND ∷ NULL ∷ []) result }
     ensures kind { result ≡ KIND
         ↔ AreBothAnd pointer.old.value item.old.value (λ value _. items_of value ≡ None) }
@@ -321,7 +320,7 @@ pub extern "C" fn ecow_proved_value_set(
     status(value.set(index, clone))
 }
 
-/// Exchanges the item at `index` and the value at `other`.
+/// Exchanges the item at `index` with the value at `other`.
 #[unsafe(no_mangle)]
 pub extern "C" fn ecow_proved_value_swap(
     pointer: &mut ValuePointer,
@@ -335,7 +334,7 @@ pub extern "C" fn ecow_proved_value_swap(
     ensures covers { CoversAt pointer.old.value → CoversAt pointer.new.value }
     ensures bound { RisesAtMostBy pointer.old.value other.old.value result pointer.new.value }
 
-    // When each status is answered.
+    // When each status is returned.
     ensures statuses { IsAmong (OK ∷ MEMORY ∷ DEPTH ∷ INDEX ∷ KIND ∷ NULL ∷ []) result }
     ensures kind { result ≡ KIND
         ↔ AreBothAnd pointer.old.value other.old.value (λ value _. items_of value ≡ None) }
@@ -350,7 +349,7 @@ pub extern "C" fn ecow_proved_value_swap(
     status(value.swap(index, other))
 }
 
-/// Puts `number` in at `index`, before the number that stands there.
+/// Inserts `number` before the number at `index`; at the length, appends it.
 #[unsafe(no_mangle)]
 pub extern "C" fn ecow_proved_list_insert(
     pointer: &mut ListPointer,
@@ -371,7 +370,7 @@ pub extern "C" fn ecow_proved_list_insert(
     status(list.insert(index, number))
 }
 
-/// Puts `byte` in at `index`, before the byte that stands there.
+/// Inserts `byte` before the byte at `index`; at the length, appends it.
 #[unsafe(no_mangle)]
 pub extern "C" fn ecow_proved_bytes_insert(
     pointer: &mut BytesPointer,
@@ -393,7 +392,7 @@ pub extern "C" fn ecow_proved_bytes_insert(
     status(bytes.insert(index, byte))
 }
 
-/// Puts a clone of the text at `item` in at `index`, before the text that stands there.
+/// Inserts a clone of the text at `item` before the text at `index`; at the length, appends it.
 #[unsafe(no_mangle)]
 pub extern "C" fn ecow_proved_texts_insert(
     pointer: &mut TextsPointer,
@@ -421,7 +420,7 @@ pub extern "C" fn ecow_proved_texts_insert(
     status(texts.insert(index, clone))
 }
 
-/// Puts a clone of the value at `item` in at `index`, before the item that stands there.
+/// Inserts a clone of the value at `item` before the item at `index`; at the length, appends it.
 #[unsafe(no_mangle)]
 pub extern "C" fn ecow_proved_value_insert(
     pointer: &mut ValuePointer,
@@ -434,7 +433,7 @@ pub extern "C" fn ecow_proved_value_insert(
     ensures bound { RisesAtMostBy pointer.old.value item.old.value result pointer.new.value }
     ensures item { item.new.value ≡ item.old.value }
 
-    // When each status is answered.
+    // When each status is returned.
     ensures statuses { IsAmong
         (OK ∷ MEMORY ∷ CAPACITY ∷ DEPTH ∷ INDEX ∷ KIND ∷ NULL ∷ []) result }
     ensures kind { result ≡ KIND
@@ -464,7 +463,7 @@ pub extern "C" fn ecow_proved_value_insert(
     status(value.insert(index, clone))
 }
 
-/// Takes the number at `index` out and writes it to `out`.
+/// Removes the number at `index` and writes it to `out`.
 #[unsafe(no_mangle)]
 pub extern "C" fn ecow_proved_list_remove(
     pointer: &mut ListPointer,
@@ -483,7 +482,7 @@ pub extern "C" fn ecow_proved_list_remove(
     put(list.remove(index), out)
 }
 
-/// Takes the byte at `index` out and writes it to `out`.
+/// Removes the byte at `index` and writes it to `out`.
 #[unsafe(no_mangle)]
 pub extern "C" fn ecow_proved_bytes_remove(
     pointer: &mut BytesPointer,
@@ -504,7 +503,7 @@ pub extern "C" fn ecow_proved_bytes_remove(
     put(bytes.remove(index), out)
 }
 
-/// Takes the text at `index` out, in place of the text at `out`.
+/// Removes the text at `index`, which replaces the text at `out`.
 #[unsafe(no_mangle)]
 pub extern "C" fn ecow_proved_texts_remove(
     pointer: &mut TextsPointer,
@@ -527,7 +526,7 @@ pub extern "C" fn ecow_proved_texts_remove(
     put(texts.remove(index), out)
 }
 
-/// Takes the item at `index` out, in place of the value at `out`.
+/// Removes the item at `index`, which replaces the value at `out`.
 #[unsafe(no_mangle)]
 pub extern "C" fn ecow_proved_value_remove(
     pointer: &mut ValuePointer,
@@ -540,7 +539,7 @@ pub extern "C" fn ecow_proved_value_remove(
     ensures covers { CoversAt pointer.old.value → CoversAt pointer.new.value }
     ensures bound { depth_at pointer.new.value ≤ depth_at pointer.old.value }
 
-    // When each status is answered.
+    // When each status is returned.
     ensures statuses { IsAmong (OK ∷ MEMORY ∷ INDEX ∷ KIND ∷ NULL ∷ []) result }
     ensures kind { result ≡ KIND
         ↔ AreBothAnd pointer.old.value out.old.value (λ value _. items_of value ≡ None) }
@@ -552,7 +551,7 @@ pub extern "C" fn ecow_proved_value_remove(
     put(value.remove(index), out)
 }
 
-/// Keeps the first `len` numbers, or all where there are fewer.
+/// Keeps the first `len` numbers; all if there are fewer.
 #[unsafe(no_mangle)]
 pub extern "C" fn ecow_proved_list_truncate(pointer: &mut ListPointer, len: usize) -> u32
     ensures list { AltersList (λ xs. take len xs) pointer.old.value result pointer.new.value }
@@ -561,7 +560,7 @@ pub extern "C" fn ecow_proved_list_truncate(pointer: &mut ListPointer, len: usiz
     status(some_or!(pointer.list(), NULL).truncate(len))
 }
 
-/// Keeps the first `len` bytes, or all where there are fewer.
+/// Keeps the first `len` bytes; all if there are fewer.
 #[unsafe(no_mangle)]
 pub extern "C" fn ecow_proved_bytes_truncate(pointer: &mut BytesPointer, len: usize) -> u32
     ensures bytes { AltersBytes (λ xs. take len xs) pointer.old.value result pointer.new.value }
@@ -570,7 +569,7 @@ pub extern "C" fn ecow_proved_bytes_truncate(pointer: &mut BytesPointer, len: us
     status(some_or!(pointer.bytes(), NULL).truncate(len))
 }
 
-/// Keeps the first `len` texts, or all where there are fewer.
+/// Keeps the first `len` texts; all if there are fewer.
 #[unsafe(no_mangle)]
 pub extern "C" fn ecow_proved_texts_truncate(pointer: &mut TextsPointer, len: usize) -> u32
     ensures texts { AltersTexts (λ xs. take len xs) pointer.old.value result pointer.new.value }
@@ -579,7 +578,7 @@ pub extern "C" fn ecow_proved_texts_truncate(pointer: &mut TextsPointer, len: us
     status(some_or!(pointer.texts(), NULL).truncate(len))
 }
 
-/// Keeps the first `len` items, or all where there are fewer.
+/// Keeps the first `len` items; all if there are fewer.
 #[unsafe(no_mangle)]
 pub extern "C" fn ecow_proved_value_truncate(pointer: &mut ValuePointer, len: usize) -> u32
     ensures value { Alters items_of (option_map (λ xs. take len xs))
@@ -632,7 +631,7 @@ pub extern "C" fn ecow_proved_texts_extend(
     status(texts.extend_from_slice(added.as_slice()))
 }
 
-/// Puts copies of `numbers` in place of the numbers from `start` up to `end`.
+/// Replaces the numbers from `start` up to `end` by copies of `numbers`.
 #[unsafe(no_mangle)]
 pub extern "C" fn ecow_proved_list_splice(
     pointer: &mut ListPointer,
@@ -655,7 +654,7 @@ pub extern "C" fn ecow_proved_list_splice(
     status(list.replace_range(start..end, numbers))
 }
 
-/// Puts copies of `added` in place of the bytes from `start` up to `end`.
+/// Replaces the bytes from `start` up to `end` by copies of `added`.
 #[unsafe(no_mangle)]
 pub extern "C" fn ecow_proved_bytes_splice(
     pointer: &mut BytesPointer,
@@ -678,7 +677,7 @@ pub extern "C" fn ecow_proved_bytes_splice(
     status(bytes.replace_range(start..end, added))
 }
 
-/// Puts clones of the texts at `added` in place of the texts from `start` up to `end`.
+/// Replaces the texts from `start` up to `end` by clones of the texts at `added`.
 #[unsafe(no_mangle)]
 pub extern "C" fn ecow_proved_texts_splice(
     alloc: Global,

@@ -1,5 +1,5 @@
-//! The values of `ecow_list`, `ecow_bytes`, `ecow_text`, `ecow_texts` and
-//! `ecow_value` for C.
+//! The library for C: the calls on `ecow_list`, `ecow_bytes`, `ecow_text`, `ecow_texts` and
+//! `ecow_value`.
 #![tactic(auto)]
 
 mod assign;

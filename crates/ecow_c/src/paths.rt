@@ -1,6 +1,6 @@
-//! The calls on nested values by paths. A path is itself a nested value: a list of texts, each the
-//! name of a field, and of numbers, each the index of an item. `MEMORY` may stand in place of the
-//! other statuses but `NULL` and `KIND`.
+//! The calls on nested values by lookup paths. A path is itself a nested value: a list of texts,
+//! each the name of a field, and of numbers, each the index of an item. A call may return `MEMORY`
+//! instead of any other status than `NULL` and `KIND`.
 ghost use Rattle.std.specs.Prelude.{◌≡◌, ◌↔◌, ◌∷◌, [], None, Some, map, IfOk, IsErrOf};
 ghost use Rattle.std.specs.List.{list_all};
 ghost use Rattle.std.specs.Option.{option_zip};
@@ -29,7 +29,7 @@ fn are_steps(items: &[Value]) -> bool
     items.iter().all(is_step)
 }
 
-/// The step that an item of a path stands for; of what is no step, one that leads nowhere.
+/// The step that an item of a path means. An item that is no step gives a step that leads nowhere.
 fn step(item: &Value) -> Result<Step, AllocError>
     ensures { IfOk result (λ step. step ≡ step_of item.now) }
 {
@@ -40,7 +40,7 @@ fn step(item: &Value) -> Result<Step, AllocError>
     }
 }
 
-/// The steps that the items of a path stand for.
+/// The steps that the items of a path mean.
 fn steps_for(alloc: Global, items: &[Value]) -> Result<Vec<Step>, AllocError>
     ensures { IfOk result (λ steps. steps.items ≡ map step_of items.now) }
 {
@@ -66,8 +66,8 @@ fn steps(path: &Value) -> Result<Vec<Step>, Refusal>
     Ok(steps_for(items.allocator(), items.as_slice())?)
 }
 
-/// Puts a clone of the part that the path leads to in place of the value at `out`; `INDEX` where
-/// there is no such part.
+/// Replaces the value at `out` by a clone of the part that the path leads to; `INDEX` if there is
+/// none.
 #[unsafe(no_mangle)]
 pub extern "C" fn ecow_proved_value_get_at(
     pointer: &mut ValuePointer,
@@ -88,8 +88,8 @@ pub extern "C" fn ecow_proved_value_get_at(
     put(some_or!(value.at(steps.as_slice()), INDEX).clone(), out)
 }
 
-/// Puts a clone of the value at `item` in place of the part that the path leads to; `INDEX` where
-/// there is no such part.
+/// Replaces the part that the path leads to by a clone of the value at `item`; `INDEX` if there is
+/// none.
 #[unsafe(no_mangle)]
 pub extern "C" fn ecow_proved_value_set_at(
     pointer: &mut ValuePointer,
@@ -111,8 +111,7 @@ pub extern "C" fn ecow_proved_value_set_at(
     status(value.set_at(steps.as_slice(), clone))
 }
 
-/// Exchanges the part that the path leads to and the value at `other`; `INDEX` where there is no
-/// such part.
+/// Exchanges the part that the path leads to with the value at `other`; `INDEX` if there is none.
 #[unsafe(no_mangle)]
 pub extern "C" fn ecow_proved_value_swap_at(
     pointer: &mut ValuePointer,

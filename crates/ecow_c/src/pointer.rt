@@ -1,5 +1,5 @@
-//! The pointers at which C keeps values: C passes the address of each. A pointer may be null. The
-//! structs of `include/ecow.h` are as large as the values.
+//! The pointers to values that C keeps. C passes the address of each pointer, which may be null.
+//! The structs of `include/ecow.h` have the size of the values.
 ghost use Rattle.std.specs.Borrow.{sem};
 ghost use Rattle.std.specs.Coded.{coded_option};
 ghost use Rattle.std.specs.Option.{option_map};

@@ -1,5 +1,5 @@
-//! The calls that tell of room for items, ask for more, and give up what isn't used. That of a text
-//! counts bytes.
+//! The calls that tell the capacity, reserve more, and shrink it. The capacity of a text counts
+//! bytes.
 ghost use Rattle.std.specs.Prelude.{◌≡◌, ◌≤◌, ◌+◌, ◌∷◌, [], length};
 ghost use Rattle.ecow_base.specs.Utf8.{utf8_len};
 ghost use Rattle.ecow_c.specs.Answers.{AltersBytes, AltersList, AltersText, AltersTexts, IsAmong, RefusesPast, bytes_at, chars_at, numbers_at, texts_at};
@@ -9,7 +9,7 @@ use crate::status::{CAPACITY, IntoStatus, MEMORY, NULL, OK, ok_or_status, some_o
 use ecow_list::EcoVec;
 use std::alloc::Global;
 
-/// How many numbers there is room for, never fewer than there are; 0 at a null pointer.
+/// The capacity in numbers, which is at least the length; 0 for a null pointer.
 #[unsafe(no_mangle)]
 pub extern "C" fn ecow_proved_list_capacity(pointer: &mut ListPointer) -> usize
     ensures room { length (numbers_at pointer.old.value) ≤ result }
@@ -18,7 +18,7 @@ pub extern "C" fn ecow_proved_list_capacity(pointer: &mut ListPointer) -> usize
     some_or!(pointer.list(), 0).capacity()
 }
 
-/// How many bytes there is room for, never fewer than there are; 0 at a null pointer.
+/// The capacity in bytes, which is at least the length; 0 for a null pointer.
 #[unsafe(no_mangle)]
 pub extern "C" fn ecow_proved_bytes_capacity(pointer: &mut BytesPointer) -> usize
     ensures room { length (bytes_at pointer.old.value) ≤ result }
@@ -27,7 +27,7 @@ pub extern "C" fn ecow_proved_bytes_capacity(pointer: &mut BytesPointer) -> usiz
     some_or!(pointer.bytes(), 0).capacity()
 }
 
-/// How many bytes there is room for, never fewer than there are; 0 at a null pointer.
+/// The capacity in bytes, which is at least the length; 0 for a null pointer.
 #[unsafe(no_mangle)]
 pub extern "C" fn ecow_proved_text_capacity(pointer: &mut TextPointer) -> usize
     ensures room { utf8_len (chars_at pointer.old.value) ≤ result }
@@ -36,7 +36,7 @@ pub extern "C" fn ecow_proved_text_capacity(pointer: &mut TextPointer) -> usize
     some_or!(pointer.text(), 0).capacity()
 }
 
-/// How many texts there is room for, never fewer than there are; 0 at a null pointer.
+/// The capacity in texts, which is at least the length; 0 for a null pointer.
 #[unsafe(no_mangle)]
 pub extern "C" fn ecow_proved_texts_capacity(pointer: &mut TextsPointer) -> usize
     ensures room { length (texts_at pointer.old.value) ≤ result }
@@ -45,7 +45,7 @@ pub extern "C" fn ecow_proved_texts_capacity(pointer: &mut TextsPointer) -> usiz
     some_or!(pointer.texts(), 0).capacity()
 }
 
-/// Asks for room for `additional` more numbers.
+/// Reserves capacity for `additional` more numbers.
 #[unsafe(no_mangle)]
 pub extern "C" fn ecow_proved_list_reserve(pointer: &mut ListPointer, additional: usize) -> u32
     ensures list { AltersList (λ xs. xs) pointer.old.value result pointer.new.value }
@@ -55,7 +55,7 @@ pub extern "C" fn ecow_proved_list_reserve(pointer: &mut ListPointer, additional
     status(some_or!(pointer.list(), NULL).reserve(additional))
 }
 
-/// Asks for room for `additional` more bytes.
+/// Reserves capacity for `additional` more bytes.
 #[unsafe(no_mangle)]
 pub extern "C" fn ecow_proved_bytes_reserve(pointer: &mut BytesPointer, additional: usize) -> u32
     ensures bytes { AltersBytes (λ xs. xs) pointer.old.value result pointer.new.value }
@@ -66,7 +66,7 @@ pub extern "C" fn ecow_proved_bytes_reserve(pointer: &mut BytesPointer, addition
     status(some_or!(pointer.bytes(), NULL).reserve(additional))
 }
 
-/// Asks for room for `additional` more bytes.
+/// Reserves capacity for `additional` more bytes.
 #[unsafe(no_mangle)]
 pub extern "C" fn ecow_proved_text_reserve(pointer: &mut TextPointer, additional: usize) -> u32
     ensures text { AltersText (λ cs. cs) pointer.old.value result pointer.new.value }
@@ -77,7 +77,7 @@ pub extern "C" fn ecow_proved_text_reserve(pointer: &mut TextPointer, additional
     status(some_or!(pointer.text(), NULL).reserve(additional))
 }
 
-/// Asks for room for `additional` more texts.
+/// Reserves capacity for `additional` more texts.
 #[unsafe(no_mangle)]
 pub extern "C" fn ecow_proved_texts_reserve(pointer: &mut TextsPointer, additional: usize) -> u32
     ensures texts { AltersTexts (λ xs. xs) pointer.old.value result pointer.new.value }
@@ -87,7 +87,7 @@ pub extern "C" fn ecow_proved_texts_reserve(pointer: &mut TextsPointer, addition
     status(some_or!(pointer.texts(), NULL).reserve(additional))
 }
 
-/// Gives up room that isn't used, unless another list shares the block.
+/// Shrinks the capacity to what the list needs, unless another list shares the block.
 #[unsafe(no_mangle)]
 pub extern "C" fn ecow_proved_list_shrink_to_fit(alloc: Global, pointer: &mut ListPointer) -> u32
     ensures list { AltersList (λ xs. xs) pointer.old.value result pointer.new.value }
@@ -103,7 +103,7 @@ pub extern "C" fn ecow_proved_list_shrink_to_fit(alloc: Global, pointer: &mut Li
     OK
 }
 
-/// Brings spilled bytes back inline where there are at most 15.
+/// Brings spilled bytes back inline if there are at most 15.
 #[unsafe(no_mangle)]
 pub extern "C" fn ecow_proved_bytes_shrink_to_fit(pointer: &mut BytesPointer) -> u32
     ensures bytes { AltersBytes (λ xs. xs) pointer.old.value result pointer.new.value }
@@ -113,7 +113,7 @@ pub extern "C" fn ecow_proved_bytes_shrink_to_fit(pointer: &mut BytesPointer) ->
     OK
 }
 
-/// Brings a spilled text back inline where it has at most 15 bytes.
+/// Brings a spilled text back inline if it has at most 15 bytes.
 #[unsafe(no_mangle)]
 pub extern "C" fn ecow_proved_text_shrink_to_fit(pointer: &mut TextPointer) -> u32
     ensures text { AltersText (λ cs. cs) pointer.old.value result pointer.new.value }
@@ -123,7 +123,7 @@ pub extern "C" fn ecow_proved_text_shrink_to_fit(pointer: &mut TextPointer) -> u
     OK
 }
 
-/// Gives up room that isn't used, unless another list shares the block.
+/// Shrinks the capacity to what the list needs, unless another list shares the block.
 #[unsafe(no_mangle)]
 pub extern "C" fn ecow_proved_texts_shrink_to_fit(alloc: Global, pointer: &mut TextsPointer) -> u32
     ensures texts { AltersTexts (λ xs. xs) pointer.old.value result pointer.new.value }

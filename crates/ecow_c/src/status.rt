@@ -1,4 +1,4 @@
-//! What a call answers.
+//! The statuses that calls return.
 ghost use Rattle.std.specs.Prelude.{◌≡◌, ℕ, IfErr, IfOk, MatchResult};
 ghost use Rattle.ecow_list.specs.declared.error.EcoError.TheVariants.{Memory};
 ghost use Rattle.ecow_c.specs.Answers.{sign_of};
@@ -9,17 +9,17 @@ use ecow_nested::Refusal;
 use std::alloc::AllocError;
 use std::cmp::Ordering;
 
-/// The call did what it says.
+/// The call succeeded.
 pub const OK: u32 = 0;
-/// There was no memory.
+/// Memory was refused.
 pub const MEMORY: u32 = 1;
 /// The length would pass 2^63 - 1.
 pub const CAPACITY: u32 = 2;
-/// An index or a range passes the end, or there is nothing to take.
+/// An index or a range is past the end, or there is nothing to remove.
 pub const INDEX: u32 = 3;
 /// An index is inside a character.
 pub const BOUNDARY: u32 = 4;
-/// The bytes are no UTF-8, or the number is no character.
+/// The bytes aren't UTF-8, or the number is no character.
 pub const UTF8: u32 = 5;
 /// The pointer to a value is null.
 pub const NULL: u32 = 6;
@@ -27,10 +27,10 @@ pub const NULL: u32 = 6;
 /// The value is of another kind.
 pub const KIND: u32 = 7;
 
-/// The value would nest too deep.
+/// The value would be too deep.
 pub const DEPTH: u32 = 9;
 
-/// The value of an `Option`. Where there is none, the function returns `$answer`.
+/// The value of an `Option`. If there is none, the function returns `$answer`.
 macro_rules! some_or {
     ($option:expr, $answer:expr) => {
         match $option {
@@ -40,7 +40,7 @@ macro_rules! some_or {
     };
 }
 
-/// The value of a `Result`. At an error the function returns its status.
+/// The value of a `Result`. For an error, the function returns its status.
 macro_rules! ok_or_status {
     ($result:expr) => {
         match $result {
@@ -53,7 +53,7 @@ macro_rules! ok_or_status {
 pub(crate) use ok_or_status;
 pub(crate) use some_or;
 
-/// Why a call of the library is refused.
+/// An error of a call of the values.
 pub(crate) trait IntoStatus: Drop {
     /// The status of each error.
     ghost status: { Self → ℕ };
@@ -100,7 +100,7 @@ impl IntoStatus for Refusal {
     }
 }
 
-/// The status of a call that gives no value.
+/// The status of a call that returns no value.
 pub(crate) fn status<E: IntoStatus>(outcome: Result<(), E>) -> u32
     ensures { MatchResult outcome (λ _. result ≡ OK) (λ error. result ≡ E.status error) }
 {
@@ -110,7 +110,7 @@ pub(crate) fn status<E: IntoStatus>(outcome: Result<(), E>) -> u32
     }
 }
 
-/// Puts the value that a call gives in place of the one at `out`.
+/// Replaces the value at `out` by the one that a call returned.
 pub(crate) fn put<V: Drop, E: IntoStatus>(outcome: Result<V, E>, out: &mut V) -> u32
     ensures ok { IfOk outcome (λ value. (out.new ≡ value) × (result ≡ OK)) }
     ensures err { IfErr outcome (λ error. (out.new ≡ out.old) × (result ≡ E.status error)) }
@@ -124,7 +124,7 @@ pub(crate) fn put<V: Drop, E: IntoStatus>(outcome: Result<V, E>, out: &mut V) ->
     }
 }
 
-/// An order as C has it.
+/// An order as C has it: below 0, 0, or above 0.
 pub(crate) fn order(order: Ordering) -> i32
     ensures { result ≡ sign_of order }
 {

@@ -21,7 +21,7 @@ use ecow_base::MAX_LEN;
 use ecow_bytes::are_few_ascii;
 use ecow_string::EcoString;
 
-/// Whether the text may be cut at `index`: `OK`, or why not.
+/// `OK` if the text may be cut at `index`, or else the status that says why not.
 fn cut_at(text: &EcoString, index: usize) -> u32
     ensures { result ≡ index_status text.now.chars index }
 {
@@ -34,8 +34,8 @@ fn cut_at(text: &EcoString, index: usize) -> u32
     }
 }
 
-/// The text that bytes spell, if they are UTF-8. Few bytes of ASCII, as most names are, are known
-/// by two words.
+/// The bytes as a `str`, if they are UTF-8. A few bytes of ASCII, which most names are, are
+/// recognized by two machine words.
 #[inline(always)]
 pub(crate) fn to_str(bytes: &[u8]) -> Option<&str>
     ensures bytes { IfSome result (λ text. text.now ≡ bytes.now) }
@@ -58,7 +58,7 @@ pub extern "C" fn ecow_proved_is_utf8(bytes: &[u8]) -> bool
     to_str(bytes).is_some()
 }
 
-/// Whether a character begins at `index` or the text ends there; not so at a null pointer.
+/// Whether a character begins at `index` or the text ends there; false for a null pointer.
 #[unsafe(no_mangle)]
 pub extern "C" fn ecow_proved_text_is_boundary(pointer: &mut TextPointer, index: usize) -> bool
     ensures boundary { result
@@ -118,7 +118,7 @@ pub extern "C" fn ecow_proved_text_push(pointer: &mut TextPointer, character: u3
     status(text.push(c))
 }
 
-/// Takes the last character out and writes its number to `out`; `INDEX` where there is none.
+/// Removes the last character and writes its number to `out`; `INDEX` if there is none.
 #[unsafe(no_mangle)]
 pub extern "C" fn ecow_proved_text_pop(pointer: &mut TextPointer, out: &mut u32) -> u32
     ensures text { AltersText (λ cs. take (length cs - 1) cs)
@@ -134,7 +134,7 @@ pub extern "C" fn ecow_proved_text_pop(pointer: &mut TextPointer, out: &mut u32)
     OK
 }
 
-/// Puts the text that `added` spells in at `index`.
+/// Inserts the bytes `added`, which must be UTF-8, at `index`.
 #[unsafe(no_mangle)]
 pub extern "C" fn ecow_proved_text_insert(
     pointer: &mut TextPointer,
@@ -161,8 +161,7 @@ pub extern "C" fn ecow_proved_text_insert(
     status(text.insert_str(index, added))
 }
 
-/// Takes the character that begins at `index` out and writes its number to `out`; `INDEX` at the
-/// end.
+/// Removes the character that begins at `index` and writes its number to `out`; `INDEX` at the end.
 #[unsafe(no_mangle)]
 pub extern "C" fn ecow_proved_text_remove(
     pointer: &mut TextPointer,
@@ -189,7 +188,7 @@ pub extern "C" fn ecow_proved_text_remove(
     OK
 }
 
-/// Keeps the first `len` bytes, or all where there are fewer.
+/// Keeps the first `len` bytes; all if there are fewer.
 #[unsafe(no_mangle)]
 pub extern "C" fn ecow_proved_text_truncate(pointer: &mut TextPointer, len: usize) -> u32
     ensures text { AltersText (λ cs. take (chars_before cs len) cs)
@@ -205,7 +204,7 @@ pub extern "C" fn ecow_proved_text_truncate(pointer: &mut TextPointer, len: usiz
     status(text.truncate(len))
 }
 
-/// Appends the text that `added` spells.
+/// Appends the bytes `added`, which must be UTF-8.
 #[unsafe(no_mangle)]
 pub extern "C" fn ecow_proved_text_extend(pointer: &mut TextPointer, added: &[u8]) -> u32
     ensures text { AltersText (λ cs. cs ++ chars added.now)
@@ -220,7 +219,7 @@ pub extern "C" fn ecow_proved_text_extend(pointer: &mut TextPointer, added: &[u8
     status(text.push_str(added))
 }
 
-/// Puts the text that `added` spells in place of the bytes from `start` up to `end`.
+/// Replaces the bytes from `start` up to `end` by the bytes `added`, which must be UTF-8.
 #[unsafe(no_mangle)]
 pub extern "C" fn ecow_proved_text_splice(
     pointer: &mut TextPointer,
@@ -256,7 +255,7 @@ pub extern "C" fn ecow_proved_text_splice(
     status(text.replace_range(start..end, added))
 }
 
-/// Puts the text in lower case, as std's `str` has it.
+/// Changes the text to lower case, as std's `str` does.
 #[unsafe(no_mangle)]
 pub extern "C" fn ecow_proved_text_to_lowercase(pointer: &mut TextPointer) -> u32
     ensures text { Alters (λ text. encode_utf8_all text.chars) str_to_lowercase
@@ -267,7 +266,7 @@ pub extern "C" fn ecow_proved_text_to_lowercase(pointer: &mut TextPointer) -> u3
     put(text.to_lowercase(), text)
 }
 
-/// Puts the text in upper case, as std's `str` has it.
+/// Changes the text to upper case, as std's `str` does.
 #[unsafe(no_mangle)]
 pub extern "C" fn ecow_proved_text_to_uppercase(pointer: &mut TextPointer) -> u32
     ensures text { Alters (λ text. encode_utf8_all text.chars) str_to_uppercase
@@ -278,7 +277,7 @@ pub extern "C" fn ecow_proved_text_to_uppercase(pointer: &mut TextPointer) -> u3
     put(text.to_uppercase(), text)
 }
 
-/// Puts the text `count` times over in its place.
+/// Replaces the text by itself repeated `count` times.
 #[unsafe(no_mangle)]
 pub extern "C" fn ecow_proved_text_repeat(pointer: &mut TextPointer, count: usize) -> u32
     ensures text { AltersText (repeat count) pointer.old.value result pointer.new.value }
@@ -289,8 +288,8 @@ pub extern "C" fn ecow_proved_text_repeat(pointer: &mut TextPointer, count: usiz
     put(text.repeat(count), text)
 }
 
-/// Puts the text that `replacement` spells in place of each occurrence of the one that `pattern`
-/// spells, from the left and without overlap.
+/// Replaces each occurrence of the bytes `pattern` by the bytes `replacement`, from the left and
+/// without overlap. Both must be UTF-8.
 #[unsafe(no_mangle)]
 pub extern "C" fn ecow_proved_text_replace(
     pointer: &mut TextPointer,

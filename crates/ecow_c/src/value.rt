@@ -1,5 +1,5 @@
-//! The calls on nested values: their kinds, what each kind holds, and fields. A value goes in and
-//! out as a clone, which shares its memory.
+//! The calls on nested values: their kinds, what each kind holds, and fields. Values are passed and
+//! returned as clones, which share memory.
 ghost use Rattle.std.specs.Prelude.{◌≡◌, ◌≢◌, ◌↔◌, ◌≤◌, ◌∷◌, ◌++◌, [], length, false, true, None, Some, IsSomeAnd};
 ghost use Rattle.std.specs.Option.{option_map};
 ghost use Rattle.std.specs.Str.{is_utf8};
@@ -16,7 +16,7 @@ use crate::text::to_str;
 use ecow_nested::{Kind, MAX_DEPTH, Value};
 use std::alloc::Global;
 
-/// Puts `new` in place of the value.
+/// Replaces the value by `new`.
 pub(crate) fn assign(pointer: &mut ValuePointer, new: Value) -> u32
     ensures value { Alters (λ value. value) (λ _. new) pointer.old.value result pointer.new.value }
     ensures statuses { IsAmong (OK ∷ NULL ∷ []) result }
@@ -41,7 +41,7 @@ fn number(kind: Kind) -> u32
     }
 }
 
-/// The kind of value; a null pointer has that of nothing.
+/// The kind of the value; for a null pointer that of `nothing`.
 #[unsafe(no_mangle)]
 pub extern "C" fn ecow_proved_value_kind(pointer: &mut ValuePointer) -> u32
     ensures kind { result ≡ kind_at pointer.old.value }
@@ -50,7 +50,7 @@ pub extern "C" fn ecow_proved_value_kind(pointer: &mut ValuePointer) -> u32
     number(some_or!(pointer.value(), 0).kind())
 }
 
-/// The number of items or fields; 0 at a value of another kind and at a null pointer.
+/// The number of items or fields; 0 for a value of another kind and for a null pointer.
 #[unsafe(no_mangle)]
 pub extern "C" fn ecow_proved_value_len(pointer: &mut ValuePointer) -> usize
     ensures len { result ≡ len_at pointer.old.value }
@@ -59,7 +59,7 @@ pub extern "C" fn ecow_proved_value_len(pointer: &mut ValuePointer) -> usize
     some_or!(pointer.value(), 0).len().unwrap_or(0)
 }
 
-/// How deep the value nests; a null pointer as nothing does.
+/// The depth of the value; 0 for a null pointer.
 #[unsafe(no_mangle)]
 pub extern "C" fn ecow_proved_value_depth(pointer: &mut ValuePointer) -> u32
     ensures depth { result ≡ depth_at pointer.old.value }
@@ -68,7 +68,7 @@ pub extern "C" fn ecow_proved_value_depth(pointer: &mut ValuePointer) -> u32
     some_or!(pointer.value(), 0).depth()
 }
 
-/// Makes it a truth value.
+/// Replaces the value by a truth value.
 #[unsafe(no_mangle)]
 pub extern "C" fn ecow_proved_value_set_truth(pointer: &mut ValuePointer, truth: bool) -> u32
     ensures value { Alters truth_of (λ _. Some truth) pointer.old.value result pointer.new.value }
@@ -77,7 +77,7 @@ pub extern "C" fn ecow_proved_value_set_truth(pointer: &mut ValuePointer, truth:
     assign(pointer, Value::Truth(truth))
 }
 
-/// Makes it a number.
+/// Replaces the value by a number.
 #[unsafe(no_mangle)]
 pub extern "C" fn ecow_proved_value_set_number(pointer: &mut ValuePointer, number: i64) -> u32
     ensures value { Alters number_of (λ _. Some number) pointer.old.value result pointer.new.value }
@@ -86,7 +86,7 @@ pub extern "C" fn ecow_proved_value_set_number(pointer: &mut ValuePointer, numbe
     assign(pointer, Value::Number(number))
 }
 
-/// Makes it a floating-point number.
+/// Replaces the value by a floating-point number.
 #[unsafe(no_mangle)]
 pub extern "C" fn ecow_proved_value_set_real(pointer: &mut ValuePointer, real: f64) -> u32
     ensures value { Alters real_of (λ _. Some real) pointer.old.value result pointer.new.value }
@@ -95,7 +95,7 @@ pub extern "C" fn ecow_proved_value_set_real(pointer: &mut ValuePointer, real: f
     assign(pointer, Value::Real(real))
 }
 
-/// Makes it a clone of the text at `from`.
+/// Replaces the value by a clone of the text at `from`.
 #[unsafe(no_mangle)]
 pub extern "C" fn ecow_proved_value_set_text(
     pointer: &mut ValuePointer,
@@ -112,7 +112,7 @@ pub extern "C" fn ecow_proved_value_set_text(
     OK
 }
 
-/// Makes it a list of no items.
+/// Replaces the value by an empty list.
 #[unsafe(no_mangle)]
 pub extern "C" fn ecow_proved_value_set_list(alloc: Global, pointer: &mut ValuePointer) -> u32
     ensures value { Alters items_of (λ _. Some []) pointer.old.value result pointer.new.value }
@@ -122,7 +122,7 @@ pub extern "C" fn ecow_proved_value_set_list(alloc: Global, pointer: &mut ValueP
     assign(pointer, Value::new_list(alloc))
 }
 
-/// Makes it a value with no fields.
+/// Replaces the value by one with empty fields.
 #[unsafe(no_mangle)]
 pub extern "C" fn ecow_proved_value_set_fields(alloc: Global, pointer: &mut ValuePointer) -> u32
     ensures value { Alters fields_of (λ _. Some []) pointer.old.value result pointer.new.value }
@@ -168,7 +168,7 @@ pub extern "C" fn ecow_proved_value_real(pointer: &mut ValuePointer, out: &mut f
     OK
 }
 
-/// Puts a clone of the text in place of the text at `out`.
+/// Replaces the text at `out` by a clone of the text.
 #[unsafe(no_mangle)]
 pub extern "C" fn ecow_proved_value_text(pointer: &mut ValuePointer, out: &mut TextPointer) -> u32
     ensures out { ReadsTo text_of
@@ -183,8 +183,8 @@ pub extern "C" fn ecow_proved_value_text(pointer: &mut ValuePointer, out: &mut T
     put(text.clone(), out)
 }
 
-/// Puts a clone of the value of the field of that name in place of the value at `out`; `INDEX`
-/// where there is no such field.
+/// Replaces the value at `out` by a clone of the value of the first field with this name; `INDEX`
+/// if there is none.
 #[unsafe(no_mangle)]
 pub extern "C" fn ecow_proved_value_get_field(
     pointer: &mut ValuePointer,
@@ -207,7 +207,8 @@ pub extern "C" fn ecow_proved_value_get_field(
     put(ok_or_status!(value.field(name)).clone(), out)
 }
 
-/// A clone of `$item` for a field of `$value`. Where it can be in none, the function returns why.
+/// A clone of `$item` for a field of `$value`. If it can't be in one, the function returns the
+/// status.
 macro_rules! clone_for_field {
     ($value:expr, $item:expr) => {{
         if $value.fields().is_none() {
@@ -220,8 +221,8 @@ macro_rules! clone_for_field {
     }};
 }
 
-/// Puts a clone of the value at `item` in place of the value of the field of that name, or appends
-/// a field where there is none.
+/// Replaces the value of the first field with this name by a clone of the value at `item`, or
+/// appends a field if there is none.
 #[unsafe(no_mangle)]
 pub extern "C" fn ecow_proved_value_set_field(
     pointer: &mut ValuePointer,
@@ -234,7 +235,7 @@ pub extern "C" fn ecow_proved_value_set_field(
     ensures bound { RisesAtMostBy pointer.old.value item.old.value result pointer.new.value }
     ensures item { item.new.value ≡ item.old.value }
 
-    // When each status is answered.
+    // When each status is returned.
     ensures statuses { IsAmong (OK ∷ MEMORY ∷ DEPTH ∷ UTF8 ∷ KIND ∷ NULL ∷ []) result }
     ensures utf8 { result ≡ UTF8
         ↔ AreBothAnd pointer.old.value item.old.value (λ _ _. is_utf8 name.now ≡ false) }
@@ -250,7 +251,7 @@ pub extern "C" fn ecow_proved_value_set_field(
     status(value.set_field(name, clone))
 }
 
-/// Appends a field with a clone of the value at `item`, and looks for none of that name.
+/// Appends a field with a clone of the value at `item`, without looking for its name.
 #[unsafe(no_mangle)]
 pub extern "C" fn ecow_proved_value_push_field(
     pointer: &mut ValuePointer,
@@ -264,7 +265,7 @@ pub extern "C" fn ecow_proved_value_push_field(
     ensures bound { RisesAtMostBy pointer.old.value item.old.value result pointer.new.value }
     ensures item { item.new.value ≡ item.old.value }
 
-    // When each status is answered.
+    // When each status is returned.
     ensures statuses { IsAmong (OK ∷ MEMORY ∷ DEPTH ∷ UTF8 ∷ KIND ∷ NULL ∷ []) result }
     ensures utf8 { result ≡ UTF8
         ↔ AreBothAnd pointer.old.value item.old.value (λ _ _. is_utf8 name.now ≡ false) }
@@ -280,8 +281,8 @@ pub extern "C" fn ecow_proved_value_push_field(
     status(value.push_field(name, clone))
 }
 
-/// Exchanges the value of the field of that name and the value at `other`; `INDEX` where there is
-/// no such field.
+/// Exchanges the value of the first field with this name with the value at `other`; `INDEX` if
+/// there is none.
 #[unsafe(no_mangle)]
 pub extern "C" fn ecow_proved_value_swap_field(
     pointer: &mut ValuePointer,
@@ -295,7 +296,7 @@ pub extern "C" fn ecow_proved_value_swap_field(
     ensures covers { CoversAt pointer.old.value → CoversAt pointer.new.value }
     ensures bound { RisesAtMostBy pointer.old.value other.old.value result pointer.new.value }
 
-    // When each status is answered.
+    // When each status is returned.
     ensures statuses { IsAmong (OK ∷ MEMORY ∷ DEPTH ∷ INDEX ∷ UTF8 ∷ KIND ∷ NULL ∷ []) result }
     ensures depth { result ≡ DEPTH ↔ AreBothAnd pointer.old.value other.old.value
         (λ value other. HasField name.now value × IsDeepest other) }
@@ -312,8 +313,8 @@ pub extern "C" fn ecow_proved_value_swap_field(
     status(value.swap_field(name, other))
 }
 
-/// Takes the field of that name out, its value in place of the value at `out`; `INDEX` where there
-/// is no such field.
+/// Removes the first field with this name, whose value replaces the value at `out`; `INDEX` if
+/// there is none.
 #[unsafe(no_mangle)]
 pub extern "C" fn ecow_proved_value_remove_field(
     pointer: &mut ValuePointer,
@@ -327,7 +328,7 @@ pub extern "C" fn ecow_proved_value_remove_field(
     ensures covers { CoversAt pointer.old.value → CoversAt pointer.new.value }
     ensures bound { depth_at pointer.new.value ≤ depth_at pointer.old.value }
 
-    // When each status is answered.
+    // When each status is returned.
     ensures statuses { IsAmong (OK ∷ MEMORY ∷ INDEX ∷ UTF8 ∷ KIND ∷ NULL ∷ []) result }
     ensures utf8 { result ≡ UTF8
         ↔ AreBothAnd pointer.old.value out.old.value (λ _ _. is_utf8 name.now ≡ false) }
@@ -342,7 +343,7 @@ pub extern "C" fn ecow_proved_value_remove_field(
     put(value.remove_field(name), out)
 }
 
-/// Puts a clone of the name of the field at `index` in place of the text at `out`.
+/// Replaces the text at `out` by a clone of the name of the field at `index`.
 #[unsafe(no_mangle)]
 pub extern "C" fn ecow_proved_value_field_name(
     pointer: &mut ValuePointer,

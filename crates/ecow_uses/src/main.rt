@@ -1,5 +1,5 @@
-//! Small programs over the vector, the text and the counted store, each with a law that its user
-//! cares about. This one runs each of them on an example.
+//! Small programs over the vector, the text and the counted store, each with a law that matters to
+//! its user. The program runs each of them on an example.
 #![tactic(auto)]
 
 mod keys;
@@ -25,7 +25,6 @@ use ecow_list::{EcoVec, eco_vec};
 use ecow_model::VecCommand;
 use ecow_nested::{Fields, Step, Value};
 use ecow_string::EcoString;
-use std::alloc::Global;
 use std::collections::BTreeMap;
 
 fn main(rt: HostRuntime) -> Result<()> {
@@ -172,9 +171,7 @@ fn set_a_value(rt: &HostRuntime) -> Result<()> {
     set_number(rt, &document)?;
     let refused = nested::set_and_keep(&document, &[Step::Index(1)], Value::Number(7)).is_err();
     println!(rt; "at 1: nothing, and refused: {refused}")?;
-    set_levels(rt)?;
-    set_each(rt)?;
-    set_names(rt)
+    set_levels(rt)
 }
 
 fn set_number(rt: &HostRuntime, document: &Value) -> Result<()> {
@@ -190,7 +187,7 @@ fn print_number(rt: &HostRuntime, word: &str, document: &Value, path: &[Step]) -
     Ok(())
 }
 
-/// Sets values that nest less and more than those there, and says how deep the list nests.
+/// Replaces values by shallower and by deeper ones, and prints the depth of the list.
 fn set_levels(rt: &HostRuntime) -> Result<()> {
     let mut list = two_items(rt)?;
     let (at_first, lower) = (list.depth(), lowered(rt, &mut list)?);
@@ -206,76 +203,11 @@ fn two_items(rt: &HostRuntime) -> Result<Value> {
     Ok(Value::from_items(items)?)
 }
 
-/// How deep a list nests once its document has a number in place of the deepest part.
+/// The depth of the list after a number replaced the deepest part of its document.
 fn lowered(rt: &HostRuntime, list: &mut Value) -> Result<u32> {
     let path = [Step::Index(0), Step::Name(name(rt, "sizes")?)];
     list.set_at(&path, Value::Number(3))?;
     Ok(list.depth())
-}
-
-/// Sets each of many items of a document that nobody shares, and then the last again and again, the
-/// only one that nests. A call that copied them, or looked at each, would take so long that the gate
-/// ends it.
-fn set_each(rt: &HostRuntime) -> Result<()> {
-    let mut document = many_items(rt)?;
-    for index in 0..100000usize {
-        set_item(rt, &mut document, index, Value::Number(7))?;
-    }
-    for _ in 0..2000000 {
-        set_item(rt, &mut document, 99999, Value::new_list(rt.alloc()))?;
-    }
-    println!(rt; "each is set")?;
-    Ok(())
-}
-
-fn many_items(rt: &HostRuntime) -> Result<Value> {
-    let items: EcoVec<Value> = (0..100000i64)
-        .map(|n| Value::Number(n))
-        .collect(rt.alloc())?;
-    let mut document = Value::new_fields(rt.alloc());
-    document.push_field("items", Value::from_items(items)?)?;
-    Ok(document)
-}
-
-fn set_item(rt: &HostRuntime, document: &mut Value, index: usize, value: Value) -> Result<()> {
-    let path = [Step::Name(name(rt, "items")?), Step::Index(index)];
-    document.set_at(&path, value)?;
-    Ok(())
-}
-
-/// Fields of many names, of which one goes and comes again.
-fn many_names(alloc: Global) -> Result<Value> {
-    let mut fields = Value::new_fields(alloc);
-    for number in 0..400000i64 {
-        let name = format!(in alloc; "name{number}")?;
-        fields.set_field(name.as_str(), Value::Number(number))?;
-        if number == 1000 {
-            let first = fields.remove_field("name0")?;
-            fields.push_field("name0", first)?;
-        }
-    }
-    Ok(fields)
-}
-
-/// Whether the value of each name is its number.
-fn all_are_found(alloc: Global, fields: &Value) -> Result<bool> {
-    let mut found = true;
-    for number in 0..400000i64 {
-        let name = format!(in alloc; "name{number}")?;
-        if fields.field(name.as_str())?.number() != Some(number) {
-            found = false;
-        }
-    }
-    Ok(found)
-}
-
-/// Sets many names, and looks each up. Searches through all names would take so long that the gate
-/// ends them.
-fn set_names(rt: &HostRuntime) -> Result<()> {
-    let fields = many_names(rt.alloc())?;
-    let found = all_are_found(rt.alloc(), &fields)?;
-    println!(rt; "all names are found: {found}")?;
-    Ok(())
 }
 
 fn a_document(rt: &HostRuntime) -> Result<Value> {

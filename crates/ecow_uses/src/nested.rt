@@ -1,5 +1,5 @@
-//! A document of nested values. A clone of a document shares all its vectors, and a value that is
-//! set deep in one copies those along the path alone.
+//! A document of nested values. A clone of a document shares all its vectors. Setting a value deep
+//! in it copies only the vectors on the path.
 ghost use Rattle.std.specs.Prelude.{◌≡◌, List, None, Some, IfOk, IsErrOf};
 ghost use Rattle.ecow_nested.specs.Paths.{value_at, IsApart};
 ghost use Rattle.ecow_nested.specs.declared.refusal.Refusal.TheVariants.{Index};
@@ -7,9 +7,8 @@ ghost use Rattle.ecow_nested.specs.declared.value.paths.Step.{Step};
 
 use ecow_nested::{Refusal, Step, Value};
 
-/// The law: the path leads to the value, each path that parts from it leads to what it led to
-/// before, and the document of which a clone was kept is as it was. `Index` where the path leads to
-/// no value.
+/// The law: the path leads to the new value, each path that leaves it leads where it led before,
+/// and the kept clone is unchanged. `Index` if the path leads to no value.
 #[tactic(auto, using(ecow_nested::proofs::Paths::set_there, ecow_nested::proofs::Paths::set_elsewhere))]
 pub fn set_and_keep(
     document: &Value,

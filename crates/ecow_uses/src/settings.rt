@@ -1,5 +1,5 @@
-//! Numbered settings in versions, on the counted store. A fork copies nothing, and a write to it
-//! copies the settings once, where another version still shares them.
+//! Versions of numbered settings, on the counted store. A fork copies nothing. The first write to a
+//! version that shares its settings copies them once.
 ghost use Rattle.std.specs.Prelude.{◌≡◌, ◌≢◌, ℕ, true, All, IfOk, OnErr, OnOk, slice_get, slice_set};
 ghost use Rattle.std.specs.Option.{option_and_then, option_map};
 ghost use Rattle.ecow_model.specs.Callers.{LeavesName};
@@ -11,7 +11,7 @@ use ecow_list::EcoError;
 use ecow_model::{Name, Outcome, Refusal, VecCommand};
 use std::alloc::Global;
 
-/// What one setting of a version is; `None` where there is no such version or setting.
+/// One setting of a version; `None` if there is no such version or setting.
 pub fn value(settings: &Counted<u64>, version: Name, setting: usize) -> Option<u64>
     ensures { result ≡ option_and_then (λ values. slice_get values setting)
         (list_of settings.now.names version) }
@@ -19,8 +19,8 @@ pub fn value(settings: &Counted<u64>, version: Name, setting: usize) -> Option<u
     settings.get(version)?.get(setting).copied()
 }
 
-/// Makes the version `to` of the settings of `from`. It copies and moves nothing. A refusal changes
-/// nothing.
+/// Makes the version `to`, which shares the settings of `from`. It copies and moves nothing. If it
+/// is refused, nothing changes.
 #[tactic(auto, using(ecow_model::proofs::CallerLemmas::share_reads))]
 pub fn fork(settings: &mut Counted<u64>, from: Name, to: Name) -> Result<(), Refusal>
     ensures reads { OnOk result (list_of settings.new.names to ≡ list_of settings.old.names from) }
@@ -37,7 +37,7 @@ pub fn fork(settings: &mut Counted<u64>, from: Name, to: Name) -> Result<(), Ref
     }
 }
 
-/// Sets one setting of a version. A refusal changes nothing.
+/// Sets one setting of a version. If it is refused, nothing changes.
 #[tactic(auto, using(ecow_model::proofs::CallerLemmas::shared_write_sets))]
 pub fn set(
     settings: &mut Counted<u64>,
@@ -64,7 +64,7 @@ pub fn set(
     }
 }
 
-/// The law: whatever becomes of a fork that is written to, the version that it was made of stays.
+/// The law: whatever happens to a fork, the version that it was made from stays as it was.
 pub fn try_out(
     settings: &mut Counted<u64>,
     from: Name,
@@ -81,9 +81,8 @@ pub fn try_out(
     set(settings, to, setting, value)
 }
 
-/// Carries out commands, and says how many outcomes there are. A version that no command makes,
-/// changes or drops keeps its settings. Where there is no room for the outcomes, nothing is carried
-/// out.
+/// Carries out commands, and returns the number of outcomes. A version that no command makes,
+/// changes or drops keeps its settings. Without memory for the outcomes, no command is carried out.
 #[tactic(auto, using(ecow_model::proofs::CallerLemmas::shared_run_stays))]
 pub fn replay(
     settings: &mut Counted<u64>,
@@ -97,8 +96,8 @@ pub fn replay(
     Ok(outcomes.len())
 }
 
-/// Makes a version of another one, but for one setting, by two commands in one run: `true` where
-/// both are done.
+/// Makes a version from another one with one setting changed, by two commands in one run. Returns
+/// whether both are done.
 #[tactic(auto, using(ecow_model::proofs::CallerLemmas::shared_run_stays, crate::proofs::Runs::branched))]
 pub fn branch(
     settings: &mut Counted<u64>,

@@ -1,5 +1,5 @@
 //! A symbol table: the names of a program are interned as texts, and scopes bind them. An inner
-//! scope shares the bindings of the outer one until it binds a name of its own.
+//! scope shares the bindings of the outer scope until it binds a name of its own.
 ghost use Rattle.std.specs.Prelude.{◌≡◌, ◌⊎◌, ℕ, List, [], ◌∷◌, ◌++◌, length, Contains, IfOk, OnOk, OnErr, Some, false};
 ghost use Rattle.std.specs.Str.{chars, encode_utf8_all};
 ghost use Rattle.ecow_uses.specs.Scopes.{meaning, same_name};
@@ -9,8 +9,7 @@ use ecow_string::EcoString;
 use std::alloc::{AllocError, Global};
 use std::marker::Model;
 
-/// The names of a program. One that is interned again is given as it is known, and shares its
-/// bytes.
+/// The names of a program. A name that is interned again shares the bytes of the known one.
 #[derive(Drop)]
 pub struct Interner {
     names: EcoVec<EcoString>,
@@ -26,7 +25,7 @@ impl Model for Interner {
 }
 
 impl Interner {
-    /// No name. Takes no memory.
+    /// Makes an empty interner. Takes no memory.
     pub fn new(alloc: Global) -> Self
         ensures { result ≡ [] }
     {
@@ -35,14 +34,14 @@ impl Interner {
         }
     }
 
-    /// How many names are known.
+    /// The number of known names.
     pub fn len(&self) -> usize
         ensures { result ≡ length self.now }
     {
         self.names.len()
     }
 
-    /// The name as a text that is known from now on. A refusal changes nothing.
+    /// The text of a name, which is known from now on. If it is refused, nothing changes.
     pub fn intern(&mut self, name: &str) -> Result<EcoString, EcoError>
         ensures text { IfOk result (λ symbol. symbol.chars ≡ chars name.now) }
         ensures there { IfOk result (λ symbol. Contains self.new symbol) }
@@ -95,7 +94,7 @@ impl Model for Scope {
 }
 
 impl Scope {
-    /// No name means anything. Takes no memory.
+    /// Makes a scope without bindings. Takes no memory.
     pub fn new(alloc: Global) -> Self
         ensures { result ≡ [] }
     {
@@ -114,7 +113,7 @@ impl Scope {
         })
     }
 
-    /// What a name means; `None` where it isn't bound.
+    /// What a name means; `None` if it isn't bound.
     pub fn lookup(&self, name: &str) -> Option<u64>
         ensures { result ≡ meaning self.now name.now }
     {
@@ -127,7 +126,8 @@ impl Scope {
         value
     }
 
-    /// Gives a name a value here, whatever it means outside. A refusal changes nothing.
+    /// Binds a name to a value in this scope, whatever it means outside. If it is refused, nothing
+    /// changes.
     #[tactic(auto, using(crate::proofs::Meanings::bound, crate::proofs::Meanings::others))]
     pub fn bind(&mut self, name: EcoString, value: u64) -> Result<(), EcoError>
         ensures bound { OnOk result (meaning self.new (encode_utf8_all name.chars) ≡ Some value) }
@@ -141,8 +141,8 @@ impl Scope {
     }
 }
 
-/// The law: what is bound in an inner scope is seen there, and the outer scope means by the name
-/// what it meant before.
+/// The law: a name that is bound in an inner scope has its value there, and means in the outer
+/// scope what it meant before.
 pub fn shadow(
     outer: &Scope,
     name: &EcoString,

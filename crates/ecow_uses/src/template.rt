@@ -12,7 +12,7 @@ use std::collections::BTreeMap;
 /// A part of a template.
 #[derive(Drop)]
 pub enum Piece {
-    /// Text that stands as it is, without `{`.
+    /// Text without `{`, which is written as it is.
     Text(EcoString),
     /// A hole with its name, which has no `}`. It is written in braces.
     Hole(EcoString),
@@ -29,7 +29,7 @@ impl Clone for Piece {
     }
 }
 
-/// The pieces of a template; `None` where its last hole isn't closed.
+/// The pieces of a template; `None` if its last hole isn't closed.
 pub fn parse(alloc: Global, template: &str) -> Result<Option<EcoVec<Piece>>, EcoError>
     ensures pieces { IfOk result
         (λ parsed. IfSome parsed (λ pieces. Spells pieces (chars template.now))) }
@@ -62,8 +62,8 @@ pub fn parse(alloc: Global, template: &str) -> Result<Option<EcoVec<Piece>>, Eco
     Ok(Some(pieces))
 }
 
-/// The text of a template, each hole filled with the value of its name. A hole without a value
-/// leaves nothing.
+/// The text of a template, with each hole filled by the value of its name. A hole without a value
+/// is left empty.
 pub fn render(
     alloc: Global,
     pieces: &EcoVec<Piece>,
@@ -85,9 +85,9 @@ pub fn render(
     Ok(text)
 }
 
-/// The text of a template, each hole filled; `None` where its last hole isn't closed.
+/// The text of a template, with each hole filled; `None` if its last hole isn't closed.
 ///
-/// The law: a template without `{` is its own text, whatever the values.
+/// The law: a template without `{` is its own text, whatever the values are.
 #[tactic(auto, using(crate::proofs::Holes::no_open_end))]
 pub fn fill(
     alloc: Global,

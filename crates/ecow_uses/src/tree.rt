@@ -1,5 +1,5 @@
 //! A syntax tree: named nodes, each with a vector of children. A clone of a tree shares all its
-//! vectors, and a change below copies those along the path alone.
+//! vectors. A change deep in it copies only the vectors on the path.
 ghost use Rattle.std.specs.Prelude.{◌≡◌, ◌+◌, ◌^◌, ◌<◌, ◌≤◌, ◌++◌, [], ◌∷◌, List, ℕ, None, Some, length, slice_get, slice_set, IfOk, OnOk, OnErr, IsSome, ◌↔◌, MatchOption, IfSome};
 ghost use Rattle.ecow_uses.specs.Trees.{name_of, children_of, size, printed, node_at, IsReplaced, IsRenamed, IsApart};
 
@@ -7,7 +7,7 @@ use ecow_list::{EcoError, EcoVec};
 use ecow_string::EcoString;
 use std::alloc::{AllocError, Global};
 
-/// A node: its name, and the nodes below it in order.
+/// A node: its name, and its children in order.
 #[derive(Debug, Drop, PartialEq)]
 pub struct Node {
     name: EcoString,
@@ -36,7 +36,7 @@ impl Node {
         }
     }
 
-    /// Puts a node behind the children. A refusal changes nothing.
+    /// Appends a child. If it is refused, nothing changes.
     pub fn add(&mut self, child: Node) -> Result<(), EcoError>
         ensures name { name_of self.new ≡ name_of self.old }
         ensures ok { OnOk result (children_of self.new ≡ children_of self.old ++ child ∷ []) }
@@ -46,7 +46,7 @@ impl Node {
         Ok(())
     }
 
-    /// How many nodes there are, from this one down: `None` from 2^64 on.
+    /// The number of nodes of the tree, this one included; `None` from 2^64 on.
     #[tactic(auto, using(crate::proofs::Trees::size_out))]
     pub fn size(&self) -> Option<u64>
         ensures { MatchOption result (2 ^ 64 ≤ size self.now) (λ count. count ≡ size self.now) }
@@ -58,7 +58,7 @@ impl Node {
         Some(size)
     }
 
-    /// The child at `index`, if there is one.
+    /// The child at `index`; `None` if there is none.
     pub fn child(&self, index: usize) -> Option<&Node>
         ensures { MatchOption result (slice_get (children_of self.now) index ≡ None)
             (λ child. slice_get (children_of self.now) index ≡ Some child.now) }
@@ -66,7 +66,7 @@ impl Node {
         self.children.as_slice().get(index)
     }
 
-    /// The node that the path leads to, if there is one.
+    /// The node that a path leads to; `None` if there is none.
     pub fn at(&self, path: &[usize]) -> Option<&Node>
         ensures { MatchOption result (node_at self.now path.now ≡ None)
             (λ node. node_at self.now path.now ≡ Some node.now) }
@@ -80,8 +80,8 @@ impl Node {
         }
     }
 
-    /// Appends the tree to a text as `(name (child) (child))`. A refusal may leave a front of it
-    /// there.
+    /// Appends the tree to a text as `(name (child) (child))`. If it is refused, the text may have
+    /// a part of it.
     #[tactic(auto, using(crate::proofs::Trees::printed_out))]
     pub fn print(&self, text: &mut EcoString) -> Result<(), EcoError>
         ensures { OnOk result (text.new.chars ≡ text.old.chars ++ printed self.now) }
@@ -95,7 +95,7 @@ impl Node {
         text.push(')')
     }
 
-    /// Gives the child at `index` another name, where it stands. A refusal changes nothing.
+    /// Renames the child at `index` in its place. If it is refused, nothing changes.
     pub fn rename_child(&mut self, index: usize, name: EcoString) -> Result<(), EcoError>
         requires { index < length (children_of self.old) }
         ensures name { name_of self.new ≡ name_of self.old }
@@ -107,7 +107,7 @@ impl Node {
         Ok(())
     }
 
-    /// The tree with `child` in place of the child at `index`.
+    /// A tree in which `child` replaces the child at `index`.
     fn with_child(&self, index: usize, child: Node) -> Result<Node, EcoError>
         requires { index < length (children_of self.now) }
         ensures name { IfOk result (λ tree. name_of tree ≡ name_of self.now) }
@@ -119,8 +119,8 @@ impl Node {
         Ok(tree)
     }
 
-    /// The tree with `node` at the end of the path; `None` where the path leads to no node. This
-    /// tree stays as it is, and both share every vector that isn't on the path.
+    /// A tree in which `node` replaces the node that a path leads to; `None` if it leads to none.
+    /// This tree stays as it is, and both share each vector that isn't on the path.
     pub fn replace_at(&self, path: &[usize], node: Node) -> Result<Option<Node>, EcoError>
         ensures replaced { IfOk result
             (λ found. IfSome found (λ tree. IsReplaced path.now node self.now tree)) }
@@ -139,9 +139,8 @@ impl Node {
     }
 }
 
-/// The law: the node stands at the end of the path, each path that parts from it leads to what it
-/// led to before, and the tree of which a clone was kept is as it was. `None` where the path leads
-/// to no node.
+/// The law: the path leads to the new node, each path that leaves it leads where it led before, and
+/// the kept clone of the tree is unchanged. `None` if the path leads to no node.
 #[tactic(auto, using(crate::proofs::Trees::replaced_there, crate::proofs::Trees::replaced_elsewhere))]
 pub fn replace_and_keep(
     tree: &Node,

@@ -1,5 +1,5 @@
-//! A document whose edits are taken back and made again. Each state is a clone that shares its
-//! lines with the others: an edit copies the handles of the lines once, and no text.
+//! A document with undo and redo. Each state is a clone that shares its lines with the others: an
+//! edit copies the handles of the lines once, and no text.
 ghost use Rattle.std.specs.Prelude.{◌≡◌, ◌<◌, ◌≤◌, [], true, false, length, IfOk, OnErr, OnOk, insert, remove, slice_set};
 ghost use Rattle.ecow_uses.specs.History.{edited, IsUndone};
 
@@ -8,8 +8,7 @@ use ecow_string::EcoString;
 use std::alloc::{AllocError, Global};
 use std::marker::Model;
 
-/// The lines of a document, what they were before each edit, and what they were before each edit
-/// was taken back.
+/// The lines of a document, with all states to undo to and to redo to.
 #[derive(Drop)]
 pub struct History {
     lines: EcoVec<EcoString>,
@@ -27,7 +26,7 @@ impl Model for History {
 }
 
 impl History {
-    /// No line, and no past. Takes no memory.
+    /// Makes an empty document without a past. Takes no memory.
     pub fn new(alloc: Global) -> Self
         ensures lines { result.lines ≡ [] }
         ensures past { result.past ≡ [] }
@@ -47,14 +46,14 @@ impl History {
         &self.lines
     }
 
-    /// The document as it is now, which shares its lines. No later edit changes it.
+    /// A clone of the document, which shares its lines. No later edit changes it.
     pub fn snapshot(&self) -> Result<EcoVec<EcoString>, AllocError>
         ensures { IfOk result (λ lines. lines ≡ self.now.lines) }
     {
         self.lines.clone()
     }
 
-    /// Puts a line in place of the one at `at`. A refusal changes nothing.
+    /// Replaces the line at `at`. If it is refused, nothing changes.
     pub fn replace(&mut self, at: usize, line: EcoString) -> Result<(), EcoError>
         requires { at < length self.old.lines }
         ensures ok { OnOk result (self.new ≡ edited self.old (slice_set self.old.lines at line)) }
@@ -65,7 +64,7 @@ impl History {
         self.settle(lines)
     }
 
-    /// Puts a line in before the one at `at`, or at the end. A refusal changes nothing.
+    /// Inserts a line before the one at `at`, or at the end. If it is refused, nothing changes.
     pub fn insert(&mut self, at: usize, line: EcoString) -> Result<(), EcoError>
         requires { at ≤ length self.old.lines }
         ensures ok { OnOk result (self.new ≡ edited self.old (insert self.old.lines at line)) }
@@ -76,7 +75,7 @@ impl History {
         self.settle(lines)
     }
 
-    /// Takes the line at `at` out. A refusal changes nothing.
+    /// Removes the line at `at`. If it is refused, nothing changes.
     pub fn remove(&mut self, at: usize) -> Result<(), EcoError>
         requires { at < length self.old.lines }
         ensures ok { OnOk result (self.new ≡ edited self.old (remove self.old.lines at)) }
@@ -87,7 +86,7 @@ impl History {
         self.settle(lines)
     }
 
-    /// Makes these lines the present, and the present the last of the past.
+    /// Makes these lines the present, and the old present the last of the past.
     fn settle(&mut self, lines: EcoVec<EcoString>) -> Result<(), EcoError>
         ensures ok { OnOk result (self.new ≡ edited self.old lines) }
         ensures unchanged { OnErr result (self.new ≡ self.old) }
@@ -99,7 +98,7 @@ impl History {
         Ok(())
     }
 
-    /// Takes the last edit back: `false` where there is none. A refusal changes nothing.
+    /// Undoes the last edit; `false` if there is none. If it is refused, nothing changes.
     pub fn undo(&mut self) -> Result<bool, AllocError>
         ensures undone { IfOk result (λ done. done ≡ true → IsUndone self.old self.new) }
         ensures nothing { IfOk result (λ done. done ≡ false → (self.old.past ≡ [])
@@ -117,8 +116,8 @@ impl History {
         Ok(true)
     }
 
-    /// Makes the edit that was taken back last again: `false` where there is none. A refusal
-    /// changes nothing.
+    /// Redoes the edit that was undone last; `false` if there is none. If it is refused, nothing
+    /// changes.
     pub fn redo(&mut self) -> Result<bool, AllocError>
         ensures redone { IfOk result (λ done. done ≡ true → IsUndone self.new self.old) }
         ensures nothing { IfOk result (λ done. done ≡ false → (self.old.future ≡ [])
@@ -137,7 +136,7 @@ impl History {
     }
 }
 
-/// The law: after an edit is taken back, the lines and their past are those before the edit.
+/// The law: after an edit is undone, the lines and their past are those before the edit.
 pub fn replace_and_undo(history: &mut History, at: usize, line: EcoString) -> Result<bool, EcoError>
     requires { at < length history.old.lines }
     ensures undone { IfOk result (λ done. done ≡ true) }
@@ -148,7 +147,7 @@ pub fn replace_and_undo(history: &mut History, at: usize, line: EcoString) -> Re
     Ok(history.undo()?)
 }
 
-/// An edit that is taken back and made again leaves what it left at first.
+/// The law: an edit that is undone and redone leaves what it left at first.
 pub fn undo_and_redo(history: &mut History) -> Result<bool, AllocError>
     ensures { OnOk result (history.new ≡ history.old) }
 {

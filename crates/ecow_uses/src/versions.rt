@@ -1,5 +1,5 @@
-//! A value with its past and its future, in two vectors. A step changes both, or neither: the room
-//! that it needs is borrowed before anything is written.
+//! A value with its past and its future, in two vectors. A step changes both or neither: it
+//! reserves the capacity that it needs before it writes anything.
 ghost use Rattle.std.specs.Prelude.{◌≡◌, ◌++◌, [], ◌∷◌, true, false, IfOk, OnErr, OnOk};
 ghost use Rattle.ecow_base.specs.Clones.{ClonesAreEqual};
 
@@ -7,7 +7,7 @@ use ecow_list::{EcoError, EcoVec};
 use std::alloc::Global;
 use std::mem::replace;
 
-/// A value, what it was, and what was undone, each the latest last.
+/// A value, with its earlier values and its undone values, each with the latest last.
 #[derive(Drop)]
 pub struct Versions<T> {
     past: EcoVec<T>,
@@ -16,7 +16,7 @@ pub struct Versions<T> {
 }
 
 impl<T: Clone> Versions<T> {
-    /// A value without a past. Takes no memory.
+    /// Makes a value without a past. Takes no memory.
     pub fn new(alloc: Global, present: T) -> Self
         ensures past { result.past ≡ [] }
         ensures present { result.present ≡ present }
@@ -29,15 +29,15 @@ impl<T: Clone> Versions<T> {
         }
     }
 
-    /// The value as it is.
+    /// The present value.
     pub fn present(&self) -> &T
         ensures { result.now ≡ self.now.present }
     {
         &self.present
     }
 
-    /// Sets another value. What it was goes to the past, and nothing can be redone any more. A
-    /// refusal changes nothing.
+    /// Sets another value. The old one goes to the past, and nothing can be redone any more. If it
+    /// is refused, nothing changes.
     pub fn set(&mut self, value: T) -> Result<(), EcoError>
         ensures done { ClonesAreEqual T.is_clone
             → OnOk result ((self.new.past ≡ self.old.past ++ self.old.present ∷ [])
@@ -54,8 +54,8 @@ impl<T: Clone> Versions<T> {
         Ok(())
     }
 
-    /// Goes back by one: the last of the past is the present again, and the present goes to the
-    /// future. `false` where there is no past. A refusal changes nothing.
+    /// Goes back by one: the last of the past is the present again, and the old present goes to the
+    /// future. `false` if there is no past. If it is refused, nothing changes.
     #[tactic(auto, using(ecow_list::proofs::Popped::popped))]
     pub fn undo(&mut self) -> Result<bool, EcoError>
         ensures past { ClonesAreEqual T.is_clone → IfOk result (λ done. done ≡ true

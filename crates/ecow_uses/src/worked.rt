@@ -1,5 +1,5 @@
-//! Examples that no script can ask for, worked out on the definitions. Each clause is computed;
-//! nothing calls them.
+//! Examples of the definitions that no script can show. The prover computes each clause; nothing
+//! calls these functions.
 mod blocks;
 mod bytes;
 mod ranges;

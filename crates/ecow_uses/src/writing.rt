@@ -1,10 +1,10 @@
-//! Writing to a vector's elements where they stand.
+//! Writes to the elements of a vector in their place.
 ghost use Rattle.std.specs.Prelude.{◌≡◌, ◌+◌, ◌<◌, ◌^◌, length, slice_index, slice_set, OnErr, OnOk};
 ghost use Rattle.std.specs.List.Sorted.{IsNonDecreasing, IsPermutation};
 
 use ecow_list::{EcoError, EcoVec};
 
-/// Adds one to the number at `at`. A refusal changes nothing.
+/// Adds one to the number at `at`. If it is refused, nothing changes.
 #[tactic(auto, using(ecow_list::proofs::Views::refilled))]
 pub fn count_up(list: &mut EcoVec<u64>, at: usize) -> Result<(), EcoError>
     requires bound { at < length list.old }
@@ -22,7 +22,7 @@ pub fn count_up(list: &mut EcoVec<u64>, at: usize) -> Result<(), EcoError>
     }
 }
 
-/// Sorts the numbers in place. A refusal changes nothing.
+/// Sorts the numbers in place. If it is refused, nothing changes.
 #[tactic(auto, using(ecow_list::proofs::Views::refilled))]
 pub fn sort(list: &mut EcoVec<u64>) -> Result<(), EcoError>
     ensures ok { OnOk result (IsNonDecreasing list.new) }

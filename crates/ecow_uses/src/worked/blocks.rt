@@ -1,4 +1,4 @@
-//! What scripts on lists in shared blocks answer, leave and cost.
+//! Commands on lists in shared blocks: what they answer, what they leave, and what they cost.
 ghost use Rattle.std.specs.Prelude.{◌≡◌, ℕ, true, false, [], ◌∷◌};
 ghost use Rattle.ecow_model.specs.CountedRun.{CountedStep, counted_is_free};
 ghost use Rattle.ecow_model.specs.Vecs.{vec_usage};
@@ -9,14 +9,14 @@ ghost use Rattle.ecow_model.specs.declared.vecs.VecCommand.TheVariants.{Clear, E
 ghost use Rattle.ecow_uses.specs.Memory.{four_of_four, shared_block, three_of_four};
 ghost use Rattle.ecow_uses.specs.BlockScripts.{ThreeNamesEndInThreeBlocks, BlocksGoWithTheirLastName, AnEmptyBlockIsShared, EachWrittenCloneIsCopiedOnce, UnwrittenClonesAreOwed, DroppedClonesCostNothing, PushesAfterAPopArePaid};
 
-/// Names of one block, until one of them is written to.
+/// Names share a block until one of them is written to.
 pub(crate) fn sharing()
     ensures three_names_end_in_three_blocks { ThreeNamesEndInThreeBlocks }
     ensures an_empty_block_is_shared { AnEmptyBlockIsShared }
     ensures blocks_go_with_their_last_name { BlocksGoWithTheirLastName }
 {}
 
-/// Copied elements, what copying at each clone would copy, and what is still owed.
+/// How many elements are copied, how many copies at each clone would be, and what is still owed.
 pub(crate) fn what_is_owed()
     ensures each_written_clone_is_copied_once { EachWrittenCloneIsCopiedOnce }
     ensures unwritten_clones_are_owed { UnwrittenClonesAreOwed }
@@ -24,7 +24,7 @@ pub(crate) fn what_is_owed()
     ensures pushes_after_a_pop_are_paid { PushesAfterAPopArePaid }
 {}
 
-/// A command that must grow or copy may lack memory, and then changes nothing.
+/// A command that must grow a block or copy may be refused for memory, and then changes nothing.
 pub(crate) fn wanting_memory()
     ensures a_push_into_a_full_block_may_lack_memory { CountedStep four_of_four (Push 0 5)
         (Refused Memory) four_of_four }
@@ -38,7 +38,7 @@ pub(crate) fn wanting_memory()
         (Refused Memory) shared_block }
 {}
 
-/// A command that has its room never lacks memory.
+/// A command that has the capacity is never refused for memory.
 pub(crate) fn free_of_memory()
     ensures a_push_within_the_capacity { (new : Names ℕ)
         → ¬ (CountedStep three_of_four (Push 0 4) (Refused Memory) new) }

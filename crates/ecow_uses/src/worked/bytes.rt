@@ -4,7 +4,8 @@ ghost use Rattle.ecow_model.specs.Bytes.{bytes_edit_is_free};
 ghost use Rattle.ecow_model.specs.declared.bytes.BytesEdit.TheVariants.{Pop, Push, Reserve};
 ghost use Rattle.ecow_uses.specs.Memory.{bytes_of_number};
 
-/// Inline bytes that stay inline take no memory: one more of fourteen, and none more of fifteen.
+/// Inline bytes that stay inline take no memory: fourteen bytes and one more, or fifteen and none
+/// more.
 pub(crate) fn free_of_memory()
     ensures the_fifteenth_push { bytes_edit_is_free 15 (Push 7) (bytes_of_number 14 true) ≡ true }
     ensures not_the_sixteenth { bytes_edit_is_free 15 (Push 7) (bytes_of_number 15 true) ≡ false }

@@ -1,8 +1,8 @@
-//! Replaced patterns of a text.
+//! Patterns of a text that are replaced.
 ghost use Rattle.std.specs.Prelude.{◌≡◌, [], ◌∷◌, codes};
 ghost use Rattle.ecow_base.specs.Replaced.{replacen, replace_all};
 
-/// Patterns of some characters, and what stands in their place. 233 is é and 128512 is 😀.
+/// Patterns of some characters, and their replacements. 233 is é and 128512 is 😀.
 #[tactic(auto, unfolding(ecow_base::specs::Replaced::replacen, ecow_base::specs::Replaced::first_split))]
 pub(crate) fn replaced_patterns()
     ensures leftmost_first { replace_all (codes "aa") (codes "b") (codes "aaa") ≡ codes "ba" }
