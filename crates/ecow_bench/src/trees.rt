@@ -113,7 +113,7 @@ fn replace_leaf(
     replace(root, path.as_slice(), text)
 }
 
-/// Replaces `count` leaves of a tree with `levels` levels above its leaves, and keeps each old
+/// Replaces `edits` leaves of a tree with `levels` levels above its leaves, and keeps each old
 /// tree.
 pub(crate) fn trees(alloc: Global, levels: usize, edits: u64) -> Result<u64, EcoError> {
     let mut random = Random::new();
