@@ -13,7 +13,7 @@ rm -f "$to"/*.md
     echo
     echo "The public calls, trait methods and laws of version $(cat VERSION) with their clauses, a page a crate. A trait"
     echo "method without clauses has those of its trait. Behind the calls of a file stand the \`ghost use\` lines that bring"
-    echo "their words. \`docs/CALLING.md\` says what they mean for a caller, and \`docs/DEFINITIONS.md\` where the words stand."
+    echo "their words. \`docs/CALLING.md\` says what they mean for a caller, and \`docs/PROVED.md\` where the words stand."
     echo "\`x.now\` is what stands behind a \`&\`, \`x.old\` and \`x.new\` what stands behind a \`&mut\` before and after the"
     echo "call, and \`x.entry\` a value at the call."
     echo
