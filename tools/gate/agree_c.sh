@@ -2,7 +2,7 @@
 # Compares the programs that the pages for callers quote with the files, and the version in the header and in the crate
 # for Rust with VERSION. The package for Python reads VERSION itself.
 set -eu
-cd "$(dirname "$0")/.."
+cd "$(dirname "$0")/../.."
 
 quoted_files=0
 quotes() { # PAGE FILE..
@@ -30,4 +30,4 @@ for said in "include/ecow.h: $numbers" "include/ecow.h: $quoted" "rust/Cargo.tom
     versions=$((versions + 1))
 done
 echo "$quoted_files programs stand in their pages, of version $version"
-tools/counts.sh agree_c.sh "$quoted_files programs" "$versions versions"
+tools/gate/counts.sh agree_c.sh "$quoted_files programs" "$versions versions"

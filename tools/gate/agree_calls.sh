@@ -1,8 +1,8 @@
 #!/bin/sh
 # Says where a public call of vectors, bytes or texts has no row in the tables of calls, crates/ecow_calls/src/tables.rt.
-# usage: tools/agree_calls.sh
+# usage: tools/gate/agree_calls.sh
 set -eu
-cd "$(dirname "$0")/.."
+cd "$(dirname "$0")/../.."
 
 # The allocator is named for code that is generic over values, and costs nothing.
 calls=$(sed -n 's/^    pub fn \([a-z_0-9]*\).*/\1/p' \
@@ -14,4 +14,4 @@ names=$(sed -n 's/.*"\([^"]*\)".*/\1/p' crates/ecow_calls/src/tables.rt | grep -
 missing=$(echo "$calls" | while read -r call; do echo "$names" | grep -qx "$call" || echo "$call"; done)
 [ -z "$missing" ] || { echo "no row in the tables of calls: $missing"; exit 1; }
 echo "$(echo "$calls" | wc -l) calls have their rows"
-tools/counts.sh agree_calls.sh "$(echo "$calls" | wc -l) calls"
+tools/gate/counts.sh agree_calls.sh "$(echo "$calls" | wc -l) calls"

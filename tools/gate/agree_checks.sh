@@ -3,7 +3,7 @@
 # else, and on programs that are wrong in one answer, cost, block or status. One that is wrong in nothing must pass. The
 # last line says how many checks refused theirs.
 set -eu
-cd "$(dirname "$0")/.."
+cd "$(dirname "$0")/../.."
 work=$(mktemp -d)
 trap 'rm -rf "$work"' EXIT
 export LC_ALL=C WRONG= EACH= PROCESSORS=
@@ -11,11 +11,11 @@ checked=0
 
 # Says so where a tool passes.
 refuses() { # TOOL ARGUMENT.., in the copy
-    if (cd "$work/copy" && "tools/$@") > "$work/said" 2>&1; then
-        echo "tools/$* passes what it must refuse${WRONG:+: $WRONG}"
+    if (cd "$work/copy" && "tools/gate/$@") > "$work/said" 2>&1; then
+        echo "tools/gate/$* passes what it must refuse${WRONG:+: $WRONG}"
         exit 1
     fi
-    [ -s "$work/said" ] || { echo "tools/$* refuses without a word"; exit 1; }
+    [ -s "$work/said" ] || { echo "tools/gate/$* refuses without a word"; exit 1; }
     checked=$((checked + 1))
 }
 
@@ -25,9 +25,9 @@ sees() { # FAULTS TOOL ARGUMENT.., in the copy
     faults=$1
     shift
     rm -f "$work/copy/bin/counts"
-    (cd "$work/copy" && "tools/$@") > "$work/said" 2>&1 && grep -q "^$1 " "$work/copy/bin/counts" || {
+    (cd "$work/copy" && "tools/gate/$@") > "$work/said" 2>&1 && grep -q "^$1 " "$work/copy/bin/counts" || {
         cat "$work/said"
-        echo "tools/$* refuses what is right, or counts nothing"
+        echo "tools/gate/$* refuses what is right, or counts nothing"
         exit 1
     }
     for WRONG in $faults; do refuses "$@"; done
@@ -36,10 +36,10 @@ sees() { # FAULTS TOOL ARGUMENT.., in the copy
 
 # What a check is to count in the copy.
 counts() { # CHECK COUNT..
-    grep -v "^$1 " tools/counts.txt > "$work/copy/tools/counts.txt"
+    grep -v "^$1 " tools/gate/counts.txt > "$work/copy/tools/gate/counts.txt"
     check=$1
     shift
-    for count; do echo "$check $count" >> "$work/copy/tools/counts.txt"; done
+    for count; do echo "$check $count" >> "$work/copy/tools/gate/counts.txt"; done
 }
 
 # Makes a program of standard input.
@@ -59,9 +59,9 @@ agree_docs.sh docs/PROVED.md s/^| `ecow_block` | /&1/
 agree_docs.sh docs/uses/lines.md s/pub fn /pub fn another_/
 agree_docs.sh crates/ecow_atomic/src/shared.rt s/^    pub fn get_mut/&_one/
 agree_calls.sh crates/ecow_list/src/vec/edits.rt s/^    pub fn insert/&_one_more/
-agree_shipped.sh tools/vendor.sh s/^    vector) tops=.*/    vector) tops=ecow_block ;;/
-agree_shipped.sh tools/copy_crate.sh s/s.$from.$crate.g/&;1d/
-agree_shipped.sh tools/dist.sh s/ c.CPP.md / /
+agree_shipped.sh tools/ship/vendor.sh s/^    vector) tops=.*/    vector) tops=ecow_block ;;/
+agree_shipped.sh tools/ship/copy_crate.sh s/s.$from.$crate.g/&;1d/
+agree_shipped.sh tools/ship/dist.sh s/ c.CPP.md / /
 agree_edits.sh crates/ecow_list/must-fail/splice_stops_at_the_hint.edit s/^old: /&not there/
 agree_c.sh c/examples/first.c s/main/other/
 agree_c.sh VERSION s/^/1/
@@ -76,13 +76,13 @@ done < "$work/table"
 WRONG=
 
 # A program that asks for less than is to be refused.
-tools/shim.sh "$work/shim.so"
+tools/gate/shim.sh "$work/shim.so"
 said=$(REFUSE=1000000 LD_PRELOAD="$work/shim.so" git --version 2>&1 > "$work/none")
-[ "$said" = "fewer requests" ] || { echo "tools/refuse.c says \"$said\" where no request is refused"; exit 1; }
+[ "$said" = "fewer requests" ] || { echo "tools/gate/refuse.c says \"$said\" where no request is refused"; exit 1; }
 
 # Counts: another number, one below the least, what the table hasn't, one that isn't said, and checks that say nothing.
 counts sum.sh "3 rows" "2+ lines"
-(cd "$work/copy" && tools/counts.sh sum.sh "3 rows" "4 lines")
+(cd "$work/copy" && tools/gate/counts.sh sum.sh "3 rows" "4 lines")
 for said in "4 rows" "2 rows" "3 parts"; do refuses counts.sh sum.sh "$said" "2 lines"; done
 refuses counts.sh sum.sh "3 rows" "1 lines"
 refuses counts.sh sum.sh "3 rows"
@@ -118,13 +118,13 @@ sees "1 2 3 4 5 6 7 8 row left status" costs.sh "$work/program"
 
 # Refusals: each taken well, but for one.
 kit=$(dirname "$(rt doc | head -n 1)")
-"$kit/toolchain/bin/clang" -O1 -fno-builtin -fPIC -nostdinc -c tools/fake.c -o "$work/fake.o"
+"$kit/toolchain/bin/clang" -O1 -fno-builtin -fPIC -nostdinc -c tools/gate/fake.c -o "$work/fake.o"
 "$kit/bin/rattle-link" --target x86_64-unknown-linux-gnu --toolchain "$kit/toolchain" -o "$work/fake" "$work/fake.o" \
     2> "$work/none"
 counts refuse.sh "2 parts" "6 requests refused, of status 0" "8 processes that gave all back"
 sees "answer keeps status crash" refuse.sh "$work/fake"
 echo 2 | WRONG=crash REFUSE_EACH=1 LD_PRELOAD="$work/shim.so" "$work/fake" | grep -q '^request 2: status 13' || {
-    echo "tools/refuse.c says that a copy that crashes ends well"
+    echo "tools/gate/refuse.c says that a copy that crashes ends well"
     exit 1
 }
 
@@ -152,12 +152,13 @@ counts cases.sh "3 golden scripts" "6 answers" "60 cut scripts"
 sees "two flag alone message status cut" cases.sh "$work/program"
 
 # Scripts of which each request is refused: three for each with a command or two, and two that are drawn, in either store.
-printf '%s\n' 'draw 2 3' 'state vec vec new x' 'vec pop x' > "$work/copy/tools/states.txt"
+printf '%s\n' 'draw 2 3' 'state vec vec new x' 'vec pop x' > "$work/copy/tools/gate/states.txt"
 counts refuse_scripts.sh "10 scripts" "56 requests refused" "46 commands refused" "66 processes that gave all back"
 sees "output later keeps memory status" refuse_scripts.sh "$work/fake"
 
 # Large scripts, which aren't so large here: answered by what is wanted, in time that grows as their bytes.
-sed 's/many = 70000/many = 700/; s/count = 100000/count = 1000/' tools/large.awk > "$work/copy/tools/large.awk"
+sed 's/many = 70000/many = 700/; s/count = 100000/count = 1000/' tools/gate/large.awk \
+    > "$work/copy/tools/gate/large.awk"
 program << 'END'
 #!/bin/sh
 if [ -n "${LD_PRELOAD:-}" ]; then LD_PRELOAD='' exec "$0" "$@"; fi
@@ -196,7 +197,7 @@ sees "constant linear quadratic" growth.sh "$work/program"
 
 # Command lines: one by one what the table of them wants, but for the third.
 mkdir "$work/ends"
-sed -n "/<<'END'/,/^END/p" tools/ends.sh | sed '1d; $d' | awk -F ' *[|] ?' -v folder="$work/ends" '{
+sed -n "/<<'END'/,/^END/p" tools/gate/ends.sh | sed '1d; $d' | awk -F ' *[|] ?' -v folder="$work/ends" '{
     gsub(/, /, "\n", $3)
     print $2 > (folder "/status." NR)
     printf "%s", $3 ($3 == "" ? "" : "\n") > (folder "/out." NR)
@@ -236,14 +237,14 @@ PATH=$work/kit:$PATH
 sees "test run edit status" ci.sh ci.sh .
 PATH=$kept
 
-# The libraries for C, Python and Rust: compilers and what they make are stood for by tools/fake.sh.
+# The libraries for C, Python and Rust: compilers and what they make are stood for by tools/gate/fake.sh.
 for name in cc make nm pkg-config cmake valgrind python mypy cargo rustc rustfmt; do
-    cp tools/fake.sh "$work/tools/$name"
+    cp tools/gate/fake.sh "$work/tools/$name"
 done
 VERSION=$(cat VERSION) PATH=$work/tools:$PATH CC=cc CXX=none
 export VERSION PATH CC CXX
 mkdir -p "$work/copy/bin"
-: > "$work/copy/tools/refuse.c"
+: > "$work/copy/tools/gate/refuse.c"
 touch "$work/copy/bin/ecow.pc" "$work/copy/bin/libecow.a" "$work/copy/bin/ecow.h" "$work/tools/Python.h"
 costs=$(wc -l < c/tests/costs.out)
 words=$(wc -w < c/tests/costs.out)
@@ -254,12 +255,12 @@ sees "cost requests left status refused-left refused-status total first linked o
 PYTHON=$work/tools/python
 counts python.sh "5 tests" "$(($(git ls-files python/ecow | wc -l) + 4)) files"
 sees "wheel version file tests example" python.sh
-printf '#!/bin/sh\nmkdir -p "$1"\n' > "$work/copy/tools/erase.py"
-printf '#!/bin/sh\n' > "$work/copy/tools/erase_test.sh"
-printf '#!/bin/sh\ncat rust/erased.txt\n[ "$WRONG" != audit ] || echo 1\n' > "$work/copy/tools/erased_audit.sh"
+printf '#!/bin/sh\nmkdir -p "$1"\n' > "$work/copy/tools/ship/erase.py"
+printf '#!/bin/sh\n' > "$work/copy/tools/gate/erase_test.sh"
+printf '#!/bin/sh\ncat rust/erased.txt\n[ "$WRONG" != audit ] || echo 1\n' > "$work/copy/tools/gate/erased_audit.sh"
 counts rust_gate.sh "$((6 * $(git ls-files 'rust/tests/*.rs' | wc -l))) tests" \
     "$(wc -l < rust/erased.txt) lines of rust/erased.txt"
 sees "left-out empty status warning example audit" rust_gate.sh
 [ "$checked" -gt 0 ] || { echo "no check was tried"; exit 1; }
 echo "$checked checks refuse what they must not pass"
-tools/counts.sh agree_checks.sh "$checked refused"
+tools/gate/counts.sh agree_checks.sh "$checked refused"

@@ -3,7 +3,7 @@
 # the crates of each KIND (docs/CALLING.md), the code that docs/uses quotes, and that both counts of owners are called
 # alike (docs/ARCHITECTURE.md).
 set -eu
-cd "$(dirname "$0")/.."
+cd "$(dirname "$0")/../.."
 work=$(mktemp -d)
 trap 'rm -r "$work"' EXIT
 export LC_ALL=C
@@ -33,8 +33,9 @@ done | grep -v ' 0 0$' | sort | compare "docs/PROVED.md (<) and the code (>)"
 
 for kind in vector text nested store tool all; do
     sed -n "s/^| \`$kind\` | [^|]* | \([0-9]*\) |.*/\1/p" docs/CALLING.md > "$work/said"
-    tops=$(sed -n "s/^    $kind) tops=\"*\([a-z_ ]*\)\"* *;;/\1/p" tools/vendor.sh)
-    awk -F: -v tops="$tops" -f tools/below.awk crates.txt | grep -c '' | compare "docs/CALLING.md (<) and the code (>)"
+    tops=$(sed -n "s/^    $kind) tops=\"*\([a-z_ ]*\)\"* *;;/\1/p" tools/ship/vendor.sh)
+    awk -F: -v tops="$tops" -f tools/ship/below.awk crates.txt | grep -c '' |
+        compare "docs/CALLING.md (<) and the code (>)"
 done
 
 # The words of a file, with one blank between them.
@@ -64,4 +65,4 @@ promised() { # CRATE
 promised ecow_shared | sed 's/ecow_shared/ecow_atomic/g' > "$work/said"
 promised ecow_atomic | compare "ecow_shared (<) and ecow_atomic (>)"
 echo "$(wc -l < "$work/compared") lines and $pages pages say what the code has"
-tools/counts.sh agree_docs.sh "$(wc -l < "$work/compared") lines" "$pages pages"
+tools/gate/counts.sh agree_docs.sh "$(wc -l < "$work/compared") lines" "$pages pages"

@@ -2,7 +2,7 @@
 # Compares the edits that the prover must refuse with the code: what an edit takes away stands once in its file.
 # `rt ci` counts one that doesn't fit for nothing, and passes. The last line says how many were compared.
 set -eu
-cd "$(dirname "$0")/.."
+cd "$(dirname "$0")/../.."
 export LC_ALL=C
 
 edits=$(awk '
@@ -28,4 +28,4 @@ END {
     exit apart
 }' crates/*/must-fail/*.edit crates/*/edits/*.edit) || { echo "$edits"; exit 1; }
 echo "$edits edits fit their files"
-tools/counts.sh agree_edits.sh "$edits edits"
+tools/gate/counts.sh agree_edits.sh "$edits edits"

@@ -1,9 +1,9 @@
 #!/bin/sh
-# Makes each copy that tools/vendor.sh makes, and compares its crates with the table below, and its files and their
-# contents with those that git has. Likewise it packs the archives of tools/dist.sh, of an empty library, where there are
-# GNU tar, python3 and rustfmt.
+# Makes each copy that tools/ship/vendor.sh makes, and compares its crates with the table below, and its files and their
+# contents with those that git has. Likewise it packs the archives of tools/ship/dist.sh, of an empty library, where there
+# are GNU tar, python3 and rustfmt.
 set -eu
-cd "$(dirname "$0")/.."
+cd "$(dirname "$0")/../.."
 work=$(mktemp -d)
 trap 'rm -rf "$work"' EXIT
 export LC_ALL=C
@@ -24,7 +24,7 @@ while read -r kind names; do
         shared=ecow_shared
         [ "$count" = plain ] || shared=ecow_atomic
         to=$work/$kind-$count
-        tools/vendor.sh "$to" "$kind" "$count" > "$work/said"
+        tools/ship/vendor.sh "$to" "$kind" "$count" > "$work/said"
         for name in $names; do
             crate=ecow_${name#ecow}
             crate=${crate%_}
@@ -55,11 +55,11 @@ while read -r kind names; do
     done
 done < "$work/table"
 echo "$copies copies have the $files files that they are to have"
-tools/counts.sh agree_shipped.sh "$copies copies" "$files files"
+tools/gate/counts.sh agree_shipped.sh "$copies copies" "$files files"
 
 command -v python3 > "$work/said" && command -v rustfmt > "$work/said" && tar --version | grep -q GNU || {
     echo "the archives were not compared: this machine has no python3, rustfmt or GNU tar"
-    tools/counts.sh dist.sh skipped
+    tools/gate/counts.sh dist.sh skipped
     exit 0
 }
 mkdir -p "$work/here/bin"
@@ -89,7 +89,7 @@ archives=0
 for count in atomic plain; do
     archives=$((archives + 1))
     echo "($count count)" > "$work/here/bin/ecow.pc"
-    archive=$(cd "$work/here" && tools/dist.sh "$count")
+    archive=$(cd "$work/here" && tools/ship/dist.sh "$count")
     # What is proved has a gate of its own, which compiles it.
     tar tzf "$work/here/$archive" | sed 's|^[^/]*/||; /\/$/d; /^$/d; /^rust\/src\/proved\//d' | sort > "$work/packed"
     diff "$work/wanted" "$work/packed" || {
@@ -98,4 +98,4 @@ for count in atomic plain; do
     }
 done
 echo "$archives archives have their $(grep -c '' "$work/packed") files"
-tools/counts.sh dist.sh "$archives archives" "$(grep -c '' "$work/packed") files"
+tools/gate/counts.sh dist.sh "$archives archives" "$(grep -c '' "$work/packed") files"

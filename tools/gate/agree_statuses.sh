@@ -2,7 +2,7 @@
 # Compares the statuses, names and numbers, of the crate `ecow_c` and of the header with those that callers have compiled
 # in. The functions of C and C++ that take any status have a case for each.
 set -eu
-cd "$(dirname "$0")/.."
+cd "$(dirname "$0")/../.."
 work=$(mktemp -d)
 trap 'rm -r "$work"' EXIT
 printf '%s\n' 'OK 0' 'MEMORY 1' 'CAPACITY 2' 'INDEX 3' 'BOUNDARY 4' 'UTF8 5' 'NULL 6' 'KIND 7' 'DEPTH 9' > "$work/proved"
@@ -34,4 +34,4 @@ constants "$work/ecow.h" statuses ' *ECOW_' ''
 cases include/ecow.hpp
 cases c/ecow.c
 echo "$(grep -c '' "$work/compared") files have the $(grep -c '' "$work/statuses") statuses"
-tools/counts.sh agree_statuses.sh "$(grep -c '' "$work/compared") files" "$(grep -c '' "$work/statuses") statuses"
+tools/gate/counts.sh agree_statuses.sh "$(grep -c '' "$work/compared") files" "$(grep -c '' "$work/statuses") statuses"

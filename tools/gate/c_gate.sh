@@ -1,12 +1,14 @@
 #!/bin/sh
-# Tests the library for C that tools/threads_gate.sh has proved, where there is a C compiler
+# Tests the library for C that tools/gate/threads_gate.sh has proved, where there is a C compiler
 # ($CC, or cc).
 set -eu
-cd "$(dirname "$0")/.."
+cd "$(dirname "$0")/../.."
 if ! command -v ${CC:-cc} > /dev/null; then
     echo "the library for C was not tested: this machine has no C compiler"
-    for check in c_short.sh nm pkg-config first CMake C++17 C++20 python.sh valgrind; do tools/counts.sh $check skipped; done
+    for check in c_short.sh nm pkg-config first CMake C++17 C++20 python.sh valgrind; do
+        tools/gate/counts.sh $check skipped
+    done
     exit 0
 fi
-tools/lib.sh atomic
-tools/c_short.sh
+tools/ship/lib.sh atomic
+tools/gate/c_short.sh

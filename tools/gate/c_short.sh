@@ -2,14 +2,14 @@
 # Tests the library for C, which is in bin/, in less than a minute: with a C compiler ($CC, or cc), and with each of
 # nm, pkg-config, C++17, C++20, Python and valgrind that is there. The last line says which were.
 set -eu
-cd "$(dirname "$0")/.."
+cd "$(dirname "$0")/../.."
 cc=${CC:-cc}
 cxx=${CXX:-c++}
 out=$(mktemp -d)
 trap 'wait; rm -rf "$out"' EXIT
 export LC_ALL=C
 # Those of Python run beside the others.
-ECOW_EDITS=100 tools/python.sh > "$out/python" 2>&1 &
+ECOW_EDITS=100 tools/gate/python.sh > "$out/python" 2>&1 &
 python=$!
 with= without= runs=0 requests=0 returned=0
 
@@ -19,7 +19,7 @@ has() {
     shift
     if "$@" > /dev/null 2>&1; then with="$with, $name"; return; fi
     without="$without, $name"
-    tools/counts.sh "$name" skipped
+    tools/gate/counts.sh "$name" skipped
     return 1
 }
 
@@ -33,7 +33,7 @@ says() { # FILE COMMAND..
 }
 
 # The library that counts requests or refuses them, and says at the end what wasn't given back.
-tools/shim.sh "$out/shim.so"
+tools/gate/shim.sh "$out/shim.so"
 watched="env LEFT=1 LD_PRELOAD=$out/shim.so"
 echo "blocks left: 0" > "$out/none-left"
 
@@ -72,8 +72,8 @@ refuse_each() { # PROGRAM EDITS SETTING.., of the library that refuses
     returned=$((returned + $(grep -cxf "$out/none-left" "$out/total" || true)))
 }
 refuse_each edits 400 LEFT=1
-tools/counts.sh c_short.sh "$runs runs" "$(wc -l < "$out/counted") costs" "$(wc -w < "$out/counted") words of costs" \
-    "$requests requests refused" "$returned processes that gave all back"
+tools/gate/counts.sh c_short.sh "$runs runs" "$(wc -l < "$out/counted") costs" \
+    "$(wc -w < "$out/counted") words of costs" "$requests requests refused" "$returned processes that gave all back"
 
 # The count of the library, and the other one, which comes second in the header.
 needed=1 count=ATOMIC other=PLAIN
@@ -92,7 +92,7 @@ if has nm nm --version; then
         echo "include/ecow.h (<) and bin/libecow.so (>) have other names"
         exit 1
     }
-    tools/counts.sh nm "$(wc -l < "$out/declared") names"
+    tools/gate/counts.sh nm "$(wc -l < "$out/declared") names"
 fi
 
 # What is installed compiles and runs the first program, with the shared library and with the other one.
@@ -103,7 +103,7 @@ for header in ecow.h ecow.hpp; do cmp "include/$header" "$prefix/include/$header
 grep -qx "Version: $(cat VERSION)" "$described" || { echo "ecow.pc has another version"; exit 1; }
 if has pkg-config pkg-config --version; then
     flags=$(PKG_CONFIG_PATH=${described%/*} pkg-config --cflags --libs ecow)
-    tools/counts.sh pkg-config "$(echo $flags | wc -w) flags"
+    tools/gate/counts.sh pkg-config "$(echo $flags | wc -w) flags"
 else
     eval "$(grep '^[a-z]*=' "$described")"
     eval "flags=\"$(sed -n 's/^Cflags: //p; s/^Libs: //p' "$described" | tr '\n' ' ')\""
@@ -123,7 +123,7 @@ first() { # PROGRAM
     firsts=$((firsts + 1))
 }
 for program in first-shared first-static; do first "$out/$program"; done
-tools/counts.sh first "$firsts programs"
+tools/gate/counts.sh first "$firsts programs"
 if has CMake cmake --version; then
     mkdir "$out/project"
     cp c/examples/first.c "$out/project"
@@ -140,7 +140,7 @@ EOF
         && cmake --build "$out/built" >> "$out/said" 2>&1 || { cat "$out/said"; exit 1; }
     firsts=0
     for kind in ecow static; do first "$out/built/first-$kind"; done
-    tools/counts.sh CMake "$firsts programs"
+    tools/gate/counts.sh CMake "$firsts programs"
 fi
 shared=$(echo "$prefix"/lib/libecow.so.*)
 $cc -std=c11 -fPIC -DECOW_COUNT_$other -Iinclude -c c/ecow.c -o "$out/other.o"
@@ -201,11 +201,11 @@ if has C++17 $cxx -std=c++17 -fsyntax-only -include string_view -x c++ /dev/null
     refuse_each test-cpp 0
     refuse_each nested-cpp 0
     refuse_each edits-cpp 200
-    tools/counts.sh C++17 "$told lines refused" "$runs runs" "$requests requests refused"
+    tools/gate/counts.sh C++17 "$told lines refused" "$runs runs" "$requests requests refused"
 fi
 if has C++20 $cxx -std=c++20 -fsyntax-only -include compare -x c++ /dev/null; then
     test_cpp 20
-    tools/counts.sh C++20 "$runs runs"
+    tools/gate/counts.sh C++20 "$runs runs"
 fi
 wait "$python" || { cat "$out/python"; exit 1; }
 cat "$out/python"
@@ -216,7 +216,7 @@ if has valgrind valgrind --version; then
         valgrind -q --leak-check=full --error-exitcode=1 "$out"/$run > /dev/null
         runs=$((runs + 1))
     done
-    tools/helgrind.sh 400
-    tools/counts.sh valgrind "$runs runs"
+    tools/gate/helgrind.sh 400
+    tools/gate/counts.sh valgrind "$runs runs"
 fi
 echo "the library for C was tested with $cc$with${without:+; not here: ${without#, }}"

@@ -3,10 +3,10 @@
 # each expected answer stands behind `#> `, and what the program says on standard error is the last one. A script whose
 # name ends in counted.eco is run with --counted. Of one whose name ends in lines.eco each line is run alone. And runs it
 # on the first example cut at each byte, in either store: a front of the answers, or an unreadable line and none of them.
-# usage: tools/cases.sh PROGRAM
+# usage: tools/gate/cases.sh PROGRAM
 set -eu
 program=$(realpath "$1")
-cd "$(dirname "$0")/.."
+cd "$(dirname "$0")/../.."
 work=$(mktemp -d)
 trap 'rm -r "$work"' EXIT
 export LC_ALL=C
@@ -70,4 +70,4 @@ for counted in '' --counted; do
 done
 echo "$cases golden scripts, $cuts cut ones, $wrong answered otherwise than expected"
 [ "$wrong" -eq 0 ]
-tools/counts.sh cases.sh "$cases golden scripts" "$answers answers" "$cuts cut scripts"
+tools/gate/counts.sh cases.sh "$cases golden scripts" "$answers answers" "$cuts cut scripts"

@@ -1,6 +1,6 @@
 #!/bin/sh
-# Runs the kit's gate, `rt ci`, in a folder, and counts what passed: tools/ci.sh CHECK FOLDER, by the rows of CHECK in
-# tools/counts.txt.
+# Runs the kit's gate, `rt ci`, in a folder, and counts what passed, by the rows of CHECK in tools/gate/counts.txt:
+# tools/gate/ci.sh CHECK FOLDER.
 set -eu
 tools=$(realpath "$(dirname "$0")")
 log=$(mktemp)

@@ -1,7 +1,7 @@
 #!/bin/sh
 # Runs PROGRAM on the command lines below, in a folder with the files that they name, and says which status,
 # output or message is another one.
-# usage: tools/ends.sh PROGRAM
+# usage: tools/gate/ends.sh PROGRAM
 set -eu
 program=$(realpath "$1")
 tools=$(realpath "$(dirname "$0")")

@@ -1,11 +1,11 @@
 #!/bin/sh
-# Sees that tools/erase.py stops, with file and line, at text that no rule knows. Needs python3 and rustfmt.
+# Sees that tools/ship/erase.py stops, with file and line, at text that no rule knows. Needs python3 and rustfmt.
 set -eu
-cd "$(dirname "$0")/.."
+cd "$(dirname "$0")/../.."
 work=$(mktemp -d)
 trap 'rm -rf "$work"' EXIT
-mkdir -p "$work/tools" "$work/crates"
-cp tools/erase.py "$work/tools"
+mkdir -p "$work/tools/ship" "$work/crates"
+cp tools/ship/erase.py "$work/tools/ship"
 for crate in base block atomic list bytes string nested; do
     mkdir "$work/crates/ecow_$crate"
     cp -r "crates/ecow_$crate/src" "$work/crates/ecow_$crate/src"
@@ -15,8 +15,8 @@ line=$(($(wc -l < $file) + 1))
 tried=0
 while read -r text; do
     { cat $file; echo "$text"; } > "$work/$file"
-    if "$work/tools/erase.py" "$work/rust" > "$work/said" 2>&1; then
-        echo "tools/erase.py lets this through: $text"
+    if "$work/tools/ship/erase.py" "$work/rust" > "$work/said" 2>&1; then
+        echo "tools/ship/erase.py lets this through: $text"
         exit 1
     fi
     grep -q "^$file:$line: no rule for " "$work/said" || { echo "of $text it says:"; cat "$work/said"; exit 1; }
@@ -36,6 +36,6 @@ use std::collections::HashMap;
 use std::fmt::Pointer;
 END
 cp $file "$work/$file"
-"$work/tools/erase.py" "$work/rust" > "$work/said"
-echo "tools/erase.py stops at $tried texts that no rule knows"
-tools/counts.sh erase_test.sh "$tried texts"
+"$work/tools/ship/erase.py" "$work/rust" > "$work/said"
+echo "tools/ship/erase.py stops at $tried texts that no rule knows"
+tools/gate/counts.sh erase_test.sh "$tried texts"

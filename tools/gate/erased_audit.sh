@@ -1,9 +1,10 @@
 #!/bin/sh
-# Lists each piece of code of the Rust in a folder that isn't the proved source's, and each piece of the source's that isn't
-# in it: tools/erased_audit.sh FOLDER. It shares no code with tools/erase.py, so a reader of the list needn't read that. Of
-# a line of the list the number says how often it is so; imports are of each file. Needs the usual POSIX tools.
+# Lists each piece of code of the Rust in a folder that isn't the proved source's, and each piece of the source's that
+# isn't in it: tools/gate/erased_audit.sh FOLDER. It shares no code with tools/ship/erase.py, so a reader of the list
+# needn't read that. Of a line of the list the number says how often it is so; imports are of each file. Needs the usual
+# POSIX tools.
 set -eu
-cd "$(dirname "$0")/.."
+cd "$(dirname "$0")/../.."
 folder=$1
 work=$(mktemp -d)
 trap 'rm -rf "$work"' EXIT
@@ -24,10 +25,12 @@ while read -r file; do
     [ "$path" != mod.rs ] || path=lib.rs
     source=crates/$crate/src/${path%.rs}.rt
     echo "$source" >> "$work/sources"
-    awk -v imports="$work/i" -v counts="$work/counts" -v asks="$work/asks" -f tools/erased_audit.awk "$source" > "$work/old"
+    awk -v imports="$work/i" -v counts="$work/counts" -v asks="$work/asks" -f tools/gate/erased_audit.awk \
+        "$source" > "$work/old"
     sed "s|^crate::|$crate::|" "$work/i" >> "$work/old-imports" 2> /dev/null || :
     rm -f "$work/i"
-    awk -v imports="$work/i" -v counts="$work/none" -v asks="$work/none" -f tools/erased_audit.awk "$folder/$file" > "$work/new"
+    awk -v imports="$work/i" -v counts="$work/none" -v asks="$work/none" -f tools/gate/erased_audit.awk \
+        "$folder/$file" > "$work/new"
     sed "s|^crate::proved::||; s|^ecow_shared::|&|" "$work/i" >> "$work/new-imports" 2> /dev/null || :
     rm -f "$work/i"
     wc -l < "$work/old" >> "$work/sizes"

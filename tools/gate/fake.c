@@ -1,4 +1,4 @@
-/* What tools/agree_checks.sh refuses memory to: a program of two parts, each of which asks for
+/* What tools/gate/agree_checks.sh refuses memory to: a program of two parts, each of which asks for
    memory three times. Where the second request of the second part is refused, it says something
    else (WRONG=a), keeps a block (WRONG=k), ends with status 1 (WRONG=s), or crashes (WRONG=c).
 

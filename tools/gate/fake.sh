@@ -1,6 +1,6 @@
 #!/bin/sh
-# Stands for programs that this machine may lack, under whose names tools/agree_checks.sh copies it, and does what the
-# tests of the libraries want of each, but for the fault in WRONG. As a compiler it makes a copy of itself.
+# Stands for programs that this machine may lack, under whose names tools/gate/agree_checks.sh copies it, and does what
+# the tests of the libraries want of each, but for the fault in WRONG. As a compiler it makes a copy of itself.
 set -eu
 is() { [ "$WRONG" = "$1" ]; }
 pick() { if is "$1"; then echo "$2"; else echo "${3:-}"; fi; } # FAULT WRONG RIGHT

@@ -1,10 +1,10 @@
 #!/bin/sh
 # Sees how the time of calls grows: goes round the loops of PROGRAM, which is ecow_bench, at a length and at sixteen
 # times that, and compares what the table says of each: constant, linear or quadratic.
-# usage: tools/growth.sh PROGRAM
+# usage: tools/gate/growth.sh PROGRAM
 set -eu
 program=$(realpath "$1")
-cd "$(dirname "$0")/.."
+cd "$(dirname "$0")/../.."
 work=$(mktemp -d)
 trap 'rm -r "$work"' EXIT
 export LC_ALL=C
@@ -42,4 +42,4 @@ while read -r call element length growth; do
     rows=$((rows + 1))
 done < "$work/table"
 echo "growth: $rows calls take the time that their rows say at sixteen times the length"
-tools/counts.sh growth.sh "$rows calls"
+tools/gate/counts.sh growth.sh "$rows calls"

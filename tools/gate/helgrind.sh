@@ -1,8 +1,8 @@
 #!/bin/sh
 # Runs c/tests/threads.c under helgrind, over the library in bin/, in which it must see no error, and over the one in
-# bin/plain/ if that is there, whose count is for one thread, in which it must see some: tools/helgrind.sh ROUNDS.
+# bin/plain/ if that is there, whose count is for one thread, in which it must see some: tools/gate/helgrind.sh ROUNDS.
 set -eu
-cd "$(dirname "$0")/.."
+cd "$(dirname "$0")/../.."
 out=$(mktemp -d)
 trap 'rm -rf "$out"' EXIT
 build() { # LIBRARY

@@ -1,5 +1,5 @@
 # A large script and its answers, worked out by the rules of docs/SCRIPT.md with awk's own arrays and texts:
-# awk -v part=PART -v counted=0|1 -v script=FILE -v answers=FILE [-v many=NUMBER] -f tools/large.awk
+# awk -v part=PART -v counted=0|1 -v script=FILE -v answers=FILE [-v many=NUMBER] -f tools/gate/large.awk
 # PART is names, owners, list, sizes, random, memory, line, or texts, prose, quoted and bytes, which only a store has.
 # NUMBER is that of names, owners, items in a line, or twice that of random commands: 70,000 without it.
 

@@ -1,16 +1,16 @@
 #!/bin/sh
-# Runs PROGRAM on large scripts, in both stores, and compares what it answers with what tools/large.awk works
+# Runs PROGRAM on large scripts, in both stores, and compares what it answers with what tools/gate/large.awk works
 # out by the rules. It must give all memory back. Then sees that a line takes no longer where there are many before it
 # or behind it.
-# usage: tools/large.sh PROGRAM
+# usage: tools/gate/large.sh PROGRAM
 set -eu
 program=$(realpath "$1")
-cd "$(dirname "$0")/.."
+cd "$(dirname "$0")/../.."
 work=$(mktemp -d)
 trap 'rm -r "$work"' EXIT
 export LC_ALL=C
 
-tools/shim.sh "$work/shim.so"
+tools/gate/shim.sh "$work/shim.so"
 scripts=0
 lines=0
 for part in names owners list sizes random memory line texts prose quoted bytes; do
@@ -19,7 +19,8 @@ for part in names owners list sizes random memory line texts prose quoted bytes;
         [ "$counted" -eq 0 ] || flag=--counted
         # Only a store has texts.
         case $part$counted in texts1 | prose1 | quoted1 | bytes1) continue ;; esac
-        awk -v part="$part" -v counted="$counted" -v script="$work/script" -v answers="$work/wanted" -f tools/large.awk
+        awk -v part="$part" -v counted="$counted" -v script="$work/script" -v answers="$work/wanted" \
+            -f tools/gate/large.awk
         status=0
         # In kilobytes: what memory() needs, and less than half of that beside it.
         (
@@ -62,7 +63,7 @@ for part in names owners line prose quoted bytes; do
         case $part$flag in prose--counted | quoted--counted | bytes--counted) continue ;; esac
         for many in 8000 128000; do
             awk -v part="$part" -v counted=0 -v many=$many -v script="$work/$many" -v answers="$work/wanted" \
-                -f tools/large.awk
+                -f tools/gate/large.awk
         done
         # So often that the time can be read from a clock of hundredths, however fast the machine is.
         rounds=0
@@ -84,4 +85,4 @@ for part in names owners line prose quoted bytes; do
     done
 done
 echo "growth: $grown scripts take no longer for a line than ones of a sixteenth of the lines"
-tools/counts.sh large.sh "$scripts scripts" "$lines answers" "$grown times of longer scripts"
+tools/gate/counts.sh large.sh "$scripts scripts" "$lines answers" "$grown times of longer scripts"

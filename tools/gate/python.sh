@@ -1,15 +1,15 @@
 #!/bin/sh
 # Builds the package for Python over the library for C, installs it with pip and no network into a fresh environment,
-# and runs its tests there: tools/python.sh [FOLDER]. FOLDER has libecow.a and ecow.h, and is bin/ without it. The
+# and runs its tests there: tools/gate/python.sh [FOLDER]. FOLDER has libecow.a and ecow.h, and is bin/ without it. The
 # number of random edits is ECOW_EDITS, 3000 without it.
 set -eu
-cd "$(dirname "$0")/.."
+cd "$(dirname "$0")/../.."
 bin=${1:-bin}
 python=${PYTHON:-python3}
 
 skip() { # WHY
     echo "the package for Python was not tested: $1"
-    tools/counts.sh python.sh skipped
+    tools/gate/counts.sh python.sh skipped
     exit 0
 }
 
@@ -95,5 +95,5 @@ if [ -f "$asan" ]; then
 fi
 "$run" python/tests/speed.py 0.01 > "$work/speed" || { cat "$work/speed"; exit 1; }
 tests=$(sed -n 's/^Ran \([0-9]*\) tests.*/\1/p' "$work/log")
-tools/counts.sh python.sh "$tests tests" "$(wc -l < "$work/packed") files"
+tools/gate/counts.sh python.sh "$tests tests" "$(wc -l < "$work/packed") files"
 echo "python: $tests tests of the installed package $version$typed$checked"

@@ -9,7 +9,8 @@
    writes it, in digits and a line feed, to standard error. These two are not counted themselves.
    TOTAL=1 writes, at the program's end, how many requests it made in all.
    LEFT=1 says on standard error, at the program's end, how many blocks weren't given back.
-   tools/shim.sh builds it without any header, so its names of the C library are declared here. */
+   tools/gate/shim.sh builds it without any header, so its names of the C library are declared
+   here. */
 typedef unsigned long size;
 
 extern void *dlsym(void *library, const char *name);

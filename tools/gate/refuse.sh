@@ -4,7 +4,7 @@
 # refused. A program that finds a number on standard input runs the part with that number alone, counted from 1; where
 # it finds none, it runs all, and prints a line for each.
 # EACH=10 refuses one request in ten; PROCESSORS=1 tries one part at a time.
-# usage: tools/refuse.sh PROGRAM
+# usage: tools/gate/refuse.sh PROGRAM
 set -eu
 program=$1
 work=$(mktemp -d)

@@ -2,16 +2,16 @@
 # Runs PROGRAM on scripts, in either store, and refuses each of its requests for memory in turn: a copy of the process goes
 # on without it. The copy ends with status 3 and no output, or it refuses a command, and answers all others as it answers
 # the script without that command. So a refused command changes nothing, under every name. Where no request is refused, no
-# command may lack memory. The scripts are the golden ones; one for each state of tools/states.txt, with each command in it;
-# and some of lines drawn from that table, with other names, half of them of lists alone.
-# usage: tools/refuse_scripts.sh PROGRAM
+# command may lack memory. The scripts are the golden ones; one for each state of tools/gate/states.txt, with each
+# command in it; and some of lines drawn from that table, with other names, half of them of lists alone.
+# usage: tools/gate/refuse_scripts.sh PROGRAM
 set -eu
 program=$(realpath "$1")
-cd "$(dirname "$0")/.."
+cd "$(dirname "$0")/../.."
 work=$(mktemp -d)
 trap 'rm -r "$work"' EXIT
 export LC_ALL=C
-tools/shim.sh "$work/refuse.so"
+tools/gate/shim.sh "$work/refuse.so"
 mkdir "$work/scripts"
 for script in cases/*.eco examples/*.eco; do
     case $script in *lines.eco) ;; *) cp "$script" "$work/scripts" ;; esac
@@ -75,7 +75,7 @@ END {
                 for (at = 1; at <= 4; at++) print kinds[of] " contents " substr("wxyz", at, 1) > script
         }
     }
-}' tools/states.txt
+}' tools/gate/states.txt
 
 # Reads what the copies and the process itself say. With finds=1 it prints the numbers of commands that are refused in some
 # copy. Then it compares, with the answers to the script without each of them in WITHOUT.NUMBER, and prints what is wrong.
@@ -179,5 +179,5 @@ for script in "$work"/scripts/*.eco; do
 done
 echo "$requests requests of $scripts scripts refused in turn, $commands commands refused, $wrong scripts wrong"
 [ "$wrong" -eq 0 ]
-tools/counts.sh refuse_scripts.sh "$scripts scripts" "$requests requests refused" "$commands commands refused" \
+tools/gate/counts.sh refuse_scripts.sh "$scripts scripts" "$requests requests refused" "$commands commands refused" \
     "$whole processes that gave all back"

@@ -3,26 +3,26 @@
 # rust/erased.txt, and tests it, where there are python3 and a Rust compiler. With ORIGINAL=FOLDER in the environment it
 # runs the tests of the original in that folder too, or in its tests/, without those that rust/original.txt names.
 set -eu
-cd "$(dirname "$0")/.."
+cd "$(dirname "$0")/../.."
 tools=$(pwd)/tools
 version=$(sed -n 's/^version = "\(.*\)"$/\1/p' rust/Cargo.toml)
 [ "$version" = "$(cat VERSION)" ] || { echo "rust/Cargo.toml has version $version, and VERSION $(cat VERSION)"; exit 1; }
 skip() { # WHY
     echo "the crate for Rust was not tested: this machine has $1"
-    for check in erase_test.sh rust_gate.sh rust-valgrind; do tools/counts.sh $check skipped; done
+    for check in erase_test.sh rust_gate.sh rust-valgrind; do tools/gate/counts.sh $check skipped; done
     exit 0
 }
 for program in python3 cargo rustfmt; do command -v $program > /dev/null || skip "no $program"; done
 oldest=$(sed -n 's/^rust-version = "1\.\(.*\)"$/\1/p' rust/Cargo.toml)
 [ "$(rustc --version | sed -n 's/^rustc 1\.\([0-9]*\).*/\1/p')" -ge "$oldest" ] ||
     skip "$(rustc --version), and it needs 1.$oldest"
-tools/erase_test.sh
+tools/gate/erase_test.sh
 crate=$(pwd)/bin/rust
 rm -rf "$crate"
-tools/rust_crate.sh "$crate"
-tools/erased_audit.sh "$crate/src/proved" > "$crate/erased.new"
+tools/ship/rust_crate.sh "$crate"
+tools/gate/erased_audit.sh "$crate/src/proved" > "$crate/erased.new"
 cmp rust/erased.txt "$crate/erased.new" || {
-    echo "what tools/erase.py changes is no longer what rust/erased.txt lists: see $crate/erased.new"
+    echo "what tools/ship/erase.py changes is no longer what rust/erased.txt lists: see $crate/erased.new"
     exit 1
 }
 audited=$(wc -l < "$crate/erased.new")
@@ -67,9 +67,9 @@ if command -v valgrind > /dev/null; then
         run valgrind -q --error-exitcode=1 "$binary"
         runs=$((runs + 1))
     done
-    "$tools/counts.sh" rust-valgrind "$runs runs"
+    "$tools/gate/counts.sh" rust-valgrind "$runs runs"
 else
-    "$tools/counts.sh" rust-valgrind skipped
+    "$tools/gate/counts.sh" rust-valgrind skipped
 fi
 said=$(awk -v original="${ORIGINAL:-}" -v left="$left_out" '
     /Running tests\/original/ { theirs = 1 }
@@ -82,4 +82,4 @@ said=$(awk -v original="${ORIGINAL:-}" -v left="$left_out" '
     }' "$log") || { echo "$said"; exit 1; }
 echo "$said"
 said=${said#*: }
-"$tools/counts.sh" rust_gate.sh "${said%% *} tests" "$audited lines of rust/erased.txt"
+"$tools/gate/counts.sh" rust_gate.sh "${said%% *} tests" "$audited lines of rust/erased.txt"

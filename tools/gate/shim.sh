@@ -1,6 +1,6 @@
 #!/bin/sh
-# Builds tools/refuse.c, the library that counts or refuses requests for memory, by the kit's clang.
-# usage: tools/shim.sh OUTPUT
+# Builds tools/gate/refuse.c, the library that counts or refuses requests for memory, by the kit's clang.
+# usage: tools/gate/shim.sh OUTPUT
 set -eu
 tools=$(dirname "$(rt doc | head -n 1)")/toolchain/bin
 "$tools/clang" -O2 -shared -fPIC -nostdlib -nostdinc -fuse-ld=lld --ld-path="$tools/ld.lld" \

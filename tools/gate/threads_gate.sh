@@ -2,13 +2,13 @@
 # The gate's part for the atomic count of owners: proves the values and the library for C over it. It leaves the archive of
 # that library at bin/libecow_c-atomic.a. `make costs` and `make faults` try it with COUNT=atomic.
 set -eu
-cd "$(dirname "$0")/.."
-rm -rf "$(tools/for_threads.sh)"
-folder=$(tools/for_threads.sh ecow_nested ecow)
-tools/ci.sh threads_gate.sh "$folder"
+cd "$(dirname "$0")/../.."
+rm -rf "$(tools/ship/for_threads.sh)"
+folder=$(tools/ship/for_threads.sh ecow_nested ecow)
+tools/gate/ci.sh threads_gate.sh "$folder"
 
 # A build proves a static library once more. So `rt ci`, which proves `ecow_c` over the plain count, doesn't see it here.
-tools/for_threads.sh ecow_c ecow > /dev/null
+tools/ship/for_threads.sh ecow_c ecow > /dev/null
 bin=$(pwd)/bin
 kit=$(dirname "$(rt doc | head -n 1)")
 mkdir -p "$bin"

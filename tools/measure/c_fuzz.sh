@@ -1,8 +1,8 @@
 #!/bin/sh
-# Fuzzes the library for C, each kind of value for so many seconds: tools/c_fuzz.sh SECONDS. It takes the library in
-# bin/, and needs clang with libFuzzer. A fault leaves its input in bin/, as crash-.., and ends with 1.
+# Fuzzes the library for C, each kind of value for so many seconds: tools/measure/c_fuzz.sh SECONDS. It takes the library
+# in bin/, and needs clang with libFuzzer. A fault leaves its input in bin/, as crash-.., and ends with 1.
 set -eu
-cd "$(dirname "$0")/.."
+cd "$(dirname "$0")/../.."
 out=$(mktemp -d)
 trap 'rm -rf "$out"' EXIT
 number=0

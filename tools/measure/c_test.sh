@@ -1,10 +1,10 @@
 #!/bin/sh
 # Tests the library for C, which `make lib` has left in bin/, from C, C++ and Python, beside what
-# tools/c_short.sh does, and sees that helgrind tells its atomic count from the plain one in bin/plain/. It packs the
-# library twice, which has to give the same bytes, and tests the archive: tools/c_test.sh [EDITS]. Needs gcc and clang
-# with g++ and clang++, valgrind, Python 3.11 with its headers and pip, and cargo.
+# tools/gate/c_short.sh does, and sees that helgrind tells its atomic count from the plain one in bin/plain/. It packs
+# the library twice, which has to give the same bytes, and tests the archive: tools/measure/c_test.sh [EDITS]. Needs gcc
+# and clang with g++ and clang++, valgrind, Python 3.11 with its headers and pip, and cargo.
 set -eu
-cd "$(dirname "$0")/.."
+cd "$(dirname "$0")/../.."
 edits=${1:-1000000}
 out=$(mktemp -d)
 trap 'rm -rf "$out"' EXIT
@@ -45,7 +45,7 @@ for compilers in "gcc g++" "clang clang++"; do
         done
     done
 done
-tools/helgrind.sh 2000
+tools/gate/helgrind.sh 2000
 
 # The header reads values where they lie, over the plain count too.
 cc -std=c11 $warnings $sanitized -Iinclude c/tests/layout.c bin/plain/libecow.a -o "$out/layout"
@@ -71,10 +71,10 @@ for quoted in c/examples/settings.cpp c/examples/settings.out; do
     case "$(cat c/CPP.md)" in *"$(cat $quoted)"*) ;; *) echo "c/CPP.md quotes another $quoted"; exit 1 ;; esac
 done
 
-ECOW_EDITS=$((edits / 50)) tools/python.sh
+ECOW_EDITS=$((edits / 50)) tools/gate/python.sh
 # The system's own interpreter, where it is another.
-[ ! -x /usr/bin/python3 ] || PYTHON=/usr/bin/python3 ECOW_EDITS=$((edits / 500)) tools/python.sh
-archive=$(tools/dist.sh atomic)
+[ ! -x /usr/bin/python3 ] || PYTHON=/usr/bin/python3 ECOW_EDITS=$((edits / 500)) tools/gate/python.sh
+archive=$(tools/ship/dist.sh atomic)
 cp "$archive" "$out/packed"
-tools/dist.sh atomic | xargs cmp "$out/packed"
-tools/dist_test.sh "$archive"
+tools/ship/dist.sh atomic | xargs cmp "$out/packed"
+tools/ship/dist_test.sh "$archive"

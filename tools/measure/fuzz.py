@@ -1,6 +1,6 @@
 #!/usr/bin/env python3
 """Mutates the scripts of the cases, the examples among them, and runs the program on them for some seconds:
-tools/fuzz.py SECONDS [SEED]. Each run must end with a status from 0 to 3 and the streams that
+tools/measure/fuzz.py SECONDS [SEED]. Each run must end with a status from 0 to 3 and the streams that
 docs/SCRIPT.md promises for it, within 2 s; a script that asks for no room by number must stay within
 20 times its size of memory, beside what the program takes for an empty one. Prints what did not, the
 runs a second, and how often each status came. Ends with 1 where something did not hold."""
@@ -15,7 +15,7 @@ import sys
 import tempfile
 import time
 
-TOP = os.path.dirname(os.path.dirname(os.path.abspath(__file__)))
+TOP = os.path.dirname(os.path.dirname(os.path.dirname(os.path.abspath(__file__))))
 PROGRAM = f"{TOP}/bin/ecow-run"
 # Room is asked for by number, or comes of what was made before.
 ASKING = re.compile(rb"with_capacity|reserve|from_elem|repeat|replace|clone|from_text|from_bytes|to_ascii")

@@ -1,6 +1,6 @@
 #!/usr/bin/env python3
 """Runs the program on what no test in Rattle can do:
-tools/hostile.py [--program FILE] [--peer "COMMAND"] [PART ..], where PART is one of
+tools/measure/hostile.py [--program FILE] [--peer "COMMAND"] [PART ..], where PART is one of
 
   memory   each request for memory refused in turn, over the examples and the short cases (needs a C compiler)
   ends     files that are large or can't be read, outputs that fail, and other words than a use of the program
@@ -22,7 +22,7 @@ import sys
 import tempfile
 import time
 
-TOP = os.path.dirname(os.path.dirname(os.path.abspath(__file__)))
+TOP = os.path.dirname(os.path.dirname(os.path.dirname(os.path.abspath(__file__))))
 # The most bytes that a script has.
 LIMIT = 16777216
 # Cases below this size run with each request refused.
@@ -66,7 +66,7 @@ def said(end):
 def library(folder):
     """Builds what refuses the request whose number stands in REFUSE."""
     path = f"{folder}/refuse.so"
-    subprocess.run(["cc", "-O2", "-shared", "-fPIC", "-o", path, f"{TOP}/tools/refuse.c", "-ldl"], check=True)
+    subprocess.run(["cc", "-O2", "-shared", "-fPIC", "-o", path, f"{TOP}/tools/gate/refuse.c", "-ldl"], check=True)
     return path
 
 

@@ -2,11 +2,11 @@
 # Counts by valgrind the instructions of one round of each loop of BENCH, which is ecow_bench, and of RUN, which is
 # ecow_run, on large scripts, at a length and at sixteen times that, and compares them with the table. A row is apart that
 # has a twentieth more or less.
-# usage: tools/instructions.sh BENCH RUN
+# usage: tools/measure/instructions.sh BENCH RUN
 set -eu
 bench=$(realpath "$1")
 run=$(realpath "$2")
-cd "$(dirname "$0")/.."
+cd "$(dirname "$0")/../.."
 work=$(mktemp -d)
 trap 'rm -r "$work"' EXIT
 export LC_ALL=C
@@ -27,7 +27,8 @@ round() { # CALL ELEMENT LENGTH
 }
 
 script() { # PART STORE LENGTH
-    awk -v part="$1" -v counted=0 -v many="$3" -v script="$work/script" -v answers="$work/answers" -f tools/large.awk
+    awk -v part="$1" -v counted=0 -v many="$3" -v script="$work/script" -v answers="$work/answers" \
+        -f tools/gate/large.awk
     case $2 in
         counted) count "$run" --counted "$work/script" ;;
         *) count "$run" "$work/script" ;;

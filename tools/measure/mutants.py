@@ -1,6 +1,6 @@
 #!/usr/bin/env python3
 """Changes one token at a time, and names each change that nothing beside the proofs sees:
-tools/mutants.py NUMBER SEED JOBS [PART ..]. PART is rattle, glue or tools; all without one. It ends
+tools/measure/mutants.py NUMBER SEED JOBS [PART ..]. PART is rattle, glue or tools; all without one. It ends
 with 1 where a mutant survives.
 
 Rattle code is built once, with no proof: a changed function has a body for each of its mutants, and
@@ -25,37 +25,37 @@ sys.dont_write_bytecode = True
 import unproved
 from unproved import run
 
-TOP = Path(__file__).resolve().parent.parent
+TOP = Path(__file__).resolve().parents[2]
 LOWER = "base block shared list bytes string model store counted script tool run nested c"
 FILES = {
     "rattle": [f"crates/ecow_{crate}/src/**/*.rt" for crate in LOWER.split()],
     "glue": ["c/*.[ch]", "include/*", "python/core/*"],
-    "tools": ["tools/costs.*", "tools/refuse*", "tools/ends.sh", "tools/cases.sh", "tools/large.*", "tools/below.awk",
-              "tools/counts.sh", "tools/agree_*.sh"],
+    "tools": ["tools/gate/costs.*", "tools/gate/refuse*", "tools/gate/ends.sh", "tools/gate/cases.sh",
+              "tools/gate/large.*", "tools/ship/below.awk", "tools/gate/counts.sh", "tools/gate/agree_*.sh"],
 }
 # The first two stand on each of those crates.
 PROGRAMS = [f"ecow_{name}" for name in "c run uses trials".split()]
 
 ONCE = 'said=$("$0" strict < /dev/null) && ! echo "$said" | grep wrong'
-LIBRARY = "tools/lib.sh atomic && PYTHON=none tools/c_short.sh"
-PACKAGE = "tools/lib.sh atomic && tools/python.sh"
+LIBRARY = "tools/ship/lib.sh atomic && PYTHON=none tools/gate/c_short.sh"
+PACKAGE = "tools/ship/lib.sh atomic && tools/gate/python.sh"
 # What the gate tries: of which program or changed files, and how. The command gets the program.
 CHECKS = {
     "rattle": [("ecow_uses", 'cd crates/ecow_uses && "$0" | cmp - stdout'),
-               ("ecow_trials", 'tools/costs.sh "$0"'),
-               ("ecow_run", 'tools/ends.sh "$0" && tools/cases.sh "$0"'),
+               ("ecow_trials", 'tools/gate/costs.sh "$0"'),
+               ("ecow_run", 'tools/gate/ends.sh "$0" && tools/gate/cases.sh "$0"'),
                ("ecow_trials", ONCE),
-               ("ecow_run", 'tools/large.sh "$0"'),
-               ("ecow_run", 'tools/refuse_scripts.sh "$0"'),
-               ("ecow_trials", 'tools/refuse.sh "$0"'),
+               ("ecow_run", 'tools/gate/large.sh "$0"'),
+               ("ecow_run", 'tools/gate/refuse_scripts.sh "$0"'),
+               ("ecow_trials", 'tools/gate/refuse.sh "$0"'),
                ("ecow_c", LIBRARY)],
     "glue": [("c/", LIBRARY), ("include/", LIBRARY), ("c/", PACKAGE), ("python/", PACKAGE)],
-    "tools": [("", "tools/costs.sh bin/ecow_trials"), ("", "tools/ends.sh bin/ecow_run"),
-              ("tools/cases", "tools/cases.sh bin/ecow_run"),
-              ("tools/large", "tools/large.sh bin/ecow_run"),
+    "tools": [("", "tools/gate/costs.sh bin/ecow_trials"), ("", "tools/gate/ends.sh bin/ecow_run"),
+              ("tools/gate/cases", "tools/gate/cases.sh bin/ecow_run"),
+              ("tools/gate/large", "tools/gate/large.sh bin/ecow_run"),
               ("", "make --no-print-directory agree"),
-              ("tools/refuse", "tools/refuse.sh bin/ecow_trials"),
-              ("tools/refuse_scripts", "tools/refuse_scripts.sh bin/ecow_run")],
+              ("tools/gate/refuse", "tools/gate/refuse.sh bin/ecow_trials"),
+              ("tools/gate/refuse_scripts", "tools/gate/refuse_scripts.sh bin/ecow_run")],
 }
 # A glue that isn't compiled so is no mutant.
 SYNTAX = '-Iinclude "-I$(python3 -c "import sysconfig; print(sysconfig.get_path(\'include\'))")"'

@@ -1,8 +1,8 @@
 #!/bin/sh
-# Times calls of the library for C beside std's containers, and prints the table of c/README.md: tools/peers.sh [ROUNDS].
-# A cell has the time over the library in bin/, whose count is atomic, and over the one in bin/plain/.
+# Times calls of the library for C beside std's containers, and prints the table of c/README.md:
+# tools/measure/peers.sh [ROUNDS]. A cell has the time over the library in bin/, whose count is atomic, and over the one in bin/plain/.
 set -eu
-cd "$(dirname "$0")/.."
+cd "$(dirname "$0")/../.."
 out=$(mktemp -d)
 trap 'rm -rf "$out"' EXIT
 for folder in . plain; do

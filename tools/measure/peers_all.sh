@@ -1,13 +1,13 @@
 #!/bin/sh
 # Times tasks of this library beside what one would take instead, in Rust, C++ and Python, and
-# prints a table of each: tools/peers_all.sh FOLDER [ROUNDS]. FOLDER is that of the original crate.
+# prints a table of each: tools/measure/peers_all.sh FOLDER [ROUNDS]. FOLDER is that of the original crate.
 # ROUNDS (15) is how often each task is timed.
 # A language is left out where a tool, a crate or the library in bin/ isn't there. A column is left
 # out where its peer isn't. The last line names what isn't there.
 # Debian has the peers: librust-im-rc-dev librust-dogged-dev librust-kstring-dev librust-bytes-dev
 # qt6-base-dev libglib2.0-dev python3-pyrsistent. What is built stays in bin/peers.
 set -eu
-root=$(cd "$(dirname "$0")/.." && pwd)
+root=$(cd "$(dirname "$0")/../.." && pwd)
 original=$(cd "${1:?the folder of the original crate is missing}" && pwd)
 rounds=${2:-15}
 cd "$root"
@@ -42,7 +42,7 @@ done
 if [ -n "$rust" ]; then
     rm -rf "$build/rust/proved"
     mkdir -p "$build/rust/src"
-    tools/rust_crate.sh "$build/rust/proved" > /dev/null
+    tools/ship/rust_crate.sh "$build/rust/proved" > /dev/null
     cp bench/peers/src/main.rs "$build/rust/src"
     sed "s|ORIGINAL\"|$original\"|; s|PROVED\"|$build/rust/proved\"|" bench/peers/Cargo.toml \
         > "$build/rust/Cargo.toml"

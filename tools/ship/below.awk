@@ -1,5 +1,5 @@
 # The crates of crates.txt that those named stand on, and these themselves, lowest first:
-# awk -F: -v tops="NAME .." -f tools/below.awk crates.txt
+# awk -F: -v tops="NAME .." -f tools/ship/below.awk crates.txt
 /^#/ || NF < 2 { next }
 {
     # A static library's row has a word behind its name.

@@ -1,5 +1,5 @@
 # The public calls of a crate's files with their contracts, as Markdown, and behind each file's calls where the words of
-# their clauses come from: awk -f tools/contracts.awk pass=1 FILE.. pass=2 FILE..
+# their clauses come from: awk -f tools/ship/contracts.awk pass=1 FILE.. pass=2 FILE..
 # The first pass finds the types that aren't public, whose calls are left out.
 function put(line) {
     print line

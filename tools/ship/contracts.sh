@@ -1,11 +1,11 @@
 #!/bin/sh
 # Writes the contracts into FOLDER: a page a crate that others call, of its public calls with their clauses and of where
-# the words of these come from, and README.md, which leads to the pages: tools/contracts.sh FOLDER.
+# the words of these come from, and README.md, which leads to the pages: tools/ship/contracts.sh FOLDER.
 set -eu
 to=$1
 mkdir -p "$to"
 to=$(cd "$to" && pwd)
-cd "$(dirname "$0")/.."
+cd "$(dirname "$0")/../.."
 export LC_ALL=C
 rm -f "$to"/*.md
 {
@@ -21,7 +21,7 @@ rm -f "$to"/*.md
     echo "|---|---|"
 } > "$to/README.md"
 # The crates of the stores and of nested values, the script and the program above, and the library for C.
-for crate in $(awk -F: -v tops="ecow_nested ecow_tool ecow_c" -f tools/below.awk crates.txt); do
+for crate in $(awk -F: -v tops="ecow_nested ecow_tool ecow_c" -f tools/ship/below.awk crates.txt); do
     page=$to/$crate.md
     files=$(find "crates/$crate/src" -name '*.rt' | sort)
     # What stands below the vector is no part of it, but for the block that it lends.
@@ -29,7 +29,7 @@ for crate in $(awk -F: -v tops="ecow_nested ecow_tool ecow_c" -f tools/below.awk
         ecow_shared | ecow_atomic) continue ;;
         ecow_block) files="crates/ecow_block/src/block.rt" ;;
     esac
-    awk -f tools/contracts.awk pass=1 $files pass=2 $files > "$to/body"
+    awk -f tools/ship/contracts.awk pass=1 $files pass=2 $files > "$to/body"
     [ -s "$to/body" ] || continue
     { echo "# The contracts of \`$crate\`"; echo; cat "$to/body"; } > "$page"
     echo "| [\`$crate\`]($crate.md) | $(grep -c '^ *fn ' "$page") |" >> "$to/README.md"

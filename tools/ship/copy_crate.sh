@@ -1,10 +1,10 @@
 #!/bin/sh
 # Copies a crate's src, specs and proofs into another folder, in place of what it has of them:
-# tools/copy_crate.sh CRATE FOLDER COUNT. Where COUNT is atomic, `ecow_shared` is `ecow_atomic` under its name.
+# tools/ship/copy_crate.sh CRATE FOLDER COUNT. Where COUNT is atomic, `ecow_shared` is `ecow_atomic` under its name.
 set -eu
 crate=$1
 to=$2
-cd "$(dirname "$0")/../crates"
+cd "$(dirname "$0")/../../crates"
 from=$crate
 [ "$3 $crate" != "atomic ecow_shared" ] || from=ecow_atomic
 mkdir -p "$to"

@@ -1,9 +1,9 @@
 #!/bin/sh
-# Packs the library for a machine without the kit: tools/dist.sh COUNT. It takes what `make lib` left in bin/, and
+# Packs the library for a machine without the kit: tools/ship/dist.sh COUNT. It takes what `make lib` left in bin/, and
 # leaves bin/ecow-VERSION-x86_64-linux.tar.gz (with -plain behind the version for that count). Its bytes are the same
 # from run to run. Needs git, GNU tar, python3 and rustfmt.
 set -eu
-cd "$(dirname "$0")/.."
+cd "$(dirname "$0")/../.."
 version=$(cat VERSION)
 like=${version%.*}
 case $1 in
@@ -31,8 +31,8 @@ while read -r file; do
     mkdir -p "$to/${file%/*}"
     cp "$file" "$to/$file"
 done < "$work/files"
-tools/rust_crate.sh "$to/rust" > "$work/said"
-tools/contracts.sh "$to/contracts" > "$work/said"
+tools/ship/rust_crate.sh "$to/rust" > "$work/said"
+tools/ship/contracts.sh "$to/contracts" > "$work/said"
 cp LICENSE-APACHE LICENSE-MIT VERSION CHANGELOG.md "$to"
 # It stands above the pages there, and beside those for C here.
 sed 's|](\.\./|](|g' c/INSTALL.md > "$to/README.md"

@@ -1,6 +1,7 @@
 #!/bin/sh
-# Unpacks an archive of tools/dist.sh in a new folder, and runs the first program of each page there, by the commands
-# that the page prints: tools/dist_test.sh ARCHIVE. The last line says which languages were there. Needs `cc`.
+# Unpacks an archive of tools/ship/dist.sh in a new folder, and runs the first program of each page there, by the
+# commands that the page prints: tools/ship/dist_test.sh ARCHIVE. The last line says which languages were there. Needs
+# `cc`.
 set -eu
 archive=$(cd "$(dirname "$1")" && pwd)/$(basename "$1")
 work=$(mktemp -d)

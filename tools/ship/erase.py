@@ -1,9 +1,10 @@
 #!/usr/bin/env python3
-"""Writes the proved source as Rust: tools/erase.py TO.
+"""Writes the proved source as Rust: tools/ship/erase.py TO.
 
 Each file of the crates below becomes a module of one Rust crate. What only proofs read is dropped, and what Rust says
 otherwise is mapped, by the rules below, each of which says what it does. Text that no rule knows stops the program with
-its file and line. tools/erased_audit.sh compares what comes out with the source, and shares no code with this file."""
+its file and line. tools/gate/erased_audit.sh compares what comes out with the source, and shares no code with this
+file."""
 import os
 import re
 import subprocess
@@ -346,7 +347,7 @@ def erase(source, path, dropped):
 
 
 def main():
-    folder, to = os.path.join(os.path.dirname(__file__), "..", "crates"), sys.argv[1]
+    folder, to = os.path.join(os.path.dirname(__file__), "..", "..", "crates"), sys.argv[1]
     for crate, read in CRATES.items():
         top = os.path.join(folder, read, "src")
         for at, _, files in os.walk(top):
@@ -363,11 +364,12 @@ def main():
         file = os.path.join(to, path[:-6] + "mod.rs" if path.endswith("/lib.rt") else path[:-3] + ".rs")
         os.makedirs(os.path.dirname(file), exist_ok=True)
         with open(file, "w", encoding="utf-8") as out:
-            out.write("// Written by tools/erase.py of crates/%s/src/%s.\n" % (CRATES[path.split("/")[0]], path.split("/", 1)[1]))
+            crate, name = path.split("/", 1)
+            out.write("// Written by tools/ship/erase.py of crates/%s/src/%s.\n" % (CRATES[crate], name))
             out.write(text)
         written.append(file)
     with open(os.path.join(to, "mod.rs"), "w", encoding="utf-8") as out:
-        out.write("// Written by tools/erase.py.\n" + "".join("pub mod %s;\n" % crate for crate in CRATES))
+        out.write("// Written by tools/ship/erase.py.\n" + "".join("pub mod %s;\n" % crate for crate in CRATES))
     subprocess.run(["rustfmt", "--edition", "2024", "--config", "skip_children=true", *written], check=True)
     print("erase: %d files of %d crates" % (len(written), len(CRATES)))
 

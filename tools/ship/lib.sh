@@ -1,9 +1,9 @@
 #!/bin/sh
-# Leaves the library for C in bin/, libecow.a, libecow.so, the headers, ecow.pc and ecow-config.cmake, or in another folder:
-# tools/lib.sh COUNT [FOLDER]. It takes the proved library bin/libecow_c-COUNT.a, and needs a C compiler ($CC, or cc)
-# and ar.
+# Leaves the library for C in bin/, libecow.a, libecow.so, the headers, ecow.pc and ecow-config.cmake, or in another
+# folder: tools/ship/lib.sh COUNT [FOLDER]. It takes the proved library bin/libecow_c-COUNT.a, and needs a C compiler
+# ($CC, or cc) and ar.
 set -eu
-cd "$(dirname "$0")/.."
+cd "$(dirname "$0")/../.."
 to=${2:-bin}
 kit=$(dirname "$(rt doc | head -n 1)")
 version=$(cat VERSION)

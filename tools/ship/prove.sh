@@ -1,9 +1,9 @@
 #!/bin/sh
-# Proves the libraries that a crate stands on, of this repository or of another one: tools/prove.sh CRATE [FOLDER].
+# Proves the libraries that a crate stands on, of this repository or of another one: tools/ship/prove.sh CRATE [FOLDER].
 # It says how far it is, and skips what hasn't changed since it was proved.
 set -eu
 tools=$(cd "$(dirname "$0")" && pwd)
-cd "${2:-$tools/..}"
+cd "${2:-$tools/../..}"
 mkdir -p bin
 crates=$(awk -F: -v tops="$1" -f "$tools/below.awk" crates.txt | sed '$d')
 count=$(echo "$crates" | grep -c '')

@@ -1,8 +1,8 @@
 #!/bin/sh
-# Prints crates.txt for a count of owners: tools/rows.sh COUNT. Where COUNT is atomic, `ecow_atomic` is there under the
-# name of `ecow_shared`.
+# Prints crates.txt for a count of owners: tools/ship/rows.sh COUNT. Where COUNT is atomic, `ecow_atomic` is there under
+# the name of `ecow_shared`.
 set -eu
-cd "$(dirname "$0")/.."
+cd "$(dirname "$0")/../.."
 if [ "$1" = atomic ]; then
     sed '/^ecow_shared:/d; s/^ecow_atomic:/ecow_shared:/' crates.txt
 else

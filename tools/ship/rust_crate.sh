@@ -1,8 +1,8 @@
 #!/bin/sh
-# Writes the crate for Rust, whole, into a new folder: tools/rust_crate.sh TO. What is proved is written from the source by
-# tools/erase.py, and stands in src/proved. Needs git, python3 and rustfmt.
+# Writes the crate for Rust, whole, into a new folder: tools/ship/rust_crate.sh TO. What is proved is written from the
+# source by tools/ship/erase.py, and stands in src/proved. Needs git, python3 and rustfmt.
 set -eu
-cd "$(dirname "$0")/.."
+cd "$(dirname "$0")/../.."
 to=$1
 mkdir -p "$to"
 git ls-files rust | grep -v "/\.gitignore$" > "$to/files"
@@ -12,4 +12,4 @@ while read -r file; do
 done < "$to/files"
 rm "$to/files"
 cp LICENSE-APACHE LICENSE-MIT "$to"
-tools/erase.py "$to/src/proved"
+tools/ship/erase.py "$to/src/proved"

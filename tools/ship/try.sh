@@ -1,6 +1,6 @@
 #!/bin/sh
 # Runs a script with no proof, in a build that stops where a promise is broken:
-# tools/try.sh [--counted] FILE. The answers come first, then messages and the status, with which it
+# tools/ship/try.sh [--counted] FILE. The answers come first, then messages and the status, with which it
 # ends.
 set -u
 flag=
@@ -19,7 +19,7 @@ fi
 file=$(realpath "$1")
 said=$(mktemp)
 trap 'rm -f "$said"' EXIT
-cd "$(dirname "$0")/../crates/ecow_run" || exit 1
+cd "$(dirname "$0")/../../crates/ecow_run" || exit 1
 [ -d out ] || echo "building the program without proofs, in half a minute .." >&2
 rt try --data "script=$file" -- $flag script 2> "$said"
 status=$?

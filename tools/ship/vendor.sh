@@ -1,6 +1,6 @@
 #!/bin/sh
 # Copies crates into another repository, as plain folders below its crates/, with their rows in its
-# crates.txt, so that its gate proves them: tools/vendor.sh FOLDER [KIND [COUNT]]. KIND says what is
+# crates.txt, so that its gate proves them: tools/ship/vendor.sh FOLDER [KIND [COUNT]]. KIND says what is
 # needed: vector (EcoVec), text (vector, bytes and text), nested (these and nested values), store
 # (text and both stores, with their laws), tool (with scripts and the program over any reader and
 # writer), or all of these. COUNT says how owners are counted: plain, for one thread, or atomic. Tests
@@ -36,7 +36,7 @@ case $count in
 esac
 [ -n "$to" ] || refuse "$use" "Without TO there is no repository to copy into."
 [ ! -e "$to" ] || [ -d "$to" ] || refuse "$use" "$to is no folder"
-here=$(cd "$(dirname "$0")/.." && pwd)
+here=$(cd "$(dirname "$0")/../.." && pwd)
 mkdir -p "$to"
 to=$(cd "$to" && pwd)
 cd "$here"
@@ -45,7 +45,7 @@ if [ ! -d "$to/crates" ] && grep -q '^[^#].*:' "$to/crates.txt" 2> /dev/null; th
     refuse "$to keeps its crates beside crates.txt: move them below crates/ first"
 fi
 version=$(cat VERSION)
-crates=$(awk -F: -v tops="$tops" -f tools/below.awk crates.txt)
+crates=$(awk -F: -v tops="$tops" -f tools/ship/below.awk crates.txt)
 
 # The checksum of each file of a crate, but for what its checks left.
 sums() { # FOLDER
@@ -110,14 +110,14 @@ done
 touch "$to/crates.txt"
 for crate in $crates; do
     folder=$to/crates/$crate
-    tools/copy_crate.sh "$crate" "$folder" "$count"
+    tools/ship/copy_crate.sh "$crate" "$folder" "$count"
     cp -p VERSION LICENSE-APACHE LICENSE-MIT "$folder"
     [ "$crate" != ecow_shared ] || echo "$count" > "$folder/COUNT"
     sums "$folder" > "$folder/SUMS"
 done
 
 # Their rows, lowest first, stand together where the first of them stood, or at the end.
-rows=$(for crate in $crates; do tools/rows.sh "$count" | grep "^$crate:"; done)
+rows=$(for crate in $crates; do tools/ship/rows.sh "$count" | grep "^$crate:"; done)
 printf '%s\n' "$rows" | awk -F: '
     NR == FNR { row[$1] = 1; all = all $0 "\n"; next }
     !($1 in row) { print; next }

@@ -1,12 +1,12 @@
 #!/bin/sh
 # Tries `make vendor` on a repository that is new: a second call changes nothing, and the gate there
 # proves what was copied and, above it, the code of README and of docs/CALLING.md:
-# tools/vendor_test.sh [KIND [COUNT]].
+# tools/ship/vendor_test.sh [KIND [COUNT]].
 # But for KIND=vector the worked tree is copied out too, and for KIND=all all worked programs. The
 # gate there runs them. With COUNT=atomic the code of docs/uses/threads.md is proved too, for which
 # the repository has the handle Threads.
 set -eu
-cd "$(dirname "$0")/.."
+cd "$(dirname "$0")/../.."
 kind=${1:-vector}
 count=${2:-plain}
 work=$(mktemp -d)
@@ -14,15 +14,15 @@ trap 'rm -rf "$work"' EXIT
 new=$work/new
 mkdir "$new"
 
-tools/vendor.sh "$new" "$kind" "$count"
+tools/ship/vendor.sh "$new" "$kind" "$count"
 cp -Rp "$new" "$work/once"
-tools/vendor.sh "$new" "$kind" "$count" > /dev/null
+tools/ship/vendor.sh "$new" "$kind" "$count" > /dev/null
 diff -r "$work/once" "$new"
 
 # What would mix two states is refused, and touches nothing.
 refused() { # ARGUMENTS..
-    if tools/vendor.sh "$@" > "$work/said" 2>&1; then
-        echo "tools/vendor.sh $* isn't refused"
+    if tools/ship/vendor.sh "$@" > "$work/said" 2>&1; then
+        echo "tools/ship/vendor.sh $* isn't refused"
         exit 1
     fi
 }
