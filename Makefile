@@ -10,7 +10,7 @@ PREFIX := /usr/local
 
 help:
 	@echo "To use it:"
-	@echo "  make try SCRIPT=FILE     runs the script with no proof, in half a minute"
+	@echo "  make try SCRIPT=FILE     runs the script with no proof, in half a minute, and at once where no source has changed"
 	@echo "  make run SCRIPT=FILE     proves and builds what it must, says how far it is, and runs the script"
 	@echo "  make build               leaves the proved program at bin/ecow-run"
 	@echo "  make vendor TO=FOLDER    copies the crates of the vector into another repository, with their rows, so that its"
