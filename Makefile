@@ -10,7 +10,7 @@ PREFIX := /usr/local
 
 help:
 	@echo "To use it:"
-	@echo "  make try SCRIPT=FILE     runs the script with no proof, in half a minute"
+	@echo "  make try SCRIPT=FILE     runs the script with no proof, in half a minute, and at once where no source has changed"
 	@echo "  make run SCRIPT=FILE     proves and builds what it must, says how far it is, and runs the script"
 	@echo "  make build               leaves the proved program at bin/ecow-run"
 	@echo "  make vendor TO=FOLDER    copies the crates of the vector into another repository, with their rows, so that its"
@@ -61,11 +61,11 @@ help:
 
 # SCRIPT may begin with --counted.
 try:
-	@tools/try.sh $(SCRIPT)
+	@tools/ship/try.sh $(SCRIPT)
 
 # The program is proved, linked and run once, on the first example.
 bin/ecow-run: $(SOURCES)
-	@tools/prove.sh ecow_run
+	@tools/ship/prove.sh ecow_run
 	@cd crates/ecow_run && rt run -- ../../examples/first.eco > ../../bin/build.log 2>&1 || { cat ../../bin/build.log; exit 1; }
 	@cp crates/ecow_run/out/ecow_run bin/ecow-run
 
@@ -82,10 +82,10 @@ C_COUNT := $(or $(COUNT),atomic)
 
 # The library for C: the proved one, and what tests null pointers before it.
 bin/libecow_c-%.a: $(SOURCES)
-	@tools/c_archive.sh $*
+	@tools/ship/c_archive.sh $*
 
 lib: bin/libecow_c-$(C_COUNT).a
-	@tools/lib.sh $(C_COUNT)
+	@tools/ship/lib.sh $(C_COUNT)
 
 # A version with the same first two numbers has the same calls, and values of the same sizes.
 LIKE = $(basename $(shell cat VERSION))
@@ -100,7 +100,7 @@ install: lib
 	install -m 644 bin/ecow-config.cmake $(DESTDIR)$(PREFIX)/lib/cmake/ecow
 
 dist: lib
-	@tools/dist.sh $(C_COUNT)
+	@tools/ship/dist.sh $(C_COUNT)
 
 python: lib
 	python3 -m pip wheel --disable-pip-version-check --no-index --no-deps -w bin ./python
@@ -108,12 +108,12 @@ python: lib
 ORIGINAL :=
 export ORIGINAL
 rust:
-	@tools/rust_gate.sh
+	@tools/gate/rust_gate.sh
 
 c-test: lib bin/libecow_c-plain.a
-	tools/lib.sh plain bin/plain
-	tools/c_short.sh
-	tools/c_test.sh
+	tools/ship/lib.sh plain bin/plain
+	tools/gate/c_short.sh
+	tools/measure/c_test.sh
 
 TRIALS := crates/ecow_trials/out/ecow_trials
 RUN := crates/ecow_run/out/ecow_run
@@ -122,79 +122,79 @@ BENCH := crates/ecow_bench/out/ecow_bench
 # `rt ci` leaves these programs built: what calls cost is counted, requests for memory are refused in turn, the program
 # is run on command lines and on large scripts, and calls are timed as values grow.
 test: agree
-	tools/ci.sh ci.sh .
-	tools/costs.sh $(TRIALS)
-	tools/refuse.sh $(TRIALS)
-	tools/ends.sh $(RUN)
-	tools/cases.sh $(RUN)
-	tools/refuse_scripts.sh $(RUN)
-	tools/large.sh $(RUN)
-	tools/growth.sh $(BENCH)
-	tools/threads_gate.sh
-	tools/c_gate.sh
-	tools/rust_gate.sh
-	tools/counts.sh
+	tools/gate/ci.sh ci.sh .
+	tools/gate/costs.sh $(TRIALS)
+	tools/gate/refuse.sh $(TRIALS)
+	tools/gate/ends.sh $(RUN)
+	tools/gate/cases.sh $(RUN)
+	tools/gate/refuse_scripts.sh $(RUN)
+	tools/gate/large.sh $(RUN)
+	tools/gate/growth.sh $(BENCH)
+	tools/gate/threads_gate.sh
+	tools/gate/c_gate.sh
+	tools/gate/rust_gate.sh
+	tools/gate/counts.sh
 
 # `rt ci` runs the program on the first example, of which there is a theorem. The kit takes no linked file.
 agree:
 	@rm -f bin/counts
 	@cmp examples/first.eco crates/ecow_run/data/first.eco
 	@sed -n '/^first_script =/,/^$$/s/^[ +]*codes "\(.*\)\\n"$$/\1/p' crates/ecow_script/specs/FirstExample.antt | cmp - examples/first.eco
-	@tools/agree_statuses.sh
-	@tools/agree_docs.sh
-	@tools/agree_calls.sh
-	@tools/agree_shipped.sh
-	@tools/agree_edits.sh
-	@tools/agree_c.sh
-	@tools/agree_checks.sh
+	@tools/gate/agree_statuses.sh
+	@tools/gate/agree_docs.sh
+	@tools/gate/agree_calls.sh
+	@tools/gate/agree_shipped.sh
+	@tools/gate/agree_edits.sh
+	@tools/gate/agree_c.sh
+	@tools/gate/agree_checks.sh
 
 KIND := vector
 vendor:
-	@tools/vendor.sh "$(TO)" $(KIND) $(COUNT)
+	@tools/ship/vendor.sh "$(TO)" $(KIND) $(COUNT)
 
 contracts:
-	@tools/contracts.sh bin/contracts
+	@tools/ship/contracts.sh bin/contracts
 
 vendor-test:
-	tools/vendor_test.sh $(KIND) $(COUNT)
+	tools/ship/vendor_test.sh $(KIND) $(COUNT)
 
 edits:
-	tools/edits.py $(CRATES)
+	tools/measure/edits.py $(CRATES)
 
 N := 100
 SEED := 1
 JOBS := 1
 mutants:
-	tools/mutants.py $(N) $(SEED) $(JOBS) $(PARTS)
+	tools/measure/mutants.py $(N) $(SEED) $(JOBS) $(PARTS)
 
 # Where these are tried: over the plain count here, and over the atomic one beside it.
-TRIED = $(if $(filter atomic,$(COUNT)),$(shell tools/for_threads.sh ecow_trials),.)
+TRIED = $(if $(filter atomic,$(COUNT)),$(shell tools/ship/for_threads.sh ecow_trials),.)
 
 costs:
 	cd $(TRIED)/crates/ecow_trials && rt run -- costs > /dev/null
-	tools/costs.sh $(TRIED)/$(TRIALS)
+	tools/gate/costs.sh $(TRIED)/$(TRIALS)
 
 instructions: bin/ecow-run
 	cd crates/ecow_bench && rt run > /dev/null
-	tools/instructions.sh $(BENCH) $(RUN)
+	tools/measure/instructions.sh $(BENCH) $(RUN)
 
 faults:
 	cd $(TRIED)/crates/ecow_trials && rt run -- strict
-	tools/refuse.sh $(TRIED)/$(TRIALS)
+	tools/gate/refuse.sh $(TRIED)/$(TRIALS)
 
 SECONDS := 60
 c-fuzz: lib
-	@tools/c_fuzz.sh $(SECONDS)
+	@tools/measure/c_fuzz.sh $(SECONDS)
 
 fuzz: bin/ecow-run
-	tools/fuzz.py $(SECONDS)
+	tools/measure/fuzz.py $(SECONDS)
 
 hostile: bin/ecow-run
-	tools/hostile.py --peer "$(PEER)"
+	tools/measure/hostile.py --peer "$(PEER)"
 
 bench:
-	COUNT=$(COUNT) tools/bench.sh $(ECOW)
-	tools/rust_bench.sh $(ECOW)
+	COUNT=$(COUNT) tools/measure/bench.sh $(ECOW)
+	tools/measure/rust_bench.sh $(ECOW)
 
 clean:
-	rm -rf bin crates/*/out "$$(tools/for_threads.sh)"
+	rm -rf bin crates/*/out "$$(tools/ship/for_threads.sh)"

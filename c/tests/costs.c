@@ -1,6 +1,6 @@
-/* What calls ask of memory, for tools/c_short.sh: a line for each, beside which the library of
- * tools/refuse.c writes how many requests there were. `costs.out` has both, by hand, by the rules of
- * docs/COSTS.md. */
+/* What calls ask of memory, for tools/gate/c_short.sh: a line for each, beside which the library of
+ * tools/gate/refuse.c writes how many requests there were. `costs.out` has both, by hand, by the
+ * rules of docs/COSTS.md. */
 #include "check.h"
 
 #include <ctype.h>

@@ -1,5 +1,5 @@
 /* A target of libFuzzer for one kind of value, KIND: the edits that an input decides, beside plain
- * arrays. tools/c_fuzz.sh builds one for each kind. */
+ * arrays. tools/measure/c_fuzz.sh builds one for each kind. */
 #define ECOW_FUZZ
 #include "edits.c"
 
