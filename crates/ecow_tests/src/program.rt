@@ -1,5 +1,5 @@
 //! Runs the program over readers and writers that are slow, are interrupted or fail, in both
-//! stores. The golden scripts test its answers, and `tools/ends.sh` real files and outputs.
+//! stores. The golden scripts test its answers, and `tools/gate/ends.sh` real files and outputs.
 use crate::streams::{Reader, Writer, ended};
 use ecow_tool::End;
 use std::process::Abort;
