@@ -189,7 +189,9 @@ impl Cost {
         } else {
             self.after.form.now(self.before.form)
         };
-        format!(in alloc; "| `{call}` | {state}{element} |{counted} {form} | {twin} | {room} |\n")
+        format!(in alloc;
+            "| `{call}` | {state}{element} |{counted} {form} | {twin} | {capacity} |\n"
+        )
     }
 }
 
