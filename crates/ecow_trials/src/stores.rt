@@ -27,9 +27,9 @@ pub(crate) fn part_holds(part: usize, alloc: Global, watch: &Watch) -> bool {
         1 => runs_hold(alloc, watch),
         2 => clones_hold::<SmallStore<Counting, 15>>(alloc, watch),
         3 => clones_hold::<Counted<Counting>>(alloc, watch),
-        4 => limit_holds::<0>(alloc, watch),
-        5 => limit_holds::<4>(alloc, watch),
-        _ => limit_holds::<23>(alloc, watch),
+        4 => limit_holds::<0>(&mut SmallStore::new(alloc), alloc, watch),
+        5 => limit_holds::<4>(&mut SmallStore::new(alloc), alloc, watch),
+        _ => limit_holds::<23>(&mut SmallStore::new(alloc), alloc, watch),
     };
     // Memory for what the test gives to a store may be refused, too.
     match said {
@@ -257,7 +257,11 @@ const LETTERS: &str = "abcdefghijklmnopqrstuvwxyz";
 /// Makes bytes and a text of as many letters as fit inline, and clones them. Then it appends a
 /// letter, removes it again, shrinks the capacity, and reserves capacity for one more. A command
 /// that is refused for memory must change nothing.
-fn limit_holds<const N: usize>(alloc: Global, watch: &Watch) -> Result<bool, AllocError> {
+fn limit_holds<const N: usize>(
+    store: &mut SmallStore<i64, N>,
+    alloc: Global,
+    watch: &Watch,
+) -> Result<bool, AllocError> {
     let name = 0;
     let (all, letter) = (LETTERS.get(..N).unwrap_or(""), LETTERS.as_bytes().get(N));
     let letter = letter.copied().unwrap_or(0);
@@ -291,19 +295,21 @@ fn limit_holds<const N: usize>(alloc: Global, watch: &Watch) -> Result<bool, All
     let more = N.saturating_add(1);
     let (full, longer, spilled) = (Some((N, true)), Some((more, false)), Some((N, false)));
     let wanted = [full, full, longer, spilled, full, spilled, None];
-    let (mut store, mut before) = (SmallStore::<i64, N>::new(alloc), None);
-    for (command, wanted) in commands.into_iter().zip(wanted.iter().cycle()) {
+    let (mut before, mut number) = (None, 0usize);
+    for command in commands {
         let outcome = store.step(command);
-        let held = held(&mut store, name);
+        let held = held(store, name);
         if lacks_memory(&outcome) {
             return Ok(held == before && watch.may_refuse());
         }
-        if held != *wanted {
+        // The commands on the text leave the same as those on the bytes.
+        if wanted.get(number % wanted.len()) != Some(&held) {
             return Ok(false);
         }
         before = held;
+        number = number.wrapping_add(1);
     }
-    Ok(held(&mut store, 1) == full && held(&mut store, 2) == full)
+    Ok(held(store, 1) == full && held(store, 2) == full)
 }
 
 /// How many letters the value under a name has, and whether it is inline.
