@@ -46,10 +46,14 @@ words() {
 pages=0
 for page in docs/uses/*.md; do
     code=$(sed -n '/^```rust$/,/^```$/p' "$page" | grep -v '^```' | words)
+    [ -n "$code" ] || continue
     sources=$(sed -n 's/^`\(crates\/[^`]*\)`.*/\1/p' "$page")
-    # The code of that page stands nowhere else.
-    [ -n "$sources" ] || [ "$page" != docs/uses/threads.md ] || continue
-    [ -z "$code" ] || pages=$((pages + 1))
+    if [ -z "$sources" ]; then
+        # The code of that page stands nowhere else.
+        [ "$page" = docs/uses/threads.md ] || { echo "$page doesn't name the source of its code"; exit 1; }
+        continue
+    fi
+    pages=$((pages + 1))
     source=$(words $sources)
     case $source in
         *"${code% }"*) ;;
