@@ -343,7 +343,9 @@ def erase(source, path, dropped):
     text = imports(text, path)
     text = re.sub(r"^(?=(?:pub )?mod write;)", '#[cfg(feature = \x01w\x02)]\n', text, flags=re.M)
     checked(re.sub("\x01\\w+\x02", "", text), path)
-    return unmasked(text.replace("\x01w\x02", '"std"'), held)
+    text = unmasked(text.replace("\x01w\x02", '"std"'), held)
+    # An example of the source is Rattle, and no test of Rust's documentation.
+    return re.sub(r"^( *//[/!] ```)\n((?: *//[/!].*\n)*? *//[/!] ```)$", r"\1text\n\2", text, flags=re.M)
 
 
 def main():
