@@ -1,6 +1,6 @@
-//! An owner of a block that others may own too, in any thread: one word, of which clones share the
-//! block. The count of owners is atomic. Where threads share values, this crate stands in the place
-//! of the plain count, under its name.
+//! Shared ownership of a block by several threads: an owner takes one word, and its clones share
+//! the block. The count of owners is atomic. Where threads share values, this crate takes the place
+//! of the plain count, under that crate's name.
 #![tactic(auto)]
 
 mod shared;

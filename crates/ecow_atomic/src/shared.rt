@@ -1,5 +1,5 @@
-//! `Shared`: an owner of a block that others may own too, in any thread. The count of owners is
-//! changed one step at a time.
+//! `Shared`: one of the owners of a block, which may be in different threads. Each change of the
+//! count of owners is one atomic step.
 ghost use Rattle.std.specs.Prelude.{◌≡◌, [], IfSome, IfOk, IfErr, MatchOption};
 ghost use Rattle.std.specs.Borrow.{sem};
 ghost use Rattle.ecow_block.specs.Contents.{contents};
@@ -13,10 +13,11 @@ use std::mem::replace;
 use std::sync::atomic::Ordering::SeqCst;
 use std::sync::atomic::raw;
 
-/// As many owners as the step on the count lets there be.
+/// The most owners that a block may have: the step that adds one stops there.
 const MOST_OWNERS: u64 = i64::MAX as u64;
 
-/// Stands where a block has a part that takes no space. It owns nothing.
+/// Stands in the place of a block's right that takes no space. It owns nothing.
+// rust: repr(C)
 struct Nil<T> {
     /// Names `T` alone: a `*const` owns none.
     mark: PhantomData<*const T>,
@@ -27,18 +28,19 @@ unsafe impl<T> Send for Nil<T> {}
 
 unsafe impl<T> Sync for Nil<T> {}
 
-/// An owner of a block that may have others. It takes one word, and lies in memory as a block does.
-/// A block without places has no other owner.
+/// One of the owners of a block. It takes one word, and has the layout of a block. A block without
+/// places has no other owner.
+// rust: repr(C)
 pub struct Shared<T> {
-    /// The block's word: where its head is, or null.
+    /// The address of the block's head, or null.
     top: Top<T>,
-    /// In the places of a block's rights, which an owner has no more than a part of.
+    /// These stand in the places of a block's rights, of which each owner has a share.
     room: Nil<T>,
     title: Nil<T>,
     deed: Nil<T>,
-    /// Of which the block's memory was asked.
+    /// The allocator that the block's memory came from.
     alloc: Global,
-    /// The block that it owns a part of, as a proof sees it.
+    /// The block that is shared, as a proof sees it.
     ghost inside: { BlockParts T },
 }
 
@@ -65,6 +67,7 @@ impl<T> Shared<T> {
     ghost use Rattle.ecow_block.specs.Parts.{IsParts, capacity_of};
 
     /// The first owner of a block. Asks for no memory.
+    // rust: const
     pub fn new(block: Block<T>) -> Shared<T>
         ensures { result ≡ block }
     {
@@ -72,7 +75,8 @@ impl<T> Shared<T> {
         Shared::hold(top, room, title, deed, alloc)
     }
 
-    /// The first owner of a block of these parts.
+    /// The first owner of a block that has these parts.
+    // rust: const
     fn hold(
         top: Top<T>,
         room: Room<T>,
@@ -96,13 +100,14 @@ impl<T> Shared<T> {
     }
 
     /// An owner of a block without places. Asks for no memory.
+    // rust: const
     pub fn none(alloc: Global) -> Shared<T>
         ensures { result ≡ contents [] 0 }
     {
         Shared::new(Block::new(alloc))
     }
 
-    /// The block, if it has places.
+    /// Borrows the block, if it has places.
     pub fn get(&self) -> Option<&Block<T>>
         ensures { MatchOption result (self.now ≡ contents [] 0) (λ block. block.now ≡ self.now) }
     {
@@ -112,7 +117,7 @@ impl<T> Shared<T> {
         Some(unsafe { &*(&raw const *self as *const Block<T>) })
     }
 
-    /// The block, where this is its sole owner and it has places. Else the owner comes back.
+    /// Returns the block where this is its sole owner and it has places, and `self` otherwise.
     pub fn try_unwrap(self) -> Result<Block<T>, Shared<T>>
         ensures ok { IfOk result (λ block. block ≡ self) }
         ensures err { IfErr result (λ back. back ≡ self) }
@@ -133,8 +138,8 @@ impl<T> Shared<T> {
 impl<T> Shared<T> {
     ghost use Rattle.ecow_atomic.specs.OwnerLends.{lends_block};
 
-    /// The block, for writing, if it has places and this is its sole owner. Another block may be
-    /// put in its place.
+    /// Borrows the block to change it, if it has places and this is its sole owner. Another block
+    /// may be put in its place.
     pub fn get_mut(&mut self) -> Option<&mut Block<T>>
         ensures* writes_back { sem 𝓛 (lends_block T.row self.entry result) }
         ensures value { IfSome result (λ block. self.old ≡ block.now) }
@@ -173,7 +178,7 @@ impl<T> Shared<T> {
         })
     }
 
-    /// Gives this owner up. The last one gets the block, if it has places.
+    /// Gives this ownership up. The last owner gets the block, if it has places.
     fn leave(self) -> Option<Block<T>>
         ensures { IfSome result (λ block. block ≡ self) }
     {
@@ -193,7 +198,7 @@ impl<T> Shared<T> {
         if count != 1 {
             return None;
         }
-        // The block has one owner again.
+        // The block has one owner again: the caller.
         unsafe { (*ptr).count = 1 };
         Some(Block {
             top,
@@ -208,7 +213,7 @@ impl<T> Shared<T> {
 impl<T: Drop> Drop for Shared<T> {
     #[inline]
     fn drop(self) {
-        // A sole owner has its count for itself, so no step on it is needed.
+        // No other thread reads the count of a sole owner, so no atomic step is needed.
         match self.try_unwrap() {
             Ok(block) => drop_last(block),
             Err(shared) => {
@@ -220,7 +225,7 @@ impl<T: Drop> Drop for Shared<T> {
     }
 }
 
-/// Out of line, so that the drop of any other owner is inlined.
+/// Drops a block. This is out of line, so that the drop of any owner but the last is inlined.
 #[inline(never)]
 fn drop_last<T: Drop>(block: Block<T>) {
     drop(block);
@@ -237,7 +242,7 @@ impl<T: Drop> Clone for Shared<T> {
     }
 }
 
-// Each owner reaches the elements, and the last one drops them, in whichever thread it is.
+// Each owner gives access to the elements, and the last one drops them, in whichever thread it is.
 unsafe impl<T: Send + Sync> Send for Shared<T> {}
 
 unsafe impl<T: Send + Sync> Sync for Shared<T> {}

@@ -1,14 +1,14 @@
-//! What the crates above see of their types.
+//! The crates above show by these functions that their types are `Send` and `Sync`.
 use crate::shared::Shared;
 use std::marker::{Send, Sync};
 
-/// Takes a type whose values may be given to another thread.
+/// Takes a type that is `Send`.
 pub fn may_be_sent<V: Send>() {}
 
-/// Takes a type whose values several threads may look at.
+/// Takes a type that is `Sync`.
 pub fn may_be_shared<V: Sync>() {}
 
-/// An owner may be given away and looked at, where its elements may be both.
+/// An owner is `Send` and `Sync` where its elements are both.
 fn owners<T: Send + Sync>() {
     may_be_sent::<Shared<T>>();
     may_be_shared::<Shared<T>>();

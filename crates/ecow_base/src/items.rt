@@ -1,4 +1,5 @@
-//! Lists and texts in commands and answers, which contracts see by what they hold alone.
+// rust: no file: what contracts and the stores speak of
+//! Lists and texts in commands and answers. A contract sees their contents alone.
 ghost use Rattle.std.specs.Prelude.{◌≡◌, length, string_bytes, IfOk};
 ghost use Rattle.std.specs.Str.{chars, encode_utf8_all};
 ghost use Rattle.ecow_base.specs.Clones.{ClonesAreEqual};
@@ -6,7 +7,7 @@ ghost use Rattle.ecow_base.specs.Clones.{ClonesAreEqual};
 use std::alloc::{AllocError, Global};
 use std::marker::Model;
 
-/// A list: a `Vec` of which contracts see the elements alone, and not its pointer and capacity.
+/// A list: a `Vec` whose elements are all that a contract sees, without its pointer and capacity.
 #[derive(Drop)]
 pub struct Items<T> {
     elements: Vec<T>,
@@ -21,14 +22,14 @@ impl<T> Model for Items<T> {
 }
 
 impl<T> Items<T> {
-    /// The elements of a `Vec`, which is kept as it is.
+    /// Wraps a `Vec`, without a copy.
     pub fn new(elements: Vec<T>) -> Self
         ensures { result ≡ elements.items }
     {
         Items { elements }
     }
 
-    /// The `Vec` again. Takes no memory.
+    /// Returns the `Vec`, without a copy.
     pub fn into_vec(self) -> Vec<T>
         ensures { result.items ≡ self }
     {
@@ -52,8 +53,8 @@ impl<T> Items<T> {
 }
 
 impl<T: Clone> Items<T> {
-    /// Clones of the elements of a slice. Refused where there is no memory or an element's clone
-    /// is refused.
+    /// Clones the elements of a slice. An error says that there is no memory, or that an element's
+    /// clone was refused.
     pub fn from_slice(alloc: Global, elements: &[T]) -> Result<Self, AllocError>
         ensures { ClonesAreEqual T.is_clone → IfOk result (λ copy. copy ≡ elements.now) }
     {
@@ -63,7 +64,7 @@ impl<T: Clone> Items<T> {
     }
 }
 
-/// A text: a `String` of which contracts see the characters alone.
+/// A text: a `String` whose characters are all that a contract sees.
 #[derive(Drop)]
 pub struct Text {
     text: String,
@@ -79,14 +80,14 @@ impl Model for Text {
 }
 
 impl Text {
-    /// The characters of a `String`, which is kept as it is.
+    /// Wraps a `String`, without a copy.
     pub fn new(text: String) -> Self
         ensures { result ≡ chars (string_bytes text) }
     {
         Text { text }
     }
 
-    /// The text; a clause sees a `&str` as its UTF-8 bytes.
+    /// The text. A contract sees a `&str` as its UTF-8 bytes.
     pub fn as_str(&self) -> &str
         ensures chars { chars result.now ≡ self.now }
         ensures bytes { encode_utf8_all self.now ≡ result.now }
@@ -94,7 +95,7 @@ impl Text {
         self.text.as_str()
     }
 
-    /// The `String` again. Takes no memory.
+    /// Returns the `String`, without a copy.
     pub fn into_string(self) -> String
         ensures { chars (string_bytes result) ≡ self }
     {

@@ -1,6 +1,6 @@
-//! What several crates speak of: ranges of indices, how much room a block is given, what is asked
-//! of an element's clone, and plain values. These are lists, bytes and texts of which contracts see
-//! the contents alone, with the inline rule, the byte indices of a text, and replacement.
+//! What several crates share: ranges of indices, capacities, what is asked of an element's clone,
+//! and plain values. Plain values are lists, bytes and texts whose contents are all that a contract
+//! sees. With them stand the inline rule, the byte indices of a text, and replacement.
 #![tactic(auto)]
 
 pub mod capacity;

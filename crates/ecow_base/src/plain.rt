@@ -1,21 +1,22 @@
-//! Bytes and texts as contracts see them: what they hold, and whether it stands in the value
-//! itself.
+// rust: no file: what contracts and the stores speak of
+//! Bytes and texts as contracts see them: their contents, and whether these are inline, which is
+//! to say in the value itself.
 use crate::items::{Items, Text};
 
-/// Bytes, and whether they stand in the value itself.
+/// Bytes, and whether they are inline.
 #[derive(Drop)]
 pub struct PlainBytes {
-    /// In order.
+    /// The bytes, in order.
     pub bytes: Items<u8>,
-    /// Whether they stand in the value itself.
+    /// Whether the bytes are inline.
     pub inline: bool,
 }
 
-/// Characters, and whether their UTF-8 bytes stand in the value itself.
+/// Characters, and whether their UTF-8 bytes are inline.
 #[derive(Drop)]
 pub struct PlainText {
-    /// In order.
+    /// The characters, in order.
     pub chars: Text,
-    /// Whether its bytes stand in the value itself.
+    /// Whether the text's bytes are inline.
     pub inline: bool,
 }

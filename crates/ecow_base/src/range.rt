@@ -1,13 +1,13 @@
-//! Ranges of indices, resolved in a list of a given length.
+//! Ranges of indices in a list of a given length.
 ghost use Rattle.std.specs.Prelude.{◌≡◌, ◌≤◌, ◌↔◌, IsTrue, IsSome, IfSome};
 ghost use Rattle.ecow_base.specs.Range.{range_of};
 
 use std::ops::{Bound, RangeBounds};
 
 /// The first index of `range` and the index after its last, in a list of `len` elements. `None`
-/// where a bound lies outside the list or the range runs backwards. Takes no memory.
+/// where a bound lies outside the list, or where the range runs backwards.
 ///
-/// The original panics in place of the `None`.
+/// Where this answers `None`, the original panics.
 pub fn resolve<R: RangeBounds<usize>>(range: &R, len: usize) -> Option<(usize, usize)>
     ensures value { R.has_bounds range.now
         → result ≡ range_of (R.start_bound range.now, R.end_bound range.now) len }
@@ -28,8 +28,8 @@ pub fn resolve<R: RangeBounds<usize>>(range: &R, len: usize) -> Option<(usize, u
     Some((start, end))
 }
 
-/// Whether a list of `len` elements has `range`: the test for calls that ask for a range within
-/// the list. Takes no memory.
+/// Whether `range` lies within a list of `len` elements: the test to make before a call that asks
+/// for such a range.
 pub fn range_in<R: RangeBounds<usize>>(range: &R, len: usize) -> bool
     ensures { R.has_bounds range.now
         → (IsTrue result ↔ IsSome (range_of (R.start_bound range.now, R.end_bound range.now) len)) }

@@ -44,7 +44,7 @@ fn few_lines(alloc: Global, random: &mut Random, prose: &str) -> Result<Lines, E
 }
 
 /// What a document consists of, at each of its levels.
-trait Part {
+trait Level {
     /// Inserts a letter into a random line.
     fn edit(&mut self, random: &mut Random) -> Result<(), EcoError>;
 
@@ -52,7 +52,7 @@ trait Part {
     fn looked_at(&self, random: &mut Random) -> u64;
 }
 
-impl Part for EcoString {
+impl Level for EcoString {
     fn edit(&mut self, random: &mut Random) -> Result<(), EcoError> {
         let at = random.below(self.len().saturating_add(1));
         if self.is_char_boundary(at) {
@@ -66,7 +66,7 @@ impl Part for EcoString {
     }
 }
 
-impl<T: Part + Clone> Part for EcoVec<T> {
+impl<T: Level + Clone> Level for EcoVec<T> {
     fn edit(&mut self, random: &mut Random) -> Result<(), EcoError> {
         let parts = self.make_mut()?;
         let at = random.below(parts.len());

@@ -1,5 +1,5 @@
-//! A list of elements in one block of memory, with a number of elements for which there is room;
-//! and the same list given away from both ends.
+//! A list of elements in one block of memory, with its capacity, and an iterator that gives such a
+//! list's elements away from both ends.
 #![tactic(auto)]
 
 pub mod block;

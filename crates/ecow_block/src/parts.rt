@@ -1,5 +1,5 @@
-//! The parts of a block: its head, its places, and the rights to give both back. Nothing here
-//! touches a pointer.
+//! The parts of a block: its head, its places, and the rights to free both. Nothing here touches a
+//! pointer.
 ghost use Rattle.std.specs.Prelude.{◌≡◌, ◌+◌, ◌^◌, ◌<◌, ◌≤◌, [], true, false, IfOk};
 ghost use Rattle.std.specs.Mem.{type_size};
 ghost use Rattle.std.specs.Vec.Ownership.{FitsInBlock};
@@ -14,12 +14,12 @@ use crate::room::{
 use std::alloc::{AllocError, Allocator, Global};
 use std::mem::{replace, size_of};
 
-/// How many places stand right behind their head at most, so that one request is made for both.
-/// More stand apart, so that they grow in place.
+/// Up to this many places stand right behind their head, so that one allocation has both. More
+/// places have an allocation of their own, which can grow in place.
 pub(crate) const TOGETHER: usize = 1024;
 
-/// How many places a block has that take no bytes, and how much more than its capacity its head
-/// tells of then. So the block grows by a change of that number alone.
+/// Elements may take no bytes. Their block has this many places, and its head holds the capacity
+/// plus this number. So the block grows by a change of that number alone.
 pub(crate) const NOWHERE: usize = 9223372036854775808;
 
 /// The capacity of a block by the number in its head.
@@ -44,7 +44,7 @@ pub(crate) fn takes_bytes<T>(count: usize) -> bool
     count * size_of::<T>() != 0
 }
 
-/// Makes `len` the number of items that a head tells of.
+/// Writes the number of items into a head.
 pub(crate) fn put_len<T, A: Allocator>(title: &mut Title<T, A>, top: Top<T>, len: usize)
     requires { (top.ptr ≡ title.old.at) × InBlock top.ptr }
     ensures { title.new ≡ with_len title.old len }
@@ -52,7 +52,7 @@ pub(crate) fn put_len<T, A: Allocator>(title: &mut Title<T, A>, top: Top<T>, len
     fields_mut(title, top).len = len;
 }
 
-/// Makes the places those that a head tells of; `capacity` is the number in it.
+/// Writes into a head where its places begin, and the number that stands for its capacity.
 pub(crate) fn put_places<T, A: Allocator>(
     title: &mut Title<T, A>,
     top: Top<T>,
@@ -68,6 +68,7 @@ pub(crate) fn put_places<T, A: Allocator>(
 }
 
 /// The parts of a block without places. Asks for no memory.
+// rust: const
 pub(crate) fn no_parts<T>(
     alloc: &Global,
 ) -> (Base<T>, Top<T>, Room<T>, Title<T, Global>, Deed<T, Global>)
@@ -79,7 +80,7 @@ pub(crate) fn no_parts<T>(
     (base, top, room, title, deed)
 }
 
-/// The parts of an empty block of `capacity` places, which are some.
+/// Allocates the parts of an empty block of `capacity` places, at least one.
 pub(crate) fn make_parts<T>(
     alloc: &Global,
     capacity: usize,
@@ -101,7 +102,7 @@ pub(crate) fn make_parts<T>(
     Ok((top, room, tested(title), deed))
 }
 
-/// The parts of an empty block of places that take no bytes.
+/// Allocates the parts of an empty block whose places take no bytes.
 #[inline(never)]
 fn make_nowhere<T>(
     alloc: &Global,
@@ -120,7 +121,7 @@ fn make_nowhere<T>(
     Ok((top, room, title, deed))
 }
 
-/// The parts of an empty block of many places, which stand apart from their head.
+/// Allocates the parts of an empty block of many places, which stand apart from their head.
 #[inline(never)]
 fn make_apart<T>(
     alloc: &Global,
@@ -146,7 +147,7 @@ fn make_apart<T>(
     }
 }
 
-/// Gives the parts of a block that holds nothing back.
+/// Frees the parts of a block that holds no items.
 pub(crate) fn give_back_parts<T>(
     top: Top<T>,
     room: Room<T>,
@@ -184,7 +185,7 @@ pub(crate) fn give_back_parts<T>(
     }
 }
 
-/// Where the places begin. A block without places gets other parts, since it keeps no such place.
+/// Where the places begin. A block without places doesn't keep such an address, and gets new parts.
 #[inline]
 pub(crate) fn base_of<T>(
     top: &mut Top<T>,
@@ -208,3 +209,18 @@ pub(crate) fn base_of<T>(
     }
     fields(title, *top).base
 }
+
+/// Where the places of `$block` begin.
+macro_rules! base {
+    ($block:expr) => {
+        $crate::parts::base_of(
+            &mut $block.top,
+            &mut $block.room,
+            &mut $block.title,
+            &mut $block.deed,
+            &$block.alloc,
+        )
+    };
+}
+
+pub(crate) use base;

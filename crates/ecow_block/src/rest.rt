@@ -9,10 +9,10 @@ use std::alloc::Global;
 use std::iter::FusedIterator;
 use std::marker::Model;
 
-/// The elements that are still to come, in the memory that they were in. What is left is dropped
-/// with it.
+/// An iterator over a block's elements, which stay in the block's memory until they are taken. When
+/// it is dropped, it drops the elements that nobody took.
 pub struct Rest<T> {
-    /// Where the block's head is, or null.
+    /// The address of the block's head, or null.
     top: Top<T>,
     /// Where its places begin.
     base: Base<T>,
@@ -20,15 +20,15 @@ pub struct Rest<T> {
     start: usize,
     /// How many elements are still to come.
     len: usize,
-    /// The places before that one, which are empty.
+    /// The places before the next element, which are empty.
     taken: Room<T>,
-    /// The others.
+    /// The places from the next element on.
     room: Room<T>,
     /// The right to the head.
     title: Title<T, Global>,
     /// The right to give places back that stand apart from the head.
     deed: Deed<T, Global>,
-    /// Of which the memory was asked.
+    /// The allocator that the memory came from.
     alloc: Global,
 }
 
@@ -46,7 +46,7 @@ impl<T> Model for Rest<T> {
 impl<T> Rest<T> {
     ghost use Rattle.ecow_block.specs.Parts.{IsParts};
 
-    /// The elements of a whole block.
+    /// Iterates over the elements of a whole block.
     pub(crate) fn of_parts(
         top: Top<T>,
         room: Room<T>,
@@ -118,8 +118,8 @@ impl<T> Rest<T> {
         Some(self.room.take_last(self.base, self.start + self.len))
     }
 
-    /// Moves the elements still to come behind those of `elements`, which has room for them, and
-    /// gives the memory back.
+    /// Moves the elements still to come behind those of `elements`, whose capacity must be enough,
+    /// and frees the block's memory.
     pub fn collect_into(self, elements: &mut Vec<T>)
         requires { length elements.old.items + length self ≤ vec_capacity elements.old }
         ensures { elements.new.items ≡ elements.old.items ++ self }
@@ -131,7 +131,7 @@ impl<T> Rest<T> {
         rest.destroy_empty();
     }
 
-    /// Gives the memory back, once all elements were taken.
+    /// Frees the memory, once all elements were taken.
     pub(crate) fn destroy_empty(self)
         requires { self ≡ [] }
     {

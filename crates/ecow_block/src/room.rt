@@ -1,5 +1,5 @@
-//! Raw room for elements, and the heads of blocks: this module and its parts are the only code of
-//! the crate that touches pointers.
+//! Memory for elements, and the heads of blocks. This module and its parts are the only code of the
+//! crate that touches pointers.
 ghost use Rattle.std.specs.Prelude.{◌≡◌, ℕ, ◌≤◌, List, length, ⊤};
 ghost use base.Fml.{ftrue};
 ghost use denote.RawPtr.{Ptr};
@@ -19,10 +19,11 @@ pub(crate) use heads::{fields, fields_mut, give_back_head, is_none, make_head, n
 pub(crate) use heap::{give_back, grow, make, nowhere};
 pub(crate) use layout::layout_of;
 
-/// How many items are put at a time.
+/// How many items are written at once.
 pub(crate) const CHUNK: usize = 128;
 
-/// Where a block begins. It owns nothing.
+/// Where the places of a block begin. It owns nothing.
+// rust: repr(C)
 pub(crate) struct Base<T> {
     /// The first place, or an aligned address of no memory.
     ptr: *mut T,
@@ -45,24 +46,25 @@ unsafe impl<T> Send for Base<T> {}
 
 unsafe impl<T> Sync for Base<T> {}
 
-/// Some places of a block, side by side: the first of them hold the items, the others are empty. It
-/// takes no space.
+/// The right to some places of a block, which lie side by side. The first ones hold the items, and
+/// the others are empty. The right itself takes no space.
+// rust: repr(C)
 pub struct Room<T> {
     /// Names `T`, and takes no space.
     pub mark: PhantomData<*const T>,
-    /// Where the block begins.
+    /// Where the block's places begin.
     ghost at: { Ptr },
     /// The number of the first place.
     ghost start: { ℕ },
-    /// What stands in the first places, in order.
+    /// The items in the first places, in order.
     ghost items: { List T },
-    /// How many places there are.
+    /// The number of places.
     ghost capacity: { ℕ },
     ghost within: { length items ≤ capacity },
 }
 
 impl<T> Room<T> {
-    /// Lets the places go.
+    /// Gives the right up. The memory stays allocated.
     pub(crate) fn let_go(self) {
         let Room { mark: _ } = self;
     }
@@ -78,21 +80,21 @@ unsafe impl<T: Send> Send for Room<T> {}
 
 unsafe impl<T: Sync> Sync for Room<T> {}
 
-/// The right to give a block of `capacity` places back to `alloc`, if it was asked of it. It takes
-/// no space.
+/// The right to free `capacity` places that `alloc` gave. The right itself takes no space.
+// rust: repr(C)
 pub struct Deed<T, A: Allocator> {
     /// Names `T` and `A`, and takes no space.
     pub mark: PhantomData<*const (T, A)>,
-    /// Where the block begins.
+    /// Where the places begin.
     ghost at: { Ptr },
-    /// How many places it has.
+    /// The number of places.
     ghost capacity: { ℕ },
-    /// Of which it was asked.
+    /// The allocator that they came from.
     ghost alloc: { A },
 }
 
 impl<T, A: Allocator> Deed<T, A> {
-    /// Lets the right go.
+    /// Gives the right up. The memory stays allocated.
     pub(crate) fn let_go(self) {
         let Deed { mark: _ } = self;
     }
@@ -106,17 +108,17 @@ impl<T, A: Allocator> Model for Deed<T, A> {
 
 unsafe impl<T, A: Allocator + Send> Send for Deed<T, A> {}
 
-// A `&` to a deed holds nothing.
+// A `&` to a deed gives access to nothing.
 unsafe impl<T, A: Allocator> Sync for Deed<T, A> {}
 
-/// What a head says of its block: where the places begin, how many items they hold, and how many
-/// places there are.
+/// What a head says of its block.
+// rust: repr(C)
 pub(crate) struct Fields<T> {
-    /// Right behind the head, or in memory of their own.
+    /// Where the places begin: right behind the head, or in an allocation of their own.
     pub(crate) base: Base<T>,
-    /// In places.
+    /// The number of items.
     pub(crate) len: usize,
-    /// In places, and 2^63 more where these take no bytes.
+    /// The number of places, and 2^63 more where places take no bytes.
     pub(crate) capacity: usize,
 }
 
@@ -132,17 +134,19 @@ impl<T> Clone for Fields<T> {
 
 impl<T> Copy for Fields<T> {}
 
-/// What a block has beside its places: how many owners there are, and the fields.
+/// The start of a block's memory: the count of owners, and the fields.
+// rust: repr(C)
 pub struct Head<T> {
-    /// How many owners the block has, one at least. It stands first, where the counts' crates look.
+    /// The number of owners, at least one. It stands first, where the crates that count look for it.
     pub count: usize,
-    /// What a sole owner changes, and all owners read.
+    /// All owners read the fields, and a sole owner changes them.
     fields: Fields<T>,
 }
 
-/// Where a head is, or null, where there is no block. It owns nothing.
+/// The address of a block's head, or null where there is no block. It owns nothing.
+// rust: repr(C)
 pub struct Top<T> {
-    /// Null, or the head.
+    /// The head, or null.
     pub ptr: *mut Head<T>,
 }
 
@@ -163,24 +167,25 @@ unsafe impl<T> Send for Top<T> {}
 
 unsafe impl<T> Sync for Top<T> {}
 
-/// The head of a sole owner's block, with its fields, and the right to give its memory back to
-/// `alloc`: the head's, and that of as many places right behind it. It takes no space, and is
-/// nothing at null.
+/// The right to the head of a sole owner's block, and to free the head's allocation, which also has
+/// the places right behind it. The right itself takes no space. Where there is no head, it is a
+/// right to nothing.
+// rust: repr(C)
 pub struct Title<T, A: Allocator> {
     /// Names `T` and `A`, and takes no space.
     pub mark: PhantomData<*const (T, A)>,
-    /// Where the head is, or null.
+    /// The address of the head, or null.
     ghost at: { Ptr },
-    /// What stands in it.
+    /// The head's fields.
     ghost fields: { Fields T },
-    /// How many places were asked for with it: none where they stand apart.
+    /// The number of places in the head's allocation: none where they stand apart.
     ghost places: { ℕ },
-    /// Of which it was asked.
+    /// The allocator that the head came from.
     ghost alloc: { A },
 }
 
 impl<T, A: Allocator> Title<T, A> {
-    /// Lets the head go.
+    /// Gives the right up. The memory stays allocated.
     pub(crate) fn let_go(self) {
         let Title { mark: _ } = self;
     }
@@ -195,5 +200,5 @@ impl<T, A: Allocator> Model for Title<T, A> {
 // A title owns no element.
 unsafe impl<T, A: Allocator + Send> Send for Title<T, A> {}
 
-// A `&` to a title sees the fields of its head alone.
+// A `&` to a title gives access to the fields of its head alone.
 unsafe impl<T, A: Allocator> Sync for Title<T, A> {}

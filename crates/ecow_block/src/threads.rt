@@ -1,4 +1,4 @@
-//! What may be given to another thread, and what several threads may look at.
+//! Shows that blocks are `Send` and `Sync` where their elements are.
 use crate::block::Block;
 use crate::rest::Rest;
 use std::marker::{Send, Sync};
@@ -9,13 +9,13 @@ fn may_be_sent<V: Send>() {}
 /// Takes a type whose values several threads may look at.
 fn may_be_shared<V: Sync>() {}
 
-/// Lists may be given away where their elements may.
+/// A list may be given to another thread where its elements may.
 fn sent<T: Send>() {
     may_be_sent::<Block<T>>();
     may_be_sent::<Rest<T>>();
 }
 
-/// Lists may be looked at where their elements may.
+/// Several threads may look at a list where they may look at its elements.
 fn shared<T: Sync>() {
     may_be_shared::<Block<T>>();
     may_be_shared::<Rest<T>>();

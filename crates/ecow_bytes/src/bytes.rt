@@ -1,9 +1,9 @@
-//! `SmallBytes`: few bytes in the value itself, and more in a vector that clones share. `EcoBytes`
-//! is its name for 15 bytes.
+//! `SmallBytes`: a few bytes in the value itself, and more in a vector that clones share.
+//! `EcoBytes` is `SmallBytes` with a limit of 15 bytes.
 //!
-//! A call that takes memory may be refused, as a vector's is: with `Capacity` where there would be
-//! more than 2^63 - 1 bytes, and else with `Memory`. The value is then as it was. No call is
-//! refused whose bytes stay inline.
+//! A call that takes memory can be refused: with `Capacity` if there would be more than 2^63 - 1
+//! bytes, and else with `Memory`. The value is then unchanged, except that `extend` keeps the bytes
+//! that it appended before. No change is refused that leaves the bytes inline.
 ghost use Rattle.std.specs.Prelude.{◌≡◌, ◌≤◌, ◌==◌, [], length, true, false};
 
 mod allocator;
@@ -20,24 +20,37 @@ use ecow_base::MAX_LEN;
 use std::alloc::{AllocError, Global};
 use std::marker::Model;
 
-/// Bytes: inline, in the value itself, where they are at most `N`, or spilled, in a vector whose
-/// block clones share until one of them is written to.
+/// A sequence of bytes. At most `N` bytes are inline, in the value itself; more are spilled, in a
+/// vector whose block clones share until one of them is changed.
 ///
-/// Inline bytes that come to more than `N`, or get room for more, spill. Spilled bytes stay
-/// spilled, however few are left: `shrink_to_fit` alone brings them back. Equality, order and hash
-/// see the bytes and not where they stand.
+/// Inline bytes spill when there would be more than `N` of them, or when capacity for more than `N`
+/// is reserved. Spilled bytes stay spilled, however few are left: only `shrink_to_fit` brings them
+/// back inline. Equality, order and hash depend on the bytes and not on where they are stored. A
+/// clone takes constant time and no memory.
+///
+/// ```
+/// let mut bytes = EcoBytes::from_array(alloc, [7; 15])?;
+/// assert!(bytes.is_inline());
+/// bytes.push(8)?;
+/// assert!(!bytes.is_inline());
+/// let before = bytes.clone()?;
+/// bytes.push(9)?;
+/// assert_eq!((before.len(), bytes.len()), (16, 17));
+/// ```
 #[derive(Drop)]
 pub struct SmallBytes<const N: usize> {
     /// The bytes, inline or spilled.
+    // rust: pub(crate)
     form: Form<N>,
-    /// Of which memory is asked when they spill.
+    /// The allocator that gives the memory when the bytes spill.
+    // rust: pub(crate)
     alloc: Global,
 }
 
-/// Bytes of which at most 15 stand in the value itself.
+/// Bytes of which at most 15 are stored in the value itself.
 pub type EcoBytes = SmallBytes<15>;
 
-/// The greatest number of bytes that stand in an `EcoBytes` itself, or in an `EcoString`.
+/// The greatest number of bytes that an `EcoBytes` or an `EcoString` stores in itself.
 pub const INLINE_LIMIT: usize = 15;
 
 impl<const N: usize> Model for SmallBytes<N> {
@@ -50,7 +63,7 @@ impl<const N: usize> Model for SmallBytes<N> {
 }
 
 impl<const N: usize> SmallBytes<N> {
-    /// The greatest number of bytes that stand in the value itself.
+    /// The greatest number of bytes that are stored in the value itself.
     pub const INLINE_LIMIT: usize = N;
 
     /// No bytes, inline. Takes no memory.
@@ -82,14 +95,14 @@ impl<const N: usize> SmallBytes<N> {
         self.form.len()
     }
 
-    /// Whether there is no byte.
+    /// Whether there are no bytes.
     pub fn is_empty(&self) -> bool
         ensures { result ≡ (length self.now.bytes == 0) }
     {
         self.len() == 0
     }
 
-    /// Whether the bytes stand in the value itself.
+    /// Whether the bytes are stored in the value itself.
     pub fn is_inline(&self) -> bool
         ensures { result ≡ self.now.inline }
     {
@@ -99,8 +112,8 @@ impl<const N: usize> SmallBytes<N> {
         }
     }
 
-    /// For how many bytes there is room, never fewer than there are: the limit where they are
-    /// inline.
+    /// The number of bytes that the value can hold without a larger block, which is at least the
+    /// length. For inline bytes it is `N`.
     pub fn capacity(&self) -> usize
         ensures room { length self.now.bytes ≤ result }
         ensures bounded { result ≤ MAX_LEN }
@@ -113,8 +126,10 @@ impl<const N: usize> SmallBytes<N> {
         }
     }
 
-    /// Keeps no byte. Inline bytes stay inline and spilled ones spilled; a shared block is given
-    /// up, with nothing copied. Never refused.
+    /// Removes all bytes. Inline bytes stay inline, and spilled bytes stay spilled.
+    ///
+    /// Copies nothing and is never refused. A shared block is left to the other values that share
+    /// it.
     pub fn clear(&mut self)
         ensures bytes { self.new.bytes ≡ [] }
         ensures mode { self.new.inline ≡ self.old.inline }

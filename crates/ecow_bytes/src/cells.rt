@@ -5,16 +5,17 @@ ghost use Rattle.ecow_bytes.specs.Lends.{lends_first};
 
 use ecow_base::MAX_LEN;
 
-/// An array in a struct of its own, so that a contract can say what a loan of its bytes leaves. It
-/// has no model, so that a copy of it is one of memory.
+/// An array of `N` bytes in a struct of its own, so that a contract can say what a borrow of the
+/// bytes leaves in it. It has no model, so that a copy of it is a copy of memory.
 #[derive(Clone, Copy, Drop)]
 pub(crate) struct Cells<const N: usize> {
-    /// A byte for each cell.
+    /// One byte for each cell.
     pub(crate) bytes: [u8; N],
 }
 
-/// The greatest number that a cell holds. Arrays of at most one cell more have in the last how many
-/// are used. The compiler knows `N`, and leaves the other ways out.
+/// The greatest number that a cell can hold. In an array of at most `MANY + 1` cells, the last cell
+/// says how many are used. `N` is known to the compiler, so it leaves out the branches for other
+/// lengths.
 const MANY: usize = u8::MAX as usize;
 
 impl<const N: usize> Cells<N> {
@@ -22,7 +23,7 @@ impl<const N: usize> Cells<N> {
     ghost use Rattle.ecow_bytes.specs.Lends.{lends_all, lends_front};
     ghost use Rattle.ecow_bytes.specs.Digits.{digits};
 
-    /// Puts these bytes into the first cells.
+    /// Puts `bytes` into the first cells.
     #[inline]
     pub(crate) fn put(&mut self, bytes: &[u8])
         requires { length bytes.now ≤ N }
@@ -33,7 +34,7 @@ impl<const N: usize> Cells<N> {
         all[0..bytes.len()].copy_from_slice(bytes);
     }
 
-    /// How many cells there are.
+    /// The number of cells.
     #[inline]
     pub(crate) fn count(&self) -> usize
         ensures count { result ≡ N }
@@ -43,8 +44,8 @@ impl<const N: usize> Cells<N> {
         self.bytes[..].len()
     }
 
-    /// The lowest 15 bytes of two words, put in by the pieces that `copy` reads. Stores that overlap,
-    /// as those of an array of zeros, would keep the reads waiting.
+    /// The lowest 15 bytes of two words. They are stored in the same pieces that `copy` reads,
+    /// since a read has to wait if the stores overlap, as those of an array of zeros would.
     #[inline(always)]
     pub(crate) fn of_words(low: u64, high: u64) -> Self
         requires cells { N ≡ 15 }
@@ -60,9 +61,10 @@ impl<const N: usize> Cells<N> {
         cells
     }
 
-    /// A copy, in pieces of one, two, four and more bytes. In a `Form` the cells begin behind a tag
-    /// of one byte, and a pointer lies at the eighth. The compiler would move the seven before it
-    /// as two numbers of four bytes that overlap, so that the next move has to wait for both.
+    /// A copy, made in pieces of one, two, four and more bytes. In a `Form` the cells follow a tag
+    /// of one byte, and a pointer is stored eight bytes from the start. The compiler would move the
+    /// seven bytes before it as two overlapping numbers of four bytes, and the next move would have
+    /// to wait for both.
     #[inline(always)]
     pub(crate) fn copy(&self) -> Self
         ensures { result ≡ self.now }
@@ -79,7 +81,7 @@ impl<const N: usize> Cells<N> {
         copy
     }
 
-    /// How many cells are used, where the last ones say it.
+    /// The number of cells that are used, which the last cells say.
     #[inline]
     #[tactic(auto, unfolding(crate::specs::Counts::counted, crate::specs::Counts::before_last))]
     pub(crate) fn len(&self) -> usize
@@ -99,7 +101,7 @@ impl<const N: usize> Cells<N> {
         usize::from_le_bytes(before).min(N - 1 - MANY)
     }
 
-    /// Has the last cells say that the first `len` are used.
+    /// Sets the last cells so that they say that the first `len` are used.
     #[inline]
     #[tactic(auto, unfolding(crate::specs::Counts::counted, crate::specs::Counts::before_last))]
     pub(crate) fn set_len(&mut self, len: usize)
@@ -121,7 +123,7 @@ impl<const N: usize> Cells<N> {
         cells[N - 9..N - 1].copy_from_slice(&len.to_le_bytes());
     }
 
-    /// The bytes, for writing.
+    /// All bytes, borrowed for writing.
     #[inline]
     pub(crate) fn all_mut(&mut self) -> &mut [u8]
         ensures* writes_back { sem 𝓛 (lends_all N.row self.entry result) }
@@ -131,7 +133,7 @@ impl<const N: usize> Cells<N> {
         &mut self.bytes
     }
 
-    /// The first `len` bytes, for writing.
+    /// The first `len` bytes, borrowed for writing.
     pub(crate) fn front_mut(&mut self, len: usize) -> &mut [u8]
         requires { len ≤ N }
         ensures* writes_back { sem 𝓛 (lends_front N.row self.entry len result) }
@@ -141,7 +143,7 @@ impl<const N: usize> Cells<N> {
     }
 }
 
-/// The first `len` bytes of a slice, for writing.
+/// The first `len` bytes of a slice, borrowed for writing.
 fn first_bytes(all: &mut [u8], len: usize) -> &mut [u8]
     requires { len ≤ length all.old }
     ensures* writes_back { sem 𝓛 (lends_first all.entry len result) }

@@ -6,10 +6,10 @@ ghost use Rattle.std.specs.Cmp.Lexicographic.{pointwise, slice_cmp};
 use std::cmp::Ordering;
 use std::simd::Simd;
 
-/// How many bytes make a group, which is compared at once.
+/// The number of bytes that are compared at once.
 const GROUP: usize = 64;
 
-/// Whether the `M` bytes from `at` on are the same.
+/// Whether the `M` bytes from `at` on are equal.
 #[inline(always)]
 fn same_at<const M: usize>(left: &[u8], right: &[u8], at: usize) -> bool
     requires lanes { (0 < M) × (M ≤ 64) }
@@ -22,7 +22,8 @@ fn same_at<const M: usize>(left: &[u8], right: &[u8], at: usize) -> bool
         == 0
 }
 
-/// Whether as many bytes are the same, `M` to twice as many: the first `M` and the last.
+/// Whether two slices of one length, from `M` to `2 * M`, are equal. Compares the first `M` bytes
+/// and the last `M` bytes.
 #[inline(always)]
 fn same_ends<const M: usize>(left: &[u8], right: &[u8]) -> bool
     requires lanes { (0 < M) × (M ≤ 64) }
@@ -33,8 +34,8 @@ fn same_ends<const M: usize>(left: &[u8], right: &[u8]) -> bool
     same_at::<M>(left, right, 0) & same_at::<M>(left, right, left.len() - M)
 }
 
-/// Whether as many bytes are the same, at most a group. No loop is gone round, and nothing is
-/// called.
+/// Whether two slices of one length, at most a group, are equal. Runs no loop and calls no
+/// function.
 #[inline(always)]
 fn few_same(left: &[u8], right: &[u8]) -> bool
     requires as_many { length left.now ≡ length right.now }
@@ -63,7 +64,7 @@ fn few_same(left: &[u8], right: &[u8]) -> bool
     true
 }
 
-/// Whether the groups from `first` and from `second` on are the same.
+/// Whether the groups from `first` on are equal, and those from `second` on.
 #[inline(always)]
 fn both_same(left: &[u8], right: &[u8], first: usize, second: usize) -> bool
     requires first_in_bounds { (first + GROUP ≤ length left.now)
@@ -77,8 +78,8 @@ fn both_same(left: &[u8], right: &[u8], first: usize, second: usize) -> bool
     same_at::<GROUP>(left, right, first) & same_at::<GROUP>(left, right, second)
 }
 
-/// How many of the first `len` bytes are known to be the same: all, or as many as stand before a
-/// group in which two differ.
+/// How many of the first `len` bytes are known to be equal: all of them, or as many as were
+/// compared before a difference was found.
 #[inline]
 fn same_front(left: &[u8], right: &[u8], len: usize) -> usize
     requires many { GROUP ≤ len }
@@ -102,7 +103,7 @@ fn same_front(left: &[u8], right: &[u8], len: usize) -> usize
     }
 }
 
-/// Whether as many bytes are the same, more than a group.
+/// Whether two slices of one length, at least a group, are equal.
 #[inline(never)]
 fn many_same(left: &[u8], right: &[u8]) -> bool
     requires as_many { length left.now ≡ length right.now }
@@ -112,7 +113,7 @@ fn many_same(left: &[u8], right: &[u8]) -> bool
     same_front(left, right, left.len()) == left.len()
 }
 
-/// Whether the bytes are the same.
+/// Whether two slices are equal.
 #[inline]
 pub(crate) fn equal(left: &[u8], right: &[u8]) -> bool
     ensures { result ≡ pointwise nat_eq left.now right.now }
@@ -126,7 +127,7 @@ pub(crate) fn equal(left: &[u8], right: &[u8]) -> bool
     few_same(left, right)
 }
 
-/// The order of bytes of which the first `same` are the same.
+/// The order of two slices whose first `same` bytes are equal.
 #[inline(never)]
 fn order_past(left: &[u8], right: &[u8], same: usize) -> Ordering
     requires in_bounds { (same ≤ length left.now) × (same ≤ length right.now) }
@@ -136,7 +137,7 @@ fn order_past(left: &[u8], right: &[u8], same: usize) -> Ordering
     left[same..].cmp(&right[same..])
 }
 
-/// The order of more bytes than a group, at least `len` of each.
+/// The order of two slices of at least a group. The shorter one has `len` bytes.
 #[inline(never)]
 fn order_many(left: &[u8], right: &[u8], len: usize) -> Ordering
     requires shorter { len ≡ min (length left.now) (length right.now) }
@@ -150,7 +151,7 @@ fn order_many(left: &[u8], right: &[u8], len: usize) -> Ordering
     order_past(left, right, same)
 }
 
-/// The order of bytes that are too many or differ, or are not as many.
+/// The order of two slices, for which `order` doesn't find at once that they are equal.
 #[inline(never)]
 fn order_apart(left: &[u8], right: &[u8]) -> Ordering
     ensures { result ≡ slice_cmp nat_cmp left.now right.now }
@@ -162,8 +163,8 @@ fn order_apart(left: &[u8], right: &[u8]) -> Ordering
     left.cmp(right)
 }
 
-/// The order of the first bytes that differ, and else that of the lengths. As many bytes that are
-/// the same, at most a group, take no call.
+/// The order of the first bytes that differ, or of the lengths if none differ. Equal slices of at
+/// most a group are compared without a call.
 #[inline]
 pub(crate) fn order(left: &[u8], right: &[u8]) -> Ordering
     ensures { result ≡ slice_cmp nat_cmp left.now right.now }

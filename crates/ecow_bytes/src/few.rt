@@ -1,14 +1,14 @@
-//! Fewer bytes than there are cells for.
+//! Fewer bytes than there are cells.
 ghost use Rattle.std.specs.Prelude.{◌≡◌, ◌+◌, ◌*◌, ◌^◌, ◌<◌, ◌≤◌, length, take};
 
 use crate::cells::Cells;
 use ecow_base::MAX_LEN;
 use std::marker::Model;
 
-/// Fewer than `N` bytes. The cells behind them say how many (`counted` in `specs`).
+/// Fewer than `N` bytes. The last cells say how many there are (`counted` in `specs`).
 #[derive(Drop)]
 pub(crate) struct Few<const N: usize> {
-    /// The first hold the bytes, and the last say how many there are.
+    /// The first cells hold the bytes, and the last ones say how many there are.
     pub(crate) cells: Cells<N>,
 }
 
@@ -28,7 +28,7 @@ impl<const N: usize> Few<N> {
     ghost use Rattle.ecow_bytes.specs.Lends.{lends_few};
     ghost use Rattle.ecow_bytes.specs.Digits.{digits};
 
-    /// The first `len` of these bytes.
+    /// The bytes in the first `len` cells.
     #[inline]
     pub(crate) fn of(mut cells: Cells<N>, len: usize) -> Self
         requires { len < N }
@@ -74,7 +74,8 @@ impl<const N: usize> Few<N> {
         self.cells.len()
     }
 
-    /// Keeps the first `len` bytes, or puts others behind them, so that there are so many.
+    /// Sets the length to `len`. The first bytes stay up to the new length, and if it is greater,
+    /// the bytes that are added are unspecified.
     #[inline]
     pub(crate) fn set_len(&mut self, len: usize)
         requires { len < N }
@@ -92,7 +93,7 @@ impl<const N: usize> Few<N> {
         &self.cells.bytes[..self.cells.len()]
     }
 
-    /// The bytes, for writing.
+    /// The bytes, borrowed for writing.
     #[inline]
     pub(crate) fn as_mut_slice(&mut self) -> &mut [u8]
         ensures* writes_back { sem 𝓛 (lends_few N.row self.entry result) }

@@ -1,4 +1,4 @@
-//! Where bytes stand: in the value itself, or in a vector.
+//! Where bytes are stored: in the value itself, or in a vector.
 ghost use Rattle.std.specs.Prelude.{◌≡◌, ◌+◌, ◌-◌, ◌<◌, ◌≤◌, ◌↔◌, [], length, take, remove, slice_get, Some, true, false, IsOk, IfOk, IfErr, OnErr, IsSome, IfSome};
 ghost use Rattle.std.specs.Borrow.{sem};
 ghost use Rattle.std.specs.List.{replace_range};
@@ -10,15 +10,16 @@ use crate::words::words_of;
 use ecow_base::MAX_LEN;
 use ecow_list::{EcoError, EcoVec};
 
-/// Where bytes stand. The compiler lays a tag before them, so that 15 bytes take two words.
+/// Where bytes are stored. The compiler puts a tag of one byte before them, so that 15 bytes take
+/// two words.
 #[derive(Drop)]
 pub(crate) enum Form<const N: usize> {
-    /// In the value itself, fewer than `N`. It comes first, so that its tag is 0, and zeroed memory
-    /// is no bytes where `N` is 1 to 256.
+    /// Fewer than `N` bytes, in the value itself. This variant comes first, so that its tag is 0
+    /// and zeroed memory is an empty value if `N` is from 1 to 256.
     Short(Few<N>),
-    /// In the value itself, `N` of them.
+    /// Exactly `N` bytes, in the value itself.
     Full(Cells<N>),
-    /// In a vector.
+    /// Bytes in a vector.
     Spilled(EcoVec<u8>),
 }
 
@@ -34,7 +35,7 @@ impl<const N: usize> Form<N> {
         Self::inline(&[]).unwrap()
     }
 
-    /// A copy of `bytes`, inline: `None` where there are more than `N`.
+    /// A copy of `bytes`, inline; `None` if there are more than `N`.
     #[inline(always)]
     pub(crate) fn inline(bytes: &[u8]) -> Option<Self>
         ensures fits { IsSome result ↔ (length bytes.now ≤ N) }
@@ -84,14 +85,15 @@ impl<const N: usize> Form<N> {
         }
     }
 
-    /// Inline bytes, for writing.
+    /// Inline bytes, borrowed for writing.
     #[inline]
     pub(crate) fn inline_mut(&mut self) -> &mut [u8]
         requires { (plain_of self.old).inline ≡ true }
         ensures* writes_back { sem 𝓛 (lends_inline N.row self.entry result) }
         ensures value { result.now ≡ (plain_of self.old).bytes }
     {
-        // Each arm returns, since a proof follows a loan from where it is made to a `return`.
+        // Each arm has a `return`, since a proof follows a borrow from where it begins to a
+        // `return`.
         match self {
             Form::Short(few) => return few.as_mut_slice(),
             Form::Full(cells) => return cells.all_mut(),
@@ -99,7 +101,8 @@ impl<const N: usize> Form<N> {
         }
     }
 
-    /// Keeps the first `len` inline bytes, or puts others behind them, so that there are so many.
+    /// Sets the length of inline bytes to `len`. The first bytes stay up to the new length, and if
+    /// it is greater, the bytes that are added are unspecified.
     #[inline]
     pub(crate) fn set_len(&mut self, len: usize)
         requires inline { (plain_of self.old).inline ≡ true }
@@ -126,7 +129,7 @@ impl<const N: usize> Form<N> {
         }
     }
 
-    /// Keeps the first `target` inline bytes, or all where there are fewer.
+    /// Keeps the first `target` inline bytes, or all if there are no more than that.
     #[inline]
     pub(crate) fn truncate(&mut self, target: usize)
         requires { (plain_of self.old).inline ≡ true }
@@ -137,7 +140,7 @@ impl<const N: usize> Form<N> {
         }
     }
 
-    /// Puts `bytes` in place of the inline bytes from `start` up to `end`.
+    /// Replaces the inline bytes from `start` up to `end` with `bytes`.
     pub(crate) fn replace_range(&mut self, start: usize, end: usize, bytes: &[u8])
         requires inline { (plain_of self.old).inline ≡ true }
         requires ordered { start ≤ end }
@@ -155,7 +158,7 @@ impl<const N: usize> Form<N> {
         self.truncate(new_len);
     }
 
-    /// Takes the inline byte at `index`.
+    /// Removes the inline byte at `index` and returns it.
     pub(crate) fn remove(&mut self, index: usize) -> u8
         requires inline { (plain_of self.old).inline ≡ true }
         requires in_bounds { index < length (plain_of self.old).bytes }
@@ -171,7 +174,7 @@ impl<const N: usize> Form<N> {
         byte
     }
 
-    /// The bytes, for writing. Spilled bytes that are shared are copied first.
+    /// The bytes, borrowed for writing. Shared bytes are copied first.
     #[inline]
     pub(crate) fn make_mut(&mut self) -> Result<&mut [u8], EcoError>
         ensures* writes_back { sem 𝓛 (lends_form N.row self.entry result) }

@@ -1,5 +1,5 @@
-//! Equality, order, hash and debug text of bytes: those of the bytes in order, inline or spilled,
-//! shared or not. A front comes before what it begins.
+//! Equality, order, hash and debug text of bytes. They depend on the bytes alone, whether these are
+//! inline, spilled or shared. A prefix comes before a longer sequence that starts with it.
 ghost use Rattle.std.specs.Prelude.{Some, nat_eq, refl};
 ghost use Rattle.std.specs.Ordering.{nat_cmp};
 ghost use Rattle.std.specs.Cmp.{on_equiv, on_total, on_po, on_per, partial_equiv_from_equiv};
@@ -54,7 +54,7 @@ impl<const N: usize> Ord for SmallBytes<N> {
     }
 }
 
-// The number of bytes, and then all of them in one write: as Rust's standard library hashes a
+// Hashes the number of bytes and then all bytes in one write, as Rust's standard library hashes a
 // slice.
 impl<const N: usize> Hash for SmallBytes<N> {
     ghost hash_input = { λ b. hash_writes b.bytes };

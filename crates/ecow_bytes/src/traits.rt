@@ -1,5 +1,5 @@
-//! std's traits by which bytes are used as the slice that they are, and are collected from an
-//! iterator, as a `Vec<u8>` is.
+//! The traits of std that let bytes be used as a slice and be collected from an iterator, as a
+//! `Vec<u8>` can.
 ghost use Rattle.std.specs.Prelude.{◌≡◌, ◌<◌, ◌^◌, ℕ, length};
 ghost use Rattle.std.specs.Iterator.Runs.{EveryRun, ItemsMapTo};
 ghost use Rattle.std.specs.Slice.Iter.{iter_rest, iter_steps};
@@ -11,7 +11,8 @@ use std::convert::AsSlice;
 use std::ops::DerefSlice;
 use std::slice;
 
-/// The bytes: so `bytes[i]`, `bytes.last()` and all other calls of a slice that only read.
+/// Dereferences to a slice: `bytes[i]`, `bytes.last()` and all other calls of a slice that only
+/// read can be used.
 impl<const N: usize> DerefSlice for SmallBytes<N> {
     type Elem = u8;
 
@@ -32,7 +33,7 @@ impl<const N: usize> AsSlice<u8> for SmallBytes<N> {
     }
 }
 
-/// Goes over the bytes by reference, in order.
+/// Iterates over references to the bytes, in order.
 impl<'a, const N: usize> IntoIterator for &'a SmallBytes<N> {
     type Item = &'a u8;
 
@@ -49,7 +50,7 @@ impl<'a, const N: usize> IntoIterator for &'a SmallBytes<N> {
     }
 }
 
-/// The bytes, as `SmallBytes::from_iter` makes them; its two errors are one here.
+/// Collects bytes as `SmallBytes::from_iter` does. `AllocError` stands for both of its errors.
 impl<const N: usize> FromIterator<u8> for SmallBytes<N> {
     type Alloc = Global;
 

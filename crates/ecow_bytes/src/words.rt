@@ -1,9 +1,10 @@
-//! Few bytes as two words.
+//! A few bytes as two words.
 ghost use Rattle.std.specs.Prelude.{◌≡◌, ◌<◌, ◌≤◌, ◌↔◌, ◌^◌, ◌-◌, ◌*◌, IsAscii, length, take, drop, true};
 ghost use Rattle.ecow_bytes.specs.Digits.{number};
 
-/// At most 15 bytes as two words, the lowest byte first, the first eight in the first word. Nothing
-/// is stored: the ends are read as words, and what both have is shifted out.
+/// At most 15 bytes as two words: the first eight bytes in the first word, and each word with its
+/// lowest byte first. The ends are read as words, and the bytes that both ends share are shifted
+/// out, so nothing is stored.
 #[inline(always)]
 pub(crate) fn words_of(bytes: &[u8]) -> (u64, u64)
     requires { length bytes.now ≤ 15 }
@@ -35,10 +36,10 @@ pub(crate) fn words_of(bytes: &[u8]) -> (u64, u64)
     }
 }
 
-/// The highest bit of each byte of a word, which no byte of ASCII has.
+/// The highest bit of each byte of a word. An ASCII byte does not have it set.
 const HIGH_BITS: u64 = 0x8080808080808080;
 
-/// Whether these are at most 15 bytes, and all of them ASCII. It reads them as two words.
+/// Whether there are at most 15 bytes and all are ASCII. Reads them as two words.
 #[inline(always)]
 pub fn are_few_ascii(bytes: &[u8]) -> bool
     ensures { result ≡ true ↔ (length bytes.now ≤ 15) × IsAscii bytes.now }

@@ -1,5 +1,5 @@
-//! Bytes that are written to a `SmallBytes` are appended to it: a whole piece, or the error
-//! `OutOfMemory` and nothing.
+//! Writing to a `SmallBytes` appends to it. A call appends all of its bytes, or it appends none and
+//! returns an error of the kind `OutOfMemory`.
 ghost use Rattle.std.specs.Prelude.{◌≡◌, ◌++◌, length, false, Some, IsOk, IfOk, IfErr, OnOk, OnErr};
 ghost use Rattle.std.specs.Io.{WritesAtMost};
 ghost use Rattle.std.specs.Io.KnownBytes.{Keeps, WriteAppends};
@@ -20,7 +20,7 @@ impl<const N: usize> io::Write for SmallBytes<N> {
         ensures bound { WritesAtMost result buf.now }
         ensures bytes { WriteAppends (Some self.old.bytes) (Some self.new.bytes) result buf.now }
 
-        // All bytes go in, or none for want of memory.
+        // All bytes are appended, or none if there is no memory.
         ensures mode { OnOk result
             (self.new.inline ≡ inline_after N self.old.inline (length self.old.bytes)
             (length buf.now)) }

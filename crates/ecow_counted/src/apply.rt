@@ -1,5 +1,5 @@
-//! What the changes do to a block that has room for them. Nothing here is refused, but for the room
-//! and the clones that are taken before.
+//! The changes of a block that has the capacity for them. They are never refused, since the memory
+//! and the clones that they need are taken before.
 ghost use Rattle.std.specs.Prelude.{◌≡◌, ◌+◌, ◌-◌, ◌≤◌, ◌++◌, [], false, length, IsSome, IsOk, IfOk, IfSome, Ok, vec_capacity, slice_range};
 ghost use Rattle.std.specs.List.{splice, items_where_true};
 ghost use Rattle.ecow_base.specs.Clones.{ClonesAreEqual};
@@ -15,8 +15,8 @@ use ecow_model::vecs::VecEdit;
 use ecow_model::{Bounds, Items, Outcome};
 use std::alloc::{AllocError, Global};
 
-/// What is taken before a change is made: a block with the clones that it appends, or with room for
-/// what changes places; and room for the elements that it answers.
+/// What is taken before a change is made: a block with the clones that are appended, or with
+/// capacity for the elements that change places, and capacity for the elements that are returned.
 #[derive(Drop)]
 pub(crate) struct Spare<T> {
     pub block: Block<T>,
@@ -24,19 +24,19 @@ pub(crate) struct Spare<T> {
 }
 
 impl<T: Clone> Spare<T> {
-    /// All that a change of a list of `len` elements takes.
+    /// Takes all that a change of a list of `len` elements needs.
     pub fn new(alloc: Global, edit: &VecEdit<T>, len: usize) -> Result<Self, AllocError>
         requires bounded { len ≤ MAX_LEN }
         requires length { asked_length edit.now len ≤ MAX_LEN }
 
-        // The clones that the change appends, and room for what changes places.
+        // The clones that the change appends, and capacity for the elements that change places.
         ensures items { ClonesAreEqual T.is_clone
             → IfOk result (λ spare. spare.block.items ≡ new_items edit.now) }
         ensures len { IfOk result
             (λ spare. length spare.block.items ≡ length (new_items edit.now)) }
         ensures room { IfOk result (λ spare. spare_room edit.now len ≤ spare.block.capacity) }
 
-        // Room for what it answers.
+        // Capacity for the elements that it returns.
         ensures empty { IfOk result (λ spare. spare.answer.items ≡ []) }
         ensures answer { IfOk result (λ spare. taken_out edit.now len ≤ vec_capacity spare.answer) }
         ensures free { takes_spare edit.now ≡ false → IsOk result }
@@ -54,7 +54,7 @@ impl<T: Clone> Spare<T> {
     }
 }
 
-/// How many elements a change answers.
+/// How many elements a change returns.
 fn answer_len<T>(edit: &VecEdit<T>, len: usize) -> usize
     ensures taken { result ≡ taken_out edit.now len }
     ensures bounded { result ≤ len }
@@ -66,7 +66,8 @@ fn answer_len<T>(edit: &VecEdit<T>, len: usize) -> usize
     }
 }
 
-/// How many elements of a list of `len` a range has; none where the bounds are no range of it.
+/// How many elements of a list of `len` elements are in a range. There are none if the bounds are
+/// not a range of the list.
 fn count_in(bounds: &Bounds, len: usize) -> usize
     ensures count { result ≡ items_in_range bounds.now len }
     ensures bounded { result ≤ len }
@@ -77,8 +78,8 @@ fn count_in(bounds: &Bounds, len: usize) -> usize
     }
 }
 
-/// Puts the elements of another block in place of those within bounds, and answers these in
-/// `answer`, which is empty. There is room for either.
+/// Replaces the elements within bounds with those of another block, and returns them in `answer`,
+/// which must be empty. Both have the capacity for it.
 fn replace<T: Drop>(
     block: &mut Block<T>,
     bounds: Bounds,
@@ -92,7 +93,7 @@ fn replace<T: Drop>(
     requires empty { answer.items ≡ [] }
     requires answer { items_in_range bounds (length block.old.items) ≤ vec_capacity answer }
 
-    // What is taken out, and what the block has then.
+    // The elements that are taken out, and the block afterwards.
     ensures taken { IfSome (range_of bounds (length block.old.items))
         (λ range. result ≡ slice_range block.old.items range.0 range.1) }
     ensures block { IfSome (range_of bounds (length block.old.items)) (λ range. block.new
@@ -105,7 +106,7 @@ fn replace<T: Drop>(
     Items::new(answer)
 }
 
-/// Keeps the elements that are marked true; there is a mark for each.
+/// Keeps the elements whose mark is true. There must be a mark for each element.
 fn retain_by_marks<T: Drop>(block: &mut Block<T>, marks: &[bool])
     requires { length marks.now ≡ length block.old.items }
     ensures { block.new ≡ contents (items_where_true marks.now block.old.items) block.old.capacity }
@@ -120,7 +121,7 @@ fn retain_by_marks<T: Drop>(block: &mut Block<T>, marks: &[bool])
     });
 }
 
-/// Appends the elements of another block, for which there is room.
+/// Appends the elements of another block. There must be capacity for them.
 fn append<T: Drop>(block: &mut Block<T>, other: Block<T>)
     requires { length block.old.items + length other.items ≤ block.old.capacity }
     ensures { block.new ≡ contents (block.old.items ++ other.items) block.old.capacity }
@@ -130,7 +131,7 @@ fn append<T: Drop>(block: &mut Block<T>, other: Block<T>)
     block.insert_from(len, &mut other, 0);
 }
 
-/// Makes a change in a block with room for it.
+/// Makes a change in a block that has the capacity for it.
 pub(crate) fn apply<T: Drop>(block: &mut Block<T>, edit: VecEdit<T>, spare: Spare<T>) -> Outcome<T>
     requires allowed { verdict (edit_vec edit block.old.items) ≡ Ok tt }
     requires room { length_after edit (length block.old.items) ≤ block.old.capacity }

@@ -1,5 +1,5 @@
-//! Named lists in shared blocks: each block stands in a table with the number of its names, and
-//! each name has the place of its block.
+//! Named lists in shared blocks. A table has each block with the number of names that share it, and
+//! each name has the place of its block in the table. The names that share a block are a group.
 ghost use Rattle.std.specs.Prelude.{◌≡◌, ◌≢◌, ℕ, ◌+◌, ◌-◌, ◌<◌, ◌≤◌, ◌^◌, [], length, true, IsSome, IsOk, IfSome, OnOk, OnErr, Some, None};
 ghost use Rattle.std.specs.FinMap as finite;
 ghost use Rattle.std.specs.Option.{option_copied, option_map};
@@ -13,22 +13,22 @@ ghost use Rattle.ecow_counted.specs.Sizes.{size_of, sole_block};
 use ecow_base::MAX_LEN;
 use ecow_block::Block;
 use ecow_model::Name;
-use ecow_model::table::Table;
+use ecow_table::Table;
 use slab::Slab;
 use std::alloc::{AllocError, Global};
 use std::marker::Model;
 
-/// A block, and how many names hold it.
+/// A block, and how many names share it.
 #[derive(Drop)]
 struct Entry<T> {
-    /// It has room: a name without room has no entry.
+    /// Its capacity isn't 0: a name without capacity has no entry.
     block: Block<T>,
-    /// One at least.
+    /// It is at least 1.
     owners: usize,
 }
 
-/// How long a name's list is, how many elements its block has room for, and how many names hold
-/// that block. Without a block all three are 0.
+/// The length and the capacity of a name's list, and how many names share its block. All three are
+/// 0 if the name has no block.
 #[derive(Clone, Copy)]
 pub(crate) struct Size {
     pub len: usize,
@@ -36,12 +36,12 @@ pub(crate) struct Size {
     pub owners: usize,
 }
 
-/// Named lists. Several names may hold one block.
+/// Named lists. Several names can share a block.
 #[derive(Drop)]
 pub(crate) struct Blocks<T> {
-    /// Of each name, where its block stands in `table`, if it has one.
+    /// For each name, the place of its block in `table`, if it has one.
     places: Table<Option<usize>>,
-    /// Each block once.
+    /// All blocks, each of them once.
     table: Slab<Entry<T>>,
 }
 
@@ -60,7 +60,7 @@ impl<T> Model for Blocks<T> {
 }
 
 impl<T> Blocks<T> {
-    /// No name is there. Takes no memory.
+    /// A table without names. Takes no memory.
     pub fn new(alloc: Global) -> Self
         ensures { result.names ≡ finite.empty }
     {
@@ -78,14 +78,14 @@ impl<T> Blocks<T> {
         self.table.len()
     }
 
-    /// Whether the name is there.
+    /// Whether the name exists.
     pub fn contains(&self, name: Name) -> bool
         ensures { result ≡ finite.contains_key self.now.names name }
     {
         self.places.contains(name)
     }
 
-    /// The size of what a name holds, if it is there.
+    /// The size of the list of a name, if the name exists.
     pub fn size(&self, name: Name) -> Option<Size>
         ensures size { result ≡ option_map size_of (finite.get self.now.names name) }
         ensures bounds { IfSome result (λ size. (size.len ≤ size.capacity)
@@ -110,7 +110,7 @@ impl<T> Blocks<T> {
         }
     }
 
-    /// The list of a name; of one that is not there, none.
+    /// The elements of the list of a name. There are none if the name doesn't exist.
     pub fn elements(&self, name: Name) -> &[T]
         ensures { result.now ≡ (holding_at self.now.names name).items }
     {
@@ -120,7 +120,7 @@ impl<T> Blocks<T> {
         }
     }
 
-    /// Makes room for one more block. Never refused where there is room.
+    /// Makes sure that the table has a free place for another block. Never refused if it has one.
     pub fn reserve(&mut self) -> Result<(), AllocError>
         ensures names { self.new.names ≡ self.old.names }
         ensures room { OnOk result (self.new.has_room ≡ true) }
@@ -129,7 +129,7 @@ impl<T> Blocks<T> {
         self.table.reserve(1)
     }
 
-    /// Makes a name with an empty list and no block. Where there is no memory nothing changes.
+    /// Makes a name with an empty list and no block. If there is no memory, nothing changes.
     pub fn begin(&mut self, name: Name) -> Result<(), AllocError>
         requires free { finite.get self.old.names name ≡ None }
         ensures ok { OnOk result (self.new.names ≡ settle name [] 0 self.old.names) }
@@ -141,7 +141,7 @@ impl<T> Blocks<T> {
         Ok(())
     }
 
-    /// Takes out a name that has no block. Takes no memory.
+    /// Removes a name that has no block. Takes no memory.
     pub fn remove(&mut self, name: Name)
         requires bare { finite.get self.old.names name ≡ Some nothing }
         ensures names { self.new.names ≡ forget name self.old.names }
@@ -150,7 +150,7 @@ impl<T> Blocks<T> {
         let _none = self.places.remove(name);
     }
 
-    /// Gives a name without a block a block of its own, for which there is room.
+    /// Gives a name without a block a block of its own. The table must have a free place for it.
     pub fn place(&mut self, name: Name, block: Block<T>)
         requires bare { finite.get self.old.names name ≡ Some nothing }
         requires room { self.old.has_room ≡ true }
@@ -164,14 +164,14 @@ impl<T> Blocks<T> {
         set_place(&mut self.places, name, Some(place));
     }
 
-    /// Takes a name out of its group: it has an empty list and no block from now on. The block is
-    /// given where no other name holds it, and then there is room for another. Takes no memory.
+    /// Takes a name out of its group, so that it has an empty list and no block. Returns the block
+    /// if no other name has it, and the table then has a free place for another. Takes no memory.
     pub fn take(&mut self, name: Name) -> Option<Block<T>>
         requires there { IsSome (finite.get self.old.names name) }
         ensures names { self.new.names ≡ settle name [] 0 self.old.names }
         ensures block { result ≡ sole_block (finite.get self.old.names name) }
 
-        // There is room for another block, where there was or where this one is given.
+        // The table has a free place if it had one before, or if the block is returned.
         ensures room { IsSome result → self.new.has_room ≡ true }
         ensures room_kept { self.old.has_room ≡ true → self.new.has_room ≡ true }
         ensures sharing { IsSharing self.new.names }
@@ -185,8 +185,8 @@ impl<T> Blocks<T> {
         }
     }
 
-    /// Puts a free name in the group of another, with its list and its block. Where there is no
-    /// memory nothing changes.
+    /// Puts the new name `to` into the group of `from`, with its list and its block. If there is no
+    /// memory, nothing changes.
     pub fn share(&mut self, from: Name, to: Name) -> Result<(), AllocError>
         requires there { IsSome (finite.get self.old.names from) }
         requires free { finite.get self.old.names to ≡ None }
@@ -205,8 +205,8 @@ impl<T> Blocks<T> {
 }
 
 impl<T: Drop> Blocks<T> {
-    /// Makes a name with this block, or without one where the block has no room. Where there is no
-    /// memory nothing changes.
+    /// Makes a name with this block, or without a block if its capacity is 0. If there is no
+    /// memory, nothing changes.
     pub fn make(&mut self, name: Name, block: Block<T>) -> Result<(), AllocError>
         requires free { finite.get self.old.names name ≡ None }
         ensures ok { OnOk result
@@ -223,8 +223,8 @@ impl<T: Drop> Blocks<T> {
         Ok(())
     }
 
-    /// Gives a name this block in place of what it had, or none where the block has no room; there
-    /// is room for the block. Takes no memory.
+    /// Gives a name this block in place of its old one, or no block if the capacity is 0. The table
+    /// must have a free place for the block. Takes no memory.
     pub fn settle(&mut self, name: Name, block: Block<T>)
         requires there { IsSome (finite.get self.old.names name) }
         requires room { 0 < block.capacity → self.old.has_room ≡ true }
@@ -237,7 +237,7 @@ impl<T: Drop> Blocks<T> {
         }
     }
 
-    /// Takes out a name, and drops its block where no other name holds it. Takes no memory.
+    /// Removes a name, and drops its block if no other name has it. Takes no memory.
     pub fn drop_name(&mut self, name: Name)
         requires there { IsSome (finite.get self.old.names name) }
         ensures names { self.new.names ≡ forget name self.old.names }
@@ -248,7 +248,7 @@ impl<T: Drop> Blocks<T> {
     }
 }
 
-/// The place of a name that is there, if it has one.
+/// The place of the block of a name that exists, if it has a block.
 fn place_of(places: &Table<Option<usize>>, name: Name) -> Option<usize>
     requires { IsSome (finite.get places.now name) }
     ensures { finite.get places.now name ≡ Some result }
@@ -256,7 +256,7 @@ fn place_of(places: &Table<Option<usize>>, name: Name) -> Option<usize>
     *places.get(name).unwrap()
 }
 
-/// Gives a name that is there another place.
+/// Sets the place of the block of a name that exists.
 fn set_place(places: &mut Table<Option<usize>>, name: Name, place: Option<usize>)
     requires { IsSome (finite.get places.old name) }
     ensures { places.new ≡ finite.insert places.old name place }
@@ -266,7 +266,7 @@ fn set_place(places: &mut Table<Option<usize>>, name: Name, place: Option<usize>
     }
 }
 
-/// The entry of a name, if it is there and has a block.
+/// The entry of a name, if the name exists and has a block.
 fn entry_of<'a, T>(
     places: &Table<Option<usize>>,
     table: &'a Slab<Entry<T>>,
@@ -280,7 +280,7 @@ fn entry_of<'a, T>(
     }
 }
 
-/// Counts one more name at the place.
+/// Counts one more name for the block at `place`.
 fn add_owner<T>(table: &mut Slab<Entry<T>>, place: usize)
     requires there { ContainsKey table.old place }
     requires room { (entry : Entry T) → get table.old place ≡ Some entry
@@ -295,12 +295,12 @@ fn add_owner<T>(table: &mut Slab<Entry<T>>, place: usize)
     }
 }
 
-/// Counts one name less at the place, and takes the block out after the last.
+/// Counts one name less for the block at `place`, and takes the block out if it has no name left.
 fn drop_owner<T>(table: &mut Slab<Entry<T>>, place: usize) -> Option<Block<T>>
     requires there { ContainsKey table.old place }
     requires some { (entry : Entry T) → get table.old place ≡ Some entry → 0 < entry.owners }
 
-    // The block comes out with its last name alone.
+    // The block is returned only when its last name leaves it.
     ensures last { (entry : Entry T) → get table.old place ≡ Some entry → entry.owners ≡ 1
         → (result ≡ Some entry.block) × (get table.new place ≡ None)
         × (slab_len table.new + 1 ≡ slab_len table.old) × HasRoomFor table.new 1 }
@@ -309,7 +309,7 @@ fn drop_owner<T>(table: &mut Slab<Entry<T>>, place: usize) -> Option<Block<T>>
         × (get table.new place ≡ Some (record { block = entry.block; owners = entry.owners - 1 }))
         × (slab_len table.new ≡ slab_len table.old) }
 
-    // All other places stay.
+    // All other places stay as they are.
     ensures others { (other : ℕ) → other ≢ place → get table.new other ≡ get table.old other }
     ensures room { HasRoomFor table.old 1 → HasRoomFor table.new 1 }
 {

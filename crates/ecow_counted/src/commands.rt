@@ -1,5 +1,5 @@
-//! The commands by their parts, on names in a table of blocks.
-ghost use Rattle.std.specs.Prelude.{◌≡◌, ◌≤◌, [], Ok, IfOk, IfErr, replicate};
+//! Commands by their parts, on names in a table of blocks.
+ghost use Rattle.std.specs.Prelude.{◌≡◌, [], Ok, IfOk, IfErr};
 ghost use Rattle.ecow_base.specs.Clones.{ClonesAreEqual};
 ghost use Rattle.ecow_block.specs.Contents.{contents};
 ghost use Rattle.ecow_model.specs.Costs.{make_capacity};
@@ -8,7 +8,6 @@ ghost use Rattle.ecow_model.specs.Vecs.{make_vec};
 ghost use Rattle.ecow_model.specs.Names.{IsSharing};
 ghost use Rattle.ecow_model.specs.Refusing.{OnRefused};
 ghost use Rattle.ecow_model.specs.Uses.{IsRefusedAlike};
-ghost use Rattle.ecow_model.specs.declared.command.Outcome.{Outcome};
 ghost use Rattle.ecow_model.specs.declared.command.Refusal.{Refusal};
 ghost use Rattle.ecow_model.specs.declared.vecs.VecDerive.{VecDerive};
 ghost use Rattle.ecow_model.specs.declared.usage.Usage.{Usage};
@@ -24,21 +23,21 @@ use ecow_block::Block;
 use ecow_model::usage::Usage;
 use ecow_model::vecs::{VecAsk, VecEdit, VecMake, VecUsage};
 use ecow_model::{Items, Name, Outcome, Refusal};
-use std::alloc::{AllocError, Global};
+use std::alloc::Global;
 
-/// What a command answers, and how many elements it copied and moved.
+/// The outcome of a command, and how many elements it copied and moved.
 #[derive(Drop)]
 pub(crate) struct Carried<T> {
-    /// What it answers.
+    /// The outcome of the command.
     pub outcome: Outcome<T>,
     /// How many elements it copied.
     pub copied: usize,
-    /// How many elements it moved to a greater block.
+    /// How many elements it moved to a larger block.
     pub moved: usize,
 }
 
 impl<T> Carried<T> {
-    /// An answer for which nothing was copied or moved.
+    /// An outcome of a command that copied and moved nothing.
     fn still(outcome: Outcome<T>) -> Self
         ensures { result ≡ still outcome }
     {
@@ -51,7 +50,7 @@ impl<T> Carried<T> {
 }
 
 impl<T> Blocks<T> {
-    /// Puts a name in the group of another.
+    /// Puts the new name `to` into the group of `from`, as the command `Clone` does.
     pub fn join(&mut self, from: Name, to: Name) -> Outcome<T>
         ensures step { IsCountedUse self.old.names
             (Usage.Derive from to VecDerive.Clone) result self.new.names }
@@ -74,7 +73,7 @@ impl<T> Blocks<T> {
 }
 
 impl<T: Drop> Blocks<T> {
-    /// Takes a name out.
+    /// Removes a name.
     fn leave(&mut self, name: Name) -> Outcome<T>
         ensures step { IsCountedUse self.old.names (Usage.Drop name) result self.new.names }
         ensures verdict { IsCountedVerdict self.old.names (Usage.Drop name) result }
@@ -90,7 +89,7 @@ impl<T: Drop> Blocks<T> {
 }
 
 impl<T: Clone> Blocks<T> {
-    /// Makes a list under a name that is new.
+    /// Makes a list under a new name.
     fn begin_list(&mut self, alloc: Global, name: Name, how: VecMake<T>) -> Outcome<T>
         ensures step { ClonesAreEqual T.is_clone
             → IsCountedUse self.old.names (Usage.Make name how) result self.new.names }
@@ -111,7 +110,7 @@ impl<T: Clone> Blocks<T> {
         }
     }
 
-    /// Answers a question to the list of a name.
+    /// Answers a question about the list of a name.
     fn ask(&self, alloc: Global, name: Name, question: VecAsk) -> Outcome<T>
         ensures step { ClonesAreEqual T.is_clone
             → IsCountedUse self.now.names (Usage.Ask name question) result self.now.names }
@@ -138,7 +137,8 @@ impl<T: Clone> Blocks<T> {
         }
     }
 
-    /// Changes the list of a name, in a block of its own. All that can be refused is taken first.
+    /// Changes the list of a name, in a block of its own. All memory and all clones that could be
+    /// refused are taken before the change.
     fn edit(&mut self, alloc: Global, name: Name, edit: VecEdit<T>) -> Carried<T>
         ensures carried { IsCarried (ClonesAreEqual T.is_clone) self.old.names
             (Usage.Edit name edit) result self.new.names }
@@ -179,7 +179,7 @@ impl<T: Clone> Blocks<T> {
         }
     }
 
-    /// Carries out one command by its parts. A refused one changes nothing.
+    /// Carries out one command by its parts. A refused command changes nothing.
     pub fn carry_out(&mut self, alloc: Global, usage: VecUsage<T>) -> Carried<T>
         ensures carried { IsCarried
             (ClonesAreEqual T.is_clone) self.old.names usage result self.new.names }
@@ -195,7 +195,7 @@ impl<T: Clone> Blocks<T> {
     }
 }
 
-/// What a change answers that changes nothing and leaves a shared block where it is.
+/// The outcome of a change that changes nothing and leaves a shared block as it is.
 fn no_change<T: Drop>(edit: VecEdit<T>) -> Outcome<T>
     ensures outcome { result ≡ is_unchanged edit }
     ensures accepted { OnRefused result ⊥ }
@@ -206,7 +206,7 @@ fn no_change<T: Drop>(edit: VecEdit<T>) -> Outcome<T>
     }
 }
 
-/// A list in a block of its own, with exactly the room that it is to have; or why it can't be made.
+/// A new list in a block with exactly the capacity that the command asks for, or the refusal.
 fn new_block<T: Clone>(alloc: Global, how: VecMake<T>) -> Result<Block<T>, Refusal>
     ensures items { ClonesAreEqual T.is_clone
         → IfOk result (λ block. make_vec how ≡ Ok block.items) }
@@ -234,12 +234,15 @@ fn new_block<T: Clone>(alloc: Global, how: VecMake<T>) -> Result<Block<T>, Refus
             if n > MAX_LEN {
                 return Err(Refusal::Capacity);
             }
-            repeat(alloc, value, n)
+            match Block::from_elem(alloc, &value, n) {
+                Ok(block) => Ok(block),
+                Err(_) => Err(Refusal::Memory),
+            }
         }
     }
 }
 
-/// An empty block with room for so many elements.
+/// An empty block with exactly this capacity.
 fn empty<T>(alloc: Global, capacity: usize) -> Result<Block<T>, Refusal>
     ensures block { IfOk result (λ block. block ≡ contents [] capacity) }
     ensures memory { IfErr result (λ refusal. refusal ≡ Refusal.Memory) }
@@ -248,22 +251,4 @@ fn empty<T>(alloc: Global, capacity: usize) -> Result<Block<T>, Refusal>
         Ok(block) => Ok(block),
         Err(_) => Err(Refusal::Memory),
     }
-}
-
-/// A block of `n` clones of a value, with room for these alone.
-fn repeat<T: Clone>(alloc: Global, value: T, n: usize) -> Result<Block<T>, Refusal>
-    requires { n ≤ MAX_LEN }
-    ensures items { ClonesAreEqual T.is_clone
-        → IfOk result (λ block. block.items ≡ replicate n value) }
-    ensures capacity { IfOk result (λ block. block.capacity ≡ n) }
-    ensures memory { IfErr result (λ refusal. refusal ≡ Refusal.Memory) }
-{
-    let mut block = empty(alloc, n)?;
-    for _more in 0..n {
-        let Ok(copy) = value.clone() else {
-            return Err(Refusal::Memory);
-        };
-        block.push_within_capacity(copy);
-    }
-    Ok(block)
 }

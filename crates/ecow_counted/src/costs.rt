@@ -1,4 +1,4 @@
-//! What a change of a list costs where it stands in a block that others may hold.
+//! What a change of a list costs when other names may share its block.
 ghost use Rattle.std.specs.Prelude.{◌≡◌, ◌≤◌, true, false, nat_lt, if◌then◌else◌};
 ghost use Rattle.ecow_model.specs.Costs.{capacity_after, copies as are_copied, unshares as is_unshared};
 ghost use Rattle.ecow_counted.specs.Edits.{asked_length, length_after, staying as are_staying};
@@ -7,7 +7,7 @@ use crate::blocks::Size;
 use ecow_base::{MAX_LEN, fresh_capacity, resolve, room_for};
 use ecow_model::vecs::VecEdit;
 
-/// Whether a name that shares its block leaves it for the change.
+/// Whether a name that shares its block gets a block of its own for the change.
 pub(crate) fn unshares<T>(edit: &VecEdit<T>, len: usize) -> bool
     ensures { result ≡ is_unshared edit.now len }
 {
@@ -20,7 +20,7 @@ pub(crate) fn unshares<T>(edit: &VecEdit<T>, len: usize) -> bool
     }
 }
 
-/// How many elements a name copies that leaves its block for the change.
+/// How many elements are copied if the name leaves its shared block for the change.
 pub(crate) fn copies<T>(edit: &VecEdit<T>, len: usize) -> usize
     ensures copies { result ≡ are_copied edit.now len }
     ensures bounded { is_unshared edit.now len ≡ true → result ≤ len }
@@ -32,7 +32,7 @@ pub(crate) fn copies<T>(edit: &VecEdit<T>, len: usize) -> usize
     }
 }
 
-/// How many elements stay in the list where it moves to a greater block.
+/// How many elements stay in the list if it is moved to a larger block.
 pub(crate) fn staying<T>(edit: &VecEdit<T>, len: usize) -> usize
     ensures staying { result ≡ are_staying edit.now len }
     ensures bounded { result ≤ len }
@@ -55,7 +55,7 @@ pub(crate) fn capacity<T>(edit: &VecEdit<T>, size: Size) -> usize
     ensures capacity { result
         ≡ capacity_after edit.now (nat_lt 1 size.owners) size.len size.capacity }
 
-    // It is within the limit, and enough for what is copied or stays.
+    // It is within the limit, and enough for the elements that are copied or stay.
     ensures bounded { result ≤ MAX_LEN }
     ensures grows { nat_lt 1 size.owners ≡ false → size.capacity ≤ result }
     ensures holds { nat_lt 1 size.owners ≡ true → are_copied edit.now size.len ≤ result }

@@ -1,4 +1,4 @@
-//! Commands on named lists whose clones share a block until one of them changes.
+//! Commands on named lists whose clones share a block until one of them is changed.
 ghost use Rattle.std.specs.Prelude.{◌≡◌, [], ◌∷◌, not, OnErr, IfOk, IfErr};
 ghost use Rattle.std.specs.FinMap as finite;
 ghost use Rattle.std.specs.Option.{option_map};
@@ -21,17 +21,27 @@ use ecow_model::{Name, Outcome, VecCommand};
 use std::alloc::Global;
 use std::marker::Model;
 
-/// Named lists whose clones share a block until one of them changes, and how many elements were
-/// copied and moved. The totals stop at the greatest `u64`.
+/// Named lists whose clones share a block until one of them is changed, with totals of the elements
+/// that were copied and moved. The totals stop at the greatest `u64`.
+///
+/// ```
+/// let mut lists = Counted::new(alloc);
+/// lists.step(VecCommand::New { name: 0 });
+/// lists.step(VecCommand::Push { name: 0, value: 7 });
+/// lists.share(0, 1);
+/// assert_eq!((lists.owners(1), lists.copied()), (Some(2), 0));
+/// lists.step(VecCommand::Push { name: 1, value: 8 });
+/// assert_eq!((lists.owners(1), lists.copied()), (Some(1), 1));
+/// ```
 #[derive(Drop)]
 pub struct Counted<T> {
-    /// Of which all memory is asked.
+    /// The allocator that gives all memory.
     alloc: Global,
-    /// What each name holds.
+    /// The list and the block of each name.
     blocks: Blocks<T>,
-    /// How many elements were cloned since a name left a block that it shared.
+    /// How many elements were cloned because a name left a block that it shared.
     copied: u64,
-    /// How many elements moved since a name's own block grew.
+    /// How many elements were moved because the block of a name had to grow.
     moved: u64,
 }
 
@@ -50,7 +60,7 @@ impl<T> Model for Counted<T> {
         (record { names = a.blocks.names; copied = a.copied; moved = a.moved }) };
 }
 
-/// A total that stops at the greatest `u64`.
+/// The sum of `total` and `count`, or the greatest `u64` if it is greater.
 fn added(total: u64, count: usize) -> u64
     ensures { result ≡ saturating total count }
 {
@@ -58,7 +68,7 @@ fn added(total: u64, count: usize) -> u64
 }
 
 impl<T> Counted<T> {
-    /// No name is there, and nothing was copied or moved. Takes no memory.
+    /// A store without names, with both totals 0. Takes no memory.
     pub fn new(alloc: Global) -> Self
         ensures names { result.names ≡ finite.empty }
         ensures copied { result.copied ≡ 0 }
@@ -72,7 +82,8 @@ impl<T> Counted<T> {
         }
     }
 
-    /// How many names hold the block of a name; `None` where the name is not there or has no block.
+    /// The number of names that share the block of `name`, itself included. `None` if the name
+    /// doesn't exist or has no block.
     pub fn owners(&self, name: Name) -> Option<usize>
         ensures { result ≡ owners_of (finite.get self.now.names name) }
     {
@@ -84,7 +95,8 @@ impl<T> Counted<T> {
         }
     }
 
-    /// For how many elements a name has room: 0 without a block, `None` where it is not there.
+    /// The number of elements that the block of `name` has places for; 0 if the name has no block.
+    /// `None` if the name doesn't exist.
     pub fn capacity(&self, name: Name) -> Option<usize>
         ensures { result ≡ option_map (λ h. h.capacity) (finite.get self.now.names name) }
     {
@@ -92,8 +104,8 @@ impl<T> Counted<T> {
         Some(size.capacity)
     }
 
-    /// Whether no other name holds the block of a name, as where it has none; `None` where it is
-    /// not there.
+    /// Whether no other name shares the block of `name`; also true if the name has no block. `None`
+    /// if the name doesn't exist.
     pub fn is_unique(&self, name: Name) -> Option<bool>
         ensures { result ≡ option_map (λ h. not (is_shared h)) (finite.get self.now.names name) }
     {
@@ -101,7 +113,7 @@ impl<T> Counted<T> {
         Some(size.owners <= 1)
     }
 
-    /// The number of blocks; none stays without a name.
+    /// The number of blocks. A block that no name has is dropped.
     pub fn blocks(&self) -> usize
         ensures count { result ≡ blocks self.now.names }
         ensures sharing { IsSharing self.now.names }
@@ -109,14 +121,15 @@ impl<T> Counted<T> {
         self.blocks.count()
     }
 
-    /// How many elements the accepted commands copied.
+    /// How many elements the accepted commands copied. The total stops at the greatest `u64`.
     pub fn copied(&self) -> u64
         ensures { result ≡ self.now.copied }
     {
         self.copied
     }
 
-    /// How many elements the accepted commands moved because a block had to grow.
+    /// How many elements the accepted commands moved because a block had to grow. The total stops
+    /// at the greatest `u64`.
     pub fn moved(&self) -> u64
         ensures { result ≡ self.now.moved }
     {
@@ -125,8 +138,15 @@ impl<T> Counted<T> {
 }
 
 impl<T> Counted<T> {
-    /// Puts under `to` the list of `from`, in the block of `from`. Refused as the command Clone is;
-    /// takes memory for the name alone, and clones nothing.
+    /// Gives the new name `to` the list of `from`, in the block of `from`. It does what the command
+    /// `Clone` does, and clones no element.
+    ///
+    /// Takes memory for the name alone.
+    ///
+    /// # Errors
+    ///
+    /// `NoName` if `from` doesn't exist; `Taken` if `to` exists; `Memory` if there is no memory for
+    /// the name. Nothing changes then.
     pub fn share(&mut self, from: Name, to: Name) -> Outcome<T>
         ensures step { CountedStep self.old.names (VecCommand.Clone from to) result self.new.names }
         ensures verdict { CountedVerdict self.old.names
@@ -134,7 +154,7 @@ impl<T> Counted<T> {
         ensures unchanged { OnRefused result (self.new ≡ self.old) }
         ensures sharing { IsSharing self.new.names }
 
-        // The totals stay, and are paid.
+        // The totals don't change, and what they count is paid for.
         ensures copied { self.new.copied ≡ self.old.copied }
         ensures moved { self.new.moved ≡ self.old.moved }
         ensures totals { TotalsArePaid self.old
@@ -145,7 +165,15 @@ impl<T> Counted<T> {
 }
 
 impl<T: Clone> Counted<T> {
-    /// Carries out one command. A refused command changes nothing; what it carried is dropped.
+    /// Carries out one command.
+    ///
+    /// Costs what the command costs on a vector, and a look-up of each name. If a shared list is
+    /// changed, its elements are copied first; `Truncate` and `Clear` copy only those that stay.
+    ///
+    /// # Errors
+    ///
+    /// `Outcome::Refused` with the first refusal that applies. Nothing changes then, and what the
+    /// command carried is dropped.
     pub fn step(&mut self, command: VecCommand<T>) -> Outcome<T>
         ensures step { ClonesAreEqual T.is_clone
             → CountedStep self.old.names command result self.new.names }
@@ -153,7 +181,7 @@ impl<T: Clone> Counted<T> {
         ensures unchanged { OnRefused result (self.new ≡ self.old) }
         ensures sharing { IsSharing self.new.names }
 
-        // The totals rise by what the command cost, where it is accepted.
+        // If the command is accepted, the totals rise by what it cost.
         ensures copied { self.new.copied
             ≡ saturating self.old.copied
             (if_accepted result (copied_in (vec_usage command) self.old.names)) }
@@ -173,8 +201,14 @@ impl<T: Clone> Counted<T> {
         outcome
     }
 
-    /// Carries out commands in order and answers the outcome of each. Room for the outcomes is
-    /// taken first.
+    /// Carries out commands in order, and returns the outcome of each.
+    ///
+    /// Takes memory for all outcomes first, and then what each command takes.
+    ///
+    /// # Errors
+    ///
+    /// `Memory` if there is no memory for the outcomes. No command is carried out then, and the
+    /// commands come back in the error.
     pub fn run(
         &mut self,
         commands: Vec<VecCommand<T>>,
@@ -193,7 +227,7 @@ impl<T: Clone> Counted<T> {
             → IfOk result
             (λ outcomes. TotalsArePaid self.old commands.items outcomes.items self.new) }
 
-        // Where there is no room for the outcomes, nothing is carried out.
+        // Without memory for the outcomes, nothing is carried out.
         ensures refused { RejectsForMemory commands self.old result self.new }
     {
         let Ok(mut outcomes) = Vec::with_capacity(self.alloc, commands.len()) else {

@@ -1,4 +1,5 @@
-//! Laws of runs in shared blocks: what sharing copies and what growing moves, over every run.
+//! Laws about runs of commands on lists that share blocks: what sharing copies, and what growing
+//! moves, in every run.
 ghost use Rattle.std.specs.Prelude.{ℕ, ◌+◌, ◌*◌, ◌≤◌, List};
 ghost use Rattle.std.specs.FinMap as finite;
 ghost use Rattle.ecow_model.specs.CountedRun.{CountedRun, CopiesAtMostEagerly, MovesArePaid, copied_in_run, eager_in_run, input_in_run, moved_in_run};
@@ -6,8 +7,12 @@ ghost use Rattle.ecow_model.specs.Names.{IsSharing, Names};
 ghost use Rattle.ecow_model.specs.declared.command.Outcome.{Outcome};
 ghost use Rattle.ecow_model.specs.declared.vecs.VecCommand.{VecCommand};
 
-/// What a run copies and moves is paid; from no names at all, sharing never copies more than
-/// copying at each clone would.
+/// In a run that starts without names, sharing copies at most as many elements as copying at each
+/// clone would, and growing moves at most as many as are copied, plus twice as many as the commands
+/// put in or reserve capacity for.
+///
+/// In a run that starts with names, the same bounds hold if what earlier commands left to be paid
+/// is counted in. Every run keeps the sharing of blocks consistent.
 pub fn runs_are_paid<T>()
     ensures sharing { (commands : List (VecCommand T)) (outcomes : List (Outcome T)) (old : Names T)
         (new : Names T) → IsSharing old → CountedRun old commands outcomes new → IsSharing new }

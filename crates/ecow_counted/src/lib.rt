@@ -1,5 +1,5 @@
-//! `Counted`: commands on named lists in a table of blocks, with exact counts of what is shared,
-//! copied and moved, and the laws of these.
+//! `Counted`: commands on named lists in a table of blocks. It counts exactly what is shared,
+//! copied and moved, and there are laws about these counts.
 #![tactic(auto)]
 
 mod apply;

@@ -1,4 +1,4 @@
-//! A block that one name alone is about to have: its own, or a copy of one that it shares.
+//! A block that one name alone is about to have: its own block, or a copy of one that it shares.
 ghost use Rattle.std.specs.Prelude.{◌≡◌, ◌<◌, ◌≤◌, true, false, length, take, IsSome, IsOk, IfOk, OnOk, OnErr};
 ghost use Rattle.std.specs.FinMap as finite;
 ghost use Rattle.ecow_base.specs.Clones.{ClonesAreEqual};
@@ -16,40 +16,42 @@ use std::alloc::{AllocError, Global};
 /// A block for one name, and how many elements were copied into it or moved with it.
 #[derive(Drop)]
 pub(crate) struct Owned<T> {
-    /// No name has it yet.
+    /// The block, which no name has yet.
     pub block: Block<T>,
-    /// In elements.
+    /// How many elements were copied.
     pub copied: usize,
-    /// In elements.
+    /// How many elements were moved.
     pub moved: usize,
 }
 
-/// What a name wants: a copy of a block that it shares, or its own block.
+/// What block a name needs: a copy of one that it shares, or its own.
 #[derive(Clone, Copy)]
 pub(crate) struct Want {
-    /// How many elements are copied, from the first on, of a block that it shares.
+    /// How many elements are copied from the front of a block that it shares.
     pub copies: usize,
-    /// How many elements count as moved where its own block grows.
+    /// How many elements count as moved if its own block grows.
     pub staying: usize,
-    /// For how many elements there is to be room.
+    /// The capacity that the block is to have.
     pub capacity: usize,
 }
 
 impl<T: Drop> Blocks<T> {
-    /// Grows a block that was taken from a name. Where there is no memory the name has it again.
+    /// Grows a block that was taken from a name. If there is no memory, the name gets the block
+    /// back.
     fn grow(&mut self, name: Name, block: Block<T>, want: Want) -> Result<Owned<T>, AllocError>
         requires there { IsSome (finite.get self.old.names name) }
         requires room { self.old.has_room ≡ true }
         requires grows { block.capacity ≤ want.capacity }
         requires bounded { want.capacity ≤ MAX_LEN }
 
-        // What the block has, and what it cost; there is still room for it.
+        // The elements of the block, and what it cost. The table still has a free place for it.
         ensures items { IfOk result (λ own. own.block.items ≡ block.items) }
         ensures cost { IfOk result (HasCost want 0 (moves_from want block.capacity)) }
         ensures names { OnOk result (self.new.names ≡ self.old.names) }
         ensures room { OnOk result (self.new.has_room ≡ true) }
 
-        // A refusal gives it back, and none comes where it has the capacity.
+        // A refused call gives the block back to the name. No call is refused if the block has the
+        // capacity already.
         ensures given_back { OnErr result
             (self.new.names ≡ settle name block.items block.capacity self.old.names) }
         ensures free { want.capacity ≡ block.capacity → IsOk result }
@@ -76,17 +78,17 @@ impl<T: Drop> Blocks<T> {
 
 impl<T: Clone> Blocks<T> {
     /// A new block with clones of the first elements of a name's list, each of which is counted.
-    /// The name stays where it is until it settles.
+    /// The name has its old block until it gets the new one.
     fn copy(&mut self, alloc: Global, name: Name, want: Want) -> Result<Owned<T>, AllocError>
         requires whole { want.copies ≤ length (holding_at self.old.names name).items }
         requires fits { want.copies ≤ want.capacity }
         requires bounded { want.capacity ≤ MAX_LEN }
 
-        // No name changes, and there is room for the block.
+        // No name changes, and the table has a free place for the block.
         ensures names { self.new.names ≡ self.old.names }
         ensures room { OnOk result (0 < want.capacity → self.new.has_room ≡ true) }
 
-        // What the block has, and what it cost.
+        // The elements of the block, and what it cost.
         ensures items { ClonesAreEqual T.is_clone
             → IfOk result (λ own. own.block.items
             ≡ take want.copies (holding_at self.old.names name).items) }
@@ -113,7 +115,7 @@ impl<T: Clone> Blocks<T> {
         })
     }
 
-    /// The block of a name that shares it with none, which has none until it settles.
+    /// The block of a name that no other name shares. The name has no block until it gets this one.
     fn open(&mut self, alloc: Global, name: Name, want: Want) -> Result<Owned<T>, AllocError>
         requires there { IsSome (finite.get self.old.names name) }
         requires sole { is_shared (holding_at self.old.names name) ≡ false }
@@ -123,17 +125,17 @@ impl<T: Clone> Blocks<T> {
         requires wanted { CanHave want (holding_at self.old.names name) }
         requires bounded { want.capacity ≤ MAX_LEN }
 
-        // The name is about to settle, and there is room for its block.
+        // The name is about to get the block, and the table has a free place for it.
         ensures opened { OnOk result (IsOpened name self.old.names self.new.names) }
         ensures room { OnOk result (0 < want.capacity → self.new.has_room ≡ true) }
 
-        // Its block is as it was, but for its capacity.
+        // The block is unchanged, apart from its capacity.
         ensures items { IfOk result
             (λ own. own.block.items ≡ (holding_at self.old.names name).items) }
         ensures cost { IfOk result
             (HasCost want 0 (moves_for want (holding_at self.old.names name))) }
 
-        // A refusal changes no name, and none comes where the block has the capacity.
+        // A refused call changes no name. No call is refused if the block has the capacity already.
         ensures unchanged { OnErr result (self.new.names ≡ self.old.names) }
         ensures free { want.capacity ≡ (holding_at self.old.names name).capacity → IsOk result }
     {
@@ -143,18 +145,18 @@ impl<T: Clone> Blocks<T> {
         }
     }
 
-    /// A block for a name alone, with exactly the capacity that it wants: its own, or a copy of one
-    /// that it shares.
+    /// A block for a name alone, with exactly the capacity that it needs: its own block, or a copy
+    /// of one that it shares.
     pub fn own(&mut self, alloc: Global, name: Name, want: Want) -> Result<Owned<T>, AllocError>
         requires there { IsSome (finite.get self.old.names name) }
         requires wanted { CanHave want (holding_at self.old.names name) }
         requires bounded { want.capacity ≤ MAX_LEN }
 
-        // The name is about to settle, and there is room for its block.
+        // The name is about to get the block, and the table has a free place for it.
         ensures opened { OnOk result (IsOpened name self.old.names self.new.names) }
         ensures room { OnOk result (0 < want.capacity → self.new.has_room ≡ true) }
 
-        // What the block has, and what it cost.
+        // The elements of the block, and what it cost.
         ensures items { ClonesAreEqual T.is_clone
             → IfOk result
             (λ own. own.block.items ≡ items_for want (holding_at self.old.names name)) }
@@ -164,7 +166,7 @@ impl<T: Clone> Blocks<T> {
             (HasCost want (copies_for want (holding_at self.old.names name))
             (moves_for want (holding_at self.old.names name))) }
 
-        // A refusal changes no name, and none comes where nothing is asked for.
+        // A refused call changes no name. No call is refused if the capacity stays as it is.
         ensures unchanged { OnErr result (self.new.names ≡ self.old.names) }
         ensures free { want.capacity ≡ capacity_for (holding_at self.old.names name)
             → IsOk result }

@@ -1,5 +1,5 @@
 //! Equality, order, hash and debug text of an `EcoVec`: those of its elements in order, shared or
-//! not. A front comes before what it begins.
+//! not. A vector comes before a longer one that begins with all its elements.
 ghost use Rattle.std.specs.Prelude.{◌≡◌, ◌*◌, ◌≤◌, IsTrue, length};
 ghost use Rattle.std.specs.Mem.{type_size};
 ghost use Rattle.std.specs.Cmp.Lexicographic.{pointwise, slice_cmp, slice_partial_cmp, lists_per, lists_equiv, lists_po, lists_total, lists_agrees, lists_ties};
@@ -39,7 +39,8 @@ fn are_words<T>(elements: &[T]) -> bool
     }
 }
 
-/// Whether as many elements are equal, `G` to twice as many: the first `G` and the last.
+/// Whether the elements of two slices of one length are equal. The length is from `G` to twice `G`,
+/// so the first `G` and the last `G` are all.
 fn ends_equal<T: PartialEq, const G: usize>(left: &[T], right: &[T]) -> bool
     requires words { type_size T.row ≤ 8 }
     requires as_many { length left.now ≡ length right.now }
@@ -56,7 +57,7 @@ fn ends_equal<T: PartialEq, const G: usize>(left: &[T], right: &[T]) -> bool
     unreachable!()
 }
 
-/// Whether the elements are equal: group by group while there are some of each.
+/// Whether the elements are equal. Compares group by group, and then the elements that are left.
 #[inline(never)]
 fn words_equal<T: PartialEq>(left: &[T], right: &[T]) -> bool
     requires { type_size T.row ≤ 8 }
@@ -75,7 +76,7 @@ fn words_equal<T: PartialEq>(left: &[T], right: &[T]) -> bool
     ours == theirs
 }
 
-/// Whether the elements are equal. Words are compared by groups, for which the processor has means.
+/// Whether the elements are equal. Words are compared by groups, which processors can do at once.
 fn all_equal<T: PartialEq>(left: &[T], right: &[T]) -> bool
     ensures { result ≡ pointwise T.eq left.now right.now }
 {

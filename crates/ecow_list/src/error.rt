@@ -8,11 +8,12 @@ use std::fmt;
 use std::fmt::Debug;
 use thiserror::Error;
 
-/// Why a call was refused. Every value that the call could have changed is as it was before, but
-/// for `extend`, which keeps the items that went in.
+/// Why a call was refused. Every value that the call could have changed is as it was before.
+///
+/// Only `extend` keeps the items that it appended before the refusal.
 #[derive(Clone, Copy, Debug, PartialEq, Eq, Error)]
 pub enum EcoError {
-    /// The asked capacity or the new length passes 2^63 - 1.
+    /// The requested capacity or the new length passes 2^63 - 1.
     #[error("capacity overflow")]
     Capacity,
     /// There was no memory for the elements, or the clone of one was refused.
@@ -36,8 +37,8 @@ impl<V: Drop> From<AllocFailed<V>> for EcoError {
     }
 }
 
-/// A text that can't be printed is for want of memory, so that `eco_format!` and the calls of a
-/// vector are used in one function by `?`.
+/// A formatting error becomes `Memory`, since text that can't be printed lacks memory. So one
+/// function can use `?` on `eco_format!` and on the calls of a vector.
 impl From<fmt::Error> for EcoError {
     ghost from_gives = { λ _ error. error ≡ Memory };
 
@@ -52,7 +53,7 @@ impl From<fmt::Error> for EcoError {
 pub struct Rejected<V> {
     /// Why the call was refused.
     pub error: EcoError,
-    /// What was handed in.
+    /// The value that was handed in.
     pub value: V,
 }
 
@@ -80,10 +81,10 @@ impl<V> Rejected<V> {
     }
 }
 
-/// Why a vector was not made an array. The vector comes back as it was.
+/// Why a vector was not turned into an array. The vector comes back unchanged.
 #[derive(Debug, Drop, Error)]
 pub enum IntoArray<T> {
-    /// It has another length.
+    /// The vector has another length than the array.
     #[error("the vector has another length than the array")]
     Length(EcoVec<T>),
     /// There was no memory, or the clone of an element was refused.

@@ -1,5 +1,5 @@
-//! The iterators that own their elements. What is left is dropped with them; the vector that they
-//! were taken from is final when they are made.
+//! The iterators that own their elements. Elements that aren't taken are dropped with the iterator.
+//! A vector that `drain` or `splice` changes has its new elements before the iterator is used.
 ghost use Rattle.std.specs.Prelude.{◌≡◌, ◌+◌, ◌≤◌, ◌++◌, length, vec_capacity, Some, IfSome};
 ghost use Rattle.std.specs.Iterator.{UpTo, YieldsFirst, YieldsLast, at_most, item_count};
 ghost use Rattle.std.specs.Iterator.SizeHint.{IsWithinCount};
@@ -8,7 +8,7 @@ use ecow_block::Rest;
 use std::iter::FusedIterator;
 use std::marker::Model;
 
-/// The elements that `drain` or `splice` took out, in order, from both ends.
+/// An iterator over the elements that `drain` removed, in order, from both ends.
 #[derive(Drop)]
 pub struct Drain<T> {
     removed: Rest<T>,
@@ -36,8 +36,8 @@ impl<T> Drain<T> {
         self.removed.as_slice()
     }
 
-    /// Moves the elements that are still to come behind those of `elements`, which has room for
-    /// them. Takes no memory.
+    /// Appends the elements that are still to come to `elements`, which has capacity for them.
+    /// Takes no memory.
     ///
     /// This project's own: `extend` of std's vector may ask for memory.
     pub fn collect_into(self, elements: &mut Vec<T>)
@@ -84,7 +84,7 @@ impl<T: Drop> ExactSizeIterator for Drain<T> {
 
 impl<T: Drop> FusedIterator for Drain<T> {}
 
-/// The elements that `splice` took out, in order, from both ends.
+/// An iterator over the elements that `splice` replaced, in order, from both ends.
 #[derive(Drop)]
 pub struct Splice<T> {
     replaced: Rest<T>,
@@ -112,8 +112,8 @@ impl<T> Splice<T> {
         self.replaced.as_slice()
     }
 
-    /// Moves the elements that are still to come behind those of `elements`, which has room for
-    /// them. Takes no memory.
+    /// Appends the elements that are still to come to `elements`, which has capacity for them.
+    /// Takes no memory.
     ///
     /// This project's own: `extend` of std's vector may ask for memory.
     pub fn collect_into(self, elements: &mut Vec<T>)
@@ -158,7 +158,7 @@ impl<T: Drop> ExactSizeIterator for Splice<T> {
     }
 }
 
-/// The elements of a vector by value, in order, from both ends.
+/// An iterator over the elements of a vector by value, in order, from both ends.
 #[derive(Drop)]
 pub struct IntoIter<T> {
     rest: Rest<T>,

@@ -1,3 +1,4 @@
+// rust: no file: laws alone
 //! Laws of the conversions: a list that goes into a vector comes out of it again.
 ghost use Rattle.std.specs.Prelude.{◌≡◌, ◌<◌, ◌↔◌, vec_len, IfOk, IsErrOf};
 ghost use Rattle.ecow_base.specs.Clones.{ClonesAreEqual};

@@ -16,7 +16,7 @@ pub mod range {
     pub use ecow_base::{range_in, resolve};
 }
 
-/// A list with a capacity number, in one block of memory. `EcoVec::own_mut` lends a vector's.
+/// A list with a capacity, in one block of memory. `EcoVec::own_mut` borrows the block of a vector.
 pub mod block {
     pub use ecow_block::Block;
 }

@@ -1,8 +1,11 @@
+// rust: no file: the crate has the macros of the original
 //! `eco_vec!`.
 
-/// A vector of the elements listed, of `n` clones of one, or of none: a `Result` whose error is
-/// an `EcoError`. It takes the allocator first, as std's `vec!` does: `eco_vec![in alloc; 1, 2]`,
-/// `eco_vec![in alloc; 0; n]`, `eco_vec![in alloc]`.
+/// Makes a vector of the listed elements, of `n` clones of one element, or of none. Gives a
+/// `Result` whose error is an `EcoError`.
+///
+/// It takes the allocator first, as std's `vec!` does: `eco_vec![in alloc; 1, 2]`, `eco_vec![in
+/// alloc; 0; n]`, `eco_vec![in alloc]`.
 #[macro_export]
 macro_rules! eco_vec {
     (in $alloc:expr $(;)?) => {

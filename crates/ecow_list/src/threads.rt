@@ -1,5 +1,6 @@
-//! What may be given to another thread, and what several threads may look at, where the count of
-//! owners is atomic. The last owner of a block may be in any thread, so elements must allow both.
+//! Which types may be sent to another thread, and which several threads may read at once, where the
+//! count of owners is atomic. The last owner of a block may be in any thread, so elements must
+//! allow both.
 use crate::error::{EcoError, IntoArray, Rejected};
 use crate::iter::{Drain, IntoIter, Splice};
 use crate::vec::EcoVec;

@@ -1,5 +1,5 @@
-//! std's traits by which a vector is used as the slice of its elements, is collected from an
-//! iterator, and by which `?` takes a refusal whose value isn't wanted back.
+//! std's traits. By them, a vector is used as the slice of its elements and is collected from an
+//! iterator, and `?` turns a `Rejected` into its error.
 ghost use Rattle.std.specs.Prelude.{◌≡◌, ◌<◌, ◌^◌, length};
 ghost use Rattle.std.specs.Iterator.Runs.{EveryRun, ItemsMapTo};
 ghost use Rattle.std.specs.Slice.Iter.{iter_rest, iter_steps};
@@ -11,7 +11,7 @@ use std::convert::AsSlice;
 use std::ops::DerefSlice;
 use std::slice;
 
-/// The elements: so `v[i]`, `v.last()` and all other calls of a slice that only read.
+/// A vector has all calls of a slice that only read, such as `v[i]` and `v.last()`.
 impl<T> DerefSlice for EcoVec<T> {
     type Elem = T;
 
@@ -48,7 +48,8 @@ impl<'a, T> IntoIterator for &'a EcoVec<T> {
     }
 }
 
-/// The items, none of them cloned, as `EcoVec::from_iter` makes them; its two errors are one here.
+/// Collects the items as `EcoVec::from_iter` does, without cloning them. Both errors of that call
+/// become `AllocError` here.
 impl<T: Drop> FromIterator<T> for EcoVec<T> {
     type Alloc = Global;
 
@@ -59,7 +60,7 @@ impl<T: Drop> FromIterator<T> for EcoVec<T> {
     }
 }
 
-/// The reason alone: what was handed in is dropped.
+/// Keeps only the error. The value that came back is dropped.
 impl<V: Drop> From<Rejected<V>> for EcoError {
     ghost from_gives = { λ rejected error. error ≡ rejected.error };
 

@@ -1,13 +1,6 @@
 //! `EcoVec`: a vector whose clones share its elements until one of them is written to.
 //!
-//! ```text
-//! let mut first = eco_vec![in alloc; 1, 2, 3]?;
-//! let second = first.clone()?; // asks for no memory, and clones no element
-//! first.push(4)?; // copies the elements into a block of its own
-//! // first is 1, 2, 3, 4, and second is still 1, 2, 3
-//! ```
-//!
-//! A call that takes memory may be refused, with an `EcoError`: `Capacity` where the length or the
+//! A call that takes memory may be refused with an `EcoError`: `Capacity` if the length or the
 //! capacity would pass 2^63 - 1 elements, and else `Memory`. The vector is then as it was.
 ghost use Rattle.std.specs.Prelude.{◌≡◌, ◌+◌, ◌-◌, ◌<◌, ◌≤◌, ◌==◌, ◌↔◌, [], length, take, IfOk, IfSome, IsErrOf, IsOk};
 ghost use Rattle.std.specs.Borrow.{sem};
@@ -37,13 +30,22 @@ use std::slice;
 
 /// A vector whose clones share its elements until one of them is written to.
 ///
-/// A clone takes no memory and clones no element. A write to a vector that shares its block copies
-/// its elements into a block of its own first, element by element; no other vector sees the change.
+/// A clone takes no memory and clones no element. Before a write, a vector that shares its block
+/// copies its elements into a block of its own, so no other vector sees the change. That copy
+/// clones each element, and takes time linear in the length.
+///
+/// ```
+/// let mut first = EcoVec::from_array(alloc, [1, 2, 3])?;
+/// let second = first.clone()?;
+/// first.push(4)?;
+/// assert_eq!(first.as_slice(), &[1, 2, 3, 4]);
+/// assert_eq!(second.as_slice(), &[1, 2, 3]);
+/// ```
 #[derive(Drop)]
 pub struct EcoVec<T> {
-    /// The elements' block, or none where there has been no element and no room.
+    /// The block of the elements, which has no places if the vector has no capacity.
     block: Shared<T>,
-    /// Of which further memory is asked.
+    /// The allocator for further blocks.
     alloc: Global,
 }
 
@@ -59,6 +61,7 @@ impl<T> EcoVec<T> {
     ghost use Rattle.ecow_list.specs.Lends.{lends_block};
 
     /// An empty vector, which has no block. Takes no memory.
+    // rust: const
     pub fn new(alloc: Global) -> Self
         ensures { result ≡ [] }
     {
@@ -68,7 +71,7 @@ impl<T> EcoVec<T> {
         }
     }
 
-    /// The allocator of which the vector asks its memory.
+    /// The allocator that the vector takes its memory from.
     pub fn allocator(&self) -> Global {
         self.alloc
     }
@@ -101,7 +104,8 @@ impl<T> EcoVec<T> {
         self.len() == 0
     }
 
-    /// For how many elements the block has room, never fewer than there are: 0 without a block.
+    /// The number of elements that the block can hold, which is at least the length. It is 0
+    /// without a block.
     pub fn capacity(&self) -> usize
         ensures room { length self.now ≤ result }
         ensures bounded { result ≤ MAX_LEN }
@@ -124,7 +128,7 @@ impl<T> EcoVec<T> {
         self.as_slice().iter()
     }
 
-    /// Whether no other vector shares the block; a vector without a block shares none.
+    /// Whether no other vector shares the block. This is also true of a vector without a block.
     pub fn is_unique(&mut self) -> bool
         ensures { self.new ≡ self.old }
     {
@@ -147,8 +151,13 @@ impl<T> EcoVec<T> {
 }
 
 impl<T: Drop> EcoVec<T> {
-    /// An empty vector. Asks for room for `capacity` elements, and no capacity is promised; without
-    /// a block, and never refused, for none. Answers `Capacity` past 2^63 - 1, and else `Memory`.
+    /// Makes an empty vector and allocates a block for `capacity` elements, or no block if
+    /// `capacity` is 0. No capacity is promised.
+    ///
+    /// # Errors
+    ///
+    /// `Capacity` if `capacity` passes 2^63 - 1; `Memory` if there is no memory for the block. The
+    /// call is never refused if `capacity` is 0.
     pub fn with_capacity(alloc: Global, capacity: usize) -> Result<Self, EcoError>
         ensures ok { IfOk result (λ v. v ≡ []) }
         ensures capacity { IsErrOf result EcoError.Capacity ↔ (MAX_LEN < capacity) }
@@ -167,8 +176,12 @@ impl<T: Drop> EcoVec<T> {
         })
     }
 
-    /// Drops the elements. A shared block is given up, with nothing copied, and a sole one is
-    /// kept; an empty vector stays as it is, shared or not. Never refused.
+    /// Drops all elements. This is never refused.
+    ///
+    /// A shared vector gives its block up without copying anything. A vector that doesn't share its
+    /// block keeps it. An empty vector stays as it is, shared or not.
+    ///
+    /// Takes time linear in the length, or constant time if the vector is shared.
     pub fn clear(&mut self)
         ensures { self.new ≡ [] }
     {
@@ -182,6 +195,9 @@ impl<T: Drop> EcoVec<T> {
     }
 }
 
+/// Shares the block with a new vector. Takes constant time and no memory, and clones no element.
+///
+/// The call is refused only if the block has as many owners as its count can hold.
 impl<T: Drop> Clone for EcoVec<T> {
     ghost is_clone = { λ v w. w ≡ v };
 

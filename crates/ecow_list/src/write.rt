@@ -1,5 +1,5 @@
-//! Bytes that are written to an `EcoVec<u8>` are appended to it: a whole piece, or the error
-//! `OutOfMemory` and nothing.
+//! Bytes that are written to an `EcoVec<u8>` are appended to it. Either a whole piece is appended,
+//! or nothing is, with the error `OutOfMemory`.
 ghost use Rattle.std.specs.Prelude.{◌≡◌, ◌++◌, length, Some, IsOk, IfOk, IfErr, OnErr};
 ghost use Rattle.std.specs.Io.{WritesAtMost};
 ghost use Rattle.std.specs.Io.KnownBytes.{Keeps, WriteAppends};

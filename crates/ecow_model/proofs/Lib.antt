@@ -4,7 +4,6 @@ pub mod CallerLemmas
 pub mod Entries
 pub mod Lengths
 pub mod PutBack
-pub mod Maps
 pub mod Marks
 pub mod Runs
 pub mod Uses

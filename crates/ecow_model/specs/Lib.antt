@@ -11,5 +11,3 @@ pub mod Costs
 pub mod CountedRun
 pub mod Agreement
 pub mod Callers
-pub mod Tables
-pub mod Loans

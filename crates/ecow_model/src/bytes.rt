@@ -15,13 +15,12 @@ pub enum BytesCommand {
     New {
         name: Name,
     },
-    /// Inline bytes. Answers `Flag`: false, and nothing is made, where they are past the inline
-    /// limit.
+    /// Inline bytes. Answers `Flag`: false, and nothing is made, if they are past the inline limit.
     TryInline {
         name: Name,
         bytes: Items<u8>,
     },
-    /// No bytes, with room for `capacity`.
+    /// No bytes. Asks for capacity for `capacity` bytes.
     WithCapacity {
         name: Name,
         capacity: usize,
@@ -36,17 +35,17 @@ pub enum BytesCommand {
         name: Name,
         bytes: Items<u8>,
     },
-    /// Under `to`, the UTF-8 bytes of the text `from`, in its mode.
+    /// Under `to`, the UTF-8 bytes of the text `from`, inline exactly if the text is.
     FromText {
         from: Name,
         to: Name,
     },
-    /// Under `to`, the bytes of `from`, in their mode.
+    /// Under `to`, the bytes of `from`, inline exactly if those are.
     Clone {
         from: Name,
         to: Name,
     },
-    /// The name is free again.
+    /// Drops the bytes. The name no longer exists.
     Drop {
         name: Name,
     },
@@ -59,7 +58,7 @@ pub enum BytesCommand {
     Pop {
         name: Name,
     },
-    /// Puts `byte` in at `index`, which is at most the length.
+    /// Inserts `byte` at `index`, which is at most the length.
     Insert {
         name: Name,
         index: usize,
@@ -75,13 +74,13 @@ pub enum BytesCommand {
         name: Name,
         bytes: Items<u8>,
     },
-    /// Puts `bytes` in at `index`, which is at most the length.
+    /// Inserts `bytes` at `index`, which is at most the length.
     InsertSlice {
         name: Name,
         index: usize,
         bytes: Items<u8>,
     },
-    /// Keeps the first `target` bytes, or all where there are fewer.
+    /// Keeps the first `target` bytes, or all if there are fewer.
     Truncate {
         name: Name,
         target: usize,
@@ -90,12 +89,12 @@ pub enum BytesCommand {
     Clear {
         name: Name,
     },
-    /// Makes room for `additional` more bytes.
+    /// Asks for capacity for `additional` more bytes.
     Reserve {
         name: Name,
         additional: usize,
     },
-    /// Puts `byte` in place of the byte at `index`.
+    /// Replaces the byte at `index` with `byte`.
     Write {
         name: Name,
         index: usize,
@@ -112,7 +111,7 @@ pub enum BytesCommand {
         to: Name,
         n: usize,
     },
-    /// Brings spilled bytes back inline where they are within the limit.
+    /// Brings spilled bytes back inline if they are within the limit.
     ShrinkToFit {
         name: Name,
     },
@@ -120,7 +119,7 @@ pub enum BytesCommand {
     Len {
         name: Name,
     },
-    /// Answers for how many bytes there is room: `Count`.
+    /// Answers the capacity: `Count`.
     Capacity {
         name: Name,
     },
@@ -168,7 +167,7 @@ pub enum BytesEdit {
     ShrinkToFit,
 }
 
-/// A question to bytes.
+/// A question about bytes.
 #[derive(Clone, Copy)]
 pub enum BytesAsk {
     Read(usize),
@@ -202,8 +201,10 @@ impl BytesCommand {
 }
 
 impl BytesEdit {
-    /// Whether the edit may be made in `len` bytes, and else the first refusal that applies, want
-    /// of memory apart. Up to `N` bytes stand inline. `T` is an element of the store's lists.
+    /// Checks whether the edit may be made in `len` bytes. If not, it answers the first refusal
+    /// that applies, other than `Memory`.
+    ///
+    /// Up to `N` bytes are inline. `T` is the type of the elements of the store's lists.
     pub fn check<T, const N: usize>(&self, len: usize) -> Result<(), Refusal>
         ensures { (b : PlainBytes) → length b.bytes ≡ len
             → result ≡ verdict (edit_bytes {T = T} N self.now b) }

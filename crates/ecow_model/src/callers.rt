@@ -7,16 +7,16 @@ ghost use Rattle.ecow_model.specs.Names.{list_of};
 ghost use Rattle.ecow_model.specs.Run.{IsVecStep};
 ghost use Rattle.ecow_model.specs.Values.{vec_at};
 
-/// Of a command on lists of named plain values: a fork reads as its source does, a write sets one
-/// element, and what stands under all other names stays.
+/// In a command on named plain lists, a fork reads as its source does, a write sets one element,
+/// and the values of all other names stay.
 pub fn plain_steps<T>()
     ensures fork { ForksRead {T = T} IsVecStep get }
     ensures write { WritesSet {T = T} IsVecStep (λ values name. result_ok (vec_at values name)) }
     ensures others { OthersStay {T = T} IsVecStep get }
 {}
 
-/// Of a command on lists in shared blocks: a fork reads as its source does, a write sets one
-/// element, and what stands under all other names stays.
+/// In a command on named lists in shared blocks, a fork reads as its source does, a write sets one
+/// element, and the values of all other names stay.
 pub fn shared_steps<T>()
     ensures fork { ForksRead {T = T} CountedStep list_of }
     ensures write { WritesSet {T = T} CountedStep list_of }

@@ -5,7 +5,7 @@ use crate::vecs::VecCommand;
 use ecow_base::{Items, Text};
 use std::ops::Bound;
 
-/// What a value is called by.
+/// The name of a value.
 pub type Name = u32;
 
 /// Where a range starts, and where it ends.
@@ -13,8 +13,9 @@ pub type Bounds = (Bound<usize>, Bound<usize>);
 
 /// A command on a value of one of three kinds.
 ///
-/// A command with a field `to`, and one that begins a value, makes a name that must be free; `from`
-/// names a value that stays as it is; every other `name` is that of a value that is there.
+/// A command that makes a value makes a name too, which must not exist yet: its `to` or, if it has
+/// none, its `name`. `from` names a value that stays as it is. Every other `name` is that of a
+/// value that exists.
 #[derive(Drop)]
 pub enum Command<T> {
     Vec(VecCommand<T>),
@@ -56,24 +57,24 @@ pub enum Outcome<T> {
 /// Why a command was refused: the first of these that applies. A refused command changes nothing.
 #[derive(Clone, Copy, Debug, PartialEq, Eq)]
 pub enum Refusal {
-    /// The name that the command uses is not there.
+    /// The name that the command uses does not exist.
     NoName,
-    /// The name that the command makes is there.
+    /// The name that the command makes exists already.
     Taken,
     /// The value is of another kind.
     Kind,
-    /// The index is past the length, or at it where an element is asked for.
+    /// The index is past the end, or at the end where an element is asked for.
     Index,
     /// The bounds are no range of the list.
     Range,
     /// No character begins at the byte index.
     Boundary,
-    /// There is another number of marks than of elements.
+    /// There are not as many marks as elements.
     Marks,
     /// The bytes are not UTF-8.
     NotUtf8,
-    /// The asked capacity or the new length is past 2^63 - 1.
+    /// The requested capacity or the new length passes 2^63 - 1.
     Capacity,
-    /// A growth or the clone of an element was refused.
+    /// There was no memory, or the clone of an element was refused.
     Memory,
 }

@@ -1,12 +1,11 @@
-//! The commands on named lists, bytes and texts, the definitions of what they do, the laws of
-//! these, and the table of named values.
+//! The commands on named lists, bytes and texts, the definitions of what they do, and the laws of
+//! these.
 #![tactic(auto)]
 
 pub mod bytes;
 pub mod callers;
 pub mod command;
 pub mod laws;
-pub mod table;
 pub mod texts;
 pub mod usage;
 pub mod value;

@@ -13,13 +13,12 @@ pub enum TextCommand {
     New {
         name: Name,
     },
-    /// An inline text. Answers `Flag`: false, and nothing is made, where it is past the inline
-    /// limit.
+    /// An inline text. Answers `Flag`: false, and nothing is made, if it is past the inline limit.
     TryInline {
         name: Name,
         text: Text,
     },
-    /// An empty text with room for `capacity` bytes.
+    /// An empty text that asks for capacity for `capacity` bytes.
     WithCapacity {
         name: Name,
         capacity: usize,
@@ -34,17 +33,17 @@ pub enum TextCommand {
         name: Name,
         c: char,
     },
-    /// Under `to`, the text of which `from` are the UTF-8 bytes, in their mode.
+    /// Under `to`, the text whose UTF-8 bytes are `from`, inline exactly if those are.
     FromBytes {
         from: Name,
         to: Name,
     },
-    /// Under `to`, the text of `from`, in its mode.
+    /// Under `to`, the text of `from`, inline exactly if that is.
     Clone {
         from: Name,
         to: Name,
     },
-    /// The name is free again.
+    /// Drops the text. The name no longer exists.
     Drop {
         name: Name,
     },
@@ -62,24 +61,26 @@ pub enum TextCommand {
         name: Name,
         text: Text,
     },
-    /// Puts `c` in at the byte index `index`, a boundary.
+    /// Inserts `c` at the byte index `index`, which is a character boundary.
     Insert {
         name: Name,
         index: usize,
         c: char,
     },
-    /// Puts `text` in at the byte index `index`, a boundary.
+    /// Inserts `text` at the byte index `index`, which is a character boundary.
     InsertStr {
         name: Name,
         index: usize,
         text: Text,
     },
-    /// Takes the character at the byte index `index`, a boundary below the length. Answers `Char`.
+    /// Takes the character at the byte index `index`, which is a character boundary below the
+    /// length. Answers `Char`.
     Remove {
         name: Name,
         index: usize,
     },
-    /// Keeps the first `target` bytes, a boundary, or all where there are fewer.
+    /// Keeps the first `target` bytes, or all if there are fewer. A `target` below the length is a
+    /// character boundary.
     Truncate {
         name: Name,
         target: usize,
@@ -88,7 +89,7 @@ pub enum TextCommand {
     Clear {
         name: Name,
     },
-    /// Makes room for `additional` more bytes.
+    /// Asks for capacity for `additional` more bytes.
     Reserve {
         name: Name,
         additional: usize,
@@ -116,17 +117,17 @@ pub enum TextCommand {
     AsciiUpper {
         name: Name,
     },
-    /// Under `to`, the text of `from` in ASCII lower case, in its mode.
+    /// Under `to`, the text of `from` in ASCII lower case, inline exactly if that is.
     ToAsciiLower {
         from: Name,
         to: Name,
     },
-    /// Under `to`, the text of `from` in ASCII upper case, in its mode.
+    /// Under `to`, the text of `from` in ASCII upper case, inline exactly if that is.
     ToAsciiUpper {
         from: Name,
         to: Name,
     },
-    /// Brings a spilled text back inline where its bytes are within the limit.
+    /// Brings a spilled text back inline if its bytes are within the limit.
     ShrinkToFit {
         name: Name,
     },
@@ -134,7 +135,7 @@ pub enum TextCommand {
     Len {
         name: Name,
     },
-    /// Answers for how many bytes there is room: `Count`.
+    /// Answers the capacity: `Count`.
     Capacity {
         name: Name,
     },
@@ -142,7 +143,7 @@ pub enum TextCommand {
     Contents {
         name: Name,
     },
-    /// Answers whether the bytes are inline: `Flag`.
+    /// Answers whether the text is inline: `Flag`.
     IsInline {
         name: Name,
     },
@@ -187,7 +188,7 @@ pub enum TextEdit {
     ShrinkToFit,
 }
 
-/// A question to a text.
+/// A question about a text.
 #[derive(Clone, Copy)]
 pub enum TextAsk {
     Len,

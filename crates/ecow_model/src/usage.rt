@@ -6,22 +6,23 @@ use crate::command::{Name, Refusal};
 use ecow_base::MAX_LEN;
 
 /// A command by its parts: how it uses names, and what it does to the value of a name. Each kind of
-/// value has its own ways to make one, to derive one from another, its changes and its questions.
+/// value has its own ways to make a value and to derive one from another, and its own edits and
+/// questions.
 #[derive(Drop)]
 pub enum Usage<Make, Derive, Edit, Ask> {
-    /// Makes a value under a name that is new.
+    /// Makes a value under a new name.
     Make { name: Name, how: Make },
-    /// Makes a value under a name that is new, from one that stays as it is.
+    /// Makes a value under a new name from another value, which stays as it is.
     Derive { from: Name, to: Name, how: Derive },
-    /// Takes the name out.
+    /// Removes the name and its value.
     Drop { name: Name },
     /// Changes the value of the name.
     Edit { name: Name, edit: Edit },
-    /// Asks something of the value of the name.
+    /// Asks a question about the value of the name.
     Ask { name: Name, question: Ask },
 }
 
-/// What comes of a command that makes a value.
+/// What a command that makes a value gives.
 #[derive(Drop)]
 pub enum NewValue<V> {
     /// The value. The command answers `Done`.
@@ -56,8 +57,8 @@ impl<Make, Derive, Edit, Ask> Usage<Make, Derive, Edit, Ask> {
     }
 }
 
-/// The parts of a command. Each word of a part stands with the fields that it has there beside the
-/// names, in their order.
+/// The parts of a command. Each variant is listed under its part, with its fields other than names,
+/// in their order.
 macro_rules! usage_of {
     ($command:expr, $words:ident {
         $make:ident { $($made:ident $(($($making:ident),*))?)* }
@@ -95,7 +96,7 @@ pub fn allowed(len: usize, additional: usize) -> Result<(), Refusal>
     Ok(())
 }
 
-/// Whether one of `len` items stands at `index`.
+/// Whether `index` is the index of one of `len` items.
 pub(crate) fn in_bounds(index: usize, len: usize) -> Result<(), Refusal>
     ensures { result ≡ is_checked (nat_lt index len) Refusal.Index }
 {

@@ -10,11 +10,11 @@ use ecow_base::{Items, resolve};
 /// A command on a list of elements. Counts and indexes are of elements.
 #[derive(Drop)]
 pub enum VecCommand<T> {
-    /// An empty list, without room.
+    /// An empty list without capacity.
     New {
         name: Name,
     },
-    /// An empty list with room for `capacity` elements.
+    /// An empty list that asks for capacity for `capacity` elements.
     WithCapacity {
         name: Name,
         capacity: usize,
@@ -30,12 +30,12 @@ pub enum VecCommand<T> {
         value: T,
         n: usize,
     },
-    /// Under `to`, the list of `from`.
+    /// Under `to`, a clone of the list of `from`.
     Clone {
         from: Name,
         to: Name,
     },
-    /// The name is free again.
+    /// Drops the list. The name no longer exists.
     Drop {
         name: Name,
     },
@@ -48,7 +48,7 @@ pub enum VecCommand<T> {
     Pop {
         name: Name,
     },
-    /// Puts `value` in at `index`, which is at most the length.
+    /// Inserts `value` at `index`, which is at most the length.
     Insert {
         name: Name,
         index: usize,
@@ -59,7 +59,7 @@ pub enum VecCommand<T> {
         name: Name,
         index: usize,
     },
-    /// Keeps the first `target` elements, or all where there are fewer.
+    /// Keeps the first `target` elements, or all if there are fewer.
     Truncate {
         name: Name,
         target: usize,
@@ -78,7 +78,7 @@ pub enum VecCommand<T> {
         name: Name,
         bounds: Bounds,
     },
-    /// Puts `items` in place of the elements within `bounds`. Answers those: `Elements`.
+    /// Replaces the elements within `bounds` with `items`. Answers the old ones: `Elements`.
     Splice {
         name: Name,
         bounds: Bounds,
@@ -89,12 +89,12 @@ pub enum VecCommand<T> {
         name: Name,
         items: Items<T>,
     },
-    /// Makes room for `additional` more elements.
+    /// Asks for capacity for `additional` more elements.
     Reserve {
         name: Name,
         additional: usize,
     },
-    /// Puts `value` in place of the element at `index`.
+    /// Replaces the element at `index` with `value`.
     Write {
         name: Name,
         index: usize,
@@ -113,7 +113,7 @@ pub enum VecCommand<T> {
     Contents {
         name: Name,
     },
-    /// Answers for how many elements there is room: `Count`.
+    /// Answers the capacity: `Count`.
     Capacity {
         name: Name,
     },
@@ -155,7 +155,7 @@ pub enum VecEdit<T> {
     Write(usize, T),
 }
 
-/// A question to a list.
+/// A question about a list.
 #[derive(Clone, Copy)]
 pub enum VecAsk {
     Read(usize),
@@ -187,8 +187,8 @@ impl<T> VecCommand<T> {
 }
 
 impl<T> VecEdit<T> {
-    /// Whether the edit may be made in a list of `len` elements, and else the first refusal that
-    /// applies, want of memory apart.
+    /// Checks whether the edit may be made in a list of `len` elements. If not, it answers the
+    /// first refusal that applies, other than `Memory`.
     pub fn check(&self, len: usize) -> Result<(), Refusal>
         ensures { (xs : List T) → length xs ≡ len → result ≡ verdict (edit_vec self.now xs) }
     {

@@ -60,6 +60,7 @@ impl<T> Model for Fields<T> {
 
 impl<T: Drop> Fields<T> {
     /// Makes empty fields. Takes no memory.
+    // rust: const
     pub fn new(alloc: Global) -> Self
         ensures { result ≡ [] }
     {

@@ -1,5 +1,5 @@
-//! An owner of a block that others may own too: one word, of which clones share the block. The
-//! count of owners is for one thread.
+//! Shared ownership of a block: an owner takes one word, and its clones share the block. The count
+//! of owners is for one thread.
 #![tactic(auto)]
 
 mod shared;

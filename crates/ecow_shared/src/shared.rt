@@ -1,4 +1,4 @@
-//! `Shared`: an owner of a block that others may own too. The count of owners is for one thread.
+//! `Shared`: one of the owners of a block. The count of owners is for one thread.
 ghost use Rattle.std.specs.Prelude.{◌≡◌, [], IfSome, IfOk, IfErr, MatchOption};
 ghost use Rattle.std.specs.Borrow.{sem};
 ghost use Rattle.ecow_block.specs.Contents.{contents};
@@ -10,24 +10,24 @@ use std::alloc::{AllocError, Global};
 use std::marker::{Model, PhantomData};
 use std::mem::replace;
 
-/// Stands where a block has a part that takes no space. It owns nothing.
+/// Stands in the place of a block's right that takes no space. It owns nothing.
 struct Nil<T> {
     /// Names `T` alone: a `*const` owns none.
     mark: PhantomData<*const T>,
 }
 
-/// An owner of a block that may have others. It takes one word, and lies in memory as a block does.
-/// A block without places has no other owner.
+/// One of the owners of a block. It takes one word, and has the layout of a block. A block without
+/// places has no other owner.
 pub struct Shared<T> {
-    /// The block's word: where its head is, or null.
+    /// The address of the block's head, or null.
     top: Top<T>,
-    /// In the places of a block's rights, which an owner has no more than a part of.
+    /// These stand in the places of a block's rights, of which each owner has a share.
     room: Nil<T>,
     title: Nil<T>,
     deed: Nil<T>,
-    /// Of which the block's memory was asked.
+    /// The allocator that the block's memory came from.
     alloc: Global,
-    /// The block that it owns a part of, as a proof sees it.
+    /// The block that is shared, as a proof sees it.
     ghost inside: { BlockParts T },
 }
 
@@ -61,7 +61,7 @@ impl<T> Shared<T> {
         Shared::hold(top, room, title, deed, alloc)
     }
 
-    /// The first owner of a block of these parts.
+    /// The first owner of a block that has these parts.
     fn hold(
         top: Top<T>,
         room: Room<T>,
@@ -91,7 +91,7 @@ impl<T> Shared<T> {
         Shared::new(Block::new(alloc))
     }
 
-    /// The block, if it has places.
+    /// Borrows the block, if it has places.
     pub fn get(&self) -> Option<&Block<T>>
         ensures { MatchOption result (self.now ≡ contents [] 0) (λ block. block.now ≡ self.now) }
     {
@@ -101,7 +101,7 @@ impl<T> Shared<T> {
         Some(unsafe { &*(&raw const *self as *const Block<T>) })
     }
 
-    /// The block, where this is its sole owner and it has places. Else the owner comes back.
+    /// Returns the block where this is its sole owner and it has places, and `self` otherwise.
     pub fn try_unwrap(self) -> Result<Block<T>, Shared<T>>
         ensures ok { IfOk result (λ block. block ≡ self) }
         ensures err { IfErr result (λ back. back ≡ self) }
@@ -122,8 +122,8 @@ impl<T> Shared<T> {
 impl<T> Shared<T> {
     ghost use Rattle.ecow_shared.specs.OwnerLends.{lends_block};
 
-    /// The block, for writing, if it has places and this is its sole owner. Another block may be
-    /// put in its place.
+    /// Borrows the block to change it, if it has places and this is its sole owner. Another block
+    /// may be put in its place.
     pub fn get_mut(&mut self) -> Option<&mut Block<T>>
         ensures* writes_back { sem 𝓛 (lends_block T.row self.entry result) }
         ensures value { IfSome result (λ block. self.old ≡ block.now) }
@@ -165,7 +165,7 @@ impl<T> Shared<T> {
         })
     }
 
-    /// Gives this owner up. The last one gets the block, if it has places.
+    /// Gives this ownership up. The last owner gets the block, if it has places.
     fn leave(self) -> Option<Block<T>>
         ensures { IfSome result (λ block. block ≡ self) }
     {
@@ -206,7 +206,7 @@ impl<T: Drop> Drop for Shared<T> {
     }
 }
 
-/// Out of line, so that the drop of any other owner is inlined.
+/// Drops a block. This is out of line, so that the drop of any owner but the last is inlined.
 #[inline(never)]
 fn drop_last<T: Drop>(block: Block<T>) {
     drop(block);

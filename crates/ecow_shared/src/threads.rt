@@ -1,8 +1,8 @@
-//! What the crates above see of their types where the count is atomic. This count is for one
-//! thread, so nothing is asked here.
+//! Where the count is atomic, the crates above show by these functions that their types are `Send`
+//! and `Sync`. This count is for one thread, so these functions ask for neither.
 
-/// Takes a type whose values may be given to another thread, where the count is atomic.
+/// Takes any type. Where the count is atomic, it takes a type that is `Send`.
 pub fn may_be_sent<V>() {}
 
-/// Takes a type whose values several threads may look at, where the count is atomic.
+/// Takes any type. Where the count is atomic, it takes a type that is `Sync`.
 pub fn may_be_shared<V>() {}

@@ -5,7 +5,7 @@ use Rattle.std.specs.FinMap.{insert}
 use denote.RattleType.{RattleType}
 use Rattle.ecow_model.specs.Values.{Named}
 use Rattle.ecow_model.specs.declared.command.Refusal.{Refusal}
-use Rattle.ecow_model.specs.contracts.table.Table.{the_row}
+use Rattle.ecow_table.specs.contracts.table.Table.{the_row}
 
 -- what is written through r is kept as a value of its kind, unless r is a refusal
 abbrev pub LendsPayload : (V K : RattleType) → (K.Denot → V.Denot) → MutBor V.Denot

@@ -8,9 +8,9 @@ ghost use Rattle.ecow_model.specs.Uses.{Rules, WrapsPayloads, IsMade, IsMadeOrRe
 ghost use Rattle.ecow_model.specs.declared.command.Outcome.{Outcome};
 ghost use Rattle.ecow_model.specs.declared.command.Refusal.{Refusal};
 
-use ecow_model::table::Table;
 use ecow_model::usage::{NewValue, Usage};
 use ecow_model::{Name, Outcome, Refusal};
+use ecow_table::Table;
 use std::alloc::Global;
 
 /// A kind of value, and what each part of a command does to a value of this kind. Values under

@@ -14,10 +14,10 @@ use crate::texts::TextKind;
 use crate::vecs::VecKind;
 use ecow_bytes::SmallBytes;
 use ecow_list::{EcoError, EcoVec, Rejected};
-use ecow_model::table::Table;
 use ecow_model::value::Value;
 use ecow_model::{Command, Outcome};
 use ecow_string::SmallText;
+use ecow_table::Table;
 use std::alloc::Global;
 use std::marker::Model;
 
@@ -76,12 +76,12 @@ impl<V> NamedValues<V> {
 impl<T: Clone, const N: usize> NamedValues<Stored<T, N>> {
     /// Carries out one command.
     ///
+    /// Costs what the call of the value costs, and a look-up of each name.
+    ///
     /// # Errors
     ///
     /// `Outcome::Refused` with the first refusal that applies. The command changes nothing then,
     /// and what it carried is dropped.
-    ///
-    /// Costs what the call of the value costs, and a look-up of each name.
     pub fn step(&mut self, command: Command<T>) -> Outcome<T>
         ensures step { ClonesAreEqual T.is_clone → Step N self.old command result self.new }
         ensures bytes_and_texts { StepWhere N
@@ -110,12 +110,12 @@ impl<T: Clone, const N: usize> NamedValues<Stored<T, N>> {
 
     /// Carries out commands in order, and returns the outcome of each.
     ///
+    /// Takes memory for all outcomes first, and then what each command takes.
+    ///
     /// # Errors
     ///
     /// `Memory` if there is no memory for the outcomes. Then no command is carried out, and the
     /// commands come back.
-    ///
-    /// Takes memory for all outcomes first, and then what each command takes.
     pub fn run(
         &mut self,
         commands: Vec<Command<T>>,

@@ -1,10 +1,10 @@
-//! Letters in one case.
+//! Letters in lower or upper case.
 ghost use Rattle.std.specs.Prelude.{◌≡◌, map, string_bytes, IfOk};
 ghost use Rattle.ecow_string.specs.Case.{in_case, str_in_case};
 
 use std::alloc::{AllocError, Global};
 
-/// A case of letters.
+/// Lower or upper case.
 #[derive(Clone, Copy)]
 pub(crate) enum Case {
     Lower,
@@ -12,7 +12,7 @@ pub(crate) enum Case {
 }
 
 impl Case {
-    /// Maps the ASCII letters among `bytes`, in place.
+    /// Changes the ASCII letters among `bytes` to this case, in place.
     pub(crate) fn map(self, bytes: &mut [u8])
         ensures { bytes.new ≡ map (in_case self) bytes.old }
     {
@@ -22,7 +22,7 @@ impl Case {
         }
     }
 
-    /// A copy of `text` in the case, as std's `str` has it.
+    /// A copy of `text` in this case, as std's `str` maps it.
     pub(crate) fn copy(self, alloc: Global, text: &str) -> Result<String, AllocError>
         ensures { IfOk result (λ copy. string_bytes copy ≡ str_in_case self text.now) }
     {

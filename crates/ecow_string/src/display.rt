@@ -1,4 +1,4 @@
-//! Texts that are printed, and printing to a text.
+//! Printing a text, and printing to a text.
 ghost use Rattle.std.specs.Prelude.{◌≡◌, ◌++◌, length, Some, IsOk, IfOk, IfSome, OnOk, OnErr, true, false};
 ghost use Rattle.std.specs.Str.{chars, encode_utf8_all};
 ghost use Rattle.ecow_base.specs.Inline.{inline_after, inline_for};
@@ -9,7 +9,7 @@ use std::alloc::Global;
 use std::fmt;
 use std::fmt::{Display, Write};
 
-/// Prints the text, padded and cut as a `str` is.
+/// Prints the text, with padding and truncation as for a `str`.
 impl<const N: usize> fmt::Display for SmallText<N> {
     ghost output = { λ t. Some (encode_utf8_all t.chars) };
 
@@ -18,7 +18,8 @@ impl<const N: usize> fmt::Display for SmallText<N> {
     }
 }
 
-/// What is written is appended: a whole piece, or the error and nothing.
+/// Appends what is written. A call appends all of its text, or it appends nothing and returns an
+/// error.
 impl<const N: usize> fmt::Write for SmallText<N> {
     ghost write_str_gives = { λ old bytes new. encode_utf8_all new.chars
         ≡ encode_utf8_all old.chars ++ bytes };
@@ -42,11 +43,15 @@ impl<const N: usize> fmt::Write for SmallText<N> {
 }
 
 impl<const N: usize> SmallText<N> {
-    /// The text that a value prints: inline where it has at most `N` bytes, and else spilled. The
-    /// error is the value's own, or tells that there was no memory for the text or that it passes
-    /// 2^63 - 1 bytes.
+    /// The text that a value prints: inline if it has at most `N` bytes, and otherwise spilled.
     ///
+    /// Takes time linear in the length of the text, on average, apart from the printing itself.
     /// `eco_format!` calls it.
+    ///
+    /// # Errors
+    ///
+    /// `fmt::Error` if the value returns it, if there is no memory for the text, or if the text
+    /// passes 2^63 - 1 bytes.
     pub fn format<T: Display + Drop>(alloc: Global, value: T) -> Result<Self, fmt::Error>
         ensures text { IfOk result
             (λ text. IfSome (T.output value) (λ bytes. encode_utf8_all text.chars ≡ bytes)) }
@@ -61,11 +66,16 @@ impl<const N: usize> SmallText<N> {
     }
 }
 
-/// Texts of what values print.
+/// Turns a value into the text that it prints.
 pub trait ToEcoString: Display {
-    /// The text that the value prints: inline where it has at most 15 bytes, and else spilled. The
-    /// error is the value's own, or tells that there was no memory for the text or that it passes
-    /// 2^63 - 1 bytes.
+    /// The text that the value prints: inline if it has at most 15 bytes, and otherwise spilled.
+    ///
+    /// Takes time linear in the length of the text, on average, apart from the printing itself.
+    ///
+    /// # Errors
+    ///
+    /// `fmt::Error` if the value returns it, if there is no memory for the text, or if the text
+    /// passes 2^63 - 1 bytes.
     fn to_eco_string(&self, alloc: Global) -> Result<EcoString, fmt::Error>
         ensures text { IfOk result
             (λ text. IfSome (Self.output self.now) (λ bytes. encode_utf8_all text.chars ≡ bytes)) }

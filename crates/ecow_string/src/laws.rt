@@ -1,5 +1,6 @@
-//! Equality, order, hash and debug text of a text: those of its UTF-8 bytes, inline or spilled,
-//! shared or not. A front comes before what it begins. The hash is that of a `str`.
+//! Equality, order, hash and debug text of a text. They depend on its UTF-8 bytes alone, whether
+//! these are inline, spilled or shared. A prefix comes before a longer text that starts with it.
+//! The hash is that of a `str`.
 ghost use Rattle.std.specs.Prelude.{◌≡◌, ℕ, List, true, nat_eq, Some, refl};
 ghost use Rattle.std.specs.Ordering.{nat_cmp};
 ghost use Rattle.std.specs.Cmp.{on_equiv, on_total, on_po, on_per, partial_equiv_from_equiv};
@@ -77,26 +78,26 @@ impl<const N: usize> fmt::Debug for SmallText<N> {
     }
 }
 
-/// Bytes are tried for a text exactly where they are UTF-8, and the text has these bytes in their
-/// mode. The bytes of a text pass, and are tried for that text in the same mode.
+/// `TryFrom` makes a text of bytes exactly if they are UTF-8, and the text has these bytes, inline
+/// or spilled as they are. Bytes that were made of a text turn back into that text.
 pub fn texts_are_their_bytes()
     ensures passes { (bytes : PlainBytes) → IsUtf8 bytes.bytes → is_utf8 bytes.bytes ≡ true }
     ensures is { (bytes : PlainBytes) → is_utf8 bytes.bytes ≡ true → IsUtf8 bytes.bytes }
 
-    // Bytes that pass come back from their text.
+    // Bytes that are UTF-8 are the bytes of their text.
     ensures kept { (bytes : PlainBytes) → is_utf8 bytes.bytes ≡ true
         → bytes_of (text_of bytes) ≡ bytes }
     ensures valid { (bytes : PlainBytes) → is_utf8 bytes.bytes ≡ true
         → AreChars (text_of bytes).chars }
 
-    // A text comes back from its bytes.
+    // A text is the text of its bytes.
     ensures again_passes { (text : PlainText) → AreChars text.chars
         → is_utf8 (bytes_of text).bytes ≡ true }
     ensures again { (text : PlainText) → AreChars text.chars → text_of (bytes_of text) ≡ text }
 {}
 
-/// A text is equal to a `str` exactly where it has its characters: so `text.as_str() == s` decides
-/// them.
+/// A text equals a `str` exactly if both have the same characters, so `text.as_str() == s` decides
+/// that.
 pub fn a_str_decides_the_characters()
     ensures same { (t : PlainText) (s : List ℕ) → IsUtf8 s
         → pointwise nat_eq (encode_utf8_all t.chars) s ≡ true → t.chars ≡ chars s }
@@ -104,8 +105,8 @@ pub fn a_str_decides_the_characters()
         → pointwise nat_eq (encode_utf8_all t.chars) s ≡ true }
 {}
 
-/// Texts are equal exactly where they have the same characters. A text has Unicode scalar values
-/// alone; the law holds at all numbers.
+/// Texts are equal exactly if they have the same characters. A text holds only Unicode scalar
+/// values, but the law holds for all numbers.
 pub fn equal_texts_have_the_same_characters()
     ensures same { (t : PlainText) (u : PlainText)
         → pointwise nat_eq (encode_utf8_all t.chars) (encode_utf8_all u.chars) ≡ true

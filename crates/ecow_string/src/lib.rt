@@ -1,4 +1,5 @@
-//! Text that stands in the value itself up to a limit, and past it in a vector that clones share.
+//! Text that is stored in the value itself up to a limit, and past it in a vector that clones
+//! share.
 #![tactic(auto)]
 
 mod case;

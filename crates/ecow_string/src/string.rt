@@ -1,9 +1,9 @@
 //! `SmallText`: a short text in the value itself, and a longer one in a vector that clones share.
-//! `EcoString` is its name for 15 bytes.
+//! `EcoString` is `SmallText` with a limit of 15 bytes.
 //!
-//! A call that takes memory may be refused, as a vector's is: with `Capacity` where there would be
-//! more than 2^63 - 1 bytes, and else with `Memory`. The text is then as it was. No call is refused
-//! whose text stays inline.
+//! A call that takes memory can be refused: with `Capacity` if there would be more than 2^63 - 1
+//! bytes, and else with `Memory`. The text is then unchanged, except that `extend_chars` and
+//! `extend_strs` keep what they appended before. No change is refused that leaves the text inline.
 ghost use Rattle.std.specs.Prelude.{◌≡◌, ◌≤◌, ◌==◌, [], length, true, false};
 ghost use Rattle.std.specs.Str.{chars, encode_utf8_all};
 ghost use Rattle.ecow_base.specs.Utf8.{utf8_len, is_boundary};
@@ -24,22 +24,33 @@ use std::alloc::{AllocError, Global};
 use std::marker::Model;
 use std::str;
 
-/// Text: its UTF-8 bytes are inline, in the value itself, where they are at most `N`, or spilled,
-/// in a vector whose block clones share until one of them is written to.
+/// A text. Its UTF-8 bytes are inline, in the value itself, if there are at most `N`; more are
+/// spilled, in a vector whose block clones share until one of them is changed.
 ///
-/// A text that comes to more than `N` bytes, or gets room for more, spills. A spilled one stays
-/// spilled, however short it becomes: `shrink_to_fit` alone brings it back. Equality, order and
-/// hash see the text and not where it stands.
+/// An inline text spills when it would have more than `N` bytes, or when capacity for more than `N`
+/// is reserved. A spilled text stays spilled, however short it becomes: only `shrink_to_fit` brings
+/// it back inline. Equality, order and hash depend on the text and not on where it is stored. A
+/// clone takes constant time and no memory.
 ///
-/// Lengths and indices are numbers of bytes. An index is a boundary where a character begins or the
-/// text ends.
+/// Lengths and indices count bytes. An index is a boundary if a character begins there or the text
+/// ends there.
+///
+/// ```
+/// let mut text = EcoString::from_str(alloc, "fifteen letters")?;
+/// assert!(text.is_inline());
+/// text.push('!')?;
+/// assert!(!text.is_inline());
+/// let before = text.clone()?;
+/// text.push('!')?;
+/// assert_eq!((before.len(), text.len()), (16, 17));
+/// ```
 #[derive(Drop)]
 pub struct SmallText<const N: usize> {
     /// The UTF-8 bytes.
     pub(crate) bytes: SmallBytes<N>,
 }
 
-/// Text of which at most 15 bytes stand in the value itself.
+/// Text of which at most 15 bytes are stored in the value itself.
 pub type EcoString = SmallText<15>;
 
 impl<const N: usize> Model for SmallText<N> {
@@ -55,10 +66,10 @@ impl<const N: usize> Model for SmallText<N> {
 }
 
 impl<const N: usize> SmallText<N> {
-    /// The greatest number of bytes that stand in the value itself.
+    /// The greatest number of bytes that are stored in the value itself.
     pub const INLINE_LIMIT: usize = N;
 
-    /// No text, inline. Takes no memory.
+    /// An empty text, inline. Takes no memory.
     pub fn new(alloc: Global) -> Self
         ensures chars { result.chars ≡ [] }
         ensures mode { result.inline ≡ true }
@@ -89,22 +100,22 @@ impl<const N: usize> SmallText<N> {
         self.bytes.len()
     }
 
-    /// Whether there is no character.
+    /// Whether the text has no characters.
     pub fn is_empty(&self) -> bool
         ensures { result ≡ (length self.now.chars == 0) }
     {
         self.bytes.is_empty()
     }
 
-    /// Whether the bytes stand in the value itself.
+    /// Whether the text is stored in the value itself.
     pub fn is_inline(&self) -> bool
         ensures { result ≡ self.now.inline }
     {
         self.bytes.is_inline()
     }
 
-    /// For how many bytes there is room, never fewer than there are: the limit where they are
-    /// inline.
+    /// The number of bytes that the value can hold without a larger block, which is at least the
+    /// length. For an inline text it is `N`.
     pub fn capacity(&self) -> usize
         ensures room { utf8_len self.now.chars ≤ result }
         ensures bounded { result ≤ MAX_LEN }
@@ -113,15 +124,17 @@ impl<const N: usize> SmallText<N> {
         self.bytes.capacity()
     }
 
-    /// Whether `index` is a boundary: one of a character's first byte, or the length.
+    /// Whether `index` is a boundary: the index of a character's first byte, or the length.
     pub fn is_char_boundary(&self, index: usize) -> bool
         ensures { result ≡ is_boundary self.now.chars index }
     {
         self.as_str().is_char_boundary(index)
     }
 
-    /// Keeps no character. An inline text stays inline and a spilled one spilled; a shared block is
-    /// given up, with nothing copied. Never refused.
+    /// Removes all characters. An inline text stays inline, and a spilled text stays spilled.
+    ///
+    /// Copies nothing and is never refused. A shared block is left to the other values that share
+    /// it.
     pub fn clear(&mut self)
         ensures chars { self.new.chars ≡ [] }
         ensures mode { self.new.inline ≡ self.old.inline }

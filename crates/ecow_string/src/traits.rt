@@ -1,5 +1,5 @@
-//! std's traits by which a text is used as the `str` that it is, and is collected from an iterator,
-//! as a `String` is.
+//! The traits of std that let a text be used as a `str` and be collected from an iterator, as a
+//! `String` can.
 ghost use Rattle.std.specs.Prelude.{◌≡◌};
 ghost use Rattle.std.specs.Str.{chars, encode_utf8_all};
 ghost use Rattle.ecow_base.specs.Inline.{inline_for};
@@ -11,7 +11,8 @@ use std::alloc::{AllocError, Global};
 use std::convert::{AsSlice, AsStr};
 use std::ops::DerefStr;
 
-/// The text: so `text.chars()`, `text.find(..)` and all other calls of a `str`.
+/// Dereferences to a `str`: `text.chars()`, `text.find(..)` and all other calls of a `str` can be
+/// used.
 impl<const N: usize> DerefStr for SmallText<N> {
     ghost deref_gives = { λ text bytes. (bytes ≡ encode_utf8_all text.chars)
         × (chars bytes ≡ text.chars) };
@@ -41,7 +42,7 @@ impl<const N: usize> AsSlice<u8> for SmallText<N> {
     }
 }
 
-/// The text of the characters, as `SmallText::from_chars` makes it; its two errors are one here.
+/// Collects characters as `SmallText::from_chars` does. `AllocError` stands for both of its errors.
 impl<const N: usize> FromIterator<char> for SmallText<N> {
     type Alloc = Global;
 
@@ -53,8 +54,7 @@ impl<const N: usize> FromIterator<char> for SmallText<N> {
     }
 }
 
-/// The texts, one after another, as `SmallText::from_strs` makes them; its two errors are one
-/// here.
+/// Collects texts as `SmallText::from_strs` does. `AllocError` stands for both of its errors.
 impl<'a, const N: usize> FromIterator<&'a str> for SmallText<N> {
     type Alloc = Global;
 
@@ -69,8 +69,8 @@ impl<'a, const N: usize> FromIterator<&'a str> for SmallText<N> {
     }
 }
 
-/// The texts, one after another, as `SmallText::from_eco_strings` makes them; its two errors are
-/// one here.
+/// Collects texts as `SmallText::from_eco_strings` does. `AllocError` stands for both of its
+/// errors.
 impl<const N: usize> FromIterator<SmallText<N>> for SmallText<N> {
     type Alloc = Global;
 

@@ -4,6 +4,3 @@ pub mod Holes
 pub mod Said
 pub mod Trees
 pub mod Runs
-pub mod Tables
-pub mod BlockFacts
-pub mod MemoryFacts

@@ -11,7 +11,6 @@ mod template;
 mod tree;
 mod undo;
 mod versions;
-mod worked;
 mod writing;
 
 use crate::symbols::{Interner, Scope};

@@ -1,4 +1,4 @@
-//! One request: a head, and the places behind it.
+//! Allocates, reads, writes and frees a head, with the places behind it.
 ghost use Rattle.std.specs.Prelude.{◌≡◌, ◌⊎◌, ◌*◌, ◌^◌, ◌<◌, [], IfOk, MatchBool};
 ghost use Rattle.std.specs.Borrow.{sem};
 ghost use Rattle.std.specs.Mem.{type_size};
@@ -12,7 +12,7 @@ use std::alloc::{AllocError, Allocator, Global};
 use std::marker::PhantomData;
 use std::ptr;
 
-/// Asks `alloc` for a head and `places` places, which take `size` bytes.
+/// Asks `alloc` for `size` bytes: a head, and `places` places behind it.
 pub(crate) fn make_head<T, A: Allocator>(
     alloc: &A,
     places: usize,
@@ -30,6 +30,7 @@ pub(crate) fn make_head<T, A: Allocator>(
             let ptr = block as *mut Head<T>;
             unsafe {
                 let base = Base {
+                    // rust: ptr: block.add(32_usize.next_multiple_of(align_of::<T>())) as *mut T,
                     ptr: block.add(32) as *mut T,
                 };
                 (*ptr).count = 1;
@@ -49,7 +50,7 @@ pub(crate) fn make_head<T, A: Allocator>(
     }
 }
 
-/// Gives a head back to `alloc`, and the places behind it, which hold nothing.
+/// Frees a head, and the places behind it, which hold no items.
 pub(crate) fn give_back_head<T, A: Allocator>(
     alloc: &A,
     top: Top<T>,
@@ -78,7 +79,7 @@ pub(crate) fn fields<T, A: Allocator>(title: &Title<T, A>, top: Top<T>) -> &Fiel
     unsafe { &(*ptr).fields }
 }
 
-/// The fields of a head, for writing.
+/// Borrows the fields of a head to write them.
 pub(crate) fn fields_mut<T, A: Allocator>(title: &mut Title<T, A>, top: Top<T>) -> &mut Fields<T>
     requires { (top.ptr ≡ title.old.at) × InBlock top.ptr }
     ensures* writes_back { sem 𝓛 (lends_fields T.row A.row A.Allocator title.entry result) }
@@ -88,7 +89,8 @@ pub(crate) fn fields_mut<T, A: Allocator>(title: &mut Title<T, A>, top: Top<T>) 
     unsafe { &mut (*ptr).fields }
 }
 
-/// No head, of a block whose places begin at `_base`.
+/// Stands for the head of a block that has none. Its places begin at `_base`.
+// rust: const
 pub(crate) fn no_head<T, A: Allocator>(_alloc: &A, _base: Base<T>) -> (Top<T>, Title<T, A>)
     ensures { (result.0.ptr ≡ null_ptr) × (result.1.at ≡ null_ptr) × (result.1.alloc ≡ _alloc.now)
         × (result.1.fields.base.ptr ≡ _base.ptr) × (result.1.fields.len ≡ 0)
@@ -106,7 +108,8 @@ pub(crate) fn is_none<T>(top: Top<T>) -> bool
     top.ptr.is_null()
 }
 
-/// The title. What `Global` gives may be compared with null.
+/// Returns the title as it is, and shows that its head's address may be compared with null, as that
+/// of each allocation of `Global` may.
 pub(crate) fn tested<T>(title: Title<T, Global>) -> Title<T, Global>
     ensures { (result ≡ title) × Testable title.at }
 {

@@ -1,4 +1,4 @@
-//! Where the places come from, and where they go.
+//! Allocates, enlarges and frees places that stand apart from their head.
 ghost use Rattle.std.specs.Prelude.{◌≡◌, ◌≤◌, [], length, true, false, IfOk, MatchResult};
 ghost use Rattle.std.specs.Vec.Ownership.{FitsInBlock};
 ghost use Rattle.ecow_block.specs.Ownership.{has_bytes};
@@ -9,7 +9,7 @@ use std::alloc::{AllocError, Allocator};
 use std::marker::PhantomData;
 use std::mem::{align_of, size_of};
 
-/// Asks `alloc` for a block of `capacity` places, which take some bytes.
+/// Asks `alloc` for `capacity` places, which take some bytes.
 pub(crate) fn make<T, A: Allocator>(
     alloc: &A,
     capacity: usize,
@@ -29,7 +29,8 @@ pub(crate) fn make<T, A: Allocator>(
     }
 }
 
-/// A block of `capacity` places that take no bytes: no memory is asked for.
+/// Makes `capacity` places that take no bytes. Asks for no memory.
+// rust: const
 pub(crate) fn nowhere<T, A: Allocator>(
     _alloc: &A,
     _capacity: usize,
@@ -38,14 +39,16 @@ pub(crate) fn nowhere<T, A: Allocator>(
     ensures { IsWhole result.0 result.1 result.2 _alloc.now × (result.1.items ≡ [])
         × (result.1.capacity ≡ _capacity) }
 {
+    // rust: nothing
     let none: [T; 0] = [];
     let base = Base {
+        // rust: ptr: core::ptr::dangling(),
         ptr: &raw const none as *mut T,
     };
     (base, Room { mark: PhantomData }, Deed { mark: PhantomData })
 }
 
-/// Gives a block that holds nothing back to `alloc`, if it was asked of it.
+/// Frees places that hold no items, if `alloc` gave them.
 pub(crate) fn give_back<T, A: Allocator>(
     alloc: &A,
     base: Base<T>,
@@ -65,8 +68,8 @@ pub(crate) fn give_back<T, A: Allocator>(
     }
 }
 
-/// Makes the block one of `new_capacity` places, which may be elsewhere. If that is refused,
-/// nothing changes.
+/// Enlarges the allocation to `new_capacity` places, which may move it. If that is refused, nothing
+/// changes.
 pub(crate) fn grow<T, A: Allocator>(
     alloc: &A,
     base: Base<T>,

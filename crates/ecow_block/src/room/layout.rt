@@ -1,4 +1,4 @@
-//! How much memory a head and the places behind it take.
+//! The size and the alignment of a head with the places behind it.
 ghost use Rattle.std.specs.Prelude.{◌≡◌, ◌*◌, ◌^◌, ◌<◌, ◌≤◌, ◌+◌};
 ghost use prog.Memory.{up};
 ghost use Rattle.std.specs.Mem.{type_size};
@@ -6,7 +6,7 @@ ghost use Rattle.ecow_block.specs.Heads.{item_align, whole_size, whole_align};
 
 use std::mem::{align_of, size_of};
 
-/// To what an element is aligned.
+/// The alignment of an element.
 #[inline]
 fn align<T>() -> usize
     ensures { (result ≡ item_align T.row) × (0 < result) × (result ≤ 16) }
@@ -14,7 +14,7 @@ fn align<T>() -> usize
     align_of::<T>()
 }
 
-/// How many bytes reach from `at` to the next multiple of `align`.
+/// The number of bytes from `at` to the next multiple of `align`.
 #[inline]
 fn padding(at: usize, align: usize) -> usize
     requires { (0 < align) × (align ≤ 16) }
@@ -23,7 +23,7 @@ fn padding(at: usize, align: usize) -> usize
     (align - at % align) % align
 }
 
-/// The size and the alignment of a head and `places` places.
+/// The size and the alignment of a head with `places` places behind it.
 #[inline]
 pub(crate) fn layout_of<T>(places: usize) -> (usize, usize)
     requires { places * type_size T.row < 2 ^ 63 }

@@ -1,9 +1,9 @@
-//! Where the bytes' memory comes from.
+//! The allocator of the bytes.
 use crate::bytes::SmallBytes;
 use std::alloc::Global;
 
 impl<const N: usize> SmallBytes<N> {
-    /// The allocator of which the bytes ask their memory.
+    /// The allocator that gives the bytes their memory.
     pub fn allocator(&self) -> Global {
         self.alloc
     }

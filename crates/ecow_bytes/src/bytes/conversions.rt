@@ -1,4 +1,4 @@
-//! The calls that make something else of bytes.
+//! The calls that turn bytes into other types.
 ghost use Rattle.std.specs.Prelude.{◌≡◌, true, IfOk, IfErr, OnErr};
 
 use crate::bytes::SmallBytes;
@@ -6,7 +6,11 @@ use crate::form::Form;
 use ecow_list::{EcoError, EcoVec, Rejected};
 
 impl<const N: usize> SmallBytes<N> {
-    /// A copy of the bytes in a `Vec`. The one error is `Memory`.
+    /// A copy of the bytes in a `Vec`. Copies all bytes into one allocation.
+    ///
+    /// # Errors
+    ///
+    /// `Memory` if there is no memory for the copy.
     pub fn to_vec(&self) -> Result<Vec<u8>, EcoError>
         ensures bytes { IfOk result (λ copy. copy.items ≡ self.now.bytes) }
         ensures memory { IfErr result (λ error. error ≡ EcoError.Memory) }
@@ -14,9 +18,13 @@ impl<const N: usize> SmallBytes<N> {
         Ok(Vec::from_clones(self.alloc, self.as_slice())?)
     }
 
-    /// The bytes in a vector: that of spilled bytes as it is, shared or not, which is never
-    /// refused, and a new one for inline bytes. The one error is `Memory`, with which the bytes
-    /// come back as they were.
+    /// Turns the bytes into a vector. Spilled bytes keep their block, shared or not, which takes
+    /// constant time; inline bytes are copied into a new block.
+    ///
+    /// # Errors
+    ///
+    /// `Memory` if inline bytes get no block. They come back unchanged in the error. Spilled bytes
+    /// are never refused.
     pub fn into_eco_vec(self) -> Result<EcoVec<u8>, Rejected<Self>>
         ensures bytes { IfOk result (λ vec. vec ≡ self.entry.bytes) }
         ensures memory { IfErr result (λ rejected. rejected.error ≡ EcoError.Memory) }

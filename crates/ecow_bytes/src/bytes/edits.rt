@@ -1,5 +1,5 @@
-//! The calls that change bytes in place. Inline bytes are changed where they are, and of spilled
-//! ones the vector is.
+//! The calls that change bytes in place. Inline bytes are changed where they are, and spilled bytes
+//! through their vector.
 ghost use Rattle.std.specs.Prelude.{◌≡◌, ◌+◌, ◌-◌, ◌<◌, ◌≤◌, ◌↔◌, [], length, take, true, false, IsOk, IfOk, IfErr, OnOk, OnErr, IsErrOf, IsSome, Some, insert, remove, slice_get, slice_set};
 ghost use Rattle.std.specs.List.{insert_slice, replace_range};
 ghost use Rattle.ecow_base.specs.Range.{range_of};
@@ -14,8 +14,13 @@ use ecow_list::EcoError;
 use std::ops::RangeBounds;
 
 impl<const N: usize> SmallBytes<N> {
-    /// Takes the last byte: `None` where there is none. Spilled bytes that are shared are copied
-    /// first.
+    /// Removes the last byte and returns it; `None` if there are no bytes.
+    ///
+    /// Takes constant time, but shared bytes are copied first.
+    ///
+    /// # Errors
+    ///
+    /// `Memory` if there is no memory for the copy of shared bytes. The bytes are unchanged.
     #[inline]
     pub fn pop(&mut self) -> Result<Option<u8>, EcoError>
         ensures value { IfOk result
@@ -24,7 +29,7 @@ impl<const N: usize> SmallBytes<N> {
             (self.new.bytes ≡ take (length self.old.bytes - 1) self.old.bytes) }
         ensures mode { KeepsMode self.old.inline result self.new.inline }
 
-        // Refused where shared bytes must be copied, and not where there are none.
+        // Only a copy of shared bytes is refused, and no bytes need no copy.
         ensures refused { RefusesForMemory self.old result self.new }
         ensures empty { self.old.bytes ≡ [] → IsOk result × (self.new ≡ self.old) }
     {
@@ -39,13 +44,20 @@ impl<const N: usize> SmallBytes<N> {
         }
     }
 
-    /// Keeps the first `target` bytes, or all where there are fewer. Spilled bytes that are shared
-    /// copy those that stay.
+    /// Keeps the first `target` bytes, or all if there are no more than that.
+    ///
+    /// Copies nothing, but if the bytes are shared, those that stay are copied into a block of
+    /// their own.
+    ///
+    /// # Errors
+    ///
+    /// `Memory` if there is no memory for the copy of shared bytes. The bytes are unchanged. If all
+    /// bytes stay or none does, nothing is copied and the call is never refused.
     pub fn truncate(&mut self, target: usize) -> Result<(), EcoError>
         ensures bytes { OnOk result (self.new.bytes ≡ take target self.old.bytes) }
         ensures mode { KeepsMode self.old.inline result self.new.inline }
 
-        // Refused where shared bytes must be copied, and not where all or none stay.
+        // Only a copy of shared bytes is refused, and there is none if all bytes stay or none does.
         ensures refused { RefusesForMemory self.old result self.new }
         ensures keeps_all { length self.old.bytes ≤ target → IsOk result × (self.new ≡ self.old) }
         ensures keeps_none { target ≡ 0 → IsOk result × (self.new.bytes ≡ []) }
@@ -59,8 +71,15 @@ impl<const N: usize> SmallBytes<N> {
         }
     }
 
-    /// Puts `byte` in at `index`, before the byte that stands there. Spilled bytes that are shared
-    /// are copied first.
+    /// Inserts `byte` at `index`, before the byte that is there.
+    ///
+    /// Moves the bytes from `index` on. Shared bytes are copied first, and all are moved when they
+    /// spill or need a larger block.
+    ///
+    /// # Errors
+    ///
+    /// `Capacity` if there are 2^63 - 1 bytes already; `Memory` if there is no memory for a larger
+    /// block or a copy. The bytes are unchanged. No byte is refused that fits inline.
     #[tactic(auto, using(crate::proofs::Limits::past_limit))]
     pub fn insert(&mut self, index: usize, byte: u8) -> Result<(), EcoError>
         requires { index ≤ length self.old.bytes }
@@ -77,8 +96,15 @@ impl<const N: usize> SmallBytes<N> {
         self.insert_slice(index, &[byte])
     }
 
-    /// Puts `bytes` in at `index`, before the byte that stands there: all, or none where it is
-    /// refused. Spilled bytes that are shared are copied first, also where none is put in.
+    /// Inserts `bytes` at `index`, before the byte that is there.
+    ///
+    /// Copies `bytes` and moves the bytes from `index` on. Shared bytes are copied first, even if
+    /// `bytes` is empty, and all are moved when they spill or need a larger block.
+    ///
+    /// # Errors
+    ///
+    /// `Capacity` if there would be more than 2^63 - 1 bytes; `Memory` if there is no memory for a
+    /// larger block or a copy. The bytes are unchanged. No bytes are refused that fit inline.
     #[inline]
     #[tactic(auto, using(crate::proofs::Limits::past_limit))]
     pub fn insert_slice(&mut self, index: usize, bytes: &[u8]) -> Result<(), EcoError>
@@ -99,11 +125,19 @@ impl<const N: usize> SmallBytes<N> {
         Ok(())
     }
 
-    /// Puts `bytes` in place of the bytes of `range`, which `range_in` tests: all, or none where it
-    /// is refused. In a spilled value that shares nothing, those before the range stay where they
-    /// are. Spilled bytes that are shared are copied first, also where nothing changes.
+    /// Replaces the bytes of `range` with `bytes`. `range_in` tests whether a range is within the
+    /// bytes.
+    ///
+    /// Copies `bytes` and moves the bytes after the range; those before it stay where they are.
+    /// Shared bytes are copied first, even if nothing changes, and all are moved when they spill or
+    /// need a larger block.
     ///
     /// This project's own, named as that of std's `String`.
+    ///
+    /// # Errors
+    ///
+    /// `Capacity` if there would be more than 2^63 - 1 bytes; `Memory` if there is no memory for a
+    /// larger block or a copy. The bytes are unchanged. No bytes are refused that fit inline.
     #[inline]
     #[tactic(auto, using(crate::proofs::Limits::past_limit))]
     pub fn replace_range<R: RangeBounds<usize>>(
@@ -122,7 +156,8 @@ impl<const N: usize> SmallBytes<N> {
             Grows N self.old.inline (length self.old.bytes - (end - start)) (length bytes.now)
             result self.new.inline) }
 
-        // A refusal leaves the bytes, and is for capacity exactly past the limit.
+        // A refused call changes nothing. `Capacity` means exactly that the new length passes the
+        // limit.
         ensures unchanged { OnErr result (self.new ≡ self.old) }
         ensures capacity { AtRange (R.start_bound range, R.end_bound range) (length self.old.bytes)
             (λ start end. IsErrOf result EcoError.Capacity
@@ -139,7 +174,13 @@ impl<const N: usize> SmallBytes<N> {
         Ok(())
     }
 
-    /// Takes the byte at `index`. Spilled bytes that are shared are copied first.
+    /// Removes the byte at `index` and returns it.
+    ///
+    /// Moves the bytes after it. Shared bytes are copied first.
+    ///
+    /// # Errors
+    ///
+    /// `Memory` if there is no memory for the copy of shared bytes. The bytes are unchanged.
     pub fn remove(&mut self, index: usize) -> Result<u8, EcoError>
         requires { index < length self.old.bytes }
         ensures value { IfOk result (λ byte. slice_get self.old.bytes index ≡ Some byte) }
@@ -153,9 +194,15 @@ impl<const N: usize> SmallBytes<N> {
         }
     }
 
-    /// Puts `byte` in place of the byte at `index`. Spilled bytes that are shared are copied first.
+    /// Replaces the byte at `index` with `byte`.
+    ///
+    /// Takes constant time, but shared bytes are copied first.
     ///
     /// This project's own: the original writes through `make_mut`.
+    ///
+    /// # Errors
+    ///
+    /// `Memory` if there is no memory for the copy of shared bytes. The bytes are unchanged.
     pub fn set(&mut self, index: usize, byte: u8) -> Result<(), EcoError>
         requires { index < length self.old.bytes }
         ensures bytes { OnOk result (self.new.bytes ≡ slice_set self.old.bytes index byte) }
@@ -174,8 +221,15 @@ impl<const N: usize> SmallBytes<N> {
         }
     }
 
-    /// Asks for room for `additional` more bytes; no capacity is promised. Spilled bytes that are
-    /// shared are copied, also where `additional` is 0.
+    /// Reserves capacity for `additional` more bytes. The capacity that results is not promised.
+    ///
+    /// Inline bytes spill if they don't fit inline with `additional` more. Shared bytes are copied,
+    /// even if `additional` is 0, and other spilled bytes are moved if their block is too small.
+    ///
+    /// # Errors
+    ///
+    /// `Capacity` if the length and `additional` together pass 2^63 - 1; `Memory` if there is no
+    /// memory for the block. The bytes are unchanged.
     #[tactic(auto, using(crate::proofs::Limits::past_limit))]
     pub fn reserve(&mut self, additional: usize) -> Result<(), EcoError>
         ensures bytes { self.new.bytes ≡ self.old.bytes }
@@ -195,9 +249,11 @@ impl<const N: usize> SmallBytes<N> {
         Ok(())
     }
 
-    /// Brings spilled bytes back inline where there are at most `N`, and gives their part of the
-    /// block up; those that share it stay as they are. All others are unchanged, sharing included.
-    /// Takes no memory and is never refused.
+    /// Brings spilled bytes back inline if there are at most `N`. Otherwise nothing changes, and a
+    /// shared block stays shared.
+    ///
+    /// Copies at most `N` bytes, takes no memory and is never refused. Other values that share the
+    /// block keep it.
     pub fn shrink_to_fit(&mut self)
         ensures bytes { self.new.bytes ≡ self.old.bytes }
         ensures mode { self.new.inline ≡ inline_shrunk N self.old.inline (length self.old.bytes) }

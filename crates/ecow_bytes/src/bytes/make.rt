@@ -1,4 +1,4 @@
-//! The calls that make bytes of something else.
+//! The calls that make bytes from other values.
 ghost use Rattle.std.specs.Prelude.{◌≡◌, ℕ, ◌<◌, ◌≤◌, ◌↔◌, [], List, length, vec_len, true, false, IsOk, IfOk, IfErr, OnErr, IsErrAnd, IsErrOf, IsSome, IfSome};
 ghost use Rattle.std.specs.Iterator.{IsFiniteIterable};
 ghost use Rattle.ecow_list.specs.Vectors.{GivesFirst, GivesItems};
@@ -13,7 +13,7 @@ use ecow_list::{EcoError, EcoVec, Rejected};
 use std::alloc::Global;
 
 impl<const N: usize> SmallBytes<N> {
-    /// A copy of `bytes`, inline: `None` where there are more than `N`. Takes no memory.
+    /// A copy of `bytes`, inline; `None` if there are more than `N`. Takes no memory.
     pub fn try_inline(alloc: Global, bytes: &[u8]) -> Option<Self>
         ensures fits { IsSome result ↔ (length bytes.now ≤ N) }
         ensures bytes { IfSome result (λ b. b.bytes ≡ bytes.now) }
@@ -25,7 +25,7 @@ impl<const N: usize> SmallBytes<N> {
         }
     }
 
-    /// A copy of `bytes`, of which there are at most `N`, inline. Takes no memory.
+    /// A copy of `bytes`, inline. There must be at most `N` bytes. Takes no memory.
     pub fn inline(alloc: Global, bytes: &[u8]) -> Self
         requires { length bytes.now ≤ N }
         ensures bytes { result.bytes ≡ bytes.now }
@@ -34,7 +34,13 @@ impl<const N: usize> SmallBytes<N> {
         Self::try_inline(alloc, bytes).unwrap()
     }
 
-    /// No bytes, with room for `capacity`.
+    /// No bytes. The value is inline if `capacity` is at most `N`. Otherwise it is spilled, and
+    /// makes one allocation for `capacity` bytes; no capacity is promised.
+    ///
+    /// # Errors
+    ///
+    /// `Capacity` if `capacity` passes 2^63 - 1; `Memory` if there is no memory for the block. A
+    /// capacity of at most `N` is never refused.
     pub fn with_capacity(alloc: Global, capacity: usize) -> Result<Self, EcoError>
         ensures { MakesBytes N capacity [] result }
     {
@@ -49,7 +55,13 @@ impl<const N: usize> SmallBytes<N> {
         })
     }
 
-    /// A copy of `bytes`.
+    /// A copy of `bytes`: inline if there are at most `N`, and otherwise spilled, with one
+    /// allocation.
+    ///
+    /// # Errors
+    ///
+    /// `Capacity` if there are more than 2^63 - 1 bytes; `Memory` if there is no memory for the
+    /// block. At most `N` bytes are never refused.
     #[inline(always)]
     pub fn from_slice(alloc: Global, bytes: &[u8]) -> Result<Self, EcoError>
         ensures { MakesBytes N (length bytes.now) bytes.now result }
@@ -61,16 +73,27 @@ impl<const N: usize> SmallBytes<N> {
         Ok(SmallBytes { form, alloc })
     }
 
-    /// The bytes of an array, as `from_slice` makes them.
+    /// The bytes of an array: inline if there are at most `N`, and otherwise spilled, with one
+    /// allocation.
+    ///
+    /// # Errors
+    ///
+    /// `Capacity` if there are more than 2^63 - 1 bytes; `Memory` if there is no memory for the
+    /// block. At most `N` bytes are never refused.
     pub fn from_array<const M: usize>(alloc: Global, bytes: [u8; M]) -> Result<Self, EcoError>
         ensures { MakesBytes N M bytes.entry result }
     {
         Self::from_slice(alloc, &bytes)
     }
 
-    /// The bytes of `iter`: inline where there are at most `N`, which is never refused, and else
-    /// spilled. Its size hint isn't asked. Answers `Capacity` at the byte past 2^63 - 1, and else
-    /// `Memory`: no further one is asked for then.
+    /// The bytes that `iter` gives, each appended as `push` does. They are inline if there are at
+    /// most `N`, and otherwise spilled. The size hint of `iter` isn't used.
+    ///
+    /// # Errors
+    ///
+    /// `Capacity` at the byte past 2^63 - 1; `Memory` if there is no memory for a block. No further
+    /// byte is taken from `iter` then, and the bytes so far are dropped. At most `N` bytes are
+    /// never refused.
     pub fn from_iter<I: IntoIterator<Item = u8>>(alloc: Global, iter: I) -> Result<Self, EcoError>
         requires { IsFiniteIterable
             I.into_iter_gives I.IntoIter.can_next I.IntoIter.remaining iter }
@@ -86,14 +109,19 @@ impl<const N: usize> SmallBytes<N> {
         Ok(target)
     }
 
-    /// The bytes of a `Vec`: inline where there are at most `N`, and else spilled, with a block of
-    /// their own. Answers `Capacity` past 2^63 - 1 bytes, and else `Memory`.
+    /// The bytes of a `Vec`: inline if there are at most `N`, and otherwise moved into a new block.
+    ///
+    /// # Errors
+    ///
+    /// `Capacity` if there are more than 2^63 - 1 bytes; `Memory` if there is no memory for the
+    /// block. The `Vec` comes back unchanged in the error. At most `N` bytes are never refused.
     pub fn from_vec(alloc: Global, bytes: Vec<u8>) -> Result<Self, Rejected<Vec<u8>>>
         ensures bytes { IfOk result (λ b. b.bytes ≡ bytes.items) }
         ensures mode { IfOk result (λ b. b.inline ≡ inline_for N (vec_len bytes)) }
         ensures free { vec_len bytes ≤ N → IsOk result }
 
-        // A refusal hands the `Vec` back, and is for capacity exactly past the limit.
+        // A refused call returns the `Vec`. `Capacity` means exactly that it is longer than the
+        // limit.
         ensures value_returned { IfErr result (λ rejected. rejected.value.items ≡ bytes.items) }
         ensures capacity { IsErrAnd result (λ rejected. rejected.error ≡ EcoError.Capacity)
             ↔ (MAX_LEN < vec_len bytes) }
@@ -109,8 +137,8 @@ impl<const N: usize> SmallBytes<N> {
     }
 }
 
-/// The bytes of a vector, which keep its block, shared or not: spilled, however few. Takes no
-/// memory.
+/// The bytes of a vector, which keep its block, shared or not. They are spilled, however few there
+/// are. Takes constant time and no memory.
 impl<const N: usize> From<EcoVec<u8>> for SmallBytes<N> {
     ghost from_gives = { λ vec target. target ≡ plain_bytes vec false };
 

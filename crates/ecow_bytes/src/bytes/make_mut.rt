@@ -10,8 +10,14 @@ use ecow_list::EcoError;
 impl<const N: usize> SmallBytes<N> {
     ghost use Rattle.ecow_bytes.specs.Lends.{lends_whole, lends_bytes};
 
-    /// The bytes, for writing, in their mode. Never refused for inline bytes or none. Spilled bytes
-    /// that are shared are copied first, and the one error is `Memory`, which changes nothing.
+    /// Borrows the bytes for writing. Inline bytes stay inline, and spilled bytes stay spilled.
+    ///
+    /// Takes constant time, but shared bytes are copied first.
+    ///
+    /// # Errors
+    ///
+    /// `Memory` if there is no memory for the copy of shared bytes. The bytes are unchanged. Inline
+    /// bytes and no bytes are never refused.
     pub fn make_mut(&mut self) -> Result<&mut [u8], EcoError>
         ensures* writes_back { sem 𝓛 (lends_bytes N.row self.entry result) }
         ensures value { IfOk result (λ bytes. bytes.now ≡ self.old.bytes) }
@@ -22,6 +28,7 @@ impl<const N: usize> SmallBytes<N> {
         self.form_mut().make_mut()
     }
 
+    /// The place where the bytes are stored, borrowed for writing.
     fn form_mut(&mut self) -> &mut Form<N>
         ensures* writes_back { sem 𝓛 (lends_whole N.row self.entry result) }
         ensures value { plain_of result.now ≡ self.old }

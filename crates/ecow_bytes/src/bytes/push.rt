@@ -1,5 +1,5 @@
-//! Appending bytes. The case in which they fit inline is short, so that it is inlined; the others
-//! are out of line.
+//! Appending bytes. The code for bytes that fit inline is short and is inlined; the rest is out of
+//! line.
 ghost use Rattle.std.specs.Prelude.{◌≡◌, ℕ, List, ◌+◌, ◌-◌, ◌<◌, ◌≤◌, ◌↔◌, [], ◌∷◌, ◌++◌, length, true, false, IsOk, IfOk, OnOk, OnErr, IsErrOf};
 ghost use Rattle.std.specs.Iterator.{IsFinite, IsFiniteIterable, ExtendsWithItems};
 ghost use Rattle.std.specs.List.{replace_range};
@@ -13,7 +13,14 @@ use ecow_base::{MAX_LEN, room_for};
 use ecow_list::{EcoError, EcoVec};
 
 impl<const N: usize> SmallBytes<N> {
-    /// Appends `byte`. Spilled bytes that are shared are copied first.
+    /// Appends `byte`.
+    ///
+    /// Takes constant time on average, and linear time in the length if the bytes are shared.
+    ///
+    /// # Errors
+    ///
+    /// `Capacity` if there are 2^63 - 1 bytes already; `Memory` if there is no memory for a larger
+    /// block or a copy. The bytes are unchanged. No byte is refused that fits inline.
     #[inline(always)]
     #[tactic(auto, using(crate::proofs::Limits::past_limit, crate::proofs::Moves::put_at_end))]
     pub fn push(&mut self, byte: u8) -> Result<(), EcoError>
@@ -39,8 +46,15 @@ impl<const N: usize> SmallBytes<N> {
         self.spill_with(end, end, &[byte])
     }
 
-    /// Appends `bytes`: all, or none where it is refused. Spilled bytes that are shared are copied
-    /// first.
+    /// Appends `bytes`.
+    ///
+    /// Takes time linear in the number of bytes appended, on average. Shared bytes are copied
+    /// first; if `bytes` is empty, nothing changes and they stay shared.
+    ///
+    /// # Errors
+    ///
+    /// `Capacity` if there would be more than 2^63 - 1 bytes; `Memory` if there is no memory for a
+    /// larger block or a copy. The bytes are unchanged. No bytes are refused that fit inline.
     #[inline]
     #[tactic(auto, using(crate::proofs::Limits::past_limit, crate::proofs::Moves::put_at_end))]
     pub fn extend_from_slice(&mut self, bytes: &[u8]) -> Result<(), EcoError>
@@ -50,7 +64,7 @@ impl<const N: usize> SmallBytes<N> {
         ensures refused { RefusesPast (length self.old.bytes + length bytes.now)
             self.old result self.new }
 
-        // For no bytes nothing changes, sharing included.
+        // An empty `bytes` changes nothing, and shared bytes stay shared.
         ensures nothing { bytes.now ≡ [] → IsOk result × (self.new ≡ self.old) }
     {
         if let [byte] = bytes {
@@ -69,12 +83,17 @@ impl<const N: usize> SmallBytes<N> {
         Ok(())
     }
 
-    /// Appends the bytes of `iter`, one after another, each as `push` does: so inline bytes spill
-    /// at the one with which they pass `N`, and nothing changes where there is none. The size hint
-    /// isn't asked.
+    /// Appends the bytes of `iter` one after another, each as `push` does. Inline bytes spill at
+    /// the byte that makes them more than `N`.
     ///
-    /// Where a byte is refused those before it stay, and no further one is asked for: `Capacity`
-    /// where there are 2^63 - 1 bytes then, and else `Memory`. No byte is refused that fits inline.
+    /// Each byte takes constant time on average. Shared bytes are copied at the first byte; if
+    /// there is none, nothing changes. The size hint of `iter` isn't used.
+    ///
+    /// # Errors
+    ///
+    /// `Capacity` if there are 2^63 - 1 bytes; `Memory` if there is no memory for a larger block or
+    /// a copy. The bytes appended so far stay, and no further byte is taken from `iter`. No byte is
+    /// refused that fits inline.
     pub fn extend<I: IntoIterator<Item = u8>>(&mut self, iter: I) -> Result<(), EcoError>
         requires { IsFiniteIterable
             I.into_iter_gives I.IntoIter.can_next I.IntoIter.remaining iter }
@@ -82,7 +101,8 @@ impl<const N: usize> SmallBytes<N> {
             self.old.bytes self.new.bytes result }
         ensures mode { self.new.inline ≡ inline_after N self.old.inline (length self.new.bytes) 0 }
 
-        // A refusal is that of one byte: those before it stay. None is refused that fits inline.
+        // A refusal is that of one byte, and the bytes before it stay. No byte is refused that fits
+        // inline.
         ensures refused { OnErr result ((items : List ℕ)
             × GivesFirst I.into_iter_gives I.IntoIter.next_gives iter items
             × (length self.new.bytes + 1 ≡ length self.old.bytes + length items)) }
@@ -94,7 +114,7 @@ impl<const N: usize> SmallBytes<N> {
         self.extend_from(&mut iter.into_iter())
     }
 
-    /// Appends what `iter` still gives, as `extend` does.
+    /// Appends the bytes that `iter` still gives, as `extend` does.
     fn extend_from<I: Iterator<Item = u8>>(&mut self, iter: &mut I) -> Result<(), EcoError>
         requires ends { I.can_next iter.old × IsFinite (I.remaining iter.old) }
         ensures bytes { ExtendsBy I.next_gives Appends iter.old
@@ -105,7 +125,7 @@ impl<const N: usize> SmallBytes<N> {
         ensures free { OnErr result (inline_after N self.new.inline (length self.new.bytes) 1
             ≡ false) }
     {
-        // For the proof alone: inline bytes are at most `N`.
+        // For the proof alone: there are at most `N` inline bytes.
         let _len = self.len();
         while let Some(byte) = iter.next() {
             self.push(byte)?;
@@ -113,8 +133,8 @@ impl<const N: usize> SmallBytes<N> {
         Ok(())
     }
 
-    /// Spills inline bytes, and puts `bytes`, with which they don't fit inline, in place of those
-    /// from `start` up to `end`.
+    /// Spills inline bytes, and replaces those from `start` up to `end` with `bytes`, with which
+    /// they don't fit inline.
     #[cold]
     #[inline(never)]
     pub(super) fn spill_with(
@@ -128,7 +148,7 @@ impl<const N: usize> SmallBytes<N> {
         requires inline { self.old.inline ≡ true }
         requires full { N < length self.old.bytes - (end - start) + length bytes.now }
 
-        // They are spilled, all of them.
+        // All bytes are spilled.
         ensures bytes { OnOk result
             (self.new.bytes ≡ replace_range self.old.bytes start end bytes.now) }
         ensures mode { OnOk result (self.new.inline ≡ false) }
@@ -147,8 +167,9 @@ impl<const N: usize> SmallBytes<N> {
         Ok(())
     }
 
-    /// A vector of the bytes, with room for `additional` more. Answers `Capacity` where the length
-    /// and `additional` together pass 2^63 - 1, and else `Memory`.
+    /// Copies the bytes to a vector with capacity for `additional` more. Returns `Capacity` if the
+    /// length and `additional` together pass 2^63 - 1, and otherwise `Memory` if there is no
+    /// memory.
     #[cold]
     #[inline(never)]
     pub(super) fn spill(&self, additional: usize) -> Result<EcoVec<u8>, EcoError>

@@ -1,4 +1,4 @@
-//! Repetition of the bytes.
+//! Repetition of bytes.
 ghost use Rattle.std.specs.Prelude.{◌≡◌, ◌+◌, ◌*◌, ◌<◌, ◌≤◌, ◌↔◌, ◌++◌, false, length, take, IsOk, IfOk, IfErr, OnOk, OnErr, IsErrOf};
 ghost use Rattle.std.specs.List.{repeat};
 ghost use Rattle.ecow_base.specs.Inline.{Grows};
@@ -10,8 +10,17 @@ use ecow_base::MAX_LEN;
 use ecow_list::EcoError;
 
 impl<const N: usize> SmallBytes<N> {
-    /// The bytes `count` times over. Each step appends as many copies as there are, in one move of
-    /// memory. Of no bytes it returns at once, however often.
+    /// The bytes repeated `count` times. The result is inline if it has at most `N` bytes, and
+    /// otherwise spilled.
+    ///
+    /// Takes time linear in the length of the result, and at most one allocation. Each step appends
+    /// as many copies as there are already. If there are no bytes, it takes constant time for any
+    /// `count`.
+    ///
+    /// # Errors
+    ///
+    /// `Capacity` if the result would have more than 2^63 - 1 bytes; `Memory` if there is no memory
+    /// for it. A result that fits inline is never refused.
     pub fn repeat(&self, count: usize) -> Result<Self, EcoError>
         ensures { MakesBytes N
             (length self.now.bytes * count) (repeat count self.now.bytes)
@@ -35,7 +44,7 @@ impl<const N: usize> SmallBytes<N> {
         Ok(target)
     }
 
-    /// Appends the first `len` bytes once more.
+    /// Appends a copy of the first `len` bytes.
     #[tactic(auto, using(crate::proofs::Limits::past_limit, crate::proofs::Limits::part_fits))]
     fn append_front(&mut self, len: usize) -> Result<(), EcoError>
         requires in_bounds { len ≤ length self.old.bytes }

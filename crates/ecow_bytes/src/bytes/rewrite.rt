@@ -1,4 +1,4 @@
-//! The bytes, lent to a closure for writing.
+//! The bytes, handed to a closure for writing.
 ghost use Rattle.std.specs.Prelude.{◌≡◌, [], false, IsOk, IfErr, OnOk, OnErr};
 ghost use Rattle.std.specs.Fn.{FnOnceTakesAtMut};
 ghost use Rattle.ecow_bytes.specs.Rewrites.{Rewrites};
@@ -10,18 +10,24 @@ use crate::form::Form;
 use ecow_list::EcoError;
 
 impl<const N: usize> SmallBytes<N> {
-    /// Lends the bytes to `f` for writing, once, and keeps as many of them from the front as it
-    /// answers, or all where it answers more. Where there are none, `f` gets an empty slice.
-    /// Spilled bytes that are shared are copied first; where that is refused, `f` isn't called.
+    /// Calls `f` once with the bytes for writing, and then keeps as many bytes from the front as
+    /// `f` returns, or all if it returns more. If there are no bytes, `f` gets an empty slice.
     ///
-    /// This project's own: the original writes through `make_mut`, of whose borrow a proved caller
-    /// learns less.
+    /// Copies nothing, but shared bytes are copied first.
+    ///
+    /// This project's own: the original writes through `make_mut`, and a proved caller learns less
+    /// about that borrow.
+    ///
+    /// # Errors
+    ///
+    /// `Memory` if there is no memory for the copy of shared bytes. The bytes are unchanged, and
+    /// `f` isn't called. Inline bytes and no bytes are never refused.
     pub fn rewrite<F: FnOnce(&mut [u8]) -> usize>(&mut self, f: F) -> Result<(), EcoError>
         requires callable { FnOnceTakesAtMut F.FnOnce f self.old.bytes }
         ensures bytes { OnOk result (Rewrites F.FnOnce f self.old.bytes self.new.bytes) }
         ensures mode { KeepsMode self.old.inline result self.new.inline }
 
-        // Refused where shared bytes must be copied, and not where there are none.
+        // Only a copy of shared bytes is refused, and no bytes need no copy.
         ensures refused { RefusesForMemory self.old result self.new }
         ensures empty { self.old.bytes ≡ [] → IsOk result }
     {

@@ -1,4 +1,4 @@
-//! The items of an iterator, in a block.
+//! Collects the items of an iterator into a block.
 ghost use Rattle.std.specs.Prelude.{◌≡◌, ◌+◌, ◌<◌, ◌≤◌, ◌↔◌, List, length, IfOk, OnErr, IsErrOf};
 ghost use Rattle.std.specs.Iterator.{Drains, IsFinite, Yields};
 
@@ -7,9 +7,9 @@ use ecow_base::{MAX_LEN, room_for};
 use ecow_block::Block;
 use std::alloc::Global;
 
-/// The items of `iter`, in order, in a block with room for no fewer than `least`. A block that has
-/// to grow gets room for `ample` at least. At the item past `most` it answers `Capacity`. After a
-/// refusal no further item is asked for.
+/// Collects the items of `iter`, in order, into a block with a capacity of at least `least`. A
+/// block that has to grow gets a capacity of at least `ample`. Answers `Capacity` at the item past
+/// `most`. After a refusal no further item is asked for.
 pub(super) fn collect<T: Drop, I: Iterator<Item = T>>(
     alloc: Global,
     least: usize,
@@ -20,7 +20,7 @@ pub(super) fn collect<T: Drop, I: Iterator<Item = T>>(
     requires bounded { (least ≤ MAX_LEN) × (ample ≤ MAX_LEN) × (most ≤ MAX_LEN) }
     requires ends { I.can_next iter.old × IsFinite (I.remaining iter.old) }
 
-    // All items, in a block with room.
+    // All items, in a block of at least that capacity.
     ensures items { IfOk result (λ block. Drains I.next_gives iter.old block.items) }
     ensures fits { IfOk result (λ block. length block.items ≤ most) }
     ensures room { IfOk result (λ block. least ≤ block.capacity) }

@@ -13,12 +13,19 @@ use crate::vec::own::{Clones, Least, enlarge};
 use ecow_base::{MAX_LEN, fresh_capacity};
 use ecow_block::Block;
 use ecow_shared::Shared;
-use std::alloc::{AllocError, Global};
+use std::alloc::Global;
 
 impl<T: Drop> EcoVec<T> {
-    /// The elements of a `Vec`, none of them cloned; without a block, and never refused, where
-    /// there are none. A refusal hands the `Vec` back, with `Capacity` past 2^63 - 1 elements, and
-    /// else with `Memory`.
+    /// Makes a vector of the elements of a `Vec`, without cloning them. It has no block if there
+    /// are none.
+    ///
+    /// Moves each element once, and takes one allocation.
+    ///
+    /// # Errors
+    ///
+    /// `Capacity` if there are more than 2^63 - 1 elements; `Memory` if there is no memory for the
+    /// block. The `Vec` comes back in the error. The call is never refused if there are no
+    /// elements.
     pub fn from_vec(alloc: Global, elements: Vec<T>) -> Result<Self, Rejected<Vec<T>>>
         ensures ok { IfOk result (λ v. v ≡ elements.items) }
         ensures value_returned { IfErr result (λ rejected. rejected.value.items ≡ elements.items) }
@@ -43,9 +50,16 @@ impl<T: Drop> EcoVec<T> {
         Err(Rejected::for_memory(elements))
     }
 
-    /// The elements of an array, none of them cloned; without a block where there are none. A
-    /// refusal hands the array back, with `Capacity` past 2^63 - 1 elements, and else with
-    /// `Memory`.
+    /// Makes a vector of the elements of an array, without cloning them. It has no block if there
+    /// are none.
+    ///
+    /// Moves each element into a `Vec` first, and then into the block: two allocations, of which
+    /// one stays.
+    ///
+    /// # Errors
+    ///
+    /// `Capacity` if there are more than 2^63 - 1 elements; `Memory` if there is no memory for the
+    /// elements. The array comes back in the error.
     pub fn from_array<const N: usize>(
         alloc: Global,
         elements: [T; N],
@@ -70,9 +84,17 @@ impl<T: Drop> EcoVec<T> {
         }
     }
 
-    /// The items of `iter`, none of them cloned; without a block, and never refused, where there
-    /// are none. Its size hint isn't asked. Answers `Capacity` at the item past 2^63 - 1, and else
-    /// `Memory`: the items so far are dropped then, and no further one is asked for.
+    /// Makes a vector of the items of `iter`, without cloning them. It has no block if there are
+    /// none.
+    ///
+    /// Takes time linear in the number of items. The block grows as items come, since the size hint
+    /// isn't asked.
+    ///
+    /// # Errors
+    ///
+    /// `Capacity` at the item past 2^63 - 1; `Memory` if there is no memory for an item. The items
+    /// so far are dropped, and no further one is asked for. The call is never refused if there are
+    /// no items.
     pub fn from_iter<I: IntoIterator<Item = T>>(alloc: Global, iter: I) -> Result<Self, EcoError>
         requires { IsFiniteIterable
             I.into_iter_gives I.IntoIter.can_next I.IntoIter.remaining iter }
@@ -98,8 +120,15 @@ impl<T: Drop> EcoVec<T> {
 impl<T: Clone> EcoVec<T> {
     ghost use Rattle.ecow_list.specs.IntoArray.{IsLength, HandsBack, IsForMemory};
 
-    /// Clones of the elements of a slice; without a block, and never refused, where there are none.
-    /// Answers `Capacity` past 2^63 - 1 elements, and else `Memory`.
+    /// Makes a vector of clones of the elements of a slice. It has no block if there are none.
+    ///
+    /// Clones each element once, and takes one allocation.
+    ///
+    /// # Errors
+    ///
+    /// `Capacity` if there are more than 2^63 - 1 elements; `Memory` if there is no memory for the
+    /// block, or the clone of an element is refused. The call is never refused if there are no
+    /// elements.
     #[inline]
     pub fn from_slice(alloc: Global, elements: &[T]) -> Result<Self, EcoError>
         ensures ok { ClonesAreEqual T.is_clone → IfOk result (λ v. v ≡ elements.now) }
@@ -122,9 +151,15 @@ impl<T: Clone> EcoVec<T> {
         })
     }
 
-    /// `n` clones of `value`; without a block, and never refused, for none. `value` is dropped in
-    /// the end. A refusal hands it back, with `Capacity` where `n` passes 2^63 - 1, and else with
-    /// `Memory`.
+    /// Makes a vector of `n` clones of `value`, and drops `value` in the end. It has no block if
+    /// `n` is 0.
+    ///
+    /// Clones `value` `n` times, and takes one allocation.
+    ///
+    /// # Errors
+    ///
+    /// `Capacity` if `n` passes 2^63 - 1; `Memory` if there is no memory for the block, or a clone
+    /// is refused. `value` comes back in the error. The call is never refused if `n` is 0.
     pub fn from_elem(alloc: Global, value: T, n: usize) -> Result<Self, Rejected<T>>
         ensures ok { ClonesAreEqual T.is_clone → IfOk result (λ v. v ≡ replicate n value) }
         ensures clones { IfOk result (All (T.is_clone value)) }
@@ -139,39 +174,28 @@ impl<T: Clone> EcoVec<T> {
         if n > MAX_LEN {
             return Err(Rejected::for_capacity(value));
         }
-        match Self::repeat(alloc, &value, n) {
-            Ok(vec) => Ok(vec),
+        match Block::from_elem(alloc, &value, n) {
+            Ok(block) => Ok(EcoVec {
+                block: Shared::new(block),
+                alloc,
+            }),
             Err(_) => Err(Rejected::for_memory(value)),
         }
     }
 
-    /// `n` clones of `value`, with room for no more; without a block for none.
-    fn repeat(alloc: Global, value: &T, n: usize) -> Result<Self, AllocError>
-        requires { n ≤ MAX_LEN }
-        ensures ok { ClonesAreEqual T.is_clone → IfOk result (λ v. v ≡ replicate n value.now) }
-        ensures clones { IfOk result (All (T.is_clone value.now)) }
-        ensures len { IfOk result (λ v. length v ≡ n) }
-        ensures nothing { n ≡ 0 → IsOk result }
-    {
-        if n == 0 {
-            return Ok(EcoVec::new(alloc));
-        }
-        let mut block = Block::with_capacity(alloc, n)?;
-        while block.len() < n {
-            block.push_within_capacity(value.clone()?);
-        }
-        Ok(EcoVec {
-            block: Shared::new(block),
-            alloc,
-        })
-    }
-
-    /// Appends the items of `iter`, one after another, each as `push` does. So a shared vector
-    /// copies its elements at the first item, and nothing changes where there is none. The size
-    /// hint isn't asked.
+    /// Appends the items of `iter`, one after another, each as `push` does.
     ///
-    /// An item that is refused is dropped; those before it stay, and no further one is asked for.
-    /// The error is `Capacity` where there are 2^63 - 1 elements then, and else `Memory`.
+    /// So a shared vector copies its elements at the first item, and nothing changes if there is
+    /// none. The size hint isn't asked.
+    ///
+    /// Takes time linear in the number of items, on average. If the vector is shared, its own
+    /// elements are cloned too.
+    ///
+    /// # Errors
+    ///
+    /// `Capacity` if the vector has 2^63 - 1 elements and there is another item; `Memory` if there
+    /// is no memory for the block, or the clone of an element is refused. The refused item is
+    /// dropped; those before it stay, and no further one is asked for.
     pub fn extend<I: IntoIterator<Item = T>>(&mut self, iter: I) -> Result<(), EcoError>
         requires { IsFiniteIterable
             I.into_iter_gives I.IntoIter.can_next I.IntoIter.remaining iter }
@@ -235,8 +259,15 @@ impl<T: Clone> EcoVec<T> {
         }
     }
 
-    /// The elements as a `Vec`. A sole vector moves them, and a shared one clones them. The one
-    /// error is `Memory`, with which the vector comes back as it was.
+    /// Turns the vector into a `Vec`. A vector that doesn't share its block moves its elements, and
+    /// a shared one clones them.
+    ///
+    /// Moves or clones each element once, and takes one allocation.
+    ///
+    /// # Errors
+    ///
+    /// `Memory` if there is no memory for the `Vec`, or the clone of an element is refused. The
+    /// vector comes back unchanged in the error.
     pub fn into_vec(self) -> Result<Vec<T>, Rejected<Self>>
         ensures ok { ClonesAreEqual T.is_clone → IfOk result (λ elements. elements.items ≡ self) }
         ensures kept { IfOk result (λ elements. IsKept T.is_clone self elements.items) }
@@ -256,9 +287,17 @@ impl<T: Clone> EcoVec<T> {
         }
     }
 
-    /// The elements by value, in order, from both ends. A sole vector moves them, and a shared one
-    /// clones them all first. The one error is `Memory`, with which the vector comes back as it
-    /// was.
+    /// Turns the vector into an iterator over its elements by value, in order, from both ends. A
+    /// vector that doesn't share its block moves its elements, and a shared one clones them all
+    /// first.
+    ///
+    /// Takes constant time and no memory, or time linear in the length and one allocation if the
+    /// vector is shared.
+    ///
+    /// # Errors
+    ///
+    /// `Memory` if there is no memory for the copy of a shared vector, or the clone of an element
+    /// is refused. The vector comes back unchanged in the error.
     pub fn into_iter(self) -> Result<IntoIter<T>, Rejected<Self>>
         ensures ok { ClonesAreEqual T.is_clone → IfOk result (λ rest. rest ≡ self) }
         ensures kept { IfOk result (IsKept T.is_clone self) }
@@ -279,9 +318,17 @@ impl<T: Clone> EcoVec<T> {
         }
     }
 
-    /// The elements as an array of `N`. A sole vector moves them, and a shared one clones them.
-    /// Answers `Length` where there is another number of them, and else `Refused` with `Memory`;
-    /// the vector comes back as it was with either.
+    /// Turns the vector into an array of `N` elements. A vector that doesn't share its block moves
+    /// its elements, and a shared one clones them.
+    ///
+    /// Moves or clones each element into a `Vec` first, which takes one allocation, and then moves
+    /// it into the array.
+    ///
+    /// # Errors
+    ///
+    /// `Length` if the vector has another length than `N`; `Refused` with `Memory` if there is no
+    /// memory for the `Vec`, or the clone of an element is refused. The vector comes back unchanged
+    /// in either error.
     pub fn into_array<const N: usize>(self) -> Result<[T; N], IntoArray<T>>
         ensures ok { ClonesAreEqual T.is_clone → IfOk result (λ elements. elements ≡ self) }
         ensures kept { IfOk result (IsKept T.is_clone self) }
@@ -299,8 +346,8 @@ impl<T: Clone> EcoVec<T> {
     }
 }
 
-/// Puts `first`, for which there is room, and the items of `iter` behind the elements of `block`,
-/// one after another. A refused item is dropped, and no further one is asked for.
+/// Appends `first`, for which `block` has capacity, and the items of `iter`, one after another. A
+/// refused item is dropped, and no further one is asked for.
 fn append<T: Drop, I: Iterator<Item = T>>(
     block: &mut Block<T>,
     first: T,

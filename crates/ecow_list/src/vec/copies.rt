@@ -1,5 +1,5 @@
-//! What takes elements of a slice as memory, all of them in one move, where the others clone each.
-//! No clone is refused then, and a result is exact for every such element.
+//! Calls that copy elements of a slice as memory, all in one move, where other calls clone each. So
+//! no clone is refused, and the result has exactly these elements.
 ghost use Rattle.std.specs.Prelude.{◌≡◌, ◌+◌, ◌-◌, ◌<◌, ◌≤◌, ◌↔◌, [], ◌++◌, length, slice_range, IsOk, IfOk, OnOk, OnErr, IsErrOf, IsSome};
 ghost use Rattle.ecow_base.specs.Range.{range_of};
 ghost use Rattle.ecow_list.specs.Ranges.{AtRange};
@@ -15,10 +15,17 @@ use std::alloc::Global;
 use std::ops::RangeBounds;
 
 impl<T: Clone + Copy> EcoVec<T> {
-    /// Copies of the elements of a slice; without a block, and never refused, where there are none.
-    /// Answers `Capacity` past 2^63 - 1 elements, and else `Memory`.
+    /// Makes a vector of copies of the elements of a slice, in one move of memory. It has no block
+    /// if there are none.
     ///
-    /// This project's own: `from_slice` of the original chooses so by the type.
+    /// Takes time linear in the number of elements, and one allocation.
+    ///
+    /// This project's own: the original's `from_slice` copies in this way if the type allows it.
+    ///
+    /// # Errors
+    ///
+    /// `Capacity` if there are more than 2^63 - 1 elements; `Memory` if there is no memory for the
+    /// block. The call is never refused if there are no elements.
     #[inline]
     pub fn from_copied(alloc: Global, elements: &[T]) -> Result<Self, EcoError>
         ensures ok { IfOk result (λ v. v ≡ elements.now) }
@@ -39,10 +46,23 @@ impl<T: Clone + Copy> EcoVec<T> {
         })
     }
 
-    /// Appends copies of `elements`: all, or none where it is refused. A vector that is shared
-    /// copies its own elements first, and one that is too full gets a larger block.
+    /// Appends copies of `elements`, in one move of memory.
     ///
-    /// This project's own: `extend_from_slice` of the original chooses so by the type.
+    /// A vector that is shared copies its own elements into a block of its own first, and one that
+    /// is too full gets a larger block. If `elements` is empty, nothing changes, and a shared
+    /// vector stays shared.
+    ///
+    /// Takes time linear in the number of new elements, on average. If the vector is shared, its
+    /// own elements are copied too.
+    ///
+    /// This project's own: the original's `extend_from_slice` copies in this way if the type allows
+    /// it.
+    ///
+    /// # Errors
+    ///
+    /// `Capacity` if the new length would pass 2^63 - 1; `Memory` if there is no memory for the
+    /// block. The vector is unchanged: no element is appended. The call is never refused if
+    /// `elements` is empty.
     #[inline]
     pub fn extend_from_copied(&mut self, elements: &[T]) -> Result<(), EcoError>
         ensures ok { OnOk result (self.new ≡ self.old ++ elements.now) }
@@ -62,12 +82,22 @@ impl<T: Clone + Copy> EcoVec<T> {
         })?)
     }
 
-    /// Appends copies of the elements of `range`, which `range_in` tests, in one move of memory:
-    /// all, or none where it is refused. A vector that is shared copies its elements into a block
-    /// of its own first, and one that is too full gets a larger block. Answers `Capacity` where the
-    /// new length passes 2^63 - 1, and else `Memory`.
+    /// Appends copies of the elements of `range`, in one move of memory. `range_in` tests whether
+    /// the vector has a range.
     ///
-    /// This project's own: the original has no such call, and the standard library's vector has.
+    /// A vector that is shared copies its elements into a block of its own first, and one that is
+    /// too full gets a larger block. If the range is empty, nothing changes, and a shared vector
+    /// stays shared.
+    ///
+    /// Takes time linear in the number of new elements, on average. If the vector is shared, all
+    /// elements are copied too.
+    ///
+    /// This project's own: the original has no such call, but std's vector has.
+    ///
+    /// # Errors
+    ///
+    /// `Capacity` if the new length would pass 2^63 - 1; `Memory` if there is no memory for the
+    /// block. The vector is unchanged. The call is never refused if the range is empty.
     pub fn extend_from_within<R: RangeBounds<usize>>(&mut self, range: R) -> Result<(), EcoError>
         requires known { R.has_bounds range }
         requires in_range { IsSome

@@ -1,5 +1,5 @@
-//! The calls that change a vector's elements in place. Each says what becomes of the elements of
-//! its own block: `edit` makes the block its own first.
+//! The calls that change a vector's elements in place. Each says what becomes of the elements of a
+//! block; `edit` makes sure first that no other vector shares that block.
 ghost use Rattle.std.specs.Prelude.{◌≡◌, ◌+◌, ◌-◌, ◌<◌, ◌≤◌, ◌↔◌, [], ◌∷◌, ◌++◌, length, take, IsOk, IfOk, OnOk, IsSome, MatchOption, Some, insert, remove, slice_get, slice_set, min};
 ghost use Rattle.std.specs.Fn.{CalledAtMut};
 ghost use Rattle.std.specs.List.Retain.{RetainsInTurn};
@@ -16,8 +16,18 @@ use ecow_base::{MAX_LEN, fresh_capacity};
 use ecow_shared::Shared;
 
 impl<T: Clone> EcoVec<T> {
-    /// Keeps the first `len` elements, or all where there are fewer. A shared vector copies only
-    /// those that stay; where all do, it stays shared, and where none does, it gives its block up.
+    /// Keeps the first `len` elements, or all if there are fewer, and drops the others.
+    ///
+    /// A shared vector copies only those that stay. It stays shared if all stay, and gives its
+    /// block up if none does.
+    ///
+    /// Takes time linear in the number of elements dropped or, if the vector is shared, copied.
+    ///
+    /// # Errors
+    ///
+    /// `Memory` if there is no memory for the copy of a shared vector, or the clone of an element
+    /// is refused. The vector is unchanged. The call is never refused if all elements stay or none
+    /// does.
     pub fn truncate(&mut self, len: usize) -> Result<(), EcoError>
         ensures ok { ClonesAreEqual T.is_clone → OnOk result (self.new ≡ take len self.old) }
         ensures kept { OnOk result (IsKept T.is_clone (take len self.old) self.new) }
@@ -44,8 +54,15 @@ impl<T: Clone> EcoVec<T> {
         Ok(())
     }
 
-    /// Takes the last element: `None` where there is none. A shared vector copies all its elements
-    /// first.
+    /// Removes the last element and returns it, or `None` if there is none. A shared vector copies
+    /// all its elements into a block of its own first.
+    ///
+    /// Takes constant time, or time linear in the length if the vector is shared.
+    ///
+    /// # Errors
+    ///
+    /// `Memory` if there is no memory for the copy of a shared vector, or the clone of an element
+    /// is refused. The vector is unchanged. The call is never refused if there is no element.
     #[inline]
     #[tactic(auto, using(crate::proofs::Popped::taken))]
     pub fn pop(&mut self) -> Result<Option<T>, EcoError>
@@ -69,8 +86,20 @@ impl<T: Clone> EcoVec<T> {
         Ok(self.edit(Clones, Least::Fresh, 0, (), |block, ()| Ok(block.pop()))?)
     }
 
-    /// Puts `value` in at `index`, before the element that stands there. A vector that is shared
-    /// copies its elements into a block of its own first, and one that is full gets a larger block.
+    /// Inserts `value` at `index`, before the element that stands there. `index` is at most the
+    /// length.
+    ///
+    /// A vector that is shared copies its elements into a block of its own first, and one that is
+    /// full gets a larger block.
+    ///
+    /// Moves each element behind `index` by one place. If the vector is shared, all elements are
+    /// cloned.
+    ///
+    /// # Errors
+    ///
+    /// `Capacity` if the vector has 2^63 - 1 elements; `Memory` if there is no memory for the
+    /// block, or the clone of an element is refused. The vector is unchanged, and `value` comes
+    /// back in the error.
     #[inline]
     pub fn insert(&mut self, index: usize, value: T) -> Result<(), Rejected<T>>
         requires { index ≤ length self.old }
@@ -85,7 +114,16 @@ impl<T: Clone> EcoVec<T> {
         })
     }
 
-    /// Takes the element at `index`. A shared vector copies all its elements first.
+    /// Removes the element at `index`, which is below the length, and returns it. A shared vector
+    /// copies all its elements into a block of its own first.
+    ///
+    /// Moves each element behind `index` by one place. If the vector is shared, all elements are
+    /// cloned.
+    ///
+    /// # Errors
+    ///
+    /// `Memory` if there is no memory for the copy of a shared vector, or the clone of an element
+    /// is refused. The vector is unchanged.
     pub fn remove(&mut self, index: usize) -> Result<T, EcoError>
         requires { index < length self.old }
         ensures change { ChangesBy T.is_clone self.old
@@ -99,11 +137,18 @@ impl<T: Clone> EcoVec<T> {
         })?)
     }
 
-    /// Puts `value` in place of the element at `index`, which is dropped. A shared vector copies
-    /// its elements first.
+    /// Replaces the element at `index`, which is below the length, with `value`, and drops the old
+    /// element. A shared vector copies its elements into a block of its own first.
     ///
-    /// This project's own: the original writes through `make_mut`, which is proved here as well,
-    /// but of whose borrow a proved caller learns less.
+    /// Takes constant time, or time linear in the length if the vector is shared.
+    ///
+    /// This project's own: the original writes through `make_mut`, which is proved here too. A
+    /// caller that is proved learns less from that borrow.
+    ///
+    /// # Errors
+    ///
+    /// `Memory` if there is no memory for the copy of a shared vector, or the clone of an element
+    /// is refused. The vector is unchanged, and `value` comes back in the error.
     pub fn set(&mut self, index: usize, value: T) -> Result<(), Rejected<T>>
         requires { index < length self.old }
         ensures change { Changes T.is_clone self.old
@@ -117,11 +162,19 @@ impl<T: Clone> EcoVec<T> {
         })
     }
 
-    /// Lends the element at `index` to `f`, once, and returns what `f` answers. A shared vector
-    /// copies its elements first. Where that copy is refused, `f` isn't called.
+    /// Calls `f` once with a mutable borrow of the element at `index`, which is below the length,
+    /// and returns what `f` returns. A shared vector copies its elements into a block of its own
+    /// first.
     ///
-    /// This project's own: the original writes through `make_mut`, of whose borrow a proved caller
-    /// learns less.
+    /// Takes the time of `f`, and time linear in the length if the vector is shared.
+    ///
+    /// This project's own: the original writes through `make_mut`. A caller that is proved learns
+    /// less from that borrow.
+    ///
+    /// # Errors
+    ///
+    /// `Memory` if there is no memory for the copy of a shared vector, or the clone of an element
+    /// is refused. The vector is unchanged, and `f` isn't called.
     pub fn update<R, F: FnOnce(&mut T) -> R>(&mut self, index: usize, f: F) -> Result<R, EcoError>
         requires in_bounds { index < length self.old }
         requires callable { TakesKeptAt F.FnOnce f T.is_clone self.old index }
@@ -130,7 +183,7 @@ impl<T: Clone> EcoVec<T> {
             result self.new }
         ensures len { OnOk result (length self.new ≡ length self.old) }
 
-        // Where `f` leaves the element as it was whenever it gives this answer, nothing has changed.
+        // If `f` leaves the element as it was whenever it gives this answer, nothing has changed.
         ensures stays { ClonesAreEqual T.is_clone
             → IfOk result (λ answer. LeavesAt F.FnOnce f answer → self.new ≡ self.old) }
         ensures refused { RefusesForMemory self.old result self.new }
@@ -140,9 +193,18 @@ impl<T: Clone> EcoVec<T> {
         })?)
     }
 
-    /// Asks for room for `additional` more elements; no capacity is promised. A shared vector
-    /// copies its elements into a block of its own, also where `additional` is 0. A vector without
-    /// a block stays without one there.
+    /// Asks for capacity for `additional` more elements; no capacity is promised.
+    ///
+    /// A shared vector copies its elements into a block of its own, also if `additional` is 0. A
+    /// vector without a block gets none if `additional` is 0.
+    ///
+    /// Takes constant time if the capacity is there already and the vector isn't shared, and else
+    /// time linear in the length.
+    ///
+    /// # Errors
+    ///
+    /// `Capacity` if the length and `additional` together pass 2^63 - 1; `Memory` if there is no
+    /// memory for the block, or the clone of an element is refused. The vector is unchanged.
     pub fn reserve(&mut self, additional: usize) -> Result<(), EcoError>
         ensures change { Changes T.is_clone self.old (λ xs. xs) result self.new }
         ensures len { OnOk result (length self.new ≡ length self.old) }
@@ -151,8 +213,20 @@ impl<T: Clone> EcoVec<T> {
         Ok(self.edit(Clones, Least::Same, additional, (), |_block, ()| Ok(()))?)
     }
 
-    /// Appends clones of `elements`: all, or none where it is refused. A vector that is shared
-    /// copies its own elements first, and one that is too full gets a larger block.
+    /// Appends clones of `elements`, in order.
+    ///
+    /// A vector that is shared copies its own elements into a block of its own first, and one that
+    /// is too full gets a larger block. If `elements` is empty, nothing changes, and a shared
+    /// vector stays shared.
+    ///
+    /// Takes time linear in the number of new elements, on average. If the vector is shared, its
+    /// own elements are cloned too.
+    ///
+    /// # Errors
+    ///
+    /// `Capacity` if the new length would pass 2^63 - 1; `Memory` if there is no memory for the
+    /// block, or the clone of an element is refused. No element is appended, but the capacity may
+    /// have grown. The call is never refused if `elements` is empty.
     #[inline]
     pub fn extend_from_slice(&mut self, elements: &[T]) -> Result<(), EcoError>
         ensures ok { ClonesAreEqual T.is_clone → OnOk result (self.new ≡ self.old ++ elements.now) }
@@ -174,9 +248,16 @@ impl<T: Clone> EcoVec<T> {
         })?)
     }
 
-    /// Gives each element to `f` for writing, once and in order, and keeps those, as `f` left
-    /// them, at which it answered `true`. A shared vector copies its elements first, or gives its
-    /// block up where it has none. Where that copy is refused, `f` is given no element.
+    /// Calls `f` once with a mutable borrow of each element, in order, and keeps those at which `f`
+    /// answers `true`, as `f` leaves them. A shared vector copies its elements into a block of its
+    /// own first, or gives its block up if it has none.
+    ///
+    /// Takes time linear in the length.
+    ///
+    /// # Errors
+    ///
+    /// `Memory` if there is no memory for the copy of a shared vector, or the clone of an element
+    /// is refused. The vector is unchanged, and `f` isn't called.
     pub fn retain<F: FnMut(&mut T) -> bool>(&mut self, f: F) -> Result<(), EcoError>
         requires { F.IsAlwaysCallable f }
         ensures change { ChangesBy T.is_clone self.old

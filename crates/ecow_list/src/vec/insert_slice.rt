@@ -1,4 +1,4 @@
-//! Putting several elements in at once, also in place of others.
+//! Inserting several elements at once, also in place of others.
 ghost use Rattle.std.specs.Prelude.{◌≡◌, ◌+◌, ◌*◌, ◌-◌, ◌^◌, ◌<◌, ◌≤◌, ◌↔◌, length, OnOk, OnErr, IsErrOf, IsSome, IsTrue};
 ghost use Rattle.std.specs.List.{copy_within, insert_slice, replace_range};
 ghost use Rattle.std.specs.Mem.{type_size};
@@ -16,11 +16,21 @@ use std::mem::size_of_val;
 use std::ops::RangeBounds;
 
 impl<T: Clone + Copy> EcoVec<T> {
-    /// Puts copies of `elements` in at `index`, before the element that stands there, in moves of
-    /// whole pieces. A shared vector copies its own elements first, also where none is put in, and
-    /// one that is too full gets a larger block.
+    /// Inserts copies of `elements` at `index`, before the element that stands there, in moves of
+    /// whole pieces. `index` is at most the length.
+    ///
+    /// A shared vector copies its own elements into a block of its own first, also if `elements` is
+    /// empty, and one that is too full gets a larger block.
+    ///
+    /// Copies the new elements once, and moves those behind `index`. If the vector is shared, all
+    /// its elements are copied too.
     ///
     /// This project's own: the original has it for bytes alone.
+    ///
+    /// # Errors
+    ///
+    /// `Capacity` if the new length would pass 2^63 - 1; `Memory` if there is no memory for the
+    /// block. The vector is unchanged.
     #[inline(never)]
     pub fn insert_slice(&mut self, index: usize, elements: &[T]) -> Result<(), EcoError>
         requires { index ≤ length self.old }
@@ -35,12 +45,21 @@ impl<T: Clone + Copy> EcoVec<T> {
         })?)
     }
 
-    /// Puts copies of `elements` in place of the elements of `range`, which `range_in` tests, in
-    /// moves of whole pieces: those before the range stay where they are. A shared vector copies
-    /// its own elements first, also where nothing changes, and one that is too full gets a larger
-    /// block. Answers `Capacity` where the new length passes 2^63 - 1, and else `Memory`.
+    /// Replaces the elements of `range` with copies of `elements`, in moves of whole pieces: the
+    /// elements before the range stay in place. `range_in` tests whether the vector has a range.
+    ///
+    /// A shared vector copies its own elements into a block of its own first, also if nothing
+    /// changes, and one that is too full gets a larger block.
+    ///
+    /// Copies the new elements, and moves those behind the range. If the vector is shared, all its
+    /// elements are copied too.
     ///
     /// This project's own, named as that of std's `String`.
+    ///
+    /// # Errors
+    ///
+    /// `Capacity` if the new length would pass 2^63 - 1; `Memory` if there is no memory for the
+    /// block. The vector is unchanged.
     #[inline(never)]
     pub fn replace_range<R: RangeBounds<usize>>(
         &mut self,
@@ -72,7 +91,7 @@ impl<T: Clone + Copy> EcoVec<T> {
     }
 }
 
-/// Puts copies of `elements`, for which there is room, in at `index`.
+/// Inserts copies of `elements`, for which the block has capacity, at `index`.
 fn insert_copies<T: Copy>(block: &mut Block<T>, index: usize, elements: &[T])
     requires in_bounds { index ≤ length block.old.items }
     requires room { length block.old.items + length elements.now ≤ block.old.capacity }
@@ -86,7 +105,8 @@ fn insert_copies<T: Copy>(block: &mut Block<T>, index: usize, elements: &[T])
     all[index..index + added].copy_from_slice(elements);
 }
 
-/// Puts copies of `elements`, for which there is room, in place of those from `start` up to `end`.
+/// Replaces the elements from `start` up to `end` with copies of `elements`, for which the block
+/// has capacity.
 fn replace_copies<T: Copy>(block: &mut Block<T>, start: usize, end: usize, elements: &[T])
     requires ordered { start ≤ end }
     requires in_bounds { end ≤ length block.old.items }
@@ -97,7 +117,7 @@ fn replace_copies<T: Copy>(block: &mut Block<T>, start: usize, end: usize, eleme
 {
     let (len, added) = (block.len(), elements.len());
     let more = added.saturating_sub(end - start);
-    // Room behind the others, which the moves below fill.
+    // Adds the places that the moves below fill.
     block.extend_copies(&elements[..more]);
     let all = block.as_mut_slice();
     copy_within(all, end, len, start + added);
@@ -115,8 +135,9 @@ fn are_bytes<T>(elements: &[T]) -> bool
     }
 }
 
-/// Copies the elements from `start` up to `end` over those from `to` on. Two reads and two writes
-/// do that for 8 to 64 bytes. A loop would write them one by one, and the next call wait for them.
+/// Copies the elements from `start` up to `end` over those from `to` on. For 8 to 64 bytes, this
+/// takes two reads and two writes. A loop would write them one by one, and the next call would wait
+/// for them.
 fn copy_within<T: Copy>(all: &mut [T], start: usize, end: usize, to: usize)
     requires in_order { start ≤ end }
     requires in_bounds { end ≤ length all.old }
@@ -134,8 +155,8 @@ fn copy_within<T: Copy>(all: &mut [T], start: usize, end: usize, to: usize)
     }
 }
 
-/// Copies the first `K` elements and the last, which together are all of them and may overlap.
-/// Fewer than `K` are copied one by one.
+/// Copies the first `K` elements and the last `K`, which together are all of them and may overlap.
+/// Fewer than `K` are left to the slice's `copy_within`.
 fn copy_pieces<T: Copy, const K: usize>(all: &mut [T], start: usize, end: usize, to: usize)
     requires small { K * type_size T.row < 2 ^ 63 }
 

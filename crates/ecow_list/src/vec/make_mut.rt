@@ -14,18 +14,23 @@ use ecow_shared::Shared;
 impl<T: Clone> EcoVec<T> {
     ghost use Rattle.ecow_list.specs.Lends.{lends_own_block, lends_slice};
 
-    /// The elements, for writing. A shared vector copies them first, or gives its block up where it
-    /// has none. Never refused where there are none.
+    /// Borrows the elements for writing. A shared vector copies them into a block of its own first,
+    /// or gives its block up if it has no element.
     ///
-    /// The one error is `Memory`, where the copy was refused; then nothing has changed. (The
-    /// contract leaves open that clones stand in the elements' places, since none can say that a
-    /// new block isn't shared.)
+    /// Takes constant time, or time linear in the length if the vector is shared.
+    ///
+    /// # Errors
+    ///
+    /// `Memory` if there is no memory for the copy of a shared vector, or the clone of an element
+    /// is refused. The vector is unchanged. The call is never refused if there is no element.
     pub fn make_mut(&mut self) -> Result<&mut [T], EcoError>
         ensures* writes_back { sem 𝓛 (lends_slice T.row T.is_clone self.entry result) }
         ensures value { ClonesAreEqual T.is_clone → IfOk result (λ slice. slice.now ≡ self.old) }
         ensures len { IfOk result (λ slice. length slice.now ≡ length self.old) }
 
-        // Refused where a shared vector must be copied, and not where there is no element.
+        // Refused where a shared vector must be copied, and not where there is no element. Clones
+        // may stand in the elements' places, since no contract can say that a new block isn't
+        // shared.
         ensures memory { IfErr result (λ error. error ≡ EcoError.Memory) }
         ensures empty { self.old ≡ [] → IsOk result }
         ensures kept { IfOk result (λ slice. IsKept T.is_clone self.old slice.now) }
@@ -37,16 +42,23 @@ impl<T: Clone> EcoVec<T> {
         }
     }
 
-    /// The block of the elements, which no other vector shares any more, for writing through its
-    /// `as_mut_slice`. A shared vector copies its elements first. `Err(None)` says that there is no
-    /// element, and takes no memory. The one other error is `Memory`, where the copy was refused;
-    /// then nothing has changed.
+    /// Borrows the block of the elements, which no other vector shares any more, for writing
+    /// through its `as_mut_slice`. A shared vector copies its elements into a block of its own
+    /// first.
     ///
-    /// Another block may be put in this one's place. The vector then has its elements and its
-    /// capacity, also where that has no room: the next call that adds elements asks for some.
+    /// The caller may put another block in the place of this one. The vector then has the elements
+    /// and the capacity of that block, even if the block is full: the next call that adds elements
+    /// asks for more.
     ///
-    /// This project's own: `make_mut` for callers that are proved, who learn of this borrow what
+    /// Takes constant time, or time linear in the length if the vector is shared.
+    ///
+    /// This project's own: `make_mut` for callers that are proved, who learn from this borrow what
     /// was written.
+    ///
+    /// # Errors
+    ///
+    /// `None` if there is no element; this takes no memory. `Memory` if there is no memory for the
+    /// copy of a shared vector, or the clone of an element is refused; the vector is unchanged.
     #[inline]
     pub fn own_mut(&mut self) -> Result<&mut Block<T>, Option<EcoError>>
         ensures* writes_back { sem 𝓛 (lends_own_block T.row T.is_clone self.entry result) }
@@ -77,15 +89,24 @@ impl<T: Clone> EcoVec<T> {
         }
     }
 
-    /// The block of the elements, which no other vector shares any more, with room for `additional`
-    /// more elements: as many as that `push_within_capacity` takes through this borrow, and none is
-    /// refused. A vector without a block gets one, also where `additional` is 0. `Capacity` says
-    /// that the length and `additional` pass 2^63 - 1; the one other error is `Memory`.
+    /// Borrows the block of the elements, which no other vector shares any more, with capacity for
+    /// `additional` more elements. Through this borrow, `push_within_capacity` takes that many, and
+    /// none is refused.
     ///
-    /// So a change of several vectors can be made whole: first borrow each with the room that it
-    /// needs, and then write, which can't be refused.
+    /// A vector without a block gets one, also if `additional` is 0.
+    ///
+    /// So a change of several vectors can be made as a whole: first borrow each with the capacity
+    /// that it needs, and then write, which can't be refused.
+    ///
+    /// Takes constant time, or time linear in the length if the vector is shared or its block has
+    /// to grow.
     ///
     /// This project's own.
+    ///
+    /// # Errors
+    ///
+    /// `Capacity` if the length and `additional` together pass 2^63 - 1; `Memory` if there is no
+    /// memory for the block, or the clone of an element is refused. The vector is unchanged.
     pub fn own_with_room(&mut self, additional: usize) -> Result<&mut Block<T>, EcoError>
         ensures* writes_back { sem 𝓛 (lends_own_block T.row T.is_clone self.entry result) }
         ensures value { ClonesAreEqual T.is_clone
@@ -93,7 +114,7 @@ impl<T: Clone> EcoVec<T> {
         ensures kept { IfOk result (λ block. IsKept T.is_clone self.old block.now.items) }
         ensures len { IfOk result (λ block. length block.now.items ≡ length self.old) }
 
-        // There is the room that was asked for, unless that passes the limit or memory was lacking.
+        // The capacity suffices for what was asked, unless that passes the limit or memory lacked.
         ensures room { IfOk result
             (λ block. length block.now.items + additional ≤ block.now.capacity) }
         ensures capacity { IsErrOf result EcoError.Capacity
@@ -107,7 +128,7 @@ impl<T: Clone> EcoVec<T> {
         self.edit(Clones, Least::Same, least, (), |_block, ()| Ok(()))?;
         match self.sole_block() {
             Some(block) => {
-                // There is room already, which no contract of a shared block says.
+                // The capacity is there already, which no contract of a shared block says.
                 if additional > block.capacity() - block.len() {
                     enlarge(block, additional)?;
                 }

@@ -1,6 +1,7 @@
-//! Edits of a vector's own block. A sole block is enlarged where it is too small, and edited. The
-//! elements of a shared one are copied into a new block; that is edited, and takes the old one's
-//! place last. So a refusal leaves all elements as they were.
+//! Edits of a block that no other vector shares. A vector that is the sole owner of its block
+//! enlarges it if it is too small, and edits it. The elements of a shared block are copied into a
+//! new block; that is edited, and takes the place of the old one last. So a refusal leaves all
+//! elements as they were.
 ghost use Rattle.std.specs.Prelude.{◌≡◌, ◌+◌, ◌<◌, ◌≤◌, ◌↔◌, length, IfOk, OnOk, IsOk, IsErrOf};
 ghost use Rattle.std.specs.List.{AllZip};
 ghost use Rattle.ecow_list.specs.Edits.{Edited, Edits, RefusesClean};
@@ -16,7 +17,7 @@ use std::alloc::{AllocError, Global};
 pub(super) trait Copying<T>: Drop {
     ghost makes: { T → T → Type 0 };
 
-    /// A block with room for `capacity` elements, and copies of `elements` in it.
+    /// Makes a block of this capacity that holds copies of `elements`.
     fn block(self, alloc: Global, elements: &[T], capacity: usize) -> Result<Block<T>, AllocError>
         requires room { length elements.now ≤ capacity }
         requires bounded { capacity ≤ MAX_LEN }
@@ -52,16 +53,17 @@ impl<T: Copy> Copying<T> for Copies {
 /// The least capacity of a copy of a shared block.
 #[derive(Clone, Copy)]
 pub(super) enum Least {
-    /// That of a new block for its elements.
+    /// The capacity of a new block for its elements.
     Fresh,
-    /// That of the shared block.
+    /// The capacity of the shared block.
     Same,
 }
 
 impl<T: Drop> EcoVec<T> {
-    /// Hands `edit` a block that no other vector shares, with the elements and room for
-    /// `additional` more, and `given`. A refusal changes nothing and hands `given` back, with
-    /// `Capacity` where the length and `additional` pass 2^63 - 1, and else with `Memory`.
+    /// Calls `edit` with `given` and a block that no other vector shares. The block holds the
+    /// elements and has capacity for `additional` more. A refusal changes nothing and hands `given`
+    /// back, with `Capacity` if the length and `additional` together pass 2^63 - 1, and else with
+    /// `Memory`.
     #[inline]
     pub(super) fn edit<C: Copying<T>, A, R, F: FnOnce(&mut Block<T>, A) -> Result<R, A>>(
         &mut self,
@@ -89,7 +91,7 @@ impl<T: Drop> EcoVec<T> {
         self.edit_anew(by, least, additional, given, edit)
     }
 
-    /// Copies a block that is shared, or makes one where there is none, and then edits it.
+    /// Copies a shared block, or makes one if there is none, and then edits it.
     #[cold]
     #[inline(never)]
     fn edit_anew<C: Copying<T>, A, R, F: FnOnce(&mut Block<T>, A) -> Result<R, A>>(
@@ -121,8 +123,8 @@ impl<T: Drop> EcoVec<T> {
         Err(Rejected::for_memory(given))
     }
 
-    /// A block with copies of `elements` and room for `capacity`; without memory, and never
-    /// refused, for none of both.
+    /// Makes a block of this capacity that holds copies of `elements`. It takes no memory and is
+    /// never refused if `capacity` is 0.
     #[inline(never)]
     pub(super) fn copy<C: Copying<T>>(
         &self,
@@ -133,7 +135,7 @@ impl<T: Drop> EcoVec<T> {
         requires room { length elements.now ≤ capacity }
         requires bounded { capacity ≤ MAX_LEN }
 
-        // The copies, and as much room as is asked for; it is free for none.
+        // The copies, and the capacity that is asked for. A capacity of 0 takes no memory.
         ensures copies { IfOk result (λ block. AllZip C.makes elements.now block.items) }
         ensures len { IfOk result (λ block. length block.items ≡ length elements.now) }
         ensures capacity { IfOk result (λ block. block.capacity ≡ capacity) }
@@ -146,8 +148,9 @@ impl<T: Drop> EcoVec<T> {
     }
 }
 
-/// Makes room for `additional` more elements, and for as many again as there are. Answers
-/// `Capacity` where the length and `additional` pass 2^63 - 1, and else `Memory`.
+/// Gives the block capacity for `additional` more elements. If it has to grow, its capacity at
+/// least doubles, up to the limit. Answers `Capacity` if the length and `additional` together pass
+/// 2^63 - 1, and else `Memory`.
 #[cold]
 #[inline(never)]
 pub(super) fn enlarge<T: Drop>(block: &mut Block<T>, additional: usize) -> Result<(), EcoError>

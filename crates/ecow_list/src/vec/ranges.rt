@@ -17,9 +17,21 @@ use ecow_block::{Block, Rest};
 use std::ops::RangeBounds;
 
 impl<T: Clone> EcoVec<T> {
-    /// Takes out the elements of `range`, which `range_in` tests; the vector is final when the call
-    /// answers. A shared vector copies its elements into a block of its own first, also where
-    /// nothing is taken out. Where it has none, it gives its block up.
+    /// Removes the elements of `range` and returns them as an iterator. They are gone from the
+    /// vector when the call returns, whether or not the iterator is used.
+    ///
+    /// `range_in` tests whether the vector has a range.
+    ///
+    /// A shared vector copies its elements into a block of its own first, also if nothing is
+    /// removed. If it has no element, it gives its block up.
+    ///
+    /// Moves the removed elements into a block for the iterator, and those behind them forward. If
+    /// the vector is shared, all elements are cloned first.
+    ///
+    /// # Errors
+    ///
+    /// `Memory` if there is no memory for the removed elements or for the copy of a shared vector,
+    /// or the clone of an element is refused. The vector is unchanged.
     pub fn drain<R: RangeBounds<usize>>(&mut self, range: R) -> Result<Drain<T>, EcoError>
         requires known { R.has_bounds range }
         requires in_range { IsSome
@@ -43,15 +55,25 @@ impl<T: Clone> EcoVec<T> {
         Ok(Drain::new(self.exchange(start, end, removed)?))
     }
 
-    /// Puts the items of `replace_with` in place of the elements of `range`, which `range_in`
-    /// tests, and gives these. The vector is final when the call answers. All items are collected
-    /// first, and the size hint isn't asked. A shared vector then copies its elements into a block
-    /// of its own, also where nothing changes. Its room is that of a new block, and twice as much
-    /// at least where the items need more. A shared empty vector that gets no item gives its block
-    /// up.
+    /// Replaces the elements of `range` with the items of `replace_with`, and returns the old ones
+    /// as an iterator. The vector has its new elements when the call returns.
     ///
-    /// Where it is refused, the items so far are dropped, and no further one is asked for. It is
-    /// `Capacity` at the item with which the new length passes 2^63 - 1, and else `Memory`.
+    /// `range_in` tests whether the vector has a range.
+    ///
+    /// All items are collected first, and the size hint isn't asked. A shared vector then copies
+    /// its elements into a block of its own, also if nothing changes. The capacity of that block is
+    /// that of a new block, or at least twice as much if the items need more. A shared empty vector
+    /// that gets no item gives its block up.
+    ///
+    /// Takes time linear in the number of items, of old elements, and of elements behind them. If
+    /// the vector is shared, all its elements are cloned too.
+    ///
+    /// # Errors
+    ///
+    /// `Capacity` at the item with which the new length would pass 2^63 - 1; `Memory` if there is
+    /// no memory for the items, the removed elements or the block, or the clone of an element is
+    /// refused. The vector is unchanged. The items so far are dropped, and no further one is asked
+    /// for.
     pub fn splice<R: RangeBounds<usize>, I: IntoIterator<Item = T>>(
         &mut self,
         range: R,
@@ -97,8 +119,8 @@ impl<T: Clone> EcoVec<T> {
         Ok(Splice::new(self.exchange(start, end, replacement)?))
     }
 
-    /// Puts `replacement` in place of the elements from `start` up to `end`, and gives these in its
-    /// memory, in which there is room for them.
+    /// Replaces the elements from `start` up to `end` with those of `replacement`, and returns the
+    /// old ones in the memory of `replacement`, whose capacity suffices for them.
     fn exchange(
         &mut self,
         start: usize,

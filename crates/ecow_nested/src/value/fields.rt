@@ -93,12 +93,12 @@ fn exchange(fields: &mut Fields<Value>, name: &str, other: &mut Value) -> Result
 impl Value {
     /// The value of the first field with this name.
     ///
+    /// With 16 fields or more, the time grows as the logarithm of their number. With fewer, and
+    /// after a removal, each field is looked at.
+    ///
     /// # Errors
     ///
     /// `Kind` if the value has no fields; `Index` if no field has the name.
-    ///
-    /// With 16 fields or more, the time grows as the logarithm of their number. With fewer, and
-    /// after a removal, each field is looked at.
     pub fn field(&self, name: &str) -> Result<&Value, Refusal>
         ensures ok { IfOk result (λ value. IfSome (fields_of self.now)
             (λ fields. look_up name.now fields ≡ Some value.now)) }
@@ -118,14 +118,14 @@ impl Value {
 
     /// Replaces the value of the first field with this name, or appends a field if there is none.
     ///
+    /// Finds the name as `field` does. Shared fields are copied first. If the old value was the
+    /// deepest, the depth of each field is read.
+    ///
     /// # Errors
     ///
     /// `Kind` if the value has no fields; `Depth` if `value` nests as deep as a value may;
     /// `Memory`. `value` is dropped. No call gives `Capacity`, since no memory holds so long a name
     /// or so many fields.
-    ///
-    /// Finds the name as `field` does. Shared fields are copied first. If the old value was the
-    /// deepest, the depth of each field is read.
     #[tactic(auto, using(crate::proofs::Parts::out_of_fields, crate::proofs::Depths::with_less))]
     pub fn set_field(&mut self, name: &str, value: Value) -> Result<(), Refusal>
         ensures change { EditsFields (with_field name.now value) self.old result self.new }
@@ -149,12 +149,12 @@ impl Value {
     /// Appends a field without looking for its name. If another field has the name already, calls
     /// by that name still mean the first.
     ///
+    /// Takes constant time on average, and with 16 fields or more as long as a search for the name.
+    /// Shared fields are copied first.
+    ///
     /// # Errors
     ///
     /// As `set_field`.
-    ///
-    /// Takes constant time on average, and with 16 fields or more as long as a search for the name.
-    /// Shared fields are copied first.
     #[tactic(auto, using(crate::proofs::Parts::out_of_fields, crate::proofs::Depths::pushed))]
     pub fn push_field(&mut self, name: &str, value: Value) -> Result<(), Refusal>
         ensures change { EditsFields (λ fields. fields ++ new_field name.now value ∷ [])
@@ -176,12 +176,12 @@ impl Value {
 
     /// Exchanges the value of the first field with this name with `other`.
     ///
+    /// Costs what `set_field` costs.
+    ///
     /// # Errors
     ///
     /// `Kind` if the value has no fields; `Index` if no field has the name; `Depth` if `other`
     /// nests as deep as a value may; `Memory`. `other` is unchanged.
-    ///
-    /// Costs what `set_field` costs.
     #[tactic(auto, using(crate::proofs::Parts::out_of_fields, crate::proofs::Depths::with_less))]
     pub fn swap_field(&mut self, name: &str, other: &mut Value) -> Result<(), Refusal>
         ensures change { EditsFields (with_field name.now other.old) self.old result self.new }
@@ -209,12 +209,12 @@ impl Value {
 
     /// Removes the first field with this name and returns its value.
     ///
+    /// Moves the fields after it. Shared fields are copied first. If the value was the deepest, the
+    /// depth of each field is read.
+    ///
     /// # Errors
     ///
     /// `Kind` if the value has no fields; `Index` if no field has the name; `Memory`.
-    ///
-    /// Moves the fields after it. Shared fields are copied first. If the value was the deepest, the
-    /// depth of each field is read.
     #[tactic(auto, using(crate::proofs::Parts::out_of_fields, crate::proofs::Depths::without_less))]
     pub fn remove_field(&mut self, name: &str) -> Result<Value, Refusal>
         ensures change { EditsFields (without_field name.now) self.old result self.new }

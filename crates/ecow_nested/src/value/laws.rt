@@ -1,3 +1,4 @@
+// rust: no file: laws alone
 //! The laws of equality, and of paths.
 ghost use Rattle.std.specs.Prelude.{◌≡◌, List, Some, true};
 ghost use Rattle.ecow_nested.specs.Paths.{value_at, IsApart, IsSet};

@@ -14,12 +14,12 @@ use std::mem::replace;
 impl Value {
     /// Appends an item.
     ///
+    /// Takes constant time on average. A shared list is copied first.
+    ///
     /// # Errors
     ///
     /// `Kind` if the value is no list; `Depth` if `item` nests as deep as a value may; `Capacity`
     /// if the list has 2^63 - 1 items; `Memory`. `item` is dropped.
-    ///
-    /// Takes constant time on average. A shared list is copied first.
     #[tactic(auto, using(crate::proofs::Parts::out_of_list, crate::proofs::Depths::pushed))]
     pub fn push(&mut self, item: Value) -> Result<(), Refusal>
         ensures change { EditsItems (λ items. items ++ item ∷ []) self.old result self.new }
@@ -43,12 +43,12 @@ impl Value {
 
     /// Removes the last item and returns it.
     ///
+    /// Takes constant time, but a shared list is copied first. If the item was the deepest, the
+    /// depth of each other item is read.
+    ///
     /// # Errors
     ///
     /// `Kind` if the value is no list; `Index` if the list is empty; `Memory`.
-    ///
-    /// Takes constant time, but a shared list is copied first. If the item was the deepest, the
-    /// depth of each other item is read.
     #[tactic(auto, using(crate::proofs::Parts::out_of_list, crate::proofs::Depths::taken_less))]
     pub fn pop(&mut self) -> Result<Value, Refusal>
         ensures change { EditsItems (λ items. take (length items - 1) items)
@@ -74,13 +74,13 @@ impl Value {
 
     /// Replaces the item at `index`.
     ///
+    /// Takes constant time, but a shared list is copied first. If the old item was the deepest, the
+    /// depth of each item is read.
+    ///
     /// # Errors
     ///
     /// `Kind` if the value is no list; `Index` if it has no such item; `Depth` if `item` nests as
     /// deep as a value may; `Memory`. `item` is dropped.
-    ///
-    /// Takes constant time, but a shared list is copied first. If the old item was the deepest, the
-    /// depth of each item is read.
     #[tactic(auto, using(crate::proofs::Parts::out_of_list, crate::proofs::Depths::set_less))]
     pub fn set(&mut self, index: usize, item: Value) -> Result<(), Refusal>
         ensures change { EditsItems (λ items. slice_set items index item)
@@ -111,11 +111,11 @@ impl Value {
     /// Exchanges the item at `index` with `other`. To change a list within this list, swap it out,
     /// change it, and swap it in again: then only shared lists are copied.
     ///
+    /// Costs what `set` costs.
+    ///
     /// # Errors
     ///
     /// As `set`; `other` is unchanged.
-    ///
-    /// Costs what `set` costs.
     #[tactic(auto, using(crate::proofs::Parts::out_of_list, crate::proofs::Depths::set_less))]
     pub fn swap(&mut self, index: usize, other: &mut Value) -> Result<(), Refusal>
         ensures change { EditsItems (λ items. slice_set items index other.old)
@@ -156,13 +156,13 @@ impl Value {
 
     /// Inserts an item before the one at `index`. At the length of the list it appends the item.
     ///
+    /// Moves the items after it. A shared list is copied first.
+    ///
     /// # Errors
     ///
     /// `Kind` if the value is no list; `Index` if `index` is past the length; `Depth` if `item`
     /// nests as deep as a value may; `Capacity` if the list has 2^63 - 1 items; `Memory`. `item` is
     /// dropped.
-    ///
-    /// Moves the items after it. A shared list is copied first.
     #[tactic(auto, using(crate::proofs::Parts::out_of_list, crate::proofs::Depths::inserted))]
     pub fn insert(&mut self, index: usize, item: Value) -> Result<(), Refusal>
         ensures change { EditsItems (λ items. insert items index item) self.old result self.new }
@@ -192,12 +192,12 @@ impl Value {
 
     /// Removes the item at `index` and returns it.
     ///
+    /// Moves the items after it. A shared list is copied first. If the item was the deepest, the
+    /// depth of each other item is read.
+    ///
     /// # Errors
     ///
     /// `Kind` if the value is no list; `Index` if it has no such item; `Memory`.
-    ///
-    /// Moves the items after it. A shared list is copied first. If the item was the deepest, the
-    /// depth of each other item is read.
     #[tactic(auto, using(crate::proofs::Parts::out_of_list, crate::proofs::Depths::removed_less))]
     pub fn remove(&mut self, index: usize) -> Result<Value, Refusal>
         ensures change { EditsItems (λ items. remove items index) self.old result self.new }
@@ -222,11 +222,11 @@ impl Value {
 
     /// Shortens the list to its first `len` items. A list of no more items stays as it is.
     ///
+    /// Reads the depth of each item that stays. A shared list copies those items.
+    ///
     /// # Errors
     ///
     /// `Kind` if the value is no list; `Memory`.
-    ///
-    /// Reads the depth of each item that stays. A shared list copies those items.
     #[tactic(auto, using(crate::proofs::Parts::out_of_list, crate::proofs::Depths::taken_less))]
     pub fn truncate(&mut self, len: usize) -> Result<(), Refusal>
         ensures change { EditsItems (λ items. take len items) self.old result self.new }

@@ -12,6 +12,7 @@ use std::alloc::Global;
 impl Value {
     /// Makes an empty list. Takes no memory.
     #[tactic(auto, using(crate::proofs::Parts::out_of_list))]
+    // rust: const
     pub fn new_list(alloc: Global) -> Value
         ensures items { items_of result ≡ Some [] }
         ensures depth { depth_of result ≡ 1 }
@@ -24,6 +25,7 @@ impl Value {
 
     /// Makes a value with empty fields. Takes no memory.
     #[tactic(auto, using(crate::proofs::Parts::out_of_fields))]
+    // rust: const
     pub fn new_fields(alloc: Global) -> Value
         ensures fields { fields_of result ≡ Some [] }
         ensures depth { depth_of result ≡ 1 }
@@ -36,11 +38,11 @@ impl Value {
 
     /// Makes a list of these items.
     ///
+    /// Reads the depth of each item, and takes no memory.
+    ///
     /// # Errors
     ///
     /// `Depth` if an item nests as deep as a value may.
-    ///
-    /// Reads the depth of each item, and takes no memory.
     #[tactic(auto, using(crate::proofs::Parts::out_of_list))]
     pub fn from_items(items: EcoVec<Value>) -> Result<Value, Refusal>
         ensures items { IfOk result (λ list. items_of list ≡ Some items) }
@@ -58,11 +60,11 @@ impl Value {
 
     /// Makes a value with these fields.
     ///
+    /// Reads the depth of each field, and takes no memory.
+    ///
     /// # Errors
     ///
     /// `Depth` if the value of a field nests as deep as a value may.
-    ///
-    /// Reads the depth of each field, and takes no memory.
     #[tactic(auto, using(crate::proofs::Parts::out_of_fields))]
     pub fn from_fields(fields: Fields<Value>) -> Result<Value, Refusal>
         ensures fields { IfOk result (λ value. fields_of value ≡ Some fields) }

@@ -52,12 +52,12 @@ impl Value {
 
     /// Exchanges the value that a path leads to with `other`, in its place.
     ///
+    /// Copies only the shared lists and fields on the path, and none below its end.
+    ///
     /// # Errors
     ///
     /// `Index` if the path leads to no value; `Depth` if the number of steps and the depth of
     /// `other` add up to more than `MAX_DEPTH`; `Memory`. `other` is unchanged.
-    ///
-    /// Copies only the shared lists and fields on the path, and none below its end.
     pub fn swap_at(&mut self, path: &[Step], other: &mut Value) -> Result<(), Refusal>
         ensures set { OnOk result (IsSet path.now other.old self.old self.new) }
         ensures other { OnOk result (value_at self.old path.now ≡ Some other.new) }
@@ -83,11 +83,11 @@ impl Value {
 
     /// Replaces the value that a path leads to.
     ///
+    /// Costs what `swap_at` costs.
+    ///
     /// # Errors
     ///
     /// As `swap_at`; `value` is dropped.
-    ///
-    /// Costs what `swap_at` costs.
     pub fn set_at(&mut self, path: &[Step], mut value: Value) -> Result<(), Refusal>
         ensures set { OnOk result (IsSet path.now value self.old self.new) }
         ensures covers { Covers self.old → Covers value → Covers self.new }

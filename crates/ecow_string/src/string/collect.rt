@@ -1,4 +1,5 @@
-//! Texts of the items of iterators. A size hint isn't asked: so a text is inline wherever it fits.
+//! Texts made from the items of iterators. The size hint of an iterator isn't used, so a text is
+//! inline whenever it fits.
 ghost use Rattle.std.specs.Prelude.{◌≡◌, ℕ, List, ◌+◌, ◌<◌, ◌↔◌, ◌++◌, length, false, IfOk, OnOk, OnErr, IsErrOf};
 ghost use Rattle.std.specs.Borrow.{Bor};
 ghost use Rattle.std.specs.Str.{chars};
@@ -41,9 +42,14 @@ impl Joined for &str {
 }
 
 impl<const N: usize> SmallText<N> {
-    /// The characters of `iter`, one after another: inline where they come to at most `N` bytes,
-    /// which is never refused, and else spilled. Answers `Capacity` at the character with which
-    /// they come to more than 2^63 - 1, and else `Memory`: no further one is asked for then.
+    /// The characters that `iter` gives, each appended as `push` does. The text is inline if it has
+    /// at most `N` bytes, and otherwise spilled.
+    ///
+    /// # Errors
+    ///
+    /// `Capacity` at the character that takes the text past 2^63 - 1 bytes; `Memory` if there is no
+    /// memory for a block. No further character is taken from `iter` then, and the text so far is
+    /// dropped. A text that fits inline is never refused.
     pub fn from_chars<I: IntoIterator<Item = char>>(
         alloc: Global,
         iter: I,
@@ -62,9 +68,14 @@ impl<const N: usize> SmallText<N> {
         Ok(target)
     }
 
-    /// The texts of `iter`, one after another: inline where they come to at most `N` bytes, which
-    /// is never refused, and else spilled. Answers `Capacity` at the text with which they come to
-    /// more than 2^63 - 1, and else `Memory`: no further one is asked for then.
+    /// The texts that `iter` gives, each appended as `push_str` does. The result is inline if it
+    /// has at most `N` bytes, and otherwise spilled.
+    ///
+    /// # Errors
+    ///
+    /// `Capacity` at the text that takes the result past 2^63 - 1 bytes; `Memory` if there is no
+    /// memory for a block. No further text is taken from `iter` then, and the result so far is
+    /// dropped. A result that fits inline is never refused.
     pub fn from_strs<'a, I: IntoIterator<Item = &'a str>>(
         alloc: Global,
         iter: I,
@@ -85,7 +96,14 @@ impl<const N: usize> SmallText<N> {
         Ok(target)
     }
 
-    /// The texts of `iter`, one after another, as `from_strs` makes them.
+    /// The texts that `iter` gives, each appended as `push_str` does. The result is inline if it
+    /// has at most `N` bytes, and otherwise spilled.
+    ///
+    /// # Errors
+    ///
+    /// `Capacity` at the text that takes the result past 2^63 - 1 bytes; `Memory` if there is no
+    /// memory for a block. No further text is taken from `iter` then, and the result so far is
+    /// dropped. A result that fits inline is never refused.
     pub fn from_eco_strings<I: IntoIterator<Item = Self>>(
         alloc: Global,
         iter: I,
@@ -106,12 +124,17 @@ impl<const N: usize> SmallText<N> {
         Ok(target)
     }
 
-    /// Appends the characters of `iter`, one after another, each as `push` does: so an inline text
-    /// spills at the one with which it passes `N` bytes, and nothing changes where there is none.
+    /// Appends the characters of `iter` one after another, each as `push` does. An inline text
+    /// spills at the character that takes it past `N` bytes.
     ///
-    /// Where a character is refused those before it stay, and no further one is asked for:
-    /// `Capacity` where the text would pass 2^63 - 1 bytes with it, and else `Memory`. None is
-    /// refused that fits inline.
+    /// Each character takes constant time on average. A shared text is copied at the first
+    /// character; if there is none, nothing changes. The size hint of `iter` isn't used.
+    ///
+    /// # Errors
+    ///
+    /// `Capacity` if the text would pass 2^63 - 1 bytes with the next character; `Memory` if there
+    /// is no memory for a larger block or a copy. The characters appended so far stay, and no
+    /// further one is taken from `iter`. No character is refused that fits inline.
     pub fn extend_chars<I: IntoIterator<Item = char>>(&mut self, iter: I) -> Result<(), EcoError>
         requires { IsFiniteIterable
             I.into_iter_gives I.IntoIter.can_next I.IntoIter.remaining iter }
@@ -128,7 +151,7 @@ impl<const N: usize> SmallText<N> {
         self.extend_from_chars(&mut iter.into_iter())
     }
 
-    /// Appends what `iter` still gives, as `extend_chars` does.
+    /// Appends the characters that `iter` still gives, as `extend_chars` does.
     fn extend_from_chars<I: Iterator<Item = char>>(&mut self, iter: &mut I) -> Result<(), EcoError>
         requires ends { I.can_next iter.old × IsFinite (I.remaining iter.old) }
         ensures chars { ExtendsBy I.next_gives Appends iter.old
@@ -149,12 +172,18 @@ impl<const N: usize> SmallText<N> {
         Ok(())
     }
 
-    /// Appends the texts of `iter`, one after another, each as `push_str` does: so an inline text
-    /// spills at the one with which it passes `N` bytes, and nothing changes where there is none.
+    /// Appends the texts of `iter` one after another, each as `push_str` does. An inline text
+    /// spills at the item that takes it past `N` bytes.
     ///
-    /// Where a text is refused those before it stay, and no further one is asked for: `Capacity`
-    /// where the text would pass 2^63 - 1 bytes with it, and else `Memory`. None is refused that
-    /// fits inline.
+    /// Takes time linear in the number of bytes appended, on average. A shared text is copied at
+    /// the first item that isn't empty; if there is none, nothing changes. The size hint of `iter`
+    /// isn't used.
+    ///
+    /// # Errors
+    ///
+    /// `Capacity` if the text would pass 2^63 - 1 bytes with the next item; `Memory` if there is no
+    /// memory for a larger block or a copy. The items appended so far stay, and no further one is
+    /// taken from `iter`. No item is refused that fits inline.
     pub fn extend_strs<'a, I: IntoIterator<Item = &'a str>>(
         &mut self,
         iter: I,
@@ -177,7 +206,7 @@ impl<const N: usize> SmallText<N> {
         self.extend_from_texts(&mut iter.into_iter())
     }
 
-    /// Appends what `iter` still gives, as `extend_strs` does.
+    /// Appends the texts that `iter` still gives, as `extend_strs` does.
     fn extend_from_texts<T: Joined, I: Iterator<Item = T>>(
         &mut self,
         iter: &mut I,
@@ -204,7 +233,7 @@ impl<const N: usize> SmallText<N> {
         Ok(())
     }
 
-    /// `push_str` of an item.
+    /// Appends one item, as `push_str` does.
     fn push_next(&mut self, text: &str) -> Result<(), EcoError>
         ensures chars { OnOk result (self.new.chars ≡ self.old.chars ++ chars text.now) }
         ensures mode { Grows N self.old.inline (utf8_len self.old.chars) (length text.now)

@@ -1,4 +1,4 @@
-//! The calls that make something else of a text, and texts of bytes.
+//! The calls that turn a text into other types, and bytes into a text.
 ghost use Rattle.std.specs.Prelude.{◌≡◌, true, false, string_bytes, IfOk, IfErr, OnErr};
 ghost use Rattle.std.specs.Str.{encode_utf8_all};
 ghost use Rattle.ecow_base.specs.Plain.{plain_bytes};
@@ -11,7 +11,11 @@ use std::str;
 use std::str::Utf8Error;
 
 impl<const N: usize> SmallText<N> {
-    /// A copy of the text in a `String`. The one error is `Memory`.
+    /// A copy of the text in a `String`. Copies all bytes into one allocation.
+    ///
+    /// # Errors
+    ///
+    /// `Memory` if there is no memory for the copy.
     pub fn to_std_string(&self) -> Result<String, EcoError>
         ensures bytes { IfOk result (λ copy. string_bytes copy ≡ encode_utf8_all self.now.chars) }
         ensures memory { IfErr result (λ error. error ≡ EcoError.Memory) }
@@ -19,9 +23,13 @@ impl<const N: usize> SmallText<N> {
         Ok(String::from_str(self.bytes.allocator(), self.as_str())?)
     }
 
-    /// The UTF-8 bytes in a vector: that of a spilled text as it is, shared or not, which is never
-    /// refused, and a new one for an inline text. The one error is `Memory`, with which the text
-    /// comes back as it was.
+    /// Turns the text into a vector of its UTF-8 bytes. A spilled text keeps its block, shared or
+    /// not, which takes constant time; an inline text is copied into a new block.
+    ///
+    /// # Errors
+    ///
+    /// `Memory` if an inline text gets no block. It comes back unchanged in the error. A spilled
+    /// text is never refused.
     pub fn into_eco_vec(self) -> Result<EcoVec<u8>, Rejected<Self>>
         ensures bytes { IfOk result (λ vec. vec ≡ encode_utf8_all self.entry.chars) }
         ensures memory { IfErr result (λ rejected. rejected.error ≡ EcoError.Memory) }
@@ -40,8 +48,14 @@ impl<const N: usize> SmallText<N> {
     }
 }
 
-/// The text that bytes spell, in their mode: exactly where they are UTF-8, which has no overlong
-/// form, no surrogate and nothing past U+10FFFF. A refusal drops the bytes. Takes no memory.
+/// The text whose UTF-8 bytes these are. It stays where the bytes are stored, inline or spilled.
+///
+/// Reads all bytes and takes no memory.
+///
+/// # Errors
+///
+/// `Utf8Error` if the bytes aren't UTF-8, which has no overlong forms, no surrogates and nothing
+/// past U+10FFFF. The bytes are dropped.
 impl<const N: usize> TryFrom<SmallBytes<N>> for SmallText<N> {
     type Error = Utf8Error;
 
@@ -53,8 +67,14 @@ impl<const N: usize> TryFrom<SmallBytes<N>> for SmallText<N> {
     }
 }
 
-/// The text that the bytes of a vector spell, spilled, however short: it keeps the vector's block,
-/// shared or not. Refused as of other bytes. Takes no memory.
+/// The text whose UTF-8 bytes these are. It keeps the block of the vector, shared or not, and is
+/// spilled, however short it is.
+///
+/// Reads all bytes and takes no memory.
+///
+/// # Errors
+///
+/// `Utf8Error` if the bytes aren't UTF-8. The vector is dropped.
 impl<const N: usize> TryFrom<EcoVec<u8>> for SmallText<N> {
     type Error = Utf8Error;
 
@@ -65,7 +85,8 @@ impl<const N: usize> TryFrom<EcoVec<u8>> for SmallText<N> {
     }
 }
 
-/// The UTF-8 bytes of a text, in its mode. Takes no memory.
+/// The UTF-8 bytes of a text. They stay where the text is stored, inline or spilled. Takes constant
+/// time and no memory.
 impl<const N: usize> From<SmallText<N>> for SmallBytes<N> {
     ghost from_gives = { λ text bytes. bytes ≡ bytes_of text };
 

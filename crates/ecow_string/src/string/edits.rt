@@ -15,8 +15,14 @@ use ecow_list::EcoError;
 use std::ops::RangeBounds;
 
 impl<const N: usize> SmallText<N> {
-    /// Takes the last character: `None` where there is none. A spilled text that is shared copies
-    /// what stays.
+    /// Removes the last character and returns it; `None` if the text is empty.
+    ///
+    /// Takes constant time, but if the text is shared, what stays is copied into a block of its
+    /// own.
+    ///
+    /// # Errors
+    ///
+    /// `Memory` if there is no memory for the copy of a shared text. The text is unchanged.
     pub fn pop(&mut self) -> Result<Option<char>, EcoError>
         ensures value { IfOk result
             (λ last. last ≡ slice_get self.old.chars (length self.old.chars - 1)) }
@@ -24,7 +30,7 @@ impl<const N: usize> SmallText<N> {
             (self.new.chars ≡ take (length self.old.chars - 1) self.old.chars) }
         ensures mode { KeepsMode self.old.inline result self.new.inline }
 
-        // Refused where a shared text must be copied, and not where there is none.
+        // Only a copy of a shared text is refused, and an empty text needs no copy.
         ensures refused { RefusesForMemory self.old result self.new }
         ensures empty { self.old.chars ≡ [] → IsOk result × (self.new ≡ self.old) }
     {
@@ -37,15 +43,22 @@ impl<const N: usize> SmallText<N> {
         Ok(Some(last))
     }
 
-    /// Keeps the first `target` bytes, or all where there are fewer: `target` is a boundary or past
-    /// the end. A spilled text that is shared copies what stays.
+    /// Keeps the first `target` bytes, or all if there are no more than that. `target` must be a
+    /// boundary or past the end.
+    ///
+    /// Copies nothing, but if the text is shared, what stays is copied into a block of its own.
+    ///
+    /// # Errors
+    ///
+    /// `Memory` if there is no memory for the copy of a shared text. The text is unchanged. If all
+    /// of it stays or nothing does, nothing is copied and the call is never refused.
     pub fn truncate(&mut self, target: usize) -> Result<(), EcoError>
         requires { target ≤ utf8_len self.old.chars → is_boundary self.old.chars target ≡ true }
         ensures chars { OnOk result
             (self.new.chars ≡ take (chars_before self.old.chars target) self.old.chars) }
         ensures mode { KeepsMode self.old.inline result self.new.inline }
 
-        // Refused where a shared text must be copied, and not where all or nothing stays.
+        // Only a copy of a shared text is refused, and there is none if all stays or nothing does.
         ensures refused { RefusesForMemory self.old result self.new }
         ensures keeps_all { utf8_len self.old.chars ≤ target → IsOk result × (self.new ≡ self.old) }
         ensures keeps_none { target ≡ 0 → IsOk result × (self.new.chars ≡ []) }
@@ -54,7 +67,15 @@ impl<const N: usize> SmallText<N> {
         Ok(())
     }
 
-    /// Puts `c` in at the boundary `index`. A spilled text that is shared is copied first.
+    /// Inserts `c` at the boundary `index`.
+    ///
+    /// Moves the bytes from `index` on. A shared text is copied first, and all bytes are moved when
+    /// the text spills or needs a larger block.
+    ///
+    /// # Errors
+    ///
+    /// `Capacity` if there would be more than 2^63 - 1 bytes; `Memory` if there is no memory for a
+    /// larger block or a copy. The text is unchanged. No character is refused that fits inline.
     pub fn insert(&mut self, index: usize, c: char) -> Result<(), EcoError>
         requires { is_boundary self.old.chars index ≡ true }
         ensures chars { OnOk result
@@ -69,8 +90,15 @@ impl<const N: usize> SmallText<N> {
         Ok(())
     }
 
-    /// Puts `text` in at the boundary `index`: all, or nothing where it is refused. A spilled text
-    /// that is shared is copied first, also where nothing is put in.
+    /// Inserts `text` at the boundary `index`.
+    ///
+    /// Copies `text` and moves the bytes from `index` on. A shared text is copied first, even if
+    /// `text` is empty, and all bytes are moved when the text spills or needs a larger block.
+    ///
+    /// # Errors
+    ///
+    /// `Capacity` if there would be more than 2^63 - 1 bytes; `Memory` if there is no memory for a
+    /// larger block or a copy. The text is unchanged. No text is refused that fits inline.
     #[inline]
     pub fn insert_str(&mut self, index: usize, text: &str) -> Result<(), EcoError>
         requires { is_boundary self.old.chars index ≡ true }
@@ -86,12 +114,19 @@ impl<const N: usize> SmallText<N> {
         Ok(())
     }
 
-    /// Puts `text` in place of the bytes of `range`, which `range_in` tests and which begins and
-    /// ends at boundaries: all, or nothing where it is refused. In a spilled text that shares
-    /// nothing, what stands before the range stays where it is. A spilled text that is shared is
-    /// copied first, also where nothing changes.
+    /// Replaces the bytes of `range` with `text`. The range must begin and end at boundaries;
+    /// `range_in` tests whether it is within the text.
+    ///
+    /// Copies `text` and moves the bytes after the range; those before it stay where they are. A
+    /// shared text is copied first, even if nothing changes, and all bytes are moved when the text
+    /// spills or needs a larger block.
     ///
     /// This project's own: the call of std's `String`, which the original lacks.
+    ///
+    /// # Errors
+    ///
+    /// `Capacity` if there would be more than 2^63 - 1 bytes; `Memory` if there is no memory for a
+    /// larger block or a copy. The text is unchanged. No text is refused that fits inline.
     #[inline]
     pub fn replace_range<R: RangeBounds<usize>>(
         &mut self,
@@ -115,7 +150,8 @@ impl<const N: usize> SmallText<N> {
             Grows N self.old.inline (utf8_len self.old.chars - (end - start)) (length text.now)
             result self.new.inline) }
 
-        // A refusal leaves the text, and is for capacity exactly past the limit.
+        // A refused call changes nothing. `Capacity` means exactly that the new length passes the
+        // limit.
         ensures unchanged { OnErr result (self.new ≡ self.old) }
         ensures capacity { AtRange (R.start_bound range, R.end_bound range)
             (utf8_len self.old.chars)
@@ -127,13 +163,19 @@ impl<const N: usize> SmallText<N> {
         Ok(())
     }
 
-    /// Takes the character at `index`, a boundary below the length. A spilled text that is shared
-    /// is copied first.
+    /// Removes the character at `index` and returns it. `index` must be a boundary below the
+    /// length.
+    ///
+    /// Moves the bytes after it. A shared text is copied first.
+    ///
+    /// # Errors
+    ///
+    /// `Memory` if there is no memory for the copy of a shared text. The text is unchanged.
     pub fn remove(&mut self, index: usize) -> Result<char, EcoError>
         requires boundary { is_boundary self.old.chars index ≡ true }
         requires in_bounds { index < utf8_len self.old.chars }
 
-        // The character comes out, and the others stay.
+        // The character is removed, and the others stay.
         ensures value { IfOk result
             (λ c. slice_get self.old.chars (chars_before self.old.chars index) ≡ Some c) }
         ensures chars { OnOk result
@@ -150,8 +192,16 @@ impl<const N: usize> SmallText<N> {
         Ok(c)
     }
 
-    /// Asks for room for `additional` more bytes; no capacity is promised. A spilled text that is
-    /// shared is copied, also where `additional` is 0.
+    /// Reserves capacity for `additional` more bytes. The capacity that results is not promised.
+    ///
+    /// An inline text spills if it doesn't fit inline with `additional` more bytes. A shared text
+    /// is copied, even if `additional` is 0, and another spilled text is moved if its block is too
+    /// small.
+    ///
+    /// # Errors
+    ///
+    /// `Capacity` if the length and `additional` together pass 2^63 - 1; `Memory` if there is no
+    /// memory for the block. The text is unchanged.
     pub fn reserve(&mut self, additional: usize) -> Result<(), EcoError>
         ensures chars { self.new.chars ≡ self.old.chars }
         ensures mode { Grows N self.old.inline (utf8_len self.old.chars) additional
@@ -163,9 +213,11 @@ impl<const N: usize> SmallText<N> {
         Ok(())
     }
 
-    /// Brings a spilled text back inline where it has at most `N` bytes, and gives its part of the
-    /// block up; those that share it stay as they are. All others are unchanged, sharing included.
-    /// Takes no memory and is never refused.
+    /// Brings a spilled text back inline if it has at most `N` bytes. Otherwise nothing changes,
+    /// and a shared block stays shared.
+    ///
+    /// Copies at most `N` bytes, takes no memory and is never refused. Other values that share the
+    /// block keep it.
     pub fn shrink_to_fit(&mut self)
         ensures chars { self.new.chars ≡ self.old.chars }
         ensures mode { self.new.inline ≡ inline_shrunk N self.old.inline (utf8_len self.old.chars) }

@@ -11,7 +11,14 @@ use ecow_base::MAX_LEN;
 use ecow_list::{EcoError, Rejected};
 
 impl<const N: usize> SmallText<N> {
-    /// Appends `c`. A spilled text that is shared is copied first.
+    /// Appends `c`.
+    ///
+    /// Takes constant time on average, and linear time in the length if the text is shared.
+    ///
+    /// # Errors
+    ///
+    /// `Capacity` if there would be more than 2^63 - 1 bytes; `Memory` if there is no memory for a
+    /// larger block or a copy. The text is unchanged. No character is refused that fits inline.
     #[inline]
     pub fn push(&mut self, c: char) -> Result<(), EcoError>
         ensures chars { OnOk result (self.new.chars ≡ self.old.chars ++ c ∷ []) }
@@ -25,8 +32,15 @@ impl<const N: usize> SmallText<N> {
         Ok(())
     }
 
-    /// Appends `text`: all, or nothing where it is refused. A spilled text that is shared is copied
-    /// first.
+    /// Appends `text`.
+    ///
+    /// Takes time linear in the number of bytes appended, on average. A shared text is copied
+    /// first; if `text` is empty, nothing changes and it stays shared.
+    ///
+    /// # Errors
+    ///
+    /// `Capacity` if there would be more than 2^63 - 1 bytes; `Memory` if there is no memory for a
+    /// larger block or a copy. The text is unchanged. No text is refused that fits inline.
     #[inline]
     pub fn push_str(&mut self, text: &str) -> Result<(), EcoError>
         ensures chars { OnOk result (self.new.chars ≡ self.old.chars ++ chars text.now) }
@@ -35,14 +49,20 @@ impl<const N: usize> SmallText<N> {
         ensures refused { RefusesPast (utf8_len self.old.chars + length text.now)
             self.old result self.new }
 
-        // For an empty text nothing changes, sharing included.
+        // An empty `text` changes nothing, and a shared text stays shared.
         ensures nothing { text.now ≡ [] → IsOk result × (self.new ≡ self.old) }
     {
         self.bytes.extend_from_slice(text.as_bytes())?;
         Ok(())
     }
 
-    /// The text with `text` behind it, as `push_str` appends it.
+    /// The text with `text` appended, as `push_str` appends it, and at its cost.
+    ///
+    /// # Errors
+    ///
+    /// `Capacity` if there would be more than 2^63 - 1 bytes; `Memory` if there is no memory for a
+    /// larger block or a copy. The text comes back unchanged in the error. No text is refused that
+    /// fits inline.
     pub fn add(self, text: &str) -> Result<Self, Rejected<Self>>
         ensures chars { IfOk result (λ sum. sum.chars ≡ self.entry.chars ++ chars text.now) }
         ensures mode { IfOk result (λ sum. sum.inline

@@ -1,5 +1,5 @@
-//! A text with another in place of a pattern. The resulting length is counted first, so that a text
-//! that would be too long asks for no memory.
+//! Texts in which a pattern is replaced with another text. The length of the result is counted
+//! first, so that no memory is asked for if it is too long.
 ghost use Rattle.std.specs.Prelude.{◌≡◌, ◌≢◌, ◌+◌, ◌<◌, ◌≤◌, ◌↔◌, [], length, IsOk, IfOk, IsErrOf};
 ghost use Rattle.std.specs.Str.{chars};
 ghost use Rattle.ecow_base.specs.Replaced.{replacen, replace_all};
@@ -18,8 +18,16 @@ use ecow_list::EcoError;
 use memchr::memmem::Finder;
 
 impl<const N: usize> SmallText<N> {
-    /// The text with `replacement` in place of the first `count` occurrences of `pattern`, from the
-    /// left and without overlap; an empty pattern occurs at each boundary, the end too.
+    /// The text in which the first `count` occurrences of `pattern` are replaced with
+    /// `replacement`. Occurrences are found from the left and don't overlap; an empty pattern
+    /// occurs at each boundary, including the end.
+    ///
+    /// The text is searched twice, and the result takes at most one allocation.
+    ///
+    /// # Errors
+    ///
+    /// `Capacity` if the result would have more than 2^63 - 1 bytes; `Memory` if there is no memory
+    /// for it. A result that fits inline is never refused.
     pub fn replacen(&self, pattern: &str, replacement: &str, count: usize) -> Result<Self, EcoError>
         ensures { MakesText N
             (utf8_len (replacen count (chars pattern.now) (chars replacement.now) self.now.chars))
@@ -32,8 +40,16 @@ impl<const N: usize> SmallText<N> {
         self.replace_pattern(pattern, replacement, count)
     }
 
-    /// The text with `replacement` in place of all occurrences of `pattern`: `replacen` without a
-    /// limit.
+    /// The text in which all occurrences of `pattern` are replaced with `replacement`. Occurrences
+    /// are found from the left and don't overlap; an empty pattern occurs at each boundary,
+    /// including the end.
+    ///
+    /// The text is searched twice, and the result takes at most one allocation.
+    ///
+    /// # Errors
+    ///
+    /// `Capacity` if the result would have more than 2^63 - 1 bytes; `Memory` if there is no memory
+    /// for it. A result that fits inline is never refused.
     pub fn replace(&self, pattern: &str, replacement: &str) -> Result<Self, EcoError>
         ensures { MakesText N
             (utf8_len (replace_all (chars pattern.now) (chars replacement.now) self.now.chars))
@@ -43,7 +59,7 @@ impl<const N: usize> SmallText<N> {
         self.replacen(pattern, replacement, self.len() + 1)
     }
 
-    /// `replacen` of a pattern that is not empty.
+    /// Does what `replacen` does for a pattern that is not empty.
     fn replace_pattern(
         &self,
         pattern: &str,
@@ -74,7 +90,7 @@ impl<const N: usize> SmallText<N> {
         Ok(target)
     }
 
-    /// `replacen` of the empty pattern.
+    /// Does what `replacen` does for the empty pattern.
     fn interleave(&self, replacement: &str, count: usize) -> Result<Self, EcoError>
         ensures { MakesText N
             (utf8_len (replacen count [] (chars replacement.now) self.now.chars))

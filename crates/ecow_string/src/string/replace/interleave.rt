@@ -1,4 +1,4 @@
-//! The occurrences of the empty pattern: before each character, and at the end.
+//! The occurrences of the empty pattern: one before each character, and one at the end.
 ghost use Rattle.std.specs.Prelude.{◌≡◌, ◌+◌, ◌≤◌, [], length, SomeIff};
 ghost use Rattle.std.specs.Str.{chars};
 ghost use Rattle.ecow_base.specs.Inline.{inline_for};
@@ -11,7 +11,7 @@ use crate::string::replace::parts::{push_both, push_part, total_with};
 use ecow_base::MAX_LEN;
 use ecow_list::EcoError;
 
-/// The first character, and the text behind it.
+/// The first character, and the text after it; `None` if the text is empty.
 fn split_char(text: &str) -> Option<(&str, &str)>
     ensures { SplitsChar text.now result }
 {
@@ -19,7 +19,8 @@ fn split_char(text: &str) -> Option<(&str, &str)>
     Some((&text[..end], &text[end..]))
 }
 
-/// How many bytes `replacen` of the empty pattern comes to, where a text may have so many.
+/// The length in bytes of what `replacen` makes with the empty pattern; `None` if a text can't be
+/// that long.
 pub(super) fn interleaving_len(text: &str, replacement: &str, count: usize) -> Option<usize>
     requires { length text.now ≤ MAX_LEN }
     ensures { let target = replacen count [] (chars replacement.now)
@@ -30,7 +31,7 @@ pub(super) fn interleaving_len(text: &str, replacement: &str, count: usize) -> O
     total_with(text.len(), added)
 }
 
-/// Appends what `replacen` of the empty pattern makes of `text` to a text that was made for `most`
+/// Appends what `replacen` makes of `text` with the empty pattern. `target` was made for `most`
 /// bytes.
 pub(super) fn push_interleaving<const N: usize>(
     target: &mut SmallText<N>,

@@ -1,4 +1,5 @@
-//! Appending to a text that was made for so many bytes, and keeps its mode while it gets no more.
+//! Appending to a text that was made for a given number of bytes. It stays inline or spilled as
+//! long as it gets no more than that.
 ghost use Rattle.std.specs.Prelude.{◌≡◌, ◌+◌, ◌≤◌, ◌++◌, length, SomeIff};
 ghost use Rattle.std.specs.Str.{chars};
 ghost use Rattle.ecow_base.specs.Inline.{inline_for};
@@ -9,7 +10,7 @@ use crate::string::SmallText;
 use ecow_base::MAX_LEN;
 use ecow_list::EcoError;
 
-/// `total` and `more` bytes together, where a text may have so many.
+/// The sum of `total` and `more`; `None` if a text can't have so many bytes.
 pub(super) fn total_with(total: usize, more: usize) -> Option<usize>
     requires { total ≤ MAX_LEN }
     ensures { SomeIff result (total + more ≤ MAX_LEN) (total + more) }
@@ -20,7 +21,7 @@ pub(super) fn total_with(total: usize, more: usize) -> Option<usize>
     Some(total + more)
 }
 
-/// Appends `text` to a text that was made for `most` bytes.
+/// Appends `text` to `target`, which was made for `most` bytes.
 #[tactic(auto, using(crate::proofs::Limits::keeps_mode, crate::proofs::Limits::none_refused))]
 pub(super) fn push_part<const N: usize>(
     target: &mut SmallText<N>,
@@ -37,7 +38,7 @@ pub(super) fn push_part<const N: usize>(
     Ok(())
 }
 
-/// Appends one text and then another.
+/// Appends one text and then another to `target`, which was made for `most` bytes.
 pub(super) fn push_both<const N: usize>(
     target: &mut SmallText<N>,
     first: &str,

@@ -1,5 +1,6 @@
-//! The occurrences of a pattern that is not empty. A finder looks for its bytes; a place at which
-//! these stand is a boundary, since the first byte of a character is no later one's.
+//! The occurrences of a pattern that is not empty. A finder searches for its bytes. Every place
+//! where it finds them is a boundary, since the first byte of a character can't be a later byte of
+//! another.
 ghost use Rattle.std.specs.Prelude.{◌≡◌, ◌≢◌, ◌+◌, ◌≤◌, [], SomeIff};
 ghost use Rattle.std.specs.Str.{chars};
 ghost use Rattle.ecow_base.specs.Inline.{inline_for};
@@ -13,7 +14,8 @@ use ecow_base::MAX_LEN;
 use ecow_list::EcoError;
 use memchr::memmem::Finder;
 
-/// The text before the first occurrence of `pattern`, and the text behind it.
+/// The text before the first occurrence of `pattern`, and the text after it; `None` if there is
+/// none.
 fn split_first<'a>(text: &'a str, finder: &Finder, pattern: &str) -> Option<(&'a str, &'a str)>
     requires finder { finder.now ≡ pattern.now }
     requires some { pattern.now ≢ [] }
@@ -23,7 +25,7 @@ fn split_first<'a>(text: &'a str, finder: &Finder, pattern: &str) -> Option<(&'a
     Some((&text[..start], &text[start + pattern.len()..]))
 }
 
-/// How many bytes `replacen` comes to, where a text may have so many.
+/// The length in bytes of what `replacen` makes; `None` if a text can't be that long.
 pub(super) fn replacement_len(
     text: &str,
     finder: &Finder,
@@ -53,7 +55,7 @@ pub(super) fn replacement_len(
     total_with(total, rest.len())
 }
 
-/// Appends what `replacen` makes of `text` to a text that was made for `most` bytes.
+/// Appends what `replacen` makes of `text`. `target` was made for `most` bytes.
 pub(super) fn push_replacement<const N: usize>(
     target: &mut SmallText<N>,
     text: &str,

@@ -1,0 +1,15 @@
+//! The tests, by subject.
+
+mod callers;
+mod calls;
+mod comparisons;
+mod names;
+mod paths;
+mod printing;
+mod program;
+mod sharing;
+mod splices;
+mod streams;
+mod trees;
+mod units;
+mod watching;
