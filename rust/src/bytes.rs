@@ -1,6 +1,6 @@
 //! Bytes that stand in the value itself up to a limit, and past it in a vector that clones share.
 
-use crate::error::{Error, Rejected, indices, indices_or_panic, out_of_bounds};
+use crate::error::{Error, Rejected, assert_index, indices, indices_or_panic, inside};
 use crate::proved::ecow_bytes as proved;
 use crate::shim::alloc::Global;
 use crate::shim::granted;
@@ -22,6 +22,7 @@ pub struct SmallBytes<const N: usize>(pub(crate) proved::SmallBytes<N>);
 pub type EcoBytes = SmallBytes<15>;
 
 /// Few bytes as the proved calls lay them out, for constants, in which those can't be called.
+#[allow(clippy::cast_possible_truncation, reason = "what is cast is less than 256")]
 pub(crate) const fn laid_out<const N: usize>(bytes: &[u8]) -> proved::SmallBytes<N> {
     let (mut cells, mut at, len) = ([0; N], 0, bytes.len());
     while at < len {
@@ -65,184 +66,264 @@ pub(crate) fn repeated<const N: usize>(
 
 impl<const N: usize> SmallBytes<N> {
     /// No bytes, inline. Asks for no memory.
+    ///
+    ///     assert!(ecow::EcoBytes::new().is_inline());
     #[inline]
+    #[must_use]
     pub const fn new() -> Self {
         SmallBytes(laid_out(&[]))
     }
 
-    /// A copy of at most `N` bytes, inline. It panics where there are more.
+    /// A copy of at most `N` bytes, inline. Asks for no memory.
+    /// # Panics
+    /// If there are more than `N` bytes.
+    ///
+    ///     const BYTES: ecow::EcoBytes = ecow::EcoBytes::inline(b"ab");
     #[track_caller]
+    #[must_use]
     pub const fn inline(bytes: &[u8]) -> Self {
         assert!(bytes.len() <= N, "exceeded inline capacity");
         SmallBytes(laid_out(bytes))
     }
 
-    /// A copy of the bytes, inline: `None` where there are more than `N`.
+    /// As [`inline`](Self::inline), or `None` if there are more than `N` bytes.
+    ///
+    ///     assert!(ecow::EcoBytes::try_inline(&[0; 16]).is_none());
+    #[must_use]
     pub const fn try_inline(bytes: &[u8]) -> Option<Self> {
         if bytes.len() > N { None } else { Some(SmallBytes(laid_out(bytes))) }
     }
 
-    /// A copy of the bytes: `Error::Memory` where there is none.
+    /// A copy of the bytes.
+    /// # Errors
+    /// `Error::Memory`.
+    ///
+    ///     assert_eq!(ecow::EcoBytes::try_from_slice(b"ab"), Ok(b"ab".into()));
     #[inline]
     pub fn try_from_slice(bytes: &[u8]) -> Result<Self, Error> {
         Ok(SmallBytes(proved::SmallBytes::from_slice(Global, bytes)?))
     }
 
-    /// The bytes of a `Vec`. A refusal hands it back, with `Error::Memory`.
+    /// A copy of the bytes of a `Vec`.
+    /// # Errors
+    /// `Error::Memory`; `bytes` comes back.
+    ///
+    ///     assert_eq!(ecow::EcoBytes::try_from_vec(vec![1, 2]), Ok([1, 2].into()));
     pub fn try_from_vec(bytes: Vec<u8>) -> Result<Self, Rejected<Vec<u8>>> {
         Ok(SmallBytes(proved::SmallBytes::from_vec(Global, bytes)?))
     }
 
     /// The bytes, in order.
+    ///
+    ///     assert_eq!(ecow::EcoBytes::from(b"ab").as_slice(), b"ab");
     #[inline]
+    #[must_use]
     pub fn as_slice(&self) -> &[u8] {
         self.0.as_slice()
     }
 
-    /// The bytes, for writing. Spilled ones that are shared are copied first.
+    /// The bytes, to write to. Shared bytes that are spilled are copied first.
+    ///
+    ///     let mut bytes = ecow::EcoBytes::from(b"ab"); bytes.make_mut()[0] = b'x';
+    ///     assert_eq!(bytes, b"xb");
     #[inline]
     pub fn make_mut(&mut self) -> &mut [u8] {
         granted(self.try_make_mut())
     }
 
-    /// As `make_mut`: `Error::Memory` where the copy is refused.
+    /// As [`make_mut`](Self::make_mut).
+    /// # Errors
+    /// `Error::Memory` if shared bytes can't be copied.
     #[inline]
     pub fn try_make_mut(&mut self) -> Result<&mut [u8], Error> {
         Ok(self.0.make_mut()?)
     }
 
-    /// Appends a byte.
+    /// Appends a byte. Constant time on average; shared bytes are copied first.
+    ///
+    ///     let mut bytes = ecow::EcoBytes::from(b"ab"); bytes.push(b'c');
+    ///     assert_eq!(bytes, b"abc");
     #[inline]
     pub fn push(&mut self, byte: u8) {
-        granted(self.0.push(byte))
+        granted(self.0.push(byte));
     }
 
-    /// As `push`: `Error::Capacity`, `Error::Memory`.
+    /// As [`push`](Self::push).
+    /// # Errors
+    /// `Error::Capacity`, `Error::Memory`.
     #[inline]
     pub fn try_push(&mut self, byte: u8) -> Result<(), Error> {
         Ok(self.0.push(byte)?)
     }
 
-    /// Takes the last byte: `None` where there is none.
+    /// Takes the last byte, if there is one. Shared bytes are copied first.
+    ///
+    ///     assert_eq!(ecow::EcoBytes::from(b"ab").pop(), Some(b'b'));
     #[inline]
     pub fn pop(&mut self) -> Option<u8> {
         granted(self.try_pop())
     }
 
-    /// As `pop`: `Error::Memory` where shared bytes can't be copied.
+    /// As [`pop`](Self::pop).
+    /// # Errors
+    /// `Error::Memory` if shared bytes can't be copied.
     #[inline]
     pub fn try_pop(&mut self) -> Result<Option<u8>, Error> {
         Ok(self.0.pop()?)
     }
 
-    /// Appends the bytes of a slice.
+    /// Appends the bytes of a slice. Shared bytes are copied first.
+    ///
+    ///     let mut bytes = ecow::EcoBytes::from(b"ab"); bytes.extend_from_slice(b"cd");
+    ///     assert_eq!(bytes, b"abcd");
     #[inline]
     pub fn extend_from_slice(&mut self, bytes: &[u8]) {
-        granted(self.0.extend_from_slice(bytes))
+        granted(self.0.extend_from_slice(bytes));
     }
 
-    /// As `extend_from_slice`: all, or none with `Error::Capacity` or `Error::Memory`.
+    /// As [`extend_from_slice`](Self::extend_from_slice).
+    /// # Errors
+    /// `Error::Capacity`, `Error::Memory`. Nothing is appended then.
     #[inline]
     pub fn try_extend_from_slice(&mut self, bytes: &[u8]) -> Result<(), Error> {
         Ok(self.0.extend_from_slice(bytes)?)
     }
 
-    /// Puts a byte in at `index`. It panics where that passes the length.
+    /// Inserts a byte before the one at `index`, and moves those behind it. Shared bytes are copied first.
+    /// # Panics
+    /// If `index` is greater than the length.
+    ///
+    ///     let mut bytes = ecow::EcoBytes::from(b"ab"); bytes.insert(1, b'x');
+    ///     assert_eq!(bytes, b"axb");
     #[track_caller]
     pub fn insert(&mut self, index: usize, byte: u8) {
-        self.insert_slice(index, &[byte])
+        self.insert_slice(index, &[byte]);
     }
 
-    /// As `insert`: `Error::Index`, `Error::Capacity`, `Error::Memory`.
+    /// As [`insert`](Self::insert).
+    /// # Errors
+    /// `Error::Index`, `Error::Capacity`, `Error::Memory`.
     pub fn try_insert(&mut self, index: usize, byte: u8) -> Result<(), Error> {
-        if index > self.len() {
-            return Err(Error::Index);
-        }
+        inside(index <= self.len())?;
         Ok(self.0.insert(index, byte)?)
     }
 
-    /// Puts bytes in at `index`. It panics where that passes the length.
+    /// Inserts bytes before the one at `index`, and moves those behind it. Shared bytes are copied first.
+    /// # Panics
+    /// If `index` is greater than the length.
+    ///
+    ///     let mut bytes = ecow::EcoBytes::from(b"ab"); bytes.insert_slice(1, b"xy");
+    ///     assert_eq!(bytes, b"axyb");
     #[track_caller]
     pub fn insert_slice(&mut self, index: usize, bytes: &[u8]) {
-        if index > self.len() {
-            out_of_bounds(index, self.len());
-        }
-        granted(self.0.insert_slice(index, bytes))
+        assert_index(index <= self.len(), index, self.len());
+        granted(self.0.insert_slice(index, bytes));
     }
 
-    /// As `insert_slice`: `Error::Index`, `Error::Capacity`, `Error::Memory`.
+    /// As [`insert_slice`](Self::insert_slice).
+    /// # Errors
+    /// `Error::Index`, `Error::Capacity`, `Error::Memory`.
     pub fn try_insert_slice(&mut self, index: usize, bytes: &[u8]) -> Result<(), Error> {
-        if index > self.len() {
-            return Err(Error::Index);
-        }
+        inside(index <= self.len())?;
         Ok(self.0.insert_slice(index, bytes)?)
     }
 
-    /// Takes the byte at `index`. It panics where there is none.
+    /// Takes the byte at `index`, and moves those behind it. Shared bytes are copied first.
+    /// # Panics
+    /// If there is no byte at `index`.
+    ///
+    ///     assert_eq!(ecow::EcoBytes::from(b"ab").remove(0), b'a');
     #[track_caller]
     pub fn remove(&mut self, index: usize) -> u8 {
-        if index >= self.len() {
-            out_of_bounds(index, self.len());
-        }
+        assert_index(index < self.len(), index, self.len());
         granted(self.0.remove(index))
     }
 
-    /// As `remove`: `Error::Index`, or `Error::Memory` where shared bytes can't be copied.
+    /// As [`remove`](Self::remove).
+    /// # Errors
+    /// `Error::Index`; `Error::Memory` if shared bytes can't be copied.
     pub fn try_remove(&mut self, index: usize) -> Result<u8, Error> {
-        if index >= self.len() {
-            return Err(Error::Index);
-        }
+        inside(index < self.len())?;
         Ok(self.0.remove(index)?)
     }
 
-    /// Puts a byte in place of the one at `index`. It panics where there is none. This crate's own.
+    /// Replaces the byte at `index`. Shared bytes are copied first. Not in the original.
+    /// # Panics
+    /// If there is no byte at `index`.
+    ///
+    ///     let mut bytes = ecow::EcoBytes::from(b"ab"); bytes.set(0, b'x');
+    ///     assert_eq!(bytes, b"xb");
     #[track_caller]
     pub fn set(&mut self, index: usize, byte: u8) {
-        granted(self.try_set(index, byte))
+        assert_index(index < self.len(), index, self.len());
+        granted(self.0.set(index, byte));
     }
 
-    /// As `set`: `Error::Index`, or `Error::Memory` where shared bytes can't be copied.
+    /// As [`set`](Self::set).
+    /// # Errors
+    /// `Error::Index`; `Error::Memory` if shared bytes can't be copied.
     pub fn try_set(&mut self, index: usize, byte: u8) -> Result<(), Error> {
-        if index >= self.len() {
-            return Err(Error::Index);
-        }
+        inside(index < self.len())?;
         Ok(self.0.set(index, byte)?)
     }
 
-    /// Puts bytes in place of those of a range. It panics where the range isn't in there. This crate's own.
+    /// Replaces the bytes of a range. Shared bytes are copied first. Not in the original.
+    /// # Panics
+    /// If `range` isn't in the bytes.
+    ///
+    ///     let mut bytes = ecow::EcoBytes::from(b"abc"); bytes.replace_range(..2, b"x");
+    ///     assert_eq!(bytes, b"xc");
     #[track_caller]
     pub fn replace_range(&mut self, range: impl RangeBounds<usize>, bytes: &[u8]) {
         let range = indices_or_panic(range, self.len());
-        granted(self.0.replace_range(range, bytes))
+        granted(self.0.replace_range(range, bytes));
     }
 
-    /// As `replace_range`: `Error::Index` of another range, `Error::Capacity`, `Error::Memory`.
+    /// As [`replace_range`](Self::replace_range).
+    /// # Errors
+    /// `Error::Index` for a range that isn't in the bytes; `Error::Capacity`, `Error::Memory`.
     pub fn try_replace_range(&mut self, range: impl RangeBounds<usize>, bytes: &[u8]) -> Result<(), Error> {
         let range = indices(range, self.len())?;
         Ok(self.0.replace_range(range, bytes)?)
     }
 
-    /// Keeps the first `target` bytes, or all where there are fewer.
+    /// Keeps the first `target` bytes, or all if there are fewer. Of shared bytes those that stay are copied.
+    ///
+    ///     let mut bytes = ecow::EcoBytes::from(b"abc"); bytes.truncate(1);
+    ///     assert_eq!(bytes, b"a");
     pub fn truncate(&mut self, target: usize) {
-        granted(self.try_truncate(target))
+        granted(self.try_truncate(target));
     }
 
-    /// As `truncate`: `Error::Memory` where what stays of shared bytes can't be copied.
+    /// As [`truncate`](Self::truncate).
+    /// # Errors
+    /// `Error::Memory` if shared bytes can't be copied.
     pub fn try_truncate(&mut self, target: usize) -> Result<(), Error> {
         Ok(self.0.truncate(target)?)
     }
 
-    /// The bytes `n` times over. It panics where these are more than memory can hold.
+    /// The bytes `n` times over.
+    /// # Panics
+    /// If these are more than memory can hold.
+    ///
+    ///     assert_eq!(ecow::EcoBytes::from(b"ab").repeat(2), b"abab");
+    #[must_use]
     pub fn repeat(&self, n: usize) -> Self {
         granted(self.try_repeat(n))
     }
 
-    /// As `repeat`: `Error::Capacity` past 2^63 - 1, `Error::Memory` where there is none.
+    /// As [`repeat`](Self::repeat).
+    /// # Errors
+    /// `Error::Capacity` past 2^63 - 1 bytes; `Error::Memory`.
     pub fn try_repeat(&self, n: usize) -> Result<Self, Error> {
         Ok(SmallBytes(repeated(&self.0, n)?))
     }
 
-    /// The bytes in a vector: that of spilled bytes as it is. A refusal hands inline ones back, with `Error::Memory`.
+    /// The bytes in a vector. Spilled bytes hand on their block, and inline ones are copied.
+    /// # Errors
+    /// `Error::Memory`; the bytes come back.
+    ///
+    ///     assert_eq!(ecow::EcoBytes::from(b"ab").try_into_eco_vec(), Ok(ecow::eco_vec![b'a', b'b']));
     pub fn try_into_eco_vec(self) -> Result<EcoVec<u8>, Rejected<Self>> {
         self.0.into_eco_vec().map(EcoVec).map_err(|rejected| Rejected::of(rejected, SmallBytes))
     }
@@ -285,13 +366,13 @@ impl<const N: usize> FromIterator<u8> for SmallBytes<N> {
 
 impl<const N: usize> Extend<u8> for SmallBytes<N> {
     fn extend<I: IntoIterator<Item = u8>>(&mut self, iter: I) {
-        granted(self.0.extend(iter))
+        granted(self.0.extend(iter));
     }
 }
 
 impl<'a, const N: usize> Extend<&'a u8> for SmallBytes<N> {
     fn extend<I: IntoIterator<Item = &'a u8>>(&mut self, iter: I) {
-        self.extend(iter.into_iter().copied())
+        self.extend(iter.into_iter().copied());
     }
 }
 

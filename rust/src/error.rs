@@ -112,16 +112,29 @@ pub(crate) fn indices(range: impl RangeBounds<usize>, len: usize) -> Result<Rang
 #[track_caller]
 pub(crate) fn indices_or_panic(range: impl RangeBounds<usize>, len: usize) -> Range<usize> {
     let (start, end) = (range.start_bound().cloned(), range.end_bound().cloned());
-    match indices((start, end), len) {
-        Ok(indices) => indices,
-        Err(_) => panic!("range ({start:?}, {end:?}) is out of bounds of length {len}"),
+    let Ok(indices) = indices((start, end), len) else {
+        panic!("range ({start:?}, {end:?}) is out of bounds of length {len}");
+    };
+    indices
+}
+
+/// Panics unless an index is inside, in the words of the original.
+#[inline]
+#[track_caller]
+pub(crate) fn assert_index(is_inside: bool, index: usize, len: usize) {
+    if !is_inside {
+        out_of_bounds(index, len);
     }
 }
 
-/// Panics with an index that passes the end, in the words of the original.
 #[cold]
 #[inline(never)]
 #[track_caller]
-pub(crate) fn out_of_bounds(index: usize, len: usize) -> ! {
-    panic!("index is out bounds (index: {index}, len: {len})")
+fn out_of_bounds(index: usize, len: usize) -> ! {
+    panic!("index is out bounds (index: {index}, len: {len})");
+}
+
+/// `Error::Index` unless an index is inside.
+pub(crate) fn inside(is_inside: bool) -> Result<(), Error> {
+    if is_inside { Ok(()) } else { Err(Error::Index) }
 }

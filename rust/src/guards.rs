@@ -6,7 +6,10 @@ use crate::proved::ecow_bytes::SmallBytes;
 use crate::proved::ecow_list::EcoVec;
 use crate::proved::ecow_shared::Shared;
 use crate::shim::alloc::Global;
+use crate::vec::{Drain, Splice};
+use core::cell::Cell;
 use core::mem::{needs_drop, offset_of};
+use core::panic::UnwindSafe;
 
 // Lengths are numbers of 64 bits, and a count, an atomic one and a length lie in memory alike.
 const _: () = assert!(size_of::<usize>() == 8 && align_of::<usize>() == align_of::<u64>());
@@ -47,6 +50,21 @@ fn _covariant<'a>(vec: crate::EcoVec<&'static str>) -> crate::EcoVec<&'a str> {
     vec
 }
 
+/// A drain serves where shorter lived elements are asked for, and for a shorter time, as the original's.
+fn _covariant_drain<'a, 'b>(drain: Drain<'static, &'static str>) -> Drain<'b, &'a str> {
+    drain
+}
+
+/// What is taken out has one owner, so it may be sent where its elements may be, as the original's.
+const _: () = {
+    const fn sent<T: Send>() {}
+    const fn shared<T: Sync + UnwindSafe>() {}
+    sent::<Drain<'static, Cell<u8>>>();
+    sent::<Splice<'static, core::array::IntoIter<Cell<u8>, 1>>>();
+    shared::<Drain<'static, u8>>();
+    shared::<Splice<'static, core::array::IntoIter<u8, 1>>>();
+};
+
 /// What the compiler has to refuse. Elements outlive their vector, and so its drop:
 ///
 /// ```compile_fail,E0597
@@ -65,6 +83,16 @@ fn _covariant<'a>(vec: crate::EcoVec<&'static str>) -> crate::EcoVec<&'a str> {
 /// ```compile_fail,E0277
 /// fn sent<T: Send>(_: T) {}
 /// sent(ecow::EcoVec::<std::cell::Cell<u8>>::new());
+/// ```
+///
+/// ```compile_fail,E0277
+/// fn sent<T: Send>() {}
+/// sent::<ecow::vec::Drain<std::rc::Rc<u8>>>();
+/// ```
+///
+/// ```compile_fail,E0277
+/// fn shared<T: Sync>() {}
+/// shared::<ecow::vec::Drain<std::cell::Cell<u8>>>();
 /// ```
 ///
 /// What a drain has taken out borrows the vector, as the original's:

@@ -30,9 +30,19 @@ extern crate alloc;
 
 mod error;
 mod guards;
-#[allow(dead_code, missing_docs, unused_imports, unused_variables, clippy::all)]
+#[allow(
+    dead_code,
+    missing_docs,
+    unused_imports,
+    unused_variables,
+    clippy::all,
+    clippy::pedantic,
+    reason = "it is written from another language's source, of which only a part is used here"
+)]
 #[rustfmt::skip]
 mod proved;
+#[cfg(feature = "serde")]
+mod serde;
 mod shim;
 #[macro_use]
 mod traits;

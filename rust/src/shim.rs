@@ -1,6 +1,9 @@
 //! What the proved source names that Rust hasn't, or has in another form: the part of Rattle's standard library and of
 //! its libraries that it uses, over `core` and `alloc`. Each item keeps what the proofs take from its namesake.
 
+#![allow(clippy::inline_always, reason = "each does less than a call of it costs")]
+#![allow(clippy::unnecessary_wraps, clippy::needless_pass_by_value, reason = "the signatures are those of Rattle")]
+
 use crate::error::Error;
 
 /// Moves the fields out of a value whose type has a drop of its own, which isn't run.
@@ -50,7 +53,7 @@ pub(crate) fn granted<V, E: Into<Error>>(answer: Result<V, E>) -> V {
 #[track_caller]
 fn refused(error: Error) -> ! {
     match error {
-        Error::Memory => ::alloc::alloc::handle_alloc_error(core::alloc::Layout::new::<usize>()),
+        Error::Memory => ::alloc::alloc::handle_alloc_error(alloc::refused_last()),
         error => panic!("{error}"),
     }
 }
@@ -81,6 +84,24 @@ pub(crate) mod clone {
 pub(crate) mod alloc {
     use alloc::alloc::{alloc, dealloc, realloc};
     use core::alloc::Layout;
+    use core::sync::atomic::{AtomicUsize, Ordering::Relaxed};
+
+    /// The size and the alignment that were refused last, in any thread, for the message of the abort.
+    static REFUSED: [AtomicUsize; 2] = [AtomicUsize::new(0), AtomicUsize::new(1)];
+
+    /// Notes what is refused.
+    #[cold]
+    pub fn refuse(size: usize, align: usize) -> AllocError {
+        REFUSED[0].store(size, Relaxed);
+        REFUSED[1].store(align, Relaxed);
+        AllocError
+    }
+
+    /// What was refused last.
+    pub fn refused_last() -> Layout {
+        let [size, align] = REFUSED.each_ref().map(|word| word.load(Relaxed));
+        Layout::from_size_align(size, align).unwrap_or(Layout::new::<usize>())
+    }
 
     /// There is no memory.
     #[derive(Clone, Copy, Debug, PartialEq, Eq)]
@@ -120,7 +141,7 @@ pub(crate) mod alloc {
             let layout = Layout::from_size_align(size, align).map_err(|_| AllocError)?;
             // SAFETY: the size isn't 0.
             let block = unsafe { alloc(layout) };
-            if block.is_null() { Err(AllocError) } else { Ok(block) }
+            if block.is_null() { Err(refuse(size, align)) } else { Ok(block) }
         }
 
         #[inline]
@@ -137,7 +158,7 @@ pub(crate) mod alloc {
                 let layout = Layout::from_size_align_unchecked(old * size_of::<T>(), align_of::<T>());
                 realloc(ptr.cast(), layout, bytes)
             };
-            if block.is_null() { Err(AllocError) } else { Ok(block.cast()) }
+            if block.is_null() { Err(refuse(bytes, align_of::<T>())) } else { Ok(block.cast()) }
         }
     }
 
@@ -236,7 +257,7 @@ pub(crate) mod room {
     #[inline]
     pub fn may_hold<T>(count: usize) -> bool {
         match size_of::<T>() {
-            0 => count <= isize::MAX as usize,
+            0 => isize::try_from(count).is_ok(),
             size => count <= isize::MAX as usize / size,
         }
     }
@@ -307,13 +328,14 @@ pub(crate) mod memmem {
 
 /// A vector of `alloc`, by calls that may be refused.
 pub(crate) mod vec {
-    use super::alloc::{AllocError, AllocFailed, Global};
+    use super::alloc::{AllocError, AllocFailed, Global, refuse};
     use super::clone::TryClone;
     use alloc::vec::Vec;
 
     pub fn with_capacity<T>(_: Global, capacity: usize) -> Result<Vec<T>, AllocError> {
         let mut vec = Vec::new();
-        vec.try_reserve_exact(capacity).map_err(|_| AllocError)?;
+        vec.try_reserve_exact(capacity)
+            .map_err(|_| refuse(capacity.saturating_mul(size_of::<T>()), align_of::<T>()))?;
         Ok(vec)
     }
 
@@ -336,12 +358,12 @@ pub(crate) mod vec {
 
 /// A text of `alloc`, likewise.
 pub(crate) mod string {
-    use super::alloc::{AllocError, Global};
+    use super::alloc::{AllocError, Global, refuse};
     use alloc::string::String;
 
     pub fn from_str(_: Global, text: &str) -> Result<String, AllocError> {
         let mut string = String::new();
-        string.try_reserve_exact(text.len()).map_err(|_| AllocError)?;
+        string.try_reserve_exact(text.len()).map_err(|_| refuse(text.len(), 1))?;
         string.push_str(text);
         Ok(string)
     }
@@ -376,5 +398,22 @@ mod tests {
         let most = isize::MAX as usize;
         assert!(super::room::may_hold::<()>(most) && !super::room::may_hold::<()>(most + 1));
         assert!(super::room::may_hold::<u64>(most / 8) && !super::room::may_hold::<u64>(most / 8 + 1));
+    }
+
+    /// A weaker order would show on no x86, so the text is compared: each step on a count has the order that its caller
+    /// names, and each caller names `SeqCst`, as the proofs ask.
+    #[test]
+    fn steps_on_a_count_have_the_order_that_the_proofs_ask() {
+        let (shim, proved) = (include_str!("shim.rs"), include_str!("proved/ecow_shared/shared.rs"));
+        let raw = &shim[shim.find("pub mod raw {").unwrap()..shim.find("pub(crate) mod slots {").unwrap()];
+        let calls = |text: &'static str, behind| -> Vec<&str> {
+            let calls = text.split(behind).skip(1).filter(|call| call.starts_with(|c: char| c.is_ascii_lowercase()));
+            calls.filter_map(|call| call.split_inclusive(')').next()).collect()
+        };
+        let steps =
+            ["cast_mut()", "load(order)", "fetch_sub(count, order)", "fetch_add(1, order)", "fetch_sub(1, order)"];
+        assert_eq!(calls(raw, "."), steps);
+        let asked = ["load(word, SeqCst)", "saturating_increment(word, SeqCst)", "fetch_sub(word, 1, SeqCst)"];
+        assert_eq!(calls(proved, "raw::"), asked);
     }
 }

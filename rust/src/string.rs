@@ -1,7 +1,7 @@
 //! Texts that stand in the value itself up to a limit, and past it in a vector that clones share.
 
 use crate::bytes::SmallBytes;
-use crate::error::{Error, Rejected, indices, indices_or_panic};
+use crate::error::{Error, Rejected, assert_index, indices, indices_or_panic, inside};
 use crate::proved::ecow_string as proved;
 use crate::shim::alloc::Global;
 use crate::shim::{granted, text_mut};
@@ -29,140 +29,214 @@ macro_rules! eco_format {
 /// so until `shrink_to_fit`.
 pub struct SmallText<const N: usize>(pub(crate) proved::SmallText<N>);
 
-/// Text of which at most 15 bytes stand in the value itself.
+/// Text of which at most 15 bytes are in the value itself.
+///
+/// Its calls are those of [`SmallText`] and of `str`: [`push`](SmallText::push), [`push_str`](SmallText::push_str),
+/// [`pop`](SmallText::pop), [`insert`](SmallText::insert), [`insert_str`](SmallText::insert_str),
+/// [`remove`](SmallText::remove), [`replace`](SmallText::replace), [`replacen`](SmallText::replacen),
+/// [`replace_range`](SmallText::replace_range), [`truncate`](SmallText::truncate), [`clear`](SmallText::clear),
+/// [`repeat`](SmallText::repeat), [`make_mut`](SmallText::make_mut), [`reserve`](SmallText::reserve) and more.
 pub type EcoString = SmallText<15>;
 
 impl<const N: usize> SmallText<N> {
-    /// No text, inline. Asks for no memory.
+    /// An empty text, inline. Asks for no memory.
+    ///
+    ///     assert!(ecow::EcoString::new().is_inline());
     #[inline]
+    #[must_use]
     pub const fn new() -> Self {
         Self::inline("")
     }
 
-    /// A copy of a text of at most `N` bytes, inline. It panics where there are more.
+    /// A copy of a text of at most `N` bytes, inline. Asks for no memory.
+    /// # Panics
+    /// If there are more than `N` bytes.
+    ///
+    ///     const TEXT: ecow::EcoString = ecow::EcoString::inline("ab");
     #[inline]
     #[track_caller]
+    #[must_use]
     pub const fn inline(text: &str) -> Self {
         assert!(text.len() <= N, "exceeded inline capacity");
         SmallText(proved::SmallText { bytes: crate::bytes::laid_out(text.as_bytes()) })
     }
 
-    /// A copy of the text, inline: `None` where there are more than `N` bytes.
+    /// As [`inline`](Self::inline), or `None` if there are more than `N` bytes.
+    ///
+    ///     assert!(ecow::EcoString::try_inline("more than fifteen").is_none());
+    #[must_use]
     pub const fn try_inline(text: &str) -> Option<Self> {
         if text.len() > N { None } else { Some(Self::inline(text)) }
     }
 
-    /// A copy of the text: `Error::Memory` where there is none.
+    /// A copy of the text.
+    /// # Errors
+    /// `Error::Memory`.
+    ///
+    ///     assert_eq!(ecow::EcoString::try_from_str("ab"), Ok("ab".into()));
     #[inline]
     pub fn try_from_str(text: &str) -> Result<Self, Error> {
         Ok(SmallText(proved::SmallText::from_str(Global, text)?))
     }
 
-    /// What a value prints. `None` where it answers an error, or there is no memory.
+    /// What a value prints, or `None` if it answers an error, or memory is refused.
+    ///
+    ///     assert_eq!(ecow::EcoString::try_format(7), Some("7".into()));
     pub fn try_format(value: impl Display) -> Option<Self> {
         proved::SmallText::format(Global, value).ok().map(SmallText)
     }
 
     /// The text.
+    ///
+    ///     assert_eq!(ecow::EcoString::from("ab").as_str(), "ab");
     #[inline]
+    #[must_use]
     pub fn as_str(&self) -> &str {
         self.0.as_str()
     }
 
-    /// The text, for writing. A spilled one that is shared is copied first.
+    /// The text, to write to. A shared text that is spilled is copied first.
+    ///
+    ///     let mut text = ecow::EcoString::from("ab"); text.make_mut().make_ascii_uppercase();
+    ///     assert_eq!(text, "AB");
     pub fn make_mut(&mut self) -> &mut str {
         granted(self.try_make_mut())
     }
 
-    /// As `make_mut`: `Error::Memory` where the copy is refused.
+    /// As [`make_mut`](Self::make_mut).
+    /// # Errors
+    /// `Error::Memory` if a shared text can't be copied.
     pub fn try_make_mut(&mut self) -> Result<&mut str, Error> {
         let bytes = self.0.bytes.make_mut()?;
         Ok(text_mut(bytes))
     }
 
-    /// Appends a character.
+    /// Appends a character. Constant time on average; a shared text is copied first.
+    ///
+    ///     let mut text = ecow::EcoString::from("ab"); text.push('c');
+    ///     assert_eq!(text, "abc");
     #[inline]
     pub fn push(&mut self, c: char) {
-        granted(self.0.push(c))
+        granted(self.0.push(c));
     }
 
-    /// As `push`: `Error::Capacity`, `Error::Memory`.
+    /// As [`push`](Self::push).
+    /// # Errors
+    /// `Error::Capacity`, `Error::Memory`.
     #[inline]
     pub fn try_push(&mut self, c: char) -> Result<(), Error> {
         Ok(self.0.push(c)?)
     }
 
-    /// Takes the last character: `None` where there is none.
+    /// Takes the last character, if there is one. Of a shared text what stays is copied.
+    ///
+    ///     assert_eq!(ecow::EcoString::from("ab").pop(), Some('b'));
     pub fn pop(&mut self) -> Option<char> {
         granted(self.try_pop())
     }
 
-    /// As `pop`: `Error::Memory` where a shared text can't be copied.
+    /// As [`pop`](Self::pop).
+    /// # Errors
+    /// `Error::Memory` if a shared text can't be copied.
     pub fn try_pop(&mut self) -> Result<Option<char>, Error> {
         Ok(self.0.pop()?)
     }
 
-    /// Appends a text.
+    /// Appends a text. A shared text is copied first.
+    ///
+    ///     let mut text = ecow::EcoString::from("ab"); text.push_str("cd");
+    ///     assert_eq!(text, "abcd");
     #[inline]
     pub fn push_str(&mut self, text: &str) {
-        granted(self.0.push_str(text))
+        granted(self.0.push_str(text));
     }
 
-    /// As `push_str`: all, or nothing with `Error::Capacity` or `Error::Memory`.
+    /// As [`push_str`](Self::push_str).
+    /// # Errors
+    /// `Error::Capacity`, `Error::Memory`. Nothing is appended then.
     #[inline]
     pub fn try_push_str(&mut self, text: &str) -> Result<(), Error> {
         Ok(self.0.push_str(text)?)
     }
 
-    /// Puts a character in at `index`. It panics where that isn't the boundary of a character.
+    /// Inserts a character at `index`, and moves what is behind it. A shared text is copied first.
+    /// # Panics
+    /// If `index` is greater than the length, or inside a character.
+    ///
+    ///     let mut text = ecow::EcoString::from("ab"); text.insert(1, 'x');
+    ///     assert_eq!(text, "axb");
     #[track_caller]
     pub fn insert(&mut self, index: usize, c: char) {
-        granted(self.try_insert(index, c))
+        self.assert_boundary(index);
+        granted(self.0.insert(index, c));
     }
 
-    /// As `insert`: `Error::Index` past the length, `Error::Boundary`, `Error::Capacity`, `Error::Memory`.
+    /// As [`insert`](Self::insert).
+    /// # Errors
+    /// `Error::Index` past the length; `Error::Boundary` inside a character; `Error::Capacity`, `Error::Memory`.
     pub fn try_insert(&mut self, index: usize, c: char) -> Result<(), Error> {
         self.at_boundary(index)?;
         Ok(self.0.insert(index, c)?)
     }
 
-    /// Puts a text in at `index`. It panics where that isn't the boundary of a character.
+    /// Inserts a text at `index`, and moves what is behind it. A shared text is copied first.
+    /// # Panics
+    /// If `index` is greater than the length, or inside a character.
+    ///
+    ///     let mut text = ecow::EcoString::from("ab"); text.insert_str(1, "xy");
+    ///     assert_eq!(text, "axyb");
     #[track_caller]
     pub fn insert_str(&mut self, index: usize, text: &str) {
-        granted(self.try_insert_str(index, text))
+        self.assert_boundary(index);
+        granted(self.0.insert_str(index, text));
     }
 
-    /// As `insert_str`: `Error::Index` past the length, `Error::Boundary`, `Error::Capacity`, `Error::Memory`.
+    /// As [`insert_str`](Self::insert_str).
+    /// # Errors
+    /// `Error::Index` past the length; `Error::Boundary` inside a character; `Error::Capacity`, `Error::Memory`.
     pub fn try_insert_str(&mut self, index: usize, text: &str) -> Result<(), Error> {
         self.at_boundary(index)?;
         Ok(self.0.insert_str(index, text)?)
     }
 
-    /// Takes the character at `index`. It panics where none begins there.
+    /// Takes the character at `index`, and moves what is behind it. A shared text is copied first.
+    /// # Panics
+    /// If no character begins at `index`.
+    ///
+    ///     assert_eq!(ecow::EcoString::from("ab").remove(0), 'a');
     #[track_caller]
     pub fn remove(&mut self, index: usize) -> char {
-        granted(self.try_remove(index))
+        assert_index(index < self.len(), index, self.len());
+        self.assert_boundary(index);
+        granted(self.0.remove(index))
     }
 
-    /// As `remove`: `Error::Index` from the length on, `Error::Boundary`, or `Error::Memory` where a shared text can't be
-    /// copied.
+    /// As [`remove`](Self::remove).
+    /// # Errors
+    /// `Error::Index` from the length on; `Error::Boundary` inside a character; `Error::Memory`.
     pub fn try_remove(&mut self, index: usize) -> Result<char, Error> {
-        if index >= self.len() {
-            return Err(Error::Index);
-        }
+        inside(index < self.len())?;
         self.at_boundary(index)?;
         Ok(self.0.remove(index)?)
     }
 
-    /// Puts a text in place of that of a range. It panics where the range isn't in it, or ends inside a character. This
-    /// crate's own, with the signature of std's `String`.
+    /// Replaces the text of a range. A shared text is copied first. Not in the original; `String` has it.
+    /// # Panics
+    /// If `range` isn't in the text, or one of its ends is inside a character.
+    ///
+    ///     let mut text = ecow::EcoString::from("abc"); text.replace_range(..2, "x");
+    ///     assert_eq!(text, "xc");
     #[track_caller]
     pub fn replace_range(&mut self, range: impl RangeBounds<usize>, text: &str) {
         let range = indices_or_panic(range, self.len());
-        granted(self.try_replace_range(range, text))
+        self.assert_boundary(range.start);
+        self.assert_boundary(range.end);
+        granted(self.0.replace_range(range, text));
     }
 
-    /// As `replace_range`: `Error::Index` of another range, `Error::Boundary`, `Error::Capacity`, `Error::Memory`.
+    /// As [`replace_range`](Self::replace_range).
+    /// # Errors
+    /// `Error::Index` for a range that isn't in the text; `Error::Boundary`, `Error::Capacity`, `Error::Memory`.
     pub fn try_replace_range(&mut self, range: impl RangeBounds<usize>, text: &str) -> Result<(), Error> {
         let range = indices(range, self.len())?;
         self.at_boundary(range.start)?;
@@ -171,32 +245,50 @@ impl<const N: usize> SmallText<N> {
     }
 
     /// The text with `to` in place of each `pat`.
+    ///
+    ///     assert_eq!(ecow::EcoString::from("a-b-c").replace("-", "+"), "a+b+c");
+    #[must_use]
     pub fn replace(&self, pat: &str, to: &str) -> Self {
         granted(self.try_replace(pat, to))
     }
 
-    /// As `replace`: `Error::Capacity` past 2^63 - 1 bytes, `Error::Memory` where there is none.
+    /// As [`replace`](Self::replace).
+    /// # Errors
+    /// `Error::Capacity` past 2^63 - 1 bytes; `Error::Memory`.
     pub fn try_replace(&self, pat: &str, to: &str) -> Result<Self, Error> {
         Ok(SmallText(self.0.replace(pat, to)?))
     }
 
-    /// The text with `to` in place of the first `count` `pat`.
+    /// The text with `to` in place of the first `count` of `pat`.
+    ///
+    ///     assert_eq!(ecow::EcoString::from("a-b-c").replacen("-", "+", 1), "a+b-c");
+    #[must_use]
     pub fn replacen(&self, pat: &str, to: &str, count: usize) -> Self {
         granted(self.try_replacen(pat, to, count))
     }
 
-    /// As `replacen`: `Error::Capacity` past 2^63 - 1 bytes, `Error::Memory` where there is none.
+    /// As [`replacen`](Self::replacen).
+    /// # Errors
+    /// `Error::Capacity` past 2^63 - 1 bytes; `Error::Memory`.
     pub fn try_replacen(&self, pat: &str, to: &str, count: usize) -> Result<Self, Error> {
         Ok(SmallText(self.0.replacen(pat, to, count)?))
     }
 
-    /// Keeps the first `target` bytes, or all where there are fewer. It panics where the text ends inside a character then.
+    /// Keeps the first `target` bytes, or all if there are fewer. Of a shared text what stays is copied.
+    /// # Panics
+    /// If `target` is inside a character.
+    ///
+    ///     let mut text = ecow::EcoString::from("abc"); text.truncate(1);
+    ///     assert_eq!(text, "a");
     #[track_caller]
     pub fn truncate(&mut self, target: usize) {
-        granted(self.try_truncate(target))
+        self.assert_boundary(target.min(self.len()));
+        granted(self.0.truncate(target));
     }
 
-    /// As `truncate`: `Error::Boundary`, or `Error::Memory` where what stays of a shared text can't be copied.
+    /// As [`truncate`](Self::truncate).
+    /// # Errors
+    /// `Error::Boundary`; `Error::Memory` if a shared text can't be copied.
     pub fn try_truncate(&mut self, target: usize) -> Result<(), Error> {
         if target < self.len() {
             self.at_boundary(target)?;
@@ -205,36 +297,59 @@ impl<const N: usize> SmallText<N> {
     }
 
     /// The text in lower case, as `str` has it.
+    ///
+    ///     assert_eq!(ecow::EcoString::from("AB").to_lowercase(), "ab");
+    #[must_use]
     pub fn to_lowercase(&self) -> Self {
         SmallText(granted(self.0.to_lowercase()))
     }
 
     /// The text in upper case, as `str` has it.
+    ///
+    ///     assert_eq!(ecow::EcoString::from("stra\u{df}e").to_uppercase(), "STRASSE");
+    #[must_use]
     pub fn to_uppercase(&self) -> Self {
         SmallText(granted(self.0.to_uppercase()))
     }
 
     /// The text with the letters `A` to `Z` in lower case.
+    ///
+    ///     assert_eq!(ecow::EcoString::from("AB").to_ascii_lowercase(), "ab");
+    #[must_use]
     pub fn to_ascii_lowercase(&self) -> Self {
         SmallText(granted(self.0.to_ascii_lowercase()))
     }
 
     /// The text with the letters `a` to `z` in upper case.
+    ///
+    ///     assert_eq!(ecow::EcoString::from("ab").to_ascii_uppercase(), "AB");
+    #[must_use]
     pub fn to_ascii_uppercase(&self) -> Self {
         SmallText(granted(self.0.to_ascii_uppercase()))
     }
 
-    /// The text `n` times over. It panics where that is more than memory can hold.
+    /// The text `n` times over.
+    /// # Panics
+    /// If this is more than memory can hold.
+    ///
+    ///     assert_eq!(ecow::EcoString::from("ab").repeat(2), "abab");
+    #[must_use]
     pub fn repeat(&self, n: usize) -> Self {
         granted(self.try_repeat(n))
     }
 
-    /// As `repeat`: `Error::Capacity` past 2^63 - 1 bytes, `Error::Memory` where there is none.
+    /// As [`repeat`](Self::repeat).
+    /// # Errors
+    /// `Error::Capacity` past 2^63 - 1 bytes; `Error::Memory`.
     pub fn try_repeat(&self, n: usize) -> Result<Self, Error> {
         Ok(SmallText(proved::SmallText { bytes: crate::bytes::repeated(&self.0.bytes, n)? }))
     }
 
-    /// The bytes in a vector: that of a spilled text as it is. A refusal hands an inline one back, with `Error::Memory`.
+    /// The bytes in a vector. A spilled text hands on its block, and an inline one is copied.
+    /// # Errors
+    /// `Error::Memory`; the text comes back.
+    ///
+    ///     assert_eq!(ecow::EcoString::from("a").try_into_eco_vec(), Ok(ecow::eco_vec![b'a']));
     pub fn try_into_eco_vec(self) -> Result<EcoVec<u8>, Rejected<Self>> {
         self.0.into_eco_vec().map(EcoVec).map_err(|rejected| Rejected::of(rejected, SmallText))
     }
@@ -242,11 +357,35 @@ impl<const N: usize> SmallText<N> {
     /// `Error::Index` past the length, `Error::Boundary` inside a character.
     #[inline]
     fn at_boundary(&self, index: usize) -> Result<(), Error> {
-        if self.0.is_char_boundary(index) {
-            return Ok(());
-        }
-        Err(if index > self.len() { Error::Index } else { Error::Boundary })
+        inside(index <= self.len())?;
+        if self.0.is_char_boundary(index) { Ok(()) } else { Err(Error::Boundary) }
     }
+
+    /// Panics past the length, and inside a character.
+    #[inline]
+    #[track_caller]
+    fn assert_boundary(&self, index: usize) {
+        if !self.0.is_char_boundary(index) {
+            no_boundary(self, index);
+        }
+    }
+}
+
+/// Panics with an index that passes the end or is inside a character, and says where, as `str` does. Of a long text it
+/// shows the first 256 bytes.
+#[cold]
+#[inline(never)]
+#[track_caller]
+fn no_boundary(text: &str, index: usize) -> ! {
+    assert_index(index <= text.len(), index, text.len());
+    let begin = |at: usize| (0..=at).rev().find(|at| text.is_char_boundary(*at)).unwrap_or(0);
+    let (start, shown) = (begin(index), begin(text.len().min(256)));
+    let inside = text[start..].chars().next().unwrap_or_default();
+    let (end, more) = (start + inside.len_utf8(), if shown < text.len() { "[...]" } else { "" });
+    let text = &text[..shown];
+    panic!(
+        "byte index {index} is not a char boundary; it is inside {inside:?} (bytes {start}..{end}) of `{text}`{more}"
+    );
 }
 
 small!(SmallText, str, as_str, try_from_str);
@@ -292,13 +431,13 @@ impl<const N: usize> Add<&str> for SmallText<N> {
 
 impl<const N: usize> AddAssign for SmallText<N> {
     fn add_assign(&mut self, other: Self) {
-        self.push_str(other.as_str())
+        self.push_str(other.as_str());
     }
 }
 
 impl<const N: usize> AddAssign<&str> for SmallText<N> {
     fn add_assign(&mut self, text: &str) {
-        self.push_str(text)
+        self.push_str(text);
     }
 }
 
@@ -374,13 +513,13 @@ impl<const N: usize> FromIterator<SmallText<N>> for SmallText<N> {
 
 impl<const N: usize> Extend<char> for SmallText<N> {
     fn extend<I: IntoIterator<Item = char>>(&mut self, iter: I) {
-        granted(self.0.extend_chars(iter))
+        granted(self.0.extend_chars(iter));
     }
 }
 
 impl<'a, const N: usize> Extend<&'a str> for SmallText<N> {
     fn extend<I: IntoIterator<Item = &'a str>>(&mut self, iter: I) {
-        granted(self.0.extend_strs(iter))
+        granted(self.0.extend_strs(iter));
     }
 }
 
@@ -396,7 +535,12 @@ impl<T: Display + ?Sized> ToEcoString for T {
     }
 }
 
-/// What `eco_format!` makes. It panics where a value answers an error.
+/// What `eco_format!` makes.
+/// # Panics
+/// If a value answers an error.
+///
+///     assert_eq!(ecow::string::format(format_args!("{}", 7)), "7");
+#[must_use]
 pub fn format(args: fmt::Arguments<'_>) -> EcoString {
     let mut text = EcoString::new();
     text.write_fmt(args).expect("a formatting trait implementation returned an error");

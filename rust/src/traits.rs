@@ -66,61 +66,92 @@ macro_rules! small {
             /// The greatest number of bytes that stand in the value itself.
             pub const INLINE_LIMIT: usize = N;
 
-            /// Nothing, with room for `capacity` bytes. It panics where that is more than memory can hold.
+            /// No bytes, with a capacity of `capacity` bytes. It is inline if that is at most `N`.
+            /// # Panics
+            /// If `capacity` bytes are more than memory can hold.
+            ///
+            #[doc = concat!("    assert!(ecow::", stringify!($type), "::<15>::with_capacity(20).capacity() == 20);")]
+            #[must_use]
             pub fn with_capacity(capacity: usize) -> Self {
                 granted(Self::try_with_capacity(capacity))
             }
 
-            /// As `with_capacity`: `Error::Capacity` past 2^63 - 1, `Error::Memory` where there is none.
+            /// As [`with_capacity`](Self::with_capacity).
+            /// # Errors
+            /// `Error::Capacity` past 2^63 - 1; `Error::Memory`.
+            ///
+            #[doc = concat!("    assert!(ecow::", stringify!($type), "::<9>::try_with_capacity(!0).is_err());")]
             pub fn try_with_capacity(capacity: usize) -> Result<Self, Error> {
                 Ok($type(proved::$type::with_capacity(Global, capacity)?))
             }
 
             /// Whether there is no byte.
+            ///
+            #[doc = concat!("    assert!(ecow::", stringify!($type), "::<15>::new().is_empty());")]
             #[inline]
+            #[must_use]
             pub fn is_empty(&self) -> bool {
                 self.0.is_empty()
             }
 
             /// The number of bytes.
+            ///
+            #[doc = concat!("    assert!(ecow::", stringify!($type), "::<15>::new().len() == 0);")]
             #[inline]
+            #[must_use]
             pub fn len(&self) -> usize {
                 self.0.len()
             }
 
-            /// Whether the bytes stand in the value itself.
+            /// Whether the bytes are in the value itself.
+            ///
+            #[doc = concat!("    assert!(ecow::", stringify!($type), "::<15>::new().is_inline());")]
             #[inline]
+            #[must_use]
             pub fn is_inline(&self) -> bool {
                 self.0.is_inline()
             }
 
-            /// For how many bytes there is room: `N` where they are inline.
+            /// For how many bytes there are places: `N` if they are inline.
+            ///
+            #[doc = concat!("    assert!(ecow::", stringify!($type), "::<15>::new().capacity() == 15);")]
             #[inline]
+            #[must_use]
             pub fn capacity(&self) -> usize {
                 self.0.capacity()
             }
 
-            /// A value that shares this one's block. It is refused past 2^63 - 1 owners alone, with `Error::Memory`.
+            /// A value that shares this one's block. Takes constant time, and asks for no memory.
+            /// # Errors
+            /// `Error::Memory` past 2^63 - 1 owners.
+            ///
+            #[doc = concat!("    assert!(ecow::", stringify!($type), "::<15>::new().try_clone().is_ok());")]
             pub fn try_clone(&self) -> Result<Self, Error> {
                 Ok($type(self.0.try_clone()?))
             }
 
-            /// Keeps nothing. An inline value stays inline and a spilled one spilled.
+            /// Removes all bytes. An inline value stays inline, and a sole block stays. A shared one is given up.
             pub fn clear(&mut self) {
                 self.0.clear()
             }
 
-            /// Makes room for `additional` more bytes. It panics where these are more than memory can hold.
+            /// Makes the capacity large enough for `additional` more bytes. Shared bytes are copied.
+            /// # Panics
+            /// If these are more than memory can hold.
             pub fn reserve(&mut self, additional: usize) {
                 granted(self.try_reserve(additional))
             }
 
-            /// As `reserve`: `Error::Capacity` past 2^63 - 1, `Error::Memory` where there is none.
+            /// As [`reserve`](Self::reserve).
+            /// # Errors
+            /// `Error::Capacity` past 2^63 - 1; `Error::Memory`.
+            ///
+            #[doc = concat!("    assert!(ecow::", stringify!($type), "::<15>::new().try_reserve(1).is_ok());")]
             pub fn try_reserve(&mut self, additional: usize) -> Result<(), Error> {
                 Ok(self.0.reserve(additional)?)
             }
 
-            /// Brings at most `N` spilled bytes back inline. Those that share them stay as they are. This crate's own.
+            /// Brings at most `N` spilled bytes back inline. Other owners keep the block. Not in the original.
             pub fn shrink_to_fit(&mut self) {
                 self.0.shrink_to_fit()
             }

@@ -63,173 +63,264 @@ impl<'a> From<&'a str> for Step<'a> {
 pub struct Value(proved::Value);
 
 impl Value {
-    /// Nothing.
+    /// The value nothing.
+    ///
+    ///     assert_eq!(ecow::Value::new().kind(), ecow::Kind::Nothing);
+    #[must_use]
     pub const fn new() -> Self {
         Value(proved::Value::Nothing)
     }
 
     /// A list of no items.
+    ///
+    ///     assert_eq!(ecow::Value::new_list().kind(), ecow::Kind::List);
+    #[must_use]
     pub const fn new_list() -> Self {
         Value(proved::Value::new_list(Global))
     }
 
     /// A value with no fields.
+    ///
+    ///     assert_eq!(ecow::Value::new_fields().kind(), ecow::Kind::Fields);
+    #[must_use]
     pub const fn new_fields() -> Self {
         Value(proved::Value::new_fields(Global))
     }
 
-    /// A clone, as [`Clone::clone`] makes it: `Error::Memory` past 2^63 - 1 owners.
+    /// A value that shares this one's memory. Takes constant time.
+    /// # Errors
+    /// `Error::Memory` past 2^63 - 1 owners.
+    ///
+    ///     assert_eq!(ecow::Value::from(7).try_clone(), Ok(7.into()));
     pub fn try_clone(&self) -> Result<Self, Error> {
         Ok(Value(self.0.try_clone()?))
     }
 
-    /// How deep the value nests: 0 of what has no parts, else one more than its deepest part. Calls that put a part in
-    /// answer `Error::Depth` where it has [`MAX_DEPTH`] itself.
+    /// How deep the value nests: 0 if it has no parts, otherwise one more than its deepest part. Calls that put a part
+    /// in answer `Error::Depth` if that part has [`MAX_DEPTH`] itself.
+    ///
+    ///     assert_eq!(ecow::Value::from([1, 2]).depth(), 1);
+    #[must_use]
     pub fn depth(&self) -> usize {
         self.0.depth() as usize
     }
 
     /// What the value is.
+    ///
+    ///     assert_eq!(ecow::Value::from("a").kind(), ecow::Kind::Text);
+    #[must_use]
     pub fn kind(&self) -> Kind {
         self.0.kind()
     }
 
-    /// The truth value: `Error::Kind` of another kind.
+    /// The truth value.
+    /// # Errors
+    /// `Error::Kind` for another kind.
+    ///
+    ///     assert_eq!(ecow::Value::from(true).truth(), Ok(true));
     pub fn truth(&self) -> Result<bool, Error> {
         self.0.truth().ok_or(Error::Kind)
     }
 
-    /// The number: `Error::Kind` of another kind.
+    /// The number.
+    /// # Errors
+    /// `Error::Kind` for another kind.
+    ///
+    ///     assert_eq!(ecow::Value::from(7).number(), Ok(7));
     pub fn number(&self) -> Result<i64, Error> {
         self.0.number().ok_or(Error::Kind)
     }
 
-    /// The floating-point number: `Error::Kind` of another kind.
+    /// The floating-point number.
+    /// # Errors
+    /// `Error::Kind` for another kind.
+    ///
+    ///     assert_eq!(ecow::Value::from(0.5).real(), Ok(0.5));
     pub fn real(&self) -> Result<f64, Error> {
         self.0.real().ok_or(Error::Kind)
     }
 
-    /// A clone of the text: `Error::Kind` of another kind.
+    /// A clone of the text.
+    /// # Errors
+    /// `Error::Kind` for another kind.
+    ///
+    ///     assert_eq!(ecow::Value::from("a").text(), Ok("a".into()));
     pub fn text(&self) -> Result<EcoString, Error> {
         self.0.text().cloned().map(SmallText).ok_or(Error::Kind)
     }
 
-    /// Whether it has no items and no fields.
+    /// Whether there are no items and no fields.
+    ///
+    ///     assert!(ecow::Value::new_list().is_empty());
+    #[must_use]
     pub fn is_empty(&self) -> bool {
         self.len() == 0
     }
 
-    /// How many items a list has, or how many fields there are: 0 of another kind.
+    /// The number of a list's items, or of fields; 0 for another kind.
+    ///
+    ///     assert_eq!(ecow::Value::from([1, 2]).len(), 2);
+    #[must_use]
     pub fn len(&self) -> usize {
         self.0.len().unwrap_or(0)
     }
 
-    /// A clone of the item of a list, or of a field's value, at `index`: `Error::Kind` of another kind, `Error::Index` from
-    /// the end on.
+    /// A clone of a list's item, or of a field's value, at `index`.
+    /// # Errors
+    /// `Error::Kind` for another kind; `Error::Index` from the end on.
+    ///
+    ///     assert_eq!(ecow::Value::from([1, 2]).get(1), Ok(2.into()));
     pub fn get(&self, index: usize) -> Result<Self, Error> {
         Ok(Value(self.0.part(index)?.clone()))
     }
 
-    /// Puts an item in place of the one at `index` of a list: `Error::Kind` of another kind, `Error::Index` from the end on,
-    /// `Error::Memory` where a shared list can't be copied.
+    /// Replaces the item at `index` of a list. A shared list is copied first.
+    /// # Errors
+    /// `Error::Kind` for another kind; `Error::Index` from the end on; `Error::Depth`, `Error::Memory`.
+    ///
+    ///     assert_eq!(ecow::Value::from([1, 2]).set(1, 7), Ok(()));
     pub fn set(&mut self, index: usize, item: impl Into<Self>) -> Result<(), Error> {
         Ok(self.0.set(index, item.into().0)?)
     }
 
-    /// Appends an item to a list: `Error::Kind` of another kind, `Error::Memory` where there is no room.
+    /// Appends an item to a list. A shared list is copied first.
+    /// # Errors
+    /// `Error::Kind` for another kind; `Error::Depth`, `Error::Memory`.
+    ///
+    ///     assert_eq!(ecow::Value::new_list().push(1), Ok(()));
     pub fn push(&mut self, item: impl Into<Self>) -> Result<(), Error> {
         Ok(self.0.push(item.into().0)?)
     }
 
-    /// Takes the last item of a list: `Error::Kind` of another kind, `Error::Index` where there is none, `Error::Memory`
-    /// where a shared list can't be copied.
+    /// Takes the last item of a list. A shared list is copied first.
+    /// # Errors
+    /// `Error::Kind` for another kind; `Error::Index` if there is no item; `Error::Memory`.
+    ///
+    ///     assert_eq!(ecow::Value::from([1, 2]).pop(), Ok(2.into()));
     pub fn pop(&mut self) -> Result<Self, Error> {
         Ok(Value(self.0.pop()?))
     }
 
-    /// Puts an item in at `index` of a list: `Error::Kind` of another kind, `Error::Index` past the end, `Error::Memory`
-    /// where there is no room.
+    /// Inserts an item at `index` of a list. A shared list is copied first.
+    /// # Errors
+    /// `Error::Kind` for another kind; `Error::Index` past the end; `Error::Depth`, `Error::Memory`.
+    ///
+    ///     assert_eq!(ecow::Value::from([1, 2]).insert(0, 7), Ok(()));
     pub fn insert(&mut self, index: usize, item: impl Into<Self>) -> Result<(), Error> {
         Ok(self.0.insert(index, item.into().0)?)
     }
 
-    /// Takes the item at `index` of a list: `Error::Kind` of another kind, `Error::Index` from the end on, `Error::Memory`
-    /// where a shared list can't be copied.
+    /// Takes the item at `index` of a list. A shared list is copied first.
+    /// # Errors
+    /// `Error::Kind` for another kind; `Error::Index` from the end on; `Error::Memory`.
+    ///
+    ///     assert_eq!(ecow::Value::from([1, 2]).remove(0), Ok(1.into()));
     pub fn remove(&mut self, index: usize) -> Result<Self, Error> {
         Ok(Value(self.0.remove(index)?))
     }
 
-    /// Keeps the first `len` items of a list, or all where there are fewer: `Error::Kind` of another kind, `Error::Memory`
-    /// where what stays of a shared list can't be copied.
+    /// Keeps the first `len` items of a list, or all if there are fewer. Of a shared list those that stay are copied.
+    /// # Errors
+    /// `Error::Kind` for another kind; `Error::Memory`.
+    ///
+    ///     assert_eq!(ecow::Value::from([1, 2]).truncate(1), Ok(()));
     pub fn truncate(&mut self, len: usize) -> Result<(), Error> {
         Ok(self.0.truncate(len)?)
     }
 
-    /// A clone of the value of the field of that name: `Error::Kind` of another kind, `Error::Index` where there is none.
+    /// A clone of the value of the field with that name.
+    /// # Errors
+    /// `Error::Kind` for another kind; `Error::Index` if there is no such field.
+    ///
+    ///     assert_eq!(ecow::Value::new_fields().get_field("a"), Err(ecow::Error::Index));
     pub fn get_field(&self, name: &str) -> Result<Self, Error> {
         Ok(Value(self.0.field(name)?.clone()))
     }
 
-    /// Puts a value in place of that of the field of that name, or appends a field where there is none: `Error::Kind` of
-    /// another kind, `Error::Memory` where there is no room.
+    /// Replaces the value of the field with that name, or appends a field if there is none. Copies shared fields first.
+    /// # Errors
+    /// `Error::Kind` for another kind; `Error::Depth`, `Error::Memory`.
+    ///
+    ///     assert_eq!(ecow::Value::new_fields().set_field("a", 1), Ok(()));
     pub fn set_field(&mut self, name: &str, item: impl Into<Self>) -> Result<(), Error> {
         Ok(self.0.set_field(name, item.into().0)?)
     }
 
-    /// Appends a field, and looks for none of that name; of a name that stands twice, calls by it mean the first. The errors
-    /// are those of `set_field`.
+    /// Appends a field, without looking for the name. If a name is there twice, calls by that name mean the first.
+    /// # Errors
+    /// As [`set_field`](Self::set_field).
+    ///
+    ///     assert_eq!(ecow::Value::new_fields().push_field("a", 1), Ok(()));
     pub fn push_field(&mut self, name: &str, item: impl Into<Self>) -> Result<(), Error> {
         Ok(self.0.push_field(name, item.into().0)?)
     }
 
-    /// Takes the field of that name, and answers its value: `Error::Kind` of another kind, `Error::Index` where there is
-    /// none, `Error::Memory` where shared fields can't be copied.
+    /// Takes out the field with that name, and returns its value. Shared fields are copied first.
+    /// # Errors
+    /// `Error::Kind` for another kind; `Error::Index` if there is no such field; `Error::Memory`.
+    ///
+    ///     assert!(ecow::Value::new_fields().remove_field("a").is_err());
     pub fn remove_field(&mut self, name: &str) -> Result<Self, Error> {
         Ok(Value(self.0.remove_field(name)?))
     }
 
-    /// A clone of the name of the field at `index`: `Error::Kind` of another kind, `Error::Index` from the end on.
+    /// A clone of the name of the field at `index`.
+    /// # Errors
+    /// `Error::Kind` for another kind; `Error::Index` from the end on.
+    ///
+    ///     assert!(ecow::Value::new_fields().field_name(0).is_err());
     pub fn field_name(&self, index: usize) -> Result<EcoString, Error> {
         Ok(SmallText(self.0.name(index)?.clone()))
     }
 
-    /// Clones of the items of a list, or of the fields' values, in order: none of another kind.
+    /// Clones of a list's items, or of the fields' values, in order; none for another kind.
+    ///
+    ///     assert!(ecow::Value::from([1, 2]).items().eq([1.into(), 2.into()]));
+    #[must_use]
     pub fn items(&self) -> impl DoubleEndedIterator<Item = Value> + ExactSizeIterator + Clone + '_ {
         (0..self.len()).map(|index| granted(self.get(index)))
     }
 
-    /// Clones of the fields' names and values, in order: none of another kind.
+    /// Clones of the fields' names and values, in order; none for another kind.
+    ///
+    ///     assert_eq!(ecow::Value::new_fields().fields().count(), 0);
     pub fn fields(&self) -> impl Iterator<Item = (EcoString, Value)> + '_ {
         self.items().enumerate().filter_map(|(index, item)| Some((self.field_name(index).ok()?, item)))
     }
 
-    /// A clone of what lies at the end of a path, which is the value itself where there are no steps: `Error::Kind` and
-    /// `Error::Index` of a step that leads nowhere.
+    /// A clone of the value at the end of a path. A path without steps leads to the value itself.
+    /// # Errors
+    /// `Error::Kind` or `Error::Index` for a step that leads nowhere.
+    ///
+    ///     assert_eq!(ecow::Value::from([1, 2]).get_path(&[1.into()]), Ok(2.into()));
     pub fn get_path(&self, path: &[Step<'_>]) -> Result<Self, Error> {
         path.iter().try_fold(self.try_clone()?, |value, &step| value.at(step))
     }
 
-    /// Puts a value in place of what lies at the end of a path, or appends a field where the last step names none:
-    /// `Error::Kind` and `Error::Index` of a step that leads nowhere, `Error::Memory` where a shared list on the way can't
-    /// be copied, `Error::Depth` where it would nest too deep there.
+    /// Replaces the value at the end of a path, or appends a field if the last step names none. Shared lists on the
+    /// path are copied.
+    /// # Errors
+    /// `Error::Kind` or `Error::Index` for a step that leads nowhere; `Error::Depth`, `Error::Memory`.
+    ///
+    ///     assert_eq!(ecow::Value::from([1, 2]).set_path(&[1.into()], 7), Ok(()));
     pub fn set_path(&mut self, path: &[Step<'_>], item: impl Into<Self>) -> Result<(), Error> {
         let item = item.into();
         if path.len() + item.depth() > MAX_DEPTH {
             return Err(Error::Depth);
         }
-        match path.split_last() {
-            Some((&last, way)) => self.update_path(way, |value| value.put(last, item)),
-            None => {
-                *self = item;
-                Ok(())
-            }
-        }
+        let Some((&last, way)) = path.split_last() else {
+            *self = item;
+            return Ok(());
+        };
+        self.update_path(way, |value| value.put(last, item))
     }
 
-    /// Changes what lies at the end of a path, and answers what `change` does. Lists on the way are copied where they are
-    /// shared. The errors are those of `change`, `Error::Kind` and `Error::Index` of a step that leads nowhere, and
-    /// `Error::Memory` where a list can't be copied. What `change` has done before an error or a panic stays. Where it would
-    /// nest too deep there, nothing takes its place, and the answer is `Error::Depth`.
+    /// Changes the value at the end of a path, and returns what `change` returns. Shared lists on the path are copied.
+    /// # Errors
+    /// Those of `change`, whose edits stay then; `Error::Kind` or `Error::Index` for a step that leads nowhere;
+    /// `Error::Memory`; `Error::Depth` if what it leaves would nest too deep, and is replaced by nothing.
+    ///
+    ///     assert_eq!(ecow::Value::from([[1], [2]]).update_path(&[1.into()], |list| list.push(7)), Ok(()));
     pub fn update_path<R>(
         &mut self,
         path: &[Step<'_>],
@@ -245,14 +336,12 @@ impl Value {
         path: &[Step<'_>],
         change: impl FnOnce(&mut Self) -> Result<R, Error>,
     ) -> Result<R, Error> {
-        match path.split_first() {
-            Some((&step, rest)) => {
-                let mut taken = Taken::new(self, step, above + 1)?;
-                let answer = taken.part.update_below(above + 1, rest, change);
-                if taken.is_too_deep() { Err(Error::Depth) } else { answer }
-            }
-            None => change(self),
-        }
+        let Some((&step, rest)) = path.split_first() else {
+            return change(self);
+        };
+        let mut taken = Taken::new(self, step, above + 1)?;
+        let answer = taken.part.update_below(above + 1, rest, change);
+        if taken.is_too_deep() { Err(Error::Depth) } else { answer }
     }
 
     /// What lies one step into the value.

@@ -1,11 +1,10 @@
 //! Vectors whose clones share their elements until one of them is written to.
 
-use crate::error::{Error, Rejected, indices, indices_or_panic, out_of_bounds};
+use crate::error::{Error, Rejected, assert_index, indices, indices_or_panic, inside};
 use crate::proved::ecow_base::fresh_capacity;
 use crate::proved::ecow_list as proved;
 use crate::shim::alloc::Global;
 use crate::shim::granted;
-use crate::shim::vec::with_capacity;
 use alloc::vec::Vec;
 use core::cmp::Ordering;
 use core::fmt::{self, Debug};
@@ -45,63 +44,99 @@ fn fits<T>(count: usize) -> Result<(), Error> {
 
 impl<T> EcoVec<T> {
     /// An empty vector. Asks for no memory.
+    ///
+    ///     assert!(ecow::EcoVec::<u8>::new().is_empty());
     #[inline]
+    #[must_use]
     pub const fn new() -> Self {
         EcoVec(proved::EcoVec::new(Global))
     }
 
-    /// An empty vector with room for `capacity` elements. It panics where that is more than memory can hold.
+    /// An empty vector with a capacity of `capacity` elements.
+    /// # Panics
+    /// If `capacity` elements are more than memory can hold.
+    ///
+    ///     assert_eq!(ecow::EcoVec::<u8>::with_capacity(9).capacity(), 9);
+    #[must_use]
     pub fn with_capacity(capacity: usize) -> Self {
         granted(Self::try_with_capacity(capacity))
     }
 
-    /// As `with_capacity`: `Error::Capacity` for more than memory can hold, `Error::Memory` where there is none.
+    /// As [`with_capacity`](Self::with_capacity).
+    /// # Errors
+    /// `Error::Capacity` for more than memory can hold; `Error::Memory`.
+    ///
+    ///     assert!(ecow::EcoVec::<u64>::try_with_capacity(usize::MAX).is_err());
     pub fn try_with_capacity(capacity: usize) -> Result<Self, Error> {
         fits::<T>(capacity)?;
         Ok(EcoVec(proved::EcoVec::with_capacity(Global, capacity)?))
     }
 
-    /// The items of an iterator, none of them cloned, and without its hint being asked. `Error::Capacity` at the item past
-    /// 2^63 - 1, and else `Error::Memory`: the items so far are dropped then.
+    /// The items of an iterator, none of them cloned. The size hint isn't asked.
+    /// # Errors
+    /// `Error::Capacity` at the item past 2^63 - 1; `Error::Memory`. The items so far are dropped.
+    ///
+    ///     assert_eq!(ecow::EcoVec::try_from_iter(1..4), Ok(ecow::eco_vec![1, 2, 3]));
     pub fn try_from_iter(iter: impl IntoIterator<Item = T>) -> Result<Self, Error> {
         Ok(EcoVec(proved::EcoVec::from_iter(Global, iter)?))
     }
 
-    /// The elements of a `Vec`, none of them cloned. A refusal hands it back, with `Error::Memory`.
+    /// The elements of a `Vec`, none of them cloned, moved into a block of their own.
+    /// # Errors
+    /// `Error::Memory`; `vec` comes back.
+    ///
+    ///     assert_eq!(ecow::EcoVec::try_from_vec(vec![1, 2]), Ok(ecow::eco_vec![1, 2]));
     pub fn try_from_vec(vec: Vec<T>) -> Result<Self, Rejected<Vec<T>>> {
         Ok(EcoVec(proved::EcoVec::from_vec(Global, vec)?))
     }
 
     /// Whether there is no element.
+    ///
+    ///     assert!(!ecow::eco_vec![1].is_empty());
     #[inline]
+    #[must_use]
     pub fn is_empty(&self) -> bool {
         self.0.is_empty()
     }
 
     /// The number of elements.
+    ///
+    ///     assert_eq!(ecow::eco_vec![1, 2].len(), 2);
     #[inline]
+    #[must_use]
     pub fn len(&self) -> usize {
         self.0.len()
     }
 
-    /// For how many elements there is room, never fewer than there are.
+    /// For how many elements the block has places, never fewer than there are elements.
+    ///
+    ///     assert_eq!(ecow::eco_vec![1].capacity(), 4);
     #[inline]
+    #[must_use]
     pub fn capacity(&self) -> usize {
         self.0.capacity()
     }
 
     /// The elements, in order.
+    ///
+    ///     assert_eq!(ecow::eco_vec![1, 2].as_slice(), [1, 2]);
     #[inline]
+    #[must_use]
     pub fn as_slice(&self) -> &[T] {
         self.0.as_slice()
     }
 
-    /// Drops the elements. A shared block is given up, with nothing copied, and a sole one is kept.
+    /// Drops the elements, and keeps the block. A shared vector gives its block up instead, and copies nothing.
+    ///
+    ///     let mut vec = ecow::eco_vec![1, 2]; vec.clear();
+    ///     assert_eq!((vec.len(), vec.capacity()), (0, 4));
     pub fn clear(&mut self) {
-        self.0.clear()
+        self.0.clear();
     }
 
-    /// Whether no other vector shares the block; a vector without one shares none.
+    /// Whether no other vector shares the block. A vector without a block shares none.
+    ///
+    ///     assert!(ecow::eco_vec![1].is_unique());
     #[inline]
     pub fn is_unique(&mut self) -> bool {
         self.0.is_unique()
@@ -109,31 +144,46 @@ impl<T> EcoVec<T> {
 }
 
 impl<T: Clone> EcoVec<T> {
-    /// `n` clones of `value`. It panics where these are more than memory can hold.
+    /// `n` clones of `value`.
+    /// # Panics
+    /// If `n` elements are more than memory can hold.
+    ///
+    ///     assert_eq!(ecow::EcoVec::from_elem("a", 2), ["a", "a"]);
     pub fn from_elem(value: T, n: usize) -> Self {
         granted(Self::try_from_elem(value, n))
     }
 
-    /// As `from_elem`: a refusal hands `value` back, with `Error::Capacity` or `Error::Memory`.
+    /// As [`from_elem`](Self::from_elem).
+    /// # Errors
+    /// `Error::Capacity`, `Error::Memory`; `value` comes back.
+    ///
+    ///     assert_eq!(ecow::EcoVec::try_from_elem("a", usize::MAX).unwrap_err().value, "a");
     pub fn try_from_elem(value: T, n: usize) -> Result<Self, Rejected<T>> {
+        // Small elements without a drop go in some at a time, which the compiler knows as moves of memory.
+        const SOME: usize = 64;
         if let Err(error) = fits::<T>(n) {
             return Err(Rejected { error, value });
         }
-        // Elements without a drop go in some at a time, which the compiler knows as moves of memory.
-        let most = n.min(128);
-        if !needs_drop::<T>()
-            && let (Ok(mut some), Ok(mut vec)) = (with_capacity(Global, most), Self::try_with_capacity(n))
-        {
-            some.resize(most, value);
-            while vec.len() < n {
-                granted(vec.0.extend_from_slice(&some[..most.min(n - vec.len())]));
+        if n >= SOME && size_of::<T>() <= 16 && !needs_drop::<T>() {
+            let mut vec = match Self::try_with_capacity(n) {
+                Ok(vec) => vec,
+                Err(error) => return Err(Rejected { error, value }),
+            };
+            let some: [T; SOME] = core::array::from_fn(|_| value.clone());
+            while vec.len() < n - SOME {
+                granted(vec.0.extend_from_slice(&some[..SOME.min(n - SOME - vec.len())]));
             }
+            granted(vec.0.extend(some));
             return Ok(vec);
         }
         Ok(EcoVec(proved::EcoVec::from_elem(Global, value, n)?))
     }
 
-    /// The elements of an array, none of them cloned. A refusal hands it back, with `Error::Memory`.
+    /// The elements of an array, none of them cloned.
+    /// # Errors
+    /// `Error::Memory`; `array` comes back.
+    ///
+    ///     assert_eq!(ecow::EcoVec::try_from_array([1, 2]), Ok(ecow::eco_vec![1, 2]));
     #[inline]
     pub fn try_from_array<const N: usize>(array: [T; N]) -> Result<Self, Rejected<[T; N]>> {
         match Self::try_with_capacity(fresh_capacity(N)) {
@@ -145,63 +195,91 @@ impl<T: Clone> EcoVec<T> {
         }
     }
 
-    /// Clones of the elements of a slice: `Error::Memory` where there is none.
+    /// Clones of the elements of a slice.
+    /// # Errors
+    /// `Error::Memory`.
+    ///
+    ///     assert_eq!(ecow::EcoVec::try_from_slice(&[1, 2]), Ok(ecow::eco_vec![1, 2]));
     pub fn try_from_slice(slice: &[T]) -> Result<Self, Error> {
         Ok(EcoVec(proved::EcoVec::from_slice(Global, slice)?))
     }
 
-    /// A vector that shares this one's elements. It is refused past 2^63 - 1 owners alone, with `Error::Memory`.
+    /// A vector that shares the elements. Takes constant time, and asks for no memory.
+    /// # Errors
+    /// `Error::Memory` past 2^63 - 1 owners.
+    ///
+    ///     let vec = ecow::eco_vec![1, 2];
+    ///     assert_eq!(vec.try_clone(), Ok(vec));
     pub fn try_clone(&self) -> Result<Self, Error> {
         Ok(EcoVec(self.0.try_clone()?))
     }
 
-    /// The elements, for writing. A shared vector copies them first.
+    /// The elements, to write to. Constant time; a shared vector clones its elements first.
+    ///
+    ///     let mut vec = ecow::eco_vec![1, 2]; vec.make_mut()[0] = 7;
+    ///     assert_eq!(vec, [7, 2]);
     #[inline]
     pub fn make_mut(&mut self) -> &mut [T] {
         granted(self.try_make_mut())
     }
 
-    /// As `make_mut`: `Error::Memory` where the copy is refused.
+    /// As [`make_mut`](Self::make_mut).
+    /// # Errors
+    /// `Error::Memory` if a shared vector can't be copied.
     #[inline]
     pub fn try_make_mut(&mut self) -> Result<&mut [T], Error> {
         Ok(self.0.make_mut()?)
     }
 
-    /// Appends `value`.
+    /// Appends `value`. Constant time on average; a shared vector clones its elements first.
+    ///
+    ///     let mut vec = ecow::eco_vec![1, 2]; vec.push(3);
+    ///     assert_eq!(vec, [1, 2, 3]);
     #[inline]
     pub fn push(&mut self, value: T) {
-        granted(self.0.push(value))
+        granted(self.0.push(value));
     }
 
-    /// As `push`: a refusal hands `value` back, with `Error::Capacity` or `Error::Memory`.
+    /// As [`push`](Self::push).
+    /// # Errors
+    /// `Error::Capacity`, `Error::Memory`; `value` comes back.
     #[inline]
     pub fn try_push(&mut self, value: T) -> Result<(), Rejected<T>> {
         Ok(self.0.push(value)?)
     }
 
-    /// Takes the last element: `None` where there is none.
+    /// Takes the last element, if there is one. Constant time; a shared vector clones its elements first.
+    ///
+    ///     assert_eq!(ecow::eco_vec![1, 2].pop(), Some(2));
     #[inline]
     pub fn pop(&mut self) -> Option<T> {
         granted(self.try_pop())
     }
 
-    /// As `pop`: `Error::Memory` where a shared vector can't be copied.
+    /// As [`pop`](Self::pop).
+    /// # Errors
+    /// `Error::Memory` if a shared vector can't be copied.
     #[inline]
     pub fn try_pop(&mut self) -> Result<Option<T>, Error> {
         Ok(self.0.pop()?)
     }
 
-    /// Puts `value` in at `index`, before the element there. It panics where `index` passes the length.
+    /// Inserts `value` before the element at `index`. Moves those behind it; a shared vector clones its elements first.
+    /// # Panics
+    /// If `index` is greater than the length.
+    ///
+    ///     let mut vec = ecow::eco_vec![1, 2]; vec.insert(1, 7);
+    ///     assert_eq!(vec, [1, 7, 2]);
     #[inline]
     #[track_caller]
     pub fn insert(&mut self, index: usize, value: T) {
-        if index > self.len() {
-            out_of_bounds(index, self.len());
-        }
-        granted(self.0.insert(index, value))
+        assert_index(index <= self.len(), index, self.len());
+        granted(self.0.insert(index, value));
     }
 
-    /// As `insert`: a refusal hands `value` back, with `Error::Index`, `Error::Capacity` or `Error::Memory`.
+    /// As [`insert`](Self::insert).
+    /// # Errors
+    /// `Error::Index`, `Error::Capacity`, `Error::Memory`; `value` comes back.
     pub fn try_insert(&mut self, index: usize, value: T) -> Result<(), Rejected<T>> {
         if index > self.len() {
             return Err(Rejected { error: Error::Index, value });
@@ -209,30 +287,40 @@ impl<T: Clone> EcoVec<T> {
         Ok(self.0.insert(index, value)?)
     }
 
-    /// Takes the element at `index`. It panics where there is none.
+    /// Takes the element at `index`. Moves the elements behind it; a shared vector clones its elements first.
+    /// # Panics
+    /// If there is no element at `index`.
+    ///
+    ///     assert_eq!(ecow::eco_vec![1, 2].remove(0), 1);
     #[track_caller]
     pub fn remove(&mut self, index: usize) -> T {
-        if index >= self.len() {
-            out_of_bounds(index, self.len());
-        }
+        assert_index(index < self.len(), index, self.len());
         granted(self.0.remove(index))
     }
 
-    /// As `remove`: `Error::Index`, or `Error::Memory` where a shared vector can't be copied.
+    /// As [`remove`](Self::remove).
+    /// # Errors
+    /// `Error::Index`; `Error::Memory` if a shared vector can't be copied.
     pub fn try_remove(&mut self, index: usize) -> Result<T, Error> {
-        if index >= self.len() {
-            return Err(Error::Index);
-        }
+        inside(index < self.len())?;
         Ok(self.0.remove(index)?)
     }
 
-    /// Puts `value` in place of the element at `index`. It panics where there is none. This crate's own.
+    /// Replaces the element at `index`. Constant time; a shared vector clones its elements first. Not in the original.
+    /// # Panics
+    /// If there is no element at `index`.
+    ///
+    ///     let mut vec = ecow::eco_vec![1, 2]; vec.set(0, 7);
+    ///     assert_eq!(vec, [7, 2]);
     #[track_caller]
     pub fn set(&mut self, index: usize, value: T) {
-        granted(self.try_set(index, value))
+        assert_index(index < self.len(), index, self.len());
+        granted(self.0.set(index, value));
     }
 
-    /// As `set`: a refusal hands `value` back, with `Error::Index` or `Error::Memory`.
+    /// As [`set`](Self::set).
+    /// # Errors
+    /// `Error::Index`, `Error::Memory`; `value` comes back.
     pub fn try_set(&mut self, index: usize, value: T) -> Result<(), Rejected<T>> {
         if index >= self.len() {
             return Err(Rejected { error: Error::Index, value });
@@ -240,40 +328,59 @@ impl<T: Clone> EcoVec<T> {
         Ok(self.0.set(index, value)?)
     }
 
-    /// Lends the element at `index` to `change`, and gives its answer: `Error::Index`, or `Error::Memory` where a shared
-    /// vector can't be copied; `change` isn't called then. This crate's own.
+    /// Lends `change` the element at `index`, and returns its answer. A shared vector clones its elements first. This
+    /// call isn't in the original.
+    /// # Errors
+    /// `Error::Index`; `Error::Memory` if a shared vector can't be copied. `change` isn't called then.
+    ///
+    ///     assert_eq!(ecow::eco_vec![1, 2].try_update(0, |one| std::mem::replace(one, 7)), Ok(1));
     pub fn try_update<R>(&mut self, index: usize, change: impl FnOnce(&mut T) -> R) -> Result<R, Error> {
-        if index >= self.len() {
-            return Err(Error::Index);
-        }
+        inside(index < self.len())?;
         Ok(self.0.update(index, change)?)
     }
 
-    /// Lends each element to `f`, in order, and keeps those at which it answers `true`.
+    /// Keeps the elements for which `f` returns `true`. A shared vector clones its elements first.
+    ///
+    ///     let mut vec = ecow::eco_vec![1, 2, 3]; vec.retain(|number| *number != 2);
+    ///     assert_eq!(vec, [1, 3]);
     pub fn retain<F: FnMut(&mut T) -> bool>(&mut self, f: F) {
-        granted(self.try_retain(f))
+        granted(self.try_retain(f));
     }
 
-    /// As `retain`: `Error::Memory` where a shared vector can't be copied; `f` isn't called then.
+    /// As [`retain`](Self::retain).
+    /// # Errors
+    /// `Error::Memory` if a shared vector can't be copied. `f` isn't called then.
     pub fn try_retain<F: FnMut(&mut T) -> bool>(&mut self, f: F) -> Result<(), Error> {
         Ok(self.0.retain(f)?)
     }
 
-    /// Takes out the elements of `range`. The vector is final when the call answers. It panics where the range isn't in it.
+    /// Takes out the elements of `range`, into a block of their own. The vector is final when the call returns.
+    /// # Panics
+    /// If `range` isn't in the vector.
+    ///
+    ///     assert!(ecow::eco_vec![1, 2, 3].drain(1..).eq([2, 3]));
     #[track_caller]
     pub fn drain<R: RangeBounds<usize>>(&mut self, range: R) -> Drain<'_, T> {
         let range = indices_or_panic(range, self.len());
         Drain { removed: granted(self.0.drain(range)), vec: PhantomData }
     }
 
-    /// As `drain`: `Error::Index` of another range, `Error::Memory` where there is none for what is taken out.
+    /// As [`drain`](Self::drain).
+    /// # Errors
+    /// `Error::Index` for a range that isn't in the vector; `Error::Memory`.
     pub fn try_drain<R: RangeBounds<usize>>(&mut self, range: R) -> Result<Drain<'_, T>, Error> {
         let range = indices(range, self.len())?;
         Ok(Drain { removed: self.0.drain(range)?, vec: PhantomData })
     }
 
-    /// Puts the items of `replace_with` in place of the elements of `range`, and gives these. The vector is final when the
-    /// call answers. It panics where the range isn't in it.
+    /// Replaces the elements of `range` with the items of `replace_with`, and returns them. The items go into a block
+    /// of their own first. The vector is final when the call returns.
+    /// # Panics
+    /// If `range` isn't in the vector.
+    ///
+    ///     let mut vec = ecow::eco_vec![1, 2, 3];
+    ///     assert!(vec.splice(..2, [7]).eq([1, 2]));
+    ///     assert_eq!(vec, [7, 3]);
     #[track_caller]
     pub fn splice<R, I>(&mut self, range: R, replace_with: I) -> Splice<'_, I::IntoIter>
     where
@@ -284,8 +391,9 @@ impl<T: Clone> EcoVec<T> {
         Splice { replaced: granted(self.0.splice(range, replace_with)), vec: PhantomData }
     }
 
-    /// As `splice`: `Error::Index` of another range, `Error::Capacity` and `Error::Memory`, with which the items so far are
-    /// dropped.
+    /// As [`splice`](Self::splice).
+    /// # Errors
+    /// `Error::Index` for a range that isn't in the vector; `Error::Capacity`, `Error::Memory`. The items are dropped.
     pub fn try_splice<R, I>(&mut self, range: R, replace_with: I) -> Result<Splice<'_, I::IntoIter>, Error>
     where
         R: RangeBounds<usize>,
@@ -295,45 +403,71 @@ impl<T: Clone> EcoVec<T> {
         Ok(Splice { replaced: self.0.splice(range, replace_with)?, vec: PhantomData })
     }
 
-    /// Keeps the first `target` elements, or all where there are fewer.
+    /// Keeps the first `target` elements, or all if there are fewer. A shared vector clones those that stay.
+    ///
+    ///     let mut vec = ecow::eco_vec![1, 2, 3]; vec.truncate(1);
+    ///     assert_eq!(vec, [1]);
     pub fn truncate(&mut self, target: usize) {
-        granted(self.try_truncate(target))
+        granted(self.try_truncate(target));
     }
 
-    /// As `truncate`: `Error::Memory` where what stays of a shared vector can't be copied.
+    /// As [`truncate`](Self::truncate).
+    /// # Errors
+    /// `Error::Memory` if a shared vector can't be copied.
     pub fn try_truncate(&mut self, target: usize) -> Result<(), Error> {
         Ok(self.0.truncate(target)?)
     }
 
-    /// Makes room for `additional` more elements. It panics where these are more than memory can hold.
+    /// Makes the capacity large enough for `additional` more elements. A shared vector clones its elements.
+    /// # Panics
+    /// If these are more than memory can hold.
+    ///
+    ///     let mut vec = ecow::eco_vec![1, 2]; vec.reserve(9);
+    ///     assert_eq!(vec.capacity(), 11);
     pub fn reserve(&mut self, additional: usize) {
-        granted(self.try_reserve(additional))
+        granted(self.try_reserve(additional));
     }
 
-    /// As `reserve`: `Error::Capacity` for more than memory can hold, `Error::Memory` where there is none.
+    /// As [`reserve`](Self::reserve).
+    /// # Errors
+    /// `Error::Capacity` for more than memory can hold; `Error::Memory`.
     pub fn try_reserve(&mut self, additional: usize) -> Result<(), Error> {
         fits::<T>(self.len().saturating_add(additional))?;
         Ok(self.0.reserve(additional)?)
     }
 
-    /// Appends clones of the elements of a slice.
+    /// Appends clones of the elements of a slice. A shared vector clones its own too.
+    ///
+    ///     let mut vec = ecow::eco_vec![1]; vec.extend_from_slice(&[2, 3]);
+    ///     assert_eq!(vec, [1, 2, 3]);
     #[inline]
     pub fn extend_from_slice(&mut self, slice: &[T]) {
-        granted(self.0.extend_from_slice(slice))
+        granted(self.0.extend_from_slice(slice));
     }
 
-    /// As `extend_from_slice`: all, or none with `Error::Capacity` or `Error::Memory`.
+    /// As [`extend_from_slice`](Self::extend_from_slice).
+    /// # Errors
+    /// `Error::Capacity`, `Error::Memory`. Nothing is appended then.
     pub fn try_extend_from_slice(&mut self, slice: &[T]) -> Result<(), Error> {
         Ok(self.0.extend_from_slice(slice)?)
     }
 
-    /// Appends the items of an iterator, without its hint being asked. At a refused item `Error::Capacity` or
-    /// `Error::Memory`: those before it stay.
+    /// Appends the items of an iterator. The size hint isn't asked.
+    /// # Errors
+    /// `Error::Capacity`, `Error::Memory`. The items before the refused one stay.
+    ///
+    ///     let mut vec = ecow::eco_vec![1];
+    ///     assert_eq!(vec.try_extend(2..4), Ok(()));
+    ///     assert_eq!(vec, [1, 2, 3]);
     pub fn try_extend(&mut self, iter: impl IntoIterator<Item = T>) -> Result<(), Error> {
         Ok(self.0.extend(iter)?)
     }
 
-    /// The elements in a `Vec`. A refusal hands the vector back, with `Error::Memory`.
+    /// The elements in a `Vec`. They are moved, and those of a shared vector are cloned.
+    /// # Errors
+    /// `Error::Memory`; the vector comes back.
+    ///
+    ///     assert_eq!(ecow::eco_vec![1, 2].try_into_vec(), Ok(vec![1, 2]));
     pub fn try_into_vec(self) -> Result<Vec<T>, Rejected<Self>> {
         self.0.into_vec().map_err(|rejected| Rejected::of(rejected, EcoVec))
     }
@@ -341,22 +475,37 @@ impl<T: Clone> EcoVec<T> {
 
 /// Of elements that are copied as memory. These calls are this crate's own.
 impl<T: Copy> EcoVec<T> {
-    /// Appends copies of the elements of a range: `Error::Index` of another range, `Error::Capacity`, `Error::Memory`.
+    /// Appends copies of the elements of a range.
+    /// # Errors
+    /// `Error::Index` for a range that isn't in the vector; `Error::Capacity`, `Error::Memory`.
+    ///
+    ///     let mut vec = ecow::eco_vec![1, 2];
+    ///     assert_eq!(vec.try_extend_from_within(1..), Ok(()));
+    ///     assert_eq!(vec, [1, 2, 2]);
     pub fn try_extend_from_within(&mut self, range: impl RangeBounds<usize>) -> Result<(), Error> {
         let range = indices(range, self.len())?;
         Ok(self.0.extend_from_within(range)?)
     }
 
-    /// Puts copies of the elements of a slice in at `index`: `Error::Index`, `Error::Capacity`, `Error::Memory`.
+    /// Inserts copies of the elements of a slice before the element at `index`.
+    /// # Errors
+    /// `Error::Index`, `Error::Capacity`, `Error::Memory`.
+    ///
+    ///     let mut vec = ecow::eco_vec![1, 2];
+    ///     assert_eq!(vec.try_insert_slice(1, &[7, 8]), Ok(()));
+    ///     assert_eq!(vec, [1, 7, 8, 2]);
     pub fn try_insert_slice(&mut self, index: usize, slice: &[T]) -> Result<(), Error> {
-        if index > self.len() {
-            return Err(Error::Index);
-        }
+        inside(index <= self.len())?;
         Ok(self.0.insert_slice(index, slice)?)
     }
 
-    /// Puts copies of the elements of a slice in place of those of a range: `Error::Index` of another range,
-    /// `Error::Capacity`, `Error::Memory`.
+    /// Replaces the elements of a range with copies of those of a slice.
+    /// # Errors
+    /// `Error::Index` for a range that isn't in the vector; `Error::Capacity`, `Error::Memory`.
+    ///
+    ///     let mut vec = ecow::eco_vec![1, 2, 3];
+    ///     assert_eq!(vec.try_replace_range(..2, &[7]), Ok(()));
+    ///     assert_eq!(vec, [7, 3]);
     pub fn try_replace_range(&mut self, range: impl RangeBounds<usize>, slice: &[T]) -> Result<(), Error> {
         let range = indices(range, self.len())?;
         Ok(self.0.replace_range(range, slice)?)
@@ -381,7 +530,7 @@ impl<T: Debug> Debug for EcoVec<T> {
 impl<T: Hash> Hash for EcoVec<T> {
     #[inline]
     fn hash<H: Hasher>(&self, state: &mut H) {
-        self.0.hash(state)
+        self.0.hash(state);
     }
 }
 
@@ -470,7 +619,7 @@ impl<T: Clone> Extend<T> for EcoVec<T> {
         if hint > 0 {
             self.reserve(hint);
         }
-        granted(self.0.extend(iter))
+        granted(self.0.extend(iter));
     }
 }
 
@@ -511,19 +660,22 @@ enum Left<T> {
 /// The elements that `drain` took out. The vector is final already, and borrowed until this is dropped.
 pub struct Drain<'a, T> {
     removed: proved::Drain<T>,
-    vec: PhantomData<&'a mut EcoVec<T>>,
+    vec: PhantomData<&'a ()>,
 }
 
 /// The elements in whose place `splice` put those of an iterator. The vector is final already, and borrowed until this is
 /// dropped.
 pub struct Splice<'a, I: Iterator + 'a> {
     replaced: proved::Splice<I::Item>,
-    vec: PhantomData<&'a mut EcoVec<I::Item>>,
+    vec: PhantomData<&'a ()>,
 }
 
 impl<T> IntoIter<T> {
     /// The elements that are still to come.
+    ///
+    ///     assert_eq!(ecow::eco_vec![1, 2].into_iter().as_slice(), [1, 2]);
     #[inline]
+    #[must_use]
     pub fn as_slice(&self) -> &[T] {
         match &self.0 {
             Left::Moved(rest) => rest.as_slice(),
@@ -579,6 +731,9 @@ impl<T: Debug> Debug for IntoIter<T> {
 
 impl<T> Drain<'_, T> {
     /// The elements that are still to come.
+    ///
+    ///     assert_eq!(ecow::eco_vec![1, 2].drain(1..).as_slice(), [2]);
+    #[must_use]
     pub fn as_slice(&self) -> &[T] {
         self.removed.as_slice()
     }

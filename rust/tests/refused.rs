@@ -1,47 +1,10 @@
 //! What is left where a request for memory is refused: each request of each call in turn.
 
+mod allocator;
+
+use allocator::{HELD, REFUSED, REQUESTS};
 use ecow::{EcoBytes, EcoString, EcoVec, Error, Value};
-use std::alloc::{GlobalAlloc, Layout, System};
-use std::cell::Cell;
 use std::fmt::Debug;
-
-/// std's allocator, which counts, and refuses one request of a thread.
-struct Refusing;
-
-thread_local! {
-    /// How many requests were made, and how many blocks are held.
-    static REQUESTS: Cell<usize> = const { Cell::new(0) };
-    static HELD: Cell<isize> = const { Cell::new(0) };
-    /// Which of the next requests is refused: the first is 1, and 0 is none.
-    static REFUSED: Cell<usize> = const { Cell::new(0) };
-}
-
-fn grants() -> bool {
-    REQUESTS.set(REQUESTS.get() + 1);
-    REFUSED.replace(REFUSED.get().saturating_sub(1)) != 1
-}
-
-unsafe impl GlobalAlloc for Refusing {
-    unsafe fn alloc(&self, layout: Layout) -> *mut u8 {
-        if !grants() {
-            return std::ptr::null_mut();
-        }
-        HELD.set(HELD.get() + 1);
-        unsafe { System.alloc(layout) }
-    }
-
-    unsafe fn dealloc(&self, place: *mut u8, layout: Layout) {
-        HELD.set(HELD.get() - 1);
-        unsafe { System.dealloc(place, layout) }
-    }
-
-    unsafe fn realloc(&self, place: *mut u8, layout: Layout, size: usize) -> *mut u8 {
-        if grants() { unsafe { System.realloc(place, layout, size) } } else { std::ptr::null_mut() }
-    }
-}
-
-#[global_allocator]
-static ALLOCATOR: Refusing = Refusing;
 
 /// Makes a call on a value, sole and shared, with each of its requests refused in turn. A refusal is for memory, and leaves
 /// the value, the block and the other owner. Answers how many requests were refused.
