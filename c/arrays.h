@@ -1,8 +1,9 @@
-/* The calls that kinds whose items stand in one array have in common. It is included before
- * `values.h`, with one name more:
+/* The calls that kinds whose items stand in one array have in common. A comment names what each
+ * definition makes. It is included before `values.h`, with one name more:
  *     CAN_CUT(value, index)   whether an index isn't inside a character */
 
-/* What a call answers of an array that no memory holds, put in place of a range. */
+/* What a call answers of an array that no memory holds, put in place of a range.
+ * ecow_list_refuse, ecow_bytes_refuse, ecow_text_refuse */
 static ecow_status CALL(refuse)(const VALUE *value, size_t start, size_t end, const ITEM *items,
                                 size_t count) {
     size_t len = CALL(len)(value);
@@ -18,14 +19,16 @@ static ecow_status CALL(refuse)(const VALUE *value, size_t start, size_t end, co
     return count > PTRDIFF_MAX - (len - (end - start)) ? ECOW_CAPACITY : ECOW_MEMORY;
 }
 
-/* An array that a call was given, as it stays while the value changes. */
+/* An array that a call was given, as it stays while the value changes.
+ * ecow_list_array, ecow_bytes_array, ecow_text_array */
 typedef struct CALL(array) {
     const ITEM *items;
     bool is_copied;
     VALUE copy;
 } CALL(array);
 
-/* Keeps an array: one that lies in the value is copied. */
+/* Keeps an array: one that lies in the value is copied.
+ * ecow_list_keep, ecow_bytes_keep, ecow_text_keep */
 static inline ecow_status CALL(keep)(CALL(array) * array, const VALUE *value, const ITEM *items,
                                      size_t count) {
     size_t len, size = count * sizeof(ITEM);
@@ -47,12 +50,14 @@ static inline ecow_status CALL(keep)(CALL(array) * array, const VALUE *value, co
     return ECOW_OK;
 }
 
+/* ecow_list_let_go, ecow_bytes_let_go, ecow_text_let_go */
 static void CALL(let_go)(CALL(array) * array) {
     if (array->is_copied) {
         CALL(drop)(&array->copy);
     }
 }
 
+/* ecow_list_assign, ecow_bytes_assign, ecow_text_assign */
 ecow_status CALL(assign)(VALUE *value, const ITEM *items, size_t count) {
     CALL(array) array;
     if (count >= PAST_MEMORY) {
@@ -66,6 +71,7 @@ ecow_status CALL(assign)(VALUE *value, const ITEM *items, size_t count) {
     return status;
 }
 
+/* ecow_list_extend, ecow_bytes_extend, ecow_text_extend */
 ecow_status CALL(extend)(VALUE *value, const ITEM *items, size_t count) {
     CALL(array) array;
     if (count >= PAST_MEMORY) {
@@ -80,6 +86,7 @@ ecow_status CALL(extend)(VALUE *value, const ITEM *items, size_t count) {
     return status;
 }
 
+/* ecow_list_splice, ecow_bytes_splice, ecow_text_splice */
 ecow_status CALL(splice)(VALUE *value, size_t start, size_t end, const ITEM *items, size_t count) {
     CALL(array) array;
     if (count >= PAST_MEMORY) {

@@ -16,6 +16,14 @@ static bool overlap(const void *left, size_t left_size, const void *right, size_
            || (uintptr_t)right - (uintptr_t)left < left_size;
 }
 
+/* Returns the status of `call`, which puts a text at `out`: this is `text` or, where that is null, a
+ * text that is dropped. */
+#define PUT_TEXT(text, call)                                  \
+    ecow_text ignored = {{0}}, *out = text ? text : &ignored; \
+    ecow_status status = call;                                \
+    ecow_text_drop(&ignored);                                 \
+    return status
+
 const char *ecow_status_text(ecow_status status) {
     switch (status) {
     case ECOW_OK:
@@ -176,10 +184,7 @@ ecow_status ecow_text_c_str(ecow_text *text, const char **out) {
 
 ecow_status ecow_texts_get(const ecow_texts *texts, size_t index, ecow_text *text) {
     ecow_texts *place = (ecow_texts *)texts;
-    ecow_text ignored = {{0}}, *out = text ? text : &ignored;
-    ecow_status status = ecow_proved_texts_get(&place, index, &out);
-    ecow_text_drop(&ignored);
-    return status;
+    PUT_TEXT(text, ecow_proved_texts_get(&place, index, &out));
 }
 
 extern inline const char *ecow_texts_at(const ecow_texts *texts, size_t index, size_t *len);
@@ -216,10 +221,7 @@ ecow_status ecow_texts_push_text(ecow_texts *texts, const char *bytes, size_t co
 }
 
 ecow_status ecow_texts_pop(ecow_texts *texts, ecow_text *text) {
-    ecow_text ignored = {{0}}, *out = text ? text : &ignored;
-    ecow_status status = ecow_proved_texts_pop(&texts, &out);
-    ecow_text_drop(&ignored);
-    return status;
+    PUT_TEXT(text, ecow_proved_texts_pop(&texts, &out));
 }
 
 ecow_status ecow_texts_insert(ecow_texts *texts, size_t index, const ecow_text *text) {
@@ -228,13 +230,11 @@ ecow_status ecow_texts_insert(ecow_texts *texts, size_t index, const ecow_text *
 }
 
 ecow_status ecow_texts_remove(ecow_texts *texts, size_t index, ecow_text *text) {
-    ecow_text ignored = {{0}}, *out = text ? text : &ignored;
-    ecow_status status = ecow_proved_texts_remove(&texts, index, &out);
-    ecow_text_drop(&ignored);
-    return status;
+    PUT_TEXT(text, ecow_proved_texts_remove(&texts, index, &out));
 }
 
-/* What a call was given, as it stays while a value changes: a clone holds that value itself. */
+/* What a call was given, as it stays while a value changes: a clone holds that value itself.
+ * given_texts, keep_texts, given_value, keep_value */
 #define KEEP(kind)                                                                  \
     typedef struct given_##kind {                                                   \
         ecow_##kind *kind;                                                          \
@@ -336,10 +336,7 @@ ecow_status ecow_value_real(const ecow_value *value, double *real) {
 
 ecow_status ecow_value_text(const ecow_value *value, ecow_text *text) {
     ecow_value *place = (ecow_value *)value;
-    ecow_text ignored = {{0}}, *out = text ? text : &ignored;
-    ecow_status status = ecow_proved_value_text(&place, &out);
-    ecow_text_drop(&ignored);
-    return status;
+    PUT_TEXT(text, ecow_proved_value_text(&place, &out));
 }
 
 size_t ecow_value_len(const ecow_value *value) {
@@ -531,10 +528,7 @@ ecow_status ecow_value_swap_at(ecow_value *value, const ecow_value *path, ecow_v
 
 ecow_status ecow_value_field_name(const ecow_value *value, size_t index, ecow_text *name) {
     ecow_value *place = (ecow_value *)value;
-    ecow_text ignored = {{0}}, *out = name ? name : &ignored;
-    ecow_status status = ecow_proved_value_field_name(&place, index, &out);
-    ecow_text_drop(&ignored);
-    return status;
+    PUT_TEXT(name, ecow_proved_value_field_name(&place, index, &out));
 }
 
 /* Behind the word with its kind, a value has its text, or the word of its list or fields. */

@@ -43,6 +43,10 @@
 #ifndef ECOW_H
 #define ECOW_H
 
+#if !defined __linux__ || !defined __x86_64__ || defined __ILP32__
+#error "the library ecow is built for Linux on x86-64, with pointers of 64 bits"
+#endif
+
 #include <stdbool.h>
 #include <stddef.h>
 #include <stdint.h>
@@ -56,6 +60,15 @@ extern "C" {
 #define ECOW_INLINE extern __inline__
 #else
 #define ECOW_INLINE inline
+#endif
+
+/* Stands before a call whose status is to be looked at. */
+#if defined __cplusplus || (defined __STDC_VERSION__ && __STDC_VERSION__ >= 202311L)
+#define ECOW_CHECKED [[nodiscard]]
+#elif defined __GNUC__
+#define ECOW_CHECKED __attribute__((__warn_unused_result__))
+#else
+#define ECOW_CHECKED
 #endif
 
 /* This header's version. Versions with the same first two numbers have the same calls, and values
@@ -98,6 +111,13 @@ typedef enum ecow_status {
 /* A few words for people: "out of memory". Never null. */
 const char *ecow_status_text(ecow_status status);
 
+/* A compiler warns where nobody looks at the status of a call that can be refused. Where that is
+ * meant, write `ecow_ignore(ecow_list_push(&list, 1));`. A `_clear` is refused for a null pointer
+ * alone, and isn't warned of. */
+static __inline__ void ecow_ignore(ecow_status status) {
+    (void)status;
+}
+
 /* The values. Their words are the library's: neither read nor write them. */
 typedef struct ecow_list {
     uint64_t word[1];
@@ -128,10 +148,10 @@ ecow_list ecow_list_new(void);
 ECOW_INLINE void ecow_list_drop(ecow_list *list);
 
 /* Makes `to` a clone of `from`. What it held is given up. */
-ECOW_INLINE ecow_status ecow_list_clone(ecow_list *to, const ecow_list *from);
+ECOW_CHECKED ECOW_INLINE ecow_status ecow_list_clone(ecow_list *to, const ecow_list *from);
 
 /* Makes it a copy of `count` numbers. */
-ecow_status ecow_list_assign(ecow_list *list, const int64_t *numbers, size_t count);
+ECOW_CHECKED ecow_status ecow_list_assign(ecow_list *list, const int64_t *numbers, size_t count);
 
 /* How many numbers there are. */
 ECOW_INLINE size_t ecow_list_len(const ecow_list *list);
@@ -139,46 +159,51 @@ ECOW_INLINE size_t ecow_list_len(const ecow_list *list);
 /* The numbers, to read, and how many there are. */
 ECOW_INLINE const int64_t *ecow_list_slice(const ecow_list *list, size_t *len);
 
+/* The numbers, to write in place, and how many there are. A list that shares its memory copies it
+ * first, so no other value sees what is written. The pointer stays valid until the next call on this
+ * list, also as the source of a clone, or until the list is moved. */
+ECOW_CHECKED ecow_status ecow_list_edit(ecow_list *list, int64_t **numbers, size_t *len);
+
 /* Reads the number at `index`: ECOW_INDEX from the length on. */
-ecow_status ecow_list_get(const ecow_list *list, size_t index, int64_t *number);
+ECOW_CHECKED ecow_status ecow_list_get(const ecow_list *list, size_t index, int64_t *number);
 
 /* Writes the number at `index`: ECOW_INDEX from the length on. */
-ecow_status ecow_list_set(ecow_list *list, size_t index, int64_t number);
+ECOW_CHECKED ecow_status ecow_list_set(ecow_list *list, size_t index, int64_t number);
 
 /* Appends a number. */
-ecow_status ecow_list_push(ecow_list *list, int64_t number);
+ECOW_CHECKED ecow_status ecow_list_push(ecow_list *list, int64_t number);
 
 /* Takes the last number: ECOW_INDEX where there is none. */
-ecow_status ecow_list_pop(ecow_list *list, int64_t *number);
+ECOW_CHECKED ecow_status ecow_list_pop(ecow_list *list, int64_t *number);
 
 /* Puts a number in at `index`, before the one that stands there: ECOW_INDEX past the length. */
-ecow_status ecow_list_insert(ecow_list *list, size_t index, int64_t number);
+ECOW_CHECKED ecow_status ecow_list_insert(ecow_list *list, size_t index, int64_t number);
 
 /* Takes the number at `index`: ECOW_INDEX from the length on. */
-ecow_status ecow_list_remove(ecow_list *list, size_t index, int64_t *number);
+ECOW_CHECKED ecow_status ecow_list_remove(ecow_list *list, size_t index, int64_t *number);
 
 /* Keeps the first `len` numbers, or all where there are fewer. */
-ecow_status ecow_list_truncate(ecow_list *list, size_t len);
+ECOW_CHECKED ecow_status ecow_list_truncate(ecow_list *list, size_t len);
 
 /* Keeps none. Memory that no clone shares is kept for what comes. */
 ecow_status ecow_list_clear(ecow_list *list);
 
 /* Makes room for `additional` more. */
-ecow_status ecow_list_reserve(ecow_list *list, size_t additional);
+ECOW_CHECKED ecow_status ecow_list_reserve(ecow_list *list, size_t additional);
 
 /* How many numbers there is room for, never fewer than there are. */
 size_t ecow_list_capacity(const ecow_list *list);
 
 /* Gives up room that isn't used, unless another value shares the memory. */
-ecow_status ecow_list_shrink_to_fit(ecow_list *list);
+ECOW_CHECKED ecow_status ecow_list_shrink_to_fit(ecow_list *list);
 
 /* Appends `count` numbers: all or none. */
-ecow_status ecow_list_extend(ecow_list *list, const int64_t *numbers, size_t count);
+ECOW_CHECKED ecow_status ecow_list_extend(ecow_list *list, const int64_t *numbers, size_t count);
 
 /* Puts `count` numbers in place of those from `start` up to `end`, which isn't included: ECOW_INDEX
  * where `start` passes `end`, or `end` the length. */
-ecow_status ecow_list_splice(ecow_list *list, size_t start, size_t end, const int64_t *numbers,
-                             size_t count);
+ECOW_CHECKED ecow_status ecow_list_splice(ecow_list *list, size_t start, size_t end,
+                                          const int64_t *numbers, size_t count);
 
 /* Whether both stand in the same memory, and so are equal: not so where they hold nothing, or where
  * they take no memory, or a pointer is null. */
@@ -203,10 +228,10 @@ ecow_bytes ecow_bytes_new(void);
 ECOW_INLINE void ecow_bytes_drop(ecow_bytes *bytes);
 
 /* Makes `to` a clone of `from`. What it held is given up. */
-ECOW_INLINE ecow_status ecow_bytes_clone(ecow_bytes *to, const ecow_bytes *from);
+ECOW_CHECKED ECOW_INLINE ecow_status ecow_bytes_clone(ecow_bytes *to, const ecow_bytes *from);
 
 /* Makes it a copy of `count` bytes. */
-ecow_status ecow_bytes_assign(ecow_bytes *bytes, const uint8_t *added, size_t count);
+ECOW_CHECKED ecow_status ecow_bytes_assign(ecow_bytes *bytes, const uint8_t *added, size_t count);
 
 /* How many bytes there are. */
 ECOW_INLINE size_t ecow_bytes_len(const ecow_bytes *bytes);
@@ -214,47 +239,50 @@ ECOW_INLINE size_t ecow_bytes_len(const ecow_bytes *bytes);
 /* The bytes, to read, and how many there are. */
 ECOW_INLINE const uint8_t *ecow_bytes_slice(const ecow_bytes *bytes, size_t *len);
 
+/* The bytes, to write in place, and how many there are, as `ecow_list_edit` lends numbers. */
+ECOW_CHECKED ecow_status ecow_bytes_edit(ecow_bytes *bytes, uint8_t **items, size_t *len);
+
 /* Reads the byte at `index`: ECOW_INDEX from the length on. */
-ecow_status ecow_bytes_get(const ecow_bytes *bytes, size_t index, uint8_t *byte);
+ECOW_CHECKED ecow_status ecow_bytes_get(const ecow_bytes *bytes, size_t index, uint8_t *byte);
 
 /* Writes the byte at `index`: ECOW_INDEX from the length on. */
-ecow_status ecow_bytes_set(ecow_bytes *bytes, size_t index, uint8_t byte);
+ECOW_CHECKED ecow_status ecow_bytes_set(ecow_bytes *bytes, size_t index, uint8_t byte);
 
 /* Appends a byte. */
-ecow_status ecow_bytes_push(ecow_bytes *bytes, uint8_t byte);
+ECOW_CHECKED ecow_status ecow_bytes_push(ecow_bytes *bytes, uint8_t byte);
 
 /* Takes the last byte: ECOW_INDEX where there is none. */
-ecow_status ecow_bytes_pop(ecow_bytes *bytes, uint8_t *byte);
+ECOW_CHECKED ecow_status ecow_bytes_pop(ecow_bytes *bytes, uint8_t *byte);
 
 /* Puts a byte in at `index`, before the one that stands there: ECOW_INDEX past the length. */
-ecow_status ecow_bytes_insert(ecow_bytes *bytes, size_t index, uint8_t byte);
+ECOW_CHECKED ecow_status ecow_bytes_insert(ecow_bytes *bytes, size_t index, uint8_t byte);
 
 /* Takes the byte at `index`: ECOW_INDEX from the length on. */
-ecow_status ecow_bytes_remove(ecow_bytes *bytes, size_t index, uint8_t *byte);
+ECOW_CHECKED ecow_status ecow_bytes_remove(ecow_bytes *bytes, size_t index, uint8_t *byte);
 
 /* Keeps the first `len` bytes, or all where there are fewer. */
-ecow_status ecow_bytes_truncate(ecow_bytes *bytes, size_t len);
+ECOW_CHECKED ecow_status ecow_bytes_truncate(ecow_bytes *bytes, size_t len);
 
 /* Keeps none. Memory that no clone shares is kept for what comes. */
 ecow_status ecow_bytes_clear(ecow_bytes *bytes);
 
 /* Makes room for `additional` more. */
-ecow_status ecow_bytes_reserve(ecow_bytes *bytes, size_t additional);
+ECOW_CHECKED ecow_status ecow_bytes_reserve(ecow_bytes *bytes, size_t additional);
 
 /* How many bytes there is room for, never fewer than there are: 15 where they are in the struct. */
 size_t ecow_bytes_capacity(const ecow_bytes *bytes);
 
 /* Brings at most 15 bytes back into the struct, and gives their memory up. More stay where they
  * are, with their room. */
-ecow_status ecow_bytes_shrink_to_fit(ecow_bytes *bytes);
+ECOW_CHECKED ecow_status ecow_bytes_shrink_to_fit(ecow_bytes *bytes);
 
 /* Appends `count` bytes: all or none. */
-ecow_status ecow_bytes_extend(ecow_bytes *bytes, const uint8_t *added, size_t count);
+ECOW_CHECKED ecow_status ecow_bytes_extend(ecow_bytes *bytes, const uint8_t *added, size_t count);
 
 /* Puts `count` bytes in place of those from `start` up to `end`, which isn't included: ECOW_INDEX
  * where `start` passes `end`, or `end` the length. */
-ecow_status ecow_bytes_splice(ecow_bytes *bytes, size_t start, size_t end, const uint8_t *added,
-                              size_t count);
+ECOW_CHECKED ecow_status ecow_bytes_splice(ecow_bytes *bytes, size_t start, size_t end,
+                                           const uint8_t *added, size_t count);
 
 /* Whether both stand in the same memory, and so are equal: not so where they hold nothing, or where
  * they take no memory, or a pointer is null. */
@@ -286,10 +314,10 @@ ecow_text ecow_text_new(void);
 ECOW_INLINE void ecow_text_drop(ecow_text *text);
 
 /* Makes `to` a clone of `from`. What it held is given up. */
-ECOW_INLINE ecow_status ecow_text_clone(ecow_text *to, const ecow_text *from);
+ECOW_CHECKED ECOW_INLINE ecow_status ecow_text_clone(ecow_text *to, const ecow_text *from);
 
 /* Makes it a copy of `added`. */
-ecow_status ecow_text_assign(ecow_text *text, const char *added, size_t count);
+ECOW_CHECKED ecow_status ecow_text_assign(ecow_text *text, const char *added, size_t count);
 
 /* How many bytes there are. */
 ECOW_INLINE size_t ecow_text_len(const ecow_text *text);
@@ -299,65 +327,67 @@ ECOW_INLINE const char *ecow_text_slice(const ecow_text *text, size_t *len);
 
 /* Puts a 0 behind the bytes, and writes where they begin to `start`: ECOW_INNER_NUL where one
  * stands among them. They stay valid as those of a `_slice` do. A shared text is copied. */
-ecow_status ecow_text_c_str(ecow_text *text, const char **start);
+ECOW_CHECKED ecow_status ecow_text_c_str(ecow_text *text, const char **start);
 
 /* Whether `index` is a boundary. */
 bool ecow_text_is_boundary(const ecow_text *text, size_t index);
 
 /* Reads the character that begins at `index`: ECOW_INDEX from the length on, ECOW_BOUNDARY inside a
  * character. */
-ecow_status ecow_text_get(const ecow_text *text, size_t index, uint32_t *character);
+ECOW_CHECKED ecow_status ecow_text_get(const ecow_text *text, size_t index, uint32_t *character);
 
 /* Appends a character: ECOW_UTF8 where there is none of that number. */
-ecow_status ecow_text_push(ecow_text *text, uint32_t character);
+ECOW_CHECKED ecow_status ecow_text_push(ecow_text *text, uint32_t character);
 
 /* Takes the last character: ECOW_INDEX where there is none. */
-ecow_status ecow_text_pop(ecow_text *text, uint32_t *character);
+ECOW_CHECKED ecow_status ecow_text_pop(ecow_text *text, uint32_t *character);
 
 /* Puts `added` in at `index`: ECOW_INDEX past the length, ECOW_BOUNDARY inside a character. */
-ecow_status ecow_text_insert(ecow_text *text, size_t index, const char *added, size_t count);
+ECOW_CHECKED ecow_status ecow_text_insert(ecow_text *text, size_t index, const char *added,
+                                          size_t count);
 
 /* Takes the character that begins at `index`: ECOW_INDEX from the length on, ECOW_BOUNDARY inside a
  * character. */
-ecow_status ecow_text_remove(ecow_text *text, size_t index, uint32_t *character);
+ECOW_CHECKED ecow_status ecow_text_remove(ecow_text *text, size_t index, uint32_t *character);
 
 /* Keeps the first `len` bytes, or all where there are fewer: ECOW_BOUNDARY inside a character. */
-ecow_status ecow_text_truncate(ecow_text *text, size_t len);
+ECOW_CHECKED ecow_status ecow_text_truncate(ecow_text *text, size_t len);
 
 /* Keeps nothing. Memory that no clone shares is kept for what comes. */
 ecow_status ecow_text_clear(ecow_text *text);
 
 /* Makes room for `additional` more bytes. */
-ecow_status ecow_text_reserve(ecow_text *text, size_t additional);
+ECOW_CHECKED ecow_status ecow_text_reserve(ecow_text *text, size_t additional);
 
 /* How many bytes there is room for, never fewer than there are: 15 where they are in the struct. */
 size_t ecow_text_capacity(const ecow_text *text);
 
 /* Brings at most 15 bytes back into the struct, and gives their memory up. More stay where they
  * are, with their room. */
-ecow_status ecow_text_shrink_to_fit(ecow_text *text);
+ECOW_CHECKED ecow_status ecow_text_shrink_to_fit(ecow_text *text);
 
 /* Appends `added`: all or nothing. */
-ecow_status ecow_text_extend(ecow_text *text, const char *added, size_t count);
+ECOW_CHECKED ecow_status ecow_text_extend(ecow_text *text, const char *added, size_t count);
 
 /* Puts `added` in place of the bytes from `start` up to `end`, which isn't included: ECOW_INDEX
  * where `start` passes `end`, or `end` the length, ECOW_BOUNDARY inside a character. */
-ecow_status ecow_text_splice(ecow_text *text, size_t start, size_t end, const char *added,
-                             size_t count);
+ECOW_CHECKED ecow_status ecow_text_splice(ecow_text *text, size_t start, size_t end,
+                                          const char *added, size_t count);
 
 /* Puts `replacement` in place of each `pattern`, from the left and without overlap. An empty
  * pattern is found at each boundary. */
-ecow_status ecow_text_replace(ecow_text *text, const char *pattern, size_t pattern_count,
-                              const char *replacement, size_t replacement_count);
+ECOW_CHECKED ecow_status ecow_text_replace(ecow_text *text, const char *pattern,
+                                           size_t pattern_count, const char *replacement,
+                                           size_t replacement_count);
 
 /* Puts it in lower case, by Unicode. */
-ecow_status ecow_text_to_lowercase(ecow_text *text);
+ECOW_CHECKED ecow_status ecow_text_to_lowercase(ecow_text *text);
 
 /* Puts it in upper case, by Unicode. */
-ecow_status ecow_text_to_uppercase(ecow_text *text);
+ECOW_CHECKED ecow_status ecow_text_to_uppercase(ecow_text *text);
 
 /* Makes it `count` times as long: itself, that often. */
-ecow_status ecow_text_repeat(ecow_text *text, size_t count);
+ECOW_CHECKED ecow_status ecow_text_repeat(ecow_text *text, size_t count);
 
 /* Whether both stand in the same memory, and so are equal: not so where they hold nothing, or where
  * they take no memory, or a pointer is null. */
@@ -385,13 +415,13 @@ ecow_texts ecow_texts_new(void);
 ECOW_INLINE void ecow_texts_drop(ecow_texts *texts);
 
 /* Makes `to` a clone of `from`. What it held is given up. */
-ECOW_INLINE ecow_status ecow_texts_clone(ecow_texts *to, const ecow_texts *from);
+ECOW_CHECKED ECOW_INLINE ecow_status ecow_texts_clone(ecow_texts *to, const ecow_texts *from);
 
 /* How many texts there are. */
 ECOW_INLINE size_t ecow_texts_len(const ecow_texts *texts);
 
 /* Makes `text` a clone of the text at `index`: ECOW_INDEX from the length on. */
-ecow_status ecow_texts_get(const ecow_texts *texts, size_t index, ecow_text *text);
+ECOW_CHECKED ecow_status ecow_texts_get(const ecow_texts *texts, size_t index, ecow_text *text);
 
 /* The texts, to read, and how many there are. They stay valid as those of any `_slice` do. */
 ECOW_INLINE const ecow_text *ecow_texts_slice(const ecow_texts *texts, size_t *len);
@@ -401,47 +431,49 @@ ECOW_INLINE const ecow_text *ecow_texts_slice(const ecow_texts *texts, size_t *l
 ECOW_INLINE const char *ecow_texts_at(const ecow_texts *texts, size_t index, size_t *len);
 
 /* Puts a text in place of the one at `index`: ECOW_INDEX from the length on. */
-ecow_status ecow_texts_set(ecow_texts *texts, size_t index, const ecow_text *text);
+ECOW_CHECKED ecow_status ecow_texts_set(ecow_texts *texts, size_t index, const ecow_text *text);
 
 /* The same of a text that is given by its bytes. */
-ecow_status ecow_texts_set_text(ecow_texts *texts, size_t index, const char *bytes, size_t count);
+ECOW_CHECKED ecow_status ecow_texts_set_text(ecow_texts *texts, size_t index, const char *bytes,
+                                             size_t count);
 
 /* Appends a text. */
-ecow_status ecow_texts_push(ecow_texts *texts, const ecow_text *text);
+ECOW_CHECKED ecow_status ecow_texts_push(ecow_texts *texts, const ecow_text *text);
 
 /* The same of a text that is given by its bytes. */
-ecow_status ecow_texts_push_text(ecow_texts *texts, const char *bytes, size_t count);
+ECOW_CHECKED ecow_status ecow_texts_push_text(ecow_texts *texts, const char *bytes, size_t count);
 
 /* Takes the last text: ECOW_INDEX where there is none. */
-ecow_status ecow_texts_pop(ecow_texts *texts, ecow_text *text);
+ECOW_CHECKED ecow_status ecow_texts_pop(ecow_texts *texts, ecow_text *text);
 
 /* Puts a text in at `index`, before the one that stands there: ECOW_INDEX past the length. */
-ecow_status ecow_texts_insert(ecow_texts *texts, size_t index, const ecow_text *text);
+ECOW_CHECKED ecow_status ecow_texts_insert(ecow_texts *texts, size_t index, const ecow_text *text);
 
 /* Takes the text at `index`: ECOW_INDEX from the length on. */
-ecow_status ecow_texts_remove(ecow_texts *texts, size_t index, ecow_text *text);
+ECOW_CHECKED ecow_status ecow_texts_remove(ecow_texts *texts, size_t index, ecow_text *text);
 
 /* Keeps the first `len` texts, or all where there are fewer. */
-ecow_status ecow_texts_truncate(ecow_texts *texts, size_t len);
+ECOW_CHECKED ecow_status ecow_texts_truncate(ecow_texts *texts, size_t len);
 
 /* Keeps none. Memory that no clone shares is kept for what comes. */
 ecow_status ecow_texts_clear(ecow_texts *texts);
 
 /* Makes room for `additional` more. */
-ecow_status ecow_texts_reserve(ecow_texts *texts, size_t additional);
+ECOW_CHECKED ecow_status ecow_texts_reserve(ecow_texts *texts, size_t additional);
 
 /* How many texts there is room for, never fewer than there are. */
 size_t ecow_texts_capacity(const ecow_texts *texts);
 
 /* Gives up room that isn't used, unless another value shares the memory. */
-ecow_status ecow_texts_shrink_to_fit(ecow_texts *texts);
+ECOW_CHECKED ecow_status ecow_texts_shrink_to_fit(ecow_texts *texts);
 
 /* Appends the texts of `added`, which may be the list itself: all or none. */
-ecow_status ecow_texts_extend(ecow_texts *texts, const ecow_texts *added);
+ECOW_CHECKED ecow_status ecow_texts_extend(ecow_texts *texts, const ecow_texts *added);
 
 /* Puts the texts of `added`, which may be the list itself, in place of those from `start` up to
  * `end`, which isn't included: ECOW_INDEX where `start` passes `end`, or `end` the length. */
-ecow_status ecow_texts_splice(ecow_texts *texts, size_t start, size_t end, const ecow_texts *added);
+ECOW_CHECKED ecow_status ecow_texts_splice(ecow_texts *texts, size_t start, size_t end,
+                                           const ecow_texts *added);
 
 /* Whether both stand in the same memory, and so are equal: not so where they hold nothing, or where
  * they take no memory, or a pointer is null. */
@@ -488,43 +520,43 @@ ecow_value ecow_value_new(void);
 ECOW_INLINE void ecow_value_drop(ecow_value *value);
 
 /* Makes `to` a clone of `from`. What it held is given up. */
-ECOW_INLINE ecow_status ecow_value_clone(ecow_value *to, const ecow_value *from);
+ECOW_CHECKED ECOW_INLINE ecow_status ecow_value_clone(ecow_value *to, const ecow_value *from);
 
 /* What the value is; a null pointer is nothing. */
 ecow_kind ecow_value_kind(const ecow_value *value);
 
 /* Makes it nothing. */
-ecow_status ecow_value_set_nothing(ecow_value *value);
+ECOW_CHECKED ecow_status ecow_value_set_nothing(ecow_value *value);
 
 /* Makes it a truth value. */
-ecow_status ecow_value_set_truth(ecow_value *value, bool truth);
+ECOW_CHECKED ecow_status ecow_value_set_truth(ecow_value *value, bool truth);
 
 /* Makes it a number. */
-ecow_status ecow_value_set_number(ecow_value *value, int64_t number);
+ECOW_CHECKED ecow_status ecow_value_set_number(ecow_value *value, int64_t number);
 
 /* Makes it a floating-point number. */
-ecow_status ecow_value_set_real(ecow_value *value, double real);
+ECOW_CHECKED ecow_status ecow_value_set_real(ecow_value *value, double real);
 
 /* Makes it a text. */
-ecow_status ecow_value_set_text(ecow_value *value, const ecow_text *text);
+ECOW_CHECKED ecow_status ecow_value_set_text(ecow_value *value, const ecow_text *text);
 
 /* Makes it a list of no items. */
-ecow_status ecow_value_set_list(ecow_value *value);
+ECOW_CHECKED ecow_status ecow_value_set_list(ecow_value *value);
 
 /* Makes it a value with no fields. */
-ecow_status ecow_value_set_fields(ecow_value *value);
+ECOW_CHECKED ecow_status ecow_value_set_fields(ecow_value *value);
 
 /* Reads the truth value. */
-ecow_status ecow_value_truth(const ecow_value *value, bool *truth);
+ECOW_CHECKED ecow_status ecow_value_truth(const ecow_value *value, bool *truth);
 
 /* Reads the number. */
-ecow_status ecow_value_number(const ecow_value *value, int64_t *number);
+ECOW_CHECKED ecow_status ecow_value_number(const ecow_value *value, int64_t *number);
 
 /* Reads the floating-point number. */
-ecow_status ecow_value_real(const ecow_value *value, double *real);
+ECOW_CHECKED ecow_status ecow_value_real(const ecow_value *value, double *real);
 
 /* Makes `text` a clone of the text. */
-ecow_status ecow_value_text(const ecow_value *value, ecow_text *text);
+ECOW_CHECKED ecow_status ecow_value_text(const ecow_value *value, ecow_text *text);
 
 /* How many items a list has, or how many fields there are; 0 of another kind. */
 size_t ecow_value_len(const ecow_value *value);
@@ -536,71 +568,75 @@ size_t ecow_value_depth(const ecow_value *value);
 
 /* Makes `item` a clone of the item of a list, or of a field's value, at `index`: ECOW_INDEX from
  * the length on. */
-ecow_status ecow_value_get(const ecow_value *value, size_t index, ecow_value *item);
+ECOW_CHECKED ecow_status ecow_value_get(const ecow_value *value, size_t index, ecow_value *item);
 
 /* Puts an item in place of the one at `index` of a list: ECOW_INDEX from the length on. */
-ecow_status ecow_value_set(ecow_value *value, size_t index, const ecow_value *item);
+ECOW_CHECKED ecow_status ecow_value_set(ecow_value *value, size_t index, const ecow_value *item);
 
 /* Exchanges the item at `index` of a list and `*other`: ECOW_INDEX from the length on. So an item
  * that holds a list is taken out, changed and put in again, and only a shared list is copied. A
  * value that is exchanged with its own item becomes that item. */
-ecow_status ecow_value_swap(ecow_value *value, size_t index, ecow_value *other);
+ECOW_CHECKED ecow_status ecow_value_swap(ecow_value *value, size_t index, ecow_value *other);
 
 /* Appends an item to a list. */
-ecow_status ecow_value_push(ecow_value *value, const ecow_value *item);
+ECOW_CHECKED ecow_status ecow_value_push(ecow_value *value, const ecow_value *item);
 
 /* Takes the last item of a list: ECOW_INDEX where there is none. */
-ecow_status ecow_value_pop(ecow_value *value, ecow_value *item);
+ECOW_CHECKED ecow_status ecow_value_pop(ecow_value *value, ecow_value *item);
 
 /* Puts an item in at `index` of a list, before the one that stands there: ECOW_INDEX past the
  * length. */
-ecow_status ecow_value_insert(ecow_value *value, size_t index, const ecow_value *item);
+ECOW_CHECKED ecow_status ecow_value_insert(ecow_value *value, size_t index, const ecow_value *item);
 
 /* Takes the item at `index` of a list: ECOW_INDEX from the length on. */
-ecow_status ecow_value_remove(ecow_value *value, size_t index, ecow_value *item);
+ECOW_CHECKED ecow_status ecow_value_remove(ecow_value *value, size_t index, ecow_value *item);
 
 /* Keeps the first `len` items of a list, or all where there are fewer. */
-ecow_status ecow_value_truncate(ecow_value *value, size_t len);
+ECOW_CHECKED ecow_status ecow_value_truncate(ecow_value *value, size_t len);
 
 /* Makes `item` a clone of the value of the field of that name, given by its bytes: ECOW_INDEX where
  * there is none. */
-ecow_status ecow_value_get_field(const ecow_value *value, const char *name, size_t count,
-                                 ecow_value *item);
+ECOW_CHECKED ecow_status ecow_value_get_field(const ecow_value *value, const char *name,
+                                              size_t count, ecow_value *item);
 
 /* Puts a value in place of that of the field of that name, or appends a field where there is
  * none. */
-ecow_status ecow_value_set_field(ecow_value *value, const char *name, size_t count,
-                                 const ecow_value *item);
+ECOW_CHECKED ecow_status ecow_value_set_field(ecow_value *value, const char *name, size_t count,
+                                              const ecow_value *item);
 
 /* Appends a field, and looks for none of that name. Of a name that stands twice, calls by it mean the
  * first. */
-ecow_status ecow_value_push_field(ecow_value *value, const char *name, size_t count,
-                                  const ecow_value *item);
+ECOW_CHECKED ecow_status ecow_value_push_field(ecow_value *value, const char *name, size_t count,
+                                               const ecow_value *item);
 
 /* Exchanges the value of the field of that name and `*other`, as ecow_value_swap does: ECOW_INDEX
  * where there is none. */
-ecow_status ecow_value_swap_field(ecow_value *value, const char *name, size_t count,
-                                  ecow_value *other);
+ECOW_CHECKED ecow_status ecow_value_swap_field(ecow_value *value, const char *name, size_t count,
+                                               ecow_value *other);
 
 /* Takes the field of that name, and makes `item` its value: ECOW_INDEX where there is none. */
-ecow_status ecow_value_remove_field(ecow_value *value, const char *name, size_t count,
-                                    ecow_value *item);
+ECOW_CHECKED ecow_status ecow_value_remove_field(ecow_value *value, const char *name, size_t count,
+                                                 ecow_value *item);
 
 /* A path to a part is itself a value: a list of texts, each the name of a field, and of numbers,
  * each the index of an item. ECOW_KIND where it isn't, ECOW_INDEX where there is no such part. */
 
 /* Makes `part` a clone of the part at the end of the path. */
-ecow_status ecow_value_get_at(const ecow_value *value, const ecow_value *path, ecow_value *part);
+ECOW_CHECKED ecow_status ecow_value_get_at(const ecow_value *value, const ecow_value *path,
+                                           ecow_value *part);
 
 /* Puts an item in place of that part: of the lists and fields on the way only shared ones are
  * copied. */
-ecow_status ecow_value_set_at(ecow_value *value, const ecow_value *path, const ecow_value *item);
+ECOW_CHECKED ecow_status ecow_value_set_at(ecow_value *value, const ecow_value *path,
+                                           const ecow_value *item);
 
 /* Exchanges that part and `*other`, as ecow_value_swap does. */
-ecow_status ecow_value_swap_at(ecow_value *value, const ecow_value *path, ecow_value *other);
+ECOW_CHECKED ecow_status ecow_value_swap_at(ecow_value *value, const ecow_value *path,
+                                            ecow_value *other);
 
 /* Makes `name` a clone of the name of the field at `index`: ECOW_INDEX from the length on. */
-ecow_status ecow_value_field_name(const ecow_value *value, size_t index, ecow_text *name);
+ECOW_CHECKED ecow_status ecow_value_field_name(const ecow_value *value, size_t index,
+                                               ecow_text *name);
 
 /* Whether both stand in the same memory, and so are equal: not so where they hold nothing, or where
  * they take no memory, or a pointer is null. */
@@ -625,32 +661,36 @@ typedef struct ecow_head {
 
 #ifdef __cplusplus
 #define ECOW_AT(type, address) reinterpret_cast<const type *>(address)
+#define ECOW_IN(type, place) static_cast<const type *>(static_cast<const void *>(place))
 #else
 #define ECOW_AT(type, address) ((const type *)(address))
+#define ECOW_IN(type, place) ((const type *)(const void *)(place))
 #endif
 
 /* What has no head has its items in the struct, or none. */
-#define ECOW_READ(kind, item, head_word, items_word, inline_len)                            \
-    ECOW_INLINE const item *ecow_##kind##_slice(const ecow_##kind *kind, size_t *len) {     \
-        static const ecow_##kind nothing = {{0}};                                           \
-        const uint64_t *word = kind ? kind->word : nothing.word;                            \
-        const uint8_t *byte = ECOW_AT(uint8_t, word);                                       \
-        const ecow_head *head = ECOW_AT(ecow_head, head_word);                              \
-        if (len) {                                                                          \
-            *len = head ? head->len : inline_len;                                           \
-        }                                                                                   \
-        return head ? ECOW_AT(item, head->items) : ECOW_AT(item, items_word);               \
-    }                                                                                       \
-                                                                                            \
-    ECOW_INLINE size_t ecow_##kind##_len(const ecow_##kind *kind) {                         \
-        size_t len;                                                                         \
-        (void)ecow_##kind##_slice(kind, &len);                                              \
-        return len;                                                                         \
+#define ECOW_READ(kind, item, head_word, items_word, inline_len)                        \
+    ECOW_INLINE const item *ecow_##kind##_slice(const ecow_##kind *kind, size_t *len) { \
+        static const ecow_##kind nothing = {{0}};                                       \
+        const uint64_t *word = kind ? kind->word : nothing.word;                        \
+        const uint8_t *byte = ECOW_IN(uint8_t, word);                                   \
+        const ecow_head *head = ECOW_AT(ecow_head, head_word);                          \
+        if (len) {                                                                      \
+            *len = head ? head->len : inline_len;                                       \
+        }                                                                               \
+        return head ? ECOW_IN(item, head->items) : ECOW_IN(item, items_word);           \
+    }                                                                                   \
+                                                                                        \
+    ECOW_INLINE size_t ecow_##kind##_len(const ecow_##kind *kind) {                     \
+        size_t len;                                                                     \
+        (void)ecow_##kind##_slice(kind, &len);                                          \
+        return len;                                                                     \
     }
 
 #define ECOW_READ_SMALL(kind, item)                             \
     ECOW_READ(kind, item, byte[0] == 2 ? word[1] : 0, byte + 1, \
-              byte[0] == 0 ? byte[15] : byte[0] == 1 ? 15 : 0)
+              byte[0] == 0   ? byte[15]                         \
+              : byte[0] == 1 ? 15                               \
+                             : 0)
 
 ECOW_READ(list, int64_t, word[0], byte, 0)
 ECOW_READ_SMALL(bytes, uint8_t)
@@ -659,6 +699,7 @@ ECOW_READ(texts, ecow_text, word[0], byte, 0)
 #undef ECOW_READ_SMALL
 #undef ECOW_READ
 #undef ECOW_AT
+#undef ECOW_IN
 
 ECOW_INLINE const char *ecow_texts_at(const ecow_texts *texts, size_t index, size_t *len) {
     size_t count;

@@ -8,9 +8,9 @@
  * Copies. A copy takes the same time however long the value is, and asks for no memory. A value
  * that was moved from is empty; a nested one is nothing then.
  *
- * Items are read where they lie, through iterators, pointers and `operator[]`. Calls write them, as
- * `set` does, since a write has to copy what others share. The texts of `ecow::texts` are read as
- * std::string_view.
+ * Items are read where they lie, through iterators, pointers and `operator[]`. They are written by
+ * calls such as `set`, or in place through `edit()`, since a write has to copy what others share
+ * first. The texts of `ecow::texts` are read as std::string_view.
  *
  * Arrays. An argument of type `array` is one of these, and may lie in the value that changes:
  *     a std::vector, std::array, std::span or C array of the items, which is read where it lies
@@ -31,7 +31,8 @@
  * to copy an array.
  *
  * Lifetimes. Iterators, pointers, references and views into a value stay valid until it is changed,
- * moved, swapped or destroyed.
+ * moved, swapped or destroyed, and what `edit()` lends until it is copied, too. `data()`, `c_str()`,
+ * `begin()`, `end()`, `edit()` and a std::string_view of a temporary value aren't compiled.
  *
  * Threads. A value is in one call at a time, whichever thread makes it, and members that read count
  * too. Its copies are values of their own, which other threads may use meanwhile. Over a library of
@@ -62,6 +63,16 @@
 
 #ifdef __cpp_impl_three_way_comparison
 #include <compare>
+#endif
+#if __has_include(<format>)
+#include <format>
+#endif
+
+/* Stands behind a member whose result refers into the value. */
+#if defined __has_cpp_attribute && __has_cpp_attribute(clang::lifetimebound)
+#define ECOW_LENDS [[clang::lifetimebound]]
+#else
+#define ECOW_LENDS
 #endif
 
 namespace ecow {
@@ -103,6 +114,49 @@ public:
     ecow_status status() const noexcept {
         return ECOW_KIND;
     }
+};
+
+/* Items to write in place, as `edit()` lends them. */
+template <typename Item> class span {
+public:
+    using element_type = Item;
+    using value_type = Item;
+    using size_type = std::size_t;
+    using difference_type = std::ptrdiff_t;
+    using pointer = Item *;
+    using reference = Item &;
+    using iterator = Item *;
+
+    span(Item *start, size_type count) noexcept : first(start), length(count) {}
+
+    [[nodiscard]] Item *data() const noexcept {
+        return first;
+    }
+
+    [[nodiscard]] size_type size() const noexcept {
+        return length;
+    }
+
+    [[nodiscard]] bool empty() const noexcept {
+        return length == 0;
+    }
+
+    [[nodiscard]] Item *begin() const noexcept {
+        return first;
+    }
+
+    [[nodiscard]] Item *end() const noexcept {
+        return first + length;
+    }
+
+    /* `index` has to be below the size: nothing checks it. */
+    Item &operator[](size_type index) const noexcept {
+        return first[index];
+    }
+
+private:
+    Item *first;
+    size_type length;
 };
 
 namespace detail {
@@ -167,6 +221,7 @@ inline void check(ecow_status status) {
 #define ECOW_LIST_CALLS(kind, Item)                      \
     ECOW_ARRAY_CALLS(kind, Item);                        \
     static constexpr auto set = ecow_##kind##_set;       \
+    static constexpr auto edit = ecow_##kind##_edit;     \
     static constexpr auto push = ecow_##kind##_push;     \
     static constexpr auto pop = ecow_##kind##_pop;       \
     static constexpr auto insert = ecow_##kind##_insert; \
@@ -640,13 +695,14 @@ public:
         raw = std::exchange(*taken, {});
     }
 
-    owned(const owned &other) {
+    /* A copy is refused past 2^63 owners, which no memory holds. */
+    owned(const owned &other) noexcept {
         check(Calls::clone(&raw, &other.raw));
     }
 
     owned(owned &&other) noexcept : raw(other.release()) {}
 
-    owned &operator=(const owned &other) {
+    owned &operator=(const owned &other) noexcept {
         check(Calls::clone(&raw, &other.raw));
         return *this;
     }
@@ -791,23 +847,23 @@ public:
     }
 
     /* `index` has to be below the size: nothing checks it. */
-    const_reference operator[](size_type index) const noexcept {
+    const_reference operator[](size_type index) const noexcept ECOW_LENDS {
         return *place_of(index);
     }
 
     /* Throws std::out_of_range from the size on. */
-    const_reference at(size_type index) const {
+    const_reference at(size_type index) const ECOW_LENDS {
         check(index < size() ? ECOW_OK : ECOW_INDEX);
         return *place_of(index);
     }
 
     /* The value may not be empty: nothing checks it. */
-    const_reference front() const noexcept {
+    const_reference front() const noexcept ECOW_LENDS {
         return *cbegin();
     }
 
     /* The value may not be empty: nothing checks it. */
-    const_reference back() const noexcept {
+    const_reference back() const noexcept ECOW_LENDS {
         return *(cend() - 1);
     }
 
@@ -937,15 +993,21 @@ public:
     }
 
     /* Never null, even where the value is empty. */
-    const_pointer data() const noexcept {
+    const_pointer data() const &noexcept ECOW_LENDS {
         return Calls::slice(&raw, nullptr);
     }
 
-    const_iterator begin() const noexcept {
+    const_pointer data() const && = delete;
+
+    const_iterator begin() const &noexcept ECOW_LENDS {
         return const_iterator(data());
     }
 
-    const_iterator end() const noexcept {
+    const_iterator begin() const && = delete;
+
+    const_iterator end() const && = delete;
+
+    const_iterator end() const &noexcept ECOW_LENDS {
         size_type count = 0;
         const_pointer start = Calls::slice(&raw, &count);
         return const_iterator(start + count);
@@ -995,6 +1057,15 @@ public:
 
     explicit operator std::vector<Item>() const {
         return std::vector<Item>(this->begin(), this->end());
+    }
+
+    /* The items, to write in place: `auto items = v.edit(); std::sort(items.begin(), items.end());`.
+     * Memory that a copy shares is copied first, so that the copy doesn't change. */
+    [[nodiscard]] span<Item> edit() & ECOW_LENDS {
+        Item *start = nullptr;
+        std::size_t count = 0;
+        detail::check(own::edit(&this->raw, &start, &count));
+        return span<Item>(start, count);
     }
 
     /* Writes the item at `index`. Throws std::out_of_range from the size on. */
@@ -1092,18 +1163,20 @@ public:
 
     /* Puts a 0 behind the bytes, which copies what is shared. Throws `invalid_text` where one
      * stands among them. */
-    const char *c_str() {
+    const char *c_str() & ECOW_LENDS {
         const char *start = nullptr;
         detail::check(ecow_text_c_str(&raw, &start));
         return start;
     }
 
     /* No 0 need stand behind the bytes. */
-    operator std::string_view() const noexcept {
+    operator std::string_view() const &noexcept ECOW_LENDS {
         size_type count = 0;
         const char *start = ecow_text_slice(&raw, &count);
         return std::string_view(start, count);
     }
+
+    operator std::string_view() const && = delete;
 
     bool is_boundary(size_type index) const noexcept {
         return ecow_text_is_boundary(&raw, index);
@@ -1222,16 +1295,17 @@ public:
         return rfind(pattern, 0) == 0;
     }
 
-    bool ends_with(std::string_view pattern) const noexcept {
-        return size() >= pattern.size() && view().substr(size() - pattern.size()) == pattern;
+    template <typename Pattern> bool ends_with(const Pattern &pattern) const noexcept {
+        if constexpr (std::is_same_v<Pattern, char>) {
+            return ends_with(std::string_view(&pattern, 1));
+        } else {
+            const std::string_view last(pattern);
+            return size() >= last.size() && view().substr(size() - last.size()) == last;
+        }
     }
 
-    bool ends_with(char character) const noexcept {
-        return ends_with(std::string_view(&character, 1));
-    }
-
-    int compare(std::string_view other) const noexcept {
-        return view().compare(other);
+    template <typename Other> int compare(const Other &other) const noexcept {
+        return view().compare(std::string_view(other));
     }
 
     /* Puts it in lower case, by Unicode. */
@@ -1394,11 +1468,15 @@ public:
         }
     }
 
-    const_iterator begin() const noexcept {
+    const_iterator begin() const &noexcept ECOW_LENDS {
         return const_iterator(&raw, 0);
     }
 
-    const_iterator end() const noexcept {
+    const_iterator begin() const && = delete;
+
+    const_iterator end() const && = delete;
+
+    const_iterator end() const &noexcept ECOW_LENDS {
         return const_iterator(&raw, size());
     }
 
@@ -1615,9 +1693,31 @@ private:
     value (*make)(const value_item &item);
 };
 
+/* The name of a field, for as long as a call lasts: a text in any form, also a temporary one. */
+class name {
+public:
+    template <typename From, std::enable_if_t<is_view<From>(), int> = 0>
+    name(const From &from) noexcept : view(from) {}
+
+    const char *data() const noexcept {
+        return view.data();
+    }
+
+    std::size_t size() const noexcept {
+        return view.size();
+    }
+
+    explicit operator std::string() const {
+        return std::string(view);
+    }
+
+private:
+    std::string_view view;
+};
+
 /* A field between braces. */
 struct field_item {
-    std::string_view name;
+    detail::name name;
     value_item item;
 };
 
@@ -1772,14 +1872,14 @@ public:
     }
 
     /* The value of the field of that name. Throws std::out_of_range where there is none. */
-    value get(std::string_view name) const {
+    value get(detail::name name) const {
         value item;
         check_field(ecow_value_get_field(&raw, name.data(), name.size(), &item.raw), name);
         return item;
     }
 
     /* The same, or nothing where there is none. */
-    std::optional<value> find(std::string_view name) const {
+    std::optional<value> find(detail::name name) const {
         value item;
         ecow_status status = ecow_value_get_field(&raw, name.data(), name.size(), &item.raw);
         if (status == ECOW_INDEX) {
@@ -1789,9 +1889,54 @@ public:
         return std::optional<value>(std::move(item));
     }
 
-    bool contains(std::string_view name) const {
+    bool contains(detail::name name) const {
         return find(name).has_value();
     }
+
+    /* A list between braces is a path, as `at` takes one: `settings.get({"window", "size", 0})`. */
+    value get(std::initializer_list<step> path) const {
+        return at(path);
+    }
+
+    /* As `get` by a path, or nothing where a step leads nowhere. */
+    std::optional<value> find(std::initializer_list<step> path) const {
+        std::optional<value> part(*this);
+        for (auto each = path.begin(); part && each != path.end(); ++each) {
+            if (each->name) {
+                part = part->find(*each->name);
+            } else {
+                part = each->index < part->size() ? std::optional<value>(part->get(each->index))
+                                                  : std::nullopt;
+            }
+        }
+        return part;
+    }
+
+    bool contains(std::initializer_list<step> path) const {
+        return find(path).has_value();
+    }
+
+    /* What the value holds, where that is of this type, and else nothing. `Type` is bool,
+     * std::int64_t, double or `ecow::text`. */
+    template <typename Type> std::optional<Type> get_if() const {
+        constexpr bool is_text = std::is_same_v<Type, ecow::text>;
+        static_assert(is_text || detail::is_one_of<Type, bool, std::int64_t, double>,
+                      "get_if takes bool, std::int64_t, double or ecow::text");
+        if constexpr (std::is_same_v<Type, bool>) {
+            return kind() == ecow::kind::truth ? std::optional<Type>(truth()) : std::nullopt;
+        } else if constexpr (std::is_same_v<Type, std::int64_t>) {
+            return kind() == ecow::kind::number ? std::optional<Type>(number()) : std::nullopt;
+        } else if constexpr (std::is_same_v<Type, double>) {
+            return kind() == ecow::kind::real ? std::optional<Type>(real()) : std::nullopt;
+        } else if constexpr (is_text) {
+            return kind() == ecow::kind::text ? std::optional<Type>(text()) : std::nullopt;
+        }
+    }
+
+    /* Calls `visitor` with what the value holds, and returns its answer: nullptr, a bool, an
+     * std::int64_t, a double, an `ecow::text`, the items of a list as `parts<value>`, or the fields
+     * as `parts<field>`. */
+    template <typename Visitor> decltype(auto) visit(Visitor &&visitor) const;
 
     /* How deep the value nests, as ecow_value_depth says it. */
     size_type depth() const noexcept {
@@ -1846,15 +1991,23 @@ public:
     }
 
     /* Puts a value in place of that of the field of that name, or appends a field. */
-    void set(std::string_view name, const value &item) & {
+    void set(detail::name name, const value &item) & {
         detail::check(ecow_value_set_field(&raw, name.data(), name.size(), &item.raw));
+    }
+
+    /* As `set_at`. */
+    void set(std::initializer_list<step> path, const value &item) & {
+        set_at(path, item);
     }
 
     /* Appends a field, and looks for none of that name. Of a name that stands twice, calls by the
      * name mean the first. */
-    void push_field(std::string_view name, const value &item) & {
+    void push_field(detail::name name, const value &item) & {
         detail::check(ecow_value_push_field(&raw, name.data(), name.size(), &item.raw));
     }
+
+    /* Neither this nor `take` has a path. */
+    void push_field(std::initializer_list<step> path, const value &item) = delete;
 
     /* Appends an item to a list. */
     void push_back(const value &item) & {
@@ -1882,11 +2035,13 @@ public:
 
     /* Takes the field of that name and returns its value. Throws std::out_of_range where there is
      * none. */
-    value take(std::string_view name) {
+    value take(detail::name name) {
         value item;
         check_field(ecow_value_remove_field(&raw, name.data(), name.size(), &item.raw), name);
         return item;
     }
+
+    value take(std::initializer_list<step> path) = delete;
 
     /* Keeps the first `count` items of a list, or all where there are fewer. */
     void truncate(size_type count) & {
@@ -1939,6 +2094,13 @@ public:
         }
         return (left.size() > right.size()) - (left.size() < right.size());
     }
+
+#ifdef __cpp_impl_three_way_comparison
+    /* Values may be equal without being the same, as 0.0 and -0.0 are. */
+    friend std::weak_ordering operator<=>(const value &left, const value &right) {
+        return compare(left, right) <=> 0;
+    }
+#endif
 
     /* A line for people: `{"size": [800, 1.5], "full": false, "title": null}`. */
     template <typename Traits>
@@ -2000,7 +2162,7 @@ private:
     friend detail::value_item;
 
     /* As `detail::check`, but names the field that isn't there. */
-    static void check_field(ecow_status status, std::string_view name) {
+    static void check_field(ecow_status status, detail::name name) {
         if (status == ECOW_INDEX) {
             throw std::out_of_range("no field \"" + std::string(name) + '"');
         }
@@ -2121,17 +2283,50 @@ inline value::parts<value::field> value::fields() const {
     return parts<field>(*this);
 }
 
+template <typename Visitor> decltype(auto) value::visit(Visitor &&visitor) const {
+    switch (kind()) {
+    case ecow::kind::truth:
+        return visitor(truth());
+    case ecow::kind::number:
+        return visitor(number());
+    case ecow::kind::real:
+        return visitor(real());
+    case ecow::kind::text:
+        return visitor(text());
+    case ecow::kind::list:
+        return visitor(items());
+    case ecow::kind::fields:
+        return visitor(fields());
+    case ecow::kind::nothing:
+        break;
+    }
+    return visitor(nullptr);
+}
+
 /* The hash of std::string_view, so that a table of texts is searched by views and literals too:
  * std::unordered_map<ecow::text, T, ecow::text_hash, std::equal_to<>>, in C++20. */
 struct text_hash {
     using is_transparent = void;
 
-    std::size_t operator()(std::string_view hashed) const noexcept {
+    template <typename Text> std::size_t operator()(const Text &hashed) const noexcept {
         return std::hash<std::string_view>()(hashed);
     }
 };
 
 } // namespace ecow
+
+#ifdef __cpp_lib_ranges
+template <typename Item> constexpr bool std::ranges::enable_borrowed_range<ecow::span<Item>> = true;
+#endif
+
+#ifdef __cpp_lib_format
+/* A text is written as std::string_view is, with the same width and precision. */
+template <> struct std::formatter<ecow::text> : std::formatter<std::string_view> {
+    template <typename Context> auto format(const ecow::text &written, Context &context) const {
+        return std::formatter<std::string_view>::format(written, context);
+    }
+};
+#endif
 
 template <typename Item> struct std::hash<ecow::basic_list<Item>> {
     std::size_t operator()(const ecow::basic_list<Item> &hashed) const noexcept {
@@ -2152,6 +2347,8 @@ template <> struct std::hash<ecow::value> {
         return hashed.hash();
     }
 };
+
+#undef ECOW_LENDS
 
 #endif
 #endif

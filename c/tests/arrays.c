@@ -103,6 +103,9 @@ static ecow_status call_text(int number, any *value, const void *items, size_t c
     }
 }
 
+/* The other calls of a kind, as functions of a value of any kind, by:
+ * ecow_list_slice, ecow_bytes_slice, ecow_text_slice, ecow_list_equal, ecow_bytes_equal,
+ * ecow_text_equal, ecow_list_drop, ecow_bytes_drop, ecow_text_drop */
 #define OTHER_CALLS(kind)                                         \
     static const void *slice_##kind(const any *value) {           \
         return ecow_##kind##_slice(&value->kind, NULL);           \
@@ -164,7 +167,10 @@ static void overlaps_of(const kind *of) {
 }
 
 /* The statuses of arrays that no memory holds, and of room for as many, at a value of three items:
- * they aren't read. */
+ * they aren't read. It makes these calls:
+ * ecow_list_assign, ecow_bytes_assign, ecow_text_assign, ecow_list_extend, ecow_bytes_extend,
+ * ecow_text_extend, ecow_list_splice, ecow_bytes_splice, ecow_text_splice, ecow_list_reserve,
+ * ecow_bytes_reserve, ecow_text_reserve */
 #define PAST_MEMORY(kind, value, items)                                             \
     do {                                                                            \
         const size_t large = (size_t)1 << 60, larger = (size_t)1 << 62;             \

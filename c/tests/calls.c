@@ -50,6 +50,41 @@ static void lists(void) {
     ecow_list_drop(&clone);
 }
 
+/* What is written in place is the value's own: a clone made before keeps its items, and a sole value
+ * keeps its memory. */
+static void edits_in_place(void) {
+    ecow_list list = {{0}}, copy = {{0}};
+    ecow_bytes bytes = {{0}}, few = {{0}};
+    int64_t *numbers = NULL;
+    uint8_t *items = NULL;
+    size_t len = 99;
+    CHECK(ecow_list_edit(&list, &numbers, &len) == ECOW_OK && numbers && len == 0);
+    CHECK(ecow_list_assign(&list, (int64_t[]){3, 1, 2}, 3) == ECOW_OK);
+    const int64_t *before = ecow_list_slice(&list, NULL);
+    CHECK(ecow_list_edit(&list, &numbers, &len) == ECOW_OK && numbers == before && len == 3);
+    CHECK(ecow_list_clone(&copy, &list) == ECOW_OK);
+    CHECK(ecow_list_edit(&list, &numbers, &len) == ECOW_OK && numbers != before && len == 3);
+    CHECK(numbers == ecow_list_slice(&list, NULL) && before == ecow_list_slice(&copy, NULL));
+    numbers[0] = 7;
+    CHECK(list_holds(&list, (int64_t[]){7, 1, 2}, 3) && list_holds(&copy, (int64_t[]){3, 1, 2}, 3));
+    CHECK(ecow_list_edit(&copy, NULL, NULL) == ECOW_OK);
+    CHECK(ecow_list_edit(NULL, &numbers, &len) == ECOW_NULL && numbers[0] == 7 && len == 3);
+    CHECK(ecow_bytes_assign(&few, (const uint8_t *)"few", 3) == ECOW_OK);
+    CHECK(ecow_bytes_clone(&bytes, &few) == ECOW_OK);
+    CHECK(ecow_bytes_edit(&bytes, &items, &len) == ECOW_OK && len == 3);
+    items[0] = 'n';
+    CHECK(bytes_hold(&bytes, "new", 3) && bytes_hold(&few, "few", 3));
+    CHECK(ecow_bytes_assign(&few, (const uint8_t *)"sixteen or more..", 17) == ECOW_OK);
+    CHECK(ecow_bytes_clone(&bytes, &few) == ECOW_OK);
+    CHECK(ecow_bytes_edit(&bytes, &items, &len) == ECOW_OK && len == 17);
+    items[0] = 'S';
+    CHECK(bytes_hold(&bytes, "Sixteen or more..", 17) && bytes_hold(&few, "sixteen or more..", 17));
+    ecow_list_drop(&list);
+    ecow_list_drop(&copy);
+    ecow_bytes_drop(&bytes);
+    ecow_bytes_drop(&few);
+}
+
 static void orders_of_lists(void) {
     ecow_list left = {{0}}, right = {{0}};
     CHECK(ecow_list_equal(&left, &right) && ecow_list_compare(&left, &right) == 0);
@@ -730,14 +765,17 @@ static void depths(void) {
         CHECK(ecow_value_swap(&list, 0, &fields) == ECOW_OK && ecow_value_depth(&list) == 2);
         CHECK(ecow_value_depth(&fields) == 511 && ecow_value_push(&list, &lower) == ECOW_OK);
         CHECK(ecow_value_pop(&list, NULL) == ECOW_OK && ecow_value_depth(&list) == 2);
-        CHECK(ecow_value_push(&list, &lower) == ECOW_OK && ecow_value_truncate(&list, 3) == ECOW_OK);
+        CHECK(ecow_value_push(&list, &lower) == ECOW_OK
+              && ecow_value_truncate(&list, 3) == ECOW_OK);
         CHECK(ecow_value_depth(&list) == 2 && ecow_value_truncate(&list, 0) == ECOW_OK);
         CHECK(ecow_value_depth(&list) == 1 && ecow_value_set_fields(&fields) == ECOW_OK);
         CHECK(ecow_value_set_field(&fields, "a", 1, &lower) == ECOW_OK
               && ecow_value_set_field(&fields, "b", 1, &lower) == ECOW_OK);
         CHECK(ecow_value_remove_field(&fields, "a", 1, NULL) == ECOW_OK);
-        CHECK(ecow_value_depth(&fields) == 512 && ecow_value_set_field(&fields, "b", 1, &list) == ECOW_OK);
-        CHECK(ecow_value_depth(&fields) == 2 && ecow_value_set_field(&fields, "b", 1, &lower) == ECOW_OK);
+        CHECK(ecow_value_depth(&fields) == 512
+              && ecow_value_set_field(&fields, "b", 1, &list) == ECOW_OK);
+        CHECK(ecow_value_depth(&fields) == 2
+              && ecow_value_set_field(&fields, "b", 1, &lower) == ECOW_OK);
         CHECK(ecow_value_remove_field(&fields, "b", 1, NULL) == ECOW_OK);
         CHECK(ecow_value_depth(&fields) == 1);
         /* However often a value holds what it was before, without what that held. */
@@ -1240,22 +1278,27 @@ static void moves_and_shares(void) {
     ecow_text_drop(&moved);
 }
 
-/* Two values share after a clone, until one of them changes, and not where they are equal alone. */
-#define CHECK_SHARES(kind, first, second, change)                                         \
-    do {                                                                                  \
-        CHECK(!ecow_##kind##_shares(first, second) && ecow_##kind##_equal(first, second)); \
-        CHECK(ecow_##kind##_clone(second, first) == ECOW_OK);                             \
-        CHECK(ecow_##kind##_shares(first, second) && ecow_##kind##_shares(second, first)); \
-        CHECK(ecow_##kind##_equal(first, second) && ecow_##kind##_shares(first, first));  \
-        CHECK((change) == ECOW_OK && !ecow_##kind##_shares(first, second));               \
-        CHECK(!ecow_##kind##_equal(first, second));                                       \
-        CHECK(!ecow_##kind##_shares(first, NULL) && !ecow_##kind##_shares(NULL, first));  \
-        CHECK(!ecow_##kind##_shares(NULL, NULL));                                         \
-        ecow_##kind##_drop(first);                                                        \
+/* Two values share after a clone, until one of them changes, and not where they are equal alone. It
+ * makes these calls:
+ * ecow_list_shares, ecow_bytes_shares, ecow_text_shares, ecow_texts_shares, ecow_value_shares,
+ * ecow_list_equal, ecow_bytes_equal, ecow_text_equal, ecow_texts_equal, ecow_value_equal,
+ * ecow_list_clone, ecow_bytes_clone, ecow_text_clone, ecow_texts_clone, ecow_value_clone,
+ * ecow_list_drop, ecow_bytes_drop, ecow_text_drop, ecow_texts_drop, ecow_value_drop */
+#define CHECK_SHARES(kind, first, second, change)                                           \
+    do {                                                                                    \
+        CHECK(!ecow_##kind##_shares(first, second) && ecow_##kind##_equal(first, second));  \
+        CHECK(ecow_##kind##_clone(second, first) == ECOW_OK);                               \
+        CHECK(ecow_##kind##_shares(first, second) && ecow_##kind##_shares(second, first));  \
+        CHECK(ecow_##kind##_equal(first, second) && ecow_##kind##_shares(first, first));    \
+        CHECK((change) == ECOW_OK && !ecow_##kind##_shares(first, second));                 \
+        CHECK(!ecow_##kind##_equal(first, second));                                         \
+        CHECK(!ecow_##kind##_shares(first, NULL) && !ecow_##kind##_shares(NULL, first));    \
+        CHECK(!ecow_##kind##_shares(NULL, NULL));                                           \
+        ecow_##kind##_drop(first);                                                          \
         CHECK(!ecow_##kind##_shares(first, first) && !ecow_##kind##_shares(first, second)); \
-        CHECK(ecow_##kind##_clone(second, first) == ECOW_OK);                             \
-        CHECK(!ecow_##kind##_shares(first, second) && ecow_##kind##_equal(first, second)); \
-        ecow_##kind##_drop(second);                                                       \
+        CHECK(ecow_##kind##_clone(second, first) == ECOW_OK);                               \
+        CHECK(!ecow_##kind##_shares(first, second) && ecow_##kind##_equal(first, second));  \
+        ecow_##kind##_drop(second);                                                         \
     } while (0)
 
 static void shared_memory(void) {
@@ -1379,6 +1422,7 @@ static void sizes(void) {
 int main(void) {
     take_no_buffer();
     lists();
+    edits_in_place();
     orders_of_lists();
     all_bytes();
     texts();

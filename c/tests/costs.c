@@ -40,10 +40,13 @@ static void changes_of_lists(void) {
     ecow_list list = {{0}}, clone = {{0}};
     CHECK(ecow_list_assign(&list, ecow_list_items, MANY) == ECOW_OK);
     COUNTED("set", CHECK(ecow_list_set(&list, MANY - 1, 0) == ECOW_OK));
+    COUNTED("edit", CHECK(ecow_list_edit(&list, NULL, NULL) == ECOW_OK));
     COUNTED("insert", CHECK(ecow_list_insert(&list, MANY, 5) == ECOW_OK));
     COUNTED("insert again", CHECK(ecow_list_insert(&list, 0, 5) == ECOW_OK));
     CHECK(ecow_list_clone(&clone, &list) == ECOW_OK);
     COUNTED("set of a shared one", CHECK(ecow_list_set(&list, 0, 0) == ECOW_OK));
+    CHECK(ecow_list_clone(&clone, &list) == ECOW_OK);
+    COUNTED("edit of a shared one", CHECK(ecow_list_edit(&list, NULL, NULL) == ECOW_OK));
     COUNTED("push to a full one", CHECK(ecow_list_push(&list, 0) == ECOW_OK));
     COUNTED("shrink_to_fit", CHECK(ecow_list_shrink_to_fit(&list) == ECOW_OK));
     COUNTED("shrink_to_fit again", CHECK(ecow_list_shrink_to_fit(&list) == ECOW_OK));
@@ -72,10 +75,13 @@ static void changes_of_bytes(void) {
     ecow_bytes bytes = {{0}}, clone = {{0}};
     CHECK(ecow_bytes_assign(&bytes, ecow_bytes_items, MANY) == ECOW_OK);
     COUNTED("set", CHECK(ecow_bytes_set(&bytes, MANY - 1, 0) == ECOW_OK));
+    COUNTED("edit", CHECK(ecow_bytes_edit(&bytes, NULL, NULL) == ECOW_OK));
     COUNTED("insert", CHECK(ecow_bytes_insert(&bytes, MANY, 5) == ECOW_OK));
     COUNTED("insert again", CHECK(ecow_bytes_insert(&bytes, 0, 5) == ECOW_OK));
     CHECK(ecow_bytes_clone(&clone, &bytes) == ECOW_OK);
     COUNTED("set of a shared one", CHECK(ecow_bytes_set(&bytes, 0, 0) == ECOW_OK));
+    CHECK(ecow_bytes_clone(&clone, &bytes) == ECOW_OK);
+    COUNTED("edit of a shared one", CHECK(ecow_bytes_edit(&bytes, NULL, NULL) == ECOW_OK));
     COUNTED("shrink_to_fit", CHECK(ecow_bytes_shrink_to_fit(&bytes) == ECOW_OK));
     CHECK(ecow_bytes_len(&bytes) == MANY + 2 && ecow_bytes_truncate(&bytes, 15) == ECOW_OK);
     COUNTED("shrink_to_fit of 15", CHECK(ecow_bytes_shrink_to_fit(&bytes) == ECOW_OK));

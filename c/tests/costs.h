@@ -2,18 +2,32 @@
  *     VALUE, ITEM    the types of a value, and of the items of its arrays
  *     OUT            the type of what `get` writes
  *     CALL(name)     a call of the header
- *     NAME           the kind in what is printed */
+ *     NAME           the kind in what is printed
+ * It makes these calls:
+ * ecow_list_assign, ecow_bytes_assign, ecow_text_assign, ecow_list_clear, ecow_bytes_clear,
+ * ecow_text_clear, ecow_list_clone, ecow_bytes_clone, ecow_text_clone, ecow_list_compare,
+ * ecow_bytes_compare, ecow_text_compare, ecow_list_drop, ecow_bytes_drop, ecow_text_drop,
+ * ecow_list_equal, ecow_bytes_equal, ecow_text_equal, ecow_list_extend, ecow_bytes_extend,
+ * ecow_text_extend, ecow_list_get, ecow_bytes_get, ecow_text_get, ecow_list_hash, ecow_bytes_hash,
+ * ecow_text_hash, ecow_list_len, ecow_bytes_len, ecow_text_len, ecow_list_pop, ecow_bytes_pop,
+ * ecow_text_pop, ecow_list_push, ecow_bytes_push, ecow_text_push, ecow_list_remove,
+ * ecow_bytes_remove, ecow_text_remove, ecow_list_reserve, ecow_bytes_reserve, ecow_text_reserve,
+ * ecow_list_slice, ecow_bytes_slice, ecow_text_slice, ecow_list_splice, ecow_bytes_splice,
+ * ecow_text_splice, ecow_list_truncate, ecow_bytes_truncate, ecow_text_truncate */
 
+/* ecow_list_items, ecow_bytes_items, ecow_text_items */
 static ITEM CALL(items)[MANY];
 
-/* Appends items until there are `len`: in each round the same ones. */
+/* Appends items until there are `len`: in each round the same ones.
+ * ecow_list_push_up_to, ecow_bytes_push_up_to, ecow_text_push_up_to */
 static void CALL(push_up_to)(VALUE *value, size_t len) {
     for (size_t index = CALL(len)(value); index < len; index++) {
         CHECK(CALL(push)(value, CALL(items)[index % MANY]) == ECOW_OK);
     }
 }
 
-/* Whether there are `len` items, those that stand in the array in each round. */
+/* Whether there are `len` items, those that stand in the array in each round.
+ * ecow_list_is_filled, ecow_bytes_is_filled, ecow_text_is_filled */
 static bool CALL(is_filled)(const VALUE *value, size_t len) {
     size_t found;
     const ITEM *items = CALL(slice)(value, &found);
@@ -27,7 +41,8 @@ static bool CALL(is_filled)(const VALUE *value, size_t len) {
     return found == len && CALL(len)(value) == len;
 }
 
-/* A long value and its clone: what reads asks for nothing, and the first change copies. */
+/* A long value and its clone: what reads asks for nothing, and the first change copies.
+ * ecow_list_clones, ecow_bytes_clones, ecow_text_clones */
 static void CALL(clones)(void) {
     VALUE value = {{0}}, clone = {{0}}, second = {{0}};
     const ITEM *items = CALL(items);
@@ -65,7 +80,8 @@ static void CALL(clones)(void) {
     CALL(drop)(&clone);
 }
 
-/* Room that is reserved, of an empty, a full and a shared value, and pushes into it. */
+/* Room that is reserved, of an empty, a full and a shared value, and pushes into it.
+ * ecow_list_rooms, ecow_bytes_rooms, ecow_text_rooms */
 static void CALL(rooms)(void) {
     VALUE value = {{0}}, clone = {{0}};
     COUNTED("reserve 1000 for none", CHECK(CALL(reserve)(&value, 1000) == ECOW_OK));
@@ -90,7 +106,8 @@ static void CALL(rooms)(void) {
     CALL(drop)(&value);
 }
 
-/* Growth to 100000 items, and changes of a sole value. */
+/* Growth to 100000 items, and changes of a sole value.
+ * ecow_list_growth, ecow_bytes_growth, ecow_text_growth */
 static void CALL(growth)(void) {
     VALUE value = {{0}};
     OUT item = 0;
@@ -133,6 +150,7 @@ static void CALL(growth)(void) {
     CALL(drop)(&value);
 }
 
+/* ecow_list_costs, ecow_bytes_costs, ecow_text_costs */
 static void CALL(costs)(void) {
     for (size_t index = 0; index < MANY; index++) {
         CALL(items)[index] = (ITEM)('!' + index % 89);

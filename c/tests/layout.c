@@ -9,7 +9,10 @@ static const size_t lengths[] = {0, 1, 2, 13, 14, 15, 16, 17, 1023, 1024, 1025, 
 
 static size_t compared;
 
-/* Compares what both say of a value, or of a null pointer. */
+/* Compares what both say of a value, or of a null pointer. It makes compare_list, compare_bytes and
+ * compare_text, by these calls:
+ * ecow_list_slice, ecow_bytes_slice, ecow_text_slice, ecow_list_len, ecow_bytes_len,
+ * ecow_text_len, ecow_proved_list_get, ecow_proved_bytes_get, ecow_proved_text_get */
 #define COMPARES(kind, item, got)                                                          \
     static void compare_##kind(const ecow_##kind *value) {                                 \
         ecow_##kind *place = (ecow_##kind *)value;                                         \
@@ -53,7 +56,14 @@ static void compare_texts(const ecow_texts *value) {
 }
 
 /* Compares a value of each length, which `fill` gives it, and a clone that is changed again and
- * again. What is cleared while it is shared has no head, whatever its first byte says. */
+ * again. What is cleared while it is shared has no head, whatever its first byte says. It makes
+ * these calls:
+ * ecow_list_len, ecow_bytes_len, ecow_text_len, ecow_texts_len, ecow_list_clone, ecow_bytes_clone,
+ * ecow_text_clone, ecow_texts_clone, ecow_list_clear, ecow_bytes_clear, ecow_text_clear,
+ * ecow_texts_clear, ecow_list_reserve, ecow_bytes_reserve, ecow_text_reserve, ecow_texts_reserve,
+ * ecow_list_truncate, ecow_bytes_truncate, ecow_text_truncate, ecow_texts_truncate,
+ * ecow_list_shrink_to_fit, ecow_bytes_shrink_to_fit, ecow_text_shrink_to_fit,
+ * ecow_texts_shrink_to_fit, ecow_list_drop, ecow_bytes_drop, ecow_text_drop, ecow_texts_drop */
 #define STATES(kind, fill)                                                       \
     static void states_of_##kind(void) {                                         \
         compare_##kind(NULL);                                                    \

@@ -49,6 +49,11 @@ static bool holds(const texts &value, const words &model) {
     return same;
 }
 
+/* The address of a text's bytes, also of a temporary one. */
+static const char *where_is(const text &lies) {
+    return lies.data();
+}
+
 /* Whether a call says that there is no field of that name. */
 template <typename Call> static bool no_field(const std::string &name, Call call) {
     try {
@@ -97,7 +102,7 @@ static void texts_are_made() {
     const std::string copied("caf\u00e9");
     const texts made{"a", ""sv, fifteen, shared, copied}, none;
     CHECK(holds(made, wanted) && holds(none, {}) && holds(texts{}, {}));
-    CHECK(made.get(3).data() == shared.data() && made[3].data() == shared.data());
+    CHECK(where_is(made.get(3)) == shared.data() && made[3].data() == shared.data());
     CHECK(texts(made.begin(), made.end())[3].data() == shared.data());
     CHECK(texts(std::vector<text>{"a", shared})[1].data() == shared.data());
     CHECK(holds(texts(wanted), wanted) && texts(wanted)[3].data() != wanted[3].data());
@@ -183,7 +188,7 @@ static void texts_are_changed() {
     CHECK(value.emplace_back() == "" && value[2].data() == where);
     CHECK(holds(value, {"b", "c", sixteen, "d", fifteen, "xy", "zz", ""}));
     CHECK(value.pop_back() == "" && value.pop_back() == "zz" && value.take(3) == "d");
-    CHECK(value.take(2).data() == where && holds(value, {"b", "c", fifteen, "xy"}));
+    CHECK(where_is(value.take(2)) == where && holds(value, {"b", "c", fifteen, "xy"}));
     value.set(0, shared);
     value.set(1, fifteen);
     CHECK(value[0].data() == where && holds(value, {sixteen, fifteen, fifteen, "xy"}));
@@ -369,14 +374,14 @@ static void values_are_made() {
     CHECK(value("x").kind() == ecow::kind::text && value("x").text() == "x" && value("x") == "x");
     CHECK(value(string).text() == fifteen && value(pointer) == string
           && value("x\0y"sv) == "x\0y"sv);
-    CHECK(value(shared).text().data() == shared.data() && value(shared) == sixteen);
+    CHECK(where_is(value(shared).text()) == shared.data() && value(shared) == sixteen);
     CHECK(value(pointer).kind() == ecow::kind::text && value("") != nothing
           && value("").text().empty());
     const value list = {1, 2.5, "x", true, nullptr, {}, shared, {1, {2}}};
     CHECK(list.kind() == ecow::kind::list && list.size() == 8 && list.get(0) == 1);
     CHECK(list.get(1) == 2.5 && list.get(2) == "x" && list.get(3) == true
           && list.get(4) == nullptr);
-    CHECK(list.get(5) == nothing && list.get(6).text().data() == shared.data());
+    CHECK(list.get(5) == nothing && where_is(list.get(6).text()) == shared.data());
     CHECK(list.get(7).size() == 2 && list.get(7).get(1).get(0) == 2);
     const value copy{list}, one = value::list({list}), empty = value::list();
     CHECK(one.size() == 1 && one.get(0).shares(list) && copy.shares(list));
@@ -392,7 +397,7 @@ static void values_are_made() {
     CHECK(value(std::vector<value>{1, "a"}) == (value{1, "a"}));
     CHECK(value(std::vector<std::vector<int>>{{1}, {}}) == (value{{1}, value::list()}));
     CHECK(value(ecow::list{1, 2}) == (value{1, 2}) && value(ecow::bytes("a")) == value{97});
-    CHECK(value(texts{"a", shared}).get(1).text().data() == shared.data());
+    CHECK(where_is(value(texts{"a", shared}).get(1).text()) == shared.data());
     CHECK(value(std::vector<int>()) == empty);
     const value fields = value::fields({{"b", 1}, {string, {2, 3}}, {"", "x"}, {"b", true}});
     CHECK(fields.kind() == ecow::kind::fields && fields.size() == 3 && fields.get("b") == true);
@@ -461,9 +466,9 @@ static void lists_are_changed() {
     list.push_back({4, 5});
     list.push_back(list);
     CHECK(list.size() == 6 && list.get(5).size() == 5
-          && list.get(3).text().data() == shared.data());
+          && where_is(list.get(3).text()) == shared.data());
     CHECK(list.pop_back() == (value{1, 2, 3, sixteen, {4, 5}})
-          && list.take(3).text().data() == shared.data());
+          && where_is(list.take(3).text()) == shared.data());
     list.set(0, "x");
     list.insert(1, nullptr);
     list.insert(5, true);
@@ -481,7 +486,7 @@ static void lists_are_changed() {
     changed.set(1400, shared);
     CHECK(many.get(1400) == 1400 && changed.get(1400) == sixteen && changed.take(0) == 0);
     CHECK(many.size() == 1500 && changed.size() == 1499
-          && changed.get(1399).text().data() == shared.data());
+          && where_is(changed.get(1399).text()) == shared.data());
 }
 
 static void fields_are_changed() {
@@ -508,7 +513,7 @@ static void values_have_parts() {
     value list{1, shared, 3};
     std::int64_t index = 0;
     for (const value &item : list.items()) {
-        CHECK(index == 1 ? item.text().data() == shared.data() : item == index + 1);
+        CHECK(index == 1 ? where_is(item.text()) == shared.data() : item == index + 1);
         list.set(static_cast<std::size_t>(index++), "changed meanwhile");
         list.push_back(0);
     }
@@ -603,6 +608,76 @@ static value nested(std::size_t levels, bool is_list) {
     return made;
 }
 
+/* A list between braces is a path wherever one part is named. */
+static void paths_between_braces() {
+    value settings =
+        value::fields({{"items", value::list({10, value::list({20, "x"})})}, {"it", "another"}});
+    settings.set({"items", 0}, 7);
+    CHECK(settings.size() == 2 && settings.get({"items", 0}) == 7);
+    settings.set({"items", 1, 1}, "y");
+    CHECK(settings.get({"items", 1}) == value::list({20, "y"})
+          && settings.get({"it"}) == "another");
+    CHECK(settings.get({}) == settings && settings.find({"items", 1, 0}) == value(20));
+    CHECK(!settings.find({"items", 2}) && !settings.find({"none", 0}) && !settings.find({"none"}));
+    CHECK(settings.contains({"items", 1, 1}) && !settings.contains({"items", 64}));
+    CHECK(throws<wrong_kind>(ECOW_KIND, [&] { (void)settings.find({"items", "0"}); }));
+    CHECK(no_field("none", [&] { (void)settings.get({"none", 1}); }));
+    const value before = settings;
+    CHECK(throws<out_of_range>(ECOW_INDEX, [&] { settings.set({"items", 2}, 1); }));
+    CHECK(throws<out_of_range>(ECOW_INDEX, [&] { settings.set({"none", 0}, 1); }));
+    CHECK(settings == before);
+}
+
+/* The type that a visitor gets, and what is read from it. */
+struct printer {
+    std::string operator()(std::nullptr_t) const {
+        return "nothing";
+    }
+
+    std::string operator()(bool truth) const {
+        return truth ? "yes" : "no";
+    }
+
+    std::string operator()(std::int64_t number) const {
+        return std::to_string(number);
+    }
+
+    std::string operator()(double real) const {
+        return real == 0.5 ? "half" : "real";
+    }
+
+    std::string operator()(const text &read) const {
+        return std::string(read);
+    }
+
+    std::string operator()(const value::parts<value> &items) const {
+        return "list of " + std::to_string(items.size());
+    }
+
+    std::string operator()(const value::parts<value::field> &fields) const {
+        return "fields, the first " + std::string((*fields.begin()).first);
+    }
+};
+
+static void values_are_visited() {
+    const value all[] = {{}, true, 5, 0.5, "text", value::list({1, 2}), value::fields({{"a", 1}})};
+    const std::string seen[] = {
+        "nothing", "yes", "5", "half", "text", "list of 2", "fields, the first a"};
+    for (std::size_t at = 0; at < std::size(all); ++at) {
+        CHECK(all[at].visit(printer()) == seen[at]);
+        CHECK(all[at].get_if<bool>().has_value() == (at == 1));
+        CHECK(all[at].get_if<std::int64_t>().has_value() == (at == 2));
+        CHECK(all[at].get_if<double>().has_value() == (at == 3));
+        CHECK(all[at].get_if<text>().has_value() == (at == 4));
+    }
+    CHECK(all[1].get_if<bool>() == true && all[2].get_if<std::int64_t>() == 5);
+    CHECK(all[3].get_if<double>() == 0.5 && *all[4].get_if<text>() == "text");
+#ifdef __cpp_impl_three_way_comparison
+    static_assert(std::is_same_v<decltype(all[0] <=> all[1]), std::weak_ordering>);
+    CHECK((all[2] <=> all[3]) < 0 && (value(0.0) <=> value(-0.0)) == 0);
+#endif
+}
+
 static void values_have_a_depth() {
     for (bool is_list : {true, false}) {
         const value deepest = nested(ECOW_MAX_DEPTH, is_list);
@@ -613,7 +688,9 @@ static void values_have_a_depth() {
         CHECK(throws<length_error>(ECOW_DEPTH, [&] {
             settings.update({0, 1}, [&](value &part) { part = nested(511, is_list); });
         }));
-        CHECK(throws<length_error>(ECOW_DEPTH, [&] { settings.set_at({0, 1}, nested(511, is_list)); }));
+        CHECK(throws<length_error>(ECOW_DEPTH, [&] {
+            settings.set_at({0, 1}, nested(511, is_list));
+        }));
         CHECK(settings.shares(kept) && settings == kept && settings.depth() == 2);
         settings.update({0, 1}, [&](value &part) { part = nested(510, is_list); });
         CHECK(settings.depth() == 512 && settings.get(0).depth() == 511 && kept.depth() == 2);
@@ -767,6 +844,8 @@ int main() {
         fields_are_changed();
         values_have_parts();
         values_have_paths();
+        paths_between_braces();
+        values_are_visited();
         values_have_a_depth();
         values_have_an_order();
         values_are_written();

@@ -78,6 +78,19 @@ void print(const row &each) {
     std::printf("\n");
 }
 
+/* A list of so many sevens, of each kind. */
+struct sevens {
+    numbers own;
+    shared_numbers shared;
+    c_list list;
+    ecow::list cpp;
+
+    explicit sevens(std::size_t len)
+        : own(len, 7), shared(std::make_shared<const numbers>(own)), cpp(own) {
+        CHECK(ecow_list_assign(&list.value, own.data(), len) == ECOW_OK);
+    }
+};
+
 /* Clones of a value of each type, made and dropped. */
 template <typename Item, typename Held, typename Cpp, typename Std, typename Clone>
 void clones(row &to, std::size_t repeats, const Held &from, const Cpp &cpp, const Std &own,
@@ -102,12 +115,8 @@ void clones(row &to, std::size_t repeats, const Held &from, const Cpp &cpp, cons
 }
 
 void clone_lists(row &to, std::size_t len) {
-    numbers own(len, 7);
-    auto shared = std::make_shared<const numbers>(own);
-    c_list list;
-    CHECK(ecow_list_assign(&list.value, own.data(), len) == ECOW_OK);
-    ecow::list cpp(own);
-    clones<std::int64_t>(to, 1000, list, cpp, own, shared, ecow_list_clone);
+    sevens of(len);
+    clones<std::int64_t>(to, 1000, of.list, of.cpp, of.own, of.shared, ecow_list_clone);
 }
 
 void clone_texts(row &to, std::size_t len) {
@@ -177,11 +186,7 @@ void short_texts(row &to) {
 
 /* A sum by index, a number. */
 void sums(row &to) {
-    numbers own(few, 7);
-    auto shared = std::make_shared<const numbers>(own);
-    c_list list;
-    CHECK(ecow_list_assign(&list.value, own.data(), few) == ECOW_OK);
-    ecow::list cpp(own);
+    sevens of(few);
     auto sum = [](timing &time, const auto &items) {
         time.run(100, few, [&] {
             std::int64_t all = 0;
@@ -194,15 +199,15 @@ void sums(row &to) {
     };
     to.cells[0].run(100, few, [&] {
         std::int64_t all = 0;
-        keep(list);
-        for (std::size_t index = 0; index < ecow_list_len(&list.value); index++) {
-            all += ecow_list_slice(&list.value, nullptr)[index];
+        keep(of.list);
+        for (std::size_t index = 0; index < ecow_list_len(&of.list.value); index++) {
+            all += ecow_list_slice(&of.list.value, nullptr)[index];
         }
         CHECK(all == 7 * static_cast<std::int64_t>(few));
     });
-    sum(to.cells[1], cpp);
-    sum(to.cells[2], own);
-    sum(to.cells[3], *shared);
+    sum(to.cells[1], of.cpp);
+    sum(to.cells[2], of.own);
+    sum(to.cells[3], *of.shared);
 }
 
 /* The lengths of texts of 0 to 20 bytes, a text. */
@@ -267,29 +272,25 @@ void equal(row &to) {
 
 /* A clone of a list of a thousand, in which one number is changed then. */
 void changes(row &to) {
-    numbers own(few, 7);
-    auto shared = std::make_shared<const numbers>(own);
-    c_list list;
-    CHECK(ecow_list_assign(&list.value, own.data(), few) == ECOW_OK);
-    ecow::list cpp(own);
+    sevens of(few);
     to.cells[0].run(100, 1, [&] {
         c_list copy;
-        CHECK(ecow_list_clone(&copy.value, &list.value) == ECOW_OK);
+        CHECK(ecow_list_clone(&copy.value, &of.list.value) == ECOW_OK);
         CHECK(ecow_list_set(&copy.value, 3, 1) == ECOW_OK);
         keep(copy);
     });
     to.cells[1].run(100, 1, [&] {
-        ecow::list copy(cpp);
+        ecow::list copy(of.cpp);
         copy.set(3, 1);
         keep(copy);
     });
     to.cells[2].run(100, 1, [&] {
-        numbers copy(own);
+        numbers copy(of.own);
         copy[3] = 1;
         keep(copy);
     });
     to.cells[3].run(100, 1, [&] {
-        auto copy = std::make_shared<numbers>(*shared);
+        auto copy = std::make_shared<numbers>(*of.shared);
         (*copy)[3] = 1;
         shared_numbers changed(std::move(copy));
         keep(changed);

@@ -323,6 +323,35 @@ static_assert(takes<ecow::bytes, unsigned char> && takes<ecow::bytes, char>);
 static_assert(refuses<ecow::bytes, int> && refuses<ecow::bytes, short>);
 static_assert(refuses<ecow::bytes, unsigned> && refuses<ecow::bytes, char16_t>);
 
+/* What is written through `edit()` is the value's own: its copies keep their items, and a sole value
+ * keeps its memory. */
+template <typename Value>
+static void edits_in_place(const std::vector<typename Value::value_type> &numbers) {
+    static_assert(std::is_nothrow_copy_constructible_v<Value>);
+    static_assert(std::is_nothrow_copy_assignable_v<Value>);
+    Value value(numbers.begin(), numbers.end()), none;
+    CHECK(none.edit().empty() && none.edit().size() == 0);
+    const auto *before = value.data();
+    CHECK(value.edit().data() == before && value.edit().size() == numbers.size());
+    const Value copy = value;
+    before = copy.data();
+    auto items = value.edit();
+    CHECK(items.data() == value.data() && copy.data() == before && items.data() != before);
+    std::sort(items.begin(), items.end());
+    CHECK(std::is_sorted(value.begin(), value.end()) && holds(copy, numbers));
+    items[0] = 7;
+    CHECK(value[0] == 7 && !value.shares(copy));
+#ifdef __cpp_lib_ranges
+    std::ranges::sort(value.edit(), std::greater<>());
+    CHECK(std::is_sorted(value.begin(), value.end(), std::greater<>()) && holds(copy, numbers));
+#endif
+#ifdef __cpp_lib_span
+    std::span<typename Value::value_type> spanned = value.edit();
+    spanned[1] = 9;
+    CHECK(value[1] == 9 && spanned.data() == value.data());
+#endif
+}
+
 static void only_bytes() {
     using ecow::bytes;
     const bytes abc("abc"), mixed{200, 'a', 0};
@@ -362,7 +391,8 @@ static void texts_are_made() {
     static_assert(std::is_convertible_v<const char *, text>);
     static_assert(std::is_convertible_v<std::string, text>);
     static_assert(!std::is_convertible_v<std::string_view, text>);
-    static_assert(std::is_convertible_v<text, std::string_view>);
+    static_assert(std::is_convertible_v<const text &, std::string_view>);
+    static_assert(!std::is_convertible_v<text, std::string_view>);
     static_assert(!std::is_convertible_v<text, std::string>);
     static_assert(!std::is_constructible_v<text, std::u32string>);
     static_assert(!std::is_constructible_v<text, std::vector<int>>);
@@ -568,6 +598,9 @@ int main() {
         iterators<ecow::text>();
         items<ecow::list>();
         items<ecow::bytes>();
+        edits_in_place<ecow::list>({5, 1, 3, 4, 2});
+        edits_in_place<ecow::bytes>({5, 1, 3, 4, 2});
+        edits_in_place<ecow::bytes>(std::vector<std::uint8_t>(20, 200));
         only_bytes();
         texts_are_made();
         texts_are_compared();
