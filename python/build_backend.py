@@ -2,7 +2,8 @@
 
 The compiler is $CC, or the one that Python was built with. `ecow.h` and `libecow.a` are taken from
 $ECOW_HOME, or else from the folder above this one: from its `include`, and its `lib` or `bin`. The
-version stands in the file VERSION of that folder, and of this one in a source distribution."""
+version and the licences stand in that folder too. A source distribution has all of these itself, so
+it builds alone."""
 
 from __future__ import annotations
 
@@ -24,6 +25,7 @@ import zipfile
 HERE = pathlib.Path(__file__).resolve().parent
 # The first moment that a zip file can name: files don't tell when they were built.
 EPOCH = (1980, 1, 1, 0, 0, 0)
+LICENSES = ("LICENSE-APACHE", "LICENSE-MIT")
 MODULE = "_core.abi3.so"
 
 
@@ -41,7 +43,8 @@ def find(what, *places):
 
 def library():
     """The folder of the header, and the library's file."""
-    home = pathlib.Path(os.environ.get("ECOW_HOME") or HERE.parent).resolve()
+    alone = (HERE / "lib" / "libecow.a").is_file()
+    home = pathlib.Path(os.environ.get("ECOW_HOME") or (HERE if alone else HERE.parent)).resolve()
     header = find("ecow.h", home / "include" / "ecow.h", home / "bin" / "ecow.h")
     archives = [home / folder / "libecow.a" for folder in ("lib", "bin")]
     return header.parent, find("libecow.a (`make lib` builds it)", *archives)
@@ -49,6 +52,10 @@ def library():
 
 def version():
     return find("VERSION", HERE / "VERSION", HERE.parent / "VERSION").read_text().strip()
+
+
+def licenses():
+    return {name: find(name, HERE / name, HERE.parent / name).read_bytes() for name in LICENSES}
 
 
 def compile_module(to):
@@ -83,6 +90,7 @@ def metadata():
         f"Version: {version()}",
         f"Summary: {told['description']}",
         f"License: {told['license']}",
+        *(f"License-File: {name}" for name in LICENSES),
         f"Requires-Python: {told['requires-python']}",
         "Description-Content-Type: text/markdown",
         "",
@@ -102,6 +110,7 @@ def write_wheel(folder, contents):
     contents = {
         **contents,
         f"{info}/METADATA": metadata().encode(),
+        **{f"{info}/licenses/{name}": text for name, text in licenses().items()},
         f"{info}/WHEEL": "\n".join([
             "Wheel-Version: 1.0",
             "Generator: ecow",
@@ -151,6 +160,10 @@ def build_sdist(sdist_directory, config_settings=None):
         for path in HERE.rglob("*")
         if path.is_file() and path.suffix in (".py", ".pyi", ".c", ".h", ".toml", ".typed", ".md")
     }
+    header, archive = library()
+    files["include/ecow.h"] = (header / "ecow.h").read_bytes()
+    files["lib/libecow.a"] = archive.read_bytes()
+    files.update(licenses())
     files["VERSION"] = f"{version()}\n".encode()
     files["PKG-INFO"] = metadata().encode()
     packed = io.BytesIO()

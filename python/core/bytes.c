@@ -6,6 +6,7 @@
 #define CALL(name) ecow_bytes_##name
 #define OWN(name) bytes_##name
 #define TYPE bytes
+#define LENT bytes
 #define NAME "Bytes"
 #define NOTE(to, from)
 #define FORGET(object)
@@ -59,9 +60,12 @@ static int bytes_give(core_state *state, PyObject *source, given_bytes *given) {
         given->count = (Py_ssize_t)count;
         return 0;
     }
-    PyObject *plain = PyObject_CheckBuffer(source) ? Py_NewRef(source) : PyBytes_FromObject(source);
-    /* The view holds what was made. */
-    if (plain && PyObject_GetBuffer(plain, &given->view, PyBUF_SIMPLE) == 0) {
+    bool is_one = PyObject_CheckBuffer(source)
+                  && PyObject_GetBuffer(source, &given->view, PyBUF_SIMPLE) == 0;
+    PyErr_Clear();
+    /* Bytes that don't stand in one run are copied. The view holds what was made. */
+    PyObject *plain = is_one ? NULL : PyBytes_FromObject(source);
+    if (is_one || (plain && PyObject_GetBuffer(plain, &given->view, PyBUF_SIMPLE) == 0)) {
         given->viewed = true;
         given->items = given->view.buf;
         given->count = given->view.len;

@@ -3,9 +3,6 @@
 
 static struct PyModuleDef definition;
 
-/* Bytes of that size or less, and texts, may lie in the value itself. */
-enum { INLINE = 15 };
-
 core_state *state_of_type(PyTypeObject *type) {
     for (; type; type = (PyTypeObject *)PyType_GetSlot(type, Py_tp_base)) {
         if (!(PyType_GetFlags(type) & Py_TPFLAGS_HEAPTYPE)) {
@@ -177,7 +174,11 @@ PyObject *reverse(PyObject *self, PyObject *Py_UNUSED(none)) {
 }
 
 PyObject *named_repr(PyObject *self, PyObject *contents) {
-    PyObject *name = contents ? PyType_GetName(Py_TYPE(self)) : NULL;
+    /* What is lent is named by its kind. No class is derived from its own type. */
+    PyTypeObject *type = Py_TYPE(self);
+    bool is_lent = !(PyType_GetFlags(type) & Py_TPFLAGS_BASETYPE);
+    type = is_lent ? (PyTypeObject *)PyType_GetSlot(type, Py_tp_base) : type;
+    PyObject *name = contents ? PyType_GetName(type) : NULL;
     PyObject *result = name ? PyUnicode_FromFormat("%U(%R)", name, contents) : NULL;
     Py_XDECREF(name);
     Py_XDECREF(contents);
@@ -201,11 +202,10 @@ static PyObject *address(PyObject *module, PyObject *given) {
     const void *place = NULL;
     if (PyObject_TypeCheck(given, state->list)) {
         place = ecow_list_slice(&((list_object *)given)->value, &len);
-    } else if (PyObject_TypeCheck(given, state->bytes)) {
-        place = ecow_bytes_slice(&((bytes_object *)given)->value, &len);
-        len = len <= INLINE ? 0 : len;
-    } else if (PyObject_TypeCheck(given, state->text)) {
-        place = ecow_text_slice(&((text_object *)given)->value, &len);
+    } else if (PyObject_TypeCheck(given, state->bytes) || PyObject_TypeCheck(given, state->text)) {
+        place = PyObject_TypeCheck(given, state->bytes)
+                    ? (const void *)ecow_bytes_slice(&((bytes_object *)given)->value, &len)
+                    : ecow_text_slice(&((text_object *)given)->value, &len);
         len = len <= INLINE ? 0 : len;
     } else if (PyObject_TypeCheck(given, state->texts)) {
         len = ecow_texts_len(&((texts_object *)given)->value);
@@ -220,16 +220,19 @@ static PyObject *address(PyObject *module, PyObject *given) {
 
 static PyMethodDef functions[] = {
     {"_address", address, METH_O, NULL},
-    {"_parts", value_parts, METH_O, NULL},
+    {"_plain", (PyCFunction)(void (*)(void))value_plain, METH_FASTCALL, NULL},
     {"is_utf8", is_utf8, METH_O,
      PyDoc_STR("is_utf8($module, data, /)\n--\n\nWhether the bytes are UTF-8.")},
     {NULL, NULL, 0, NULL},
 };
 
-#define TYPES(X) X(list) X(bytes) X(text) X(texts) X(value) X(snapshot)
+/* The types, and from which each is derived. */
+#define TYPES(X)                                                                               \
+    X(list, NULL) X(bytes, NULL) X(text, NULL) X(texts, NULL) X(value, NULL) X(snapshot, NULL) \
+    X(lent_text, state->text) X(lent_value, state->value)
 
-static int add_type(PyObject *module, PyType_Spec *spec, PyTypeObject **type) {
-    *type = (PyTypeObject *)PyType_FromModuleAndSpec(module, spec, NULL);
+static int add_type(PyObject *module, PyType_Spec *spec, PyTypeObject *base, PyTypeObject **type) {
+    *type = (PyTypeObject *)PyType_FromModuleAndSpec(module, spec, (PyObject *)base);
     return *type && PyModule_AddType(module, *type) == 0 ? 0 : -1;
 }
 
@@ -259,7 +262,7 @@ static int look_names_up(core_state *state) {
 
 static int execute(PyObject *module) {
     core_state *state = PyModule_GetState(module);
-#define ADD(name) || add_type(module, &name##_spec, &state->name) < 0
+#define ADD(name, base) || add_type(module, &name##_spec, base, &state->name) < 0
     if (look_names_up(state) < 0 TYPES(ADD)) {
         return -1;
     }
@@ -270,7 +273,7 @@ static int execute(PyObject *module) {
 static int visit(PyObject *module, visitproc visit, void *arg) {
     core_state *state = PyModule_GetState(module);
     if (state) {
-#define VISIT(name) Py_VISIT(state->name);
+#define VISIT(name, base) Py_VISIT(state->name);
         TYPES(VISIT)
 #undef VISIT
     }
@@ -280,7 +283,7 @@ static int visit(PyObject *module, visitproc visit, void *arg) {
 static void release(void *module) {
     core_state *state = PyModule_GetState(module);
     if (state) {
-#define CLEAR(name) Py_CLEAR(state->name);
+#define CLEAR(name, base) Py_CLEAR(state->name);
         TYPES(CLEAR)
 #undef CLEAR
         while (state->spares > 0) {

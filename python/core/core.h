@@ -45,12 +45,17 @@
 
 typedef struct text_object text_object;
 
+/* Bytes of that size or less, and texts, may lie in the value itself. */
+enum { INLINE = 15 };
+
 /* How many texts' memory is kept. */
 enum { SPARE = 64 };
 
 /* What a module object owns. */
 typedef struct core_state {
     PyTypeObject *list, *bytes, *text, *texts, *value, *snapshot;
+    /* Those of what a container hands out, which isn't changed, and has a hash. */
+    PyTypeObject *lent_text, *lent_value;
     /* Memory of texts that are gone, for those to come. */
     text_object *spare[SPARE];
     Py_ssize_t spares;
@@ -68,13 +73,11 @@ typedef struct core_state {
 #undef FIELD
 } core_state;
 
-/* The start of every object. The module outlives it, since its type holds the module. What a
- * container hands out is lent: it isn't changed, and has a hash. */
+/* The start of every object. The module outlives it, since its type holds the module. */
 #define VALUE_HEAD             \
     PyObject ob_base;          \
     core_state *state;         \
-    PyObject *weak_references; \
-    bool is_lent;
+    PyObject *weak_references;
 
 typedef struct list_object {
     VALUE_HEAD
@@ -205,17 +208,18 @@ PyObject *plain_list(core_state *state, PyObject *iterable);
 /* ---- One file for each kind ---- */
 
 extern PyType_Spec list_spec, bytes_spec, text_spec, texts_spec, value_spec;
+extern PyType_Spec lent_text_spec, lent_value_spec;
 
-/* A new object of the module's own type that takes a value over. The value is left empty, and is
- * given up where there is no object. */
-PyObject *list_own(core_state *state, ecow_list *value);
-PyObject *bytes_own(core_state *state, ecow_bytes *value);
-PyObject *text_own(core_state *state, ecow_text *value);
-PyObject *texts_own(core_state *state, ecow_texts *value);
-PyObject *value_own(core_state *state, ecow_value *value);
+/* A new object of one of the module's own types that takes a value over. The value is left empty, and
+ * is given up where there is no object. */
+PyObject *list_own(core_state *state, PyTypeObject *type, ecow_list *value);
+PyObject *bytes_own(core_state *state, PyTypeObject *type, ecow_bytes *value);
+PyObject *text_own(core_state *state, PyTypeObject *type, ecow_text *value);
+PyObject *texts_own(core_state *state, PyTypeObject *type, ecow_texts *value);
+PyObject *value_own(core_state *state, PyTypeObject *type, ecow_value *value);
 
-/* A list of the parts of a list or fields: texts are `Text`, which share the memory. */
-PyObject *value_parts(PyObject *module, PyObject *value);
+/* What a `Value` is in objects of Python's own, as `plain_of` there. */
+PyObject *value_plain(PyObject *module, PyObject *const *arguments, Py_ssize_t count);
 
 /* Makes an empty `text` the text of a `str`, a `Text` or a `Value` of that kind. */
 int read_text(core_state *state, PyObject *given, ecow_text *text);
@@ -229,6 +233,9 @@ typedef struct utf8 {
 
 bool is_text(core_state *state, PyObject *given);
 int read_utf8(core_state *state, PyObject *given, utf8 *text);
+
+/* Reads what is sought, and answers 1 for a `str` with lone surrogates, which no text has. */
+int read_sought(core_state *state, PyObject *given, utf8 *text);
 
 /* A `str` of UTF-8. */
 PyObject *str_of(const ecow_text *text);

@@ -81,7 +81,7 @@ static PyObject *wrapped_text(PyObject *self, PyObject *result) {
     ecow_status status = (size_t)size == own_size && memcmp(bytes, own, own_size) == 0
                              ? ecow_text_clone(&text, &object->value)
                              : ecow_text_assign(&text, bytes, (size_t)size);
-    return check(status, "Text") < 0 ? NULL : text_own(object->state, &text);
+    return check(status, "Text") < 0 ? NULL : text_own(object->state, object->state->text, &text);
 }
 
 static PyObject *wrapped_bytes(PyObject *self, PyObject *result) {
@@ -93,7 +93,8 @@ static PyObject *wrapped_bytes(PyObject *self, PyObject *result) {
     ecow_status status = size == own_size && memcmp(items, own, size) == 0
                              ? ecow_bytes_clone(&bytes, &object->value)
                              : ecow_bytes_assign(&bytes, items, size);
-    return check(status, "Bytes") < 0 ? NULL : bytes_own(object->state, &bytes);
+    return check(status, "Bytes") < 0 ? NULL
+                                      : bytes_own(object->state, object->state->bytes, &bytes);
 }
 
 /* The members of a list or a tuple, which nobody else holds. */

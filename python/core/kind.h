@@ -3,7 +3,7 @@
  *     VALUE                 the struct of its value
  *     CALL(name)            a call of the library on it
  *     OWN(name)             a function of the kind's file
- *     TYPE                  the field of the state with the kind's type
+ *     TYPE, LENT            the fields of the state with its type, and with that of what is lent
  *     NAME                  the name of that type
  *     NOTE(to, from)        copies what an object notes beside its value
  *     FORGET(object)        forgets it
@@ -28,8 +28,8 @@ static OBJECT *OWN(make)(core_state *state, PyTypeObject *type) {
     return made;
 }
 
-PyObject *OWN(own)(core_state *state, VALUE *value) {
-    OBJECT *made = OWN(make)(state, state->TYPE);
+PyObject *OWN(own)(core_state *state, PyTypeObject *type, VALUE *value) {
+    OBJECT *made = OWN(make)(state, type);
     if (made) {
         made->value = *value;
         *value = CALL(new)();
@@ -85,11 +85,16 @@ static void OWN(dealloc)(PyObject *self) {
     Py_DECREF(type);
 }
 
-/* A copy; that of a subclass has the attributes too, or deep copies of them. */
+static bool OWN(is_lent)(PyObject *self) {
+    return Py_TYPE(self) == OWN(cast)(self)->state->LENT;
+}
+
+/* A copy, which can be changed; that of a subclass has the attributes too, or deep copies of them. */
 static PyObject *OWN(deepcopy)(PyObject *self, PyObject *memo) {
     core_state *state = OWN(cast)(self)->state;
-    PyObject *made = OWN(cloned)(self, Py_TYPE(self));
-    if (made && Py_TYPE(self) != state->TYPE) {
+    PyTypeObject *type = OWN(is_lent)(self) ? state->TYPE : Py_TYPE(self);
+    PyObject *made = OWN(cloned)(self, type);
+    if (made && type != state->TYPE) {
         PyObject *pair = PyTuple_Pack(2, self, made);
         PyObject *both = pair ? call_helper(state->names.copied, pair, memo) : NULL;
         Py_XDECREF(pair);
@@ -122,11 +127,15 @@ static PyMemberDef OWN(members)[] = {
     {NULL, 0, 0, 0, NULL},
 };
 
-/* The type, of the slots in `OWN(slots)`. */
-#define TYPE_SPEC(more_flags)                                            \
-    PyType_Spec OWN(spec) = {                                            \
-        .name = "ecow." NAME,                                            \
-        .basicsize = sizeof(OBJECT),                                     \
-        .flags = Py_TPFLAGS_DEFAULT | Py_TPFLAGS_BASETYPE | (more_flags), \
-        .slots = OWN(slots),                                             \
+#define SPEC(spec, type_name, its_slots, more_flags)   \
+    PyType_Spec spec = {                               \
+        .name = "ecow." type_name,                     \
+        .basicsize = sizeof(OBJECT),                   \
+        .flags = Py_TPFLAGS_DEFAULT | (more_flags),    \
+        .slots = its_slots,                            \
     }
+
+/* The type, of the slots in `OWN(slots)`, and that of what is lent, which has more in `lent_slots`. */
+#define TYPE_SPEC(more_flags) SPEC(OWN(spec), NAME, OWN(slots), Py_TPFLAGS_BASETYPE | (more_flags))
+#define LENT_SPEC(spec, more_flags) \
+    SPEC(spec, "Lent" NAME, lent_slots, Py_TPFLAGS_DISALLOW_INSTANTIATION | (more_flags))

@@ -6,6 +6,7 @@
 #define CALL(name) ecow_list_##name
 #define OWN(name) list_##name
 #define TYPE list
+#define LENT list
 #define NAME "List"
 #define NOTE(to, from)
 #define FORGET(object)

@@ -239,10 +239,11 @@ static PyObject *OWN(insert)(PyObject *self, PyObject *const *arguments, Py_ssiz
     return none_if(check(status, NAME));
 }
 
+/* The object of the item is made first: where that is refused, the item stays. */
 static PyObject *OWN(pop)(PyObject *self, PyObject *const *arguments, Py_ssize_t count) {
     OBJECT *object = OWN(cast)(self);
     ITEM item = {0};
-    size_t index = 0;
+    size_t index = (size_t)OWN(length)(self) - 1;
     if (!takes("pop", count, 0, 1) || (count && !OWN(read_index)(self, arguments[0], &index))) {
         return NULL;
     }
@@ -250,9 +251,14 @@ static PyObject *OWN(pop)(PyObject *self, PyObject *const *arguments, Py_ssize_t
         PyErr_SetString(PyExc_IndexError, "pop from empty " NAME);
         return NULL;
     }
-    ecow_status status =
-        count ? CALL(remove)(&object->value, index, &item) : CALL(pop)(&object->value, &item);
-    return check(status, NAME) < 0 ? NULL : OWN(item_object)(object->state, &item, false);
+    if (check(CALL(get)(&object->value, index, &item), NAME) < 0) {
+        return NULL;
+    }
+    PyObject *taken = OWN(item_object)(object->state, &item, false);
+    if (taken && check(CALL(remove)(&object->value, index, NULL), NAME) < 0) {
+        Py_CLEAR(taken);
+    }
+    return taken;
 }
 
 static PyObject *OWN(clear)(PyObject *self, PyObject *Py_UNUSED(none)) {

@@ -6,6 +6,7 @@
 #define CALL(name) ecow_text_##name
 #define OWN(name) text_##name
 #define TYPE text
+#define LENT lent_text
 #define NAME "Text"
 #define NOTE(to, from) note(to, from)
 #define FORGET(object) forget(object)
@@ -26,19 +27,19 @@ static void note(text_object *to, const text_object *from) {
 }
 
 static text_object *spared(core_state *state, PyTypeObject *type) {
-    if (type != state->text || state->spares == 0) {
+    if ((type != state->text && type != state->lent_text) || state->spares == 0) {
         return NULL;
     }
     /* What is gone has forgotten everything else. */
     text_object *made = state->spare[--state->spares];
     made->count = 0;
-    made->is_lent = false;
     return (text_object *)PyObject_Init((PyObject *)made, type);
 }
 
 static bool spare_it(text_object *object) {
     core_state *state = object->state;
-    bool kept = Py_TYPE((PyObject *)object) == state->text && state->spares < SPARE;
+    PyTypeObject *type = Py_TYPE((PyObject *)object);
+    bool kept = (type == state->text || type == state->lent_text) && state->spares < SPARE;
     if (kept) {
         state->spare[state->spares++] = object;
     }
@@ -153,6 +154,15 @@ int read_utf8(core_state *state, PyObject *given, utf8 *text) {
     return 0;
 }
 
+int read_sought(core_state *state, PyObject *given, utf8 *text) {
+    int done = read_utf8(state, given, text);
+    if (done < 0 && PyErr_ExceptionMatches(PyExc_UnicodeEncodeError)) {
+        PyErr_Clear();
+        return 1;
+    }
+    return done;
+}
+
 int read_text(core_state *state, PyObject *given, ecow_text *text) {
     if (PyUnicode_Check(given)) {
         Py_ssize_t size;
@@ -213,7 +223,7 @@ static PyObject *one_text(core_state *state, PyObject *given) {
 static bool can_change(text_object *object) {
     object->passed = 0;
     Py_CLEAR(object->plain);
-    return !object->is_lent || refuse_change(NAME);
+    return !text_is_lent((PyObject *)object) || refuse_change(NAME);
 }
 
 /* Appends UTF-8. */
@@ -528,9 +538,12 @@ static Py_ssize_t text_seek(PyObject *self, const char *name, PyObject *const *a
     text_object *object = text_cast(self);
     utf8 part;
     Py_ssize_t start, stop, size;
-    if (!read_bounds(name, arguments, count, count_of(object), &start, &stop)
-        || read_utf8(object->state, arguments[0], &part) < 0) {
+    if (!read_bounds(name, arguments, count, count_of(object), &start, &stop)) {
         return -2;
+    }
+    int done = read_sought(object->state, arguments[0], &part);
+    if (done != 0) {
+        return done < 0 ? -2 : what == OFTEN ? 0 : -1;
     }
     stop = stop < count_of(object) ? stop : count_of(object);
     if (start > stop) {
@@ -589,7 +602,7 @@ static PyObject *text_plus(PyObject *left, PyObject *right) {
 static PyObject *text_plus_in_place(PyObject *self, PyObject *other) {
     text_object *object = text_cast(self);
     utf8 added;
-    if (object->is_lent) {
+    if (text_is_lent(self)) {
         return text_plus(self, other);
     }
     if (!is_text(object->state, other)) {
@@ -603,8 +616,8 @@ static PyObject *text_plus_in_place(PyObject *self, PyObject *other) {
 }
 
 static PyObject *text_repeat_in_place(PyObject *self, Py_ssize_t times) {
-    PyObject *made = text_cast(self)->is_lent ? text_cloned(self, text_cast(self)->state->text)
-                                              : Py_NewRef(self);
+    PyObject *made = text_is_lent(self) ? text_cloned(self, text_cast(self)->state->text)
+                                        : Py_NewRef(self);
     text_object *object = text_cast(made);
     times = times < 0 ? 0 : times;
     if (made && times != 1) {
@@ -686,10 +699,10 @@ static PyObject *text_repr(PyObject *self) {
 }
 
 static Py_hash_t text_hashed(PyObject *self) {
-    PyObject *plain = text_cast(self)->is_lent ? text_str(self) : NULL;
+    PyObject *plain = text_str(self);
     Py_hash_t hash = plain ? PyObject_Hash(plain) : -1;
     Py_XDECREF(plain);
-    return text_cast(self)->is_lent ? hash : PyObject_HashNotImplemented(self);
+    return hash;
 }
 
 /* Loops pass over the characters of the moment at which they begin. */
@@ -802,7 +815,7 @@ static PyType_Slot text_slots[] = {
     {Py_tp_members, text_members},
     {Py_tp_methods, text_methods},
     {Py_tp_iter, text_iter},
-    {Py_tp_hash, text_hashed},
+    {Py_tp_hash, PyObject_HashNotImplemented},
     {Py_tp_str, text_str},
     {Py_tp_repr, text_repr},
     {Py_tp_richcompare, text_compared},
@@ -821,3 +834,13 @@ static PyType_Slot text_slots[] = {
 };
 
 TYPE_SPEC(Py_TPFLAGS_IMMUTABLETYPE);
+
+static PyType_Slot lent_slots[] = {
+    {Py_tp_doc, "A text that a container hands out. It can't be changed, and has the hash of a `str`."},
+    {Py_tp_dealloc, text_dealloc},
+    {Py_tp_hash, text_hashed},
+    {Py_tp_richcompare, text_compared},
+    {0, NULL},
+};
+
+LENT_SPEC(lent_text_spec, Py_TPFLAGS_IMMUTABLETYPE);

@@ -6,6 +6,7 @@
 #define CALL(name) ecow_texts_##name
 #define OWN(name) texts_##name
 #define TYPE texts
+#define LENT texts
 #define NAME "Texts"
 #define NOTE(to, from)
 #define FORGET(object)
@@ -32,11 +33,7 @@ static void texts_drop_item(ecow_text *text) {
 }
 
 static PyObject *texts_item_object(core_state *state, ecow_text *text, bool is_lent) {
-    PyObject *made = text_own(state, text);
-    if (made) {
-        texts_cast(made)->is_lent = is_lent;
-    }
-    return made;
+    return text_own(state, is_lent ? state->lent_text : state->text, text);
 }
 
 static int texts_give(core_state *state, PyObject *source, given_texts *given) {
@@ -110,13 +107,9 @@ static Py_ssize_t texts_seek(PyObject *self, PyObject *object, Py_ssize_t start,
     if (!is_text(own->state, object)) {
         return seek_object(self, object, start, stop);
     }
-    if (read_utf8(own->state, object, &text) < 0) {
-        /* A `str` with lone surrogates is no text. */
-        bool is_other = PyErr_ExceptionMatches(PyExc_UnicodeEncodeError);
-        if (is_other) {
-            PyErr_Clear();
-        }
-        return is_other ? -1 : -2;
+    int done = read_sought(own->state, object, &text);
+    if (done != 0) {
+        return done < 0 ? -2 : -1;
     }
     for (Py_ssize_t index = start; index < stop && index < texts_length(self); index++) {
         size_t size;

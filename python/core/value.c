@@ -6,6 +6,7 @@
 #define CALL(name) ecow_value_##name
 #define OWN(name) value_##name
 #define TYPE value
+#define LENT lent_value
 #define NAME "Value"
 #define NOTE(to, from)
 #define FORGET(object)
@@ -13,7 +14,7 @@
 #define SPARE_IT(object) false
 #include "kind.h"
 
-/* Values nested no deeper are compared by the library, which visits a part as often as it occurs. */
+/* The library compares values nested less deep. Parts that nest so deep are read one by one. */
 enum { SHALLOW = 16 };
 
 static const char *const kind_names[] = {
@@ -30,8 +31,9 @@ static bool has_parts(const ecow_value *value) {
 
 /* ---- From Python ---- */
 
-/* A list or fields that are being read. */
+/* A list or fields that are being read, and the object that they are read from. */
 typedef struct level {
+    PyObject *source;
     /* The items, or pairs of a name and a value, which no other code changes. */
     PyObject *parts;
     Py_ssize_t next;
@@ -40,10 +42,40 @@ typedef struct level {
     bool may_repeat;
 } level;
 
+/* Whether more refers to a part than its one place in `around`, which is being read: a list or a dict
+ * refers to it, and what was taken out of that. */
+static bool is_held_elsewhere(PyObject *part, PyObject *around) {
+    return Py_REFCNT(part) > 1 + (PyList_Check(around) || PyDict_CheckExact(around));
+}
+
+/* Notes what an object became, by its address. The object is noted too, so that it stays there. */
+static int remember(core_state *state, PyObject **known, PyObject *source, const ecow_value *made) {
+    ecow_value clone = {{0}};
+    int done = check(ecow_value_clone(&clone, made), NAME);
+    *known = *known ? *known : PyDict_New();
+    PyObject *place = PyLong_FromVoidPtr(source);
+    PyObject *value = done < 0 ? NULL : value_own(state, state->value, &clone);
+    PyObject *note = value ? PyTuple_Pack(2, value, source) : NULL;
+    done = *known && place && note ? PyDict_SetItem(*known, place, note) : -1;
+    Py_XDECREF(place);
+    Py_XDECREF(value);
+    Py_XDECREF(note);
+    return done;
+}
+
+/* Makes `made` what an object became before, and answers 0, or 1 where it is met first. */
+static int recall(PyObject *known, PyObject *source, ecow_value *made) {
+    PyObject *place = known ? PyLong_FromVoidPtr(source) : NULL;
+    PyObject *note = place ? PyDict_GetItemWithError(known, place) : NULL;
+    Py_XDECREF(place);
+    return note ? check(ecow_value_clone(made, &value_cast(PyTuple_GetItem(note, 0))->value), NAME)
+                : !PyErr_Occurred() ? 1 : -1;
+}
+
 /* Makes `made` what an object is, and answers 0, or 1 and its parts where it has some. An object
  * that isn't of Python's own kinds is asked by `plain` what it is; `is_plain` says that it was. */
-static int read_one(core_state *state, PyObject *given, ecow_value *made, PyObject **parts,
-                    bool is_plain) {
+static int read_one(core_state *state, PyObject *known, PyObject *given, ecow_value *made,
+                    PyObject **parts, bool is_plain) {
     int overflow = 0;
     if (given == Py_None) {
         return check(ecow_value_set_nothing(made), NAME);
@@ -72,6 +104,10 @@ static int read_one(core_state *state, PyObject *given, ecow_value *made, PyObje
     if (value_is(state, given)) {
         return check(ecow_value_clone(made, &value_cast(given)->value), NAME);
     }
+    int met = is_plain ? 1 : recall(known, given, made);
+    if (met <= 0) {
+        return met;
+    }
     if (PyTuple_Check(given) || PyList_Check(given)) {
         *parts = PyTuple_Check(given) ? Py_NewRef(given) : PyList_AsTuple(given);
         return *parts && check(ecow_value_set_list(made), NAME) == 0 ? 1 : -1;
@@ -83,7 +119,7 @@ static int read_one(core_state *state, PyObject *given, ecow_value *made, PyObje
         return *parts && check(ecow_value_set_fields(made), NAME) == 0 ? 1 : -1;
     }
     PyObject *plain = is_plain ? NULL : call_helper(state->names.plain, given, NULL);
-    int done = plain ? read_one(state, plain, made, parts, true) : -1;
+    int done = plain ? read_one(state, known, plain, made, parts, true) : -1;
     Py_XDECREF(plain);
     return done;
 }
@@ -104,14 +140,16 @@ static int add_part(core_state *state, level *to, const ecow_value *part) {
                        NAME);
 }
 
-/* Makes `made` what an object of Python's is. It needs no more of the stack for a deep object. */
+/* Makes `made` what an object of Python's is. It needs no more of the stack for a deep object, and
+ * reads a part that stands there several times once. */
 static int read_value(core_state *state, PyObject *given, ecow_value *made) {
     level *levels = NULL;
     Py_ssize_t count = 0;
+    PyObject *known = NULL;
     int done;
     for (;;) {
         PyObject *parts = NULL;
-        done = read_one(state, given, made, &parts, false);
+        done = read_one(state, known, given, made, &parts, false);
         if (done == 1 && count == ECOW_MAX_DEPTH) {
             done = check(ECOW_DEPTH, NAME);
         }
@@ -123,7 +161,7 @@ static int read_value(core_state *state, PyObject *given, ecow_value *made) {
                 break;
             }
             levels = more;
-            levels[count++] = (level){parts, 0, *made, false};
+            levels[count++] = (level){given, parts, 0, *made, false};
             *made = ecow_value_new();
         } else if (done < 0) {
             Py_XDECREF(parts);
@@ -145,11 +183,16 @@ static int read_value(core_state *state, PyObject *given, ecow_value *made) {
             *made = top->made;
             Py_DECREF(top->parts);
             count--;
+            if (count > 0 && is_held_elsewhere(top->source, levels[count - 1].source)
+                && (done = remember(state, &known, top->source, made)) < 0) {
+                break;
+            }
         }
         if (done < 0 || count == 0) {
             break;
         }
     }
+    Py_XDECREF(known);
     for (; count > 0; count--) {
         Py_DECREF(levels[count - 1].parts);
         ecow_value_drop(&levels[count - 1].made);
@@ -160,26 +203,27 @@ static int read_value(core_state *state, PyObject *given, ecow_value *made) {
 
 /* ---- To Python ---- */
 
+/* The text that a value of that kind is, which stands behind the word with the kind. */
+static const ecow_text *text_in(const ecow_value *value) {
+    return (const ecow_text *)&value->word[1];
+}
+
 static PyObject *plain_scalar(const ecow_value *value) {
     bool truth = false;
     int64_t number = 0;
     double real = 0;
-    ecow_text text = {{0}};
-    PyObject *made;
     switch (ecow_value_kind(value)) {
     case ECOW_KIND_TRUTH:
-        ecow_value_truth(value, &truth);
+        ecow_ignore(ecow_value_truth(value, &truth));
         return PyBool_FromLong(truth);
     case ECOW_KIND_NUMBER:
-        ecow_value_number(value, &number);
+        ecow_ignore(ecow_value_number(value, &number));
         return PyLong_FromLongLong(number);
     case ECOW_KIND_REAL:
-        ecow_value_real(value, &real);
+        ecow_ignore(ecow_value_real(value, &real));
         return PyFloat_FromDouble(real);
     case ECOW_KIND_TEXT:
-        made = check(ecow_value_text(value, &text), NAME) < 0 ? NULL : str_of(&text);
-        ecow_text_drop(&text);
-        return made;
+        return str_of(text_in(value));
     default:
         Py_RETURN_NONE;
     }
@@ -190,10 +234,24 @@ static PyObject *name_at(const ecow_value *value, size_t index) {
     PyObject *made =
         check(ecow_value_field_name(value, index, &name), NAME) < 0 ? NULL : str_of(&name);
     ecow_text_drop(&name);
+    if (made) {
+        PyUnicode_InternInPlace(&made);
+    }
     return made;
 }
 
-static PyObject *plain_of(const ecow_value *value) {
+/* Whether a clone of a part stands in memory that others have than itself and what holds the part. */
+static bool is_shared(const ecow_value *clone) {
+    bool is_text = ecow_value_kind(clone) == ECOW_KIND_TEXT;
+    size_t size = is_text ? ecow_text_len(text_in(clone)) : ecow_value_len(clone);
+    uint64_t head = size > (is_text ? INLINE : 0) ? clone->word[is_text ? 2 : 1] : 0;
+    return head && ((const ecow_head *)head)->owners > 2;
+}
+
+/* What a value is in objects of Python's own. Where `find` is given, that is asked for what stands for
+ * a part that other values share, if it nests as deep as `least` says, for one from which on the value
+ * is deep, and for a NaN. */
+static PyObject *plain_of(core_state *state, const ecow_value *value, PyObject *find, size_t least) {
     if (!has_parts(value)) {
         return plain_scalar(value);
     }
@@ -203,7 +261,15 @@ static PyObject *plain_of(const ecow_value *value) {
     ecow_value item = {{0}};
     for (size_t index = 0; made && index < len; index++) {
         int done = check(ecow_value_get(value, index, &item), NAME);
-        PyObject *plain = done < 0 ? NULL : plain_of(&item);
+        double real = 0;
+        size_t depth = find ? ecow_value_depth(&item) : 0;
+        bool is_far = find && ((depth >= least && is_shared(&item)) || depth % SHALLOW == SHALLOW - 1
+                               || (ecow_value_real(&item, &real) == ECOW_OK && real != real));
+        PyObject *part = is_far ? value_own(state, state->value, &item) : NULL;
+        PyObject *plain = done < 0 || (is_far && !part) ? NULL
+                          : is_far ? PyObject_CallFunctionObjArgs(find, part, NULL)
+                                   : plain_of(state, &item, find, least);
+        Py_XDECREF(part);
         if (plain && is_list) {
             done = PyList_SetItem(made, (Py_ssize_t)index, plain);
         } else if (plain) {
@@ -220,31 +286,14 @@ static PyObject *plain_of(const ecow_value *value) {
     return made;
 }
 
-/* A part so many levels down in an object, as a `Value`, which takes it over. */
-static PyObject *part_value(value_object *object, ecow_value *part, Py_ssize_t level) {
-    PyObject *made = value_own(object->state, part);
-    if (made) {
-        value_cast(made)->is_lent = level > 0;
-    }
-    return made;
-}
-
-/* The same of a list or fields; another part as an object of Python's own. */
-static PyObject *part_object(value_object *object, ecow_value *part, Py_ssize_t level) {
+/* A list or fields as a `Value` of a type, which takes the part over, and another part as an object of
+ * Python's own. */
+static PyObject *part_object(core_state *state, PyTypeObject *type, ecow_value *part) {
     if (has_parts(part)) {
-        return part_value(object, part, level);
+        return value_own(state, type, part);
     }
     PyObject *made = plain_scalar(part);
     ecow_value_drop(part);
-    return made;
-}
-
-/* The same of a part that was taken out, which may be changed. */
-static PyObject *taken_object(value_object *object, ecow_value *part) {
-    PyObject *made = part_object(object, part, 1);
-    if (made && value_is(object->state, made)) {
-        value_cast(made)->is_lent = false;
-    }
     return made;
 }
 
@@ -350,12 +399,11 @@ static int change_at(ecow_value *value, PyObject *keys, Py_ssize_t from, act wha
 
 /* Whether an object may be changed: not where a container has handed it out. */
 static bool can_change(value_object *object) {
-    return !object->is_lent || refuse_change(NAME);
+    return !value_is_lent((PyObject *)object) || refuse_change(NAME);
 }
 
-/* Makes `part` a clone of the part at the path of some keys, which are given up. Answers how many
- * they were, or -1. */
-static Py_ssize_t get_at(value_object *object, PyObject *keys, ecow_value *part) {
+/* Makes `part` a clone of the part at the path of some keys, which are given up. */
+static int get_at(value_object *object, PyObject *keys, ecow_value *part) {
     Py_ssize_t count = keys ? PyTuple_Size(keys) : 0;
     int done = keys ? check(ecow_value_clone(part, &object->value), NAME) : -1;
     for (Py_ssize_t at = 0; done == 0 && at < count; at++) {
@@ -365,16 +413,16 @@ static Py_ssize_t get_at(value_object *object, PyObject *keys, ecow_value *part)
         ecow_value_drop(part);
     }
     Py_XDECREF(keys);
-    return done < 0 ? done : count;
+    return done;
 }
 
-/* Takes the part at the path of some keys, which are given up. */
-static int remove_at(value_object *object, PyObject *keys, ecow_value *part) {
+/* Takes the part at the path of some keys, which are given up, out. */
+static int remove_at(value_object *object, PyObject *keys) {
     int done = keys && can_change(object) ? 0 : -1;
     if (done == 0 && PyTuple_Size(keys) == 0) {
         done = refuse_key(&object->value, keys, ECOW_KIND);
     }
-    done = done < 0 ? done : change_at(&object->value, keys, 0, REMOVE, part);
+    done = done < 0 ? done : change_at(&object->value, keys, 0, REMOVE, NULL);
     Py_XDECREF(keys);
     return done;
 }
@@ -413,11 +461,11 @@ static PyObject *value_kind(PyObject *self, void *Py_UNUSED(closure)) {
 }
 
 static PyObject *value_to_python(PyObject *self, PyObject *Py_UNUSED(none)) {
-    return plain_of(&value_cast(self)->value);
+    return plain_of(value_cast(self)->state, &value_cast(self)->value, NULL, 0);
 }
 
 static PyObject *value_repr(PyObject *self) {
-    return named_repr(self, plain_of(&value_cast(self)->value));
+    return named_repr(self, value_to_python(self, NULL));
 }
 
 static Py_ssize_t value_length(PyObject *self) {
@@ -440,16 +488,20 @@ static int value_truth(PyObject *self) {
     return truth;
 }
 
-static PyObject *value_item(PyObject *self, Py_ssize_t index) {
-    value_object *object = value_cast(self);
+/* An item of a list, or a field's value. */
+static PyObject *item_at(value_object *object, size_t index) {
     ecow_value part = {{0}};
-    if (ecow_value_kind(&object->value) != ECOW_KIND_LIST) {
+    return check(ecow_value_get(&object->value, index, &part), NAME) < 0
+               ? NULL
+               : part_object(object->state, object->state->lent_value, &part);
+}
+
+static PyObject *value_item(PyObject *self, Py_ssize_t index) {
+    if (ecow_value_kind(&value_cast(self)->value) != ECOW_KIND_LIST) {
         check(ECOW_KIND, NAME);
         return NULL;
     }
-    return check(ecow_value_get(&object->value, (size_t)index, &part), NAME) < 0
-               ? NULL
-               : part_object(object, &part, 1);
+    return item_at(value_cast(self), (size_t)index);
 }
 
 /* A new value of every `step`th item of a list. */
@@ -473,7 +525,7 @@ static PyObject *sliced(value_object *object, PyObject *key) {
             status = ecow_value_push(&made, &item);
         }
     }
-    PyObject *part = check(status, NAME) < 0 ? NULL : part_value(object, &made, 0);
+    PyObject *part = check(status, NAME) < 0 ? NULL : value_own(object->state, object->state->value, &made);
     ecow_value_drop(&made);
     ecow_value_drop(&item);
     return part;
@@ -485,21 +537,23 @@ static PyObject *value_subscript(PyObject *self, PyObject *key) {
     if (PySlice_Check(key)) {
         return sliced(object, key);
     }
-    Py_ssize_t level = get_at(object, keys_of(object->state, key, false), &part);
-    return level < 0 ? NULL : part_object(object, &part, level);
+    return get_at(object, keys_of(object->state, key, false), &part) < 0
+               ? NULL
+               : part_object(object->state, object->state->lent_value, &part);
 }
 
 static int value_set_subscript(PyObject *self, PyObject *key, PyObject *given) {
     value_object *object = value_cast(self);
     PyObject *keys = keys_of(object->state, key, false);
-    return given ? put_at(object, keys, given) : remove_at(object, keys, NULL);
+    return given ? put_at(object, keys, given) : remove_at(object, keys);
 }
 
 static PyObject *value_get_part(PyObject *self, PyObject *path) {
     value_object *object = value_cast(self);
     ecow_value part = {{0}};
-    Py_ssize_t level = get_at(object, keys_of(object->state, path, true), &part);
-    return level < 0 ? NULL : part_value(object, &part, level);
+    return get_at(object, keys_of(object->state, path, true), &part) < 0
+               ? NULL
+               : value_own(object->state, object->state->lent_value, &part);
 }
 
 /* What stands for a part that isn't there: `other`, unless another error was raised. */
@@ -517,9 +571,9 @@ static PyObject *value_get(PyObject *self, PyObject *const *arguments, Py_ssize_
     if (!takes("get", count, 1, 2)) {
         return NULL;
     }
-    Py_ssize_t level = get_at(object, keys_of(object->state, arguments[0], true), &part);
-    return level < 0 ? instead(count == 2 ? arguments[1] : Py_None)
-                     : part_object(object, &part, level);
+    return get_at(object, keys_of(object->state, arguments[0], true), &part) < 0
+               ? instead(count == 2 ? arguments[1] : Py_None)
+               : part_object(object->state, object->state->lent_value, &part);
 }
 
 static PyObject *value_set(PyObject *self, PyObject *const *arguments, Py_ssize_t count) {
@@ -529,45 +583,82 @@ static PyObject *value_set(PyObject *self, PyObject *const *arguments, Py_ssize_
                        : -1);
 }
 
-/* Puts an item into a list before an index, which may pass the end or count from it. */
-static PyObject *put_in(value_object *object, Py_ssize_t index, PyObject *given) {
-    ecow_value item = {{0}};
-    int done = read_value(object->state, given, &item);
-    if (done == 0 && (done = can_change(object) ? 0 : -1) == 0) {
-        Py_ssize_t len = (Py_ssize_t)ecow_value_len(&object->value);
-        index = index < 0 ? index + len : index;
-        index = index < 0 ? 0 : index > len ? len : index;
-        done = check(ecow_value_insert(&object->value, (size_t)index, &item), NAME);
+/* Puts what an object is into a list before an index, which may pass the end or count from it: as one
+ * item, or its items at the end, all or none. The list is at a path, or where that is null, `self`. */
+static PyObject *put_in(PyObject *self, PyObject *path, Py_ssize_t index, PyObject *given, bool is_one) {
+    value_object *object = value_cast(self);
+    ecow_value added = {{0}}, item = {{0}}, part = {{0}}, *list;
+    int done = read_value(object->state, given, &added);
+    PyObject *keys = done < 0 ? NULL : path ? keys_of(object->state, path, true) : PyTuple_New(0);
+    size_t level = keys ? (size_t)PyTuple_Size(keys) : 0, count = is_one ? 1 : ecow_value_len(&added);
+    list = level ? &part : &object->value;
+    done = keys && can_change(object) ? 0 : -1;
+    if (done == 0 && level + is_one + ecow_value_depth(&added) > ECOW_MAX_DEPTH) {
+        done = check(ECOW_DEPTH, NAME);
     }
+    done = done < 0 || !level ? done : change_at(&object->value, keys, 0, SWAP, &part);
+    Py_ssize_t len = (Py_ssize_t)ecow_value_len(list);
+    index = index < 0 ? index + len : index;
+    size_t to = (size_t)(index < 0 ? 0 : index > len ? len : index);
+    ecow_status status = ecow_value_kind(list) == ECOW_KIND_LIST ? ECOW_OK : ECOW_KIND;
+    for (size_t at = 0; done == 0 && at < count && status == ECOW_OK; at++) {
+        status = is_one ? ECOW_OK : ecow_value_get(&added, at, &item);
+        status = status ? status : ecow_value_insert(list, to + at, is_one ? &added : &item);
+        if (status && at > 0) {
+            /* Nobody shares the list any more, so this asks for no memory. */
+            ecow_ignore(ecow_value_truncate(list, (size_t)len));
+        }
+    }
+    /* Nor does it to put the list in again. */
+    if (done == 0 && level) {
+        done = change_at(&object->value, keys, 0, SWAP, &part);
+    }
+    Py_XDECREF(keys);
+    ecow_value_drop(&added);
     ecow_value_drop(&item);
-    return none_if(done);
+    ecow_value_drop(&part);
+    return none_if(done < 0 ? done : check(status, NAME));
 }
 
-static PyObject *value_append(PyObject *self, PyObject *given) {
-    return put_in(value_cast(self), PY_SSIZE_T_MAX, given);
+static PyObject *value_append(PyObject *self, PyObject *const *arguments, Py_ssize_t count) {
+    return takes("append", count, 1, 2)
+               ? put_in(self, count == 2 ? arguments[1] : NULL, PY_SSIZE_T_MAX, arguments[0], true)
+               : NULL;
+}
+
+static PyObject *value_extend(PyObject *self, PyObject *const *arguments, Py_ssize_t count) {
+    PyObject *items = takes("extend", count, 1, 2) ? PySequence_Tuple(arguments[0]) : NULL;
+    PyObject *path = count == 2 ? arguments[1] : NULL;
+    PyObject *none = items ? put_in(self, path, PY_SSIZE_T_MAX, items, false) : NULL;
+    Py_XDECREF(items);
+    return none;
 }
 
 static PyObject *value_insert(PyObject *self, PyObject *const *arguments, Py_ssize_t count) {
-    if (!takes("insert", count, 2, 2)) {
+    if (!takes("insert", count, 2, 3)) {
         return NULL;
     }
     Py_ssize_t index = PyNumber_AsSsize_t(arguments[0], NULL);
-    return index == -1 && PyErr_Occurred() ? NULL : put_in(value_cast(self), index, arguments[1]);
+    return index == -1 && PyErr_Occurred()
+               ? NULL
+               : put_in(self, count == 3 ? arguments[2] : NULL, index, arguments[1], true);
 }
 
+/* The object of the part is made first: where that is refused, the part stays. */
 static PyObject *value_pop(PyObject *self, PyObject *const *arguments, Py_ssize_t count) {
     value_object *object = value_cast(self);
     ecow_value part = {{0}};
-    if (!takes("pop", count, 0, 2)) {
+    if (!takes("pop", count, 0, 2) || !can_change(object)) {
         return NULL;
     }
-    int done = -1;
-    if (count) {
-        done = remove_at(object, keys_of(object->state, arguments[0], true), &part);
-    } else if (can_change(object)) {
-        done = check(ecow_value_pop(&object->value, &part), NAME);
+    PyObject *keys = count ? keys_of(object->state, arguments[0], true) : Py_BuildValue("(i)", -1);
+    bool is_there = get_at(object, Py_XNewRef(keys), &part) == 0;
+    PyObject *taken = is_there ? part_object(object->state, object->state->value, &part) : NULL;
+    if (taken && remove_at(object, Py_NewRef(keys)) < 0) {
+        Py_CLEAR(taken);
     }
-    return done < 0 ? instead(count == 2 ? arguments[1] : NULL) : taken_object(object, &part);
+    Py_XDECREF(keys);
+    return is_there ? taken : instead(count == 2 ? arguments[1] : NULL);
 }
 
 static PyObject *value_clear(PyObject *self, PyObject *Py_UNUSED(none)) {
@@ -582,39 +673,17 @@ static PyObject *value_clear(PyObject *self, PyObject *Py_UNUSED(none)) {
     return none_if(check(status, NAME));
 }
 
-/* What a list holds for one field or item: its name, its value, or that with a text as a `Text`. */
-typedef enum column { NAMES_ALONE, PARTS, PARTS_WITH_TEXTS } column;
-
-static PyObject *cell(value_object *object, size_t index, column what) {
-    ecow_value part = {{0}};
-    ecow_text text = {{0}};
-    if (what == NAMES_ALONE) {
-        return name_at(&object->value, index);
-    }
-    if (check(ecow_value_get(&object->value, index, &part), NAME) < 0) {
-        return NULL;
-    }
-    if (what == PARTS || ecow_value_text(&part, &text) != ECOW_OK) {
-        return part_object(object, &part, 1);
-    }
-    ecow_value_drop(&part);
-    text_object *made = (text_object *)text_own(object->state, &text);
-    if (made) {
-        made->is_lent = true;
-    }
-    return (PyObject *)made;
-}
-
-static PyObject *cells(PyObject *self, column what) {
+/* A list of the names of fields, or of their values. */
+static PyObject *cells(PyObject *self, bool of_names) {
     value_object *object = value_cast(self);
     size_t len = ecow_value_len(&object->value);
-    if (what != PARTS_WITH_TEXTS && ecow_value_kind(&object->value) != ECOW_KIND_FIELDS) {
+    if (ecow_value_kind(&object->value) != ECOW_KIND_FIELDS) {
         check(ECOW_KIND, NAME);
         return NULL;
     }
     PyObject *made = PyList_New((Py_ssize_t)len);
     for (size_t index = 0; made && index < len; index++) {
-        PyObject *item = cell(object, index, what);
+        PyObject *item = of_names ? name_at(&object->value, index) : item_at(object, index);
         if (!item || PyList_SetItem(made, (Py_ssize_t)index, item) < 0) {
             Py_CLEAR(made);
         }
@@ -622,26 +691,28 @@ static PyObject *cells(PyObject *self, column what) {
     return made;
 }
 
-PyObject *value_parts(PyObject *module, PyObject *value) {
-    if (!value_is(PyModule_GetState(module), value)) {
-        PyErr_Format(PyExc_TypeError, "must be Value, not %R", Py_TYPE(value));
+PyObject *value_plain(PyObject *module, PyObject *const *arguments, Py_ssize_t count) {
+    core_state *state = PyModule_GetState(module);
+    size_t least = 0;
+    if (count != 3 || !value_is(state, arguments[0]) || !read_size(arguments[2], &least)) {
+        PyErr_SetString(PyExc_TypeError, "must be a Value, a function, and a depth");
         return NULL;
     }
-    return cells(value, PARTS_WITH_TEXTS);
+    return plain_of(state, &value_cast(arguments[0])->value, arguments[1], least);
 }
 
 static PyObject *value_keys(PyObject *self, PyObject *Py_UNUSED(none)) {
-    return cells(self, NAMES_ALONE);
+    return cells(self, true);
 }
 
 static PyObject *value_values(PyObject *self, PyObject *Py_UNUSED(none)) {
-    return cells(self, PARTS);
+    return cells(self, false);
 }
 
 static PyObject *value_iter(PyObject *self) {
     const ecow_value *value = &value_cast(self)->value;
     if (ecow_value_kind(value) == ECOW_KIND_FIELDS) {
-        PyObject *names = cells(self, NAMES_ALONE);
+        PyObject *names = cells(self, true);
         PyObject *iterator = names ? PyObject_GetIter(names) : NULL;
         Py_XDECREF(names);
         return iterator;
@@ -677,32 +748,21 @@ static int value_contains(PyObject *self, PyObject *object) {
 }
 
 static PyObject *value_compared(PyObject *self, PyObject *other, int operation) {
-    value_object *object = value_cast(self);
-    PyObject *answer;
-    if (operation != Py_EQ && operation != Py_NE) {
+    core_state *state = value_cast(self)->state;
+    const ecow_value *value = &value_cast(self)->value;
+    const ecow_value *right = value_is(state, other) ? &value_cast(other)->value : NULL;
+    bool has_items = PyList_Check(other) || PyDict_Check(other)
+                     || PyObject_TypeCheck(other, state->list)
+                     || PyObject_TypeCheck(other, state->texts);
+    if ((operation != Py_EQ && operation != Py_NE) || (!right && !has_items && has_parts(value))) {
         Py_RETURN_NOTIMPLEMENTED;
     }
-    bool both = value_is(object->state, other);
-    value_object *right = both ? value_cast(other) : object;
-    if (both
-        && (ecow_value_shares(&object->value, &right->value)
-            || (ecow_value_depth(&object->value) <= SHALLOW
-                && ecow_value_depth(&right->value) <= SHALLOW
-                && ecow_value_equal(&object->value, &right->value)))) {
+    /* The library visits a part as often as it occurs, and tells numbers of two kinds apart. */
+    if (right && ecow_value_depth(value) < SHALLOW && ecow_value_depth(right) < SHALLOW
+        && ecow_value_equal(value, right)) {
         return PyBool_FromLong(operation == Py_EQ);
     }
-    if (!both && !has_parts(&object->value)) {
-        PyObject *plain = plain_scalar(&object->value);
-        answer = plain ? PyObject_RichCompare(plain, other, operation) : NULL;
-        Py_XDECREF(plain);
-        return answer;
-    }
-    if (!both && !PyList_Check(other) && !PyDict_Check(other)
-        && !PyObject_TypeCheck(other, object->state->list)
-        && !PyObject_TypeCheck(other, object->state->texts)) {
-        Py_RETURN_NOTIMPLEMENTED;
-    }
-    answer = call_helper(object->state->names.equal, self, other);
+    PyObject *answer = call_helper(state->names.equal, self, other);
     int equal = answer ? PyObject_IsTrue(answer) : -1;
     Py_XDECREF(answer);
     return equal < 0 ? NULL : PyBool_FromLong(equal == (operation == Py_EQ));
@@ -710,11 +770,8 @@ static PyObject *value_compared(PyObject *self, PyObject *other, int operation) 
 
 static Py_hash_t value_hash(PyObject *self) {
     value_object *object = value_cast(self);
-    if (!object->is_lent) {
-        return PyObject_HashNotImplemented(self);
-    }
     PyObject *hash = call_helper(object->state->names.hashed, self, NULL);
-    Py_hash_t number = hash ? PyObject_Hash(hash) : -1;
+    Py_hash_t number = hash ? PyLong_AsSsize_t(hash) : -1;
     Py_XDECREF(hash);
     return number;
 }
@@ -740,9 +797,12 @@ static PyMethodDef value_methods[] = {
     FAST("set", value_set, "path, part",
          "Puts a part in place of the one at a path, or appends a field of the last name.\n"
          "KeyError, IndexError or TypeError where the way isn't there.")
-    {"append", value_append, METH_O,
-     PyDoc_STR("append($self, part, /)\n--\n\nAppends an item to a list.")},
-    FAST("insert", value_insert, "index, part", "Puts an item in before `index` of a list.")
+    FAST("append", value_append, "part, path=()",
+         "Appends an item to a list: to that at a path, where one is given. Nothing is copied that\n"
+         "no other value shares.")
+    FAST("extend", value_extend, "parts, path=()",
+         "Appends all items of an iterable to a list, or none where it raises an error.")
+    FAST("insert", value_insert, "index, part, path=()", "Puts an item in before `index` of a list.")
     FAST("pop", value_pop, "key=-1, default=...",
          "Takes an item of a list or a field's value: `default`, or IndexError or KeyError,\n"
          "where there is none.")
@@ -772,7 +832,7 @@ static PyType_Slot value_slots[] = {
     {Py_tp_methods, value_methods},
     {Py_tp_getset, value_properties},
     {Py_tp_iter, value_iter},
-    {Py_tp_hash, value_hash},
+    {Py_tp_hash, PyObject_HashNotImplemented},
     {Py_tp_repr, value_repr},
     {Py_tp_richcompare, value_compared},
     {Py_sq_item, value_item},
@@ -786,3 +846,13 @@ static PyType_Slot value_slots[] = {
 };
 
 TYPE_SPEC(0);
+
+static PyType_Slot lent_slots[] = {
+    {Py_tp_doc, "A value that another one hands out. It can't be changed, and has a hash."},
+    {Py_tp_dealloc, value_dealloc},
+    {Py_tp_hash, value_hash},
+    {Py_tp_richcompare, value_compared},
+    {0, NULL},
+};
+
+LENT_SPEC(lent_value_spec, 0);

@@ -5,9 +5,11 @@ A copy takes the same time however long the value is. No copy shows what is chan
 from collections.abc import MutableSequence as _MutableSequence
 
 import ecow._objects as _objects
-from ecow._core import Bytes, List, Text, Texts, Value, __version__, is_utf8
+from ecow._core import (
+    Bytes, LentText, LentValue, List, Text, Texts, Value, __version__, is_utf8)
 
-__all__ = ["Bytes", "List", "Text", "Texts", "Value", "__version__", "is_utf8"]
+__all__ = [
+    "Bytes", "LentText", "LentValue", "List", "Text", "Texts", "Value", "__version__", "is_utf8"]
 
 for _kind in (Bytes, List, Text, Texts):
     _MutableSequence.register(_kind)

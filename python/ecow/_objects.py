@@ -15,7 +15,8 @@ import weakref
 from collections.abc import Callable, Iterable, Mapping
 from typing import Any, Optional
 
-from ecow._core import Bytes, List, Text, Texts, Value, _address, _parts
+from ecow._core import (
+    Bytes, LentText, LentValue, List, Text, Texts, Value, _address, _plain)
 
 _KINDS = (List, Bytes, Text, Texts, Value)
 
@@ -23,6 +24,8 @@ _KINDS = (List, Bytes, Text, Texts, Value)
 def plain(source: Any) -> Any:
     """What an object of another class is read as: an int, a list, or a dict in the order of its
     items."""
+    if isinstance(source, Block):
+        return source.value
     if isinstance(source, Mapping):
         return dict(source.items())
     if isinstance(source, (list, List, Texts)):
@@ -34,93 +37,96 @@ def plain(source: Any) -> Any:
     raise TypeError(f"a value can't hold {type(source)!r}")
 
 
-def _folded(value: Any, leaf: Callable[[Any], Any], branch: Callable[[Any, list[Any]], Any]) -> Any:
-    """What `leaf` makes of parts that have none, and `branch` of lists and fields with what their
-    parts became. Memory that parts share is visited once, and the stack doesn't grow."""
-    known: dict[int, Any] = {}
-    made: list[Any] = []
+def hashed(value: Any) -> int:
+    """The hash of what can't be changed: equal values have the same. Memory that parts share is
+    visited once, and the stack doesn't grow."""
+    known: dict[int, int] = {}
+    made: list[int] = []
     todo: list[Any] = [(value, None)]
     while todo:
         part, count = todo.pop()
-        if not isinstance(part, Value) or part.kind not in ("list", "fields"):
-            made.append(leaf(part))
+        if not isinstance(part, Value):
+            made.append(hash(part) if part == part else 0)
+        elif part.kind not in ("list", "fields"):
+            todo.append((part.to_python(), None))
         elif count is not None:
-            inner = made[len(made) - count:]
+            below = made[len(made) - count:]
             del made[len(made) - count:]
-            made.append(branch(part, inner))
+            made.append(hash(tuple(below)) if part.kind == "list"
+                        else hash(frozenset(zip(part.keys(), below))))
             if count:
                 known[_address(part)] = made[-1]
         elif _address(part) in known:
             made.append(known[_address(part)])
         else:
-            parts = _parts(part)
+            parts = list(part) if part.kind == "list" else part.values()
             todo.append((part, len(parts)))
-            todo.extend((each, None) for each in reversed(parts))
+            todo.extend([(each, None) for each in reversed(parts)])
     return made[0]
 
 
-def hashed(value: Any) -> Any:
-    """The hash of what can't be changed: equal values have the same."""
-    return _folded(
-        value,
-        lambda part: hash(part) if part == part else 0,
-        lambda part, below: hash(tuple(below)) if part.kind == "list"
-        else hash(frozenset(zip(part.keys(), below))),
-    )
+class Later:
+    """A part of a value, whose comparison is put off."""
+
+    __slots__ = ("part", "todo")
+
+    def __init__(self, part: Any, todo: list[Any]) -> None:
+        self.part, self.todo = part, todo
+
+    def __eq__(self, other: Any) -> bool:
+        part = other.part if isinstance(other, Later) else other
+        if not isinstance(part, Value) or _address(part) != _address(self.part):
+            self.todo.append((self.part, part))
+        return True
 
 
-def _opened(thing: Any) -> Any:
-    """The parts of a list or of fields, or another object as it is."""
-    if isinstance(thing, Value):
-        return dict(thing.items()) if thing.kind == "fields" else (
-            list(thing) if thing.kind == "list" else thing.to_python())
-    return list(thing) if isinstance(thing, (List, Texts)) else thing
+# What stands for each NaN of two values that are compared: it is itself, so it equals itself.
+_NAN = float("nan")
 
 
 def equal(value: Any, other: Any) -> bool:
     """Whether a value equals another, or a list or a dict, as `to_python()` of both do; a NaN in
-    two values equals each NaN. Two parts are compared once, and the stack doesn't grow."""
+    two values equals each NaN. Parts that are shared are compared once, unless they are as small
+    as a record beside an object, and those that nest deep are put off: the stack doesn't grow."""
     both = isinstance(other, Value)
+    least = 0 if both else 3
+    todo: list[Any] = [(Value(value), Value(other) if both else other)]
     seen: dict[Any, Any] = {}
-    todo = [(value, other)]
+
+    def later(part: Any) -> Any:
+        if part.kind in ("list", "fields"):
+            return Later(part, todo)
+        return _NAN if both and part.kind == "real" else part.to_python()
+
     while todo:
-        left, right = todo.pop()
-        key = tuple(isinstance(each, Value) and _address(each) or id(each) for each in (left, right))
-        if key[0] == key[1] or key in seen:
-            continue
-        one, two = _opened(left), _opened(right)
-        if isinstance(one, list) and isinstance(two, list):
-            pairs: Iterable[Any] = zip(one, two)
-        elif isinstance(one, dict) and isinstance(two, dict) and one.keys() == two.keys():
-            pairs = [(one[name], two[name]) for name in one]
-        elif isinstance(one, (list, dict)) or isinstance(two, (list, dict)):
-            return False
-        elif one == two or (both and one != one and two != two):
-            continue
-        else:
-            return False
-        if len(one) != len(two):
-            return False
-        # What is compared stays, so that no other object has its address.
-        seen[key] = left, right
-        todo.extend(pairs)
+        sides = todo.pop()
+        key = tuple([isinstance(each, Value) and _address(each) or id(each) for each in sides])
+        if key[0] != key[1] and key not in seen:
+            # What is compared stays, so that no other object has its address.
+            seen[key] = sides
+            opened = [each if not isinstance(each, Value) else _plain(each, later, least)
+                      for each in sides]
+            if opened[:1] != opened[1:]:
+                return False
     return True
 
 
-def _update(self: Any, /, *others: Any, **named: Any) -> None:
+def _update(self: Any, other: Any = (), path: Any = (), /, **named: Any) -> None:
     """Sets the fields of a mapping, or of pairs of names and values, and those that are named: all
-    or none."""
-    made = self.copy()
-    for name, part in dict(*others, **named).items():
+    or none, in the fields at a path."""
+    made = self.part(path).copy()
+    for name, part in dict(other, **named).items():
         made[name] = part
-    self.set([], made)
+    self.set(path, made)
 
 
 def _setdefault(self: Any, name: Any, default: Any = None, /) -> Any:
     """The value of a field, which is set where there is none."""
-    if name not in self:
-        self[name] = default
-    return self[name]
+    if name in self:
+        return self[name]
+    made = Value([default])[0]
+    self[name] = made
+    return made
 
 
 def _joined(left: Any, right: Any) -> Any:
@@ -137,28 +143,32 @@ def _joined_right(right: Any, left: Any) -> Any:
 
 
 def _joined_in_place(left: Any, right: Any) -> Any:
+    """As with `+=` of a text, a value that may not be changed gives a new one."""
+    if isinstance(left, LentValue):
+        return _joined(left, right)
     _update(left, right)
     return left
-
-
-def _extend(self: Any, parts: Iterable[Any], /) -> None:
-    """Appends all items of an iterable to a list, or none where it raises an error."""
-    made = Value(list(parts))
-    if self.kind != "list":
-        raise TypeError("Value is of another kind")
-    before = len(self)
-    try:
-        for part in _parts(made):
-            self.append(part)
-    except MemoryError:
-        while len(self) > before:
-            self.pop()
-        raise
 
 
 def _items(self: Any, /) -> list[tuple[str, Any]]:
     """A list of the fields as pairs of a name and a value, in order."""
     return list(zip(self.keys(), self.values()))
+
+
+def _items_of(self: Any, path: Any) -> list[Any]:
+    if (part := self.part(path)).kind != "list":
+        raise TypeError("Value is of another kind")
+    return list(part)
+
+
+def _index(self: Any, item: Any, path: Any = (), /) -> int:
+    """Where the first such item of a list stands: ValueError where there is none."""
+    return _items_of(self, path).index(item)
+
+
+def _sort_at(self: Any, path: Any = (), /, *, key: Any = None, reverse: bool = False) -> None:
+    """Sorts a list as `list.sort`."""
+    self.set(path, sorted(_items_of(self, path), key=key, reverse=reverse))
 
 
 def _sort(self: Any, /, *, key: Any = None, reverse: bool = False) -> None:
@@ -167,7 +177,8 @@ def _sort(self: Any, /, *, key: Any = None, reverse: bool = False) -> None:
 
 
 for _kinds, _name, _method in (
-    ((List, Texts), "sort", _sort), ((Value,), "extend", _extend), ((Value,), "items", _items),
+    ((List, Texts), "sort", _sort), ((Value,), "sort", _sort_at), ((Value,), "index", _index),
+    ((Value,), "items", _items),
     ((Value,), "update", _update), ((Value,), "setdefault", _setdefault),
     ((Value,), "__or__", _joined), ((Value,), "__ror__", _joined_right),
     ((Value,), "__ior__", _joined_in_place),
@@ -182,19 +193,21 @@ class Block:
 
     __slots__ = ("value", "parts", "__weakref__")
 
-    def __init__(self, value: Any, parts: Optional[list[Any]] = None) -> None:
+    def __init__(self, value: Any, parts: Any = None) -> None:
         self.value = value
-        # What the texts of a list, or the parts of a nested value, are pickled as.
+        # What the texts of a list are pickled as, or the list or the dict that a nested value is,
+        # with blocks for the parts that it shares.
         self.parts = parts
 
     def __reduce__(self) -> tuple[Any, ...]:
-        value = self.value
+        value, parts = self.value, self.parts
+        if isinstance(value, Value):
+            named = isinstance(parts, dict)
+            return load_value, (list(parts), list(parts.values())) if named else (None, parts)
         if isinstance(value, List):
             return load_list, (_in_order(bytes(value)).tobytes(),)
         if isinstance(value, Texts):
-            return load_texts, (self.parts,)
-        if isinstance(value, Value):
-            return load_value, (value.keys() if value.kind == "fields" else None, self.parts)
+            return load_texts, (parts,)
         return load_bytes, ((bytes if isinstance(value, Bytes) else str)(value),)
 
 
@@ -224,30 +237,49 @@ def load_bytes(plain: Any) -> Block:
 
 def load_texts(parts: list[Any]) -> Block:
     """A block of texts."""
-    return Block(Texts(_loaded(part) for part in parts))
+    return Block(Texts([_loaded(part) for part in parts]))
 
 
 def load_value(names: Optional[list[str]], parts: list[Any]) -> Block:
     """A block of the fields of some names, or of a list."""
-    items = [_loaded(part) for part in parts]
-    return Block(Value(items if names is None else dict(zip(names, items))))
+    return Block(Value(parts if names is None else dict(zip(names, parts))))
 
 
 def _loaded(packed: Any) -> Any:
     return packed.value if isinstance(packed, Block) else packed
 
 
-def _block(value: Any, held: Any, new: list[Any], parts: Optional[list[Any]] = None) -> Block:
-    """The block of the memory of a value, which holds the same; one that has none has its own.
-    A new one is added to `new`."""
-    kind = next(each for each in _KINDS if isinstance(value, each))
+def _block(kind: Any, value: Any, new: list[Any], parts: Any = None) -> Block:
+    """The block of the memory of a value of a kind, which holds the same; one that has none has its
+    own. A new one is added to `new`."""
     address = _address(value)
     block = _blocks.get((kind, address)) if address else None
     if block is None:
-        block = Block(held, parts)
+        block = Block(kind(value), parts)
         new.append(block)
         if address:
             _blocks[kind, address] = block
+    return block
+
+
+def _packed_value(value: Any, new: list[Any]) -> Any:
+    """The block of a list or of fields, behind the blocks of the parts that these share with others
+    or that nest deep. The stack doesn't grow."""
+    missing = [Value(value)]
+
+    def find(part: Any) -> Any:
+        if part.kind not in ("list", "fields"):
+            return _packed(part, new)
+        block = _blocks.get((Value, _address(part)))
+        if block is None:
+            missing.append(part)
+        return block
+
+    while missing:
+        count = len(missing)
+        plain = _plain(missing[-1], find, 0)
+        if len(missing) == count:
+            block = _block(Value, missing.pop(), new, plain)
     return block
 
 
@@ -255,21 +287,20 @@ def _packed(value: Any, new: list[Any]) -> Any:
     """What a value is pickled as: a block, or an object of Python's where it is as small."""
     kind: Any
     if isinstance(value, Value) and value.kind in ("list", "fields"):
-        return _folded(value, lambda part: _packed(part, new),
-                       lambda part, parts: _block(part, Value(part), new, parts))
+        return _packed_value(value, new)
     if isinstance(value, Value):
         return _packed(Text(value), new) if value.kind == "text" else value.to_python()
     if isinstance(value, Texts):
-        return _block(value, Texts(value), new, [_packed(text, new) for text in value])
+        return _block(Texts, value, new, [_packed(text, new) for text in value])
     for kind, plain in ((List, list), (Bytes, bytes), (Text, str)):
         if isinstance(value, kind):
-            return _block(value, kind(value), new) if _address(value) else plain(value)
+            return _block(kind, value, new) if _address(value) else plain(value)
     return value
 
 
 def restored(kind: Any, *packed: Any) -> Any:
     """A value of a type, whose own `__init__` isn't called. What it is made of stands last."""
-    base = next(each for each in kind.__mro__ if each in _KINDS)
+    base = [each for each in kind.__mro__ if each in _KINDS][0]
     value = kind.__new__(kind)
     base.__init__(value, _loaded(packed[-1]))
     return value
@@ -280,7 +311,8 @@ def reduced(value: Any) -> tuple[Any, ...]:
     doesn't grow."""
     new: list[Any] = []
     packed = _packed(value, new)
-    return restored, (type(value), new, packed), value.__getstate__()
+    kind = {LentText: Text, LentValue: Value}.get(type(value), type(value))
+    return restored, (kind, new, packed), value.__getstate__()
 
 
 def _set_state(made: Any, state: Any) -> None:

@@ -1,20 +1,21 @@
-"""Keeps each version of a text that is edited: a version shares memory until it is edited."""
+"""Keeps snapshots of settings while they are edited: a snapshot takes no copy of what stays."""
 
-from ecow import Text
+from ecow import Value
 
-document = Text("Copies of a text share its memory.\n" * 1000)
-versions = [document.copy()]
+settings = Value({"window": {"title": "untitled", "size": [800, 600]}, "recent": []})
+snapshots = [settings.copy()]
 
-document.insert(0, "Title: copies\n")
-versions.append(document.copy())
+settings["window", "size", 0] = 1024
+settings.append("notes.txt", "recent")
+snapshots.append(settings.copy())
 
-document = document.replace("memory", "bytes")
-versions.append(document.copy())
+settings.update({"title": "notes.txt", "zoom": 1.5}, "window")
+snapshots.append(settings.copy())
 
-document += "The end."
-document[0:5] = "Subject"
-versions.append(document.copy())
+for snapshot in snapshots:
+    print(snapshot.to_python())
 
-for version in versions:
-    lines = version.splitlines()
-    print(len(version), "characters:", lines[0], "..", lines[-1])
+# Back to an earlier one, which itself stays.
+settings = snapshots[1].copy()
+settings["window", "title"] = "again"
+print(settings["window", "title"], snapshots[1]["window", "title"])

@@ -1,11 +1,14 @@
-"""Makes each call with each of its requests for memory refused in turn, and prints what goes wrong.
+"""Makes each call with each of its requests for memory refused in turn, alone and with three behind it,
+and prints what goes wrong.
 
 Runs with the library of `refuse.c` loaded first. A refusal raises a MemoryError and leaves the
-value as it was; copies of it stay as they were, whatever comes of the call.
+value as it was; copies of it stay as they were, whatever comes of the call. Where `pickle` finds no
+memory for the name of a function, it raises a PicklingError of its own.
 """
 
 import copy
 import ctypes
+import itertools
 import pickle
 
 from ecow import Bytes, List, Text, Texts, Value
@@ -24,15 +27,16 @@ SEQUENCE = SHARED + (
     lambda value: value[::-1], lambda value: value * 3, lambda value: list(value),
 )
 CALLS = (
-    (lambda: List(range(100)), SEQUENCE + (
+    *((make, SEQUENCE + (
         lambda value: value.append(1), lambda value: value.insert(3, 1), lambda value: value.sort(),
         lambda value: value.extend([1] * 300), lambda value: value.extend(range(300)),
         lambda value: value.__setitem__(3, 9),
         lambda value: value.__setitem__(slice(1, 5), [1] * 40),
         lambda value: value.__setitem__(slice(0, 9, 3), [1, 2, 3]), lambda value: value + [1],
         lambda value: value.__iadd__([1] * 200), lambda value: memoryview(value)[2:],
-        lambda value: List(range(500)),
-    )),
+        lambda value: List(range(500)), lambda value: value.remove(value[3]),
+        lambda value: value.sort(key=lambda number: -number), lambda value: value.__init__([2**62]),
+    )) for make in (lambda: List(range(100)), lambda: List(range(2**60, 2**60 + 40)))),
     *((make, SEQUENCE + (
         lambda value: value.append(1), lambda value: value.insert(3, 1),
         lambda value: value.upper(),
@@ -57,23 +61,36 @@ CALLS = (
         lambda value: value.append("x" * 40), lambda value: value.insert(3, "abc"),
         lambda value: value.extend(["a" * 50, "b"]), lambda value: value.__setitem__(3, "z" * 30),
         lambda value: value.__setitem__(slice(1, 5), ["y" * 90] * 9), lambda value: value.sort(),
-        lambda value: value + ["z" * 99], lambda value: value[0],
+        lambda value: value + ["z" * 99], lambda value: value[0], lambda value: value.remove("b"),
+        lambda value: value.sort(key=len), lambda value: value.__init__(["y" * 40]),
         lambda value: Texts(["q" * 99] * 5),
     )),
-    (lambda: Value([[1, 2], "x" * 40, {"k" * 30: 1}, 4]), SHARED + (
+    (lambda: Value([[1, 2], "x" * 40, {"k" * 30: 1}, 4, 2**60, 1.5]), SHARED + (
         lambda value: value.append("z" * 60), lambda value: value.insert(1, ["q" * 60]),
-        lambda value: value.pop(), lambda value: value.pop(0), lambda value: value.extend(value),
-        lambda value: value.extend([1, "w" * 60]),
+        *(lambda value, index=index: value.pop(index) for index in range(6)),
+        lambda value: value.pop(), lambda value: value.extend(value),
+        lambda value: value.pop([0, 1]), lambda value: value.pop([2, "k" * 30]),
+        lambda value: value.extend(iter([1, "w" * 60, [2**60]] * 9)), lambda value: value.pop(9, 1),
         lambda value: value.__setitem__(0, {"a" * 30: 1}),
         lambda value: value.__delitem__(0), lambda value: value[:], lambda value: value[::-1],
         lambda value: list(value), lambda value: value.clear(), lambda value: value.to_python(),
     )),
-    (lambda: Value({"a": [1, {"b": "x" * 60}], "name": "n" * 40}), SHARED + (
+    (lambda: Value({"a": [1, {"b": "x" * 60}], "name": "n" * 40, "big": 2**60}), SHARED + (
         lambda value: value.set(["a", 0], [1, 2]), lambda value: value.set(["a", 1, "b"], "y" * 90),
         lambda value: value.set(["a", 1, "new"], {"z": [1] * 9}), lambda value: value.get(["a", 1]),
         lambda value: value.part(["a", 1, "b"]), lambda value: value["a"],
-        lambda value: value.pop("a"),
-        lambda value: value.__delitem__("name"),
+        lambda value: value.pop("a"), lambda value: value.pop("name"), lambda value: value.pop("big"),
+        lambda value: value.pop(["a", 1, "b"]), lambda value: value.pop("none", 5),
+        lambda value: value.setdefault("new", 2**60), lambda value: value.setdefault("new", ["w" * 60]),
+        lambda value: value.setdefault("new", "w" * 60), lambda value: value.setdefault("big"),
+        lambda value: value.update({"new": 2**60, "a": ["w" * 60]}, name="v" * 60),
+        lambda value: value.update([("new", [1]), ("big", 0), ("newer", "w" * 60)]),
+        lambda value: value.__ior__({"new": 2**60, "a": 5}), lambda value: value | {"new": 5},
+        lambda value: {"new": 5} | value, lambda value: value.__init__({"a": [1, "w" * 60]}),
+        lambda value: value.append("w" * 60, ["a"]), lambda value: value.extend([1, "w" * 60] * 9, "a"),
+        lambda value: value.insert(0, [2**60], ["a"]), lambda value: value.sort("a", key=str),
+        lambda value: value.update({"c": "w" * 60, "b": 1, "d": [2]}, ["a", 1]),
+        lambda value: value.__delitem__("name"), lambda value: value.__delitem__(("a", 1)),
         lambda value: value.__setitem__("q" * 40, "r" * 40),
         lambda value: value.clear(), lambda value: value.items(), lambda value: value.to_python(),
         lambda value: Value([1, {"x": ["y" * 50]}]),
@@ -81,28 +98,29 @@ CALLS = (
 )
 
 library = ctypes.CDLL(None)
-refuse, was_refused = library.test_refuse, library.test_refused
-refuse.argtypes = [ctypes.c_long]
+refuse = ctypes.c_long.in_dll(library, "test_refuse")
+more, refused = (ctypes.c_int.in_dll(library, name) for name in ("test_more", "test_refused"))
 
 
 def attempt(make, call, shared, number):
-    """One call with one request refused: whether it came to that, and what went wrong."""
+    """One call with a request refused: whether it came to that, and what went wrong."""
     value = make()
     other = value.copy() if shared else make()
     before, error = plain(value), None
-    refuse(number)
+    refused.value = 0
+    refuse.value = number
     try:
         call(value)
     except Exception as raised:
         error = raised
-    refused = was_refused()
-    if error and not (refused and isinstance(error, MemoryError)):
-        return refused, f"raised {error!r}"
+    refuse.value = 0
+    if error and not (refused.value and isinstance(error, (MemoryError, pickle.PicklingError))):
+        return refused.value > 0, f"raised {error!r}"
     if error and plain(value) != before:
-        return refused, "changed the value"
+        return refused.value > 0, "changed the value"
     if plain(other) != before:
-        return refused, "changed another value"
-    return refused, None
+        return refused.value > 0, "changed another value"
+    return refused.value > 0, None
 
 
 def main():
@@ -111,14 +129,15 @@ def main():
         for place, call in enumerate(calls):
             # What Python itself makes at a first call isn't made again.
             call(make())
-            for shared in (False, True):
-                number, refused = 0, True
-                while refused:
+            for shared, more.value in itertools.product((False, True), (0, 3)):
+                number, came = 0, True
+                while came:
                     number += 1
-                    refused, wrong = attempt(make, call, shared, number)
-                    requests += refused
+                    came, wrong = attempt(make, call, shared, number)
+                    requests += came
                     if wrong:
-                        print(f"kind {kind}, call {place}, {shared=}, request {number}: {wrong}")
+                        print(f"kind {kind}, call {place}, {shared=}, {more.value=}, "
+                              f"request {number}: {wrong}")
     print("refused" if requests > 300 else f"only {requests} requests")
 
 

@@ -1,26 +1,19 @@
-/* Stands in place of glibc's malloc: refuses one of a thread's next requests for memory. */
+/* Stands in place of glibc's malloc: refuses one of the next requests for memory, or several in a
+ * row. */
 #include <stddef.h>
 
 extern void *__libc_malloc(size_t), *__libc_calloc(size_t, size_t), *__libc_realloc(void *, size_t);
 
-static _Thread_local long left;
-static _Thread_local int refused;
+/* The request with that number, counted from 1, is refused: none where it is 0. What Python sets and
+ * reads lies in memory, since a call of a function would ask for memory itself. */
+long test_refuse;
 
-/* The request with that number, counted from 1, is refused. */
-void test_refuse(long number) {
-    left = number;
-    refused = 0;
-}
-
-/* Whether it came to that; no other request is refused. */
-int test_refused(void) {
-    left = 0;
-    return refused;
-}
+/* How many behind it are refused too, and how many were. Python ends where none at all is granted. */
+int test_more, test_refused;
 
 static int grant(void) {
-    if (left > 0 && --left == 0) {
-        refused = 1;
+    if (test_refuse > 0 && --test_refuse == 0) {
+        test_refuse = test_refused++ < test_more;
         return 0;
     }
     return 1;

@@ -287,7 +287,8 @@ class Refused(unittest.TestCase):
             path = os.pathsep.join([here, *sys.path])
             ran = subprocess.run([sys.executable, os.path.join(here, "refusals.py")],
                                  capture_output=True, text=True,
-                                 env={**os.environ, "PYTHONPATH": path, "LD_PRELOAD": library})
+                                 env={**os.environ, "PYTHONPATH": path, "LD_PRELOAD": library,
+                                      "PYTHONMALLOC": "malloc"})
         self.assertEqual((ran.stdout, ran.stderr), ("refused\n", ""))
 
 

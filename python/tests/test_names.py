@@ -1,10 +1,13 @@
 """The types in `__init__.pyi` and the module tell of the same names."""
 
 import ast
+import copy
+import dataclasses
 import inspect
 import pathlib
+import pickle
 import unittest
-from collections.abc import Iterable, MutableSequence, Sequence
+from collections.abc import Hashable, Iterable, MutableSequence, Sequence
 
 import ecow
 
@@ -47,6 +50,12 @@ class Names(unittest.TestCase):
             # Operators of which the interpreter adds a form that always declines.
             there -= {"__rmod__"}
             there -= {"__lt__", "__le__", "__gt__", "__ge__"} if kind is ecow.Value else set()
+            if name.startswith("Lent"):
+                # The interpreter adds what compares, beside a hash. What changes a value is refused.
+                there -= {"__eq__", "__ne__", "__lt__", "__le__", "__gt__", "__ge__"}
+                there -= {"__iadd__", "__imul__", "__ior__"}
+                node.body = [each for each in node.body if defined(each) <= there]
+                self.assertEqual(there, {"__hash__"})
             self.assertEqual(there - LATER, names_of(node.body) - LATER, name)
             for member in there:
                 if member[0] != "_":
@@ -91,6 +100,47 @@ class Names(unittest.TestCase):
                     "__abstractmethods__", "__class_getitem__", "__reversed__", "__slots__",
                     "_abc_impl"), name)
         self.assertIsInstance(ecow.Value([]), Iterable)
+        for kind in (ecow.List, ecow.Bytes, ecow.Text, ecow.Texts, ecow.Value):
+            self.assertNotIsInstance(kind(), Hashable)
+        for lent in (ecow.Texts(["a"])[0], ecow.Value([[1]])[0]):
+            self.assertIsInstance(lent, Hashable)
+
+    def test_lent(self):
+        """A type that is lent has its kind's methods. Each that changes a value is told of as none."""
+        for lent in (ecow.Texts(["aa"])[0], ecow.Value([{"a": 1}])[0], ecow.Value([[1]])[0]):
+            key = "a" if isinstance(lent, ecow.Value) and lent.kind == "fields" else 0
+            arguments = {
+                "append": ("a",), "extend": ("a",), "insert": (0, "a"), "remove": ("a",), "set": (key, 0),
+                "reserve": (1,), "setdefault": ("b",), "truncate": (0,), "__delitem__": (key,),
+                "__setitem__": (key, "a"),
+            }
+            told = {each.target.id for each in CLASSES[type(lent).__name__].body
+                    if isinstance(each, ast.AnnAssign)}
+            for name in sorted(set(vars(type(lent).__base__)) - OF_TYPES - {"__init__", "__getattribute__"}):
+                if name == "sort" and key == "a":
+                    continue  # fields have no items to sort
+                method, before, given = getattr(lent, name), repr(lent), arguments.get(name, ())
+                refused = False
+                try:
+                    method(*given)
+                except TypeError as error:
+                    refused = "handed out can't be changed" in str(error)
+                except Exception:
+                    pass
+                self.assertEqual(refused, name in told, f"{type(lent).__name__}.{name}")
+                self.assertEqual(repr(lent), before)
+            with self.assertRaises(TypeError):
+                type(lent)()
+            with self.assertRaises(TypeError):
+                type("Derived", (type(lent),), {})
+            for made in (lent.copy(), copy.copy(lent), copy.deepcopy(lent), pickle.loads(pickle.dumps(lent))):
+                self.assertIs(type(made), type(lent).__base__)
+
+    def test_defaults(self):
+        """A dataclass refuses what can be changed as the default of a field."""
+        for value in (ecow.List(), ecow.Bytes(), ecow.Text(), ecow.Texts(), ecow.Value({})):
+            with self.assertRaisesRegex(ValueError, "mutable default"):
+                dataclasses.make_dataclass("Page", [("field", object, value)])
         self.assertFalse(issubclass(ecow.Value, Sequence))
 
     def test_version(self):

@@ -4,7 +4,7 @@ import operator
 import time
 import unittest
 
-from ecow import Bytes, List, Text, Texts
+from ecow import Bytes, LentText, List, Text, Texts
 from harness import EDITS, LENGTHS, Pool, done, draws, outcome, plain
 
 WORDS = ("", "a", "fifteen letters", "sixteen letters!", "\u00e9", "\u20ac" * 5, "\U0001f331" * 400)
@@ -427,6 +427,19 @@ class BytesTests(unittest.TestCase):
         self.assertIs(type(value + b"d"), Bytes)
         self.assertEqual(b"d" + value, b"dabc")
         kept = value
+        # Bytes that don't stand in one run, and items of more than a byte.
+        for view in (memoryview(b"abcdef")[::2], memoryview(b"abcdef")[::-1], memoryview(b"abcdef")[9:],
+                     memoryview(array.array("q", [1, 2, 3]))[::2], memoryview(array.array("q", [1]))):
+            self.assertEqual(Bytes(view), bytes(view))
+            self.assertEqual(Bytes(b"x") + view, b"x" + bytes(view))
+            changed, model = Bytes(b"xyz"), bytearray(b"xyz")
+            for each in (changed, model):
+                each.extend(bytes(view) if each is model else view)
+                each[1:2] = view
+            self.assertEqual(changed, model)
+        released = memoryview(b"abc")
+        released.release()
+        self.assertIs(outcome(lambda: Bytes(released)), ValueError)
         value += memoryview(b"d")
         self.assertEqual(kept, b"abcd")
         self.assertEqual(Bytes(array.array("H", [1])), array.array("H", [1]).tobytes())
@@ -473,7 +486,8 @@ class TextsTests(unittest.TestCase):
         self.assertEqual(value, ["a", "b"])
         self.assertEqual([Text("a"), "b"], value)
         self.assertNotEqual(value, ["a", 1])
-        self.assertIs(type(value[0]), Text)
+        self.assertIs(type(value[0]), LentText)
+        self.assertIs(type(value[0].copy()), Text)
         for call in (lambda: value.append(1), lambda: value.extend(["c", 1]),
                      lambda: value.__setitem__(0, b"a"), lambda: Texts([None])):
             self.assertIs(outcome(call), TypeError)

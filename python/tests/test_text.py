@@ -1,10 +1,16 @@
 """`Text` beside `str` and beside a list of characters."""
 
+import csv
+import io
 import itertools
+import json
+import os
+import pathlib
+import re
 import time
 import unittest
 
-from ecow import Bytes, List, Text, is_utf8
+from ecow import Bytes, List, Text, Texts, Value, is_utf8
 from harness import EDITS, LENGTHS, Pool, done, draws, outcome, plain
 
 # One character of each length in UTF-8, some that change their length by case, and separators.
@@ -230,6 +236,37 @@ class Methods(unittest.TestCase):
         self.assertEqual(Text("caf\u00e9").hash(), 11281344579646283583)
         self.assertEqual(repr(Text("caf\u00e9'\n")), "Text(" + repr("caf\u00e9'\n") + ")")
 
+    def test_beside_str(self):
+        """What takes a `Text`, and what wants a `str`, as the page says."""
+        text, texts, lent = Text("abc"), Texts(["a", "b"]), Texts(["abc"])[0]
+        self.assertEqual(f"{text}" + "%s" % text + "{}".format(text), "abc" * 3)
+        self.assertEqual(sorted([text, "abd", "a"]), ["a", "abc", "abd"])
+        out = io.StringIO()
+        csv.writer(out).writerow([text])
+        self.assertEqual(out.getvalue(), "abc\r\n")
+        self.assertEqual(({"abc": 1}[lent], Value({"abc": 1})[text]), (1, 1))
+        self.assertEqual(json.dumps([{"a": text}, lent], default=str), '[{"a": "abc"}, "abc"]')
+        self.assertEqual(json.dumps([Value({"a": 1})], default=Value.to_python), '[{"a": 1}]')
+        self.assertEqual(", ".join(map(str, texts)), Text(", ").join(texts))
+        for call in (lambda: ", ".join(texts), lambda: text in "abc", lambda: "abc".find(text),
+                     lambda: "abc".replace(text, "a"), lambda: json.dumps(text), lambda: int(Text("5")),
+                     lambda: re.search("a", text), lambda: open(text), lambda: pathlib.Path(text),
+                     lambda: os.path.join("a", text), lambda: out.write(text), lambda: {"abc": 1}[text]):
+            self.assertIs(outcome(call), TypeError)
+
+    def test_sought_surrogates(self):
+        """No text has a lone surrogate, so it is found nowhere, as in a `str`."""
+        for plain in ("", "ab", "\u00e9\u20ac" * 20):
+            for part in ("\ud800", "a\udfff", "\ud800" * 20):
+                for name in ("find", "rfind", "index", "rindex", "count", "startswith", "endswith",
+                             "__contains__"):
+                    self.assertEqual(outcome(lambda: getattr(Text(plain), name)(part)),
+                                     outcome(lambda: getattr(plain, name)(part)), name)
+                self.assertFalse(Text(plain).endswith(("x", part)))
+                self.assertIs(outcome(lambda: Text(plain).remove(part)), ValueError)
+                self.assertEqual(outcome(lambda: Texts([plain]).index(part)), ValueError)
+                self.assertEqual(Texts([plain]).count(part), 0)
+
     def test_refusals(self):
         """What is no text is refused, and nothing changes."""
         value = Text("caf\u00e9")
@@ -237,7 +274,7 @@ class Methods(unittest.TestCase):
             lambda: value.append("\ud800"), lambda: value.extend(["a", "\udfff"]),
             lambda: value.insert(0, "\ud800"), lambda: value.__setitem__(0, "\ud800"),
             lambda: value.__setitem__(slice(0, 1), "\ud800"), lambda: Text("\ud800"),
-            lambda: value.find("\ud800"), lambda: value + "\ud800",
+            lambda: value + "\ud800",
             lambda: value.__iadd__("\ud800"), lambda: value.__setitem__(slice(0, 4, 2), "a\ud800"),
         ):
             self.assertIs(outcome(call), UnicodeEncodeError)

@@ -9,7 +9,7 @@ import time
 import types
 import unittest
 
-from ecow import List, Text, Texts, Value
+from ecow import LentValue, List, Text, Texts, Value
 from harness import EDITS, Pool, draws, outcome, plain
 
 NAMES = ("", "a", "b", "fifteen letters", "a name that spills", "\u00e9")
@@ -125,7 +125,7 @@ class Conversions(unittest.TestCase):
             self.assertEqual(thing, value)
             self.assertEqual(bool(value), bool(thing))
             inside = Value([thing])[0]
-            self.assertIs(type(inside), Value if kind in ("list", "fields") else type(thing))
+            self.assertIs(type(inside), LentValue if kind in ("list", "fields") else type(thing))
             self.assertEqual(Value([thing]).part(0).kind, kind)
         self.assertEqual(Value().kind, "nothing")
         self.assertEqual(Value((1, 2)), [1, 2])
@@ -264,6 +264,60 @@ class Paths(unittest.TestCase):
         # A copy of the long list takes milliseconds each time.
         self.assertLess(time.perf_counter() - start, 2)
 
+    def test_calls_at_paths(self):
+        """Each call that changes a list or fields takes a path to it as its last argument."""
+        def fresh():
+            return {"a": {"items": [3, [1], 2], "z": 1}, "b": [[5, 4]], "c": "text"}
+
+        value, model = Value(fresh()), fresh()
+        for call, same in (
+            (lambda: value.append(7, ["a", "items"]), lambda: model["a"]["items"].append(7)),
+            (lambda: value.append([8], ("a", "items", 1)), lambda: model["a"]["items"][1].append([8])),
+            (lambda: value.insert(-1, "x", ["a", "items"]), lambda: model["a"]["items"].insert(-1, "x")),
+            (lambda: value.insert(9, {"y": 1}, ["b", -1]), lambda: model["b"][-1].insert(9, {"y": 1})),
+            (lambda: value.extend((1, "e"), "b"), lambda: model["b"].extend((1, "e"))),
+            (lambda: value.extend(value.get("b"), "b"), lambda: model["b"].extend(list(model["b"]))),
+            (lambda: value.extend([], ["a", "items"]), lambda: model["a"]["items"].extend([])),
+            (lambda: value.update({"z": 2, "new": [1]}, "a"), lambda: model["a"].update(z=2, new=[1])),
+            (lambda: value.update([("k", 1)], "a", path=3), lambda: model["a"].update(k=1, path=3)),
+            (lambda: value.update((), "a", other=4), lambda: model["a"].update(other=4)),
+            (lambda: value.pop(["a", "items", 0]), lambda: model["a"]["items"].pop(0)),
+            (lambda: value.index([1, [8]], ["a", "items"]), lambda: model["a"]["items"].index([1, [8]])),
+            (lambda: value.index("none", ["a", "items"]), lambda: model["a"]["items"].index("none")),
+            (lambda: value.sort(["a", "items"], key=str), lambda: model["a"]["items"].sort(key=str)),
+            (lambda: value.sort(["b"], reverse=True, key=repr), lambda: model["b"].sort(reverse=True, key=repr)),
+            (lambda: value.sort(["a", "items"]), lambda: model["a"]["items"].sort()),
+        ):
+            before = value.copy()
+            kept = plain(before)
+            self.assertEqual(outcome(call), outcome(same))
+            self.assertEqual(value.to_python(), model)
+            self.assertEqual(list(value["a"]), list(model["a"]))
+            self.assertEqual(plain(before), kept)
+        listed = Value([2, 1])
+        listed.sort()
+        self.assertEqual((listed.index(2), listed), (1, [1, 2]))
+        kept = value.to_python()
+        for path, error in ((["a"], TypeError), (["c"], TypeError), (["none"], KeyError),
+                            (["a", "items", 99], IndexError), (["a", "z"], TypeError),
+                            ([None], TypeError), (["b", 0.5], TypeError)):
+            for call in (lambda: value.append(1, path), lambda: value.insert(0, 1, path),
+                         lambda: value.extend([1], path), lambda: value.index(1, path),
+                         lambda: value.sort(path)):
+                self.assertIs(outcome(call), error)
+                self.assertEqual(value.to_python(), kept)
+        self.assertIs(outcome(lambda: value.extend([1, {2}], ["b"])), TypeError)
+        self.assertIs(outcome(lambda: value.update({"n": {2}}, "a")), TypeError)
+        self.assertEqual(value.to_python(), kept)
+        # A list that nobody shares isn't copied.
+        value = Value({"a": {"items": [0] * 300_000}})
+        start = time.process_time()
+        for number in range(2000):
+            value.append(number, ["a", "items"])
+            value.extend([number], ["a", "items"])
+        self.assertLess(time.process_time() - start, 1)
+        self.assertEqual(len(value["a", "items"]), 304_000)
+
     def changed(self, source, method, *arguments):
         """A new value, behind one call."""
         value = Value(source)
@@ -365,8 +419,12 @@ class Lent(unittest.TestCase):
             ))
         self.refused(lambda: value["b"], (
             lambda each: each.update(c=1), lambda each: each.setdefault("d"),
-            lambda each: each.pop("c"), lambda each: each.__ior__({"c": 1}),
+            lambda each: each.pop("c"), lambda each: each.set("c", 1),
         ))
+        # As `+=` of a text, `|=` makes a new one.
+        lent = value["b"]
+        value["b"] |= {"d": 1}
+        self.assertEqual((lent, value["b"]), ({"c": {}}, {"c": {}, "d": 1}))
         for thaw in (lambda each: each.copy(), Value, copy.copy, copy.deepcopy,
                      lambda each: each[:], lambda each: pickle.loads(pickle.dumps(each)),
                      lambda each: Value([each]).pop()):
@@ -409,6 +467,10 @@ class Lent(unittest.TestCase):
         self.assertEqual(len({Value([each])[0] for each in (one, two, {"a": 1}, {"a": 1.0})}), 2)
         self.assertEqual(hash(Value([[math.nan, 0.0]])[0]), hash(Value([[math.nan, -0.0]])[0]))
         self.assertNotEqual(hash(Value([[1, 2]])[0]), hash(Value([[2, 1]])[0]))
+        for scalar in (None, False, True, 1, -(2**63), 1.5, math.inf, "", "x", "a text that spills"):
+            self.assertEqual(hash(Value([scalar]).part(0)), hash(scalar))
+            self.assertEqual({scalar: 1}[Value({"a": scalar}).part("a")], 1)
+        self.assertEqual(hash(Value([math.nan]).part(0)), hash(Value([math.nan]).part(0)))
 
 
 class Equality(unittest.TestCase):
@@ -459,6 +521,100 @@ class Equality(unittest.TestCase):
         self.assertEqual(pickle.loads(pickle.dumps(layers(100))), layers(100))
         self.assertEqual(copy.deepcopy(value)[0, 0], other[1, 1])
         self.assertIs(outcome(lambda: Value([[value]]).set([0] * 120, value)), RecursionError)
+
+    def test_mixed(self):
+        """Objects in which values stand, and values whose parts are shared in other places."""
+        leaf = {"a": [[1, "a text that spills"]], "b": [1.5, None]}
+        shared = Value(leaf)
+        value = Value([shared, shared, {"deep": [[[shared]]]}])
+        copy_of_it = value.copy()
+        apart = Value(value.to_python())
+        for other in (copy_of_it, apart, apart.to_python(), [shared, leaf, {"deep": [[[leaf]]]}],
+                      [leaf, Value([shared])[0], Value({"deep": [[[leaf]]]})],
+                      [collections.UserDict(leaf), shared, {"deep": collections.UserList([[[leaf]]])}],
+                      Value([leaf, shared, {"deep": [[[shared]]]}])):
+            self.assertTrue(value == other and other == value)
+            self.assertFalse(value != other or other != value)
+        for path in ([0, "a", 0, 0], [2, "deep", 0, 0, 0, "b", 1], [1, "a", 0, 1]):
+            for other in (copy_of_it.copy(), apart.copy()):
+                other.set(path, "another")
+                for one in (other, other.to_python(), [*other], [*other.to_python()]):
+                    self.assertFalse(value == one or one == value)
+        for wrong in ((1,), [(shared,)], {0: shared}, [leaf, leaf], [leaf, leaf, leaf], 5, "a", None):
+            self.assertFalse(value == wrong)
+        self.assertTrue(Value([[1, 2], ["a"]]) == [List([1, 2]), Texts(["a"])])
+        self.assertFalse(Value([[], {}]) == [{}, []] or Value([[], {}]) == Value([{}, []]))
+        # A NaN of two values is equal, wherever it stands.
+        for wrap in (lambda part: [part], lambda part: [1, {"a": [[part]]}, 2]):
+            deep = math.nan
+            for _ in range(20):
+                deep = wrap(deep)
+            one, two = Value(deep), Value([Value(deep)] * 2)[0].copy()
+            self.assertTrue(one == two)
+            self.assertFalse(one == deep or deep == two)
+            self.assertFalse(one == Value(wrap(deep)))
+
+    def test_time(self):
+        """The time of a comparison and of a pickle grows with the number of parts, and no faster."""
+        def least(call):
+            times = []
+            for _ in range(5):
+                start = time.process_time()
+                call()
+                times.append(time.process_time() - start)
+            return min(times)
+
+        def times(count):
+            model = {"items": [{"id": at, "name": f"item {at}", "tags": ["a", "b"]} for at in range(count)]}
+            value, other = Value(model), copy.deepcopy(model)
+            self.assertLess(len(pickle.dumps(value)), len(pickle.dumps(model)) + 1000)
+            return least(lambda: value == other), least(lambda: pickle.dumps(value))
+
+        # Quadratic steps would take 1,024 times as long. A busy machine may slow one of the two.
+        for few, many in zip(times(100), times(3200)):
+            self.assertLess(many, 400 * few)
+
+    def test_shared_sources(self):
+        """A part of Python's own that stands in several places is read, compared and pickled once."""
+        @dataclasses.dataclass
+        class Pair:
+            a: object
+            b: object
+
+        for wrap in (lambda part: [part, part], lambda part: (part, part),
+                     lambda part: {"a": part, "b": part}, lambda part: [{"a": part}, [part]],
+                     lambda part: collections.UserDict(a=part, b=part),
+                     lambda part: collections.OrderedDict(a=part, b=part),
+                     lambda part: Pair(part, part), lambda part: [part, Value([part]), part][::2]):
+            few = many = [1, "a text that spills"]
+            for _ in range(3):
+                few = wrap(few)
+            for _ in range(200):
+                many = wrap(many)
+            value, unshared = Value(many), copy.deepcopy(Value(few).to_python())
+            self.assertEqual(Value(few).to_python(), unshared)
+            self.assertEqual(Value(unshared), Value(few))
+            if type(many) in (list, dict):
+                self.assertTrue(value == many and many == value)
+                self.assertFalse(value != many or many != value or value == wrap(many))
+            self.assertLess(len(pickle.dumps(value)), 20_000)
+            self.assertTrue(pickle.loads(pickle.dumps(value)) == value)
+            # What shares memory is still changed by itself.
+            one = Value(few)
+            first, last = ("a", "b") if one.kind == "fields" else (0, -1)
+            before = one[last].copy()
+            one[first] = 5
+            self.assertEqual(one[last], before)
+
+        class Growing:
+            """An index whose code changes the list that it stands in."""
+
+            def __index__(self):
+                source.append(1)
+                return len(source)
+
+        source = [Growing()]
+        self.assertEqual(Value([source, source]), [[2], [2]])
 
 
 class Mappings(unittest.TestCase):

@@ -2,7 +2,7 @@
 
 from typing import assert_type
 
-from ecow import Bytes, List, Text, Texts, Value
+from ecow import Bytes, LentText, LentValue, List, Text, Texts, Value
 
 text = Text("a")
 longer: Text = text + "b"
@@ -12,7 +12,10 @@ assert_type(text[1:], Text)
 assert_type(str(text), str)
 texts = Texts(["a", text])
 texts.sort(key=str)
-counts: dict[Text, int] = {texts[0]: 1, text[:].copy(): 2}
+assert_type(texts[0], LentText)
+assert_type(texts.pop(), Text)
+counts: dict[LentText, int] = {texts[0]: 1}
+texts[0] += "b"
 numbers = List([1])
 numbers += [2]
 numbers.extend(number for number in (1, 2))
@@ -25,8 +28,13 @@ value["a", 1, "b"] = 5
 value.update({"x": 1}, y=[2.5])
 value |= {"c": "d"}
 assert_type(value | {"e": 1}, Value)
-assert_type(value.part(["a", 0]), Value)
+assert_type(value.part(["a", 0]), LentValue)
+assert_type(value.part(["a", 0]).copy(), Value)
 assert_type(hash(value["a"]), int)
+# Each of these lines is refused: a comment that ignores nothing is refused itself.
+texts[0].append("x")  # type: ignore
+value.part("a").append(1)  # type: ignore
+counts[Text("b")] = 1  # type: ignore
 del value["a", 0]
 match value.to_python():
     case {"a": [*items]}:
