@@ -5,6 +5,7 @@
 SOURCES := $(shell find crates -path '*/out' -prune -o \( -name '*.rt' -o -name '*.antt' \) -print) crates.txt
 
 PREFIX := /usr/local
+LIBDIR = $(PREFIX)/lib
 
 .PHONY: help try build run lib install dist python rust c-test c-fuzz test agree costs instructions vendor vendor-test contracts edits mutants faults fuzz hostile bench clean
 
@@ -20,7 +21,7 @@ help:
 	@echo "                           values that threads may share"
 	@echo "  make lib                 leaves the library for C at bin/libecow.a and bin/libecow.so, with its headers (needs"
 	@echo "                           a C compiler). COUNT=plain: owners are counted for one thread"
-	@echo "  make install             puts it below PREFIX=$(PREFIX)"
+	@echo "  make install             puts it below PREFIX=$(PREFIX). LIBDIR=FOLDER: the libraries there"
 	@echo "  make dist                packs it for a machine without the kit, in bin/, with the package and the crate for"
 	@echo "                           each language (needs GNU tar, python3 and rustfmt); COUNT as above"
 	@echo "  make python              builds the package for Python, a wheel in bin/ (needs Python 3.11, its headers and pip)"
@@ -91,13 +92,14 @@ lib: bin/libecow_c-$(C_COUNT).a
 LIKE = $(basename $(shell cat VERSION))
 
 install: lib
-	install -d $(DESTDIR)$(PREFIX)/lib/pkgconfig $(DESTDIR)$(PREFIX)/lib/cmake/ecow $(DESTDIR)$(PREFIX)/include
-	install -m 644 bin/libecow.a $(DESTDIR)$(PREFIX)/lib
-	install -m 755 bin/libecow.so $(DESTDIR)$(PREFIX)/lib/libecow.so.$(LIKE)
-	ln -sf libecow.so.$(LIKE) $(DESTDIR)$(PREFIX)/lib/libecow.so
+	install -d $(DESTDIR)$(LIBDIR)/pkgconfig $(DESTDIR)$(LIBDIR)/cmake/ecow $(DESTDIR)$(PREFIX)/include
+	install -m 644 bin/libecow.a $(DESTDIR)$(LIBDIR)
+	install -m 755 bin/libecow.so $(DESTDIR)$(LIBDIR)/libecow.so.$(LIKE)
+	ln -sf libecow.so.$(LIKE) $(DESTDIR)$(LIBDIR)/libecow.so
 	install -m 644 include/ecow.h include/ecow.hpp $(DESTDIR)$(PREFIX)/include
-	sed 's|^prefix=.*|prefix=$(PREFIX)|' bin/ecow.pc > $(DESTDIR)$(PREFIX)/lib/pkgconfig/ecow.pc
-	install -m 644 bin/ecow-config.cmake $(DESTDIR)$(PREFIX)/lib/cmake/ecow
+	sed 's|^prefix=.*|prefix=$(PREFIX)|; s|^libdir=.*|libdir=$(LIBDIR)|' bin/ecow.pc > $(DESTDIR)$(LIBDIR)/pkgconfig/ecow.pc
+	sed 's|"$${ecow_libraries}/../include"|"$(PREFIX)/include"|' bin/ecow-config.cmake > $(DESTDIR)$(LIBDIR)/cmake/ecow/ecow-config.cmake
+	install -m 644 bin/ecow-config-version.cmake $(DESTDIR)$(LIBDIR)/cmake/ecow
 
 dist: lib
 	@tools/ship/dist.sh $(C_COUNT)
@@ -115,7 +117,8 @@ c-test: lib bin/libecow_c-plain.a
 	tools/gate/c_short.sh
 	tools/measure/c_test.sh
 
-TRIALS := crates/ecow_trials/out/ecow_trials
+COSTS := crates/ecow_test_costs/out/ecow_test_costs
+TRIALS := crates/ecow_test_trials/out/ecow_test_trials
 RUN := crates/ecow_run/out/ecow_run
 BENCH := crates/ecow_bench/out/ecow_bench
 
@@ -123,7 +126,7 @@ BENCH := crates/ecow_bench/out/ecow_bench
 # is run on command lines and on large scripts, and calls are timed as values grow.
 test: agree
 	tools/gate/ci.sh ci.sh .
-	tools/gate/costs.sh $(TRIALS)
+	tools/gate/costs.sh $(COSTS)
 	tools/gate/refuse.sh $(TRIALS)
 	tools/gate/ends.sh $(RUN)
 	tools/gate/cases.sh $(RUN)
@@ -168,18 +171,18 @@ mutants:
 	tools/measure/mutants.py $(N) $(SEED) $(JOBS) $(PARTS)
 
 # Where these are tried: over the plain count here, and over the atomic one beside it.
-TRIED = $(if $(filter atomic,$(COUNT)),$(shell tools/ship/for_threads.sh ecow_trials),.)
+TRIED = $(if $(filter atomic,$(COUNT)),$(shell tools/ship/for_threads.sh ecow_test_costs ecow_test_trials),.)
 
 costs:
-	cd $(TRIED)/crates/ecow_trials && rt run -- costs > /dev/null
-	tools/gate/costs.sh $(TRIED)/$(TRIALS)
+	cd $(TRIED)/crates/ecow_test_costs && rt run > /dev/null
+	tools/gate/costs.sh $(TRIED)/$(COSTS)
 
 instructions: bin/ecow-run
 	cd crates/ecow_bench && rt run > /dev/null
 	tools/measure/instructions.sh $(BENCH) $(RUN)
 
 faults:
-	cd $(TRIED)/crates/ecow_trials && rt run -- strict
+	cd $(TRIED)/crates/ecow_test_trials && rt run -- strict
 	tools/gate/refuse.sh $(TRIED)/$(TRIALS)
 
 SECONDS := 60

@@ -89,7 +89,7 @@ refuses counts.sh sum.sh "3 rows"
 refuses counts.sh
 
 # Costs: as a table says, but for a cell of each column of a row, or the whole row.
-for table in crates/ecow_trials/*.md; do : > "$work/copy/$table"; done
+for table in crates/ecow_test_costs/*.md; do : > "$work/copy/$table"; done
 cat > "$work/copy/docs/COSTS.md" << 'END'
 | Call | Before | Cloned | Dropped | After | Room | Requests |
 |---|---|---|---|---|---|---|
@@ -251,14 +251,14 @@ words=$(wc -w < c/tests/costs.out)
 counts c_short.sh "6 runs" "$((costs + 1)) costs" "$((words + 3)) words of costs" "2 requests refused" \
     "3 processes that gave all back"
 export PYTHON=none
-sees "cost requests left status refused-left refused-status total first linked other removed" c_short.sh
+sees "cost requests left status refused-left refused-status total first linked other removed unread" c_short.sh
 PYTHON=$work/tools/python
-counts python.sh "5 tests" "$(($(git ls-files python/ecow | wc -l) + 4)) files"
+counts python.sh "5 tests" "$(($(git ls-files python/ecow | wc -l) + 6)) files"
 sees "wheel version file tests example" python.sh
 printf '#!/bin/sh\nmkdir -p "$1"\n' > "$work/copy/tools/ship/erase.py"
 printf '#!/bin/sh\n' > "$work/copy/tools/gate/erase_test.sh"
 printf '#!/bin/sh\ncat rust/erased.txt\n[ "$WRONG" != audit ] || echo 1\n' > "$work/copy/tools/gate/erased_audit.sh"
-counts rust_gate.sh "$((6 * $(git ls-files 'rust/tests/*.rs' | wc -l))) tests" \
+counts rust_gate.sh "$((6 * $(git ls-files ':(glob)rust/tests/*.rs' | wc -l))) tests" \
     "$(wc -l < rust/erased.txt) lines of rust/erased.txt"
 sees "left-out empty status warning example audit" rust_gate.sh
 [ "$checked" -gt 0 ] || { echo "no check was tried"; exit 1; }

@@ -12,9 +12,9 @@ cat > "$work/table" <<'END'
 vector base block shared list
 text base block shared list bytes string ecow
 nested base block shared list bytes string nested ecow
-store base model block shared list bytes string ecow counted store
-tool base model block shared list bytes string ecow counted store script tool
-all base model block shared list bytes string nested ecow counted store script tool
+store base model table block shared list bytes string ecow counted store
+tool base model table block shared list bytes string ecow counted store script tool
+all base model table block shared list bytes string nested ecow counted store script tool
 END
 
 copies=0
@@ -64,12 +64,13 @@ command -v python3 > "$work/said" && command -v rustfmt > "$work/said" && tar --
 }
 mkdir -p "$work/here/bin"
 git ls-files | tar -c -T - | tar -x -C "$work/here"
-(cd "$work/here" && git init -q && git add -A && touch bin/libecow.a bin/libecow.so bin/ecow-config.cmake)
+(cd "$work/here" && git init -q && git add -A && touch bin/libecow.a bin/libecow.so bin/ecow-config.cmake \
+    bin/ecow-config-version.cmake)
 {
     git ls-files c/README.md c/CPP.md python rust | grep -vx rust/.gitignore
     git ls-files c/examples | sed 's|^c/||'
     for file in a so so.$(sed 's/[.][^.]*$//' VERSION); do echo lib/libecow.$file; done
-    for name in base block bytes c counted list model nested script store string tool; do echo contracts/ecow_$name.md; done
+    for name in base block bytes c counted list model nested script store string table tool; do echo contracts/ecow_$name.md; done
     cat << 'END'
 CHANGELOG.md
 LICENSE-APACHE
@@ -79,6 +80,7 @@ VERSION
 contracts/README.md
 include/ecow.h
 include/ecow.hpp
+lib/cmake/ecow/ecow-config-version.cmake
 lib/cmake/ecow/ecow-config.cmake
 lib/pkgconfig/ecow.pc
 rust/LICENSE-APACHE

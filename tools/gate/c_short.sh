@@ -79,10 +79,19 @@ tools/gate/counts.sh c_short.sh "$runs runs" "$(wc -l < "$out/counted") costs" \
 needed=1 count=ATOMIC other=PLAIN
 if grep -q '(plain count)' bin/ecow.pc; then needed=2 count=PLAIN other=ATOMIC; fi
 
+# A status that nobody looks at is a warning, unless that is meant.
+printf '#include "ecow.h"\nvoid push(ecow_list *l) { %s; }\n' 'ecow_ignore(ecow_list_push(l, 1))' > "$out/ignored.c"
+$cc -Wall -Wextra -Wcast-align -Werror -Iinclude -c "$out/ignored.c" -o "$out/ignored.o"
+printf '#include "ecow.h"\nvoid push(ecow_list *l) { %s; }\n' 'ecow_list_push(l, 1)' > "$out/ignored.c"
+if $cc -Werror -Iinclude -c "$out/ignored.c" -o "$out/ignored.o" 2> "$out/said" || ! grep -q unused "$out/said"; then
+    echo "no warning of a status that nobody looks at"
+    exit 1
+fi
+
 # The shared library's names are those that the header declares.
 if has nm nm --version; then
     {
-        sed -n 's/^[a-zE].*[ *]\(ecow_[a-z0-9_]*\)(.*/\1/p' include/ecow.h
+        sed -n '/^static /d; s/^[a-zE].*[ *]\(ecow_[a-z0-9_]*\)(.*/\1/p' include/ecow.h
         sed -n "s/^    &\(ecow_library_counts_.*\);/\1/p" include/ecow.h | sed "$needed!d"
         for kind in list bytes text texts value; do
             printf '%s\n' "ecow_proved_${kind}_clone" "ecow_proved_${kind}_drop"
@@ -130,13 +139,17 @@ if has CMake cmake --version; then
     cat > "$out/project/CMakeLists.txt" << 'EOF'
 cmake_minimum_required(VERSION 3.13)
 project(first C)
-find_package(ecow CONFIG REQUIRED)
+find_package(ecow 0.12 CONFIG QUIET)
+if(ecow_FOUND)
+    message(FATAL_ERROR "another version is taken for 0.12")
+endif()
+find_package(ecow ${VERSION} CONFIG REQUIRED)
 foreach(kind ecow static)
     add_executable(first-${kind} first.c)
     target_link_libraries(first-${kind} ecow::${kind})
 endforeach()
 EOF
-    cmake -S "$out/project" -B "$out/built" -DCMAKE_PREFIX_PATH="$prefix" -DCMAKE_C_COMPILER="${cc%% *}" > "$out/said" 2>&1 \
+    cmake -S "$out/project" -B "$out/built" -DVERSION="$(cut -d. -f1,2 VERSION)" -DCMAKE_PREFIX_PATH="$prefix" -DCMAKE_C_COMPILER="${cc%% *}" > "$out/said" 2>&1 \
         && cmake --build "$out/built" >> "$out/said" 2>&1 || { cat "$out/said"; exit 1; }
     firsts=0
     for kind in ecow static; do first "$out/built/first-$kind"; done
@@ -194,6 +207,9 @@ if has C++17 $cxx -std=c++17 -fsyntax-only -include string_view -x c++ /dev/null
     done
     refused -std=c++17 'update takes a function that returns nothing' \
         'void f(ecow::value &v) { v.update({"a"}, [](auto &part) { return part = 7; }); }'
+    refused -std=c++17 deleted 'std::string_view f() { return ecow::text("a view of it"); }'
+    refused -std=c++17 deleted 'const char *f(const ecow::value &v) { return v.text().data(); }'
+    refused -std=c++17 deleted 'ecow::value f(ecow::value &v) { return v.take({"a", 0}); }'
     refused -std=c++17 'no matching ' 'ecow::bytes f(const std::vector<int> &v) { return ecow::bytes(v); }'
     echo "c++: $told lines refused with words that say why"
     test_cpp 17

@@ -5,11 +5,7 @@
 # on the first example cut at each byte, in either store: a front of the answers, or an unreadable line and none of them.
 # usage: tools/gate/cases.sh PROGRAM
 set -eu
-program=$(realpath "$1")
-cd "$(dirname "$0")/../.."
-work=$(mktemp -d)
-trap 'rm -r "$work"' EXIT
-export LC_ALL=C
+. "$(dirname "$0")/start.sh"
 
 # What the program says of itself comes with a status up to 3; any other is a crash.
 run() { # [--counted] SCRIPT

@@ -11,6 +11,7 @@ case ${0##*/}${1:+ $*} in
     nm* | pkg-config* | cmake* | valgrind*--version) exit 1 ;;
     cc*-print-file-name*) ;;
     cc*-DECOW_COUNT_*/first) echo "undefined: ecow_library_counts_owners_plain" >&2; is linked ;;
+    "cc -Werror"*/ignored.c*) echo unused >&2; is unread ;;
     cc*)
         while [ "$1" != -o ]; do shift; done
         cp "$0" "$2" ;;
@@ -52,7 +53,9 @@ case ${0##*/}${1:+ $*} in
     python*importlib*) pick version 0 "$VERSION" ;;
     python*zipfile*)
         printf '%s\n' names ecow/_core.abi3.so
-        for file in METADATA RECORD WHEEL; do echo "ecow-$VERSION.dist-info/$file"; done
+        for file in METADATA RECORD WHEEL licenses/LICENSE-APACHE licenses/LICENSE-MIT; do
+            echo "ecow-$VERSION.dist-info/$file"
+        done
         git ls-files python/ecow | sed "s|^python/||; $(pick file 1s/^/1/)" ;;
     python*unittest) echo "Ran $(pick tests 4 5) tests in 1s" ;;
     python*versions.py) pick example 1 "$(cat python/examples/versions.out)" ;;

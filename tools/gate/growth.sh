@@ -3,11 +3,7 @@
 # times that, and compares what the table says of each: constant, linear or quadratic.
 # usage: tools/gate/growth.sh PROGRAM
 set -eu
-program=$(realpath "$1")
-cd "$(dirname "$0")/../.."
-work=$(mktemp -d)
-trap 'rm -r "$work"' EXIT
-export LC_ALL=C
+. "$(dirname "$0")/start.sh"
 
 # Goes round a loop, and sets `spent` to the hundredths of a second of a processor that it took.
 spend() { # CALL ELEMENT LENGTH COUNT

@@ -4,11 +4,7 @@
 # or behind it.
 # usage: tools/gate/large.sh PROGRAM
 set -eu
-program=$(realpath "$1")
-cd "$(dirname "$0")/../.."
-work=$(mktemp -d)
-trap 'rm -r "$work"' EXIT
-export LC_ALL=C
+. "$(dirname "$0")/start.sh"
 
 tools/gate/shim.sh "$work/shim.so"
 scripts=0

@@ -41,13 +41,13 @@ unset PYTHONPATH PYTHONHOME
 run="$work/venv/bin/python"
 install() { "$run" -m pip install --quiet --disable-pip-version-check --no-index "$@"; }
 
-# What pip builds is the same, byte by byte, each time; a source distribution builds it too.
+# What pip builds is the same, byte by byte, each time; a source distribution builds it alone too.
 for time in first second; do
     "$run" -m pip wheel --quiet --disable-pip-version-check --no-index --no-deps -w "$work/$time" ./python
 done
 cmp "$work"/first/*.whl "$work"/second/*.whl
 (cd python && "$run" -c 'import build_backend, sys; build_backend.build_sdist(sys.argv[1])' "$work")
-install --target "$work/from_sdist" "$work"/ecow-*.tar.gz
+(unset ECOW_HOME; install --target "$work/from_sdist" "$work"/ecow-*.tar.gz)
 install ./python
 version=$(cd "$work" && "$run" -c 'import ecow, importlib.metadata as m; assert m.version("ecow") == ecow.__version__
 print(ecow.__version__)')
@@ -56,7 +56,9 @@ print(ecow.__version__)')
 {
     git ls-files python/ecow | sed 's|^python/||'
     echo ecow/_core.abi3.so
-    for file in METADATA RECORD WHEEL; do echo "ecow-$version.dist-info/$file"; done
+    for file in METADATA RECORD WHEEL licenses/LICENSE-APACHE licenses/LICENSE-MIT; do
+        echo "ecow-$version.dist-info/$file"
+    done
 } | sort | diff - "$work/packed" || { echo "the package has other files (>)"; exit 1; }
 
 cp -r python/tests "$work/tests"

@@ -6,11 +6,7 @@
 # command in it; and some of lines drawn from that table, with other names, half of them of lists alone.
 # usage: tools/gate/refuse_scripts.sh PROGRAM
 set -eu
-program=$(realpath "$1")
-cd "$(dirname "$0")/../.."
-work=$(mktemp -d)
-trap 'rm -r "$work"' EXIT
-export LC_ALL=C
+. "$(dirname "$0")/start.sh"
 tools/gate/shim.sh "$work/refuse.so"
 mkdir "$work/scripts"
 for script in cases/*.eco examples/*.eco; do

@@ -7,9 +7,10 @@ cd "$(dirname "$0")/../.."
 tools=$(pwd)/tools
 version=$(sed -n 's/^version = "\(.*\)"$/\1/p' rust/Cargo.toml)
 [ "$version" = "$(cat VERSION)" ] || { echo "rust/Cargo.toml has version $version, and VERSION $(cat VERSION)"; exit 1; }
+grep -qx "version = \"[0-9.]*+$version\"" rust/ecow-0.3/Cargo.toml || { echo "rust/ecow-0.3 stands for another version"; exit 1; }
 skip() { # WHY
     echo "the crate for Rust was not tested: this machine has $1"
-    for check in erase_test.sh rust_gate.sh rust-valgrind; do tools/gate/counts.sh $check skipped; done
+    for check in erase_test.sh rust_gate.sh rust-serde rust-valgrind; do tools/gate/counts.sh $check skipped; done
     exit 0
 }
 for program in python3 cargo rustfmt; do command -v $program > /dev/null || skip "no $program"; done
@@ -53,12 +54,38 @@ rm -f tests/original_*.rs
 cargo doc --offline --quiet > warned 2>&1
 if cargo clippy --version > /dev/null 2>&1; then
     cargo clippy --offline --quiet --tests --examples >> warned 2>&1
+    cargo clippy --offline --quiet -- -W clippy::pedantic >> warned 2>&1
 fi
 [ ! -s warned ] || { cat warned; echo "the crate for Rust has warnings"; exit 1; }
 cargo run --offline --quiet --example first > first.out
 for file in examples/first.rs first.out; do
     case "$(cat README.md)" in *"$(cat "$file")"*) ;; *) echo "rust/README.md quotes another $file"; exit 1 ;; esac
 done
+# `ecow = "0.3"` of another crate is this one by a patch. Its feature `serde` is tested where Debian's crates are there.
+mkdir -p patched/src
+cat > patched/Cargo.toml << 'END'
+[package]
+name = "patched"
+edition = "2021"
+[dependencies]
+ecow = "0.3"
+[patch.crates-io]
+ecow = { path = "../ecow-0.3" }
+END
+echo 'pub fn text() -> ecow::EcoString { ecow::eco_format!("{:?}", ecow::eco_vec![1, 2]) }' > patched/src/lib.rs
+cd patched
+run cargo build --offline
+cd ../ecow-0.3
+registry=/usr/share/cargo/registry
+if ls -d $registry/serde-1* $registry/serde_json-1* $registry/bincode-1* > ../listed 2>&1; then
+    (log=$crate/log-serde
+    run cargo test --offline --features serde --test serde --config 'source.crates-io.replace-with="debian"' \
+        --config "source.debian.directory=\"$registry\"")
+    "$tools/gate/counts.sh" rust-serde "1 runs"
+else
+    "$tools/gate/counts.sh" rust-serde skipped
+fi
+cd ..
 # What unwinds may leak, and reads nothing that was given up.
 runs=0
 if command -v valgrind > /dev/null; then

@@ -34,7 +34,7 @@ FILES = {
               "tools/gate/large.*", "tools/ship/below.awk", "tools/gate/counts.sh", "tools/gate/agree_*.sh"],
 }
 # The first two stand on each of those crates.
-PROGRAMS = [f"ecow_{name}" for name in "c run uses trials".split()]
+PROGRAMS = [f"ecow_{name}" for name in "c run uses test_costs test_trials".split()]
 
 ONCE = 'said=$("$0" strict < /dev/null) && ! echo "$said" | grep wrong'
 LIBRARY = "tools/ship/lib.sh atomic && PYTHON=none tools/gate/c_short.sh"
@@ -42,19 +42,19 @@ PACKAGE = "tools/ship/lib.sh atomic && tools/gate/python.sh"
 # What the gate tries: of which program or changed files, and how. The command gets the program.
 CHECKS = {
     "rattle": [("ecow_uses", 'cd crates/ecow_uses && "$0" | cmp - stdout'),
-               ("ecow_trials", 'tools/gate/costs.sh "$0"'),
+               ("ecow_test_costs", 'tools/gate/costs.sh "$0"'),
                ("ecow_run", 'tools/gate/ends.sh "$0" && tools/gate/cases.sh "$0"'),
-               ("ecow_trials", ONCE),
+               ("ecow_test_trials", ONCE),
                ("ecow_run", 'tools/gate/large.sh "$0"'),
                ("ecow_run", 'tools/gate/refuse_scripts.sh "$0"'),
-               ("ecow_trials", 'tools/gate/refuse.sh "$0"'),
+               ("ecow_test_trials", 'tools/gate/refuse.sh "$0"'),
                ("ecow_c", LIBRARY)],
     "glue": [("c/", LIBRARY), ("include/", LIBRARY), ("c/", PACKAGE), ("python/", PACKAGE)],
-    "tools": [("", "tools/gate/costs.sh bin/ecow_trials"), ("", "tools/gate/ends.sh bin/ecow_run"),
+    "tools": [("", "tools/gate/costs.sh bin/ecow_test_costs"), ("", "tools/gate/ends.sh bin/ecow_run"),
               ("tools/gate/cases", "tools/gate/cases.sh bin/ecow_run"),
               ("tools/gate/large", "tools/gate/large.sh bin/ecow_run"),
               ("", "make --no-print-directory agree"),
-              ("tools/gate/refuse", "tools/gate/refuse.sh bin/ecow_trials"),
+              ("tools/gate/refuse", "tools/gate/refuse.sh bin/ecow_test_trials"),
               ("tools/gate/refuse_scripts", "tools/gate/refuse_scripts.sh bin/ecow_run")],
 }
 # A glue that isn't compiled so is no mutant.

@@ -27,7 +27,7 @@ for crate in $(awk -F: -v tops="ecow_nested ecow_tool ecow_c" -f tools/ship/belo
     # What stands below the vector is no part of it, but for the block that it lends.
     case $crate in
         ecow_shared | ecow_atomic) continue ;;
-        ecow_block) files="crates/ecow_block/src/block.rt" ;;
+        ecow_block) files=$(echo crates/ecow_block/src/block.rt crates/ecow_block/src/block/*.rt) ;;
     esac
     awk -f tools/ship/contracts.awk pass=1 $files pass=2 $files > "$to/body"
     [ -s "$to/body" ] || continue

@@ -22,7 +22,7 @@ cp bin/libecow.so "$to/lib/libecow.so.$like"
 ln -s "libecow.so.$like" "$to/lib/libecow.so"
 # The archive may lie anywhere.
 sed 's|^prefix=.*|prefix=${pcfiledir}/../..|' bin/ecow.pc > "$to/lib/pkgconfig/ecow.pc"
-cp bin/ecow-config.cmake "$to/lib/cmake/ecow"
+cp bin/ecow-config.cmake bin/ecow-config-version.cmake "$to/lib/cmake/ecow"
 cp include/ecow.h include/ecow.hpp "$to/include"
 git ls-files c/examples > "$work/examples"
 while read -r file; do cp "$file" "$to/examples"; done < "$work/examples"

@@ -2,9 +2,9 @@
 """Writes the proved source as Rust: tools/ship/erase.py TO.
 
 Each file of the crates below becomes a module of one Rust crate. What only proofs read is dropped, and what Rust says
-otherwise is mapped, by the rules below, each of which says what it does. Text that no rule knows stops the program with
-its file and line. tools/gate/erased_audit.sh compares what comes out with the source, and shares no code with this
-file."""
+otherwise is mapped, by the rules below, each of which says what it does. A comment `// rust: WORDS` of the source marks
+what one place needs: `MARKS` says how it is read. Text that no rule knows stops the program with its file and line.
+tools/gate/erased_audit.sh compares what comes out with the source, and shares no code with this file."""
 import os
 import re
 import subprocess
@@ -13,17 +13,6 @@ import sys
 # The crates, lowest first, and the folders that they are read from.
 CRATES = {"ecow_base": "ecow_base", "ecow_block": "ecow_block", "ecow_shared": "ecow_atomic", "ecow_list": "ecow_list",
           "ecow_bytes": "ecow_bytes", "ecow_string": "ecow_string", "ecow_nested": "ecow_nested"}
-
-# Files that hold nothing for this crate.
-LEFT_OUT = {
-    "ecow_base/laws.rt": "laws alone",
-    "ecow_base/items.rt": "what contracts and the stores speak of",
-    "ecow_base/plain.rt": "the same",
-    "ecow_list/laws.rt": "the same",
-    "ecow_nested/value/laws.rt": "the same",
-    "ecow_list/macros.rt": "the crate has the original's macros",
-    "ecow_string/macros.rt": "the same",
-}
 
 # Where an imported name is found in Rust. `None`: no import is needed.
 SHIM = "crate::shim::"
@@ -58,18 +47,6 @@ EVERYWHERE = [
     ("String", "alloc::string", r"(?<!:)\bString\b"),
 ]
 
-# Functions that Rust may run as it compiles.
-CONST = {
-    "ecow_block/block.rt": ["new", "into_parts"],
-    "ecow_block/parts.rt": ["no_parts"],
-    "ecow_block/room/heads.rt": ["no_head"],
-    "ecow_block/room/heap.rt": ["nowhere"],
-    "ecow_nested/fields.rt": ["new"],
-    "ecow_nested/value/make.rt": ["new_list", "new_fields"],
-    "ecow_shared/shared.rt": ["new", "hold", "none"],
-    "ecow_list/vec.rt": ["new"],
-}
-
 # Traits that Rust has too and an impl of which stands as it is.
 TRAITS = set("""Allocator Copy Copying Debug Display DoubleEndedIterator Eq ExactSizeIterator From FusedIterator Hash
     IntoIterator Iterator Joined Ord Part PartialEq PartialOrd Send Sync ToEcoString TryFrom Write""".split())
@@ -78,12 +55,27 @@ TRAITS = set("""Allocator Copy Copying Debug Display DoubleEndedIterator Eq Exac
 NO_TRAITS = "AsSlice|AsStr|FromIterator"
 
 DERIVES = {"Clone", "Copy", "Debug", "PartialEq", "Eq"}
-ATTRIBUTES = {"inline", "inline(always)", "inline(never)", "cold"}
-MACROS = {"unreachable", "open", "write"}
+ATTRIBUTES = {"inline", "inline(always)", "inline(never)", "cold", "repr(C)"}
+MACROS = {"unreachable", "open", "write", "macro_rules", "base"}
 
 # Words of Rattle's own. None is left in the end.
 FOREIGN = re.compile(r"\b(ghost|requires|ensures|invariant|decreases|Model|Brand|Drop(?! for)|AsSlice|AsStr|tactic|cycle"
                      r"|DerefSlice|DerefStr|push_reserved)\b|[^\x00-\x7f]")
+
+# What a mark does to the line below it: the words of the mark, what that line must be, and what stands there then.
+# `// rust: no file: WHY`, the first line of a file, leaves the file out, and any other mark is itself the line that Rust
+# gets in the place of the line below it.
+MARKS = {
+    # Rust may run the function as it compiles.
+    "const": (r"( *(?:pub(?:\(crate\))? )?)(fn .*\n)", r"\1const \2"),
+    # Proofs lay the type out in the order of its fields.
+    "repr(C)": (r"( *)((?:pub(?:\(crate\))? )?struct .*\n)", r"\1#[repr(C)]\n\1\2"),
+    # The crate's own modules use what stands below.
+    "pub(crate)": (r"( *)(\w.*\n)", r"\1pub(crate) \2"),
+    # The line below goes.
+    "nothing": (r".*\n", ""),
+}
+MARK = re.compile(r"^( *)// rust: (.*)\n", re.M)
 
 # Comments, texts and characters, lifetimes, words, space, and single marks.
 PIECE = re.compile(r'''//[^\n]*|b?"(?:[^"\\]|\\.)*"|b?'(?:[^'\\]|\\(?:x[0-9a-fA-F]{2}|u\{[^}]*\}|.))'|'\w+|\w+|\s+|.''', re.S)
@@ -95,6 +87,7 @@ GENERICS = r"(?:<(?:[^<>]|<[^<>]*>)*>)?"
 
 
 SOURCES = {}
+LEFT_OUT = set()
 
 
 def stop(path, text, at, word, why="no rule for %s"):
@@ -141,6 +134,17 @@ def without_proofs(text):
                 at += re.match(r"\s*[;,]?", text[at:]).end()
         out.append("\n" * max(1, (gone + text[begin:at]).count("\n")))
     return "".join(out)
+
+
+def marked(text, path):
+    """Does what the marks of a file say."""
+    while found := MARK.search(text):
+        form, to = MARKS.get(found[2], (r".*\n", lambda _: found[1] + found[2] + "\n"))
+        below = re.compile(form).match(text, found.end())
+        if not below:
+            stop(path, text, found.start(), found[2], "nothing below the mark %s fits it")
+        text = text[: found.start()] + (to(below) if callable(to) else below.expand(to)) + text[below.end():]
+    return text
 
 
 def masked(text):
@@ -238,16 +242,6 @@ FORMS = [
     # A pointer in a field is `*const`, so that the type is covariant, as std's are.
     (r"(?<=\bptr: )\*mut (?=[\w<>]+,)", "*const "),
     (r"(?<=\.ptr)\b(?!\w|:)", ".cast_mut()"),
-    # Proofs lay these types out in their order.
-    (r"(?=^(?:pub(?:\(crate\))? )?struct (?:Base|Room|Deed|Fields|Head|Top|Title|Block|Nil|Shared)<)", "#[repr(C)]\n"),
-    # An address of no memory.
-    (r"let none: \[T; 0\] = \[\];\s*", ""),
-    (r"&raw const none as \*mut T", "core::ptr::dangling()"),
-    # Places stand behind the head, aligned as `layout_of` says: at 32, where elements are aligned to at most that.
-    (r"block\.add\(32\)", "block.add(32_usize.next_multiple_of(align_of::<T>()))"),
-    # The crate lays bytes out in constants, and lends those of a text.
-    (r"^mod (cells|few|form);", r"pub(crate) mod \1;"),
-    (r"^    form: (Form<N>,\n.*\n)    alloc:", r"    pub(crate) form: \1    pub(crate) alloc:"),
     # std's vector and string, which ask the global allocator.
     (r"\bVec::(with_capacity|from_clones|from_array)\(", r"crate::shim::vec::\1("),
     (r"\bString::from_str\(", "crate::shim::string::from_str("),
@@ -301,14 +295,6 @@ def imports(text, path):
     return text[:at] + "".join(more) + ("" if first or not more else "\n") + text[at:]
 
 
-def consts(text, names, path):
-    for name in names:
-        text, count = re.subn(r"(?=\bfn %s\b)" % name, "const ", text, count=1)
-        if count != 1:
-            stop(path, text, 0, name, "there is no function %s to be `const`")
-    return text
-
-
 def checked(text, path):
     """Stops at what no rule knows."""
     for m in FOREIGN.finditer(text):
@@ -329,12 +315,12 @@ def checked(text, path):
 
 def erase(source, path, dropped):
     crate = path.split("/")[0]
-    text, held = masked(without_proofs(source))
+    text, held = masked(without_proofs(marked(source, path)))
     text = without_impls(attributes(text, path))
     text = opened(clones(drops(text)), dropped)
     for form, to in FORMS:
         text = re.sub(form, to, text, flags=re.M)
-    text = paths(consts(text, CONST.get(path, []), path), crate)
+    text = paths(text, crate)
     for name in LEFT_OUT:
         folder, _, file = name[:-3].rpartition("/")
         if folder in (path[:-3], path.rpartition("/")[0] if path.endswith("lib.rt") else None):
@@ -355,9 +341,12 @@ def main():
         for at, _, files in os.walk(top):
             for file in files:
                 path = "%s/%s" % (crate, os.path.relpath(os.path.join(at, file), top))
-                if path not in LEFT_OUT:
-                    with open(os.path.join(at, file), encoding="utf-8") as text:
-                        SOURCES[path] = text.read()
+                with open(os.path.join(at, file), encoding="utf-8") as source:
+                    text = source.read()
+                if text.startswith("// rust: no file: "):
+                    LEFT_OUT.add(path)
+                else:
+                    SOURCES[path] = text
     dropped = sorted({m[1] for text in SOURCES.values()
                       for m in re.finditer(r"impl%s Drop for (\w+)" % GENERICS, without_proofs(text))})
     written = []
