@@ -531,15 +531,59 @@ ecow_status ecow_value_field_name(const ecow_value *value, size_t index, ecow_te
     PUT_TEXT(name, ecow_proved_value_field_name(&place, index, &out));
 }
 
-/* Behind the word with its kind, a value has its text, or the word of its list or fields. */
+/* How a field lies in memory: its name, its value, and the two links of the index of names. */
+typedef struct field {
+    ecow_text name;
+    ecow_value value;
+    uint64_t links[2];
+} field;
+
+/* Behind the word with its kind, a value has its text, or the word of its list or fields. This is the
+ * address of a head, or 0 where there is none. Here it is that of a list or of fields with such an
+ * index; NULL of another kind, and past the length. */
+static const void *parts_of(const ecow_value *value, ecow_kind kind, size_t index) {
+    const bool has_part = ecow_value_kind(value) == kind && index < ecow_value_len(value);
+    return has_part ? ((const ecow_head *)(uintptr_t)value->word[1])->items : NULL;
+}
+
+static const field *field_of(const ecow_value *value, size_t index) {
+    const field *fields = parts_of(value, ECOW_KIND_FIELDS, index);
+    return fields ? fields + index : NULL;
+}
+
+const ecow_value *ecow_value_peek(const ecow_value *value, size_t index) {
+    const ecow_value *items = parts_of(value, ECOW_KIND_LIST, index);
+    const field *found = field_of(value, index);
+    return items ? items + index : found ? &found->value : NULL;
+}
+
+const ecow_value *ecow_value_peek_field(const ecow_value *value, const char *name, size_t count) {
+    ecow_value *place = (ecow_value *)value;
+    const char *bytes = name || count ? name : "";
+    size_t index = 0;
+    if (!bytes || count >= PAST_MEMORY
+        || ecow_proved_value_position(&place, bytes, count, &index) != ECOW_OK) {
+        return NULL;
+    }
+    return ecow_value_peek(value, index);
+}
+
+const ecow_text *ecow_value_peek_name(const ecow_value *value, size_t index) {
+    const field *found = field_of(value, index);
+    return found ? &found->name : NULL;
+}
+
+const ecow_text *ecow_value_peek_text(const ecow_value *value) {
+    return ecow_value_kind(value) == ECOW_KIND_TEXT ? (const ecow_text *)&value->word[1] : NULL;
+}
+
 bool ecow_value_shares(const ecow_value *left, const ecow_value *right) {
     ecow_kind kind = ecow_value_kind(left);
     if (!left || !right || ecow_value_kind(right) != kind) {
         return false;
     }
     if (kind == ECOW_KIND_TEXT) {
-        return ecow_text_shares((const ecow_text *)&left->word[1],
-                                (const ecow_text *)&right->word[1]);
+        return ecow_text_shares(ecow_value_peek_text(left), ecow_value_peek_text(right));
     }
     return ecow_value_len(left) > 0 && left->word[1] == right->word[1];
 }

@@ -111,6 +111,8 @@ ecow_status ecow_proved_value_remove(ecow_value **value, size_t index, ecow_valu
 ecow_status ecow_proved_value_truncate(ecow_value **value, size_t len);
 ecow_status ecow_proved_value_get_field(ecow_value **value, const char *name, size_t count,
                                         ecow_value **out);
+ecow_status ecow_proved_value_position(ecow_value **value, const char *name, size_t count,
+                                       size_t *index);
 ecow_status ecow_proved_value_set_field(ecow_value **value, const char *name, size_t count,
                                         ecow_value **item);
 ecow_status ecow_proved_value_push_field(ecow_value **value, const char *name, size_t count,

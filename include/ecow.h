@@ -638,6 +638,22 @@ ECOW_CHECKED ecow_status ecow_value_swap_at(ecow_value *value, const ecow_value 
 ECOW_CHECKED ecow_status ecow_value_field_name(const ecow_value *value, size_t index,
                                                ecow_text *name);
 
+/* Calls that lend a part where it stands, without a clone. The part stays valid as what a `_slice`
+ * returns does, so it isn't handed to a call that changes the value. They return NULL where there is
+ * no such part, or the value is of another kind. */
+
+/* The item of a list, or a field's value, at `index`. */
+const ecow_value *ecow_value_peek(const ecow_value *value, size_t index);
+
+/* The value of the field of that name. */
+const ecow_value *ecow_value_peek_field(const ecow_value *value, const char *name, size_t count);
+
+/* The name of the field at `index`. */
+const ecow_text *ecow_value_peek_name(const ecow_value *value, size_t index);
+
+/* The text. */
+const ecow_text *ecow_value_peek_text(const ecow_value *value);
+
 /* Whether both stand in the same memory, and so are equal: not so where they hold nothing, or where
  * they take no memory, or a pointer is null. */
 bool ecow_value_shares(const ecow_value *left, const ecow_value *right);

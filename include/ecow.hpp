@@ -257,6 +257,12 @@ struct value_calls {
     static constexpr auto shares = ecow_value_shares;
 };
 
+/* A value of C that stands in another one, as the class that holds nothing else. */
+template <typename Self, typename Raw> const Self *in_place(const Raw *raw) noexcept {
+    static_assert(std::is_standard_layout_v<Self> && sizeof(Self) == sizeof(Raw));
+    return reinterpret_cast<const Self *>(raw);
+}
+
 /* ---- Iterators ---- */
 
 /* The operators that follow from `==` and from a function `compare`, which is below 0 where `left`
@@ -1916,6 +1922,42 @@ public:
         return find(path).has_value();
     }
 
+    /* The part at `index`, of that name, or to which the steps lead, where it stands: nothing is
+     * copied. nullptr where there is none. The pointer is valid until the value is changed,
+     * assigned to or destroyed, so a call that changes the value takes a copy of the part. */
+    const value *peek(size_type index) const & noexcept {
+        return detail::in_place<value>(ecow_value_peek(&raw, index));
+    }
+
+    const value *peek(detail::name name) const & noexcept {
+        return detail::in_place<value>(ecow_value_peek_field(&raw, name.data(), name.size()));
+    }
+
+    const value *peek(std::initializer_list<step> path) const & noexcept {
+        const value *part = this;
+        for (auto each = path.begin(); part && each != path.end(); ++each) {
+            part = each->name ? part->peek(*each->name) : part->peek(each->index);
+        }
+        return part;
+    }
+
+    /* The name of the field at `index`, likewise. */
+    const ecow::text *peek_name(size_type index) const & noexcept {
+        return detail::in_place<ecow::text>(ecow_value_peek_name(&raw, index));
+    }
+
+    /* The text, likewise: nullptr where the value is none. */
+    const ecow::text *peek_text() const & noexcept {
+        return detail::in_place<ecow::text>(ecow_value_peek_text(&raw));
+    }
+
+    /* Of a value that a call returned, the part would be gone. */
+    const value *peek(size_type index) && = delete;
+    const value *peek(detail::name name) && = delete;
+    const value *peek(std::initializer_list<step> path) && = delete;
+    const ecow::text *peek_name(size_type index) && = delete;
+    const ecow::text *peek_text() && = delete;
+
     /* What the value holds, where that is of this type, and else nothing. `Type` is bool,
      * std::int64_t, double or `ecow::text`. */
     template <typename Type> std::optional<Type> get_if() const {
@@ -2080,14 +2122,14 @@ public:
                                                 : (one == one) - (other == other);
         }
         case ecow::kind::text:
-            return left.text().compare(right.text());
+            return left.peek_text()->compare(*right.peek_text());
         default:
             break;
         }
         for (size_type at = 0; at < left.size() && at < right.size(); ++at) {
-            const bool named = left.kind() == ecow::kind::fields;
-            int order = named ? left.name(at).compare(right.name(at)) : 0;
-            order = order ? order : compare(left.get(at), right.get(at));
+            const ecow::text *name = left.peek_name(at);
+            int order = name ? name->compare(*right.peek_name(at)) : 0;
+            order = order ? order : compare(*left.peek(at), *right.peek(at));
             if (order) {
                 return order;
             }

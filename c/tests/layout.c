@@ -1,5 +1,6 @@
 /* What the header reads where a value stands, beside what the proved calls get of it item by item: in
- * every state, on both sides of the number from which on items stand apart from their head. */
+ * every state, on both sides of the number from which on items stand apart from their head; and the
+ * parts that a nested value lends, beside the clones that the proved calls make. */
 #include "check.h"
 #include "../proved.h"
 
@@ -126,13 +127,86 @@ STATES(bytes, fill_bytes)
 STATES(text, fill_text)
 STATES(texts, fill_texts)
 
+/* Compares the parts that a value lends with the clones that the proved calls make. */
+static void compare_value(const ecow_value *value) {
+    ecow_value *place = (ecow_value *)value, found = {{0}}, *out = &found;
+    ecow_text text = {{0}}, *name = &text;
+    const size_t len = ecow_value_len(value);
+    const bool are_fields = ecow_value_kind(value) == ECOW_KIND_FIELDS;
+    for (size_t index = 0; index < len; index++) {
+        const ecow_value *part = ecow_value_peek(value, index);
+        CHECK(ecow_proved_value_get(&place, index, &out) == ECOW_OK);
+        CHECK(part && ecow_value_equal(part, out) && part == ecow_value_peek(value, index));
+        const ecow_text *held = ecow_value_peek_text(part);
+        CHECK((held != NULL) == (ecow_proved_value_text(&out, &name) == ECOW_OK));
+        CHECK(!held || ecow_text_equal(held, name));
+        const ecow_text *peeked = ecow_value_peek_name(value, index);
+        CHECK((peeked != NULL) == are_fields);
+        if (peeked) {
+            CHECK(ecow_proved_value_field_name(&place, index, &name) == ECOW_OK);
+            CHECK(ecow_text_equal(peeked, name));
+            size_t count;
+            const char *bytes = ecow_text_slice(peeked, &count);
+            CHECK(ecow_value_peek_field(value, bytes, count) == part);
+        }
+    }
+    for (size_t behind = len; behind; behind = behind == len ? SIZE_MAX : 0) {
+        CHECK(!ecow_value_peek(value, behind) && !ecow_value_peek_name(value, behind));
+    }
+    CHECK(!ecow_value_peek_field(value, "none", 4) && !ecow_value_peek_field(value, NULL, 1));
+    CHECK(!ecow_value_peek_field(value, "\xff", 1) && !ecow_value_peek_field(value, "", SIZE_MAX));
+    ecow_text_drop(&text);
+    ecow_value_drop(&found);
+    compared++;
+}
+
+/* Compares a list or fields of each length, with texts of each length up to 20 bytes as items and in
+ * names, and a clone that loses its first and gets another part. */
+static void states_of_value(bool has_names) {
+    compare_value(NULL);
+    for (size_t at = 0; at < LENGTHS; at++) {
+        ecow_value value = {{0}}, clone = {{0}}, item = {{0}};
+        CHECK((has_names ? ecow_value_set_fields : ecow_value_set_list)(&value) == ECOW_OK);
+        for (size_t index = 0; index < lengths[at]; index++) {
+            char name[32];
+            const int count = snprintf(name, sizeof name, "%zu%.*s", index, (int)(index % 17),
+                                       "abcdefghijklmnop");
+            ecow_text text = {{0}};
+            CHECK(ecow_text_assign(&text, "abcdefghijklmnopqrst", index % 21) == ECOW_OK);
+            CHECK((index % 3 ? ecow_value_set_text(&item, &text)
+                             : ecow_value_set_number(&item, (int64_t)index)) == ECOW_OK);
+            ecow_text_drop(&text);
+            CHECK((has_names ? ecow_value_push_field(&value, name, (size_t)count, &item)
+                             : ecow_value_push(&value, &item)) == ECOW_OK);
+        }
+        compare_value(&value);
+        CHECK(ecow_value_clone(&clone, &value) == ECOW_OK);
+        compare_value(&clone);
+        if (lengths[at]) {
+            CHECK((has_names ? ecow_value_remove_field(&clone, "0", 1, NULL)
+                             : ecow_value_remove(&clone, 0, NULL)) == ECOW_OK);
+        }
+        compare_value(&clone);
+        CHECK((has_names ? ecow_value_set_field(&clone, "another", 7, &value)
+                         : ecow_value_push(&clone, &value)) == ECOW_OK);
+        compare_value(&clone);
+        compare_value(&value);
+        compare_value(&item);
+        ecow_value_drop(&clone);
+        ecow_value_drop(&value);
+        ecow_value_drop(&item);
+    }
+}
+
 int main(void) {
     take_no_buffer();
     states_of_list();
     states_of_bytes();
     states_of_text();
     states_of_texts();
-    CHECK(compared == 4 * (1 + 12 * LENGTHS));
+    states_of_value(false);
+    states_of_value(true);
+    CHECK(compared == 4 * (1 + 12 * LENGTHS) + 2 * (1 + 6 * LENGTHS));
     printf("layout: %ld checks\n", checks);
     return 0;
 }

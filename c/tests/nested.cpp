@@ -678,6 +678,27 @@ static void values_are_visited() {
 #endif
 }
 
+/* Parts are read where they stand: as long as a value isn't changed, it lends the same ones. */
+static void parts_are_lent() {
+    const std::string spilled(20, 'x');
+    value settings = value::fields({{"items", {{10, 11}, spilled}}, {"title", "few"}});
+    const value kept(settings);
+    const value *items = settings.peek("items");
+    CHECK(items && *items == settings.get("items") && items == settings.peek(0));
+    CHECK(items == kept.peek({"items"}) && settings.peek({"items", 0, 1})->number() == 11);
+    CHECK(settings.peek({}) == &settings && kept.peek({"items", 1})->shares(items->get(1)));
+    CHECK(*settings.peek({"items", 1})->peek_text() == spilled && !items->peek_text());
+    CHECK(*settings.peek_name(1) == "title" && !settings.peek_name(2) && !items->peek_name(0));
+    for (const value *none : {settings.peek(2), items->peek(2), settings.peek("none"), items->peek("a"),
+                              settings.peek({"items", 2}), settings.peek({"title", 0}),
+                              settings.peek({"none", 0, 0}), settings.peek("\xff")}) {
+        CHECK(!none);
+    }
+    settings.set({"items", 0}, value(*settings.peek("items")));
+    CHECK(*settings.peek({"items", 0, 1})->peek_text() == spilled);
+    CHECK(kept.peek({"items", 0, 0})->number() == 10 && *kept.peek("title")->peek_text() == "few");
+}
+
 static void values_have_a_depth() {
     for (bool is_list : {true, false}) {
         const value deepest = nested(ECOW_MAX_DEPTH, is_list);
@@ -846,7 +867,8 @@ int main() {
         values_have_paths();
         paths_between_braces();
         values_are_visited();
-        values_have_a_depth();
+        parts_are_lent();
+    values_have_a_depth();
         values_have_an_order();
         values_are_written();
         paths_hold_names();

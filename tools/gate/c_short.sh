@@ -210,6 +210,7 @@ if has C++17 $cxx -std=c++17 -fsyntax-only -include string_view -x c++ /dev/null
     refused -std=c++17 deleted 'std::string_view f() { return ecow::text("a view of it"); }'
     refused -std=c++17 deleted 'const char *f(const ecow::value &v) { return v.text().data(); }'
     refused -std=c++17 deleted 'ecow::value f(ecow::value &v) { return v.take({"a", 0}); }'
+    refused -std=c++17 deleted 'const ecow::value *f(ecow::value &v) { return v.get("a").peek(0); }'
     refused -std=c++17 'no matching ' 'ecow::bytes f(const std::vector<int> &v) { return ecow::bytes(v); }'
     echo "c++: $told lines refused with words that say why"
     test_cpp 17

@@ -275,6 +275,8 @@ def imports(text, path):
     named = set()
 
     def one(m):
+        if m[2] in MACROS:
+            return m[0]
         kept = {}
         for leaf in leaves(m[2]):
             place, _, name = leaf.rpartition("::")

@@ -1,5 +1,5 @@
 -- Nested values at a pointer of C's.
-use Rattle.std.specs.Prelude.{◌≡◌, ◌≢◌, ◌≤◌, ◌-◌, ℕ, true, List, Option, None, IfSome, IsSomeAnd, length, slice_get, unwrap_or}
+use Rattle.std.specs.Prelude.{◌≡◌, ◌≢◌, ◌≤◌, ◌-◌, ℕ, true, List, Option, None, IfSome, IsSomeAnd, length, position, slice_get, unwrap_or}
 use Rattle.std.specs.Option.{option_and_then, option_map_or}
 use Rattle.ecow_c.specs.Answers.{AreBothAnd}
 use Rattle.ecow_c.specs.declared.status.TheConstants.{OK}
@@ -9,6 +9,7 @@ use Rattle.ecow_nested.specs.declared.value.Kind.TheVariants as kind
 use Rattle.ecow_nested.specs.declared.value.Value.{Value}
 use Rattle.std.specs.Str.{is_utf8}
 use Rattle.ecow_base.specs.declared.plain.PlainText.{PlainText}
+use Rattle.ecow_nested.specs.Names.{has_name}
 use Rattle.ecow_nested.specs.Values.{depth_of, fields_of, items_of, kind_of, len_of, look_up, name_in, Covers, RisesAtMost}
 
 -- the number of a kind in the header
@@ -45,6 +46,16 @@ abbrev pub LacksField : List ℕ → Value → Type 0
 LacksField name value =
     (is_utf8 name ≡ true)
     × IsSomeAnd (fields_of value) (λ fields. look_up name fields ≡ None)
+
+-- the index of the first field of a name, which is given by its bytes
+abbrev pub position_at : List ℕ → Value → Option ℕ
+position_at name value = option_and_then (position (has_name name)) (fields_of value)
+
+-- the bytes spell a name, and the value has fields, but no index leads to one of that name
+abbrev pub LacksPosition : List ℕ → Value → Type 0
+LacksPosition name value =
+    (is_utf8 name ≡ true)
+    × IsSomeAnd (fields_of value) (λ fields. position (has_name name) fields ≡ None)
 
 -- the bytes spell the name of a field that the value has
 abbrev pub HasField : List ℕ → Value → Type 0

@@ -5,7 +5,7 @@ ghost use Rattle.std.specs.Option.{option_map};
 ghost use Rattle.std.specs.Str.{is_utf8};
 ghost use Rattle.ecow_nested.specs.Values.{truth_of, number_of, real_of, text_of, items_of, fields_of, new_field, with_field, without_field};
 ghost use Rattle.ecow_c.specs.Answers.{Alters, AltersBy, AreBothAnd, IsAmong, Reads, ReadsTo, WritesTo};
-ghost use Rattle.ecow_c.specs.Values.{CoversAt, HasNoFields, HasField, IsDeepest, LacksField, RisesAtMostBy, depth_at, field_at, kind_at, kind_number, len_at, name_at};
+ghost use Rattle.ecow_c.specs.Values.{CoversAt, HasNoFields, HasField, IsDeepest, LacksField, LacksPosition, RisesAtMostBy, depth_at, field_at, kind_at, kind_number, len_at, name_at, position_at};
 
 use crate::pointer::{TextPointer, ValuePointer};
 use crate::status::{
@@ -205,6 +205,28 @@ pub extern "C" fn ecow_proved_value_get_field(
     let out = some_or!(out.value(), NULL);
     let name = some_or!(to_str(name), UTF8);
     put(ok_or_status!(value.field(name)).clone(), out)
+}
+
+/// Writes the index of the first field with this name to `out`; `INDEX` if there is none.
+#[unsafe(no_mangle)]
+pub extern "C" fn ecow_proved_value_position(
+    pointer: &mut ValuePointer,
+    name: &[u8],
+    out: &mut usize,
+) -> u32
+    ensures out { Reads (position_at name.now)
+        pointer.old.value result pointer.new.value out.old out.new }
+    ensures statuses { IsAmong (OK ∷ INDEX ∷ UTF8 ∷ KIND ∷ NULL ∷ []) result }
+    ensures utf8 { result ≡ UTF8
+        ↔ IsSomeAnd pointer.old.value (λ _. is_utf8 name.now ≡ false) }
+    ensures kind { result ≡ KIND ↔ IsSomeAnd pointer.old.value (HasNoFields name.now) }
+    ensures index { result ≡ INDEX ↔ IsSomeAnd pointer.old.value (LacksPosition name.now) }
+{
+    let value = some_or!(pointer.value(), NULL);
+    let name = some_or!(to_str(name), UTF8);
+    let fields = some_or!(value.fields(), KIND);
+    *out = some_or!(fields.position(name), INDEX);
+    OK
 }
 
 /// A clone of `$item` for a field of `$value`. If it can't be in one, the function returns the
