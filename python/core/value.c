@@ -203,11 +203,6 @@ static int read_value(core_state *state, PyObject *given, ecow_value *made) {
 
 /* ---- To Python ---- */
 
-/* The text that a value of that kind is, which stands behind the word with the kind. */
-static const ecow_text *text_in(const ecow_value *value) {
-    return (const ecow_text *)&value->word[1];
-}
-
 static PyObject *plain_scalar(const ecow_value *value) {
     bool truth = false;
     int64_t number = 0;
@@ -223,34 +218,43 @@ static PyObject *plain_scalar(const ecow_value *value) {
         ecow_ignore(ecow_value_real(value, &real));
         return PyFloat_FromDouble(real);
     case ECOW_KIND_TEXT:
-        return str_of(text_in(value));
+        return str_of(ecow_value_peek_text(value));
     default:
         Py_RETURN_NONE;
     }
 }
 
 static PyObject *name_at(const ecow_value *value, size_t index) {
-    ecow_text name = {{0}};
-    PyObject *made =
-        check(ecow_value_field_name(value, index, &name), NAME) < 0 ? NULL : str_of(&name);
-    ecow_text_drop(&name);
+    const ecow_text *name = ecow_value_peek_name(value, index);
+    check(name ? ECOW_OK : ECOW_INDEX, NAME);
+    PyObject *made = name ? str_of(name) : NULL;
     if (made) {
         PyUnicode_InternInPlace(&made);
     }
     return made;
 }
 
-/* Whether a clone of a part stands in memory that others have than itself and what holds the part. */
-static bool is_shared(const ecow_value *clone) {
-    bool is_text = ecow_value_kind(clone) == ECOW_KIND_TEXT;
-    size_t size = is_text ? ecow_text_len(text_in(clone)) : ecow_value_len(clone);
-    uint64_t head = size > (is_text ? INLINE : 0) ? clone->word[is_text ? 2 : 1] : 0;
-    return head && ((const ecow_head *)head)->owners > 2;
+/* Whether a part stands in memory that others have than what holds the part. */
+static bool is_shared(const ecow_value *part) {
+    const ecow_text *text = ecow_value_peek_text(part);
+    size_t size = text ? ecow_text_len(text) : ecow_value_len(part);
+    uint64_t head = size > (text ? INLINE : 0) ? part->word[text ? 2 : 1] : 0;
+    return head && ((const ecow_head *)head)->owners > 1;
 }
 
-/* What a value is in objects of Python's own. Where `find` is given, that is asked for what stands for
- * a part that other values share, if it nests as deep as `least` says, for one from which on the value
- * is deep, and for a NaN. */
+/* What `find` answers for a part. */
+static PyObject *found(core_state *state, PyObject *find, const ecow_value *part) {
+    ecow_value clone = {{0}};
+    int done = check(ecow_value_clone(&clone, part), NAME);
+    PyObject *given = done < 0 ? NULL : value_own(state, state->value, &clone);
+    PyObject *answer = given ? PyObject_CallFunctionObjArgs(find, given, NULL) : NULL;
+    Py_XDECREF(given);
+    return answer;
+}
+
+/* What a value is in objects of Python's own. No code changes the value meanwhile. Where `find` is
+ * given, that is asked for what stands for a part that other values share, if it nests as deep as
+ * `least` says, for one from which on the value is deep, and for a NaN. */
 static PyObject *plain_of(core_state *state, const ecow_value *value, PyObject *find, size_t least) {
     if (!has_parts(value)) {
         return plain_scalar(value);
@@ -258,18 +262,15 @@ static PyObject *plain_of(core_state *state, const ecow_value *value, PyObject *
     bool is_list = ecow_value_kind(value) == ECOW_KIND_LIST;
     size_t len = ecow_value_len(value);
     PyObject *made = is_list ? PyList_New((Py_ssize_t)len) : PyDict_New();
-    ecow_value item = {{0}};
     for (size_t index = 0; made && index < len; index++) {
-        int done = check(ecow_value_get(value, index, &item), NAME);
+        const ecow_value *item = ecow_value_peek(value, index);
         double real = 0;
-        size_t depth = find ? ecow_value_depth(&item) : 0;
-        bool is_far = find && ((depth >= least && is_shared(&item)) || depth % SHALLOW == SHALLOW - 1
-                               || (ecow_value_real(&item, &real) == ECOW_OK && real != real));
-        PyObject *part = is_far ? value_own(state, state->value, &item) : NULL;
-        PyObject *plain = done < 0 || (is_far && !part) ? NULL
-                          : is_far ? PyObject_CallFunctionObjArgs(find, part, NULL)
-                                   : plain_of(state, &item, find, least);
-        Py_XDECREF(part);
+        size_t depth = find ? ecow_value_depth(item) : 0;
+        bool is_far = find && ((depth >= least && is_shared(item)) || depth % SHALLOW == SHALLOW - 1
+                               || (ecow_value_real(item, &real) == ECOW_OK && real != real));
+        PyObject *plain =
+            is_far ? found(state, find, item) : plain_of(state, item, find, least);
+        int done = plain ? 0 : -1;
         if (plain && is_list) {
             done = PyList_SetItem(made, (Py_ssize_t)index, plain);
         } else if (plain) {
@@ -278,11 +279,20 @@ static PyObject *plain_of(core_state *state, const ecow_value *value, PyObject *
             Py_XDECREF(name);
             Py_DECREF(plain);
         }
-        if (!plain || done < 0) {
+        if (done < 0) {
             Py_CLEAR(made);
         }
     }
-    ecow_value_drop(&item);
+    return made;
+}
+
+/* The same of an object's value, which code that runs meanwhile may change: a clone stays as it is. */
+static PyObject *plain_object(const value_object *object, PyObject *find, size_t least) {
+    ecow_value clone = {{0}};
+    PyObject *made = check(ecow_value_clone(&clone, &object->value), NAME) < 0
+                         ? NULL
+                         : plain_of(object->state, &clone, find, least);
+    ecow_value_drop(&clone);
     return made;
 }
 
@@ -461,7 +471,7 @@ static PyObject *value_kind(PyObject *self, void *Py_UNUSED(closure)) {
 }
 
 static PyObject *value_to_python(PyObject *self, PyObject *Py_UNUSED(none)) {
-    return plain_of(value_cast(self)->state, &value_cast(self)->value, NULL, 0);
+    return plain_object(value_cast(self), NULL, 0);
 }
 
 static PyObject *value_repr(PyObject *self) {
@@ -698,7 +708,7 @@ PyObject *value_plain(PyObject *module, PyObject *const *arguments, Py_ssize_t c
         PyErr_SetString(PyExc_TypeError, "must be a Value, a function, and a depth");
         return NULL;
     }
-    return plain_of(state, &value_cast(arguments[0])->value, arguments[1], least);
+    return plain_object(value_cast(arguments[0]), arguments[1], least);
 }
 
 static PyObject *value_keys(PyObject *self, PyObject *Py_UNUSED(none)) {
