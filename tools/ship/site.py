@@ -159,9 +159,8 @@ class Site:
         self.shown += 1
         indent = len(call.signature[0]) - len(call.signature[0].lstrip())
         signature = "\n".join(line[indent:] for line in call.signature)
-        out = [f'<a class="call" id="{slug(call.name)}"></a>\n']
-        if title:
-            out.append(f"### {escaped(call.name)}\n")
+        out = [f"### {escaped(call.name)}\n"] if title else []
+        out.append(f'<div class="call" id="{slug(call.name)}"></div>\n')
         out.append(f"```rust\n{signature}\n```\n")
         if call.comment:
             out.append(markdown(call.comment) + "\n")
@@ -234,7 +233,7 @@ class Site:
 
     def type_page(self, crate, kind, impls):
         page = kind.page
-        out = [f'<a id="{slug(kind.name)}"></a>\n', f"# {kind.name}\n", markdown(kind.comment) + "\n"]
+        out = [f'# {kind.name}\n\n<div class="word" id="{slug(kind.name)}"></div>\n', markdown(kind.comment) + "\n"]
         if not kind.comment:
             self.faults.append(f"{kind.file.path}: {kind.name} has no comment")
         out.append(f"```rust\nuse {crate.name}::{kind.name};\n\n{kind.text}\n```\n")
@@ -270,7 +269,7 @@ class Site:
             for kind in others:
                 if not kind.comment:
                     self.faults.append(f"{kind.file.path}: {kind.name} has no comment")
-                out.append(f'<a id="{slug(kind.name)}"></a>\n\n```rust\n{kind.text}\n```\n\n{markdown(kind.comment)}\n')
+                out.append(f'<div class="word" id="{slug(kind.name)}"></div>\n\n```rust\n{kind.text}\n```\n\n{markdown(kind.comment)}\n')
         out.append(self.contents(crate, impls, calls, None))
         out.append(self.subjects(page, crate, impls, calls, None))
         self.pages[page] = "\n".join(out)
@@ -351,7 +350,7 @@ listed with their paths.
             text = self.linked(source.page, "\n".join(word.lines), source.scope, source.crate)
             comment = html.escape(" ".join(word.comment), quote=False)
             comment = re.sub(r"`([^`]*)`", r"<code>\1</code>", comment)
-            out.append(f'<a id="{slug(word.name)}"></a>\n\n## {escaped(word.name)}\n')
+            out.append(f'## {escaped(word.name)}\n\n<div class="word" id="{slug(word.name)}"></div>\n')
             if comment:
                 out.append(f'<p>{comment[0].upper() + comment[1:]}.</p>\n')
             out.append(f'<div class="clauses"><div class="clause"><pre>{text}</pre></div></div>\n')
@@ -380,12 +379,12 @@ listed with their paths.
             path = os.path.normpath(os.path.join(folder, match.group(2)))
             return inlined(read(path))
 
+        # The language of the definitions has no colours.
+        text = re.sub(r"^```antt$", "```text", text, flags=re.M)
         text = re.sub(r"^!\[([^\]]*)\]\(([^)]*\.svg)\)$", picture, text, flags=re.M)
         up = os.path.relpath(".", folder or ".")
         if folder:
             text = text.replace(f"]({up}/README.md", f"]({up}/index.md")
-        if page.endswith("crates/ecow_test_costs/growth"):
-            return text
         return text
 
     def first_page(self):
@@ -418,12 +417,13 @@ listed with their paths.
 
 RUST = """# Reference for Rust
 
-The [pages that `cargo doc` writes](ecow/index.html) of the crate have every type and call, with examples, errors, panics
-and costs. They are a part of this site, with a search of their own.
-
-- [`EcoVec`](ecow/struct.EcoVec.html)
-- [`EcoString`](ecow/type.EcoString.html), [`EcoBytes`](ecow/type.EcoBytes.html)
-- [`Value`](ecow/struct.Value.html)
+<p>The <a href="ecow/index.html">pages that <code>cargo doc</code> writes</a> of the crate have every type and call, with
+examples, errors, panics and costs. They are a part of this site, with a search of their own.</p>
+<ul>
+<li><a href="ecow/struct.EcoVec.html"><code>EcoVec</code></a></li>
+<li><a href="ecow/type.EcoString.html"><code>EcoString</code></a>, <a href="ecow/type.EcoBytes.html"><code>EcoBytes</code></a></li>
+<li><a href="ecow/enum.Value.html"><code>Value</code></a></li>
+</ul>
 """
 
 
