@@ -1,13 +1,13 @@
 # Proves, builds, runs and tests. Everything but `make lib`, `make dist`, `make python`, `make rust`, `make c-test`,
-# `make c-fuzz`, `make fuzz`, `make hostile`, `make instructions`, `make bench`, `make edits` and `make mutants` needs the
-# kit's `rt` on the path, make, git and the usual POSIX tools, and nothing else.
+# `make c-fuzz`, `make fuzz`, `make hostile`, `make instructions`, `make bench`, `make edits`, `make mutants`, `make site`,
+# `make site-test` and `make pictures` needs the kit's `rt` on the path, make, git and the usual POSIX tools, and nothing else.
 
 SOURCES := $(shell find crates -path '*/out' -prune -o \( -name '*.rt' -o -name '*.antt' \) -print) crates.txt
 
 PREFIX := /usr/local
 LIBDIR = $(PREFIX)/lib
 
-.PHONY: help try build run lib install dist python rust c-test c-fuzz test agree costs instructions vendor vendor-test contracts edits mutants faults fuzz hostile bench clean
+.PHONY: help try build run lib install dist python rust c-test c-fuzz test agree costs instructions vendor vendor-test contracts site site-test pictures edits mutants faults fuzz hostile bench clean
 
 help:
 	@echo "To use it:"
@@ -23,7 +23,8 @@ help:
 	@echo "                           a C compiler). COUNT=plain: owners are counted for one thread"
 	@echo "  make install             puts it below PREFIX=$(PREFIX). LIBDIR=FOLDER: the libraries there"
 	@echo "  make dist                packs it for a machine without the kit, in bin/, with the package and the crate for"
-	@echo "                           each language (needs GNU tar, python3 and rustfmt); COUNT as above"
+	@echo "                           each language (needs GNU tar, python3 and rustfmt), and the site where make site can; COUNT as"
+	@echo "                           above"
 	@echo "  make python              builds the package for Python, a wheel in bin/ (needs Python 3.11, its headers and pip)"
 	@echo "  make rust                writes the crate for Rust from the proved source, in bin/rust, and tests it (needs"
 	@echo "                           python3 and cargo). ORIGINAL=FOLDER: runs the original's tests in FOLDER too"
@@ -35,8 +36,13 @@ help:
 	@echo "                           it where there is a Rust compiler; compares how much each check has compared"
 	@echo "  make agree               compares documents, examples and edits with the code, and tries what compares on what it must"
 	@echo "                           refuse"
-	@echo "  make contracts           writes every public call with its clauses, and where their words come from, into"
-	@echo "                           bin/contracts"
+	@echo "  make contracts           writes every public call with its comment and its clauses, and where their words come"
+	@echo "                           from, as text into bin/contracts"
+	@echo "  make site                writes all pages, calls, contracts and pictures as a site, bin/site/index.html (needs"
+	@echo "                           python3, and Debian's python3-sphinx, python3-myst-parser and furo; the pages for Rust"
+	@echo "                           need cargo and rustfmt too)"
+	@echo "  make site-test           tries that site in a browser (needs chromium and chromium-driver)"
+	@echo "  make pictures            draws the pictures of the documents from their tables, in docs/pictures (needs python3)"
 	@echo "  make edits               tries each edit that must be refused, those beside the gate's too (needs python3);"
 	@echo "                           CRATES=\"NAME ..\": those of some crates"
 	@echo "  make mutants N=100       changes one token at a time, in code, glue and tools, and names each change that nothing"
@@ -101,7 +107,9 @@ install: lib
 	sed 's|"$${ecow_libraries}/../include"|"$(PREFIX)/include"|' bin/ecow-config.cmake > $(DESTDIR)$(LIBDIR)/cmake/ecow/ecow-config.cmake
 	install -m 644 bin/ecow-config-version.cmake $(DESTDIR)$(LIBDIR)/cmake/ecow
 
+# The site is packed where its generator is.
 dist: lib
+	@if command -v sphinx-build > /dev/null; then tools/ship/site.sh; else rm -rf bin/site; fi
 	@tools/ship/dist.sh $(C_COUNT)
 
 python: lib
@@ -146,6 +154,7 @@ agree:
 	@tools/gate/agree_statuses.sh
 	@tools/gate/agree_docs.sh
 	@tools/gate/agree_calls.sh
+	@tools/gate/agree_site.sh
 	@tools/gate/agree_shipped.sh
 	@tools/gate/agree_edits.sh
 	@tools/gate/agree_c.sh
@@ -157,6 +166,15 @@ vendor:
 
 contracts:
 	@tools/ship/contracts.sh bin/contracts
+
+site:
+	@tools/ship/site.sh
+
+site-test:
+	tools/measure/site_test.py
+
+pictures:
+	@tools/ship/pictures.py
 
 vendor-test:
 	tools/ship/vendor_test.sh $(KIND) $(COUNT)

@@ -2,7 +2,7 @@
 //! run in a process of its own, by turns, and what counts is the least processor time of so many runs, less that of a run of
 //! no rounds.
 //! `bench PROGRAM [SAMPLES [WORD [FOLDER]]]`: PROGRAM is the built `ecow_bench`; WORD keeps the calls and workloads whose name
-//! holds it; FOLDER gets pictures of the workloads, and of how times grow with the length.
+//! holds it; FOLDER gets a picture of how times grow with the length.
 //! `bench WHICH CALL ELEMENT LENGTH COUNT` goes round one loop, as PROGRAM does without the first word, and prints what it
 //! saw; WHICH is `ecow` or `rc`. Where ELEMENT is `workload`, CALL is a whole program of those two sizes.
 mod curves;
@@ -510,10 +510,9 @@ fn least_of_workload(programs: &[&[&str]], name: &str, length: usize, count: u64
     least
 }
 
-/// Runs the workloads whose name holds `word`, prints a line for each, and leaves a picture of them in `file`.
-fn run_workloads(programs: &[&[&str]], samples: u32, word: &str, file: Option<&String>) {
+/// Runs the workloads whose name holds `word`, and prints a line for each.
+fn run_workloads(programs: &[&[&str]], samples: u32, word: &str) {
     println!("{:<14} {:>10} {:>10} {:>10} {:>6} {:>6}   {:>8} {:>8} {:>8} {:>6}", "workload", "original s", "std s", "this s", "ratio", "to std", "original", "std MiB", "this MiB", "ratio");
-    let mut all = Vec::new();
     let (mut to_original, mut to_std, mut memory) = (Vec::new(), Vec::new(), Vec::new());
     for (call, name, length, count) in workloads::WORKLOADS.iter().filter(|row| row.1.contains(word)) {
         let least = least_of_workload(programs, call, *length, *count, samples);
@@ -525,14 +524,10 @@ fn run_workloads(programs: &[&[&str]], samples: u32, word: &str, file: Option<&S
         to_original.push((this / original, name.to_string()));
         to_std.push((this / std, name.to_string()));
         memory.push((own / theirs, name.to_string()));
-        all.push((*name, [[1.0, 1.0], [std / original, plain / theirs], [this / original, own / theirs]]));
     }
     report("workloads, time to the original's", &to_original);
     report("workloads, time to std's", &to_std);
     report("workloads, memory to the original's", &memory);
-    if let Some(file) = file {
-        std::fs::write(file, workloads::picture(&all)).unwrap();
-    }
 }
 
 /// Times some calls at lengths that grow, prints them, and leaves a picture of them in `file`.
@@ -579,7 +574,7 @@ fn compare(program: &str, samples: u32, word: &str, picture: Option<&String>) {
     short.append(&mut bytes);
     short.append(&mut texts);
     report("all", &short);
-    run_workloads(&programs, samples, word, picture.map(|folder| format!("{folder}/workloads.svg")).as_ref());
+    run_workloads(&programs, samples, word);
     if let Some(folder) = picture {
         draw(&programs, samples, &format!("{folder}/curves.svg"));
     }

@@ -392,37 +392,3 @@ pub fn sum<K: Kind>(name: &str, length: usize, count: u64) -> Option<u64> {
         _ => return None,
     })
 }
-
-const PEERS: [(&str, &str); 3] = [("the original", "#95a5a6"), ("std alone", "#b9770e"), ("this", "#2471a3")];
-
-/// Bars of time and of memory for each workload and peer, as multiples of the original's.
-pub fn picture(workloads: &[(&str, [[f64; 2]; 3])]) -> String {
-    let mut picture = String::from(
-        "<svg xmlns=\"http://www.w3.org/2000/svg\" viewBox=\"0 0 860 330\" font-family=\"sans-serif\" font-size=\"12\">\n\
-         <rect width=\"860\" height=\"330\" fill=\"white\"/>\n",
-    );
-    let mut line = |text: String| writeln!(picture, "{text}").unwrap();
-    for (measure, name) in ["processor time", "memory at its peak"].iter().enumerate() {
-        let left = 50.0 + 410.0 * measure as f64;
-        line(format!("<text x=\"{left}\" y=\"25\" font-size=\"14\">{name}</text>"));
-        for step in 0..=8 {
-            let (y, level) = (260.0 - 25.0 * f64::from(step), 0.25 * f64::from(step));
-            line(format!("<path d=\"M{left} {y}h380\" stroke=\"#ddd\"/><text x=\"{}\" y=\"{}\" text-anchor=\"end\">{level}</text>", left - 6.0, y + 4.0));
-        }
-        for (place, (workload, ratios)) in workloads.iter().enumerate() {
-            let x = left + 12.0 + 95.0 * place as f64;
-            for (peer, (_, colour)) in PEERS.iter().enumerate() {
-                let height = 100.0 * ratios[peer][measure].min(2.1);
-                let x = x + 24.0 * peer as f64;
-                line(format!("<rect x=\"{x}\" y=\"{:.1}\" width=\"22\" height=\"{height:.1}\" fill=\"{colour}\"/>", 260.0 - height));
-                line(format!("<text x=\"{}\" y=\"{:.1}\" font-size=\"9\" text-anchor=\"middle\">{:.2}</text>", x + 11.0, 257.0 - height, ratios[peer][measure]));
-            }
-            line(format!("<text x=\"{}\" y=\"276\" text-anchor=\"middle\">{workload}</text>", x + 36.0));
-        }
-    }
-    for (peer, (name, colour)) in PEERS.iter().enumerate() {
-        let x = 50 + 150 * peer;
-        line(format!("<rect x=\"{x}\" y=\"298\" width=\"12\" height=\"12\" fill=\"{colour}\"/><text x=\"{}\" y=\"309\">{name}</text>", x + 18));
-    }
-    picture + "</svg>\n"
-}

@@ -19,6 +19,7 @@ quotes c/README.md c/examples/first.c c/examples/first.out c/examples/history.c
 quotes c/CPP.md c/examples/interned.cpp c/examples/settings.cpp
 quotes python/README.md python/examples/versions.py python/examples/versions.out
 quotes rust/README.md rust/examples/first.rs
+quotes README.md rust/examples/parts.rs c/examples/parts.cpp python/examples/parts.py
 
 version=$(cat VERSION)
 numbers=$(sed -n 's/^#define ECOW_VERSION_[MP][A-Z]* //p' include/ecow.h | paste -s -d . -)

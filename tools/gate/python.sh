@@ -65,6 +65,7 @@ cp -r python/tests "$work/tests"
 (cd "$work/tests" && "$run" -m unittest > "$work/log" 2>&1) || { cat "$work/log"; exit 1; }
 "$run" python/examples/versions.py > "$work/out"
 cmp "$work/out" python/examples/versions.out
+"$run" python/examples/parts.py
 # Each program of the page.
 "$run" -c 'import re
 for program in re.findall("```python\n(.*?)```", open("python/README.md").read(), re.S):

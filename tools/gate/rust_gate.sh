@@ -58,6 +58,7 @@ if cargo clippy --version > /dev/null 2>&1; then
 fi
 [ ! -s warned ] || { cat warned; echo "the crate for Rust has warnings"; exit 1; }
 cargo run --offline --quiet --example first > first.out
+cargo run --offline --quiet --example parts > parts.out
 for file in examples/first.rs first.out; do
     case "$(cat README.md)" in *"$(cat "$file")"*) ;; *) echo "rust/README.md quotes another $file"; exit 1 ;; esac
 done

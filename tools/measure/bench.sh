@@ -3,8 +3,7 @@
 # and four whole programs beside the same on the original and on std alone.
 # usage: tools/measure/bench.sh FOLDER [SAMPLES [WORD]]
 # FOLDER is that of the original crate. SAMPLES (9) are taken of each call and program whose name holds WORD. Without WORD it
-# also shows how times grow with the length, and leaves pictures at bin/bench/curves.svg and bin/bench/workloads.svg, of
-# which docs/workloads.svg is a copy.
+# also shows how times grow with the length, and leaves a picture at bin/bench/curves.svg.
 # CPU=x86-64-v3 in the environment has both compiled for a processor with AVX2. COUNT=atomic has owners counted
 # atomically, as the original does.
 # Needs cargo beside the kit's rt. What cargo makes stays below bin/.
@@ -22,6 +21,6 @@ crates=$root
 cp "$root"/bench/src/*.rs "$build/src"
 sed "s|ORIGINAL\"|$original\"|" "$root/bench/Cargo.toml" > "$build/Cargo.toml"
 (cd "$build" && RUSTFLAGS="-C target-cpu=$cpu" cargo build --quiet --release)
-pictures=
-[ -n "${2:-}" ] || pictures=$build
-exec "$build/target/release/bench" "$crates/crates/ecow_bench/out/ecow_bench" "${1:-9}" "${2:-}" $pictures
+picture=
+[ -n "${2:-}" ] || picture=$build
+exec "$build/target/release/bench" "$crates/crates/ecow_bench/out/ecow_bench" "${1:-9}" "${2:-}" $picture

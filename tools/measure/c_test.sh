@@ -71,6 +71,9 @@ for quoted in c/examples/settings.cpp c/examples/settings.out; do
     case "$(cat c/CPP.md)" in *"$(cat $quoted)"*) ;; *) echo "c/CPP.md quotes another $quoted"; exit 1 ;; esac
 done
 
+c++ -std=c++17 $warnings $more_warnings $sanitized -Iinclude c/examples/parts.cpp bin/libecow.a -o "$out/parts"
+"$out/parts"
+
 ECOW_EDITS=$((edits / 50)) tools/gate/python.sh
 # The system's own interpreter, where it is another.
 [ ! -x /usr/bin/python3 ] || PYTHON=/usr/bin/python3 ECOW_EDITS=$((edits / 500)) tools/gate/python.sh

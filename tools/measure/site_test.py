@@ -134,7 +134,8 @@ class Browser:
             return link""", text)
         check(found, f"{self.run('return location.href')} has no link of the words {text}")
         self.call("POST", "/element/" + next(iter(found.values())) + "/click", {})
-        time.sleep(0.3)
+        # The page moves for a while.
+        time.sleep(1.5)
 
     def night(self, dark):
         self.call("POST", "/goog/cdp/execute", {"cmd": "Emulation.setEmulatedMedia", "params": {
@@ -171,11 +172,13 @@ return [...document.querySelectorAll("figure.picture svg")].map(svg => {
 })"""
 
 
+# The pages with pictures.
+PICTURED = ["index.html", "docs/ARCHITECTURE.html", "docs/PERFORMANCE.html"]
+
+
 def pictures(browser):
     count = 0
-    for page in ("index.html", "docs/PICTURES.html", "docs/PERFORMANCE.html"):
-        if not os.path.exists(os.path.join(SITE, page)):
-            continue
+    for page in PICTURED:
         for dark in (False, True):
             browser.night(dark)
             browser.open(page)
@@ -220,10 +223,11 @@ def main():
             link => link.textContent + " " + link.getAttribute("href"))""")
         check(any("EcoVec" in each and "push" in each for each in found), f"search finds no push of EcoVec, but {found}")
         shown = pictures(browser)
-        check(shown or not os.path.exists(os.path.join(SITE, "docs/PICTURES.html")), "there is no picture")
+        drawn = len(os.listdir(os.path.join(ROOT, "docs/pictures")))
+        check(shown == drawn, f"it has {shown} pictures, and docs/pictures {drawn}")
         browser.night(True)
-        browser.open("docs/PICTURES.html" if shown else "docs/PERFORMANCE.html")
-        browser.shoot("pictures-dark")
+        browser.open("docs/PERFORMANCE.html")
+        browser.shoot("pictures")
     finally:
         browser.close()
     print(f"site: {pages} pages, {followed} links, {calls} calls, {len(found)} answers to push, {shown} pictures")

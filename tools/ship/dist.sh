@@ -1,7 +1,7 @@
 #!/bin/sh
 # Packs the library for a machine without the kit: tools/ship/dist.sh COUNT. It takes what `make lib` left in bin/, and
 # leaves bin/ecow-VERSION-x86_64-linux.tar.gz (with -plain behind the version for that count). Its bytes are the same
-# from run to run. Needs git, GNU tar, python3 and rustfmt.
+# from run to run. It has the site if that is in bin/. Needs git, GNU tar, python3 and rustfmt.
 set -eu
 cd "$(dirname "$0")/../.."
 version=$(cat VERSION)
@@ -33,6 +33,7 @@ while read -r file; do
 done < "$work/files"
 tools/ship/rust_crate.sh "$to/rust" > "$work/said"
 tools/ship/contracts.sh "$to/contracts" > "$work/said"
+[ ! -d bin/site ] || cp -R bin/site "$to/site"
 cp LICENSE-APACHE LICENSE-MIT VERSION CHANGELOG.md "$to"
 # It stands above the pages there, and beside those for C here.
 sed 's|](\.\./|](|g' c/INSTALL.md > "$to/README.md"

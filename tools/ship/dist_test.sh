@@ -93,6 +93,9 @@ assert sys.version_info >= (3, 11) and os.path.exists(sysconfig.get_path("includ
     compared "$pages/python/README.md"
 fi
 
+# An archive that was packed where the site's generator is has the site.
+[ ! -d "$here/site" ] || [ -f "$here/site/index.html" ]
+
 # The README leads to the pages, whose links hold in the archive too.
 for page in c/README.md c/CPP.md python/README.md rust/README.md; do
     [ -f "$here/$page" ]

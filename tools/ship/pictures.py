@@ -17,11 +17,11 @@ svg { --paper: #ffffff; --ink: #1f2328; --pale: #c8ced5 }
 @media (prefers-color-scheme: dark) { svg { --paper: #0d1117; --ink: #e6edf3; --pale: #4a525c } }
 </style>
 <style>
-.paper { fill: var(--paper) } .ink { fill: var(--ink) } .line { stroke: var(--ink); fill: none; stroke-width: 1.3 }
-.grid { stroke: var(--pale); fill: none } .box { stroke: var(--ink); fill: var(--paper) } .pale { fill: var(--pale) }
-.this { fill: #3b82c4 } .other { fill: #c27c1a } .third { fill: #8a9299 } .on { fill: #ffffff }
-.joint { stroke: #8a9299; fill: none; stroke-width: 1.4 } .small { font-size: 11px } .large { font-size: 15px }
-.code { font-family: ui-monospace, Menlo, Consolas, monospace } .middle { text-anchor: middle } .end { text-anchor: end }
+svg .paper { fill: var(--paper) } svg .ink { fill: var(--ink) } svg .line { stroke: var(--ink); fill: none; stroke-width: 1.3 }
+svg .grid { stroke: var(--pale); fill: none } svg .box { stroke: var(--ink); fill: var(--paper) } svg .pale { fill: var(--pale) }
+svg .this { fill: #3b82c4 } svg .other { fill: #c27c1a } svg .third { fill: #8a9299 } svg .on { fill: #ffffff }
+svg .joint { stroke: #8a9299; fill: none; stroke-width: 1.4 } svg .small { font-size: 11px } svg .large { font-size: 15px }
+svg .code { font-family: ui-monospace, Menlo, Consolas, monospace } svg .middle { text-anchor: middle } svg .end { text-anchor: end }
 </style>"""
 
 

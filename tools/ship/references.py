@@ -65,8 +65,7 @@ def c_page(proved, faults):
         if name:
             export = "ecow_proved_" + name.group(1)[5:]
             if export in proved:
-                out.append(f"[What is proved of it](../rattle/ecow_c/index.html#w-{export})\n".replace("index.html", "index.md")
-                           if False else f'<p><a href="../rattle/ecow_c/index.html#w-{export}">What is proved of it</a></p>\n')
+                out.append(f'<p><a href="../rattle/ecow_c/index.html#w-{export}">What is proved of it</a></p>\n')
     if functions < 100:
         faults.append(f"include/ecow.h: {functions} functions were found")
     return "\n".join(out)

@@ -21,14 +21,15 @@ READERS = [
     ("Use it from C++", ["c/CPP", "c/cpp-reference"]),
     ("Use it from Python", ["python/README", "python/reference"]),
     ("Use it from Rust", ["rust/README"]),
-    ("Look before you take it", ["docs/PICTURES", "docs/PERFORMANCE", "docs/PROVED", "CHANGELOG"]),
+    ("Look before you take it", ["docs/PERFORMANCE", "docs/PROVED", "CHANGELOG"]),
     ("Change it", ["docs/CONTRIBUTING", "docs/ARCHITECTURE", "docs/DECISIONS", "docs/TRIED", "bench/SPEED",
                    "tools/README", "crates/ecow_bench/growth", "crates/ecow_test_costs/growth",
                    "crates/ecow_test_costs/limits"]),
 ]
-# The types that people come for, in their order.
-FIRST = [("ecow_list", "EcoVec"), ("ecow_bytes", "SmallBytes"), ("ecow_string", "SmallText"), ("ecow_nested", "Value"),
-         ("ecow_counted", "Counted"), ("ecow_store", "NamedValues")]
+# The types that people come for, in their order, and the names by which they know them.
+FIRST = [("ecow_list", "EcoVec", "EcoVec"), ("ecow_bytes", "SmallBytes", "EcoBytes"),
+         ("ecow_string", "SmallText", "EcoString"), ("ecow_nested", "Value", "Value"),
+         ("ecow_counted", "Counted", "Counted"), ("ecow_store", "NamedValues", "Store")]
 # What the pages are: those of the list above that the repository has.
 PAGES = [page for _, pages in READERS for page in pages]
 
@@ -126,7 +127,7 @@ class Site:
                 else:
                     together.append(("", [clause]))
         out = []
-        for title, several in list(parts.items()) + [("And", together)]:
+        for title, several in list(parts.items()) + [("Besides", together)]:
             if not several:
                 continue
             out.append(f'<p class="group">{title}</p>')
@@ -293,8 +294,8 @@ class Site:
         total = sum(len(crate.calls) for crate in self.crates)
         if self.shown != total:
             self.faults.append(f"{self.shown} calls are on the pages, and {total} are in the contracts")
-        firsts = "\n".join(f"| [`{name}`]({crate}/{name}.md) | {first_sentence(self.library.types[crate, name].comment)} |"
-                           for crate, name in FIRST)
+        firsts = "\n".join(f"| [`{known}`]({crate}/{name}.md) | {first_sentence(self.library.types[crate, name].comment)} |"
+                           for crate, name, known in FIRST)
         self.pages["rattle/index"] = f"""# Reference for Rattle
 
 Each call has its comment, its signature and its clauses, by what they speak of: what the call requires, what it gives,
@@ -389,10 +390,10 @@ listed with their paths.
 
     def first_page(self):
         text = self.page("index")
-        rust = " · [reference for Rust](rust/reference.html)" if os.environ.get("ECOW_RUSTDOC") else ""
-        reference = ("**Reference.** Rattle: " + ", ".join(f"[{name}](rattle/{crate}/{name}.md)" for crate, name in FIRST)
-                     + ", [all](rattle/index.md). [C](c/reference.md) · [C++](c/cpp-reference.md) · "
-                     "[Python](python/reference.md)" + rust.replace("](rust/reference.html)", "](rust/reference.md)") + "\n\n")
+        rust = " · [Rust](rust/reference.md)" if os.environ.get("ECOW_RUSTDOC") else ""
+        reference = ("**Reference.** Rattle: " + ", ".join(f"[{known}](rattle/{crate}/{name}.md)" for crate, name, known in FIRST)
+                     + ", [all types](rattle/index.md) · [C](c/reference.md) · [C++](c/cpp-reference.md) · "
+                     "[Python](python/reference.md)" + rust + "\n\n")
         head, rest = text.split("\n\n", 1)
         trees = []
         for title, pages in READERS:
@@ -429,7 +430,7 @@ examples, errors, panics and costs. They are a part of this site, with a search 
 
 def inlined(svg):
     """A picture within a page, so that it takes the colours of the page."""
-    svg = re.sub(r"<\?xml.*?\?>", "", svg).strip()
+    svg = re.sub(r'<style class="colours">.*?</style>', "", svg, flags=re.S).strip()
     return re.sub(r"\n\s*\n", "\n", f'<figure class="picture">{svg}</figure>')
 
 

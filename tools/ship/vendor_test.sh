@@ -49,7 +49,7 @@ crate() {
         inside' "$2" > "$new/crates/$1/src/lib.rt"
     echo "$1: $4" >> "$new/crates.txt"
 }
-crate first README.md '# ' ecow_list
+crate first README.md '### Rattle' ecow_list
 crate calling docs/CALLING.md '## A caller' ecow_list
 if [ "$kind" != vector ]; then
     crate named docs/CALLING.md '**A struct of yours.**' 'ecow_list ecow_string'
