@@ -156,12 +156,15 @@ class Browser:
 # The section that an address leads to.
 SECTION = "return document.getElementById(location.hash.slice(1)).closest('section')"
 
-# The pictures of a page: whether each has a size, a title and a description, and its darkest and lightest text.
-PICTURES = """
+# How light a colour is, from 0 to 1.
+SHADE = """
 const shade = color => {
     const [r, g, b] = color.match(/[\\d.]+/g).map(Number);
     return (0.2126 * r + 0.7152 * g + 0.0722 * b) / 255;
 };
+"""
+# The pictures of a page: their sizes, titles and descriptions, and how far their texts are from the page's colour.
+PICTURES = SHADE + """
 const page = shade(getComputedStyle(document.body).backgroundColor);
 return [...document.querySelectorAll("figure.picture svg")].map(svg => {
     const box = svg.getBoundingClientRect();
@@ -222,6 +225,14 @@ def main():
         found = browser.run("""return [...document.querySelectorAll("#search-results li a")].map(
             link => link.textContent + " " + link.getAttribute("href"))""")
         check(any("EcoVec" in each and "push" in each for each in found), f"search finds no push of EcoVec, but {found}")
+        # The button for the night, and the night of the reader's system.
+        browser.open("index.html")
+        browser.run("document.querySelector('button.theme-toggle').click()")
+        check(browser.run("return document.body.dataset.theme") != "auto", "its button for the night does nothing")
+        browser.run("localStorage.clear()")
+        browser.night(True)
+        browser.open("index.html")
+        check(browser.run(SHADE + "return shade(getComputedStyle(document.body).backgroundColor)") < 0.2, "its night is light")
         shown = pictures(browser)
         drawn = len(os.listdir(os.path.join(ROOT, "docs/pictures")))
         check(shown == drawn, f"it has {shown} pictures, and docs/pictures {drawn}")

@@ -14,7 +14,7 @@ def read(path):
 
 def plain(comment):
     """The words of a comment of C, as Markdown."""
-    lines = [re.sub(r"^ ?\*? ?", "", line) for line in comment.strip()[2:-2].split("\n")]
+    lines = [re.sub(r"^\s*\* ?|^ ", "", line) for line in comment.strip()[2:-2].split("\n")]
     return "\n".join(lines).strip().replace("<", "&lt;")
 
 
@@ -33,8 +33,7 @@ def c_page(proved, faults):
         name = re.match(r"([A-Z]\w+)\. ", paragraph)
         out.append((f"**{name.group(1)}.** {paragraph[name.end():]}" if name else paragraph) + "\n")
     rest = rest[rest.index("/* This header's version."):]
-    # What stands behind the declarations is expanded where it is called.
-    rest = re.split(r"/\* ---- What is expanded|\n#ifndef ECOW_NO_INLINE", rest)[0]
+    rest = rest[:rest.index("/* ---- The library's own ---- */")]
     out.append("## Version, answers and values\n")
     functions = 0
     for block in re.split(r"\n[ \t]*\n", rest):
@@ -77,8 +76,9 @@ def cpp_page(faults):
     """The public members of each class of ecow.hpp that a caller names, without their bodies, with their comments."""
     text = read("include/ecow.hpp")
     head = text[:text.index("*/") + 2]
-    out = ["# Reference for C++\n", "The public members of each class of `ecow.hpp`, without their bodies. "
-           "[C++](CPP.md) says how to begin, and has the calls by subject.\n", "## What holds for all\n"]
+    out = ["# Reference for C++\n", "The public members of each class of `ecow.hpp`, without their bodies, each "
+           "behind its comment. A member without a comment is called as that of std's containers. [C++](CPP.md) says how to "
+           "begin, and has the calls by subject.\n", "## What holds for all\n"]
     for paragraph in re.split(r"\n\n", plain(head)):
         name = re.match(r"([A-Z]\w+)\. ", paragraph)
         paragraph = f"**{name.group(1)}.** {paragraph[name.end():]}" if name else paragraph
@@ -102,9 +102,9 @@ def cpp_page(faults):
         if not members:
             faults.append(f"include/ecow.hpp: {name} has no member")
         for comment, code in members:
-            out.append(f"```cpp\n{code}\n```\n")
             if comment:
                 out.append(plain(comment) + "\n")
+            out.append(f"```cpp\n{code}\n```\n")
     return "\n".join(out)
 
 
@@ -159,9 +159,9 @@ def taken(members, public, comment, code):
     code = re.sub(r"\s*ECOW_LENDS", "", code)
     if not public or not code or re.match(r"(using|friend class|template <typename Part> class|class|static constexpr)\b", code):
         return
-    if members and not comment and members[-1][1].count("\n") < 40 and "(" in code:
-        before = members[-1]
-        members[-1] = (before[0], before[1] + "\n" + code + ";")
+    # Members that are called as std's have no comment, and stand together.
+    if members and not comment and not members[-1][0]:
+        members[-1] = ("", members[-1][1] + "\n" + code + ";")
         return
     members.append((comment, code + ";"))
 

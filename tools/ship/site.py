@@ -234,13 +234,16 @@ class Site:
 
     def type_page(self, crate, kind, impls):
         page = kind.page
-        out = [f'# {kind.name}\n\n<div class="word" id="{slug(kind.name)}"></div>\n', markdown(kind.comment) + "\n"]
+        known = next((known for name, of, known in FIRST if (name, of) == (crate.name, kind.name)), kind.name)
+        title = kind.name if known == kind.name else f"{kind.name} ({known})"
+        out = [f'# {title}\n\n<div class="word" id="{slug(kind.name)}"></div>\n', markdown(kind.comment) + "\n"]
         if not kind.comment:
             self.faults.append(f"{kind.file.path}: {kind.name} has no comment")
-        out.append(f"```rust\nuse {crate.name}::{kind.name};\n\n{kind.text}\n```\n")
-        names = [other for other in crate.types if other.kind == "type" and re.search(rf"\b{kind.name}\b", other.text)]
+        use = imported(crate, kind)
+        out.append(f"```rust\n{use}{kind.text}\n```\n")
+        names = [other for other in crate.types if other.kind == "type" and aliased(crate, other.name) == kind.name]
         for other in names:
-            out.append(f"`{other.name}` is `{other.text.split(' = ')[1].rstrip(';')}`: {first_sentence(other.comment)}\n")
+            out.append(f"```rust\n{other.text}\n```\n\n{markdown(other.comment)}\n")
         if kind.members:
             out.append("| | |\n|---|---|")
             for member, comment in kind.members:
@@ -282,7 +285,8 @@ class Site:
             of_type = {kind.name: [] for kind in types}
             others = []
             for impl in crate.impls:
-                name = impl.type_name if impl.type_name in of_type else impl.trait_name
+                name = aliased(crate, impl.type_name)
+                name = name if name in of_type else impl.trait_name
                 of_type.get(name, others).append(impl)
             calls = [call for call in crate.calls if call.impl is None]
             for kind in types:
@@ -421,11 +425,28 @@ RUST = """# Reference for Rust
 <p>The <a href="ecow/index.html">pages that <code>cargo doc</code> writes</a> of the crate have every type and call, with
 examples, errors, panics and costs. They are a part of this site, with a search of their own.</p>
 <ul>
-<li><a href="ecow/struct.EcoVec.html"><code>EcoVec</code></a></li>
-<li><a href="ecow/type.EcoString.html"><code>EcoString</code></a>, <a href="ecow/type.EcoBytes.html"><code>EcoBytes</code></a></li>
-<li><a href="ecow/enum.Value.html"><code>Value</code></a></li>
+<li><a href="ecow/vec/struct.EcoVec.html"><code>EcoVec</code></a></li>
+<li><a href="ecow/string/type.EcoString.html"><code>EcoString</code></a>, <a href="ecow/bytes/type.EcoBytes.html"><code>EcoBytes</code></a></li>
+<li><a href="ecow/value/struct.Value.html"><code>Value</code></a></li>
 </ul>
 """
+
+
+def imported(crate, kind):
+    """The line that brings a type, or nothing where its crate keeps it to itself."""
+    lib = read(f"crates/{crate.name}/src/lib.rt")
+    module = kind.file.path.split("/src/")[1][:-3].replace("/", "::")
+    if re.search(rf"\bpub use [^;]*\b{kind.name}\b", lib) or module == "lib":
+        return f"use {crate.name}::{kind.name};\n\n"
+    if re.search(rf"^pub mod {module.split('::')[0]}\b", lib, re.M):
+        return f"use {crate.name}::{module}::{kind.name};\n\n"
+    return ""
+
+
+def aliased(crate, name):
+    """The type that a name of the crate stands for."""
+    text = next((kind.text for kind in crate.types if kind.kind == "type" and kind.name == name), None)
+    return aliased(crate, re.search(r"= (\w*)", text).group(1)) if text else name
 
 
 def inlined(svg):

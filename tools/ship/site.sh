@@ -19,6 +19,12 @@ fi
 ECOW_RUSTDOC=$rustdoc tools/ship/site.py "$work/pages"
 rm -rf bin/site
 sphinx-build -q -j auto -d "$work/read" "$work/pages" bin/site
+# Debian's Furo leaves its script in two files, which no browser joins without a server.
+scripts=bin/site/_static/scripts
+if grep -q '^import Gumshoe ' "$scripts/furo.js"; then
+    sed 1d "$scripts/furo.js" | cat "$scripts/gumshoe-patched.js" - > "$work/furo.js"
+    cp "$work/furo.js" "$scripts/furo.js"
+fi
 [ -z "$rustdoc" ] || { mkdir -p bin/site/rust && cp -R "$rustdoc/." bin/site/rust; }
 rm -rf bin/site/.buildinfo bin/site/objects.inv
 echo "bin/site/index.html${rustdoc:+, with the reference for Rust}"

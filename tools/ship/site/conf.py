@@ -4,6 +4,24 @@ extensions = ["myst_parser"]
 root_doc = "index"
 html_theme = "furo"
 html_title = "ecow, proved"
+# Debian's Furo is dark by its button alone. What stands here is dark by the reader's system too.
+html_theme_options = {"dark_css_variables": {
+    "color-problematic": "#ee5151",
+    "color-foreground-primary": "#ffffffcc",
+    "color-foreground-secondary": "#9ca0a5",
+    "color-foreground-muted": "#81868d",
+    "color-foreground-border": "#666666",
+    "color-background-primary": "#131416",
+    "color-background-secondary": "#1a1c1e",
+    "color-background-hover": "#1e2124ff",
+    "color-background-hover--transparent": "#1e212400",
+    "color-background-border": "#303335",
+    "color-background-item": "#444444",
+    "color-brand-primary": "#2b8cee",
+    "color-brand-content": "#368ce2",
+    "color-highlighted-background": "#083563",
+    "color-highlight-on-target": "#333300",
+}}
 html_static_path = ["_static"]
 html_css_files = ["site.css"]
 html_copy_source = False
