@@ -50,13 +50,13 @@ tools/gate/counts.sh agree_site.sh "$calls calls" "$lost losses seen"
 
 command -v python3 > "$work/said" || {
     echo "words and pictures were not compared: this machine has no python3"
-    tools/gate/counts.sh site.py skipped
+    tools/gate/counts.sh site_pages.py skipped
     tools/gate/counts.sh pictures.py skipped
     exit 0
 }
-tools/ship/site.py --check > "$work/words" || { cat "$work/words"; exit 1; }
+tools/ship/site_pages.py --check > "$work/words" || { cat "$work/words"; exit 1; }
 cat "$work/words"
-tools/gate/counts.sh site.py "$(sed 's/ .*//' "$work/words") calls"
+tools/gate/counts.sh site_pages.py "$(sed 's/ .*//' "$work/words") calls"
 tools/ship/pictures.py --check > "$work/pictures" || { cat "$work/pictures"; exit 1; }
 cat "$work/pictures"
 tools/gate/counts.sh pictures.py "$(sed 's/ .*//' "$work/pictures") pictures"

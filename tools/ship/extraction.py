@@ -1,4 +1,4 @@
-"""What tools/ship/extract.sh prints, and the definitions of its words, as objects. tools/ship/site.py reads it."""
+"""What tools/ship/extract.sh prints, and the definitions of its words, as objects. tools/ship/site_pages.py reads it."""
 import os
 import re
 import subprocess

@@ -1,5 +1,5 @@
 """The pages of reference for C, C++ and Python, from the headers and from what the package for Python says of itself.
-tools/ship/site.py calls them."""
+tools/ship/site_pages.py calls them."""
 import ast
 import os
 import re

@@ -16,7 +16,7 @@ if command -v cargo > /dev/null && command -v rustfmt > /dev/null; then
     (cd "$work/rust" && CARGO_TARGET_DIR=$work/target cargo doc --quiet --offline --no-deps --features std)
     rustdoc=$work/target/doc
 fi
-ECOW_RUSTDOC=$rustdoc tools/ship/site.py "$work/pages"
+ECOW_RUSTDOC=$rustdoc tools/ship/site_pages.py "$work/pages"
 rm -rf bin/site
 sphinx-build -q -j auto -d "$work/read" "$work/pages" bin/site
 # Debian's Furo leaves its script in two files, which no browser joins without a server.

@@ -1,8 +1,8 @@
 #!/usr/bin/env python3
-"""Writes the pages of the site as Markdown for Sphinx into a new folder: tools/ship/site.py TO. They come from the pages
-of the repository, from the comments and contracts of the sources, and from the headers. A call without a comment or
+"""Writes the pages of the site as Markdown for Sphinx into a new folder: tools/ship/site_pages.py TO. They come from the
+pages of the repository, from the comments and contracts of the sources, and from the headers. A call without a comment or
 without clauses, and a word that is defined nowhere, stop it. With --check it writes nothing, and stops at the same.
-tools/ship/site.sh calls it."""
+ECOW_RUSTDOC in the environment names what `cargo doc` wrote, if it is there. tools/ship/site.sh calls it."""
 import html
 import os
 import re
@@ -467,7 +467,7 @@ def first_sentence(comment):
 
 def main(arguments):
     if len(arguments) != 1:
-        sys.exit("usage: tools/ship/site.py TO, or --check")
+        sys.exit("usage: tools/ship/site_pages.py TO, or --check")
     site = Site()
     try:
         site.make()
