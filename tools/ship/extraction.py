@@ -324,7 +324,9 @@ def pieces(library, text, scope, crate):
             token = TOKEN.match(text, place).group()
             place += len(token)
             first = token.split(".")[0]
-            if not re.match(r"[^\W\d]", token) or first == "λ":
+            # What follows a point, and what an `=` follows, is the name of a field.
+            is_field = text[place - len(token) - 1:place - len(token)] == "." or re.match(r"\s*=(?!=)", text[place:])
+            if not re.match(r"[^\W\d]", token) or first == "λ" or is_field:
                 out.append((token, None))
                 continue
             found = None
@@ -385,8 +387,8 @@ def speaks_of(library, text, scope, depth=8):
     if text.startswith("(") and closing(text, 0) == len(text) - 1:
         return speaks_of(library, text, scope, depth)
     head = re.match(r"[^\W\d][\w'-]*", text)
-    status = re.match(r"result ≡ ([A-Z][A-Z0-9_]+)$", text)
-    if status:
+    status = re.match(r"\w+ ≡ ([A-Z][A-Z0-9_]+)$", text)
+    if status and getattr(library.constants.get(status.group(1)), "crate", "") == "ecow_c":
         return {"refused" if status.group(1) != "OK" else "done"}
     if not head or not depth:
         return {"other"}

@@ -122,10 +122,7 @@ class Site:
                     together.append((note, group.clauses))
                 continue
             for kind, clause in zip(kinds, group.clauses):
-                if kind:
-                    parts[kind].append(("", [clause]))
-                else:
-                    together.append(("", [clause]))
+                parts[kind].append(("", [clause]))
         out = []
         for title, several in list(parts.items()) + [("Besides", together)]:
             if not several:
@@ -141,11 +138,11 @@ class Site:
         return '<div class="clauses">\n' + "\n".join(out) + "\n</div>"
 
     def kind(self, call, clause):
+        """What a clause speaks of: refusals alone, or what is there after the call, done or refused, or what it gives."""
         if clause.kind == "requires":
             return "Requires"
-        spoken = speaks_of(self.library, clause.text, call.scope)
-        if "refused" in spoken:
-            return "Refuses" if spoken == {"refused"} else None
+        if speaks_of(self.library, clause.text, call.scope) == {"refused"}:
+            return "Refuses"
         return "Leaves" if re.search(r"\b\w+\.new\b", clause.text) else "Gives"
 
     def called(self, page, call, title=True):
