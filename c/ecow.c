@@ -3,6 +3,7 @@
  * arrays that overlap the value that is changed, and arrays that no memory holds. */
 #include "proved.h"
 
+#include <math.h>
 #include <string.h>
 
 /* Where an array of no items begins. */
@@ -539,22 +540,20 @@ typedef struct field {
 } field;
 
 /* Behind the word with its kind, a value has its text, or the word of its list or fields. This is the
- * address of a head, or 0 where there is none. Here it is that of a list or of fields with such an
- * index; NULL of another kind, and past the length. */
-static const void *parts_of(const ecow_value *value, ecow_kind kind, size_t index) {
-    const bool has_part = ecow_value_kind(value) == kind && index < ecow_value_len(value);
-    return has_part ? ((const ecow_head *)(uintptr_t)value->word[1])->items : NULL;
+ * address of a head, where there are items or fields. */
+static const ecow_head *head_of(const ecow_value *value) {
+    return (const ecow_head *)(uintptr_t)value->word[1];
 }
 
-static const field *field_of(const ecow_value *value, size_t index) {
-    const field *fields = parts_of(value, ECOW_KIND_FIELDS, index);
-    return fields ? fields + index : NULL;
+/* The item or the field's value at an index below the length. */
+static const ecow_value *part_of(const ecow_value *value, size_t index) {
+    const void *parts = head_of(value)->items;
+    return ecow_value_kind(value) == ECOW_KIND_LIST ? (const ecow_value *)parts + index
+                                                    : &((const field *)parts)[index].value;
 }
 
 const ecow_value *ecow_value_peek(const ecow_value *value, size_t index) {
-    const ecow_value *items = parts_of(value, ECOW_KIND_LIST, index);
-    const field *found = field_of(value, index);
-    return items ? items + index : found ? &found->value : NULL;
+    return index < ecow_value_len(value) ? part_of(value, index) : NULL;
 }
 
 const ecow_value *ecow_value_peek_field(const ecow_value *value, const char *name, size_t count) {
@@ -565,12 +564,13 @@ const ecow_value *ecow_value_peek_field(const ecow_value *value, const char *nam
         || ecow_proved_value_position(&place, bytes, count, &index) != ECOW_OK) {
         return NULL;
     }
-    return ecow_value_peek(value, index);
+    return part_of(value, index);
 }
 
 const ecow_text *ecow_value_peek_name(const ecow_value *value, size_t index) {
-    const field *found = field_of(value, index);
-    return found ? &found->name : NULL;
+    const bool is_there =
+        ecow_value_kind(value) == ECOW_KIND_FIELDS && index < ecow_value_len(value);
+    return is_there ? &((const field *)head_of(value)->items)[index].name : NULL;
 }
 
 const ecow_text *ecow_value_peek_text(const ecow_value *value) {
@@ -588,8 +588,153 @@ bool ecow_value_shares(const ecow_value *left, const ecow_value *right) {
     return ecow_value_len(left) > 0 && left->word[1] == right->word[1];
 }
 
+/* What is known of lists and fields, by the addresses of their heads: that two are equal, or the hash
+ * of one. So a part that stands in several places is visited once. A note may take the place of
+ * another one. */
+typedef struct note {
+    const ecow_head *head, *other;
+    uint64_t hash;
+} note;
+
+enum { NOTES = 256 };
+
+static uint64_t mix(uint64_t sum, uint64_t more) {
+    const uint64_t mixed = (sum ^ more) * 0x9E3779B97F4A7C15;
+    return mixed ^ mixed >> 32;
+}
+
+static note *note_of(note *notes, const ecow_head *head, const ecow_head *other) {
+    return &notes[mix((uintptr_t)head, 3 * (uintptr_t)other) % NOTES];
+}
+
+static int order_of(bool is_less, bool is_greater) {
+    return is_greater - is_less;
+}
+
+/* The order of two scalars of one kind. */
+static int compare_scalars(ecow_kind kind, const ecow_value *left, const ecow_value *right) {
+    bool truth = false, other_truth = false;
+    int64_t number = 0, other_number = 0;
+    double real = 0, other_real = 0;
+    switch (kind) {
+    case ECOW_KIND_TRUTH:
+        ecow_ignore(ecow_value_truth(left, &truth));
+        ecow_ignore(ecow_value_truth(right, &other_truth));
+        return order_of(truth < other_truth, truth > other_truth);
+    case ECOW_KIND_NUMBER:
+        ecow_ignore(ecow_value_number(left, &number));
+        ecow_ignore(ecow_value_number(right, &other_number));
+        return order_of(number < other_number, number > other_number);
+    case ECOW_KIND_REAL:
+        ecow_ignore(ecow_value_real(left, &real));
+        ecow_ignore(ecow_value_real(right, &other_real));
+        return isnan(real) || isnan(other_real)
+                   ? order_of(!isnan(other_real), !isnan(real))
+                   : order_of(real < other_real, real > other_real);
+    case ECOW_KIND_TEXT:
+        return ecow_text_compare(ecow_value_peek_text(left), ecow_value_peek_text(right));
+    default:
+        return 0;
+    }
+}
+
+/* The order of two values, which are there. Where it only matters whether they are equal, lists of
+ * different lengths aren't compared. */
+static int compare_values(const ecow_value *left, const ecow_value *right, note *notes,
+                          bool has_order) {
+    const ecow_kind kind = ecow_value_kind(left), other_kind = ecow_value_kind(right);
+    const size_t len = ecow_value_len(left), other_len = ecow_value_len(right);
+    const int by_length = order_of(len < other_len, len > other_len);
+    if (kind != other_kind) {
+        return order_of(kind < other_kind, kind > other_kind);
+    }
+    if (len == 0 || other_len == 0 || (!has_order && by_length)) {
+        return by_length ? by_length : compare_scalars(kind, left, right);
+    }
+    note *known = note_of(notes, head_of(left), head_of(right));
+    if (left->word[1] == right->word[1]
+        || (known->head == head_of(left) && known->other == head_of(right))) {
+        return 0;
+    }
+    for (size_t at = 0; at < len && at < other_len; at++) {
+        const ecow_text *name = ecow_value_peek_name(left, at);
+        int order = name ? ecow_text_compare(name, ecow_value_peek_name(right, at)) : 0;
+        order = order ? order
+                      : compare_values(part_of(left, at), part_of(right, at), notes, has_order);
+        if (order) {
+            return order;
+        }
+    }
+    if (by_length == 0) {
+        known->head = head_of(left);
+        known->other = head_of(right);
+    }
+    return by_length;
+}
+
+/* Whether memory of parts has other owners too. Then a part may stand in several places. */
+static bool has_shared_parts(const ecow_value *value) {
+    const size_t len = ecow_value_len(value);
+    for (size_t at = 0; at < len; at++) {
+        const ecow_value *part = part_of(value, at);
+        if (ecow_value_len(part) > 0
+            && (__atomic_load_n(&head_of(part)->owners, __ATOMIC_RELAXED) > 1
+                || has_shared_parts(part))) {
+            return true;
+        }
+    }
+    return false;
+}
+
+/* The proved call visits a part as often as it occurs in both values. */
 bool ecow_value_equal(const ecow_value *left, const ecow_value *right) {
     ecow_value *first = (ecow_value *)left, *second = (ecow_value *)right;
-    return left == right || ecow_value_shares(left, right)
-           || ecow_proved_value_equal(&first, &second);
+    if (left == right || ecow_value_shares(left, right)) {
+        return true;
+    }
+    if (has_shared_parts(left) && has_shared_parts(right)) {
+        note notes[NOTES] = {{0}};
+        return compare_values(left, right, notes, false) == 0;
+    }
+    return ecow_proved_value_equal(&first, &second);
+}
+
+int ecow_value_compare(const ecow_value *left, const ecow_value *right) {
+    note notes[NOTES] = {{0}};
+    return left && right ? compare_values(left, right, notes, true) : order_of(!left, !right);
+}
+
+static uint64_t hash_of(const ecow_value *value, note *notes) {
+    const size_t len = ecow_value_len(value);
+    const ecow_text *text = ecow_value_peek_text(value);
+    uint64_t sum = mix(0, (uint64_t)ecow_value_kind(value));
+    if (len == 0) {
+        bool truth = false;
+        int64_t number = 0;
+        double real = 0;
+        ecow_ignore(ecow_value_truth(value, &truth));
+        ecow_ignore(ecow_value_number(value, &number));
+        ecow_ignore(ecow_value_real(value, &real));
+        /* Each NaN equals each other one, and 0 equals -0. */
+        real = isnan(real) ? NAN : real + 0.0;
+        uint64_t bits;
+        memcpy(&bits, &real, sizeof bits);
+        return mix(sum, text ? ecow_text_hash(text) : truth ^ (uint64_t)number ^ bits);
+    }
+    note *known = note_of(notes, head_of(value), NULL);
+    if (known->head != head_of(value)) {
+        for (size_t at = 0; at < len; at++) {
+            const ecow_text *name = ecow_value_peek_name(value, at);
+            sum = mix(sum, name ? ecow_text_hash(name) : 0);
+            sum = mix(sum, hash_of(part_of(value, at), notes));
+        }
+        known->head = head_of(value);
+        known->hash = sum;
+    }
+    return known->hash;
+}
+
+uint64_t ecow_value_hash(const ecow_value *value) {
+    note notes[NOTES] = {{0}};
+    return hash_of(value, notes);
 }

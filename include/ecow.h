@@ -662,6 +662,14 @@ bool ecow_value_shares(const ecow_value *left, const ecow_value *right);
  * NaN, so that a value equals its clones. A null pointer equals a null pointer alone. */
 bool ecow_value_equal(const ecow_value *left, const ecow_value *right);
 
+/* The order: below 0 where `left` comes first, 0 where they are equal. Kinds have the order of
+ * ecow_kind, truth values, numbers and texts their own, a NaN comes before other reals, and items and
+ * fields count in turn, names before values. A null pointer comes before every value. */
+int ecow_value_compare(const ecow_value *left, const ecow_value *right);
+
+/* A hash. Equal values have the same. */
+uint64_t ecow_value_hash(const ecow_value *value);
+
 /* ---- The library's own ---- */
 
 /* How values lie in memory, for the calls that read them where they stand. The word of a list is the

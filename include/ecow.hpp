@@ -2105,36 +2105,8 @@ public:
 
     /* Below 0 where `left` comes first: by kinds, then by contents, a NaN before other numbers. 0
      * where they are equal. */
-    friend int compare(const value &left, const value &right) {
-        if (left.kind() != right.kind()) {
-            return left.kind() < right.kind() ? -1 : 1;
-        }
-        switch (left.shares(right) ? ecow::kind::nothing : left.kind()) {
-        case ecow::kind::nothing:
-            return 0;
-        case ecow::kind::truth:
-            return left.truth() - right.truth();
-        case ecow::kind::number:
-            return (left.number() > right.number()) - (left.number() < right.number());
-        case ecow::kind::real: {
-            const double one = left.real(), other = right.real();
-            return one == one && other == other ? (one > other) - (one < other)
-                                                : (one == one) - (other == other);
-        }
-        case ecow::kind::text:
-            return left.peek_text()->compare(*right.peek_text());
-        default:
-            break;
-        }
-        for (size_type at = 0; at < left.size() && at < right.size(); ++at) {
-            const ecow::text *name = left.peek_name(at);
-            int order = name ? name->compare(*right.peek_name(at)) : 0;
-            order = order ? order : compare(*left.peek(at), *right.peek(at));
-            if (order) {
-                return order;
-            }
-        }
-        return (left.size() > right.size()) - (left.size() < right.size());
+    friend int compare(const value &left, const value &right) noexcept {
+        return ecow_value_compare(&left.raw, &right.raw);
     }
 
 #ifdef __cpp_impl_three_way_comparison
@@ -2183,21 +2155,8 @@ public:
     }
 
     /* Equal values have the same. */
-    std::size_t hash() const {
-        const ecow::kind held = kind();
-        std::size_t sum = static_cast<std::size_t>(held);
-        const auto add = [&sum](std::size_t more) { sum = (sum ^ more) * 0x9E3779B97F4A7C15; };
-        const double read = held == ecow::kind::real ? real() : 0;
-        add(held == ecow::kind::truth    ? truth()
-            : held == ecow::kind::number ? static_cast<std::size_t>(number())
-            : held == ecow::kind::text   ? text().hash()
-            : read == read               ? std::hash<double>()(read) + size()
-                                         : 0);
-        for (size_type at = 0; at < size(); ++at) {
-            add(kind() == ecow::kind::fields ? name(at).hash() : 0);
-            add(get(at).hash());
-        }
-        return sum;
+    std::size_t hash() const noexcept {
+        return static_cast<std::size_t>(ecow_value_hash(&raw));
     }
 
 private:

@@ -1,8 +1,11 @@
 /* What the header reads where a value stands, beside what the proved calls get of it item by item: in
  * every state, on both sides of the number from which on items stand apart from their head; and the
- * parts that a nested value lends, beside the clones that the proved calls make. */
+ * parts that a nested value lends, beside the clones that the proved calls make. And the order, the
+ * equality and the hash of nested values that share parts, beside the proved equality. */
 #include "check.h"
 #include "../proved.h"
+
+#include <math.h>
 
 static const size_t lengths[] = {0, 1, 2, 13, 14, 15, 16, 17, 1023, 1024, 1025, 5000};
 
@@ -198,6 +201,97 @@ static void states_of_value(bool has_names) {
     }
 }
 
+/* A scalar, or a list or fields of some of the values before it. */
+static ecow_value any_value(uint64_t *seed, const ecow_value *before, size_t count) {
+    static const double reals[] = {0.0, -0.0, 1.5, -1.5, NAN, -NAN, INFINITY, 1.0};
+    ecow_value made = {{0}};
+    ecow_text text = {{0}};
+    const uint64_t draw = next_number(seed) % 12;
+    switch (count < 8 ? draw % 5 : draw) {
+    case 0:
+        CHECK(ecow_value_set_truth(&made, next_number(seed) % 2) == ECOW_OK);
+        break;
+    case 1:
+        CHECK(ecow_value_set_number(&made, (int64_t)(next_number(seed) % 3) - 1) == ECOW_OK);
+        break;
+    case 2:
+        CHECK(ecow_value_set_real(&made, reals[next_number(seed) % 8]) == ECOW_OK);
+        break;
+    case 3:
+        CHECK(ecow_text_assign(&text, "bbbbbbbbbbbbbbbbbb", next_number(seed) % 2 ? 1 : 18) == ECOW_OK);
+        CHECK(ecow_value_set_text(&made, &text) == ECOW_OK);
+        ecow_text_drop(&text);
+        break;
+    case 4:
+        break;
+    default:
+        CHECK((draw % 2 ? ecow_value_set_list : ecow_value_set_fields)(&made) == ECOW_OK);
+        for (uint64_t left = next_number(seed) % 4; left; left--) {
+            const ecow_value *part = before + next_number(seed) % count;
+            CHECK((draw % 2 ? ecow_value_push(&made, part)
+                            : ecow_value_set_field(&made, left % 2 ? "a" : "b", 1, part)) == ECOW_OK);
+        }
+    }
+    return made;
+}
+
+/* Compares values that share parts in every way with the proved equality, which visits each part. */
+static void orders(void) {
+    enum { COUNT = 120 };
+    ecow_value values[COUNT] = {{{0}}};
+    uint64_t seed = 7;
+    long equal = 0;
+    for (size_t at = 0; at < COUNT; at++) {
+        values[at] = any_value(&seed, values, at);
+    }
+    for (size_t left = 0; left < COUNT; left++) {
+        for (size_t right = 0; right < COUNT; right++) {
+            ecow_value *one = &values[left], *other = &values[right];
+            const bool are_equal = ecow_proved_value_equal(&one, &other);
+            const int order = ecow_value_compare(one, other);
+            CHECK(ecow_value_equal(one, other) == are_equal && (order == 0) == are_equal);
+            CHECK((ecow_value_compare(other, one) > 0) == (order < 0));
+            CHECK(!are_equal || ecow_value_hash(one) == ecow_value_hash(other));
+            CHECK(ecow_value_kind(one) >= ecow_value_kind(other) || order < 0);
+            for (size_t third = 0; third < COUNT && order <= 0; third += 7) {
+                CHECK(ecow_value_compare(other, values + third) > 0
+                      || ecow_value_compare(one, values + third) <= 0);
+            }
+            equal += are_equal;
+        }
+    }
+    CHECK(equal > 2 * COUNT && equal < COUNT * COUNT / 4);
+    CHECK(ecow_value_compare(NULL, values) < 0 && ecow_value_compare(values, NULL) > 0);
+    CHECK(ecow_value_compare(NULL, NULL) == 0 && ecow_value_hash(NULL) == ecow_value_hash(NULL));
+    for (size_t at = 0; at < COUNT; at++) {
+        ecow_value_drop(&values[at]);
+    }
+}
+
+/* Values that were made apart, in which each level holds the one below twice: 2^400 parts. */
+static void doubled(void) {
+    ecow_value values[3] = {{{0}}};
+    for (size_t at = 0; at < 3; at++) {
+        CHECK(ecow_value_set_number(&values[at], at == 2 ? 8 : 7) == ECOW_OK);
+        for (int level = 0; level < 400; level++) {
+            ecow_value around = {{0}};
+            CHECK(ecow_value_set_list(&around) == ECOW_OK);
+            CHECK(ecow_value_push(&around, &values[at]) == ECOW_OK);
+            CHECK(ecow_value_push(&around, &values[at]) == ECOW_OK);
+            ecow_value_drop(&values[at]);
+            values[at] = around;
+        }
+    }
+    CHECK(ecow_value_equal(&values[0], &values[1]) && !ecow_value_equal(&values[0], &values[2]));
+    CHECK(ecow_value_compare(&values[0], &values[1]) == 0);
+    CHECK(ecow_value_compare(&values[1], &values[2]) < 0);
+    CHECK(ecow_value_hash(&values[0]) == ecow_value_hash(&values[1]));
+    CHECK(ecow_value_hash(&values[0]) != ecow_value_hash(&values[2]));
+    for (size_t at = 0; at < 3; at++) {
+        ecow_value_drop(&values[at]);
+    }
+}
+
 int main(void) {
     take_no_buffer();
     states_of_list();
@@ -206,6 +300,8 @@ int main(void) {
     states_of_texts();
     states_of_value(false);
     states_of_value(true);
+    orders();
+    doubled();
     CHECK(compared == 4 * (1 + 12 * LENGTHS) + 2 * (1 + 6 * LENGTHS));
     printf("layout: %ld checks\n", checks);
     return 0;

@@ -14,7 +14,7 @@
 #define SPARE_IT(object) false
 #include "kind.h"
 
-/* The library compares values nested less deep. Parts that nest so deep are read one by one. */
+/* Parts that nest so deep are read one by one. */
 enum { SHALLOW = 16 };
 
 static const char *const kind_names[] = {
@@ -767,9 +767,8 @@ static PyObject *value_compared(PyObject *self, PyObject *other, int operation) 
     if ((operation != Py_EQ && operation != Py_NE) || (!right && !has_items && has_parts(value))) {
         Py_RETURN_NOTIMPLEMENTED;
     }
-    /* The library visits a part as often as it occurs, and tells numbers of two kinds apart. */
-    if (right && ecow_value_depth(value) < SHALLOW && ecow_value_depth(right) < SHALLOW
-        && ecow_value_equal(value, right)) {
+    /* The library tells numbers of two kinds apart. */
+    if (right && ecow_value_equal(value, right)) {
         return PyBool_FromLong(operation == Py_EQ);
     }
     PyObject *answer = call_helper(state->names.equal, self, other);

@@ -21,7 +21,8 @@ compare() { # FILE, the name of what it has to have
 }
 
 cases() { # FILE
-    sed -n 's/^ *case ECOW_\([A-Z0-9_]*\):$/\1/p' "$1" | sort | compare "$1" names
+    # Those of a value's kinds are no statuses.
+    sed -n '/ECOW_KIND_/!s/^ *case ECOW_\([A-Z0-9_]*\):$/\1/p' "$1" | sort | compare "$1" names
 }
 
 constants() { # FILE, the name of what it has to have, what stands before a name, what stands behind it
