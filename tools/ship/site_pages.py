@@ -17,7 +17,7 @@ from references import c_page, cpp_page, python_page
 READERS = [
     ("Use it from Rattle", ["docs/CALLING", "docs/uses/README", "rattle/index", "docs/COSTS", "docs/COUNTS",
                             "docs/DIFFERENCES", "docs/SCRIPT"]),
-    ("Use it from C", ["c/README", "c/reference"]),
+    ("Use it from C", ["c/README", "c/reference", "c/INSTALL"]),
     ("Use it from C++", ["c/CPP", "c/cpp-reference"]),
     ("Use it from Python", ["python/README", "python/reference"]),
     ("Use it from Rust", ["rust/README"]),
@@ -361,19 +361,20 @@ listed with their paths.
     # ---- Pages of the repository ----
 
     def make_pages(self):
-        for page in PAGES:
-            if os.path.exists(os.path.join(ROOT, page + ".md")):
-                self.pages[page] = self.page(page)
-        tracked = subprocess.run(["git", "-C", ROOT, "ls-files", "docs/uses/*.md"], check=True, capture_output=True, text=True)
-        uses = [path[:-3] for path in tracked.stdout.split() if not path.endswith("README.md")]
-        for page in uses:
-            self.pages[page] = self.page(page)
+        tracked = subprocess.run(["git", "-C", ROOT, "ls-files", "*.md"], check=True, capture_output=True, text=True)
+        here = [path[:-3] for path in tracked.stdout.split() if path != "README.md"]
+        uses = [page for page in here if page.startswith("docs/uses/") and page not in PAGES]
+        for page in here:
+            if page not in PAGES + uses:
+                self.faults.append(f"{page}.md has no reader in tools/ship/site_pages.py")
+            self.pages[page] = self.page(page, here)
         names = "\n".join(page.split("/")[-1] for page in uses)
         self.pages["docs/uses/README"] += f"\n\n```{{toctree}}\n:hidden:\n\n{names}\n```\n"
-        self.pages["index"] = self.first_page()
+        self.pages["index"] = self.first_page(here)
 
-    def page(self, page):
-        """A page of the repository, whose pictures stand in it, and whose first page has another name here."""
+    def page(self, page, here):
+        """A page of the repository, whose pictures stand in it. A page that it names is a link, and the first page has
+        another name here."""
         text = read(page + ".md" if page != "index" else "README.md")
         folder = os.path.dirname(page)
 
@@ -387,10 +388,19 @@ listed with their paths.
         up = os.path.relpath(".", folder or ".")
         if folder:
             text = text.replace(f"]({up}/README.md", f"]({up}/index.md")
-        return text
 
-    def first_page(self):
-        text = self.page("index")
+        def named(match):
+            target = "index" if match.group(1) == "README" else match.group(1)
+            if target not in here + ["index"] or target == page:
+                return match.group()
+            return f"[{match.group()}]({os.path.relpath(target + '.md', folder or '.')})"
+
+        parts = re.split(r"(^```.*?^```$)", text, flags=re.M | re.S)
+        return "".join(part if part.startswith("```") else re.sub(r"(?<!\[)`([\w./-]+)\.md`(?!\])", named, part)
+                       for part in parts)
+
+    def first_page(self, here):
+        text = self.page("index", here)
         rust = " · [Rust](rust/reference.md)" if os.environ.get("ECOW_RUSTDOC") else ""
         reference = ("**Reference.** Rattle: " + ", ".join(f"[{known}](rattle/{crate}/{name}.md)" for crate, name, known in FIRST)
                      + ", [all types](rattle/index.md) · [C](c/reference.md) · [C++](c/cpp-reference.md) · "
