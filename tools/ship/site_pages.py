@@ -17,7 +17,7 @@ from references import c_page, cpp_page, python_page
 READERS = [
     ("Use it from Rattle", ["docs/CALLING", "docs/uses/README", "rattle/index", "docs/COSTS", "docs/COUNTS",
                             "docs/DIFFERENCES", "docs/SCRIPT"]),
-    ("Use it from C", ["c/README", "c/reference", "c/INSTALL"]),
+    ("Use it from C", ["c/README", "c/reference", "The archive <c/INSTALL>"]),
     ("Use it from C++", ["c/CPP", "c/cpp-reference"]),
     ("Use it from Python", ["python/README", "python/reference"]),
     ("Use it from Rust", ["rust/README"]),
@@ -29,9 +29,8 @@ READERS = [
 # The types that people come for, in their order, and the names by which they know them.
 FIRST = [("ecow_list", "EcoVec", "EcoVec"), ("ecow_bytes", "SmallBytes", "EcoBytes"),
          ("ecow_string", "SmallText", "EcoString"), ("ecow_nested", "Value", "Value"),
-         ("ecow_counted", "Counted", "Counted"), ("ecow_store", "NamedValues", "Store")]
-# What the pages are: those of the list above that the repository has.
-PAGES = [page for _, pages in READERS for page in pages]
+         ("ecow_store", "NamedValues", "Store"), ("ecow_counted", "Counted", "Counted")]
+PAGES = [re.sub(r".*<(.*)>", r"\1", page) for _, pages in READERS for page in pages]
 
 
 def written(to, page, text):
@@ -275,6 +274,14 @@ class Site:
         out.append(self.subjects(page, crate, impls, calls, None))
         self.pages[page] = "\n".join(out)
 
+    def about(self, crate, name):
+        """The first paragraphs of the comments of a type and of the other names that it has."""
+        of = next(each for each in self.crates if each.name == crate)
+        kinds = [kind for kind in of.types if aliased(of, kind.name) == name]
+        kinds.sort(key=lambda kind: kind.name != name)
+        paragraphs = [" ".join("\n".join(kind.comment).split("\n\n")[0].split()) for kind in kinds]
+        return " ".join(paragraphs).replace("|", "\\|")
+
     def make_crates(self):
         rows, toctree = [], []
         for crate in self.crates:
@@ -289,14 +296,14 @@ class Site:
             for kind in types:
                 self.type_page(crate, kind, of_type[kind.name])
             self.crate_page(crate, types, others, calls)
-            lib = next((file for file in crate.files if file.path.endswith("/lib.rt")), None)
-            rows.append(f"| [`{crate.name}`]({crate.name}/index.md) | {lib.subject[0] if lib else ''} | {len(crate.calls)} |")
+            # Of a crate that is shown in part its first file is.
+            lib = next((file for file in crate.files if file.path.endswith("/lib.rt")), crate.files[0])
+            rows.append(f"| [`{crate.name}`]({crate.name}/index.md) | {lib.subject[0]} | {len(crate.calls)} |")
             toctree.append(f"{crate.name}/index")
         total = sum(len(crate.calls) for crate in self.crates)
         if self.shown != total:
             self.faults.append(f"{self.shown} calls are on the pages, and {total} are in the contracts")
-        firsts = "\n".join(f"| [`{known}`]({crate}/{name}.md) | {first_sentence(self.library.types[crate, name].comment)} |"
-                           for crate, name, known in FIRST)
+        firsts = "\n".join(f"| [`{known}`]({crate}/{name}.md) | {self.about(crate, name)} |" for crate, name, known in FIRST)
         self.pages["rattle/index"] = f"""# Reference for Rattle
 
 Each call has its comment, its signature and its clauses, by what they speak of: what the call requires, what it gives,
@@ -408,7 +415,7 @@ listed with their paths.
         head, rest = text.split("\n\n", 1)
         trees = []
         for title, pages in READERS:
-            listed = [page for page in pages if page in self.pages]
+            listed = [page for page in pages if re.sub(r".*<(.*)>", r"\1", page) in self.pages]
             if title == "Use it from Rust" and os.environ.get("ECOW_RUSTDOC"):
                 listed.append("rust/reference")
             trees.append(f"```{{toctree}}\n:hidden:\n:caption: {title}\n\n" + "\n".join(listed) + "\n```\n")
