@@ -25,6 +25,17 @@ if grep -q '^import Gumshoe ' "$scripts/furo.js"; then
     sed 1d "$scripts/furo.js" | cat "$scripts/gumshoe-patched.js" - > "$work/furo.js"
     cp "$work/furo.js" "$scripts/furo.js"
 fi
+# The index of the search is in the order in which pages were read, which differs from run to run.
+python3 - bin/site/searchindex.js << 'END'
+import json, sys
+begin, end = "Search.setIndex(", ")"
+with open(sys.argv[1], encoding="utf-8") as file:
+    index = json.loads(file.read()[len(begin):-len(end)])
+for places in index["alltitles"].values():
+    places.sort(key=lambda place: (place[0], place[1] or ""))
+with open(sys.argv[1], "w", encoding="utf-8") as file:
+    file.write(begin + json.dumps(index, sort_keys=True, separators=(",", ":")) + end)
+END
 [ -z "$rustdoc" ] || { mkdir -p bin/site/rust && cp -R "$rustdoc/." bin/site/rust; }
 rm -rf bin/site/.buildinfo bin/site/objects.inv
 echo "bin/site/index.html${rustdoc:+, with the reference for Rust}"
