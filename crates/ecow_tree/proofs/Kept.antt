@@ -1,5 +1,6 @@
 -- What stays of all elements, where those of one block may have been cloned.
 use Rattle.std.proofs.Common.{◌≡◌, ◌<◌, ◌+◌, ℕ, suc, List, [], ◌∷◌, ◌++◌, Some, length, take, drop, slice_get, refl, ap, subst, sym, ◌∙◌, arith, inl, inr, append-nil, append_assoc, length-append}
+use Rattle.std.proofs.lemmas.List.{take-append-drop}
 use Rattle.std.specs.Prelude.{◌⊎◌, Result, OnOk, IfOk}
 use Rattle.std.specs.List.{AllZip, insert, remove, slice_set}
 use Rattle.std.specs.declared.result.Result.TheVariants.{Ok, Err}
@@ -64,6 +65,18 @@ module _ {T : Type 0} (is_clone : T → T → Type 0) where
   -- one element comes behind all
   pub kept_more : (old new : List T) (x : T) → AreKeptIn is_clone old (λ xs. xs ++ x ∷ []) new → length new ≡ length old + 1
   kept_more old new x (k, is, made) = omega (arith, ap length made, length-append k (x ∷ []), long old k is)
+
+  -- one element comes among all
+  pub kept_inserted : (old new : List T) (index : ℕ) (x : T) → AreKeptIn is_clone old (λ xs. insert xs index x) new → length new ≡ length old + 1
+  kept_inserted old new index x (k, is, made) =
+      omega (
+        arith,
+        ap length made,
+        length-append (take index k) (x ∷ drop index k),
+        length-append (take index k) (drop index k),
+        ap length (take-append-drop index k),
+        long old k is,
+      )
 
   -- a leaf has its elements alone
   leaf_is : (own all : List T) (nodes : List (Grown T)) → nodes ≡ [] → own ++ items_of nodes ≡ all → own ≡ all

@@ -84,47 +84,47 @@ module _ {T : Type 0} (is_clone : T → T → Type 0) (nodes seen block lent lef
       (insert_below is_clone nodes index at rest leading x new
       (subst (λ (n : Grown T). AreKeptIn is_clone n.items (λ xs. insert xs rest x) new.items) was_node k))
 
--- the last node of a block that was lent is changed
-module _ {T : Type 0} (nodes block lent left : List (Grown T)) (at : ℕ) (d new : Grown T) (last : at + 1 ≡ length nodes)
+-- the node at a place of a block that was lent is changed
+module _ {T : Type 0} (nodes block lent left : List (Grown T)) (at : ℕ) (d new : Grown T) (bound : at < length nodes)
     (is : left ≡ refill (length block) block (slice_set lent at new)) (same : lent ≡ block) (was : block ≡ nodes) where
   found : slice_get nodes at ≡ Some (get_or lent at d)
-  found = slice_get-get_or nodes at d (omega (arith, last)) ∙ ap Some (ap (λ ns. get_or ns at d) (sym (same ∙ was)))
+  found = slice_get-get_or nodes at d bound ∙ ap Some (ap (λ ns. get_or ns at d) (sym (same ∙ was)))
 
   put : left ≡ slice_set nodes at new
   put = written nodes block lent left at new is same was
 
-  pub last_fit : (h : ℕ) → AllFit h nodes → new.height ≡ (get_or lent at d).height → length (get_or lent at d).items ≤ length new.items → AllFit h left
-  last_fit h all height long =
+  pub placed_fit : (h : ℕ) → AllFit h nodes → new.height ≡ (get_or lent at d).height → length (get_or lent at d).items ≤ length new.items → AllFit h left
+  placed_fit h all height long =
       let was_fit = fit_at h nodes at (get_or lent at d) all found in
       let power : 4 ^ new.height ≡ 4 ^ (get_or lent at d).height = ap (λ n. 4 ^ n) height in
       subst (AllFit h) (sym put)
       (fit_set h nodes at new all
       (record { height = omega (arith, height, was_fit.height); weight = omega (arith, power, was_fit.weight, long) }))
 
-  pub last_length : length left ≡ length nodes
-  last_length = ap length put ∙ length-set nodes at new
+  pub placed_length : length left ≡ length nodes
+  placed_length = ap length put ∙ length-set nodes at new
 
-  pub last_tallest : new.height ≡ (get_or lent at d).height → tallest left ≤ tallest nodes
-  last_tallest height =
+  pub placed_tallest : new.height ≡ (get_or lent at d).height → tallest left ≤ tallest nodes
+  placed_tallest height =
       omega (arith, ap (λ ns. tallest ns) put, height, tallest_set nodes at new, tallest_at nodes at (get_or lent at d) found)
 
-  pub last_kept : new.items ≡ (get_or lent at d).items → items_of left ≡ items_of nodes
-  last_kept kept = ap (λ ns. items_of ns) put ∙ kept_below nodes at (get_or lent at d) new found kept
+  pub placed_kept : new.items ≡ (get_or lent at d).items → items_of left ≡ items_of nodes
+  placed_kept kept = ap (λ ns. items_of ns) put ∙ kept_below nodes at (get_or lent at d) new found kept
 
-  behind_none : items_of (drop (suc at) nodes) ≡ []
-  behind_none = ap (λ ns. items_of ns) (none_behind nodes (suc at) (omega (arith, last)))
+  behind_none : at + 1 ≡ length nodes → items_of (drop (suc at) nodes) ≡ []
+  behind_none last = ap (λ ns. items_of ns) (none_behind nodes (suc at) (omega (arith, last)))
 
-  pub last_pushed : (is_clone : T → T → Type 0) (x : T) → AreKeptIn is_clone (get_or lent at d).items (λ xs. xs ++ x ∷ []) new.items
+  pub last_pushed : (is_clone : T → T → Type 0) (x : T) → at + 1 ≡ length nodes → AreKeptIn is_clone (get_or lent at d).items (λ xs. xs ++ x ∷ []) new.items
       → AreKeptIn is_clone (items_of nodes) (λ xs. xs ++ x ∷ []) (items_of left)
-  last_pushed is_clone x k =
+  last_pushed is_clone x last k =
       subst (λ ns. AreKeptIn is_clone (items_of nodes) (λ xs. xs ++ x ∷ []) (items_of ns)) (sym put)
       (below is_clone nodes at (get_or lent at d) found (λ xs. xs ++ x ∷ []) (λ xs. xs ++ x ∷ []) new
       (λ ks e.
       let before = items_of (take at nodes) in
       let behind = items_of (drop (suc at) nodes) in
-      ap (λ ys. (before ++ (ks ++ ys)) ++ x ∷ []) behind_none
+      ap (λ ys. (before ++ (ks ++ ys)) ++ x ∷ []) (behind_none last)
       ∙ ap (λ ys. (before ++ ys) ++ x ∷ []) (append-nil ks)
       ∙ append_assoc before ks (x ∷ [])
       ∙ ap (λ ys. before ++ ys) (sym (append-nil (ks ++ x ∷ [])))
-      ∙ ap (λ ys. before ++ ((ks ++ x ∷ []) ++ ys)) (sym behind_none))
+      ∙ ap (λ ys. before ++ ((ks ++ x ∷ []) ++ ys)) (sym (behind_none last)))
       k)

@@ -1,10 +1,11 @@
 -- An element below some nodes, and those behind it.
-use Rattle.std.proofs.Common.{◌≡◌, ◌<◌, ◌≤◌, ◌+◌, ◌-◌, ℕ, zero, suc, List, [], ◌∷◌, ◌++◌, Some, length, get_or, take, drop, slice_get, refl, ap, subst, sym, ◌∙◌, arith, append_assoc, append-nil, length-drop}
+use Rattle.std.proofs.Common.{◌≡◌, ◌<◌, ◌≤◌, ◌+◌, ◌-◌, ℕ, zero, suc, List, [], ◌∷◌, ◌++◌, Some, length, get_or, take, drop, slice_get, refl, ap, subst, sym, ◌∙◌, arith, append_assoc, append-nil, length-drop, length-append}
 use Rattle.std.specs.Prelude.{IfSome}
-use Rattle.std.proofs.lemmas.Option.{get_or_from_slice_get}
+use Rattle.std.proofs.lemmas.Option.{get_or_from_slice_get, slice_get-get_or}
+use denote.Param.Weighed.{most, at_most}
 use Rattle.ecow_tree.specs.Grown.{Grown}
 use Rattle.ecow_tree.specs.Nodes.{items_of, tallest, LeadsTo}
-use Rattle.ecow_tree.proofs.Parts.{read, parted, tallest_at}
+use Rattle.ecow_tree.proofs.Parts.{read, parted, tallest_at, taken_within}
 
 pub length_taken : {X : Type 0} (n : ℕ) (xs : List X) → n ≤ length xs → length (take n xs) ≡ n
 length_taken zero xs within = refl
@@ -75,3 +76,46 @@ module _ {T : Type 0} (nodes seen again : List (Grown T)) (index at rest : ℕ) 
       ∙ drop_front l.node.items behind rest l.inside
       ∙ ap (λ ys. ys ++ behind) (ap (λ n. drop rest n.items) (sym node_is) ∙ parts)
       ∙ append_assoc part more behind
+
+  pub is_there : slice_get nodes at ≡ Some d
+  is_there = ap (λ ns. slice_get ns at) (sym old) ∙ l.found ∙ ap Some (sym node_is)
+
+  pub leads_there : LeadsTo nodes index at rest
+  leads_there = subst (λ ns. LeadsTo ns index at rest) old l
+
+  pub part_inside : IfSome (slice_get nodes at) (λ node. rest ≤ length node.items)
+  part_inside = subst (λ o. IfSome o (λ (node : Grown T). rest ≤ length node.items)) (sym (ap (λ ns. slice_get ns at) (sym old) ∙ l.found)) l.inside
+
+  pub part_leaf : (m : ℕ) → at < length nodes → (d.height ≡ 0) × (2 ≤ length d.items) → length (items_of nodes) < m
+      → IfSome (slice_get nodes at) (λ node. (node.height ≡ 0) × (2 ≤ length node.items) × (length node.items < m) × (rest ≤ length node.items))
+  part_leaf m bound (leaf, full) few =
+      subst (λ o. IfSome o (λ (node : Grown T). (node.height ≡ 0) × (2 ≤ length node.items) × (length node.items < m) × (rest ≤ length node.items)))
+      (sym is_there) (
+        leaf,
+        full,
+        omega (arith, few, taken_within nodes at d (is ∙ ap (λ ns. get_or ns at d) same) bound),
+        omega (arith, ap (λ n. length n.items) node_is, l.inside),
+      )
+
+-- the node at a place of a block that is lent
+module _ {T : Type 0} (nodes block lent : List (Grown T)) (at index : ℕ) (d : Grown T) (same : lent ≡ block) (was : block ≡ nodes)
+    (bound : at < length nodes) where
+  lent_there : slice_get nodes at ≡ Some (get_or lent at d)
+  lent_there = slice_get-get_or nodes at d bound ∙ ap Some (ap (λ ns. get_or ns at d) (sym (same ∙ was)))
+
+  pub lent_inside : IfSome (slice_get nodes at) (λ node. index ≤ length node.items) → index ≤ length (get_or lent at d).items
+  lent_inside within = subst (λ o. IfSome o (λ (node : Grown T). index ≤ length node.items)) lent_there within
+
+  pub lent_bounded : (m : ℕ) → length (items_of nodes) < m → length (get_or lent at d).items < m
+  lent_bounded m few =
+      omega (
+        arith,
+        few,
+        ap length (parted nodes at (get_or lent at d) lent_there),
+        length-append (items_of (take at nodes)) ((get_or lent at d).items ++ items_of (drop (suc at) nodes)),
+        length-append (get_or lent at d).items (items_of (drop (suc at) nodes)),
+      )
+
+  -- what a measure gives of it is at most what it gives of all
+  pub lent_most : (μ : Grown T → ℕ) → μ (get_or lent at d) ≤ most μ nodes
+  lent_most μ = omega (arith, at_most μ nodes at d bound, ap (λ ns. μ (get_or ns at d)) (same ∙ was))

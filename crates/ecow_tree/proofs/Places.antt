@@ -1,9 +1,12 @@
 -- Nodes that are put in place of others.
 use Rattle.std.proofs.Common.{◌≡◌, ◌<◌, ◌≤◌, ◌+◌, ◌^◌, ℕ, zero, suc, List, [], ◌∷◌, ◌++◌, Some, length, get_or, slice_get, slice_set, refl, ap, subst, sym, ◌∙◌, arith, length-append}
+use Rattle.std.specs.Prelude.{IfSome}
 use Rattle.std.specs.List.{insert, remove}
 use Rattle.std.proofs.lemmas.Option.{slice_get-get_or, none-some, same_Some}
 use Rattle.ecow_tree.specs.Grown.{Grown}
-use Rattle.ecow_tree.specs.Nodes.{items_of, tallest, AllFit}
+use Rattle.ecow_tree.specs.Nodes.{items_of, tallest, AllFit, LeadsTo}
+use Rattle.ecow_tree.specs.Kept.{AreKeptIn}
+use Rattle.ecow_tree.proofs.Kept.{insert_pair}
 use Rattle.ecow_tree.proofs.Fits.{fit_at, fit_set, fit_insert, fit_remove}
 use Rattle.ecow_tree.proofs.Parts.{halved, tallest_at, tallest_set, tallest_insert, pair_joined, tallest_remove}
 
@@ -99,3 +102,41 @@ read_place nodes seen at d old is within = slice_get-get_or nodes at d within �
 
 pub at_most : (a b : ℕ) → a ≡ b → a ≤ b
 at_most a b same = omega arith
+
+-- what a block holds in which one node was taken out and two were put in
+pub placed_two : {T : Type 0} (nodes block left : List (Grown T)) (at : ℕ) (first second : Grown T)
+    → left ≡ insert (insert (remove block at) at second) at first → block ≡ nodes → at < length nodes
+    → left ≡ insert (slice_set nodes at first) (at + 1) second
+placed_two nodes block left at first second is was bound =
+    let next : suc at ≡ at + 1 = omega arith in
+    is ∙ ap (λ ns. insert (insert (remove ns at) at second) at first) was ∙ two_for_one nodes at first second bound
+    ∙ ap (λ i. insert (slice_set nodes at first) i second) next
+
+-- or the same node again
+pub placed_again : {T : Type 0} (nodes block left : List (Grown T)) (at : ℕ) (d again : Grown T)
+    → left ≡ insert (remove block at) at again → block ≡ nodes → at < length nodes → slice_get nodes at ≡ Some d → again ≡ d → left ≡ nodes
+placed_again nodes block left at d again is was bound found same =
+    is ∙ ap (λ ns. insert (remove ns at) at again) was ∙ one_for_one nodes at again bound
+    ∙ ap (λ n. slice_set nodes at n) same ∙ put_back nodes at d found
+
+pub parting_kept : {T : Type 0} (is_clone : T → T → Type 0) (nodes left : List (Grown T)) (at index all : ℕ) (x : T) (d first second : Grown T)
+    → LeadsTo nodes all at index → slice_get nodes at ≡ Some d → left ≡ insert (slice_set nodes at first) (at + 1) second
+    → AreKeptIn is_clone d.items (λ xs. insert xs index x) (first.items ++ second.items)
+    → AreKeptIn is_clone (items_of nodes) (λ xs. insert xs all x) (items_of left)
+parting_kept {T} is_clone nodes left at index all x d first second l found put k =
+    let next : at + 1 ≡ suc at = omega arith in
+    let same : d ≡ l.node = same_Some d l.node (sym found ∙ l.found) in
+    subst (λ ns. AreKeptIn is_clone (items_of nodes) (λ xs. insert xs all x) (items_of ns))
+    (sym (put ∙ ap (λ i. insert (slice_set nodes at first) i second) next))
+    (insert_pair is_clone nodes all at index l x first second
+    (subst (λ (n : Grown T). AreKeptIn is_clone n.items (λ xs. insert xs index x) (first.items ++ second.items)) same k))
+
+pub leaf_height : {T : Type 0} (nodes : List (Grown T)) (at : ℕ) (d : Grown T) (least most index : ℕ) → slice_get nodes at ≡ Some d
+    → IfSome (slice_get nodes at)
+    (λ node. (node.height ≡ 0) × (least ≤ length node.items) × (length node.items < most) × (index ≤ length node.items))
+    → d.height ≡ 0
+leaf_height {T} nodes at d least most index found leaf =
+    let there = subst
+    (λ o. IfSome o (λ (node : Grown T). (node.height ≡ 0) × (least ≤ length node.items) × (length node.items < most) × (index ≤ length node.items)))
+    found leaf in
+    there.0

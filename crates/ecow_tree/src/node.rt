@@ -7,6 +7,8 @@ use ecow_list::EcoVec;
 use std::alloc::{AllocError, Global};
 use std::marker::Model;
 
+mod insert;
+mod leaf;
 mod part;
 mod push;
 mod seek;

@@ -1,5 +1,5 @@
 //! `EcoTree`: a list in a tree of shared blocks.
-ghost use Rattle.std.specs.Prelude.{◌≡◌, ◌+◌, ◌-◌, ◌<◌, ◌≤◌, ◌==◌, ◌*◌, ◌^◌, ◌∷◌, ◌++◌, [], List, length, drop, Some, slice_get, slice_set, OnOk, MatchOption};
+ghost use Rattle.std.specs.Prelude.{◌≡◌, ◌+◌, ◌-◌, ◌<◌, ◌≤◌, ◌==◌, ◌*◌, ◌^◌, ◌∷◌, ◌++◌, [], List, length, drop, Some, slice_get, slice_set, insert, OnOk, MatchOption};
 ghost use Rattle.ecow_list.specs.Refusals.{RejectsForMemory, RejectsPast};
 ghost use Rattle.ecow_tree.specs.Kept.{Changes};
 
@@ -164,6 +164,46 @@ impl<T: Clone> EcoTree<T> {
         ensures refused { RejectsForMemory value self.old result self.new }
     {
         self.root.set(index, value)
+    }
+
+    /// Inserts `value` at `index`, before the element that stands there. `index` is at most the
+    /// length. Shared blocks on the way are copied first, and a full one is parted in two.
+    ///
+    /// Takes time logarithmic in the length. A shared block of elements is cloned.
+    ///
+    /// # Errors
+    ///
+    /// `Capacity` if the list has 2^63 - 1 elements; `Memory` if there is no memory for a block, or
+    /// the clone of an element is refused. The list is unchanged, and `value` comes back in the
+    /// error.
+    #[tactic(auto, using(crate::proofs::Kept::changes))]
+    pub fn insert(&mut self, index: usize, value: T) -> Result<(), Rejected<T>>
+        requires { index ≤ length self.old }
+        ensures change { Changes T.is_clone self.old
+            (λ xs. insert xs index value)
+            result self.new }
+        ensures len { OnOk result (length self.new ≡ length self.old + 1) }
+        ensures refused { RejectsPast (length self.old + 1) value self.old result self.new }
+    {
+        if self.root.len() >= MAX_LEN {
+            return Err(Rejected {
+                error: EcoError::Capacity,
+                value,
+            });
+        }
+        if self.root.lift().is_err() {
+            return Err(Rejected {
+                error: EcoError::Memory,
+                value,
+            });
+        }
+        match self.root.insert(index, value) {
+            Ok(()) => Ok(()),
+            Err(rejected) => Err(Rejected {
+                error: EcoError::Memory,
+                value: rejected.value,
+            }),
+        }
     }
 
     /// Appends `value`. Shared blocks on the way to the end are copied first.

@@ -2,7 +2,7 @@ use Rattle.std.proofs.Common.{rules, arith, length, ap}
 use Rattle.ecow_tree.specs.Nodes.{items_of}
 use Rattle.ecow_tree.proofs.Inside.{leaf_nodes, leaf_len, leaf_again, inner_len, inner_again, all_len}
 use Rattle.ecow_tree.proofs.Kept.{in_leaf, in_nodes, kept_more, same}
-use Rattle.ecow_tree.proofs.Lent.{last_fit, last_length, last_tallest, last_pushed}
+use Rattle.ecow_tree.proofs.Lent.{placed_fit, placed_length, placed_tallest, last_pushed}
 use Rattle.ecow_tree.proofs.node.+push.Goals as goal
 
 pub Node::push-invariant_of-self-then-self-eq0 : goal.Node::push-invariant_of-self-then-self-eq0
@@ -36,24 +36,24 @@ Node::push-returns-clause-kept g t c =
 
 pub push::push_last-returns-clause-kept : goal.push::push_last-returns-clause-kept
 push::push_last-returns-clause-kept g t c =
-    last_pushed c.args.nodes.now _ _ _ c.args.last c.index-as_mut_slice-last.result c.push.new.self c.requires.last
+    last_pushed c.args.nodes.now _ _ _ c.args.last c.index-as_mut_slice-last.result c.push.new.self (omega (arith, c.requires.last))
     (c.own_mut.follows.holds _ (search rules)) c.as_mut_slice.ensures.value (c.in-Ok.ensures.value (λ x y same. same))
-    g.T.Clone.is_clone c.args.value c.in_ok-push.ensures.kept
+    g.T.Clone.is_clone c.args.value c.requires.last c.in_ok-push.ensures.kept
 
 pub push::push_last-returns-clause-tallest : goal.push::push_last-returns-clause-tallest
 push::push_last-returns-clause-tallest g t c =
-    last_tallest c.args.nodes.now _ _ _ c.args.last c.index-as_mut_slice-last.result c.push.new.self c.requires.last
+    placed_tallest c.args.nodes.now _ _ _ c.args.last c.index-as_mut_slice-last.result c.push.new.self (omega (arith, c.requires.last))
     (c.own_mut.follows.holds _ (search rules)) c.as_mut_slice.ensures.value (c.in-Ok.ensures.value (λ x y same. same)) c.push.ensures.height
 
 pub push::push_last-returns-clause-fit : goal.push::push_last-returns-clause-fit
 push::push_last-returns-clause-fit g t c h all =
-    last_fit c.args.nodes.now _ _ _ c.args.last c.index-as_mut_slice-last.result c.push.new.self c.requires.last
+    placed_fit c.args.nodes.now _ _ _ c.args.last c.index-as_mut_slice-last.result c.push.new.self (omega (arith, c.requires.last))
     (c.own_mut.follows.holds _ (search rules)) c.as_mut_slice.ensures.value (c.in-Ok.ensures.value (λ x y same. same)) h all c.push.ensures.height
     (omega (arith, kept_more g.T.Clone.is_clone _ _ _ c.in_ok-push.ensures.kept))
 
 pub push::push_last-returns-clause-some : goal.push::push_last-returns-clause-some
 push::push_last-returns-clause-some g t c =
-    last_length c.args.nodes.now _ _ _ c.args.last c.index-as_mut_slice-last.result c.push.new.self c.requires.last
+    placed_length c.args.nodes.now _ _ _ c.args.last c.index-as_mut_slice-last.result c.push.new.self (omega (arith, c.requires.last))
     (c.own_mut.follows.holds _ (search rules)) c.as_mut_slice.ensures.value (c.in-Ok.ensures.value (λ x y same. same))
 
 pub push::push_below-returns-then-is_full_leaf-clause-kept : goal.push::push_below-returns-then-is_full_leaf-clause-kept
