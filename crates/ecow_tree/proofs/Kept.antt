@@ -1,0 +1,184 @@
+-- What stays of all elements, where those of one block may have been cloned.
+use Rattle.std.proofs.Common.{◌≡◌, ◌<◌, ◌+◌, ℕ, suc, List, [], ◌∷◌, ◌++◌, Some, length, take, drop, slice_get, refl, ap, subst, sym, ◌∙◌, arith, inl, inr, append-nil, append_assoc, length-append}
+use Rattle.std.proofs.lemmas.List.{take-append-drop}
+use Rattle.std.specs.Prelude.{◌⊎◌, Result, OnOk, IfOk}
+use Rattle.std.specs.List.{AllZip, insert, remove, slice_set}
+use Rattle.std.specs.declared.result.Result.TheVariants.{Ok, Err}
+use Rattle.ecow_base.specs.Clones.{ClonesAreEqual}
+use Rattle.ecow_list.specs.Vectors.{IsKept, IsKeptIn, SomeKept as SomeKeptInList}
+use Rattle.ecow_tree.specs.Grown.{Grown}
+use Rattle.ecow_tree.specs.Nodes.{items_of, LeadsTo}
+use Rattle.ecow_tree.specs.Kept.{AreKept, AreKeptIn, SomeKept, Changes, ChangesBy}
+use Rattle.ecow_tree.proofs.Parts.{parted, parted_set, parted_pair, set_middle, insert_middle, remove_middle, get_behind, get_front}
+
+module _ {T : Type 0} (is_clone : T → T → Type 0) where
+  pub same : (xs : List T) → AreKept is_clone xs xs
+  same [] = tt
+  same (x ∷ xs) = (inl refl, same xs)
+
+  pub joined : (xs ys ks bs : List T) → AreKept is_clone xs ks → AreKept is_clone ys bs → AreKept is_clone (xs ++ ys) (ks ++ bs)
+  joined [] ys [] bs l r = r
+  joined [] ys (a ∷ ks) bs l r = absurd l
+  joined (x ∷ xs) ys [] bs l r = absurd l
+  joined (x ∷ xs) ys (a ∷ ks) bs l r = (l.0, joined xs ys ks bs l.1 r)
+
+  pub long : (xs ks : List T) → AreKept is_clone xs ks → length ks ≡ length xs
+  long [] [] each = refl
+  long [] (a ∷ ks) each = absurd each
+  long (x ∷ xs) [] each = absurd each
+  long (x ∷ xs) (a ∷ ks) each = ap (λ n. suc n) (long xs ks each.1)
+
+  each_clone : (xs ks : List T) → AllZip is_clone xs ks → AreKept is_clone xs ks
+  each_clone [] [] each = tt
+  each_clone [] (a ∷ ks) each = absurd each
+  each_clone (x ∷ xs) [] each = absurd each
+  each_clone (x ∷ xs) (a ∷ ks) each = (inr each.0, each_clone xs ks each.1)
+
+  -- what a vector keeps, a tree keeps
+  pub from_vec : (xs ks : List T) → IsKept is_clone xs ks → AreKept is_clone xs ks
+  from_vec xs ks (inl is) = subst (AreKept is_clone xs) (sym is) (same xs)
+  from_vec xs ks (inr each) = each_clone xs ks each
+
+  is_same : ClonesAreEqual is_clone → (x y : T) → (y ≡ x) ⊎ is_clone x y → y ≡ x
+  is_same equal x y (inl is) = is
+  is_same equal x y (inr clone) = equal x y clone
+
+  pub unchanged : ClonesAreEqual is_clone → (xs ks : List T) → AreKept is_clone xs ks → ks ≡ xs
+  unchanged equal [] [] each = refl
+  unchanged equal [] (a ∷ ks) each = absurd each
+  unchanged equal (x ∷ xs) [] each = absurd each
+  unchanged equal (x ∷ xs) (a ∷ ks) each =
+      let head : a ≡ x = is_same equal x a each.0 in
+      let tail : ks ≡ xs = unchanged equal xs ks each.1 in cc
+
+  -- the clauses of a public call
+  pub changes : {R E : Type 0} (old new : List T) (change : List T → List T) (result : Result R E)
+      → OnOk result (AreKeptIn is_clone old change new) → Changes is_clone old change result new
+  changes old new change (Ok r) (k, is, made) = record { ok = λ equal. made ∙ ap change (unchanged equal old k is); kept = (k, is, made) }
+  changes old new change (Err e) k = record { ok = λ equal. tt; kept = tt }
+
+  pub changes_by : {R E : Type 0} (old new : List T) (step : List T → R → List T → Type 0) (result : Result R E)
+      → IfOk result (λ r. SomeKept is_clone old (λ xs. step xs r new)) → ChangesBy is_clone old step result new
+  changes_by old new step (Ok r) (k, is, made) = record { ok = λ equal. subst (λ xs. step xs r new) (unchanged equal old k is) made; kept = (k, is, made) }
+  changes_by old new step (Err e) k = record { ok = λ equal. tt; kept = tt }
+
+  -- one element comes behind all
+  pub kept_more : (old new : List T) (x : T) → AreKeptIn is_clone old (λ xs. xs ++ x ∷ []) new → length new ≡ length old + 1
+  kept_more old new x (k, is, made) = omega (arith, ap length made, length-append k (x ∷ []), long old k is)
+
+  -- one element comes among all
+  pub kept_inserted : (old new : List T) (index : ℕ) (x : T) → AreKeptIn is_clone old (λ xs. insert xs index x) new → length new ≡ length old + 1
+  kept_inserted old new index x (k, is, made) =
+      omega (
+        arith,
+        ap length made,
+        length-append (take index k) (x ∷ drop index k),
+        length-append (take index k) (drop index k),
+        ap length (take-append-drop index k),
+        long old k is,
+      )
+
+  -- a leaf has its elements alone
+  leaf_is : (own all : List T) (nodes : List (Grown T)) → nodes ≡ [] → own ++ items_of nodes ≡ all → own ≡ all
+  leaf_is own all nodes none whole = sym (append-nil own) ∙ ap (λ ns. own ++ items_of ns) (sym none) ∙ whole
+
+  pub in_leaf : (own new all : List T) (nodes : List (Grown T)) (change : List T → List T) → nodes ≡ [] → own ++ items_of nodes ≡ all
+      → IsKeptIn is_clone own change new → AreKeptIn is_clone all change (new ++ items_of nodes)
+  in_leaf own new all nodes change none whole (k, is, made) = (
+    k,
+    subst (λ xs. AreKept is_clone xs k) (leaf_is own all nodes none whole) (from_vec own k is),
+    ap (λ ns. new ++ items_of ns) none ∙ append-nil new ∙ made,
+  )
+
+  -- the same of an element that comes out
+  pub out_of_leaf : (own new all : List T) (nodes : List (Grown T)) (index : ℕ) (x : T) → nodes ≡ [] → own ++ items_of nodes ≡ all
+      → SomeKeptInList is_clone own (λ xs. (slice_get xs index ≡ Some x) × (new ≡ remove xs index))
+      → SomeKept is_clone all (λ xs. (slice_get xs index ≡ Some x) × (new ++ items_of nodes ≡ remove xs index))
+  out_of_leaf own new all nodes index x none whole (k, is, there) = (
+    k,
+    subst (λ xs. AreKept is_clone xs k) (leaf_is own all nodes none whole) (from_vec own k is),
+    (there.0, ap (λ ns. new ++ items_of ns) none ∙ append-nil new ∙ there.1),
+  )
+
+  -- another node has those of the nodes below alone
+  pub in_nodes : (own behind all new : List T) (change : List T → List T) → own ≡ [] → own ++ behind ≡ all
+      → AreKeptIn is_clone behind change new → AreKeptIn is_clone all change (own ++ new)
+  in_nodes own behind all new change none whole k =
+      subst (λ n. AreKeptIn is_clone all change n) (ap (λ o. o ++ new) (sym none))
+      (subst (λ b. AreKeptIn is_clone b change new) (ap (λ o. o ++ behind) (sym none) ∙ whole) k)
+
+  -- a change of the elements of one node is one of all elements
+  module _ (nodes : List (Grown T)) (at : ℕ) (node : Grown T) (found : slice_get nodes at ≡ Some node) where
+    abbrev before : List T
+    before = items_of (take at nodes)
+
+    abbrev behind : List T
+    behind = items_of (drop (suc at) nodes)
+
+    all_kept : (k : List T) → AreKept is_clone node.items k → AreKept is_clone (items_of nodes) (before ++ (k ++ behind))
+    all_kept k each =
+        subst (λ ys. AreKept is_clone ys (before ++ (k ++ behind))) (sym (parted nodes at node found))
+        (joined before (node.items ++ behind) before (k ++ behind) (same before) (joined node.items behind k behind each (same behind)))
+
+    around : (f g : List T → List T) (part : List T)
+        → ((k : List T) → length k ≡ length node.items → g (before ++ (k ++ behind)) ≡ before ++ (f k ++ behind))
+        → AreKeptIn is_clone node.items f part → AreKeptIn is_clone (items_of nodes) g (before ++ (part ++ behind))
+    around f g part commutes (k, is, made) = (
+      before ++ (k ++ behind),
+      all_kept k is,
+      ap (λ ys. before ++ (ys ++ behind)) made ∙ sym (commutes k (long node.items k is)),
+    )
+
+    pub below : (f g : List T → List T) (new : Grown T)
+        → ((k : List T) → length k ≡ length node.items → g (before ++ (k ++ behind)) ≡ before ++ (f k ++ behind))
+        → AreKeptIn is_clone node.items f new.items → AreKeptIn is_clone (items_of nodes) g (items_of (slice_set nodes at new))
+    below f g new commutes k =
+        subst (AreKeptIn is_clone (items_of nodes) g) (sym (parted_set nodes at node new found)) (around f g new.items commutes k)
+
+  -- the same, where an index leads to the node
+  module _ (nodes : List (Grown T)) (index at rest : ℕ) (l : LeadsTo nodes index at rest) where
+    pub set_below : (x : T) (new : Grown T) → rest < length l.node.items
+        → AreKeptIn is_clone l.node.items (λ xs. slice_set xs rest x) new.items
+        → AreKeptIn is_clone (items_of nodes) (λ xs. slice_set xs index x) (items_of (slice_set nodes at new))
+    set_below x new within k =
+        below nodes at l.node l.found (λ xs. slice_set xs rest x) (λ xs. slice_set xs index x) new
+        (λ ks e. set_middle (items_of (take at nodes)) ks (items_of (drop (suc at) nodes)) index rest l.before x (omega (arith, within, e))) k
+
+    inserts : (x : T) (k : List T) → length k ≡ length l.node.items
+        → insert (items_of (take at nodes) ++ (k ++ items_of (drop (suc at) nodes))) index x
+        ≡ items_of (take at nodes) ++ (insert k rest x ++ items_of (drop (suc at) nodes))
+    inserts x k e = insert_middle (items_of (take at nodes)) k (items_of (drop (suc at) nodes)) index rest l.before x (omega (arith, l.inside, e))
+
+    pub insert_below : (x : T) (new : Grown T)
+        → AreKeptIn is_clone l.node.items (λ xs. insert xs rest x) new.items
+        → AreKeptIn is_clone (items_of nodes) (λ xs. insert xs index x) (items_of (slice_set nodes at new))
+    insert_below x new k =
+        below nodes at l.node l.found (λ xs. insert xs rest x) (λ xs. insert xs index x) new (inserts x) k
+
+    -- two nodes come in place of the one
+    pub insert_pair : (x : T) (first second : Grown T)
+        → AreKeptIn is_clone l.node.items (λ xs. insert xs rest x) (first.items ++ second.items)
+        → AreKeptIn is_clone (items_of nodes) (λ xs. insert xs index x) (items_of (insert (slice_set nodes at first) (suc at) second))
+    insert_pair x first second k =
+        let before = items_of (take at nodes) in
+        let behind = items_of (drop (suc at) nodes) in
+        let is : before ++ ((first.items ++ second.items) ++ behind) ≡ items_of (insert (slice_set nodes at first) (suc at) second) =
+        ap (λ ys. before ++ ys) (append_assoc first.items second.items behind) ∙ sym (parted_pair nodes at l.node first second l.found) in
+        subst (AreKeptIn is_clone (items_of nodes) (λ xs. insert xs index x)) is
+        (around nodes at l.node l.found (λ xs. insert xs rest x) (λ xs. insert xs index x) (first.items ++ second.items) (inserts x) k)
+
+    pub remove_below : (x : T) (part : List T) → rest < length l.node.items
+        → SomeKept is_clone l.node.items (λ xs. (slice_get xs rest ≡ Some x) × (part ≡ remove xs rest))
+        → SomeKept is_clone (items_of nodes)
+        (λ xs. (slice_get xs index ≡ Some x) × (items_of (take at nodes) ++ (part ++ items_of (drop (suc at) nodes)) ≡ remove xs index))
+    remove_below x part within (k, is, there) =
+        let before = items_of (take at nodes) in
+        let behind = items_of (drop (suc at) nodes) in (
+          before ++ (k ++ behind),
+          all_kept nodes at l.node l.found k is,
+          (
+            get_behind before (k ++ behind) index rest x l.before (get_front k behind rest x there.0),
+            ap (λ ys. before ++ (ys ++ behind)) there.1
+                ∙ sym (remove_middle before k behind index rest l.before (omega (arith, within, long l.node.items k is))),
+          ),
+        )

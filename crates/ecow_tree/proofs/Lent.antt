@@ -1,0 +1,130 @@
+-- One node of a block that was lent is changed. `seen` is what was searched, and `left` what stays.
+use Rattle.std.proofs.Common.{◌≡◌, ◌<◌, ◌≤◌, ◌+◌, ◌^◌, ℕ, suc, List, [], ◌∷◌, ◌++◌, append-nil, append_assoc, Some, length, take, drop, slice_get, slice_set, get_or, ap, subst, sym, ◌∙◌, arith, length-append}
+use lib.ListN.{length-set}
+use Rattle.std.specs.Prelude.{IfSome}
+use Rattle.std.specs.List.{insert, refill}
+use Rattle.std.proofs.lemmas.Option.{get_or_from_slice_get, slice_get-get_or}
+use Rattle.ecow_tree.specs.Grown.{Grown}
+use Rattle.ecow_tree.specs.Kept.{AreKeptIn}
+use Rattle.ecow_tree.specs.Nodes.{items_of, tallest, LeadsTo, AllFit}
+use Rattle.ecow_tree.proofs.Fits.{fit_at, fit_set}
+use Rattle.ecow_tree.proofs.Kept.{below, set_below, insert_below}
+use Rattle.ecow_tree.proofs.More.{none_behind}
+use Rattle.ecow_tree.proofs.Parts.{parted, parted_set, written, kept_below, tallest_at, tallest_set}
+
+module _ {T : Type 0} (nodes seen block lent left : List (Grown T)) (index at rest : ℕ) (d new : Grown T) (old : seen ≡ nodes)
+    (leads : LeadsTo seen index at rest) (is : left ≡ refill (length block) block (slice_set lent at new)) (same : lent ≡ block)
+    (was : block ≡ nodes) where
+  lead : LeadsTo nodes index at rest
+  lead = subst (λ ns. LeadsTo ns index at rest) old leads
+
+  became : left ≡ slice_set nodes at new
+  became = written nodes block lent left at new is same was
+
+  node_was : get_or lent at d ≡ lead.node
+  node_was = ap (λ ns. get_or ns at d) (same ∙ was) ∙ get_or_from_slice_get nodes at lead.node d lead.found
+
+  pub lent_fit : (h : ℕ) → AllFit h nodes → new.height ≡ (get_or lent at d).height → length (get_or lent at d).items ≤ length new.items → AllFit h left
+  lent_fit h all height long =
+      let was_fit = fit_at h nodes at lead.node all lead.found in
+      let hs : new.height ≡ lead.node.height = height ∙ ap (λ n. n.height) node_was in
+      let ls = ap (λ n. length n.items) node_was in
+      let power : 4 ^ new.height ≡ 4 ^ lead.node.height = ap (λ n. 4 ^ n) hs in
+      subst (AllFit h) (sym became)
+      (fit_set h nodes at new all
+      (record { height = omega (arith, hs, was_fit.height); weight = omega (arith, power, was_fit.weight, ls, long) }))
+
+  pub lent_same_length : length new.items ≡ length (get_or lent at d).items → length (items_of left) ≡ length (items_of nodes)
+  lent_same_length same_length =
+      let before = items_of (take at nodes) in
+      let behind = items_of (drop (suc at) nodes) in
+      let ls = ap (λ n. length n.items) node_was in
+      omega (
+        arith,
+        ap (λ ns. length (items_of ns)) became,
+        ap length (parted_set nodes at lead.node new lead.found),
+        ap length (parted nodes at lead.node lead.found),
+        length-append before (new.items ++ behind),
+        length-append before (lead.node.items ++ behind),
+        length-append new.items behind,
+        length-append lead.node.items behind,
+        ls,
+        same_length,
+      )
+
+module _ {T : Type 0} (is_clone : T → T → Type 0) (nodes seen block lent left : List (Grown T)) (index at rest : ℕ) (d new : Grown T) (old : seen ≡ nodes)
+    (leads : LeadsTo seen index at rest) (is : left ≡ refill (length block) block (slice_set lent at new)) (same : lent ≡ block)
+    (was : block ≡ nodes) where
+  leading : LeadsTo nodes index at rest
+  leading = subst (λ ns. LeadsTo ns index at rest) old leads
+
+  became_so : left ≡ slice_set nodes at new
+  became_so = written nodes block lent left at new is same was
+
+  was_node : get_or lent at d ≡ leading.node
+  was_node = ap (λ ns. get_or ns at d) (same ∙ was) ∙ get_or_from_slice_get nodes at leading.node d leading.found
+
+  inside : IfSome (slice_get seen at) (λ node. rest < length node.items) → rest < length leading.node.items
+  inside within =
+      subst (λ o. IfSome o (λ node. rest < length node.items)) leading.found
+      (subst (λ ns. IfSome (slice_get ns at) (λ node. rest < length node.items)) old within)
+
+  pub lent_set : (x : T) → IfSome (slice_get seen at) (λ node. rest < length node.items)
+      → AreKeptIn is_clone (get_or lent at d).items (λ xs. slice_set xs rest x) new.items
+      → AreKeptIn is_clone (items_of nodes) (λ xs. slice_set xs index x) (items_of left)
+  lent_set x within k =
+      subst (λ ns. AreKeptIn is_clone (items_of nodes) (λ xs. slice_set xs index x) (items_of ns)) (sym became_so)
+      (set_below is_clone nodes index at rest leading x new (inside within)
+      (subst (λ (n : Grown T). AreKeptIn is_clone n.items (λ xs. slice_set xs rest x) new.items) was_node k))
+
+  pub lent_insert : (x : T) → AreKeptIn is_clone (get_or lent at d).items (λ xs. insert xs rest x) new.items
+      → AreKeptIn is_clone (items_of nodes) (λ xs. insert xs index x) (items_of left)
+  lent_insert x k =
+      subst (λ ns. AreKeptIn is_clone (items_of nodes) (λ xs. insert xs index x) (items_of ns)) (sym became_so)
+      (insert_below is_clone nodes index at rest leading x new
+      (subst (λ (n : Grown T). AreKeptIn is_clone n.items (λ xs. insert xs rest x) new.items) was_node k))
+
+-- the node at a place of a block that was lent is changed
+module _ {T : Type 0} (nodes block lent left : List (Grown T)) (at : ℕ) (d new : Grown T) (bound : at < length nodes)
+    (is : left ≡ refill (length block) block (slice_set lent at new)) (same : lent ≡ block) (was : block ≡ nodes) where
+  found : slice_get nodes at ≡ Some (get_or lent at d)
+  found = slice_get-get_or nodes at d bound ∙ ap Some (ap (λ ns. get_or ns at d) (sym (same ∙ was)))
+
+  put : left ≡ slice_set nodes at new
+  put = written nodes block lent left at new is same was
+
+  pub placed_fit : (h : ℕ) → AllFit h nodes → new.height ≡ (get_or lent at d).height → length (get_or lent at d).items ≤ length new.items → AllFit h left
+  placed_fit h all height long =
+      let was_fit = fit_at h nodes at (get_or lent at d) all found in
+      let power : 4 ^ new.height ≡ 4 ^ (get_or lent at d).height = ap (λ n. 4 ^ n) height in
+      subst (AllFit h) (sym put)
+      (fit_set h nodes at new all
+      (record { height = omega (arith, height, was_fit.height); weight = omega (arith, power, was_fit.weight, long) }))
+
+  pub placed_length : length left ≡ length nodes
+  placed_length = ap length put ∙ length-set nodes at new
+
+  pub placed_tallest : new.height ≡ (get_or lent at d).height → tallest left ≤ tallest nodes
+  placed_tallest height =
+      omega (arith, ap (λ ns. tallest ns) put, height, tallest_set nodes at new, tallest_at nodes at (get_or lent at d) found)
+
+  pub placed_kept : new.items ≡ (get_or lent at d).items → items_of left ≡ items_of nodes
+  placed_kept kept = ap (λ ns. items_of ns) put ∙ kept_below nodes at (get_or lent at d) new found kept
+
+  behind_none : at + 1 ≡ length nodes → items_of (drop (suc at) nodes) ≡ []
+  behind_none last = ap (λ ns. items_of ns) (none_behind nodes (suc at) (omega (arith, last)))
+
+  pub last_pushed : (is_clone : T → T → Type 0) (x : T) → at + 1 ≡ length nodes → AreKeptIn is_clone (get_or lent at d).items (λ xs. xs ++ x ∷ []) new.items
+      → AreKeptIn is_clone (items_of nodes) (λ xs. xs ++ x ∷ []) (items_of left)
+  last_pushed is_clone x last k =
+      subst (λ ns. AreKeptIn is_clone (items_of nodes) (λ xs. xs ++ x ∷ []) (items_of ns)) (sym put)
+      (below is_clone nodes at (get_or lent at d) found (λ xs. xs ++ x ∷ []) (λ xs. xs ++ x ∷ []) new
+      (λ ks e.
+      let before = items_of (take at nodes) in
+      let behind = items_of (drop (suc at) nodes) in
+      ap (λ ys. (before ++ (ks ++ ys)) ++ x ∷ []) (behind_none last)
+      ∙ ap (λ ys. (before ++ ys) ++ x ∷ []) (append-nil ks)
+      ∙ append_assoc before ks (x ∷ [])
+      ∙ ap (λ ys. before ++ ys) (sym (append-nil (ks ++ x ∷ [])))
+      ∙ ap (λ ys. before ++ ((ks ++ x ∷ []) ++ ys)) (sym (behind_none last)))
+      k)

@@ -1,0 +1,9 @@
+pub mod Fits
+pub mod Inside
+pub mod Kept
+pub mod Lent
+pub mod Moved
+pub mod More
+pub mod Parts
+pub mod Places
+pub mod Halves

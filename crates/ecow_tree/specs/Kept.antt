@@ -1,0 +1,32 @@
+-- What a change of a tree leaves of its elements: those in blocks that were copied are clones.
+use Rattle.std.specs.Prelude.{◌≡◌, ◌⊎◌, List, Result, IfOk, OnOk}
+use Rattle.std.specs.List.{AllZip}
+use Rattle.ecow_base.specs.Clones.{ClonesAreEqual}
+
+module _ {T : Type 0} (is_clone : T → T → Type 0) where
+  -- each element is the old one, or a clone of it
+  abbrev pub AreKept : List T → List T → Type 0
+  AreKept old kept = AllZip (λ x y. (y ≡ x) ⊎ is_clone x y) old kept
+
+  -- P holds of the old elements, each of them or a clone of it
+  abbrev pub SomeKept : List T → (List T → Type 0) → Type 0
+  SomeKept old P = (kept : List T) × AreKept old kept × P kept
+
+  -- new is what `change` makes of the old elements, each of them or a clone of it
+  abbrev pub AreKeptIn : List T → (List T → List T) → List T → Type 0
+  AreKeptIn old change new = SomeKept old (λ kept. new ≡ change kept)
+
+-- what a call that makes `change` of a tree's old elements leaves
+pub record Changes {T R E : Type 0} (is_clone : T → T → Type 0) (old : List T)
+    (change : List T → List T) (result : Result R E) (new : List T) : Type 0 where
+  -- where clones equal their sources, new is what `change` makes of old
+  pub ok : ClonesAreEqual is_clone → OnOk result (new ≡ change old)
+  -- for any clones, new is what it makes of the old elements, each of them or a clone of it
+  pub kept : OnOk result (AreKeptIn is_clone old change new)
+
+-- the same of a call that has an answer: `step xs r ys` says that it answers r at the elements xs,
+-- and leaves ys
+pub record ChangesBy {T R E : Type 0} (is_clone : T → T → Type 0) (old : List T)
+    (step : List T → R → List T → Type 0) (result : Result R E) (new : List T) : Type 0 where
+  pub ok : ClonesAreEqual is_clone → IfOk result (λ r. step old r new)
+  pub kept : IfOk result (λ r. SomeKept is_clone old (λ xs. step xs r new))

@@ -1,0 +1,9 @@
+//! A list in a tree of shared blocks. A clone takes no memory, and a change of a shared list copies
+//! the blocks on its way from the root alone.
+#![tactic(auto)]
+
+mod node;
+mod tree;
+
+pub use node::Node;
+pub use tree::EcoTree;
