@@ -4,8 +4,8 @@
 set -eu
 cd "$(dirname "$0")/../.."
 export LC_ALL=C
-# The crates of the stores and of nested values, the script and the program above, and the library for C.
-for crate in $(awk -F: -v tops="ecow_nested ecow_tool ecow_c" -f tools/ship/below.awk crates.txt); do
+# The crates of the stores, of nested values and of lists in a tree, the script and the program above, and the library for C.
+for crate in $(awk -F: -v tops="ecow_nested ecow_tree ecow_tool ecow_c" -f tools/ship/below.awk crates.txt); do
     files=$(find "crates/$crate/src" -name '*.rt' | sort)
     # What stands below the vector is no part of it, but for the block that it lends.
     case $crate in

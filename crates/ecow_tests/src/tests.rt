@@ -5,6 +5,7 @@ mod calls;
 mod comparisons;
 mod names;
 mod paths;
+mod persistent;
 mod printing;
 mod program;
 mod sharing;

@@ -1,0 +1,135 @@
+//! The list in a tree: how many elements a change clones, and what it drops.
+use ecow_list::{EcoError, Rejected};
+use ecow_test_calls::counting::{Counting, Source, Tally};
+use ecow_tree::EcoTree;
+use std::alloc::Global;
+use std::test::Fail;
+
+/// A list of so many counted elements, with the numbers from 0 on.
+fn counted(alloc: Global, tally: &Tally, len: i64) -> Result<EcoTree<Counting>, EcoError> {
+    let mut list = EcoTree::new(alloc);
+    for number in 0..len {
+        push(&mut list, tally.numbered(number)?)?;
+    }
+    Ok(list)
+}
+
+fn push<T: Clone>(list: &mut EcoTree<T>, value: T) -> Result<(), EcoError> {
+    list.push(value).map_err(|rejected| rejected.error)
+}
+
+fn set<T: Clone>(list: &mut EcoTree<T>, index: usize, value: T) -> Result<(), EcoError> {
+    if index >= list.len() {
+        return Ok(());
+    }
+    list.set(index, value).map_err(|rejected| rejected.error)
+}
+
+/// The number of the element at an index.
+fn number(list: &EcoTree<Counting>, index: usize) -> Option<i64> {
+    Some(list.get(index)?.number)
+}
+
+/// Blocks hold up to 128 elements, and a change clones those of one shared block at most.
+#[test]
+fn a_change_clones_a_block_that_is_shared(rt: HostRuntime) -> Result<(), Fail> {
+    let (alloc, tally) = (rt.alloc(), Tally::new(rt.alloc())?);
+    let mut list = counted(alloc, &tally, 5000)?;
+    assert!(rt; tally.has(0, 0) && list.len() == 5000 && list.height() > 0);
+    let before = list.clone()?;
+    assert!(rt; tally.has(0, 0));
+
+    // The first write to a block clones it, and the next finds it its own.
+    set(&mut list, 1000, tally.numbered(-1)?)?;
+    let (first, drops) = (tally.clones(), tally.drops());
+    assert!(rt; 0 < first && first <= 128 && drops == 1);
+    set(&mut list, 1000, tally.numbered(-2)?)?;
+    assert!(rt; tally.has(first, 2));
+    set(&mut list, 4999, tally.numbered(-3)?)?;
+    let second = tally.clones() - first;
+    assert!(rt; 0 < second && second <= 128 && tally.drops() == 3);
+    push(&mut list, tally.numbered(5000)?)?;
+    assert!(rt; tally.has(first + second, 3));
+    assert_eq!(rt; number(&list, 1000), Some(-2));
+    assert_eq!(rt; number(&list, 4999), Some(-3));
+    assert_eq!(rt; number(&list, 5000), Some(5000));
+    assert_eq!(rt; number(&list, 5001), None);
+    assert!(rt; list.len() == 5001 && before.len() == 5000);
+    for (index, expected) in [(999, 999), (1000, 1000), (1001, 1001), (4999, 4999)] {
+        assert_eq!(rt; number(&before, index), Some(expected));
+    }
+
+    // What the blocks have in common is dropped with the last of them.
+    drop(list);
+    assert!(rt; tally.has_live(5000));
+    drop(before);
+    assert!(rt; tally.has_live(0));
+    Ok(())
+}
+
+/// A refused clone leaves the list, and hands the value back.
+#[test]
+fn a_refused_clone_leaves_the_list(rt: HostRuntime) -> Result<(), Fail> {
+    let (alloc, tally) = (rt.alloc(), Tally::refusing(rt.alloc(), 3)?);
+    let mut list = counted(alloc, &tally, 1000)?;
+    let other = list.clone()?;
+    let value = tally.numbered(-1)?;
+    match list.set(500, value) {
+        Err(Rejected { error, value }) => {
+            assert!(rt; error == EcoError::Memory && value.number == -1);
+        }
+        Ok(()) => assert!(rt; false),
+    }
+    assert_eq!(rt; number(&list, 500), Some(500));
+    assert!(rt; tally.has_live(1000) && other.len() == 1000);
+    set(&mut list, 500, tally.numbered(-1)?)?;
+    assert_eq!(rt; number(&list, 500), Some(-1));
+    assert_eq!(rt; number(&other, 500), Some(500));
+    Ok(())
+}
+
+/// The chunks, one behind the other, are the elements, each block once.
+#[test]
+fn chunks_are_the_blocks(rt: HostRuntime) -> Result<(), Fail> {
+    let mut list = EcoTree::new(rt.alloc());
+    for number in 0..3000 {
+        push(&mut list, number)?;
+    }
+    let (mut index, mut chunks) = (0, 0);
+    while index < list.len() {
+        let chunk = list.chunk_at(index);
+        assert!(rt; chunk.len() <= 128);
+        for item in chunk {
+            assert_eq!(rt; *item, index);
+            index += 1;
+        }
+        chunks += 1;
+    }
+    assert!(rt; index == 3000 && chunks <= 48);
+    assert!(rt; list.first() == Some(&0) && list.last() == Some(&2999));
+    list.clear();
+    assert!(rt; list.is_empty() && list.first().is_none() && list.height() == 0);
+    Ok(())
+}
+
+/// Inserts at places all over leave what they leave of a `Vec`, and clone nothing.
+#[test]
+fn inserts_are_those_of_a_vector(rt: HostRuntime) -> Result<(), Fail> {
+    let (alloc, tally) = (rt.alloc(), Tally::new(rt.alloc())?);
+    let mut list = EcoTree::new(alloc);
+    let mut model = Vec::new(alloc);
+    for number in 0..1500 {
+        let index = number * 7919 % (number + 1);
+        if index <= list.len() && index <= model.len() {
+            let value = tally.numbered(number as i64)?;
+            list.insert(index, value)
+                .map_err(|rejected| rejected.error)?;
+            model.insert(index, number as i64)?;
+        }
+    }
+    assert!(rt; tally.has(0, 0) && list.len() == 1500 && model.len() == 1500);
+    for (index, expected) in model.iter().enumerate() {
+        assert_eq!(rt; number(&list, index), Some(*expected));
+    }
+    Ok(())
+}
