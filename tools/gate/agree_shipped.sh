@@ -70,7 +70,7 @@ git ls-files | tar -c -T - | tar -x -C "$work/here"
     git ls-files c/README.md c/CPP.md python rust | grep -vx rust/.gitignore
     git ls-files c/examples | sed 's|^c/||'
     for file in a so so.$(sed 's/[.][^.]*$//' VERSION); do echo lib/libecow.$file; done
-    for name in base block bytes c counted list model nested script store string table tool; do echo contracts/ecow_$name.md; done
+    for name in base block bytes c counted list model nested script store string table tool tree; do echo contracts/ecow_$name.md; done
     cat << 'END'
 CHANGELOG.md
 LICENSE-APACHE
