@@ -91,30 +91,6 @@ fn a_refused_clone_leaves_the_list(rt: HostRuntime) -> Result<(), Fail> {
     Ok(())
 }
 
-/// The chunks, one behind the other, are the elements, each block once.
-#[test]
-fn chunks_are_the_blocks(rt: HostRuntime) -> Result<(), Fail> {
-    let mut list = EcoTree::new(rt.alloc());
-    for number in 0..3000 {
-        push(&mut list, number)?;
-    }
-    let (mut index, mut chunks) = (0, 0);
-    while index < list.len() {
-        let chunk = list.chunk_at(index);
-        assert!(rt; chunk.len() <= 128);
-        for item in chunk {
-            assert_eq!(rt; *item, index);
-            index += 1;
-        }
-        chunks += 1;
-    }
-    assert!(rt; index == 3000 && chunks <= 48);
-    assert!(rt; list.first() == Some(&0) && list.last() == Some(&2999));
-    list.clear();
-    assert!(rt; list.is_empty() && list.first().is_none() && list.height() == 0);
-    Ok(())
-}
-
 /// Inserts at places all over leave what they leave of a `Vec`, and clone nothing.
 #[test]
 fn inserts_are_those_of_a_vector(rt: HostRuntime) -> Result<(), Fail> {
