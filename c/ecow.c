@@ -1,6 +1,8 @@
 /* The calls of the header over those of the proved library. Nothing here is proved: it takes the
  * address of each pointer, tells arrays and results that are null, two pointers to one value,
- * arrays that overlap the value that is changed, and arrays that no memory holds. */
+ * arrays that overlap the value that is changed, and arrays that no memory holds. It also finds the
+ * parts that a nested value lends, and the order and the hash of nested values, since only here can
+ * addresses be compared. */
 #include "proved.h"
 
 #include <math.h>
