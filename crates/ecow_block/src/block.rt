@@ -180,17 +180,6 @@ impl<T> Block<T> {
 impl<T: Drop> Drop for Block<T> {
     // The head is only read here, since other threads may have read it before.
     fn drop(self) {
-        let Block {
-            top,
-            mut room,
-            title,
-            deed,
-            alloc,
-        } = self;
-        if !is_none(top) {
-            let head = *fields(&title, top);
-            room.drop_all(head.base, 0, head.len);
-        }
-        give_back_parts(top, room, title, deed, &alloc);
+        drop(self.into_rest());
     }
 }

@@ -2,11 +2,20 @@
 //! here is gone when the program runs: what is left are reads and writes, which the compiler knows
 //! as moves of memory.
 ghost use Rattle.std.specs.Prelude.{◌≡◌, ◌+◌, ◌-◌, ◌^◌, ◌<◌, ◌≤◌, [], ◌∷◌, ◌++◌, length, take, vec_len, false};
-ghost use Rattle.std.specs.Fn.{CalledAtMut};
 ghost use Rattle.std.specs.Iterator.{IsFinite};
-ghost use Rattle.std.specs.List.Retain.{RetainsInTurn};
 ghost use Rattle.ecow_block.specs.Iterators.{GivesOn};
 ghost use Rattle.ecow_block.specs.Rooms.{SamePlaces, Follows};
+
+/// Makes a call. In Rust a call may unwind: then the first `$count` items of `$room` are dropped,
+/// the first of which lies in the place numbered `$at`.
+macro_rules! guarded {
+    ($room:expr, $base:expr, $at:expr, $count:expr, $call:expr) => {
+        // rust: $crate::shim::guarded($room.as_mut_slice($base, $at, $count), || $call)
+        $call
+    };
+}
+
+use guarded;
 
 mod clones;
 mod copies;
@@ -207,8 +216,8 @@ impl<T> Room<T> {
         while gone < len {
             let (item, place) = rest.take_first(base, start + gone);
             self.widen(place);
-            drop(item);
             gone += 1;
+            guarded!(rest, base, start + gone, len - gone, drop(item));
         }
         self.widen(rest);
     }
@@ -256,47 +265,12 @@ impl<T> Room<T> {
     {
         let mut count = 0;
         while count < most {
-            match iter.next() {
+            match guarded!(self, base, at, count, iter.next()) {
                 Some(item) => self.put(base, at + count, item),
                 None => return (count, true),
             }
             count += 1;
         }
         (count, false)
-    }
-
-    /// Keeps the items, as `f` leaves them, at which it answers `true`, and returns how many these
-    /// are. The others are dropped. Before the call there are `len` items, the first in the place
-    /// numbered `start`.
-    pub(crate) fn retain<F: FnMut(&mut T) -> bool>(
-        &mut self,
-        base: Base<T>,
-        start: usize,
-        len: usize,
-        mut f: F,
-    ) -> usize
-    where
-        T: Drop,
-        requires here { (base.ptr ≡ self.old.at) × (start ≡ self.old.start)
-            × (len ≡ length self.old.items) × (start + len < 2 ^ 64) }
-        requires callable { F.IsAlwaysCallable f }
-        ensures items { RetainsInTurn (CalledAtMut F.FnMut) f self.old.items self.new.items }
-        ensures len { (result ≡ length self.new.items) × (result ≤ length self.old.items) }
-        ensures places { SamePlaces self.old self.new }
-    {
-        let mut rest = self.split_off(0);
-        let mut index = 0;
-        let mut count = 0;
-        while index < len {
-            let (mut item, place) = rest.take_first(base, start + index);
-            self.widen(place);
-            index += 1;
-            if f(&mut item) {
-                self.put(base, start + count, item);
-                count += 1;
-            }
-        }
-        self.widen(rest);
-        count
     }
 }

@@ -6,7 +6,7 @@ ghost use Rattle.ecow_block.specs.Contents.{contents};
 ghost use Rattle.ecow_block.specs.Updates.{TakesAt, UpdatesAt};
 
 use crate::block::Block;
-use crate::parts::{base, put_len};
+use crate::parts::put_len;
 use crate::room::fields;
 
 impl<T> Block<T> {
@@ -107,14 +107,30 @@ impl<T: Drop> Block<T> {
         ensures len { length self.new.items ≤ length self.old.items }
         ensures capacity { self.new.capacity ≡ self.old.capacity }
     {
-        let base = base!(self);
-        let len = self.len();
-        if len > 0 {
-            put_len(&mut self.title, self.top, 0);
-        }
-        let count = self.room.retain(base, 0, len, f);
-        if len > 0 {
-            put_len(&mut self.title, self.top, count);
-        }
+        let count = keep_first(self.as_mut_slice(), f);
+        self.truncate(count);
     }
+}
+
+/// Calls `f` on each item in order. Moves those for which it answers `true`, as `f` left them, to
+/// the front, and returns how many these are. Nothing is taken out meanwhile, so nothing is lost
+/// where `f` unwinds.
+#[inline]
+fn keep_first<T, F: FnMut(&mut T) -> bool>(items: &mut [T], mut f: F) -> usize
+    requires { F.IsAlwaysCallable f }
+    ensures kept { RetainsInTurn (CalledAtMut F.FnMut) f items.old (take result items.new) }
+    ensures len { (result ≤ length items.old) × (length items.new ≡ length items.old) }
+{
+    let mut count = 0;
+    let mut index = 0;
+    while index < items.len() {
+        if f(&mut items[index]) {
+            if count < index {
+                items.swap(count, index);
+            }
+            count += 1;
+        }
+        index += 1;
+    }
+    count
 }

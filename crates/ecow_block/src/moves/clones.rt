@@ -5,6 +5,7 @@ ghost use Rattle.ecow_base.specs.Clones.{ClonesAreEqual};
 ghost use Rattle.ecow_block.specs.Clones.{AppendsClones};
 ghost use Rattle.ecow_block.specs.Rooms.{SamePlaces};
 
+use super::guarded;
 use crate::room::{Base, CHUNK, Room};
 use std::alloc::AllocError;
 use std::mem::size_of_val;
@@ -72,7 +73,15 @@ impl<T> Room<T> {
         ensures unchanged { OnErr result (self.new.items ≡ self.old.items) }
     {
         let count = self.append_chunks(base, at, elements)?;
-        if let Err(error) = self.append_each(base, at + count, &elements[count..]) {
+        let others = &elements[count..];
+        let put = guarded!(
+            self,
+            base,
+            at,
+            count,
+            self.append_each(base, at + count, others)
+        );
+        if let Err(error) = put {
             self.drop_last(base, at, count);
             return Err(error);
         }
@@ -106,7 +115,14 @@ impl<T> Room<T> {
             return Ok(count);
         }
         while let Some((chunk, others)) = rest.split_first_chunk::<CHUNK>() {
-            if let Err(error) = self.append_chunk(base, at + count, chunk) {
+            let put = guarded!(
+                self,
+                base,
+                at,
+                count,
+                self.append_chunk(base, at + count, chunk)
+            );
+            if let Err(error) = put {
                 self.drop_last(base, at, count);
                 return Err(error);
             }
@@ -154,7 +170,7 @@ impl<T> Room<T> {
     {
         let mut count = 0;
         while count < elements.len() {
-            match elements[count].clone() {
+            match guarded!(self, base, at, count, elements[count].clone()) {
                 Ok(copy) => self.put(base, at + count, copy),
                 Err(error) => {
                     self.drop_last(base, at, count);

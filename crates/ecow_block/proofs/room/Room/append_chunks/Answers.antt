@@ -12,5 +12,5 @@ loop-chunk-preserved g c =
     let left : c.in-Some.others.now ≡ drop (count + 128) xs = search (rules, drop-drop 128 count xs) in
     let grown =
     some_more g.T.Clone.is_clone old (take count xs) c.in-Some.chunk.now c.loop-chunk.self.items
-    c.append_chunk.new.self.items c.loop-chunk.invariant.5 (search rules) in
+    c.append_chunk-put.new.self.items c.loop-chunk.invariant.5 (search rules) in
     (within, left, search rules, grind (arith, common_steps), grind (arith, common_steps), rw next at grown)

@@ -10,5 +10,5 @@ returns-clause-clones g c =
     ap (λ l. take count xs ++ l) (take_all (length xs - count) (drop count xs) (omega (arith, length-drop count xs))) ∙ take-append-drop count xs in
     let grown =
     some_more g.T.Clone.is_clone c.args.self.now.items
-    (take count xs) rest c.append_chunks.new.self.items c.append_each.new.self.items (search rules) (search rules) in
+    (take count xs) rest c.append_chunks.new.self.items c.append_each-put.new.self.items (search rules) (search rules) in
     rw all at grown
