@@ -4,5 +4,6 @@ pub mod Leaves
 pub mod Lends
 pub mod Ranges
 pub mod Refusals
+pub mod Sorts
 pub mod Vectors
 pub mod formers

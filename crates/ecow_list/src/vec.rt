@@ -18,6 +18,8 @@ mod make_mut;
 mod own;
 mod push;
 mod ranges;
+mod rearrange;
+mod split;
 
 use crate::error::EcoError;
 pub use crate::iter::{Drain, IntoIter, Splice};
@@ -152,7 +154,7 @@ impl<T> EcoVec<T> {
 
 impl<T: Drop> EcoVec<T> {
     /// Makes an empty vector and allocates a block for `capacity` elements, or no block if
-    /// `capacity` is 0. No capacity is promised.
+    /// `capacity` is 0. No capacity is promised; `own_with_room` promises it.
     ///
     /// # Errors
     ///

@@ -193,7 +193,8 @@ impl<T: Clone> EcoVec<T> {
         })?)
     }
 
-    /// Asks for capacity for `additional` more elements; no capacity is promised.
+    /// Asks for capacity for `additional` more elements; no capacity is promised. `own_with_room`
+    /// promises it: what is pushed through its borrow isn't refused.
     ///
     /// A shared vector copies its elements into a block of its own, also if `additional` is 0. A
     /// vector without a block gets none if `additional` is 0.
@@ -249,8 +250,9 @@ impl<T: Clone> EcoVec<T> {
     }
 
     /// Calls `f` once with a mutable borrow of each element, in order, and keeps those at which `f`
-    /// answers `true`, as `f` leaves them. A shared vector copies its elements into a block of its
-    /// own first, or gives its block up if it has none.
+    /// answers `true`, as `f` leaves them. The others are dropped after the last call, in no set
+    /// order. A shared vector copies its elements into a block of its own first, or gives its block
+    /// up if it has none.
     ///
     /// Takes time linear in the length.
     ///
