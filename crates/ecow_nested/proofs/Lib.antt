@@ -1,3 +1,4 @@
+pub mod ByName
 pub mod Depths
 pub mod Equality
 pub mod Index

@@ -1,17 +1,13 @@
 -- Where paths lead, before and after a value is set.
-use Rattle.std.proofs.Common.{◌≡◌, ◌≢◌, Bool, true, false, cond, ℕ, List, [], ◌∷◌, Option, Some, None, slice_get, slice_set, refl, sym, ap, ◌∙◌, inl, inr}
-use Rattle.std.specs.Prelude.{find}
-use Rattle.std.specs.Cmp.Lexicographic.{bytes_decides}
+use Rattle.std.proofs.Common.{◌≡◌, ◌≢◌, ℕ, List, [], ◌∷◌, Option, Some, None, slice_get, slice_set, refl, sym, ap, ◌∙◌, inl, inr}
 use Rattle.std.specs.Option.{option_and_then, option_map}
 use Rattle.std.specs.Str.{encode_utf8_all}
 use Rattle.std.proofs.lemmas.Option.{none-some, slice_get_within}
 use Rattle.std.proofs.lemmas.Str.{encodes_same}
-use Rattle.ecow_base.specs.declared.plain.PlainText.{PlainText}
 use Rattle.ecow_list.proofs.Places.{get_set, get_set_other}
-use Rattle.ecow_nested.proofs.Lookups.{renewed}
+use Rattle.ecow_nested.proofs.ByName.{look_up_set, look_up_other}
 use Rattle.ecow_nested.specs.Paths.{part_at, value_at, HasPart, IsSet, AreApart, AreSame, IsApart}
-use Rattle.ecow_nested.specs.Names.{has_name}
-use Rattle.ecow_nested.specs.Values.{items_of, fields_of, value_in, look_up, with_field}
+use Rattle.ecow_nested.specs.Values.{items_of, fields_of, look_up, with_field}
 use Rattle.ecow_nested.specs.declared.fields.Field.{Field}
 use Rattle.ecow_nested.specs.declared.value.paths.Step.{Step}
 use Rattle.ecow_nested.specs.declared.value.paths.Step.TheVariants as step
@@ -33,62 +29,21 @@ item_elsewhere None i j after apart = refl
 item_elsewhere (Some items) i j after apart = get_set_other items i j after (λ same. apart (sym same))
 
 -- another value in the first field of a name
-look_there : (name : List ℕ) (fs : List (Field Value)) (before after : Value)
-    → look_up name fs ≡ Some before → look_up name (with_field name after fs) ≡ Some after
-look_there name [] before after found = absurd (none-some before found)
-look_there name (f ∷ fs) before after found =
-    elim (has_name name f) as (λ b. has_name name f ≡ b → value_in (cond b (Some f) (find (has_name name) fs)) ≡ Some before
-    → look_up name (cond b (renewed name after f ∷ fs) (f ∷ with_field name after fs)) ≡ Some after) [
-      | true ↦ λ is found. ap (λ b. value_in (cond b (Some (renewed name after f)) (find (has_name name) fs))) is
-      | false ↦ λ is found. ap (λ b. value_in (cond b (Some f) (find (has_name name) (with_field name after fs)))) is
-          ∙ look_there name fs before after found
-    ] refl found
-
-is_false : (b : Bool) → (b ≡ true → ⊥) → b ≡ false
-is_false true never = absurd (never refl)
-is_false false never = refl
-
-value_behind : (b : Bool) (f : Field Value) (x y : Option (Field Value)) → value_in x ≡ value_in y
-    → value_in (cond b (Some f) x) ≡ value_in (cond b (Some f) y)
-value_behind true f x y same = refl
-value_behind false f x y same = same
-
-module _ (name other : List ℕ)
-    (apart : (f : Field Value) → has_name name f ≡ true → has_name other f ≡ true → ⊥) where
-  look_elsewhere : (fs : List (Field Value)) (before after : Value) → look_up name fs ≡ Some before
-      → look_up other (with_field name after fs) ≡ look_up other fs
-  look_elsewhere [] before after found = absurd (none-some before found)
-  look_elsewhere (f ∷ fs) before after found =
-      let behind = find (has_name other) fs in
-      elim (has_name name f) as (λ b. has_name name f ≡ b → value_in (cond b (Some f) (find (has_name name) fs)) ≡ Some before
-      → look_up other (cond b (renewed name after f ∷ fs) (f ∷ with_field name after fs)) ≡ look_up other (f ∷ fs)) [
-        | true ↦ λ is found.
-            let differs = is_false (has_name other f) (apart f is) in
-            ap (λ b. value_in (cond b (Some (renewed name after f)) behind)) differs
-            ∙ sym (ap (λ b. value_in (cond b (Some f) behind)) differs)
-        | false ↦ λ is found. value_behind (has_name other f) f (find (has_name other) (with_field name after fs)) behind
-            (look_elsewhere fs before after found)
-      ] refl found
+there_already : {X : Type 0} (o : Option Value) (before : Value) → o ≡ Some before → o ≡ None → X
+there_already o before found none = absurd (none-some before (sym none ∙ found))
 
 field_there : (o : Option (List (Field Value))) (name : List ℕ) (before after : Value)
     → option_and_then (look_up name) o ≡ Some before
     → option_and_then (look_up name) (option_map (with_field name after) o) ≡ Some after
 field_there None name before after found = absurd (none-some before found)
-field_there (Some fs) name before after found = look_there name fs before after found
+field_there (Some fs) name before after found = look_up_set name after fs (there_already (look_up name fs) before found)
 
-field_elsewhere : (o : Option (List (Field Value))) (name other : List ℕ) (before after : Value)
-    → ((f : Field Value) → has_name name f ≡ true → has_name other f ≡ true → ⊥)
+field_elsewhere : (o : Option (List (Field Value))) (name other : List ℕ) (before after : Value) → name ≢ other
     → option_and_then (look_up name) o ≡ Some before
     → option_and_then (look_up other) (option_map (with_field name after) o) ≡ option_and_then (look_up other) o
 field_elsewhere None name other before after apart found = refl
-field_elsewhere (Some fs) name other before after apart found = look_elsewhere name other apart fs before after found
-
--- a field has the characters of its name
-named : (name : PlainText) (f : Field Value) → has_name (encode_utf8_all name.chars) f ≡ true
-    → f.name.chars ≡ name.chars
-named name f has =
-    let same = bytes_decides (encode_utf8_all f.name.chars) (encode_utf8_all name.chars) in
-    encodes_same f.name.chars name.chars (same.0 has)
+field_elsewhere (Some fs) name other before after apart found =
+    look_up_other name other after fs (there_already (look_up name fs) before found) apart
 
 -- what has items has no fields, and the other way round
 abbrev items_in : Value-F Value → Option (List Value)
@@ -131,7 +86,7 @@ part_elsewhere (step.Name name) (step.Name other) before after old new found has
     let a = encode_utf8_all name.chars in
     let b = encode_utf8_all other.chars in
     ap (option_and_then (look_up b)) has
-    ∙ field_elsewhere (fields_of old) a b before after (λ f is_a is_b. apart (sym (named name f is_a) ∙ named other f is_b)) found
+    ∙ field_elsewhere (fields_of old) a b before after (λ same. apart (encodes_same name.chars other.chars same)) found
 part_elsewhere (step.Index i) (step.Name name) before after old new found has apart =
     let is = found_in (items_of old) (item_at i) before found in
     let look = look_up (encode_utf8_all name.chars) in

@@ -2,7 +2,7 @@
 use Rattle.std.specs.Prelude.{◌≡◌, ◌↔◌, ℕ, ℤ, ◌+◌, ◌<◌, ◌≤◌, ⊤, Bool, true, false, not, ◌&&◌, ◌||◌, List, [], ◌∷◌, Option, None, Some, Result, OnOk, OnErr, IfErr, IsErrOf, length, map, max, slice_get, find, if◌then◌else◌}
 use Rattle.std.specs.Float.Ieee.{Float, eq, is_nan}
 use Rattle.std.specs.List.{list_any}
-use Rattle.std.specs.Option.{option_map}
+use Rattle.std.specs.Option.{option_and_then, option_map}
 use Rattle.std.specs.Ordering.{int_eq}
 use Rattle.std.specs.Str.{chars, bytes_eq, encode_utf8_all}
 use Rattle.ecow_base.specs.Inline.{inline_for}
@@ -138,6 +138,10 @@ pub record EditsFields {R : Type 0} (change : List (Field Value) → List (Field
 -- the value of the first field of that name
 abbrev pub look_up : List ℕ → List (Field Value) → Option Value
 look_up name fields = value_in (find (has_name name) fields)
+
+-- the value of the first field of that name; none where the value has no fields
+abbrev pub field_of : Value → List ℕ → Option Value
+field_of value name = option_and_then (look_up name) (fields_of value)
 
 -- the text of a new field's name
 abbrev pub name_of : List ℕ → PlainText

@@ -4,6 +4,7 @@
 #![tactic(auto)]
 
 mod fields;
+pub mod laws;
 mod nested;
 mod refusal;
 mod threads;

@@ -4,7 +4,6 @@ ghost use Rattle.ecow_nested.specs.Values.{depth_of, field_depth, kind_of, truth
 
 mod equality;
 mod fields;
-mod laws;
 mod lists;
 mod make;
 mod parts;

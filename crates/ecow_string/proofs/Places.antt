@@ -1,13 +1,15 @@
--- What stands at a byte index of a text, for those who test an index before they call `remove` or `truncate`.
+-- What stands at a byte index of a text, for those who test an index before they call `remove` or `truncate`, or cut the `str`.
 use Rattle.std.proofs.Common.{◌≡◌, ℕ, zero, ◌+◌, ◌<◌, ◌≤◌, Bool, true, false, List, [], ◌∷◌, length, take, drop, get_or, Some, None, refl, sym, ap, ◌∙◌, arith, inl, inr}
-use Rattle.std.specs.Prelude.{slice_get, nat_lt, ◌||◌}
+use Rattle.std.specs.Prelude.{slice_get, slice_index, nat_lt, ◌||◌}
 use Rattle.std.proofs.lemmas.List.{take_all, length-append}
 use Rattle.std.proofs.lemmas.Bool.{cases_lt, le-ltb}
 use Rattle.std.proofs.lemmas.Option.{slice_get_past, slice_get-get_or}
 use Rattle.ecow_base.specs.Utf8.{utf8_len, chars_before, is_boundary}
-use Rattle.std.specs.Str.{encode_utf8_all}
+use Rattle.std.specs.Str.{chars, encode_utf8_all, IsCharBoundary, IsUtf8}
+use Rattle.std.proofs.lemmas.Str.{encodes-chars}
 use Rattle.ecow_base.proofs.Boundaries.{boundary_passes, chars_before-front, passes_boundary}
-use Rattle.ecow_string.proofs.Texts.{chars_before-past, split_encoded}
+use Rattle.ecow_string.proofs.Texts.{chars_before-past, split_encoded, boundary_of_front, front_of_boundary}
+use Rattle.ecow_string.specs.Text.{AreChars}
 
 -- a boundary isn't past the end, and the end is one
 pub boundary_within : (cs : List ℕ) (index : ℕ) → is_boundary cs index ≡ true → index ≤ utf8_len cs
@@ -54,3 +56,19 @@ may_cut cs index tested within = by_test (is_boundary cs index) (nat_lt (utf8_le
     by_test : (a b : Bool) → b ≡ false → (a || b) ≡ true → a ≡ true
     by_test true b f t = refl
     by_test false b f t = sym f ∙ t
+
+-- a text's characters and its `str` have the same boundaries: what a slice or a split of the `str` asks
+pub str_boundary : (cs : List ℕ) (index : ℕ) → is_boundary cs index ≡ true → AreChars cs → index < length (encode_utf8_all cs)
+    → 128 ≤ slice_index (encode_utf8_all cs) index → 192 ≤ slice_index (encode_utf8_all cs) index
+str_boundary cs index passes valid = (boundary_of_front cs index valid (passes_boundary cs index passes)).1
+
+-- and what `truncate` asks, at an index that a search of the `str` gave
+pub text_boundary : (cs bytes : List ℕ) (index : ℕ) → bytes ≡ encode_utf8_all cs → AreChars cs → IsCharBoundary bytes index
+    → is_boundary cs index ≡ true
+text_boundary cs bytes index is valid at = boundary_passes cs index (front_of_boundary cs index valid (rw is at at))
+
+pub ruleset boundaries = (boundary_within, str_boundary, text_boundary)
+
+-- a text that is made of a `str` has as many bytes
+pub str_len : (bytes : List ℕ) → IsUtf8 bytes → utf8_len (chars bytes) ≡ length bytes
+str_len bytes text = ap length (encodes-chars bytes text)

@@ -4,6 +4,15 @@ ghost use Rattle.ecow_nested.specs.Values.{value_eq};
 
 use crate::value::Value;
 
+/// Whether both are at one address, so that they hold the same. Here nobody asks, and the answer is
+/// `false`. In Rust this spares the parts that two values share.
+macro_rules! are_one {
+    ($left:expr, $right:expr) => {
+        // rust: core::ptr::eq($left, $right)
+        false
+    };
+}
+
 impl Value {
     /// Whether two values have the same kind and equal contents; items and fields are compared in
     /// order. Every NaN equals every other, so a value equals its clones. An inline text can equal
@@ -24,6 +33,9 @@ impl Value {
                 if left.items.len() != others.len() {
                     return false;
                 }
+                if are_one!(left.items.as_slice(), others) {
+                    return true;
+                }
                 let mut index = 0;
                 for item in left.items.as_slice() {
                     if !item.equals(&others[index]) {
@@ -39,6 +51,9 @@ impl Value {
                 }
                 for index in 0..left.items.len() {
                     let (field, other) = (left.items.field_at(index), right.items.field_at(index));
+                    if are_one!(field, other) {
+                        return true;
+                    }
                     if field.name != other.name {
                         return false;
                     }
