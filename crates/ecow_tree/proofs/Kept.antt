@@ -1,5 +1,5 @@
 -- What stays of all elements, where those of one block may have been cloned.
-use Rattle.std.proofs.Common.{◌≡◌, ◌<◌, ◌+◌, ℕ, suc, List, [], ◌∷◌, ◌++◌, Some, length, take, drop, slice_get, refl, ap, subst, sym, ◌∙◌, arith, inl, inr, append-nil, append_assoc, length-append}
+use Rattle.std.proofs.Common.{◌≡◌, ◌<◌, ◌+◌, ◌-◌, ℕ, suc, List, [], ◌∷◌, ◌++◌, Some, length, take, drop, slice_get, refl, ap, subst, sym, ◌∙◌, arith, inl, inr, append-nil, append_assoc, length-append, length-drop}
 use Rattle.std.proofs.lemmas.List.{take-append-drop}
 use Rattle.std.specs.Prelude.{◌⊎◌, Result, OnOk, IfOk}
 use Rattle.std.specs.List.{AllZip, insert, remove, slice_set}
@@ -8,7 +8,8 @@ use Rattle.ecow_base.specs.Clones.{ClonesAreEqual}
 use Rattle.ecow_list.specs.Vectors.{IsKept, IsKeptIn, SomeKept as SomeKeptInList}
 use Rattle.ecow_tree.specs.Grown.{Grown}
 use Rattle.ecow_tree.specs.Nodes.{items_of, LeadsTo}
-use Rattle.ecow_tree.specs.Kept.{AreKept, AreKeptIn, SomeKept, Changes, ChangesBy}
+use Rattle.ecow_tree.specs.Kept.{AreKept, AreKeptIn, Removes, SomeKept, Changes, ChangesBy}
+use Rattle.ecow_tree.proofs.More.{all_taken, none_behind, length_taken}
 use Rattle.ecow_tree.proofs.Parts.{parted, parted_set, parted_pair, set_middle, insert_middle, remove_middle, get_behind, get_front}
 
 module _ {T : Type 0} (is_clone : T → T → Type 0) where
@@ -62,9 +63,53 @@ module _ {T : Type 0} (is_clone : T → T → Type 0) where
   changes_by old new step (Ok r) (k, is, made) = record { ok = λ equal. subst (λ xs. step xs r new) (unchanged equal old k is) made; kept = (k, is, made) }
   changes_by old new step (Err e) k = record { ok = λ equal. tt; kept = tt }
 
-  -- one element comes behind all
-  pub kept_more : (old new : List T) (x : T) → AreKeptIn is_clone old (λ xs. xs ++ x ∷ []) new → length new ≡ length old + 1
-  kept_more old new x (k, is, made) = omega (arith, ap length made, length-append k (x ∷ []), long old k is)
+  -- one element goes
+  pub kept_removed : (old new : List T) (index : ℕ) (x : T) → index < length old → Removes is_clone old index x new → length new + 1 ≡ length old
+  kept_removed old new index x within (k, is, there) =
+      omega (
+        arith,
+        within,
+        ap length there.1,
+        length-append (take index k) (drop (suc index) k),
+        length_taken index k (omega (arith, within, long old k is)),
+        length-drop (suc index) k,
+        long old k is,
+      )
+
+  pub removed_len : {E : Type 0} (old new : List T) (index : ℕ) (result : Result T E) → index < length old
+      → IfOk result (λ x. Removes is_clone old index x new) → OnOk result (length new + 1 ≡ length old)
+  removed_len old new index (Ok x) within k = kept_removed old new index x within k
+  removed_len old new index (Err e) within k = tt
+
+  insert_end : (xs : List T) (n : ℕ) (x : T) → n ≡ length xs → insert xs n x ≡ xs ++ x ∷ []
+  insert_end xs n x is =
+      ap (λ ys. ys ++ x ∷ drop n xs) (all_taken xs n (omega (arith, is)))
+      ∙ ap (λ ys. xs ++ x ∷ ys) (none_behind xs n (omega (arith, is)))
+
+  -- what is inserted at the length comes behind all
+  pub appended : {R E : Type 0} (old new : List T) (n : ℕ) (x : T) (result : Result R E) → n ≡ length old
+      → Changes is_clone old (λ xs. insert xs n x) result new → Changes is_clone old (λ xs. xs ++ x ∷ []) result new
+  appended old new n x (Ok r) count c =
+      let k = c.kept in
+      changes old new (λ xs. xs ++ x ∷ []) (Ok r)
+      (k.0, k.1, k.2 ∙ insert_end k.0 n x (omega (arith, count, long old k.0 k.1)))
+  appended old new n x (Err e) count c = record { ok = λ equal. tt; kept = tt }
+
+  -- what is removed before the length is the last one
+  pub popped : (old new : List T) (n : ℕ) (x : T) → n ≡ length old → 0 < n → Removes is_clone old (n - 1) x new
+      → SomeKept is_clone old (λ xs. (Some x ≡ slice_get xs (length xs - 1)) × (new ≡ take (length xs - 1) xs))
+  popped old new n x count some (k, is, there) =
+      let same_n : n - 1 ≡ length k - 1 = omega (arith, count, long old k is) in (
+        k,
+        is,
+        (
+          sym there.0 ∙ ap (λ i. slice_get k i) same_n,
+          there.1
+              ∙ ap (λ ys. take (n - 1) k ++ ys) (none_behind k (suc (n - 1)) (omega (arith, count, some, long old k is)))
+              ∙ append-nil (take (n - 1) k)
+              ∙ ap (λ i. take i k) same_n,
+        ),
+      )
 
   -- one element comes among all
   pub kept_inserted : (old new : List T) (index : ℕ) (x : T) → AreKeptIn is_clone old (λ xs. insert xs index x) new → length new ≡ length old + 1

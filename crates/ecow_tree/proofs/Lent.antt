@@ -1,15 +1,14 @@
 -- One node of a block that was lent is changed. `seen` is what was searched, and `left` what stays.
-use Rattle.std.proofs.Common.{◌≡◌, ◌<◌, ◌≤◌, ◌+◌, ◌^◌, ℕ, suc, List, [], ◌∷◌, ◌++◌, append-nil, append_assoc, Some, length, take, drop, slice_get, slice_set, get_or, ap, subst, sym, ◌∙◌, arith, length-append}
+use Rattle.std.proofs.Common.{◌≡◌, ◌<◌, ◌≤◌, ◌+◌, ◌^◌, ℕ, suc, List, ◌++◌, Some, length, take, drop, slice_get, slice_set, get_or, ap, subst, sym, ◌∙◌, arith, inl, inr, length-append}
 use lib.ListN.{length-set}
 use Rattle.std.specs.Prelude.{IfSome}
 use Rattle.std.specs.List.{insert, refill}
-use Rattle.std.proofs.lemmas.Option.{get_or_from_slice_get, slice_get-get_or}
+use Rattle.std.proofs.lemmas.Option.{get_or_from_slice_get, slice_get-get_or, same_Some}
 use Rattle.ecow_tree.specs.Grown.{Grown}
-use Rattle.ecow_tree.specs.Kept.{AreKeptIn}
-use Rattle.ecow_tree.specs.Nodes.{items_of, tallest, LeadsTo, AllFit}
+use Rattle.ecow_tree.specs.Kept.{AreKeptIn, Removes}
+use Rattle.ecow_tree.specs.Nodes.{items_of, tallest, CanSpare, LeadsTo, AllFit}
 use Rattle.ecow_tree.proofs.Fits.{fit_at, fit_set}
-use Rattle.ecow_tree.proofs.Kept.{below, set_below, insert_below}
-use Rattle.ecow_tree.proofs.More.{none_behind}
+use Rattle.ecow_tree.proofs.Kept.{set_below, insert_below, remove_below}
 use Rattle.ecow_tree.proofs.Parts.{parted, parted_set, written, kept_below, tallest_at, tallest_set}
 
 module _ {T : Type 0} (nodes seen block lent left : List (Grown T)) (index at rest : ℕ) (d new : Grown T) (old : seen ≡ nodes)
@@ -84,6 +83,15 @@ module _ {T : Type 0} (is_clone : T → T → Type 0) (nodes seen block lent lef
       (insert_below is_clone nodes index at rest leading x new
       (subst (λ (n : Grown T). AreKeptIn is_clone n.items (λ xs. insert xs rest x) new.items) was_node k))
 
+spared_weight : {T : Type 0} (d new : Grown T) → new.height ≡ d.height → CanSpare d → 2 ≤ length d.items → length new.items + 1 ≡ length d.items
+    → 4 ^ new.height ≤ length new.items
+spared_weight d new same (inl leaf) several one =
+    let power : 4 ^ new.height ≡ 1 = ap (λ n. 4 ^ n) (same ∙ leaf) in
+    omega (arith, power, several, one)
+spared_weight d new same (inr more) several one =
+    let power : 4 ^ new.height ≡ 4 ^ d.height = ap (λ n. 4 ^ n) same in
+    omega (arith, power, more, one)
+
 -- the node at a place of a block that was lent is changed
 module _ {T : Type 0} (nodes block lent left : List (Grown T)) (at : ℕ) (d new : Grown T) (bound : at < length nodes)
     (is : left ≡ refill (length block) block (slice_set lent at new)) (same : lent ≡ block) (was : block ≡ nodes) where
@@ -111,20 +119,18 @@ module _ {T : Type 0} (nodes block lent left : List (Grown T)) (at : ℕ) (d new
   pub placed_kept : new.items ≡ (get_or lent at d).items → items_of left ≡ items_of nodes
   placed_kept kept = ap (λ ns. items_of ns) put ∙ kept_below nodes at (get_or lent at d) new found kept
 
-  behind_none : at + 1 ≡ length nodes → items_of (drop (suc at) nodes) ≡ []
-  behind_none last = ap (λ ns. items_of ns) (none_behind nodes (suc at) (omega (arith, last)))
+  pub placed_spare : (h : ℕ) → AllFit h nodes → new.height ≡ (get_or lent at d).height → CanSpare (get_or lent at d) → 2 ≤ length (get_or lent at d).items
+      → length new.items + 1 ≡ length (get_or lent at d).items → AllFit h left
+  placed_spare h all height spare several one =
+      let was_fit = fit_at h nodes at (get_or lent at d) all found in
+      subst (AllFit h) (sym put)
+      (fit_set h nodes at new all
+      (record { height = omega (arith, height, was_fit.height); weight = spared_weight (get_or lent at d) new height spare several one }))
 
-  pub last_pushed : (is_clone : T → T → Type 0) (x : T) → at + 1 ≡ length nodes → AreKeptIn is_clone (get_or lent at d).items (λ xs. xs ++ x ∷ []) new.items
-      → AreKeptIn is_clone (items_of nodes) (λ xs. xs ++ x ∷ []) (items_of left)
-  last_pushed is_clone x last k =
-      subst (λ ns. AreKeptIn is_clone (items_of nodes) (λ xs. xs ++ x ∷ []) (items_of ns)) (sym put)
-      (below is_clone nodes at (get_or lent at d) found (λ xs. xs ++ x ∷ []) (λ xs. xs ++ x ∷ []) new
-      (λ ks e.
-      let before = items_of (take at nodes) in
-      let behind = items_of (drop (suc at) nodes) in
-      ap (λ ys. (before ++ (ks ++ ys)) ++ x ∷ []) (behind_none last)
-      ∙ ap (λ ys. (before ++ ys) ++ x ∷ []) (append-nil ks)
-      ∙ append_assoc before ks (x ∷ [])
-      ∙ ap (λ ys. before ++ ys) (sym (append-nil (ks ++ x ∷ [])))
-      ∙ ap (λ ys. before ++ ((ks ++ x ∷ []) ++ ys)) (sym (behind_none last)))
-      k)
+  pub placed_removed : (is_clone : T → T → Type 0) (all index : ℕ) (x : T) → LeadsTo nodes all at index → index < length (get_or lent at d).items
+      → Removes is_clone (get_or lent at d).items index x new.items → Removes is_clone (items_of nodes) all x (items_of left)
+  placed_removed is_clone all index x l within k =
+      let same_node : get_or lent at d ≡ l.node = same_Some (get_or lent at d) l.node (sym found ∙ l.found) in
+      subst (λ ys. Removes is_clone (items_of nodes) all x ys) (sym (parted_set nodes at l.node new l.found) ∙ ap (λ ns. items_of ns) (sym put))
+      (remove_below is_clone nodes all at index l x new.items (subst (λ (n : Grown T). index < length n.items) same_node within)
+      (subst (λ (n : Grown T). Removes is_clone n.items index x new.items) same_node k))

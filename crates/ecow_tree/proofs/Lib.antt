@@ -7,3 +7,5 @@ pub mod More
 pub mod Parts
 pub mod Places
 pub mod Halves
+pub mod Removed
+pub mod Runs

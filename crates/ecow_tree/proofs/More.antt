@@ -1,6 +1,8 @@
 -- An element below some nodes, and those behind it.
 use Rattle.std.proofs.Common.{◌≡◌, ◌<◌, ◌≤◌, ◌+◌, ◌-◌, ℕ, zero, suc, List, [], ◌∷◌, ◌++◌, Some, length, get_or, take, drop, slice_get, refl, ap, subst, sym, ◌∙◌, arith, append_assoc, append-nil, length-drop, length-append}
 use Rattle.std.specs.Prelude.{IfSome}
+use Rattle.std.proofs.lemmas.List.{take-append-drop}
+use Rattle.std.proofs.Math.Seq.{take-append-add, take-append_seam}
 use Rattle.std.proofs.lemmas.Option.{get_or_from_slice_get, slice_get-get_or}
 use denote.Param.Weighed.{most, at_most}
 use Rattle.ecow_tree.specs.Grown.{Grown}
@@ -100,7 +102,7 @@ module _ {T : Type 0} (nodes seen again : List (Grown T)) (index at rest : ℕ) 
 -- the node at a place of a block that is lent
 module _ {T : Type 0} (nodes block lent : List (Grown T)) (at index : ℕ) (d : Grown T) (same : lent ≡ block) (was : block ≡ nodes)
     (bound : at < length nodes) where
-  lent_there : slice_get nodes at ≡ Some (get_or lent at d)
+  pub lent_there : slice_get nodes at ≡ Some (get_or lent at d)
   lent_there = slice_get-get_or nodes at d bound ∙ ap Some (ap (λ ns. get_or ns at d) (sym (same ∙ was)))
 
   pub lent_inside : IfSome (slice_get nodes at) (λ node. index ≤ length node.items) → index ≤ length (get_or lent at d).items
@@ -119,3 +121,35 @@ module _ {T : Type 0} (nodes block lent : List (Grown T)) (at index : ℕ) (d : 
   -- what a measure gives of it is at most what it gives of all
   pub lent_most : (μ : Grown T → ℕ) → μ (get_or lent at d) ≤ most μ nodes
   lent_most μ = omega (arith, at_most μ nodes at d bound, ap (λ ns. μ (get_or ns at d)) (same ∙ was))
+
+-- the end of all elements stands at the end of the last node
+pub leads_last : {T : Type 0} (nodes : List (Grown T)) (last index n : ℕ) (d : Grown T) → last + 1 ≡ length nodes → d ≡ get_or nodes last d
+    → n ≡ length d.items → index ≡ length (items_of nodes) → LeadsTo nodes index last n
+leads_last nodes last index n d behind is counted all =
+    let found = slice_get-get_or nodes last d (omega (arith, behind)) ∙ ap Some (sym is) in record {
+      node = d;
+      found = found;
+      inside = omega (arith, counted);
+      before = omega (
+        arith,
+        counted,
+        all,
+        ap length (parted nodes last d found),
+        length-append (items_of (take last nodes)) (d.items ++ items_of (drop (suc last) nodes)),
+        length-append d.items (items_of (drop (suc last) nodes)),
+        ap (λ ns. length (items_of ns)) (none_behind nodes (suc last) (omega (arith, behind))),
+      );
+    }
+
+-- the elements up to the end of a run that begins at an index
+pub next_run : {X : Type 0} (xs run more : List X) (at : ℕ) → at ≤ length xs → drop at xs ≡ run ++ more
+    → take (at + length run) xs ≡ take at xs ++ run
+next_run xs run more at within part =
+    ap (λ ys. take (at + length run) ys) (sym (take-append-drop at xs))
+    ∙ ap (λ n. take (n + length run) (take at xs ++ drop at xs)) (sym (length_taken at xs within))
+    ∙ take-append-add (take at xs) (drop at xs) (length run)
+    ∙ ap (λ ys. take at xs ++ take (length run) ys) part
+    ∙ ap (λ ys. take at xs ++ ys) (take-append_seam run more)
+
+pub run_within : {X : Type 0} (xs run more : List X) (at : ℕ) → at ≤ length xs → drop at xs ≡ run ++ more → at + length run ≤ length xs
+run_within xs run more at within part = omega (arith, within, ap length part, length-append run more, length-drop at xs)

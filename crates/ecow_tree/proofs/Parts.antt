@@ -343,12 +343,12 @@ module _ {T : Type 0} (nodes seen read block full : List (Grown T)) (index at re
         tallest_at nodes at place_of.node place_of.found,
       )
 
-length_0 : {T : Type 0} (xs : List T) → length xs ≡ 0 → xs ≡ []
+pub length_0 : {T : Type 0} (xs : List T) → length xs ≡ 0 → xs ≡ []
 length_0 [] none = refl
 length_0 (x ∷ xs) none = absurd (omega (arith, none))
 
 module _ {T : Type 0} where
-  parted_remove : (nodes : List (Grown T)) (at : ℕ) → items_of (remove nodes at) ≡ items_of (take at nodes) ++ items_of (drop (suc at) nodes)
+  pub parted_remove : (nodes : List (Grown T)) (at : ℕ) → items_of (remove nodes at) ≡ items_of (take at nodes) ++ items_of (drop (suc at) nodes)
   parted_remove nodes at = flat_map-append (λ (n : Grown T). n.items) (take at nodes) (drop (suc at) nodes)
 
   -- a node of no element goes

@@ -1,6 +1,6 @@
 -- What a change of a tree leaves of its elements: those in blocks that were copied are clones.
-use Rattle.std.specs.Prelude.{◌≡◌, ◌⊎◌, List, Result, IfOk, OnOk}
-use Rattle.std.specs.List.{AllZip}
+use Rattle.std.specs.Prelude.{◌≡◌, ◌⊎◌, ℕ, List, Some, Result, IfOk, OnOk, slice_get}
+use Rattle.std.specs.List.{AllZip, remove}
 use Rattle.ecow_base.specs.Clones.{ClonesAreEqual}
 
 module _ {T : Type 0} (is_clone : T → T → Type 0) where
@@ -15,6 +15,11 @@ module _ {T : Type 0} (is_clone : T → T → Type 0) where
   -- new is what `change` makes of the old elements, each of them or a clone of it
   abbrev pub AreKeptIn : List T → (List T → List T) → List T → Type 0
   AreKeptIn old change new = SomeKept old (λ kept. new ≡ change kept)
+
+  -- value stood at `index` of the old elements, each of them or a clone of it, and new is the others
+  abbrev pub Removes : List T → ℕ → T → List T → Type 0
+  Removes old index value new =
+      SomeKept old (λ kept. (slice_get kept index ≡ Some value) × (new ≡ remove kept index))
 
 -- what a call that makes `change` of a tree's old elements leaves
 pub record Changes {T R E : Type 0} (is_clone : T → T → Type 0) (old : List T)

@@ -2,8 +2,11 @@
 //! the blocks on its way from the root alone.
 #![tactic(auto)]
 
+mod copies;
+mod iter;
 mod node;
 mod tree;
 
+pub use iter::{Chunks, Iter};
 pub use node::Node;
 pub use tree::EcoTree;

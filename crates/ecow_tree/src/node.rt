@@ -1,16 +1,18 @@
 //! A node of the tree: a leaf with elements, or a node over further nodes.
 ghost use Rattle.std.specs.Prelude.{◌≡◌, ◌+◌, ◌*◌, ◌<◌, ◌≤◌, ◌^◌, ◌==◌, ◌++◌, [], List, length, drop, Some, slice_get, IsTrue};
+ghost use Rattle.ecow_list.specs.declared.error.EcoError.TheVariants.{Memory};
 ghost use Rattle.ecow_tree.specs.Nodes.{items_of, tallest, AllFit};
 
 use crate::node::seek::seek;
-use ecow_list::EcoVec;
+use ecow_list::{EcoError, EcoVec, Rejected};
 use std::alloc::{AllocError, Global};
 use std::marker::Model;
 
 mod insert;
+mod join;
 mod leaf;
 mod part;
-mod push;
+mod remove;
 mod seek;
 mod set;
 
@@ -19,6 +21,17 @@ pub(crate) const LEAF: usize = 128;
 
 /// A node over so many nodes is parted.
 pub(crate) const FAN: usize = 16;
+
+/// Hands `value` back, since there was no memory.
+pub(crate) fn for_memory<T>(value: T) -> Rejected<T>
+    ensures error { result.error ≡ Memory }
+    ensures value { result.value ≡ value }
+{
+    Rejected {
+        error: EcoError::Memory,
+        value,
+    }
+}
 
 /// A leaf with elements, or a node over further nodes. All leaves below a node are as far down.
 #[derive(Drop)]

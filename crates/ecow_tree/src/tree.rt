@@ -1,9 +1,10 @@
 //! `EcoTree`: a list in a tree of shared blocks.
-ghost use Rattle.std.specs.Prelude.{◌≡◌, ◌+◌, ◌-◌, ◌<◌, ◌≤◌, ◌==◌, ◌*◌, ◌^◌, ◌∷◌, ◌++◌, [], List, length, drop, Some, slice_get, slice_set, insert, OnOk, MatchOption};
-ghost use Rattle.ecow_list.specs.Refusals.{RejectsForMemory, RejectsPast};
-ghost use Rattle.ecow_tree.specs.Kept.{Changes};
+ghost use Rattle.std.specs.Prelude.{◌≡◌, ◌+◌, ◌-◌, ◌<◌, ◌≤◌, ◌==◌, ◌*◌, ◌^◌, ◌∷◌, ◌++◌, [], List, length, drop, Some, take, slice_get, slice_set, insert, remove, IfOk, IsOk, IsSome, OnOk, MatchOption, ◌↔◌};
+ghost use Rattle.ecow_base.specs.Clones.{ClonesAreEqual};
+ghost use Rattle.ecow_list.specs.Refusals.{RefusesForMemory, RejectsForMemory, RejectsPast};
+ghost use Rattle.ecow_tree.specs.Kept.{Changes, ChangesBy};
 
-use crate::node::Node;
+use crate::node::{Node, for_memory};
 use ecow_base::MAX_LEN;
 use ecow_list::{EcoError, EcoVec, Rejected};
 use std::alloc::{AllocError, Global};
@@ -27,12 +28,14 @@ use std::marker::Model;
 /// ```
 #[derive(Drop)]
 pub struct EcoTree<T> {
+    /// The node above all others.
     root: Node<T>,
 }
 
 impl<T> Model for EcoTree<T> {
     ghost use Rattle.std.specs.Prelude.{List};
 
+    // A contract sees the elements, and not how they are spread over blocks.
     ghost Value = { List T };
 
     ghost view = { λ t. t.root.items };
@@ -192,17 +195,11 @@ impl<T: Clone> EcoTree<T> {
             });
         }
         if self.root.lift().is_err() {
-            return Err(Rejected {
-                error: EcoError::Memory,
-                value,
-            });
+            return Err(for_memory(value));
         }
         match self.root.insert(index, value) {
             Ok(()) => Ok(()),
-            Err(rejected) => Err(Rejected {
-                error: EcoError::Memory,
-                value: rejected.value,
-            }),
+            Err(rejected) => Err(for_memory(rejected.value)),
         }
     }
 
@@ -216,30 +213,67 @@ impl<T: Clone> EcoTree<T> {
     /// `Capacity` if the list has 2^63 - 1 elements; `Memory` if there is no memory for a block, or
     /// the clone of an element is refused. The list is unchanged, and `value` comes back in the
     /// error.
-    #[tactic(auto, using(crate::proofs::Kept::changes))]
     pub fn push(&mut self, value: T) -> Result<(), Rejected<T>>
         ensures change { Changes T.is_clone self.old (λ xs. xs ++ value ∷ []) result self.new }
         ensures len { OnOk result (length self.new ≡ length self.old + 1) }
         ensures refused { RejectsPast (length self.old + 1) value self.old result self.new }
     {
-        if self.root.len() >= MAX_LEN {
-            return Err(Rejected {
-                error: EcoError::Capacity,
-                value,
-            });
+        self.insert(self.len(), value)
+    }
+
+    /// Removes the last element and returns it, or `None` if there is none. Shared blocks on the way
+    /// to it are copied first.
+    ///
+    /// Takes time logarithmic in the length. A shared block of elements is cloned.
+    ///
+    /// # Errors
+    ///
+    /// `Memory` if there is no memory for the copy of a shared block, or the clone of an element is
+    /// refused. The list is unchanged. The call is never refused if there is no element.
+    #[tactic(auto, using(crate::proofs::Kept::changes_by))]
+    pub fn pop(&mut self) -> Result<Option<T>, EcoError>
+        ensures change { ChangesBy T.is_clone self.old
+            (λ xs last ys.
+            (last ≡ slice_get xs (length xs - 1)) × (ys ≡ take (length xs - 1) xs))
+            result self.new }
+        ensures taken { ClonesAreEqual T.is_clone
+            → IfOk result (λ taken.
+            MatchOption taken (self.old ≡ []) (λ last. self.old ≡ self.new ++ last ∷ [])) }
+        ensures some { IfOk result (λ last. IsSome last ↔ (0 < length self.old)) }
+        ensures len { OnOk result (length self.new ≡ length self.old - 1) }
+
+        // Refused for memory, and not where there is no element.
+        ensures refused { RefusesForMemory self.old result self.new }
+        ensures empty { self.old ≡ [] → IsOk result × (self.new ≡ []) }
+    {
+        let len = self.root.len();
+        if len == 0 {
+            return Ok(None);
         }
-        if self.root.lift().is_err() {
-            return Err(Rejected {
-                error: EcoError::Memory,
-                value,
-            });
-        }
-        match self.root.push(value) {
-            Ok(()) => Ok(()),
-            Err(rejected) => Err(Rejected {
-                error: EcoError::Memory,
-                value: rejected.value,
-            }),
-        }
+        let last = self.remove(len - 1)?;
+        Ok(Some(last))
+    }
+
+    /// Removes the element at `index`, which is below the length, and returns it. Shared blocks on
+    /// the way are copied first. A block of elements goes with its last one, and a block of few
+    /// nodes is joined with a neighbour.
+    ///
+    /// Takes time logarithmic in the length. A shared block of elements is cloned.
+    ///
+    /// # Errors
+    ///
+    /// `Memory` if there is no memory for the copy of a shared block, or the clone of an element is
+    /// refused. The list is unchanged.
+    #[tactic(auto, using(crate::proofs::Kept::changes_by))]
+    pub fn remove(&mut self, index: usize) -> Result<T, EcoError>
+        requires { index < length self.old }
+        ensures change { ChangesBy T.is_clone self.old
+            (λ xs value ys. (slice_get xs index ≡ Some value) × (ys ≡ remove xs index))
+            result self.new }
+        ensures len { OnOk result (length self.new + 1 ≡ length self.old) }
+        ensures refused { RefusesForMemory self.old result self.new }
+    {
+        self.root.lower()?;
+        self.root.remove(index)
     }
 }

@@ -3,12 +3,12 @@ ghost use Rattle.std.specs.Prelude.{◌≡◌, ◌+◌, ◌<◌, ◌≤◌, ℕ,
 ghost use Rattle.ecow_tree.specs.Kept.{AreKeptIn};
 ghost use Rattle.ecow_tree.specs.Nodes.{items_of, tallest, AllFit, LeadsTo};
 
-use crate::node::Node;
 use crate::node::leaf::insert_parting;
 use crate::node::part::part;
 use crate::node::seek::place;
+use crate::node::{Node, for_memory};
 use ecow_base::MAX_LEN;
-use ecow_list::{EcoError, EcoVec, Rejected};
+use ecow_list::{EcoVec, Rejected};
 
 impl<T: Clone> Node<T> {
     /// Inserts `value` before the element at `index`.
@@ -28,20 +28,22 @@ impl<T: Clone> Node<T> {
             self.len = len + 1;
             return Ok(());
         }
-        insert_below(&mut self.nodes, index, value)?;
+        insert_below(&mut self.nodes, len, index, value)?;
         self.len = len + 1;
         Ok(())
     }
 }
 
-/// Inserts `value` before the element at `index` of all elements of some nodes.
+/// Inserts `value` before the element at `index` of the `len` elements of some nodes.
 #[cycle(insert)]
 fn insert_below<T: Clone>(
     nodes: &mut EcoVec<Node<T>>,
+    len: usize,
     index: usize,
     value: T,
 ) -> Result<(), Rejected<T>>
     requires some { 0 < length nodes.old }
+    requires len { len ≡ length (items_of nodes.old) }
     requires within { index ≤ length (items_of nodes.old) }
     requires bounded { length (items_of nodes.old) < MAX_LEN }
     ensures kept { OnOk result (AreKeptIn T.is_clone (items_of nodes.old)
@@ -54,13 +56,13 @@ fn insert_below<T: Clone>(
     ensures fit { (h : ℕ) → AllFit h nodes.old → AllFit h nodes.new }
     ensures some { 0 < length nodes.new }
 {
-    let (at, rest) = place(nodes.as_slice(), index);
+    let (at, rest) = place(nodes.as_slice(), len, index);
     if nodes.as_slice()[at].is_full_leaf() {
         insert_parting(nodes, at, rest, value)?;
         return Ok(());
     }
     insert_there(nodes, at, rest, value)?;
-    part(nodes, at);
+    part(nodes, at, index == len);
     Ok(())
 }
 
@@ -86,10 +88,7 @@ fn insert_there<T: Clone>(
     ensures some { length nodes.new ≡ length nodes.old }
 {
     let Ok(block) = nodes.own_mut() else {
-        return Err(Rejected {
-            error: EcoError::Memory,
-            value,
-        });
+        return Err(for_memory(value));
     };
     block.as_mut_slice()[at].insert(index, value)?;
     Ok(())

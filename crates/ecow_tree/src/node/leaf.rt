@@ -7,9 +7,9 @@ ghost use Rattle.ecow_tree.specs.Grown.{Grown};
 ghost use Rattle.ecow_tree.specs.Kept.{AreKeptIn, SomeKept};
 ghost use Rattle.ecow_tree.specs.Nodes.{items_of, tallest, AllFit, LeadsTo};
 
-use crate::node::{LEAF, Node};
+use crate::node::{LEAF, Node, for_memory};
 use ecow_list::block::Block;
-use ecow_list::{Drain, EcoError, EcoVec, Rejected};
+use ecow_list::{Drain, EcoVec, Rejected};
 
 /// Appends the elements of `moved` to a block with capacity for them.
 fn fill<T: Drop>(block: &mut Block<T>, moved: Drain<T>)
@@ -46,20 +46,14 @@ fn move_with<T: Clone>(
     let mut fresh = EcoVec::new(items.allocator());
     let room = LEAF.max(end - start + 1);
     let Ok(block) = fresh.own_with_room(room) else {
-        return Err(Rejected {
-            error: EcoError::Memory,
-            value,
-        });
+        return Err(for_memory(value));
     };
     if start == end {
         block.push_within_capacity(value);
         return Ok(fresh);
     }
     let Ok(moved) = items.drain(start..end) else {
-        return Err(Rejected {
-            error: EcoError::Memory,
-            value,
-        });
+        return Err(for_memory(value));
     };
     fill(block, moved);
     block.insert_within_capacity(index - start, value);
@@ -67,46 +61,32 @@ fn move_with<T: Clone>(
 }
 
 impl<T: Clone> Node<T> {
-    /// Moves the elements of this leaf from `cut` on to a new leaf, with `value` before the one that
-    /// was at `index`.
-    fn part_back(&mut self, cut: usize, index: usize, value: T) -> Result<Node<T>, Rejected<T>>
+    /// Moves the elements of this leaf from `start` up to `end` to a new leaf, with `value` before
+    /// the one that was at `index`.
+    fn part_off(
+        &mut self,
+        start: usize,
+        end: usize,
+        index: usize,
+        value: T,
+    ) -> Result<Node<T>, Rejected<T>>
         requires leaf { self.old.height ≡ 0 }
-        requires some { 0 < cut }
-        requires cut { cut ≤ index }
-        requires within { index ≤ length self.old.items }
+        requires start { start ≤ index }
+        requires end { index ≤ end }
+        requires in_bounds { end ≤ length self.old.items }
         requires bounded { length self.old.items < MAX_LEN }
-        ensures kept { IfOk result
-            (λ back. AreKeptIn T.is_clone self.old.items
-            (λ xs. insert xs index value) (self.new.items ++ back.items)) }
-        ensures back { IfOk result (λ back. (back.height ≡ 0) × (0 < length back.items)) }
-        ensures front { OnOk result (0 < length self.new.items) }
+        ensures moved { IfOk result
+            (λ moved. SomeKept T.is_clone self.old.items
+            (λ kept.
+            (self.new.items ≡ remove_range kept start end)
+            × (moved.items ≡ insert (slice_range kept start end) (index - start) value))) }
+        ensures leaf { IfOk result (λ moved. moved.height ≡ 0) }
         ensures height { self.new.height ≡ self.old.height }
         ensures unchanged { OnErr result (self.new.items ≡ self.old.items) }
         ensures value_returned { IfErr result (λ rejected. rejected.value ≡ value) }
     {
-        let moved = move_with(&mut self.items, cut, self.len, index, value)?;
-        self.len = cut;
-        Ok(Node::leaf(moved))
-    }
-
-    /// Moves the elements of this leaf before `cut` to a new leaf, with `value` before the one that
-    /// was at `index`.
-    fn part_front(&mut self, cut: usize, index: usize, value: T) -> Result<Node<T>, Rejected<T>>
-        requires leaf { self.old.height ≡ 0 }
-        requires cut { index ≤ cut }
-        requires within { cut < length self.old.items }
-        requires bounded { length self.old.items < MAX_LEN }
-        ensures kept { IfOk result
-            (λ front. AreKeptIn T.is_clone self.old.items
-            (λ xs. insert xs index value) (front.items ++ self.new.items)) }
-        ensures front { IfOk result (λ front. (front.height ≡ 0) × (0 < length front.items)) }
-        ensures back { OnOk result (0 < length self.new.items) }
-        ensures height { self.new.height ≡ self.old.height }
-        ensures unchanged { OnErr result (self.new.items ≡ self.old.items) }
-        ensures value_returned { IfErr result (λ rejected. rejected.value ≡ value) }
-    {
-        let moved = move_with(&mut self.items, 0, cut, index, value)?;
-        self.len -= cut;
+        let moved = move_with(&mut self.items, start, end, index, value)?;
+        self.len -= end - start;
         Ok(Node::leaf(moved))
     }
 
@@ -120,7 +100,8 @@ impl<T: Clone> Node<T> {
         ensures kept { IfOk result
             (λ leaves. AreKeptIn T.is_clone self.items
             (λ xs. insert xs index value) (leaves.0.items ++ leaves.1.items)) }
-        ensures first { IfOk result (λ leaves. (leaves.0.height ≡ 0) × (0 < length leaves.0.items)) }
+        ensures first { IfOk result
+            (λ leaves. (leaves.0.height ≡ 0) × (0 < length leaves.0.items)) }
         ensures second { IfOk result
             (λ leaves. (leaves.1.height ≡ 0) × (0 < length leaves.1.items)) }
         ensures unchanged { IfErr result (λ back. back.0 ≡ self) }
@@ -129,13 +110,13 @@ impl<T: Clone> Node<T> {
         let mut leaf = self;
         let (len, half) = (leaf.len, leaf.len / 2);
         if index < half {
-            return match leaf.part_front(half, index, value) {
+            return match leaf.part_off(0, half, index, value) {
                 Ok(front) => Ok((front, leaf)),
                 Err(rejected) => Err((leaf, rejected.value)),
             };
         }
         let cut = if index == len { len } else { half };
-        match leaf.part_back(cut, index, value) {
+        match leaf.part_off(cut, len, index, value) {
             Ok(back) => Ok((leaf, back)),
             Err(rejected) => Err((leaf, rejected.value)),
         }
@@ -167,10 +148,7 @@ pub(crate) fn insert_parting<T: Clone>(
     ensures some { 0 < length nodes.new }
 {
     let Ok(block) = nodes.own_with_room(1) else {
-        return Err(Rejected {
-            error: EcoError::Memory,
-            value,
-        });
+        return Err(for_memory(value));
     };
     match block.remove(at).part_leaf(index, value) {
         Ok((first, second)) => {
@@ -180,10 +158,7 @@ pub(crate) fn insert_parting<T: Clone>(
         }
         Err((leaf, value)) => {
             block.insert_within_capacity(at, leaf);
-            Err(Rejected {
-                error: EcoError::Memory,
-                value,
-            })
+            Err(for_memory(value))
         }
     }
 }

@@ -69,16 +69,15 @@ impl<T: Drop> Node<T> {
     }
 }
 
-/// Parts the node at `at` where it is over too many nodes. Where memory is refused, it stays whole.
-pub(crate) fn part<T: Drop>(nodes: &mut EcoVec<Node<T>>, at: usize)
+/// Parts the node at `at` where it is over too many nodes, `at_end` or in the middle. Where memory
+/// is refused, it stays whole.
+pub(crate) fn part<T: Drop>(nodes: &mut EcoVec<Node<T>>, at: usize, at_end: bool)
     requires { at < length nodes.old }
     ensures items { items_of nodes.new ≡ items_of nodes.old }
     ensures tallest { tallest nodes.new ≤ tallest nodes.old }
     ensures fit { (h : ℕ) → AllFit h nodes.old → AllFit h nodes.new }
     ensures some { 0 < length nodes.new }
 {
-    let len = nodes.len();
-    let at_end = at + 1 == len;
     let Some((left, right)) = nodes.as_slice()[at].parted(at_end) else {
         return;
     };

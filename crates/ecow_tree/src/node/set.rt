@@ -4,10 +4,10 @@ ghost use Rattle.ecow_list.specs.Refusals.{RejectsForMemory};
 ghost use Rattle.ecow_tree.specs.Kept.{AreKeptIn};
 ghost use Rattle.ecow_tree.specs.Nodes.{items_of, tallest, AllFit};
 
-use crate::node::Node;
 use crate::node::seek::seek;
+use crate::node::{Node, for_memory};
 use ecow_list::block::Block;
-use ecow_list::{EcoError, EcoVec, Rejected};
+use ecow_list::{EcoVec, Rejected};
 
 impl<T: Clone> Node<T> {
     /// Replaces the element at `index` with `value`.
@@ -49,10 +49,7 @@ fn set_below<T: Clone>(
 {
     let (at, rest) = seek(nodes.as_slice(), index);
     let Ok(block) = nodes.own_mut() else {
-        return Err(Rejected {
-            error: EcoError::Memory,
-            value,
-        });
+        return Err(for_memory(value));
     };
     block.as_mut_slice()[at].set(rest, value)?;
     Ok(())
