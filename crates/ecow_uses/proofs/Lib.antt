@@ -4,3 +4,4 @@ pub mod Holes
 pub mod Said
 pub mod Trees
 pub mod Runs
+pub mod Laid

@@ -2,7 +2,9 @@
 //! its user. The program runs each of them on an example.
 #![tactic(auto)]
 
+mod history;
 mod keys;
+mod layers;
 mod lines;
 mod nested;
 mod settings;
@@ -24,6 +26,7 @@ use ecow_list::{EcoVec, eco_vec};
 use ecow_model::VecCommand;
 use ecow_nested::{Fields, Step, Value};
 use ecow_string::EcoString;
+use ecow_tree::EcoTree;
 use std::collections::BTreeMap;
 
 fn main(rt: HostRuntime) -> Result<()> {
@@ -33,8 +36,10 @@ fn main(rt: HostRuntime) -> Result<()> {
     shadow_a_name(&rt)?;
     replace_a_node(&rt)?;
     set_a_value(&rt)?;
+    lay_over_settings(&rt)?;
     write_in_place(&rt)?;
     go_back(&rt)?;
+    edit_a_long_text(&rt)?;
     compare_keys(&rt)?;
     append_to_lines(&rt)?;
     collect_items(&rt)?;
@@ -222,6 +227,35 @@ fn name(rt: &HostRuntime, name: &str) -> Result<EcoString> {
     Ok(EcoString::from_str(rt.alloc(), name)?)
 }
 
+fn lay_over_settings(rt: &HostRuntime) -> Result<()> {
+    let mut settings = Value::from_fields(numbers(rt, &[("color", 1), ("size", 2)])?)?;
+    let before = settings.clone()?;
+    layers::merge(
+        &mut settings,
+        &numbers(rt, &[("color", 3), ("font", 4), ("color", 5)])?,
+    )?;
+    print_settings(rt, "below", &before)?;
+    print_settings(rt, "merged", &settings)
+}
+
+fn numbers(rt: &HostRuntime, pairs: &[(&str, i64)]) -> Result<Fields<Value>> {
+    let mut fields = Fields::new(rt.alloc());
+    for (word, number) in pairs {
+        fields.push(name(rt, word)?, Value::Number(*number))?;
+    }
+    Ok(fields)
+}
+
+fn print_settings(rt: &HostRuntime, word: &str, settings: &Value) -> Result<()> {
+    let [color, size, font] = ["color", "size", "font"].map(|name| number_of(settings, name));
+    println!(rt; "{word}: color {color:?}, size {size:?}, font {font:?}")?;
+    Ok(())
+}
+
+fn number_of(settings: &Value, name: &str) -> Option<i64> {
+    settings.field(name).ok()?.number()
+}
+
 fn write_in_place(rt: &HostRuntime) -> Result<()> {
     let mut list = eco_vec![in rt.alloc(); 30u64, 10, 20]?;
     let kept = list.clone()?;
@@ -238,6 +272,44 @@ fn go_back(rt: &HostRuntime) -> Result<()> {
     versions.set(2)?;
     let undone = versions.undo()?;
     println!(rt; "went back: {undone}, to {}", versions.present())?;
+    Ok(())
+}
+
+fn edit_a_long_text(rt: &HostRuntime) -> Result<()> {
+    let mut text = Versions::new(rt.alloc(), EcoTree::new(rt.alloc()));
+    for _ in 0..300 {
+        let end = text.present().len();
+        history::insert(&mut text, end, name(rt, "a line")?)?;
+    }
+    edit_a_line(rt, &mut text, 150)?;
+    remove_a_line(rt, &mut text)
+}
+
+fn edit_a_line(
+    rt: &HostRuntime,
+    text: &mut Versions<EcoTree<EcoString>>,
+    index: usize,
+) -> Result<()> {
+    if index >= text.present().len() {
+        return Ok(());
+    }
+    let undone = history::edit_and_undo(text, index, name(rt, "another line")?)?;
+    let before = text.present().clone()?;
+    let redone = text.redo()?;
+    println!(rt; "undone: {undone}, line {index}: {:?}", before.get(index))?;
+    println!(rt;
+        "made again: {redone}, line {index}: {:?}",
+        text.present().get(index)
+    )?;
+    Ok(())
+}
+
+fn remove_a_line(rt: &HostRuntime, text: &mut Versions<EcoTree<EcoString>>) -> Result<()> {
+    let before = text.present().clone()?;
+    if !before.is_empty() {
+        history::remove(text, 0)?;
+    }
+    println!(rt; "lines: {}, before: {}", text.present().len(), before.len())?;
     Ok(())
 }
 

@@ -17,18 +17,19 @@ pub struct History {
 }
 
 impl Model for History {
+    ghost use Rattle.std.specs.Prelude.{List};
     ghost use Rattle.ecow_base.specs.declared.plain.PlainText.{PlainText};
     ghost use Rattle.ecow_uses.specs.History.{Timeline};
 
-    ghost Value = { Timeline PlainText };
+    ghost Value = { Timeline (List PlainText) };
 
-    ghost view = { λ h. record { lines = h.lines; past = h.past.items; future = h.future.items } };
+    ghost view = { λ h. record { present = h.lines; past = h.past.items; future = h.future.items } };
 }
 
 impl History {
     /// Makes an empty document without a past. Takes no memory.
     pub fn new(alloc: Global) -> Self
-        ensures lines { result.lines ≡ [] }
+        ensures lines { result.present ≡ [] }
         ensures past { result.past ≡ [] }
         ensures future { result.future ≡ [] }
     {
@@ -41,22 +42,22 @@ impl History {
 
     /// The lines, in order.
     pub fn lines(&self) -> &[EcoString]
-        ensures { result.now ≡ self.now.lines }
+        ensures { result.now ≡ self.now.present }
     {
         &self.lines
     }
 
     /// A clone of the document, which shares its lines. No later edit changes it.
     pub fn snapshot(&self) -> Result<EcoVec<EcoString>, AllocError>
-        ensures { IfOk result (λ lines. lines ≡ self.now.lines) }
+        ensures { IfOk result (λ lines. lines ≡ self.now.present) }
     {
         self.lines.clone()
     }
 
     /// Replaces the line at `at`. If it is refused, nothing changes.
     pub fn replace(&mut self, at: usize, line: EcoString) -> Result<(), EcoError>
-        requires { at < length self.old.lines }
-        ensures ok { OnOk result (self.new ≡ edited self.old (slice_set self.old.lines at line)) }
+        requires { at < length self.old.present }
+        ensures ok { OnOk result (self.new ≡ edited self.old (slice_set self.old.present at line)) }
         ensures unchanged { OnErr result (self.new ≡ self.old) }
     {
         let mut lines = self.lines.clone()?;
@@ -66,8 +67,8 @@ impl History {
 
     /// Inserts a line before the one at `at`, or at the end. If it is refused, nothing changes.
     pub fn insert(&mut self, at: usize, line: EcoString) -> Result<(), EcoError>
-        requires { at ≤ length self.old.lines }
-        ensures ok { OnOk result (self.new ≡ edited self.old (insert self.old.lines at line)) }
+        requires { at ≤ length self.old.present }
+        ensures ok { OnOk result (self.new ≡ edited self.old (insert self.old.present at line)) }
         ensures unchanged { OnErr result (self.new ≡ self.old) }
     {
         let mut lines = self.lines.clone()?;
@@ -77,8 +78,8 @@ impl History {
 
     /// Removes the line at `at`. If it is refused, nothing changes.
     pub fn remove(&mut self, at: usize) -> Result<(), EcoError>
-        requires { at < length self.old.lines }
-        ensures ok { OnOk result (self.new ≡ edited self.old (remove self.old.lines at)) }
+        requires { at < length self.old.present }
+        ensures ok { OnOk result (self.new ≡ edited self.old (remove self.old.present at)) }
         ensures unchanged { OnErr result (self.new ≡ self.old) }
     {
         let mut lines = self.lines.clone()?;
@@ -138,9 +139,9 @@ impl History {
 
 /// The law: after an edit is undone, the lines and their past are those before the edit.
 pub fn replace_and_undo(history: &mut History, at: usize, line: EcoString) -> Result<bool, EcoError>
-    requires { at < length history.old.lines }
+    requires { at < length history.old.present }
     ensures undone { IfOk result (λ done. done ≡ true) }
-    ensures lines { OnOk result (history.new.lines ≡ history.old.lines) }
+    ensures lines { OnOk result (history.new.present ≡ history.old.present) }
     ensures past { OnOk result (history.new.past ≡ history.old.past) }
 {
     history.replace(at, line)?;
