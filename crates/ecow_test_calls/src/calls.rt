@@ -20,6 +20,15 @@ pub enum Call {
     Truncate,
     Clear,
     Retain,
+    /// Swaps the first and the last item of the range.
+    Swap,
+    /// Reverses the items, and sorts them.
+    Sort,
+    /// Sorts the items in falling order.
+    SortBy,
+    /// Cuts off the items from the start of the range on.
+    SplitOff,
+    Append,
     Reserve,
     /// Borrows the items and reverses them.
     MakeMut,

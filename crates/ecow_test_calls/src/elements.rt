@@ -91,10 +91,14 @@ pub fn compare<V: Ord + Hash>(value: &V, other: &V) {
     value.hash(&mut hasher);
 }
 
-/// Makes a call that copies the elements of a slice as plain memory.
-fn copied<T: Copy>(list: &mut EcoVec<T>, row: &Row, given: &[T]) -> Result<(), EcoError> {
+/// Makes a call that copies the elements of a slice as plain memory, or sorts those of the vector.
+fn copied<T: Copy + Ord>(list: &mut EcoVec<T>, row: &Row, given: &[T]) -> Result<(), EcoError> {
     let (start, end) = (row.start_in(list.len()), row.end_in(list.len()));
     match row.call {
+        Call::Sort => {
+            list.make_mut()?.reverse();
+            list.sort()
+        }
         Call::ExtendFromCopied => list.extend_from_copied(given),
         Call::InsertSlice if start <= list.len() => list.insert_slice(start, given),
         Call::ExtendFromWithin if range_in(&(start..end), list.len()) => {
@@ -108,7 +112,7 @@ fn copied<T: Copy>(list: &mut EcoVec<T>, row: &Row, given: &[T]) -> Result<(), E
 }
 
 /// Numbers, and elements made of a number, that are copied as plain memory.
-pub trait Plain: Copy {
+pub trait Plain: Copy + Ord {
     fn of_number(number: i64) -> Self;
 
     fn as_number(&self) -> i64;

@@ -79,6 +79,7 @@ impl Row {
             Call::Splice | Call::ReplaceRange => (start, end, self.count),
             Call::Remove | Call::Retain | Call::Drain => (start, end, 0),
             Call::Pop => (len.saturating_sub(1), len, 0),
+            Call::SplitOff => (start, len, 0),
             Call::Truncate | Call::Rewrite => (self.count.min(len), len, 0),
             Call::Clear => (0, len, 0),
             _ if self.gives_away() => (0, len, 0),
@@ -92,7 +93,7 @@ impl Row {
         match self.call {
             Call::ExtendFromSlice | Call::Extend | Call::ExtendStrs | Call::ExtendHalves => true,
             Call::ExtendManyStrs(_) | Call::ExtendFromCopied | Call::ExtendFromWithin => true,
-            call => matches!(call, Call::Write | Call::Add),
+            call => matches!(call, Call::Append | Call::Write | Call::Add),
         }
     }
 
@@ -100,6 +101,7 @@ impl Row {
     pub fn hands_out(&self) -> bool {
         match self.call {
             Call::Update | Call::Pop | Call::Remove | Call::Drain | Call::Splice => true,
+            Call::SplitOff => true,
             call => self.gives_away() && call != Call::Drop,
         }
     }
@@ -116,7 +118,7 @@ impl Row {
     fn is_lazy(&self) -> bool {
         match self.call {
             Call::Pop | Call::Truncate | Call::Clear | Call::Read | Call::Compare => true,
-            Call::IntoBytes | Call::IntoOtherArray => true,
+            Call::IntoBytes | Call::IntoOtherArray | Call::SplitOff => true,
             _ => self.appends(),
         }
     }
@@ -187,7 +189,13 @@ impl Row {
     pub fn origin(&self, len: usize, place: usize) -> Origin {
         let Edit { start, end, count } = self.edit(len);
         match self.call {
-            Call::MakeMut | Call::OwnMut | Call::OwnWithRoom | Call::Rewrite => {
+            Call::Swap if place == self.start_in(len) => {
+                Origin::Before(self.end_in(len).saturating_sub(1))
+            }
+            Call::Swap if place.saturating_add(1) == self.end_in(len) => {
+                Origin::Before(self.start_in(len))
+            }
+            Call::MakeMut | Call::OwnMut | Call::OwnWithRoom | Call::Rewrite | Call::SortBy => {
                 Origin::Before(len.saturating_sub(1).saturating_sub(place))
             }
             Call::ExtendFromWithin if place >= len => {
@@ -279,8 +287,15 @@ impl Case {
             && match self.row.call {
                 Call::ShrinkToFit => self.is_inline_after(),
                 Call::IntoEcoVec => false,
+                // The other vector gets the block.
+                Call::SplitOff if start == 0 => false,
                 _ => !self.row.is_lazy() || start < end || count > 0,
             }
+    }
+
+    /// Whether another vector gets the block with all items.
+    fn is_split_whole(&self) -> bool {
+        self.row.call == Call::SplitOff && self.row.start == 0 && self.state.len > 0
     }
 
     /// How many items the call copies out of a shared block.
@@ -344,13 +359,14 @@ impl Case {
         }
         match (self.row.call, self.state.capacity) {
             _ if self.is_inline_after() => limit,
-            (_, Some(_)) if self.row.gives_away() => 0,
+            (_, Some(_)) if self.row.gives_away() || self.is_split_whole() => 0,
             (Call::IntoEcoVec, None) => fresh(len),
             (_, None) => spilled(needed, len),
             (_, Some(capacity)) if !self.state.shared => grown_capacity(needed, capacity),
             (_, Some(capacity)) if !self.leaves() => capacity,
             (Call::Splice, _) => grown_capacity(needed, fresh(len)),
             (_, Some(capacity)) if self.row.keeps_capacity() => grown_capacity(needed, capacity),
+            (Call::SplitOff, _) => fresh(self.len_after()),
             _ => fresh(self.copied()),
         }
     }
@@ -360,9 +376,12 @@ impl Case {
         let Edit { start, end, count } = self.edit();
         match self.row.call {
             Call::Drain => start < end,
+            Call::SplitOff => 0 < start && start < end,
             Call::Splice => start < end || count > 0,
             Call::IntoVec | Call::IntoArray => self.state.len > 0,
             Call::IntoEcoVec => self.state.capacity.is_none() && self.state.len > 0,
+            // The vector whose elements are appended is made by the call here.
+            Call::Append => count > 0,
             Call::ExtendFromSlice => !self.is_plain && count > 0,
             _ => false,
         }

@@ -64,6 +64,7 @@ fn with_range(numbers: &mut Numbers, row: &Row, len: usize) -> Row {
         row.start = start;
         row.end = match row.call {
             Call::Set | Call::Update | Call::Remove => start.saturating_add(1),
+            Call::Swap => start.saturating_add(up_to(numbers, len)).saturating_add(1),
             _ => start.saturating_add(up_to(numbers, len.saturating_sub(start))),
         };
         row.needs = row.end;

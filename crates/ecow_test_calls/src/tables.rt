@@ -88,6 +88,14 @@ pub static FURTHER_VECTOR_CHANGES: &[Row] = &[
     row!(Call::Retain, "retain(all)", (0, 0), 0),
     row!(Call::Retain, "retain(all but 1..3)", (1, 3), 0),
     row!(Call::Retain, "retain(none)", (0, LAST), 0, at 0),
+    row!(Call::Swap, "swap(1, 3)", (1, 4), 0),
+    row!(Call::Swap, "swap(0, 0)", (0, 1), 0),
+    row!(Call::SortBy, "sort_by(falling)", 0, at 0),
+    row!(Call::SplitOff, "split_off(3)", (3, 5), 0),
+    row!(Call::SplitOff, "split_off(0)", (0, 5), 0, at 0),
+    row!(Call::SplitOff, "split_off(len)", (LAST, LAST), 0, at 0),
+    row!(Call::Append, "append(2)", 2),
+    row!(Call::Append, "append(none)", 0),
     row!(Call::Reserve, "reserve(2)", 2),
     row!(Call::Reserve, "reserve(4)", 4),
     row!(Call::ExtendFromSlice, "extend_from_slice(1)", 1),
@@ -217,8 +225,9 @@ pub static COPIES: &[Row] = &[
     row!(Call::Compare, "==, cmp, hash", 0),
 ];
 
-/// More calls that copy elements as plain memory.
+/// More calls that copy elements as plain memory, or that compare them.
 pub static FURTHER_COPIES: &[Row] = &[
+    row!(Call::Sort, "sort()", 0, at 0),
     row!(Call::ExtendFromCopied, "extend_from_copied(6)", 6),
     row!(Call::ExtendFromWithin, "extend_from_within(1..4)", (1, 4), 0, at 4),
     row!(Call::ExtendFromWithin, "extend_from_within(..5)", (0, 5), 0),

@@ -29,6 +29,7 @@ impl<T: Drop> Gift<T> {
 pub enum Out<T: Element> {
     Nothing,
     One(T),
+    Split(EcoVec<T>),
     Drained(Drain<T>),
     Spliced(Splice<T>),
     All(Vec<T>),
@@ -135,6 +136,25 @@ fn own_and_reverse<T: Element>(list: &mut EcoVec<T>) -> Result<(), EcoError> {
     }
 }
 
+/// Swaps the first and the last element of a range.
+fn swap<T: Element>(list: &mut EcoVec<T>, row: &Row) -> Result<(), EcoError> {
+    let (start, end) = (row.start_in(list.len()), row.end_in(list.len()));
+    if start < end && end <= list.len() {
+        return list.swap(start, end - 1);
+    }
+    Err(EcoError::Capacity)
+}
+
+/// Appends given elements, which must be gone from their own vector, or still there if the call is
+/// refused.
+fn append<T: Element>(list: &mut EcoVec<T>, alloc: Global, given: Vec<T>) -> Outcome<T> {
+    let mut other = EcoVec::from_vec(alloc, given).map_err(|_| EcoError::Memory)?;
+    let count = other.len();
+    let done = list.append(&mut other);
+    expect(other.len() == if done.is_ok() { 0 } else { count })?;
+    nothing(done)
+}
+
 /// Makes a call that takes no element and returns none. `given` is for calls that copy elements.
 fn settle<T: Element>(list: &mut EcoVec<T>, row: &Row, given: &[T]) -> Result<(), EcoError> {
     match row.call {
@@ -142,6 +162,8 @@ fn settle<T: Element>(list: &mut EcoVec<T>, row: &Row, given: &[T]) -> Result<()
         Call::Truncate => list.truncate(row.count)?,
         Call::Clear => list.clear(),
         Call::Retain => retain(list, row)?,
+        Call::Swap => swap(list, row)?,
+        Call::SortBy => list.sort_by(|a, b| b.number().cmp(&a.number()))?,
         Call::Reserve => list.reserve(row.count)?,
         Call::MakeMut => list.make_mut()?.reverse(),
         Call::OwnMut => own_and_reverse(list)?,
@@ -167,6 +189,7 @@ fn take<T: Element>(list: &mut EcoVec<T>, row: &Row, gift: &mut Gift<T>) -> Outc
         Call::Drain if range_in(&(start..end), list.len()) => {
             Ok(Out::Drained(list.drain(start..end)?))
         }
+        Call::SplitOff if start <= list.len() => Ok(Out::Split(list.split_off(start)?)),
         Call::Splice if range_in(&(start..end), list.len()) => {
             let items = gift.asks.of(gift.items.by_ref().take(row.count));
             Ok(Out::Spliced(list.splice(start..end, items)?))
@@ -272,7 +295,10 @@ impl<T: Element> Sequence for EcoVec<T> {
                 let items = gift.items.by_ref().take(row.count);
                 nothing(self.extend(gift.asks.of(items)))
             }
-            Call::Pop | Call::Remove | Call::Drain | Call::Splice => take(self, row, gift),
+            Call::Append => append(self, gift.alloc, gift.take()),
+            Call::Pop | Call::Remove | Call::Drain | Call::Splice | Call::SplitOff => {
+                take(self, row, gift)
+            }
             Call::IntoOtherArray => give(self, row, gift.alloc),
             _ if row.gives_away() => give(self, row, gift.alloc),
             _ => nothing(settle(self, row, gift.elements.as_slice())),
@@ -315,6 +341,7 @@ impl<T: Element> Sequence for EcoVec<T> {
         let handed = match out {
             Out::Nothing => None,
             Out::One(one) => return (place == 0).then_some(one.number()),
+            Out::Split(rest) => rest.as_slice().get(place),
             Out::Drained(rest) => rest.as_slice().get(place),
             Out::Spliced(rest) => rest.as_slice().get(place),
             Out::All(all) => all.as_slice().get(place),

@@ -112,3 +112,44 @@ fn inserts_are_those_of_a_vector(rt: HostRuntime) -> Result<(), Fail> {
     }
     Ok(())
 }
+
+/// Removals at places all over leave what they leave of a `Vec`. None is refused, and none clones.
+#[test]
+fn removals_are_those_of_a_vector(rt: HostRuntime) -> Result<(), Fail> {
+    let (alloc, tally) = (rt.alloc(), Tally::new(rt.alloc())?);
+    let mut list = counted(alloc, &tally, 3000)?;
+    let mut model = Vec::new(alloc);
+    for number in 0..3000 {
+        model.push(number)?;
+    }
+    for number in 0..2900 {
+        let index = number * 7919 % 3001;
+        if index < list.len() && index < model.len() {
+            assert_eq!(rt; list.remove(index)?.number, model.remove(index));
+        } else if let Some(last) = list.pop()? {
+            assert_eq!(rt; Some(last.number), model.pop());
+        }
+    }
+    assert!(rt; tally.has(0, 2900) && list.len() == 100 && model.len() == 100);
+    for (index, expected) in model.iter().enumerate() {
+        assert_eq!(rt; number(&list, index), Some(*expected));
+    }
+    Ok(())
+}
+
+/// A removal from a list that shares its blocks clones those of one block at most, and the others
+/// keep their elements.
+#[test]
+fn a_removal_clones_a_block_that_is_shared(rt: HostRuntime) -> Result<(), Fail> {
+    let (alloc, tally) = (rt.alloc(), Tally::new(rt.alloc())?);
+    let mut list = counted(alloc, &tally, 5000)?;
+    let before = list.clone()?;
+    if 1000 < list.len() {
+        assert_eq!(rt; list.remove(1000)?.number, 1000);
+    }
+    assert!(rt; 0 < tally.clones() && tally.clones() <= 128);
+    assert_eq!(rt; number(&list, 1000), Some(1001));
+    assert_eq!(rt; number(&before, 1000), Some(1000));
+    assert!(rt; list.len() == 4999 && before.len() == 5000);
+    Ok(())
+}
