@@ -6,56 +6,45 @@
 
 #include "ecow.h"
 
-ecow_status ecow_proved_list_assign(ecow_list **value, const int64_t *items, size_t count);
-ecow_status ecow_proved_list_truncate(ecow_list **value, size_t len);
-ecow_status ecow_proved_list_clear(ecow_list **value);
-ecow_status ecow_proved_list_reserve(ecow_list **value, size_t additional);
-size_t ecow_proved_list_capacity(ecow_list **value);
-ecow_status ecow_proved_list_shrink_to_fit(ecow_list **value);
-ecow_status ecow_proved_list_extend(ecow_list **value, const int64_t *items, size_t count);
-ecow_status ecow_proved_list_splice(ecow_list **value, size_t start, size_t end,
-                                    const int64_t *items, size_t count);
-bool ecow_proved_list_equal(ecow_list **left, ecow_list **right);
-int32_t ecow_proved_list_compare(ecow_list **left, ecow_list **right);
-uint64_t ecow_proved_list_hash(ecow_list **value);
-ecow_status ecow_proved_list_get(ecow_list **value, size_t index, int64_t *out);
-ecow_status ecow_proved_list_set(ecow_list **value, size_t index, int64_t item);
-ecow_status ecow_proved_list_push(ecow_list **value, int64_t item);
-ecow_status ecow_proved_list_pop(ecow_list **value, int64_t *out);
-ecow_status ecow_proved_list_insert(ecow_list **value, size_t index, int64_t item);
-ecow_status ecow_proved_list_remove(ecow_list **value, size_t index, int64_t *out);
+/* What lists, bytes, a text and texts have alike. */
+#define PROVED_CALLS(kind)                                                                         \
+    ecow_status ecow_proved_##kind##_truncate(ecow_##kind **value, size_t len);                    \
+    ecow_status ecow_proved_##kind##_clear(ecow_##kind **value);                                   \
+    ecow_status ecow_proved_##kind##_reserve(ecow_##kind **value, size_t additional);              \
+    size_t ecow_proved_##kind##_capacity(ecow_##kind **value);                                     \
+    ecow_status ecow_proved_##kind##_shrink_to_fit(ecow_##kind **value);                           \
+    bool ecow_proved_##kind##_equal(ecow_##kind **left, ecow_##kind **right);                      \
+    int32_t ecow_proved_##kind##_compare(ecow_##kind **left, ecow_##kind **right);                 \
+    uint64_t ecow_proved_##kind##_hash(ecow_##kind **value);
 
-ecow_status ecow_proved_bytes_assign(ecow_bytes **value, const uint8_t *items, size_t count);
-ecow_status ecow_proved_bytes_truncate(ecow_bytes **value, size_t len);
-ecow_status ecow_proved_bytes_clear(ecow_bytes **value);
-ecow_status ecow_proved_bytes_reserve(ecow_bytes **value, size_t additional);
-size_t ecow_proved_bytes_capacity(ecow_bytes **value);
-ecow_status ecow_proved_bytes_shrink_to_fit(ecow_bytes **value);
-ecow_status ecow_proved_bytes_extend(ecow_bytes **value, const uint8_t *items, size_t count);
-ecow_status ecow_proved_bytes_splice(ecow_bytes **value, size_t start, size_t end,
-                                     const uint8_t *items, size_t count);
-bool ecow_proved_bytes_equal(ecow_bytes **left, ecow_bytes **right);
-int32_t ecow_proved_bytes_compare(ecow_bytes **left, ecow_bytes **right);
-uint64_t ecow_proved_bytes_hash(ecow_bytes **value);
-ecow_status ecow_proved_bytes_get(ecow_bytes **value, size_t index, uint8_t *out);
-ecow_status ecow_proved_bytes_set(ecow_bytes **value, size_t index, uint8_t item);
-ecow_status ecow_proved_bytes_push(ecow_bytes **value, uint8_t item);
-ecow_status ecow_proved_bytes_pop(ecow_bytes **value, uint8_t *out);
-ecow_status ecow_proved_bytes_insert(ecow_bytes **value, size_t index, uint8_t item);
-ecow_status ecow_proved_bytes_remove(ecow_bytes **value, size_t index, uint8_t *out);
+/* The calls that take an array. */
+#define PROVED_ARRAYS(kind, item)                                                                  \
+    ecow_status ecow_proved_##kind##_assign(ecow_##kind **value, const item *items, size_t count); \
+    ecow_status ecow_proved_##kind##_extend(ecow_##kind **value, const item *items, size_t count); \
+    ecow_status ecow_proved_##kind##_splice(ecow_##kind **value, size_t start, size_t end,         \
+                                            const item *items, size_t count);
 
-ecow_status ecow_proved_text_assign(ecow_text **value, const char *items, size_t count);
-ecow_status ecow_proved_text_truncate(ecow_text **value, size_t len);
-ecow_status ecow_proved_text_clear(ecow_text **value);
-ecow_status ecow_proved_text_reserve(ecow_text **value, size_t additional);
-size_t ecow_proved_text_capacity(ecow_text **value);
-ecow_status ecow_proved_text_shrink_to_fit(ecow_text **value);
-ecow_status ecow_proved_text_extend(ecow_text **value, const char *items, size_t count);
-ecow_status ecow_proved_text_splice(ecow_text **value, size_t start, size_t end, const char *items,
-                                    size_t count);
-bool ecow_proved_text_equal(ecow_text **left, ecow_text **right);
-int32_t ecow_proved_text_compare(ecow_text **left, ecow_text **right);
-uint64_t ecow_proved_text_hash(ecow_text **value);
+/* The calls on one item. */
+#define PROVED_ITEMS(kind, item)                                                                   \
+    ecow_status ecow_proved_##kind##_get(ecow_##kind **value, size_t index, item *out);            \
+    ecow_status ecow_proved_##kind##_set(ecow_##kind **value, size_t index, item one);             \
+    ecow_status ecow_proved_##kind##_push(ecow_##kind **value, item one);                          \
+    ecow_status ecow_proved_##kind##_pop(ecow_##kind **value, item *out);                          \
+    ecow_status ecow_proved_##kind##_insert(ecow_##kind **value, size_t index, item one);          \
+    ecow_status ecow_proved_##kind##_remove(ecow_##kind **value, size_t index, item *out);
+
+PROVED_CALLS(list)
+PROVED_ARRAYS(list, int64_t)
+PROVED_ITEMS(list, int64_t)
+
+PROVED_CALLS(bytes)
+PROVED_ARRAYS(bytes, uint8_t)
+PROVED_ITEMS(bytes, uint8_t)
+
+PROVED_CALLS(text)
+PROVED_ARRAYS(text, char)
+PROVED_CALLS(texts)
+
 ecow_status ecow_proved_text_get(ecow_text **value, size_t index, uint32_t *out);
 ecow_status ecow_proved_text_push(ecow_text **value, uint32_t character);
 ecow_status ecow_proved_text_pop(ecow_text **value, uint32_t *out);
@@ -70,14 +59,6 @@ ecow_status ecow_proved_text_repeat(ecow_text **value, size_t count);
 bool ecow_proved_text_is_boundary(ecow_text **value, size_t index);
 bool ecow_proved_is_utf8(const char *bytes, size_t count);
 
-ecow_status ecow_proved_texts_truncate(ecow_texts **value, size_t len);
-ecow_status ecow_proved_texts_clear(ecow_texts **value);
-ecow_status ecow_proved_texts_reserve(ecow_texts **value, size_t additional);
-size_t ecow_proved_texts_capacity(ecow_texts **value);
-ecow_status ecow_proved_texts_shrink_to_fit(ecow_texts **value);
-bool ecow_proved_texts_equal(ecow_texts **left, ecow_texts **right);
-int32_t ecow_proved_texts_compare(ecow_texts **left, ecow_texts **right);
-uint64_t ecow_proved_texts_hash(ecow_texts **value);
 ecow_status ecow_proved_texts_get(ecow_texts **value, size_t index, ecow_text **out);
 ecow_status ecow_proved_texts_set(ecow_texts **value, size_t index, ecow_text **item);
 ecow_status ecow_proved_texts_push(ecow_texts **value, ecow_text **item);

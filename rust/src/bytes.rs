@@ -134,6 +134,8 @@ impl<const N: usize> SmallBytes<N> {
     /// As [`make_mut`](Self::make_mut).
     /// # Errors
     /// `Error::Memory` if shared bytes can't be copied.
+    ///
+    ///     assert_eq!(ecow::EcoBytes::from(b"ab").try_make_mut(), Ok(&mut [97, 98][..]));
     #[inline]
     pub fn try_make_mut(&mut self) -> Result<&mut [u8], Error> {
         Ok(self.0.make_mut()?)
@@ -151,6 +153,8 @@ impl<const N: usize> SmallBytes<N> {
     /// As [`push`](Self::push).
     /// # Errors
     /// `Error::Capacity`, `Error::Memory`.
+    ///
+    ///     assert_eq!(ecow::EcoBytes::from(b"ab").try_push(b'c'), Ok(()));
     #[inline]
     pub fn try_push(&mut self, byte: u8) -> Result<(), Error> {
         Ok(self.0.push(byte)?)
@@ -167,6 +171,8 @@ impl<const N: usize> SmallBytes<N> {
     /// As [`pop`](Self::pop).
     /// # Errors
     /// `Error::Memory` if shared bytes can't be copied.
+    ///
+    ///     assert_eq!(ecow::EcoBytes::from(b"ab").try_pop(), Ok(Some(b'b')));
     #[inline]
     pub fn try_pop(&mut self) -> Result<Option<u8>, Error> {
         Ok(self.0.pop()?)
@@ -184,6 +190,8 @@ impl<const N: usize> SmallBytes<N> {
     /// As [`extend_from_slice`](Self::extend_from_slice).
     /// # Errors
     /// `Error::Capacity`, `Error::Memory`. Nothing is appended then.
+    ///
+    ///     assert_eq!(ecow::EcoBytes::from(b"ab").try_extend_from_slice(b"cd"), Ok(()));
     #[inline]
     pub fn try_extend_from_slice(&mut self, bytes: &[u8]) -> Result<(), Error> {
         Ok(self.0.extend_from_slice(bytes)?)
@@ -203,6 +211,8 @@ impl<const N: usize> SmallBytes<N> {
     /// As [`insert`](Self::insert).
     /// # Errors
     /// `Error::Index`, `Error::Capacity`, `Error::Memory`.
+    ///
+    ///     assert_eq!(ecow::EcoBytes::from(b"ab").try_insert(3, b'c'), Err(ecow::Error::Index));
     pub fn try_insert(&mut self, index: usize, byte: u8) -> Result<(), Error> {
         inside(index <= self.len())?;
         Ok(self.0.insert(index, byte)?)
@@ -223,6 +233,8 @@ impl<const N: usize> SmallBytes<N> {
     /// As [`insert_slice`](Self::insert_slice).
     /// # Errors
     /// `Error::Index`, `Error::Capacity`, `Error::Memory`.
+    ///
+    ///     assert_eq!(ecow::EcoBytes::from(b"ab").try_insert_slice(1, b"cd"), Ok(()));
     pub fn try_insert_slice(&mut self, index: usize, bytes: &[u8]) -> Result<(), Error> {
         inside(index <= self.len())?;
         Ok(self.0.insert_slice(index, bytes)?)
@@ -242,6 +254,8 @@ impl<const N: usize> SmallBytes<N> {
     /// As [`remove`](Self::remove).
     /// # Errors
     /// `Error::Index`; `Error::Memory` if shared bytes can't be copied.
+    ///
+    ///     assert_eq!(ecow::EcoBytes::from(b"ab").try_remove(2), Err(ecow::Error::Index));
     pub fn try_remove(&mut self, index: usize) -> Result<u8, Error> {
         inside(index < self.len())?;
         Ok(self.0.remove(index)?)
@@ -262,6 +276,8 @@ impl<const N: usize> SmallBytes<N> {
     /// As [`set`](Self::set).
     /// # Errors
     /// `Error::Index`; `Error::Memory` if shared bytes can't be copied.
+    ///
+    ///     assert_eq!(ecow::EcoBytes::from(b"ab").try_set(2, b'c'), Err(ecow::Error::Index));
     pub fn try_set(&mut self, index: usize, byte: u8) -> Result<(), Error> {
         inside(index < self.len())?;
         Ok(self.0.set(index, byte)?)
@@ -282,6 +298,8 @@ impl<const N: usize> SmallBytes<N> {
     /// As [`replace_range`](Self::replace_range).
     /// # Errors
     /// `Error::Index` for a range that isn't in the bytes; `Error::Capacity`, `Error::Memory`.
+    ///
+    ///     assert_eq!(ecow::EcoBytes::from(b"ab").try_replace_range(1..3, b""), Err(ecow::Error::Index));
     pub fn try_replace_range(&mut self, range: impl RangeBounds<usize>, bytes: &[u8]) -> Result<(), Error> {
         let range = indices(range, self.len())?;
         Ok(self.0.replace_range(range, bytes)?)
@@ -298,6 +316,8 @@ impl<const N: usize> SmallBytes<N> {
     /// As [`truncate`](Self::truncate).
     /// # Errors
     /// `Error::Memory` if shared bytes can't be copied.
+    ///
+    ///     assert_eq!(ecow::EcoBytes::from(b"ab").try_truncate(1), Ok(()));
     pub fn try_truncate(&mut self, target: usize) -> Result<(), Error> {
         Ok(self.0.truncate(target)?)
     }
@@ -315,6 +335,8 @@ impl<const N: usize> SmallBytes<N> {
     /// As [`repeat`](Self::repeat).
     /// # Errors
     /// `Error::Capacity` past 2^63 - 1 bytes; `Error::Memory`.
+    ///
+    ///     assert_eq!(ecow::EcoBytes::from(b"ab").try_repeat(usize::MAX), Err(ecow::Error::Capacity));
     pub fn try_repeat(&self, n: usize) -> Result<Self, Error> {
         Ok(SmallBytes(repeated(&self.0, n)?))
     }

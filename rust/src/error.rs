@@ -138,3 +138,8 @@ fn out_of_bounds(index: usize, len: usize) -> ! {
 pub(crate) fn inside(is_inside: bool) -> Result<(), Error> {
     if is_inside { Ok(()) } else { Err(Error::Index) }
 }
+
+/// What was passed in, where an index is inside. Otherwise it comes back with `Error::Index`.
+pub(crate) fn inside_with<V>(is_inside: bool, value: V) -> Result<V, Rejected<V>> {
+    if is_inside { Ok(value) } else { Err(Rejected { error: Error::Index, value }) }
+}

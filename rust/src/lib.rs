@@ -49,11 +49,13 @@ mod traits;
 
 pub mod bytes;
 pub mod string;
+pub mod tree;
 pub mod value;
 pub mod vec;
 
 pub use bytes::{EcoBytes, SmallBytes};
 pub use error::{Error, Rejected};
 pub use string::{EcoString, SmallText};
+pub use tree::EcoTree;
 pub use value::{Kind, Value};
 pub use vec::EcoVec;

@@ -58,6 +58,24 @@ fn refused(error: Error) -> ! {
     }
 }
 
+/// Makes a call, and drops these items if it unwinds.
+#[inline(always)]
+pub(crate) fn guarded<T, R>(items: *mut [T], call: impl FnOnce() -> R) -> R {
+    struct Guard<T>(*mut [T]);
+
+    impl<T> Drop for Guard<T> {
+        fn drop(&mut self) {
+            // SAFETY: no value has these items: no length counts them yet, or any more.
+            unsafe { self.0.drop_in_place() }
+        }
+    }
+
+    let guard = Guard(items);
+    let answer = call();
+    core::mem::forget(guard);
+    answer
+}
+
 /// The text in the bytes of a text.
 #[inline]
 pub(crate) fn text_mut(bytes: &mut [u8]) -> &mut str {

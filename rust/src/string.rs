@@ -106,6 +106,8 @@ impl<const N: usize> SmallText<N> {
     /// As [`make_mut`](Self::make_mut).
     /// # Errors
     /// `Error::Memory` if a shared text can't be copied.
+    ///
+    ///     assert!(ecow::EcoString::from("ab").try_make_mut().is_ok_and(|text| text == "ab"));
     pub fn try_make_mut(&mut self) -> Result<&mut str, Error> {
         let bytes = self.0.bytes.make_mut()?;
         Ok(text_mut(bytes))
@@ -123,6 +125,8 @@ impl<const N: usize> SmallText<N> {
     /// As [`push`](Self::push).
     /// # Errors
     /// `Error::Capacity`, `Error::Memory`.
+    ///
+    ///     assert_eq!(ecow::EcoString::from("ab").try_push('c'), Ok(()));
     #[inline]
     pub fn try_push(&mut self, c: char) -> Result<(), Error> {
         Ok(self.0.push(c)?)
@@ -138,6 +142,8 @@ impl<const N: usize> SmallText<N> {
     /// As [`pop`](Self::pop).
     /// # Errors
     /// `Error::Memory` if a shared text can't be copied.
+    ///
+    ///     assert_eq!(ecow::EcoString::from("ab").try_pop(), Ok(Some('b')));
     pub fn try_pop(&mut self) -> Result<Option<char>, Error> {
         Ok(self.0.pop()?)
     }
@@ -154,6 +160,8 @@ impl<const N: usize> SmallText<N> {
     /// As [`push_str`](Self::push_str).
     /// # Errors
     /// `Error::Capacity`, `Error::Memory`. Nothing is appended then.
+    ///
+    ///     assert_eq!(ecow::EcoString::from("ab").try_push_str("cd"), Ok(()));
     #[inline]
     pub fn try_push_str(&mut self, text: &str) -> Result<(), Error> {
         Ok(self.0.push_str(text)?)
@@ -174,6 +182,8 @@ impl<const N: usize> SmallText<N> {
     /// As [`insert`](Self::insert).
     /// # Errors
     /// `Error::Index` past the length; `Error::Boundary` inside a character; `Error::Capacity`, `Error::Memory`.
+    ///
+    ///     assert_eq!(ecow::EcoString::from("ab").try_insert(3, 'c'), Err(ecow::Error::Index));
     pub fn try_insert(&mut self, index: usize, c: char) -> Result<(), Error> {
         self.at_boundary(index)?;
         Ok(self.0.insert(index, c)?)
@@ -194,6 +204,8 @@ impl<const N: usize> SmallText<N> {
     /// As [`insert_str`](Self::insert_str).
     /// # Errors
     /// `Error::Index` past the length; `Error::Boundary` inside a character; `Error::Capacity`, `Error::Memory`.
+    ///
+    ///     assert_eq!(ecow::EcoString::from("é").try_insert_str(1, "cd"), Err(ecow::Error::Boundary));
     pub fn try_insert_str(&mut self, index: usize, text: &str) -> Result<(), Error> {
         self.at_boundary(index)?;
         Ok(self.0.insert_str(index, text)?)
@@ -214,6 +226,8 @@ impl<const N: usize> SmallText<N> {
     /// As [`remove`](Self::remove).
     /// # Errors
     /// `Error::Index` from the length on; `Error::Boundary` inside a character; `Error::Memory`.
+    ///
+    ///     assert_eq!(ecow::EcoString::from("ab").try_remove(2), Err(ecow::Error::Index));
     pub fn try_remove(&mut self, index: usize) -> Result<char, Error> {
         inside(index < self.len())?;
         self.at_boundary(index)?;
@@ -237,6 +251,8 @@ impl<const N: usize> SmallText<N> {
     /// As [`replace_range`](Self::replace_range).
     /// # Errors
     /// `Error::Index` for a range that isn't in the text; `Error::Boundary`, `Error::Capacity`, `Error::Memory`.
+    ///
+    ///     assert_eq!(ecow::EcoString::from("ab").try_replace_range(1..3, ""), Err(ecow::Error::Index));
     pub fn try_replace_range(&mut self, range: impl RangeBounds<usize>, text: &str) -> Result<(), Error> {
         let range = indices(range, self.len())?;
         self.at_boundary(range.start)?;
@@ -255,6 +271,8 @@ impl<const N: usize> SmallText<N> {
     /// As [`replace`](Self::replace).
     /// # Errors
     /// `Error::Capacity` past 2^63 - 1 bytes; `Error::Memory`.
+    ///
+    ///     assert_eq!(ecow::EcoString::from("ab").try_replace("a", "b"), Ok("bb".into()));
     pub fn try_replace(&self, pat: &str, to: &str) -> Result<Self, Error> {
         Ok(SmallText(self.0.replace(pat, to)?))
     }
@@ -270,6 +288,8 @@ impl<const N: usize> SmallText<N> {
     /// As [`replacen`](Self::replacen).
     /// # Errors
     /// `Error::Capacity` past 2^63 - 1 bytes; `Error::Memory`.
+    ///
+    ///     assert_eq!(ecow::EcoString::from("aa").try_replacen("a", "b", 1), Ok("ba".into()));
     pub fn try_replacen(&self, pat: &str, to: &str, count: usize) -> Result<Self, Error> {
         Ok(SmallText(self.0.replacen(pat, to, count)?))
     }
@@ -289,6 +309,8 @@ impl<const N: usize> SmallText<N> {
     /// As [`truncate`](Self::truncate).
     /// # Errors
     /// `Error::Boundary`; `Error::Memory` if a shared text can't be copied.
+    ///
+    ///     assert_eq!(ecow::EcoString::from("ab").try_truncate(1), Ok(()));
     pub fn try_truncate(&mut self, target: usize) -> Result<(), Error> {
         if target < self.len() {
             self.at_boundary(target)?;
@@ -341,6 +363,8 @@ impl<const N: usize> SmallText<N> {
     /// As [`repeat`](Self::repeat).
     /// # Errors
     /// `Error::Capacity` past 2^63 - 1 bytes; `Error::Memory`.
+    ///
+    ///     assert_eq!(ecow::EcoString::from("ab").try_repeat(usize::MAX), Err(ecow::Error::Capacity));
     pub fn try_repeat(&self, n: usize) -> Result<Self, Error> {
         Ok(SmallText(proved::SmallText { bytes: crate::bytes::repeated(&self.0.bytes, n)? }))
     }

@@ -131,6 +131,8 @@ macro_rules! small {
             }
 
             /// Removes all bytes. An inline value stays inline, and a sole block stays. A shared one is given up.
+            ///
+            #[doc = concat!("    let mut value = ecow::", stringify!($type), "::<15>::default(); value.clear(); assert_eq!(value.len(), 0);")]
             pub fn clear(&mut self) {
                 self.0.clear()
             }
@@ -138,6 +140,8 @@ macro_rules! small {
             /// Makes the capacity large enough for `additional` more bytes. Shared bytes are copied.
             /// # Panics
             /// If these are more than memory can hold.
+            ///
+            #[doc = concat!("    let mut value = ecow::", stringify!($type), "::<15>::new(); value.reserve(16); assert!(value.capacity() >= 16);")]
             pub fn reserve(&mut self, additional: usize) {
                 granted(self.try_reserve(additional))
             }
@@ -152,6 +156,8 @@ macro_rules! small {
             }
 
             /// Brings at most `N` spilled bytes back inline. Other owners keep the block. Not in the original.
+            ///
+            #[doc = concat!("    let mut value = ecow::", stringify!($type), "::<15>::with_capacity(16); value.shrink_to_fit(); assert!(value.is_inline());")]
             pub fn shrink_to_fit(&mut self) {
                 self.0.shrink_to_fit()
             }
@@ -205,6 +211,85 @@ macro_rules! small {
         from! {
             [const N: usize] &$type<N> => $type<N>: |value| value.clone();
             [const N: usize] &$slice => $type<N>: |slice| granted(Self::$copy(slice));
+        }
+    };
+}
+
+/// The edits of one element of a list, at an index. The texts say what the first two cost, and what the last does.
+macro_rules! edits_at_index {
+    ($list:ident, $moves:literal, $sets:literal $(,)?) => {
+        impl<T: Clone> $list<T> {
+            /// Inserts `value` before the element at `index`.
+            #[doc = $moves]
+            /// # Panics
+            /// If `index` is greater than the length.
+            ///
+            #[doc = concat!("    let mut list = ecow::", stringify!($list), "::from([1, 2]); list.insert(1, 7);")]
+            ///     assert_eq!(list, [1, 7, 2]);
+            #[inline]
+            #[track_caller]
+            pub fn insert(&mut self, index: usize, value: T) {
+                assert_index(index <= self.len(), index, self.len());
+                granted(self.0.insert(index, value));
+            }
+
+            /// As [`insert`](Self::insert).
+            /// # Errors
+            /// `Error::Index`, `Error::Capacity`, `Error::Memory`; `value` comes back.
+            ///
+            #[doc = concat!("    let mut list = ecow::", stringify!($list), "::from([1]);")]
+            ///     assert_eq!(list.try_insert(2, 3).unwrap_err().value, 3);
+            pub fn try_insert(&mut self, index: usize, value: T) -> Result<(), Rejected<T>> {
+                let value = inside_with(index <= self.len(), value)?;
+                Ok(self.0.insert(index, value)?)
+            }
+
+            /// Takes the element at `index`.
+            #[doc = $moves]
+            /// # Panics
+            /// If there is no element at `index`.
+            ///
+            #[doc = concat!("    assert_eq!(ecow::", stringify!($list), "::from([1, 2]).remove(0), 1);")]
+            #[track_caller]
+            pub fn remove(&mut self, index: usize) -> T {
+                assert_index(index < self.len(), index, self.len());
+                granted(self.0.remove(index))
+            }
+
+            /// As [`remove`](Self::remove).
+            /// # Errors
+            /// `Error::Index`; `Error::Memory` if something shared can't be copied.
+            ///
+            #[doc = concat!("    let mut list = ecow::", stringify!($list), "::from([1]);")]
+            ///     assert_eq!(list.try_remove(1), Err(ecow::Error::Index));
+            pub fn try_remove(&mut self, index: usize) -> Result<T, Error> {
+                inside(index < self.len())?;
+                Ok(self.0.remove(index)?)
+            }
+
+            /// Replaces the element at `index`, and drops the old one.
+            #[doc = $sets]
+            /// # Panics
+            /// If there is no element at `index`.
+            ///
+            #[doc = concat!("    let mut list = ecow::", stringify!($list), "::from([1, 2]); list.set(0, 7);")]
+            ///     assert_eq!(list, [7, 2]);
+            #[track_caller]
+            pub fn set(&mut self, index: usize, value: T) {
+                assert_index(index < self.len(), index, self.len());
+                granted(self.0.set(index, value));
+            }
+
+            /// As [`set`](Self::set).
+            /// # Errors
+            /// `Error::Index`, `Error::Memory`; `value` comes back.
+            ///
+            #[doc = concat!("    let mut list = ecow::", stringify!($list), "::from([1]);")]
+            ///     assert_eq!(list.try_set(1, 3).unwrap_err().value, 3);
+            pub fn try_set(&mut self, index: usize, value: T) -> Result<(), Rejected<T>> {
+                let value = inside_with(index < self.len(), value)?;
+                Ok(self.0.set(index, value)?)
+            }
         }
     };
 }

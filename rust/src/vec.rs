@@ -1,6 +1,6 @@
 //! Vectors whose clones share their elements until one of them is written to.
 
-use crate::error::{Error, Rejected, assert_index, indices, indices_or_panic, inside};
+use crate::error::{Error, Rejected, assert_index, indices, indices_or_panic, inside, inside_with};
 use crate::proved::ecow_base::fresh_capacity;
 use crate::proved::ecow_list as proved;
 use crate::shim::alloc::Global;
@@ -143,6 +143,11 @@ impl<T> EcoVec<T> {
     }
 }
 
+edits_at_index! { EcoVec,
+    "Moves the elements behind it. A shared vector clones its elements first.",
+    "Takes constant time. A shared vector clones its elements first. Not in the original.",
+}
+
 impl<T: Clone> EcoVec<T> {
     /// `n` clones of `value`.
     /// # Panics
@@ -226,6 +231,8 @@ impl<T: Clone> EcoVec<T> {
     /// As [`make_mut`](Self::make_mut).
     /// # Errors
     /// `Error::Memory` if a shared vector can't be copied.
+    ///
+    ///     assert_eq!(ecow::eco_vec![1, 2].try_make_mut(), Ok(&mut [1, 2][..]));
     #[inline]
     pub fn try_make_mut(&mut self) -> Result<&mut [T], Error> {
         Ok(self.0.make_mut()?)
@@ -243,6 +250,8 @@ impl<T: Clone> EcoVec<T> {
     /// As [`push`](Self::push).
     /// # Errors
     /// `Error::Capacity`, `Error::Memory`; `value` comes back.
+    ///
+    ///     assert_eq!(ecow::eco_vec![1].try_push(2), Ok(()));
     #[inline]
     pub fn try_push(&mut self, value: T) -> Result<(), Rejected<T>> {
         Ok(self.0.push(value)?)
@@ -259,73 +268,11 @@ impl<T: Clone> EcoVec<T> {
     /// As [`pop`](Self::pop).
     /// # Errors
     /// `Error::Memory` if a shared vector can't be copied.
+    ///
+    ///     assert_eq!(ecow::eco_vec![1, 2].try_pop(), Ok(Some(2)));
     #[inline]
     pub fn try_pop(&mut self) -> Result<Option<T>, Error> {
         Ok(self.0.pop()?)
-    }
-
-    /// Inserts `value` before the element at `index`. Moves those behind it; a shared vector clones its elements first.
-    /// # Panics
-    /// If `index` is greater than the length.
-    ///
-    ///     let mut vec = ecow::eco_vec![1, 2]; vec.insert(1, 7);
-    ///     assert_eq!(vec, [1, 7, 2]);
-    #[inline]
-    #[track_caller]
-    pub fn insert(&mut self, index: usize, value: T) {
-        assert_index(index <= self.len(), index, self.len());
-        granted(self.0.insert(index, value));
-    }
-
-    /// As [`insert`](Self::insert).
-    /// # Errors
-    /// `Error::Index`, `Error::Capacity`, `Error::Memory`; `value` comes back.
-    pub fn try_insert(&mut self, index: usize, value: T) -> Result<(), Rejected<T>> {
-        if index > self.len() {
-            return Err(Rejected { error: Error::Index, value });
-        }
-        Ok(self.0.insert(index, value)?)
-    }
-
-    /// Takes the element at `index`. Moves the elements behind it; a shared vector clones its elements first.
-    /// # Panics
-    /// If there is no element at `index`.
-    ///
-    ///     assert_eq!(ecow::eco_vec![1, 2].remove(0), 1);
-    #[track_caller]
-    pub fn remove(&mut self, index: usize) -> T {
-        assert_index(index < self.len(), index, self.len());
-        granted(self.0.remove(index))
-    }
-
-    /// As [`remove`](Self::remove).
-    /// # Errors
-    /// `Error::Index`; `Error::Memory` if a shared vector can't be copied.
-    pub fn try_remove(&mut self, index: usize) -> Result<T, Error> {
-        inside(index < self.len())?;
-        Ok(self.0.remove(index)?)
-    }
-
-    /// Replaces the element at `index`. Constant time; a shared vector clones its elements first. Not in the original.
-    /// # Panics
-    /// If there is no element at `index`.
-    ///
-    ///     let mut vec = ecow::eco_vec![1, 2]; vec.set(0, 7);
-    ///     assert_eq!(vec, [7, 2]);
-    #[track_caller]
-    pub fn set(&mut self, index: usize, value: T) {
-        assert_index(index < self.len(), index, self.len());
-        granted(self.0.set(index, value));
-    }
-
-    /// As [`set`](Self::set).
-    /// # Errors
-    /// `Error::Index`, `Error::Memory`; `value` comes back.
-    pub fn try_set(&mut self, index: usize, value: T) -> Result<(), Rejected<T>> {
-        if index >= self.len() {
-            return Err(Rejected { error: Error::Index, value });
-        }
-        Ok(self.0.set(index, value)?)
     }
 
     /// Lends `change` the element at `index`, and returns its answer. A shared vector clones its elements first. This
@@ -339,7 +286,8 @@ impl<T: Clone> EcoVec<T> {
         Ok(self.0.update(index, change)?)
     }
 
-    /// Keeps the elements for which `f` returns `true`. A shared vector clones its elements first.
+    /// Keeps the elements for which `f` returns `true`, and drops the others in the end, in no set order. A shared
+    /// vector clones its elements first.
     ///
     ///     let mut vec = ecow::eco_vec![1, 2, 3]; vec.retain(|number| *number != 2);
     ///     assert_eq!(vec, [1, 3]);
@@ -350,6 +298,8 @@ impl<T: Clone> EcoVec<T> {
     /// As [`retain`](Self::retain).
     /// # Errors
     /// `Error::Memory` if a shared vector can't be copied. `f` isn't called then.
+    ///
+    ///     assert_eq!(ecow::eco_vec![1, 2].try_retain(|n| *n > 1), Ok(()));
     pub fn try_retain<F: FnMut(&mut T) -> bool>(&mut self, f: F) -> Result<(), Error> {
         Ok(self.0.retain(f)?)
     }
@@ -368,6 +318,8 @@ impl<T: Clone> EcoVec<T> {
     /// As [`drain`](Self::drain).
     /// # Errors
     /// `Error::Index` for a range that isn't in the vector; `Error::Memory`.
+    ///
+    ///     assert_eq!(ecow::eco_vec![1].try_drain(1..3).err(), Some(ecow::Error::Index));
     pub fn try_drain<R: RangeBounds<usize>>(&mut self, range: R) -> Result<Drain<'_, T>, Error> {
         let range = indices(range, self.len())?;
         Ok(Drain { removed: self.0.drain(range)?, vec: PhantomData })
@@ -394,6 +346,8 @@ impl<T: Clone> EcoVec<T> {
     /// As [`splice`](Self::splice).
     /// # Errors
     /// `Error::Index` for a range that isn't in the vector; `Error::Capacity`, `Error::Memory`. The items are dropped.
+    ///
+    ///     assert_eq!(ecow::eco_vec![1].try_splice(..3, [4]).err(), Some(ecow::Error::Index));
     pub fn try_splice<R, I>(&mut self, range: R, replace_with: I) -> Result<Splice<'_, I::IntoIter>, Error>
     where
         R: RangeBounds<usize>,
@@ -414,6 +368,8 @@ impl<T: Clone> EcoVec<T> {
     /// As [`truncate`](Self::truncate).
     /// # Errors
     /// `Error::Memory` if a shared vector can't be copied.
+    ///
+    ///     assert_eq!(ecow::eco_vec![1, 2].try_truncate(1), Ok(()));
     pub fn try_truncate(&mut self, target: usize) -> Result<(), Error> {
         Ok(self.0.truncate(target)?)
     }
@@ -431,6 +387,8 @@ impl<T: Clone> EcoVec<T> {
     /// As [`reserve`](Self::reserve).
     /// # Errors
     /// `Error::Capacity` for more than memory can hold; `Error::Memory`.
+    ///
+    ///     assert_eq!(ecow::eco_vec![1].try_reserve(usize::MAX), Err(ecow::Error::Capacity));
     pub fn try_reserve(&mut self, additional: usize) -> Result<(), Error> {
         fits::<T>(self.len().saturating_add(additional))?;
         Ok(self.0.reserve(additional)?)
@@ -448,6 +406,8 @@ impl<T: Clone> EcoVec<T> {
     /// As [`extend_from_slice`](Self::extend_from_slice).
     /// # Errors
     /// `Error::Capacity`, `Error::Memory`. Nothing is appended then.
+    ///
+    ///     assert_eq!(ecow::eco_vec![1].try_extend_from_slice(&[2, 3]), Ok(()));
     pub fn try_extend_from_slice(&mut self, slice: &[T]) -> Result<(), Error> {
         Ok(self.0.extend_from_slice(slice)?)
     }

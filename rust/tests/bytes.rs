@@ -8,33 +8,10 @@ use std::hash::{Hash, Hasher};
 use std::io::Write;
 use std::panic::catch_unwind;
 
-const LENGTHS: [usize; 10] = [0, 1, 14, 15, 16, 17, 1023, 1024, 1025, 3000];
-
 fn hash<T: Hash + ?Sized>(value: &T) -> u64 {
     let mut hasher = DefaultHasher::new();
     value.hash(&mut hasher);
     hasher.finish()
-}
-
-#[test]
-fn up_to_15_are_inline_and_more_are_shared() {
-    for len in LENGTHS {
-        let all: Vec<u8> = (0..len).map(|index| index as u8).collect();
-        let bytes = EcoBytes::from(all.as_slice());
-        assert_eq!((bytes.len(), bytes.is_empty(), bytes.is_inline()), (len, len == 0, len <= 15));
-        assert_eq!(bytes, all);
-        assert_eq!(EcoBytes::try_inline(&all).is_some(), len <= 15);
-        assert_eq!(catch_unwind(|| EcoBytes::inline(&all)).is_ok(), len <= 15);
-        let mut clone = bytes.clone();
-        assert!(len == 0 || (bytes.as_ptr() == clone.as_ptr()) == (len > 15));
-        clone.push(0);
-        assert_eq!(bytes, all);
-        let place = clone.as_ptr();
-        assert_eq!(clone.pop(), Some(0));
-        assert!(len == 0 || clone.as_ptr() == place);
-        assert_eq!(clone, bytes);
-    }
-    assert!(EcoBytes::with_capacity(15).is_inline() && !EcoBytes::with_capacity(16).is_inline());
 }
 
 #[test]

@@ -512,6 +512,8 @@ fn defined(source: &str) -> Vec<String> {
         if let Some(head) = words.strip_prefix("impl") {
             let of = head.rsplit(" for ").next().unwrap();
             let small = of.contains("$type").then_some(&["SmallBytes", "SmallText"][..]);
+            // Trees have tests of their own.
+            let small = small.or(of.contains("$list").then_some(&["EcoVec"][..]));
             let known = &["EcoVec", "IntoIter", "Drain", "SmallBytes", "SmallText", "Value"];
             types = small.unwrap_or(known).iter().filter(|name| small.is_some() || of.contains(*name)).collect();
         } else if line.starts_with("pub fn") {

@@ -11,8 +11,6 @@ use std::hash::{Hash, Hasher};
 use std::panic::catch_unwind;
 use std::path::Path;
 
-const LENGTHS: [usize; 10] = [0, 1, 14, 15, 16, 17, 1023, 1024, 1025, 3000];
-
 fn hash<T: Hash + ?Sized>(value: &T) -> u64 {
     let mut hasher = DefaultHasher::new();
     value.hash(&mut hasher);
@@ -25,50 +23,6 @@ fn spilled(text: &str) -> EcoString {
     string.reserve(16);
     assert!(!string.is_inline());
     string
-}
-
-#[test]
-fn up_to_15_bytes_are_inline() {
-    for len in LENGTHS {
-        let text = "x".repeat(len);
-        let string = EcoString::from(text.as_str());
-        assert_eq!((string.len(), string.is_empty()), (len, len == 0));
-        assert_eq!(string, text);
-        assert_eq!(string.is_inline(), len <= 15, "{len}");
-        assert_eq!(EcoString::try_inline(&text).is_some(), len <= 15);
-        assert_eq!(catch_unwind(|| EcoString::inline(&text)).is_ok(), len <= 15);
-    }
-    assert_eq!(EcoString::INLINE_LIMIT, 15);
-    assert!(EcoString::with_capacity(15).is_inline());
-    assert!(!EcoString::with_capacity(16).is_inline());
-    assert_eq!(EcoString::with_capacity(2000), "");
-    const EMPTY: EcoString = EcoString::new();
-    assert!(EMPTY.is_empty() && EMPTY.is_inline());
-}
-
-#[test]
-fn edits() {
-    for make in [EcoString::from, spilled] {
-        let mut string = make("h\u{e9}llo");
-        string.push('\u{1f331}');
-        assert_eq!(string, "h\u{e9}llo\u{1f331}");
-        assert_eq!(string.pop(), Some('\u{1f331}'));
-        assert_eq!(string.remove(1), '\u{e9}');
-        string.insert(1, 'e');
-        string.insert_str(5, ", world");
-        assert_eq!(string, "hello, world");
-        string.replace_range(7.., "you");
-        string.replace_range(..=0, "H");
-        string.replace_range(5..5, "");
-        assert_eq!(string, "Hello, you");
-        string.truncate(5);
-        string.truncate(9);
-        assert_eq!(string, "Hello");
-        string.push_str(" and a longer text than fits");
-        assert_eq!(string, "Hello and a longer text than fits");
-        string.clear();
-        assert_eq!((string.pop(), string.as_str()), (None, ""));
-    }
 }
 
 #[test]
@@ -146,7 +100,7 @@ fn made_of_others() {
     assert_eq!(EcoString::from(&String::from(long)), long);
     assert_eq!(EcoString::from(Cow::Borrowed(long)), long);
     assert_eq!(long.parse::<EcoString>().as_deref(), Ok(long));
-    assert_eq!(EcoString::default(), "");
+    assert_eq!((const { EcoString::new() }, EcoString::INLINE_LIMIT), (EcoString::default(), 15));
     assert_eq!(["a", "", long].into_iter().collect::<EcoString>(), "a".to_string() + long);
     assert_eq!(long.chars().collect::<EcoString>(), long);
     let pieces = ["Hello, ".into(), EcoString::new(), "world".into()];
@@ -167,25 +121,6 @@ fn made_of_others() {
 }
 
 #[test]
-fn replaced() {
-    let string = EcoString::from("a-b-c");
-    assert_eq!(string.replace("-", " and "), "a and b and c");
-    assert_eq!(string.replace("", "."), ".a.-.b.-.c.");
-    assert_eq!(string.replace("x", "y"), "a-b-c");
-    assert_eq!(string.replace(&string, &string[..1]), "a");
-    assert_eq!(EcoString::from("aaa").replace("aa", "b"), "ba");
-    assert_eq!(string.replacen("-", "+", 1), "a+b-c");
-    assert_eq!(string.replacen("-", "+", 0), "a-b-c");
-    assert_eq!(string.replacen("", "+", 2), "+a+-b-c");
-    assert_eq!(string, "a-b-c");
-    let long = EcoString::from("abc".repeat(500));
-    assert_eq!(long.replace("b", "\u{20ac}"), "a\u{20ac}c".repeat(500));
-    assert_eq!(long.replace(&long[1..3], &long[..2]), "aab".repeat(500));
-    assert_eq!(long.replacen("abc", "", 499), "abc");
-    assert!(long.replacen("abc", "", 499).is_inline() && long.replace("abc", "").is_inline());
-}
-
-#[test]
 fn cases_and_repetition() {
     let string = EcoString::from("Stra\u{df}e \u{3a3}A\u{3a3}");
     assert_eq!(string.to_uppercase(), "STRASSE \u{3a3}A\u{3a3}");
@@ -195,7 +130,7 @@ fn cases_and_repetition() {
     assert_eq!(string, "Stra\u{df}e \u{3a3}A\u{3a3}");
     assert!(EcoString::from("ABC").to_ascii_lowercase().is_inline());
     assert!(!spilled("ABC").to_ascii_lowercase().is_inline());
-    assert!(spilled("ABC").to_lowercase().is_inline());
+    assert!(spilled("ABC").to_lowercase().is_inline() && spilled("a-b").replace("-", "").is_inline());
     for (text, count) in [("ab", 0), ("ab", 1), ("ab", 7), ("ab", 8), ("", 9), ("abc", 700)] {
         assert_eq!(EcoString::from(text).repeat(count), text.repeat(count));
         assert_eq!(EcoString::from(text).repeat(count).is_inline(), text.len() * count <= 15);
@@ -248,29 +183,6 @@ fn compared_and_hashed_as_strs() {
     let map = HashMap::from([(EcoString::from("key"), 1)]);
     assert_eq!((map.get("key"), map.get(&spilled("key")), map.get("other")), (Some(&1), Some(&1), None));
     assert_eq!(BTreeMap::from([(spilled("key"), 2)]).get("key"), Some(&2));
-}
-
-#[test]
-fn room_is_told_and_given_up() {
-    for len in LENGTHS {
-        let mut first = EcoString::from("x".repeat(len));
-        let inline = len <= 15;
-        assert!(first.capacity() >= len && (first.capacity() == 15) == inline);
-        assert_eq!(first.is_inline(), inline);
-        first.reserve(5000);
-        assert!(first.capacity() >= len + 5000 && !first.is_inline());
-        let (room, place) = (first.capacity(), first.as_ptr());
-        first.push('!');
-        assert_eq!((first.pop(), first.capacity()), (Some('!'), room));
-        assert_eq!(first.as_ptr(), place, "the room that is told is there");
-        let second = first.clone();
-        assert_eq!((second.capacity(), second.is_inline()), (room, false));
-        first.shrink_to_fit();
-        assert_eq!(first.is_inline(), inline);
-        assert_eq!(first.capacity(), if inline { 15 } else { room });
-        assert_eq!((&first, second.capacity()), (&second, room));
-        assert_eq!(first.as_ptr() == second.as_ptr(), !inline);
-    }
 }
 
 /// A block of room for 15 bytes is told from what stands in the value.

@@ -1,6 +1,9 @@
-//! Clones, drops, comparisons, closures and iterators that unwind, at each point: nothing is dropped twice, and nothing read
-//! that was given up. What was moved out may leak.
+//! Clones, drops, comparisons, closures and iterators that unwind, at each point: nothing is dropped twice, nothing read
+//! that was given up, and nothing leaks.
 
+mod allocator;
+
+use allocator::HELD;
 use ecow::{EcoVec, eco_format};
 use std::cell::{Cell, RefCell};
 use std::collections::HashSet;
@@ -116,14 +119,18 @@ const EACH: &[Call] = &[
 /// Makes each call with each point of unwinding, then reads and drops all that is left.
 fn each(point: &'static LocalKey<Cell<usize>>) {
     set_hook(Box::new(|_| {}));
+    drop(items(100).collect::<Vec<_>>());
     let mut unwound = 0;
     for &(name, call) in EACH {
         for (shared, which) in [false, true].into_iter().flat_map(|shared| (1..70).map(move |which| (shared, which))) {
+            let held = HELD.get();
             let mut vec: EcoVec<Item> = items(20).collect();
             let other = shared.then(|| vec.clone());
             point.set(which);
-            unwound += catch_unwind(AssertUnwindSafe(|| call(&mut vec))).is_err() as usize;
+            let unwinds = catch_unwind(AssertUnwindSafe(|| call(&mut vec))).is_err();
+            unwound += unwinds as usize;
             point.set(0);
+            assert!(name != "retain" || !unwinds || std::ptr::eq(point, &DROPS) || vec.len() == 20, "{name} at {which}");
             for item in vec.iter().chain(other.iter().flat_map(|other| other.iter())) {
                 assert!(item.0 == *item.1 && LIVE.with_borrow(|live| live.contains(&item.0)), "{name} at {which}");
             }
@@ -131,6 +138,9 @@ fn each(point: &'static LocalKey<Cell<usize>>) {
             vec.push(Item::new());
             drop((vec, other));
             assert!(!TWICE.get(), "{name} at {which}: dropped twice");
+            // Where the drop of an argument unwinds, rustc forgets what the call would have returned.
+            let leaked = (LIVE.with_borrow_mut(|live| live.drain().count()), HELD.get() - held);
+            assert!(leaked == (0, 0) || name == "from_elem" && which == 1, "{name} at {which}: {leaked:?} leak");
         }
     }
     assert!(unwound > 100, "{unwound}");

@@ -22,8 +22,8 @@ fn each_kind_reads_as_itself_alone() {
         assert_eq!(value.number().err(), only(Kind::Number));
         assert_eq!(value.real().err(), only(Kind::Real));
         assert_eq!(value.text().err(), only(Kind::Text));
-        assert_eq!((value.len(), value.is_empty(), value.items().count()), (0, true, 0));
-        assert_eq!(value.fields().count(), 0);
+        let counts = (value.items().count(), value.fields().count());
+        assert_eq!((value.len(), value.is_empty(), counts), (0, true, (0, 0)));
         let mut edited = value.clone();
         assert_eq!(edited.pop().err(), Some(only(Kind::List).unwrap_or(Error::Index)));
         assert_eq!(edited.truncate(0).err(), only(Kind::List));
@@ -37,8 +37,7 @@ fn each_kind_reads_as_itself_alone() {
             assert_eq!(value == another, index == other);
         }
     }
-    assert_eq!(all[1].0.truth(), Ok(true));
-    assert_eq!(all[2].0.number(), Ok(i64::MIN));
+    assert_eq!((all[1].0.truth(), all[2].0.number()), (Ok(true), Ok(i64::MIN)));
     assert_eq!(all[3].0.real(), Ok(-0.5));
     assert_eq!(all[4].0.text().as_deref(), Ok("text"));
     assert_eq!(Value::default(), Value::new());
@@ -55,6 +54,10 @@ fn a_text_is_shared() {
     assert_eq!(Value::from(&value).text().unwrap().as_ptr(), text.as_ptr());
     let list = Value::from([value, text.clone().into()]);
     assert_eq!(list.get(1).unwrap().text().unwrap().as_ptr(), text.as_ptr());
+    // What two values share is compared once, however often it stands in them.
+    let both = |part: Value| Value::from([part.clone(), Value::from_iter([("a", part)])]);
+    let part = (0..60).fold(list, |part, _| both(part));
+    assert_eq!(both(part.clone()), both(part));
 }
 
 #[test]
@@ -200,7 +203,7 @@ fn no_value_nests_too_deep() {
     assert_eq!(lower.update_path(&[0.into(), 0.into()], deepen), Err(Error::Depth));
     assert_eq!(lower, [Value::from([Value::new(), 1.into()])].into());
     let work = move || {
-        assert_eq!(deepest, deepest.clone());
+        assert_eq!(deepest, nested(512));
         drop(deepest);
     };
     std::thread::Builder::new().stack_size(512 << 10).spawn(work).unwrap().join().unwrap();

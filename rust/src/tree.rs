@@ -1,0 +1,281 @@
+//! Lists in a tree of shared blocks, of which each version may be kept.
+
+use crate::error::{Error, Rejected, assert_index, inside, inside_with};
+use crate::proved::ecow_tree as proved;
+use crate::shim::alloc::Global;
+use crate::shim::granted;
+use core::cmp::Ordering;
+use core::fmt::{self, Debug};
+use core::hash::{Hash, Hasher};
+use core::iter::FusedIterator;
+use core::ops::Index;
+
+/// A list whose clones share its elements in blocks of up to 128, in a tree.
+///
+/// A clone asks for no memory and clones no element. A change of a list that shares its blocks copies those on the way
+/// to the element alone: a block of elements, and one of at most 16 places for each level above it. So each version of
+/// a long list can be kept. A change of a list that shares nothing is made in place. Reads and changes take time
+/// logarithmic in the length. A vector is faster where the list is short, or its versions aren't kept.
+///
+/// ```
+/// let mut list: ecow::EcoTree<u32> = (0..1000).collect();
+/// let before = list.clone();
+/// list.set(500, 0);
+/// assert_eq!((before[500], list[500], before.len()), (500, 0, 1000));
+/// ```
+pub struct EcoTree<T>(proved::EcoTree<T>);
+
+impl<T> EcoTree<T> {
+    /// An empty list. Asks for no memory.
+    ///
+    ///     assert!(ecow::EcoTree::<u8>::new().is_empty());
+    #[must_use]
+    pub fn new() -> Self {
+        EcoTree(proved::EcoTree::new(Global))
+    }
+
+    /// The number of elements.
+    ///
+    ///     assert_eq!(ecow::EcoTree::from([1, 2]).len(), 2);
+    #[must_use]
+    pub fn len(&self) -> usize {
+        self.0.len()
+    }
+
+    /// Whether there is no element.
+    ///
+    ///     assert!(!ecow::EcoTree::from([1]).is_empty());
+    #[must_use]
+    pub fn is_empty(&self) -> bool {
+        self.0.is_empty()
+    }
+
+    /// The number of levels above the leaves, which hold the elements. It is logarithmic in the length, whatever changes
+    /// were made.
+    ///
+    ///     assert_eq!(ecow::EcoTree::from([1; 129]).height(), 1);
+    #[must_use]
+    pub fn height(&self) -> usize {
+        self.0.height()
+    }
+
+    /// The element at `index`, or `None` past the end.
+    ///
+    ///     assert_eq!(ecow::EcoTree::from([1, 2]).get(1), Some(&2));
+    #[must_use]
+    pub fn get(&self, index: usize) -> Option<&T> {
+        self.0.get(index)
+    }
+
+    /// The first element, if there is one.
+    ///
+    ///     assert_eq!(ecow::EcoTree::from([1, 2]).first(), Some(&1));
+    #[must_use]
+    pub fn first(&self) -> Option<&T> {
+        self.0.first()
+    }
+
+    /// The last element, if there is one.
+    ///
+    ///     assert_eq!(ecow::EcoTree::from([1, 2]).last(), Some(&2));
+    #[must_use]
+    pub fn last(&self) -> Option<&T> {
+        self.0.last()
+    }
+
+    /// Drops the elements that no other list shares.
+    ///
+    ///     let mut list = ecow::EcoTree::from([1, 2]); list.clear();
+    ///     assert!(list.is_empty());
+    pub fn clear(&mut self) {
+        self.0.clear();
+    }
+
+    /// The elements in order, as slices of up to 128. This is the fastest walk over all of them.
+    ///
+    ///     assert_eq!(ecow::EcoTree::from([1; 200]).chunks().map(<[i32]>::len).sum::<usize>(), 200);
+    #[must_use]
+    pub fn chunks(&self) -> Chunks<'_, T> {
+        Chunks(self.0.chunks())
+    }
+
+    /// The elements in order.
+    ///
+    ///     assert!(ecow::EcoTree::from([1, 2]).iter().eq(&[1, 2]));
+    #[must_use]
+    pub fn iter(&self) -> Iter<'_, T> {
+        Iter(self.0.iter(), self.len())
+    }
+}
+
+edits_at_index! { EcoTree,
+    "A shared block of elements is cloned.",
+    "A shared block of elements is cloned.",
+}
+
+impl<T: Clone> EcoTree<T> {
+    /// Appends `value`. A shared block of elements is cloned, unless it is full.
+    ///
+    ///     let mut list = ecow::EcoTree::from([1]); list.push(2);
+    ///     assert_eq!(list, [1, 2]);
+    pub fn push(&mut self, value: T) {
+        granted(self.try_push(value));
+    }
+
+    /// As [`push`](Self::push).
+    /// # Errors
+    /// `Error::Capacity`, `Error::Memory`; `value` comes back.
+    ///
+    ///     assert_eq!(ecow::EcoTree::from([1]).try_push(2), Ok(()));
+    pub fn try_push(&mut self, value: T) -> Result<(), Rejected<T>> {
+        Ok(self.0.push(value)?)
+    }
+
+    /// Removes the last element. A shared block of elements is cloned.
+    ///
+    ///     assert_eq!(ecow::EcoTree::from([1, 2]).pop(), Some(2));
+    pub fn pop(&mut self) -> Option<T> {
+        granted(self.try_pop())
+    }
+
+    /// As [`pop`](Self::pop).
+    /// # Errors
+    /// `Error::Memory` if a shared block can't be copied.
+    ///
+    ///     assert_eq!(ecow::EcoTree::from([1, 2]).try_pop(), Ok(Some(2)));
+    pub fn try_pop(&mut self) -> Result<Option<T>, Error> {
+        Ok(self.0.pop()?)
+    }
+}
+
+impl<T> Default for EcoTree<T> {
+    fn default() -> Self {
+        EcoTree::new()
+    }
+}
+
+impl<T> Clone for EcoTree<T> {
+    /// Shares all blocks. Asks for no memory, and clones no element.
+    fn clone(&self) -> Self {
+        EcoTree(self.0.clone())
+    }
+}
+
+impl<T> Index<usize> for EcoTree<T> {
+    type Output = T;
+
+    #[track_caller]
+    fn index(&self, index: usize) -> &T {
+        assert_index(index < self.len(), index, self.len());
+        &self.0.chunk_at(index)[0]
+    }
+}
+
+impl<T: Debug> Debug for EcoTree<T> {
+    fn fmt(&self, f: &mut fmt::Formatter<'_>) -> fmt::Result {
+        f.debug_list().entries(self).finish()
+    }
+}
+
+impl<T: PartialEq> PartialEq for EcoTree<T> {
+    fn eq(&self, other: &Self) -> bool {
+        self.0 == other.0
+    }
+}
+
+impl<T: Eq> Eq for EcoTree<T> {}
+
+impl<T: PartialEq> PartialEq<[T]> for EcoTree<T> {
+    fn eq(&self, other: &[T]) -> bool {
+        self.len() == other.len() && self.iter().eq(other)
+    }
+}
+
+impl<T: PartialEq, const N: usize> PartialEq<[T; N]> for EcoTree<T> {
+    fn eq(&self, other: &[T; N]) -> bool {
+        *self == other[..]
+    }
+}
+
+impl<T: PartialOrd> PartialOrd for EcoTree<T> {
+    fn partial_cmp(&self, other: &Self) -> Option<Ordering> {
+        self.iter().partial_cmp(other)
+    }
+}
+
+impl<T: Ord> Ord for EcoTree<T> {
+    fn cmp(&self, other: &Self) -> Ordering {
+        self.iter().cmp(other)
+    }
+}
+
+impl<T: Hash> Hash for EcoTree<T> {
+    fn hash<H: Hasher>(&self, state: &mut H) {
+        state.write_usize(self.len());
+        self.iter().for_each(|element| element.hash(state));
+    }
+}
+
+impl<T: Clone> Extend<T> for EcoTree<T> {
+    fn extend<I: IntoIterator<Item = T>>(&mut self, iter: I) {
+        iter.into_iter().for_each(|element| self.push(element));
+    }
+}
+
+impl<T: Clone> FromIterator<T> for EcoTree<T> {
+    fn from_iter<I: IntoIterator<Item = T>>(iter: I) -> Self {
+        let mut list = EcoTree::new();
+        list.extend(iter);
+        list
+    }
+}
+
+impl<T: Clone, const N: usize> From<[T; N]> for EcoTree<T> {
+    fn from(array: [T; N]) -> Self {
+        array.into_iter().collect()
+    }
+}
+
+impl<'a, T> IntoIterator for &'a EcoTree<T> {
+    type Item = &'a T;
+    type IntoIter = Iter<'a, T>;
+
+    fn into_iter(self) -> Iter<'a, T> {
+        self.iter()
+    }
+}
+
+/// The elements of an [`EcoTree`] in order, as slices.
+pub struct Chunks<'a, T>(proved::Chunks<'a, T>);
+
+impl<'a, T> Iterator for Chunks<'a, T> {
+    type Item = &'a [T];
+
+    fn next(&mut self) -> Option<&'a [T]> {
+        self.0.next()
+    }
+}
+
+impl<T> FusedIterator for Chunks<'_, T> {}
+
+/// The elements of an [`EcoTree`] in order, and how many are still to come.
+pub struct Iter<'a, T>(proved::Iter<'a, T>, usize);
+
+impl<'a, T> Iterator for Iter<'a, T> {
+    type Item = &'a T;
+
+    #[inline]
+    fn next(&mut self) -> Option<&'a T> {
+        let next = self.0.next();
+        self.1 -= usize::from(next.is_some());
+        next
+    }
+
+    fn size_hint(&self) -> (usize, Option<usize>) {
+        (self.1, Some(self.1))
+    }
+}
+
+impl<T> ExactSizeIterator for Iter<'_, T> {}
+
+impl<T> FusedIterator for Iter<'_, T> {}

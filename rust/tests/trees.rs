@@ -1,0 +1,136 @@
+//! Lists in trees, beside `Vec`: edits at random places of lists whose versions are kept, what is shared and cloned, and
+//! refused memory.
+
+mod allocator;
+
+use allocator::{HELD, REFUSED, REQUESTS};
+use ecow::{EcoTree, Error};
+use std::cell::Cell;
+use std::collections::hash_map::DefaultHasher;
+use std::hash::{Hash, Hasher};
+use std::panic::catch_unwind;
+
+thread_local!(static CLONES: Cell<usize> = const { Cell::new(0) });
+
+#[derive(Debug, PartialEq, Eq, PartialOrd, Ord, Hash)]
+struct Item(Box<usize>);
+
+impl Clone for Item {
+    fn clone(&self) -> Self {
+        CLONES.set(CLONES.get() + 1);
+        Item(self.0.clone())
+    }
+}
+
+fn item(number: usize) -> Item {
+    Item(Box::new(number))
+}
+
+fn hash<T: Hash + ?Sized>(value: &T) -> u64 {
+    let mut hasher = DefaultHasher::new();
+    value.hash(&mut hasher);
+    hasher.finish()
+}
+
+fn same(list: &EcoTree<Item>, model: &Vec<Item>) {
+    assert!(list.len() == model.len() && list.is_empty() == model.is_empty());
+    assert!(list.iter().eq(model) && list.iter().len() == model.len());
+    assert!(list.chunks().flatten().eq(model) && list.chunks().all(|chunk| (1..=128).contains(&chunk.len())));
+    assert_eq!((list.first(), list.last(), list.get(model.len())), (model.first(), model.last(), None));
+    assert!(list.height() == 0 || 4_usize.pow(list.height() as u32) <= 4 * model.len());
+    assert_eq!((hash(list), format!("{list:?}")), (hash(model), format!("{model:?}")));
+}
+
+#[test]
+fn edits_beside_a_vector() {
+    let held = HELD.get();
+    let mut random = 7_u64;
+    let mut below = |most: usize| {
+        random = random.wrapping_mul(6364136223846793005).wrapping_add(1442695040888963407);
+        (random >> 33) as usize % most
+    };
+    for most in [3, 200, 3000] {
+        let (mut list, mut model) = (EcoTree::new(), Vec::new());
+        let mut versions = Vec::new();
+        for edit in 0..3 * most + 50 {
+            let grows = below(most) >= model.len() / 2;
+            let at = below(model.len() + 1);
+            match below(4) {
+                0 if grows => (list.push(item(edit)), model.push(item(edit))),
+                1 | 2 if grows => (list.insert(at, item(edit)), model.insert(at, item(edit))),
+                3 if at < model.len() => (list.set(at, item(edit)), model[at] = item(edit)),
+                _ if at < model.len() => (assert_eq!(list.remove(at), model.remove(at)), ()),
+                _ => (assert_eq!(list.pop(), model.pop()), ()),
+            };
+            assert_eq!(list.get(at), model.get(at));
+            if edit % (most / 3 + 1) == 0 {
+                versions.push((list.clone(), model.clone()));
+            }
+        }
+        same(&list, &model);
+        for (list, model) in &versions {
+            same(list, model);
+            for (other, another) in &versions {
+                assert_eq!((list == other, list.cmp(other)), (model == another, model.cmp(another)));
+            }
+        }
+        same(&model.iter().cloned().collect(), &model);
+    }
+    assert_eq!(HELD.get(), held);
+}
+
+/// A change of a list that shares its blocks asks for those on its way, and clones one block of elements. One that
+/// shares nothing is changed in place.
+#[test]
+fn a_change_copies_its_way() {
+    let mut list: EcoTree<Item> = (0..100_000).map(item).collect();
+    let count = |change: &mut dyn FnMut()| {
+        let before = (CLONES.get(), REQUESTS.get());
+        change();
+        (CLONES.get() - before.0, REQUESTS.get() - before.1)
+    };
+    let height = list.height();
+    assert!((2..=4).contains(&height));
+    let mut before = None;
+    assert_eq!(count(&mut || before = Some(list.clone())), (0, 0));
+    let before = before.unwrap();
+    let new = item(1);
+    let (clones, requests) = count(&mut || list.set(50_000, new.clone()));
+    // `new`, and each clone, has a box.
+    assert!((65..=129).contains(&clones) && requests - clones <= height + 2, "{clones} {requests}");
+    assert_eq!((&list[50_000], &before[50_000], &before[99_999]), (&item(1), &item(50_000), &item(99_999)));
+    assert!(std::ptr::eq(&list[0], &before[0]) && !std::ptr::eq(&list[50_001], &before[50_001]));
+    let (number, other) = (item(2), item(3));
+    assert_eq!(count(&mut || list.set(50_001, number.clone())), (1, 1));
+    drop(before);
+    assert_eq!(count(&mut || list.set(9, other.clone())), (1, 1));
+}
+
+#[test]
+fn refused() {
+    let all: EcoTree<u64> = (0..5000).collect();
+    let mut list = all.clone();
+    assert_eq!(list.try_set(5000, 1).unwrap_err().value, 1);
+    assert_eq!(list.try_insert(5001, 1).unwrap_err().error, Error::Index);
+    assert_eq!(list.try_remove(5000), Err(Error::Index));
+    assert!(catch_unwind(|| all[5000]).is_err());
+    let calls: [fn(&mut EcoTree<u64>) -> bool; 4] = [
+        |list| list.try_set(2500, 7).is_err_and(|back| (back.value, back.error) == (7, Error::Memory)),
+        |list| list.try_insert(2500, 7).is_err_and(|back| (back.value, back.error) == (7, Error::Memory)),
+        |list| list.try_push(7).is_err_and(|back| (back.value, back.error) == (7, Error::Memory)),
+        |list| list.try_remove(2500) == Err(Error::Memory),
+    ];
+    for call in calls {
+        for request in 1.. {
+            let mut list = all.clone();
+            REFUSED.set(request);
+            let is_refused = call(&mut list);
+            if REFUSED.take() > 0 {
+                break;
+            }
+            assert!(!is_refused || list == all, "{request}");
+        }
+    }
+    fn sent<T: Send + Sync>(_: &T) {}
+    sent(&all);
+}
