@@ -42,6 +42,26 @@ def done(_):
     """None, for a change that gives the value itself."""
 
 
+def list_edits(index, other, part, one, few, fitting, times):
+    """The edits of a list, each with these arguments."""
+    return (
+        lambda each: each.append(one),
+        lambda each: each.insert(index, one),
+        lambda each: each.pop(),
+        lambda each: each.pop(index),
+        lambda each: each.remove(one),
+        lambda each: each.extend(each),
+        lambda each: each.reverse(),
+        lambda each: each.__setitem__(index, one),
+        lambda each: each.__delitem__(index),
+        lambda each: each.__setitem__(part, few),
+        lambda each: each.__setitem__(part, fitting),
+        lambda each: each.__setitem__(slice(index, other), each),
+        lambda each: each.__delitem__(part),
+        lambda each: done(each.__imul__(times)),
+    )
+
+
 def outcome(call):
     """What a call returns, in Python's own types, or the type of what it raises."""
     try:

@@ -5,7 +5,7 @@ import time
 import unittest
 
 from ecow import Bytes, LentText, List, Text, Texts
-from harness import EDITS, LENGTHS, Pool, done, draws, outcome, plain
+from harness import EDITS, LENGTHS, Pool, done, draws, list_edits, outcome, plain
 
 WORDS = ("", "a", "fifteen letters", "sixteen letters!", "\u00e9", "\u20ac" * 5, "\U0001f331" * 400)
 
@@ -38,22 +38,9 @@ class Differential(unittest.TestCase):
                 # A bytearray takes the items out then; a list raises an error.
                 few = [one] * (len(fitting) + 1)
             call = draw.choice((
+                *list_edits(index, other, part, one, few, fitting, times),
                 lambda each: each.append(one),
-                lambda each: each.append(one),
-                lambda each: each.insert(index, one),
-                lambda each: each.pop(),
-                lambda each: each.pop(index),
-                lambda each: each.remove(one),
                 lambda each: each.extend(source()),
-                lambda each: each.extend(each),
-                lambda each: each.reverse(),
-                lambda each: each.__setitem__(index, one),
-                lambda each: each.__delitem__(index),
-                lambda each: each.__setitem__(part, few),
-                lambda each: each.__setitem__(part, fitting),
-                lambda each: each.__setitem__(slice(index, other), each),
-                lambda each: each.__delitem__(part),
-                lambda each: done(each.__imul__(times)),
                 lambda each: done(each.__iadd__(model(few))),
                 lambda each: each[index],
                 lambda each: each[part],

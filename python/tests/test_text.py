@@ -11,7 +11,7 @@ import time
 import unittest
 
 from ecow import Bytes, List, Text, Texts, Value, is_utf8
-from harness import EDITS, LENGTHS, Pool, done, draws, outcome, plain
+from harness import EDITS, LENGTHS, Pool, draws, list_edits, outcome, plain
 
 # One character of each length in UTF-8, some that change their length by case, and separators.
 LETTERS = "aAz, \n\u00e9\u00df\u0130\u01c4\u03a3\u20ac\u2028\U0001f331\U00010400"
@@ -43,22 +43,9 @@ class Differential(unittest.TestCase):
             source = draw.choice((few, Text(few), list(few), tuple(few)))
             if draw.random() < 0.5:
                 call = draw.choice((
-                    lambda each: each.append(one),
-                    lambda each: each.insert(index, one),
-                    lambda each: each.pop(),
-                    lambda each: each.pop(index),
-                    lambda each: each.remove(one),
+                    *list_edits(index, other, part, one, few, fitting, times),
                     lambda each: each.extend(source),
-                    lambda each: each.extend(each),
-                    lambda each: each.reverse(),
-                    lambda each: each.__setitem__(index, one),
-                    lambda each: each.__delitem__(index),
-                    lambda each: each.__setitem__(part, few),
-                    lambda each: each.__setitem__(part, fitting),
                     lambda each: each.__setitem__(part, source),
-                    lambda each: each.__setitem__(slice(index, other), each),
-                    lambda each: each.__delitem__(part),
-                    lambda each: done(each.__imul__(times)),
                 ))
                 self.assertEqual(outcome(lambda: call(value)), outcome(lambda: call(model)))
             else:

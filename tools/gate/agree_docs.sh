@@ -3,10 +3,7 @@
 # the crates of each KIND (docs/CALLING.md), the code that docs/uses quotes, and that both counts of owners are called
 # alike (docs/ARCHITECTURE.md).
 set -eu
-cd "$(dirname "$0")/../.."
-work=$(mktemp -d)
-trap 'rm -r "$work"' EXIT
-export LC_ALL=C
+. "$(dirname "$0")/work.sh"
 
 # Compares what is said, which is something, with standard input.
 compare() { # WHAT
@@ -31,7 +28,7 @@ for folder in crates/*; do
     echo "$crate $(proved_by_hand "$crate") $blocks"
 done | grep -v ' 0 0$' | sort | compare "docs/PROVED.md (<) and the code (>)"
 
-for kind in vector text nested store tool all; do
+for kind in vector tree text nested store tool all; do
     sed -n "s/^| \`$kind\` | [^|]* | \([0-9]*\) |.*/\1/p" docs/CALLING.md > "$work/said"
     tops=$(sed -n "s/^    $kind) tops=\"*\([a-z_ ]*\)\"* *;;/\1/p" tools/ship/vendor.sh)
     awk -F: -v tops="$tops" -f tools/ship/below.awk crates.txt | grep -c '' |

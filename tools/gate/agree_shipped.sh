@@ -3,18 +3,16 @@
 # contents with those that git has. Likewise it packs the archives of tools/ship/dist.sh, of an empty library, where there
 # are GNU tar, python3 and rustfmt.
 set -eu
-cd "$(dirname "$0")/../.."
-work=$(mktemp -d)
-trap 'rm -rf "$work"' EXIT
-export LC_ALL=C
+. "$(dirname "$0")/work.sh"
 
 cat > "$work/table" <<'END'
 vector base block shared list
+tree base block shared list tree
 text base block shared list bytes string ecow
 nested base block shared list bytes string nested ecow
 store base model table block shared list bytes string ecow counted store
 tool base model table block shared list bytes string ecow counted store script tool
-all base model table block shared list bytes string nested ecow counted store script tool
+all base model table block shared list bytes string nested tree ecow counted store script tool
 END
 
 copies=0

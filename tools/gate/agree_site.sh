@@ -2,10 +2,7 @@
 # Sees that the site can be made, without its generator: that each call has a comment and clauses, and, where there is
 # python3, that each word of a clause leads to its definition and that the pictures are those of their tables.
 set -eu
-cd "$(dirname "$0")/../.."
-work=$(mktemp -d)
-trap 'rm -r "$work"' EXIT
-export LC_ALL=C
+. "$(dirname "$0")/work.sh"
 
 # Names each call that lacks something. A call of a trait's impl has the comment and the clauses of the trait. One that
 # gives an allocator has no clause, since one allocator is as any other.

@@ -2,9 +2,7 @@
 # Compares the statuses, names and numbers, of the crate `ecow_c` and of the header with those that callers have compiled
 # in. The functions of C and C++ that take any status have a case for each.
 set -eu
-cd "$(dirname "$0")/../.."
-work=$(mktemp -d)
-trap 'rm -r "$work"' EXIT
+. "$(dirname "$0")/work.sh"
 printf '%s\n' 'OK 0' 'MEMORY 1' 'CAPACITY 2' 'INDEX 3' 'BOUNDARY 4' 'UTF8 5' 'NULL 6' 'KIND 7' 'DEPTH 9' > "$work/proved"
 # The functions of `c/` answer this one.
 echo 'INNER_NUL 8' | sort -k 2n "$work/proved" - > "$work/statuses"

@@ -104,19 +104,30 @@ function byte_list(    whole) {
     says("bytes contents b", "[" whole "]")
 }
 
+# Makes a value of so many items, and reads it. The third word names it.
+function makes(call, whole, count,    words) {
+    split(call, words, " ")
+    says(call " " whole, "ok")
+    says(words[1] " len " words[3], count)
+    says(words[1] " contents " words[3], whole)
+    says(words[1] " capacity " words[3], count)
+}
+
+# Clones a value, and pushes an item to the clone, which has a block of its own then.
+function pushes(kind, from, whole, to, item, longer, capacity) {
+    says(kind " clone " from " " to, "ok")
+    says(kind " push " to " " item, "ok")
+    says(kind " capacity " to, capacity)
+    says(kind " contents " to, longer)
+    says(kind " contents " from, whole)
+}
+
 # A list of 100,000 numbers: made at once, pushed one by one, changed while it is shared and while it isn't.
 function list(    i, count, whole) {
     count = 100000
     whole = numbers(1, count, 1)
-    says("vec from_list a [" whole "]", "ok")
-    says("vec len a", count)
-    says("vec contents a", "[" whole "]")
-    says("vec capacity a", count)
-    says("vec clone a b", "ok")
-    says("vec push b 7", "ok")
-    says("vec capacity b", 2 * count)
-    says("vec contents b", "[" whole ",7]")
-    says("vec contents a", "[" whole "]")
+    makes("vec from_list a", "[" whole "]", count)
+    pushes("vec", "a", "[" whole "]", "b", 7, "[" whole ",7]", 2 * count)
     says("vec insert b 50000 8", "ok")
     says("vec read b 50000", 8)
     says("vec read b 50001", 50001)
@@ -168,15 +179,8 @@ function texts(    i, count, letters, bytes, upper) {
     count = 100000
     letters = times(count / 10, "abcdefghij")
     upper = times(count / 10, "ABCDEFGHIJ")
-    says("text from_str t \"" letters "\"", "ok")
-    says("text len t", count)
-    says("text contents t", "\"" letters "\"")
-    says("text capacity t", count)
-    says("text clone t u", "ok")
-    says("text push u \"\303\251\"", "ok")
-    says("text capacity u", 2 * count)
-    says("text contents u", "\"" letters "\303\251\"")
-    says("text contents t", "\"" letters "\"")
+    makes("text from_str t", "\"" letters "\"", count)
+    pushes("text", "t", "\"" letters "\"", "u", "\"\303\251\"", "\"" letters "\303\251\"", 2 * count)
     says("text truncate u 100001", "refused boundary")
     says("text pop u", "\"\303\251\"")
     says("text insert_str u 50000 \"" upper "\"", "ok")

@@ -87,7 +87,7 @@ else
     "$tools/gate/counts.sh" rust-serde skipped
 fi
 cd ..
-# What unwinds may leak, and reads nothing that was given up.
+# Where something unwinds, nothing is read that was given up.
 runs=0
 if command -v valgrind > /dev/null; then
     for test in unwinding refused; do

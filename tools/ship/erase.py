@@ -12,7 +12,8 @@ import sys
 
 # The crates, lowest first, and the folders that they are read from.
 CRATES = {"ecow_base": "ecow_base", "ecow_block": "ecow_block", "ecow_shared": "ecow_atomic", "ecow_list": "ecow_list",
-          "ecow_bytes": "ecow_bytes", "ecow_string": "ecow_string", "ecow_nested": "ecow_nested"}
+          "ecow_bytes": "ecow_bytes", "ecow_string": "ecow_string", "ecow_nested": "ecow_nested",
+          "ecow_tree": "ecow_tree"}
 
 # Where an imported name is found in Rust. `None`: no import is needed.
 SHIM = "crate::shim::"
@@ -56,7 +57,7 @@ NO_TRAITS = "AsSlice|AsStr|FromIterator"
 
 DERIVES = {"Clone", "Copy", "Debug", "PartialEq", "Eq"}
 ATTRIBUTES = {"inline", "inline(always)", "inline(never)", "cold", "repr(C)"}
-MACROS = {"unreachable", "open", "write", "macro_rules", "base"}
+MACROS = {"unreachable", "open", "write", "macro_rules", "base", "guarded", "are_one"}
 
 # Words of Rattle's own. None is left in the end.
 FOREIGN = re.compile(r"\b(ghost|requires|ensures|invariant|decreases|Model|Brand|Drop(?! for)|AsSlice|AsStr|tactic|cycle"

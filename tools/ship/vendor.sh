@@ -1,10 +1,10 @@
 #!/bin/sh
 # Copies crates into another repository, as plain folders below its crates/, with their rows in its
 # crates.txt, so that its gate proves them: tools/ship/vendor.sh FOLDER [KIND [COUNT]]. KIND says what is
-# needed: vector (EcoVec), text (vector, bytes and text), nested (these and nested values), store
-# (text and both stores, with their laws), tool (with scripts and the program over any reader and
-# writer), or all of these. COUNT says how owners are counted: plain, for one thread, or atomic. Tests
-# and edits stay here. A folder that isn't there is made.
+# needed: vector (EcoVec), tree (vector, and a list in a tree), text (vector, bytes and text), nested
+# (text and nested values), store (text and both stores, with their laws), tool (with scripts and the
+# program over any reader and writer), or all of these. COUNT says how owners are counted: plain, for
+# one thread, or atomic. Tests and edits stay here. A folder that isn't there is made.
 #
 # Where crates of an earlier call are there, it updates them, their rows too, and touches nothing
 # else; a crate that has another name now is replaced, and it says so. It refuses to, and changes
@@ -14,7 +14,7 @@ export LC_ALL=C
 to=${1:-}
 kind=${2:-vector}
 count=${3:-plain}
-use="make vendor TO=FOLDER [KIND=vector|text|nested|store|tool|all] [COUNT=plain|atomic]"
+use="make vendor TO=FOLDER [KIND=vector|tree|text|nested|store|tool|all] [COUNT=plain|atomic]"
 
 refuse() { # WHY..
     printf '%s\n' "$@" >&2
@@ -23,12 +23,13 @@ refuse() { # WHY..
 
 case $kind in
     vector) tops=ecow_list ;;
+    tree) tops=ecow_tree ;;
     text) tops=ecow ;;
     nested) tops="ecow ecow_nested" ;;
     store) tops="ecow ecow_store ecow_counted" ;;
     tool) tops="ecow ecow_tool" ;;
-    all) tops="ecow ecow_nested ecow_tool" ;;
-    *) refuse "$use" "KIND is vector, text, nested, store, tool or all, and not $kind" ;;
+    all) tops="ecow ecow_nested ecow_tree ecow_tool" ;;
+    *) refuse "$use" "KIND is vector, tree, text, nested, store, tool or all, and not $kind" ;;
 esac
 case $count in
     plain | atomic) ;;

@@ -2,9 +2,9 @@
 # Tries `make vendor` on a repository that is new: a second call changes nothing, and the gate there
 # proves what was copied and, above it, the code of README and of docs/CALLING.md:
 # tools/ship/vendor_test.sh [KIND [COUNT]].
-# But for KIND=vector the worked tree is copied out too, and for KIND=all all worked programs. The
-# gate there runs them. With COUNT=atomic the code of docs/uses/threads.md is proved too, for which
-# the repository has the handle Threads.
+# Where there are texts the worked syntax tree is copied out too, and for KIND=all all worked
+# programs. The gate there runs them. With COUNT=atomic the code of docs/uses/threads.md is proved
+# too, for which the repository has the handle Threads.
 set -eu
 cd "$(dirname "$0")/../.."
 kind=${1:-vector}
@@ -51,9 +51,9 @@ crate() {
 }
 crate first README.md '### Rattle' ecow_list
 crate calling docs/CALLING.md '## A caller' ecow_list
-if [ "$kind" != vector ]; then
+if [ -d "$new/crates/ecow_string" ]; then
     crate named docs/CALLING.md '**A struct of yours.**' 'ecow_list ecow_string'
-    # The worked tree, as a program of its own.
+    # The worked syntax tree, as a program of its own.
     trees=$new/crates/trees
     mkdir -p "$trees/src" "$trees/specs" "$trees/proofs"
     for part in src/tree.rt specs/Trees.antt proofs/Trees.antt proofs/tree; do
