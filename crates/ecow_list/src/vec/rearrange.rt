@@ -45,8 +45,8 @@ impl<T: Clone> EcoVec<T> {
     /// Sorts the elements. Equal ones keep their order. A shared vector copies its elements into a
     /// block of its own first.
     ///
-    /// Takes time linear in the length times its logarithm, and memory for half of the elements if
-    /// there are more than 20.
+    /// Takes time linear in the length times its logarithm. More than 20 elements take as much
+    /// memory again while they are sorted, unless they are in order already or fall throughout.
     ///
     /// This project's own, named as that of slices.
     ///
@@ -72,8 +72,8 @@ impl<T: Clone> EcoVec<T> {
     /// Sorts the elements by `compare`. Those that it calls equal keep their order. A shared vector
     /// copies its elements into a block of its own first.
     ///
-    /// Takes time linear in the length times its logarithm, and memory for half of the elements if
-    /// there are more than 20.
+    /// Takes time linear in the length times its logarithm. More than 20 elements take as much
+    /// memory again while they are sorted, unless they are in order already or fall throughout.
     ///
     /// This project's own, named as that of slices.
     ///
