@@ -33,8 +33,6 @@ pub struct EcoTree<T> {
 }
 
 impl<T> Model for EcoTree<T> {
-    ghost use Rattle.std.specs.Prelude.{List};
-
     // A contract sees the elements, and not how they are spread over blocks.
     ghost Value = { List T };
 
