@@ -9,5 +9,6 @@ pub mod Places
 pub mod Ranges
 pub mod Replaced
 pub mod ResultTyped
+pub mod Sorted
 pub mod Views
 pub mod Popped
