@@ -122,6 +122,15 @@ chars-take bs index text at =
           ap chars (front_bytes bs index text front) ∙ chars-encodes _ (front_valid bs front.front text) ∙ ap (λ n. take n (chars bs)) (sym before)
     ]
 
+-- the characters of the bytes from a boundary on
+pub chars-drop : (bs : List ℕ) (index : ℕ) → AreUtf8 bs → is_boundary (chars bs) index ≡ true → chars (drop index bs) ≡ drop (chars_before (chars bs) index) (chars bs)
+chars-drop bs index text at =
+    let front = passes_boundary (chars bs) index at in
+    let before : chars_before (chars bs) index ≡ front.front = rw front.ends at (chars_before-front (chars bs) front.front front.fits) in
+    let behind : drop index bs ≡ encode_utf8_all (drop front.front (chars bs)) =
+    ap (drop index) (sym text.spelling ∙ split_encoded (chars bs) front.front) ∙ drop_at (encode_utf8_all (take front.front (chars bs))) _ index front.ends in
+    ap chars behind ∙ chars-encodes _ (split_valid (chars bs) front.front text.valid).1 ∙ ap (λ n. drop n (chars bs)) (sym before)
+
 pub AreUtf8-take : (bs : List ℕ) (index : ℕ) → AreUtf8 bs → IsCut (chars bs) index → AreUtf8 (take index bs)
 AreUtf8-take bs index text at =
     elim (cases_lt (length bs) index) [

@@ -17,6 +17,7 @@ mod make;
 mod push;
 mod repeat;
 mod replace;
+mod split;
 
 use ecow_base::MAX_LEN;
 use ecow_bytes::SmallBytes;
