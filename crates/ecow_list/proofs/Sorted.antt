@@ -54,15 +54,15 @@ module _ {K : Type 0} {R : K → K → Ordering} (o : IsTotalOrder R) where
       elim (cases_lt (k + 1) i) [
         | inl low ↦ rw (get_or-insert_below xs i x x k (omega arith) le, get_or-insert_below xs i x x (k + 1) low le) (Less-from_sorted R xs k (k + 1) x up (omega arith) (omega arith))
         | inr high ↦ elim (cases_lt k i) [
-            | inl low ↦ (let here : k + 1 ≡ i = omega arith in
-                rw (get_or-insert_below xs i x x k low le, ap (λ n. get_or (insert xs i x) n x) here ∙ get_or-insert_at xs i x x le) (below k low))
-            | inr past ↦ elim (cases_lt i k) [
-                | inl over ↦ (let back : k ≡ (k - 1) + 1 = omega arith in
-                    rw (ap (λ n. get_or (insert xs i x) n x) back ∙ get_or-insert_above xs i x x (k - 1) (omega arith) le, get_or-insert_above xs i x x k past le) (Less-from_sorted R xs (k - 1) k x up (omega arith) (omega arith)))
-                | inr same ↦ (let here : k ≡ i = omega arith in
-                    rw (ap (λ n. get_or (insert xs i x) n x) here ∙ get_or-insert_at xs i x x le, get_or-insert_above xs i x x k past le) (above k past (omega arith)))
-              ]
+          | inl low ↦ (let here : k + 1 ≡ i = omega arith in
+              rw (get_or-insert_below xs i x x k low le, ap (λ n. get_or (insert xs i x) n x) here ∙ get_or-insert_at xs i x x le) (below k low))
+          | inr past ↦ elim (cases_lt i k) [
+            | inl over ↦ (let back : k ≡ (k - 1) + 1 = omega arith in
+                rw (ap (λ n. get_or (insert xs i x) n x) back ∙ get_or-insert_above xs i x x (k - 1) (omega arith) le, get_or-insert_above xs i x x k past le) (Less-from_sorted R xs (k - 1) k x up (omega arith) (omega arith)))
+            | inr same ↦ (let here : k ≡ i = omega arith in
+                rw (ap (λ n. get_or (insert xs i x) n x) here ∙ get_or-insert_at xs i x x le, get_or-insert_above xs i x x k past le) (above k past (omega arith)))
           ]
+        ]
       ])
 
   -- elements stay in strict order after the removal of one
@@ -72,9 +72,9 @@ module _ {K : Type 0} {R : K → K → Ordering} (o : IsTotalOrder R) where
       elim (cases_lt (k + 1) i) [
         | inl low ↦ rw (get_or-remove_below xs i x k (omega arith) lt, get_or-remove_below xs i x (k + 1) low lt) (Less-from_sorted R xs k (k + 1) x up (omega arith) (omega arith))
         | inr high ↦ elim (cases_lt k i) [
-            | inl low ↦ rw (get_or-remove_below xs i x k low lt, get_or-remove_above xs i x (k + 1) high lt) (Less-from_sorted R xs k (k + 1 + 1) x up (omega arith) (omega arith))
-            | inr past ↦ rw (get_or-remove_above xs i x k past lt, get_or-remove_above xs i x (k + 1) (omega arith) lt) (Less-from_sorted R xs (k + 1) (k + 1 + 1) x up (omega arith) (omega arith))
-          ]
+          | inl low ↦ rw (get_or-remove_below xs i x k low lt, get_or-remove_above xs i x (k + 1) high lt) (Less-from_sorted R xs k (k + 1 + 1) x up (omega arith) (omega arith))
+          | inr past ↦ rw (get_or-remove_above xs i x k past lt, get_or-remove_above xs i x (k + 1) (omega arith) lt) (Less-from_sorted R xs (k + 1) (k + 1 + 1) x up (omega arith) (omega arith))
+        ]
       ])
 
 -- numbers still rise after the insertion of one where a search for it ended
@@ -85,9 +85,9 @@ rises_inserted xs x i sought up =
 -- of numbers that rise, none is above a later one
 pub le_from_rising : (xs : List ℕ) → IsStrictlyIncreasing xs → (i j d : ℕ) → i ≤ j → j < length xs → get_or xs i d ≤ get_or xs j d
 le_from_rising xs up i j d le within = elim (cases_lt i j) [
-    | inl before ↦ (let a = below_from_sorted xs i j d (sorted_from_strictly_increasing xs up) before within in omega (arith, a))
-    | inr same ↦ (let here : i ≡ j = omega arith in let e = ap (λ n. get_or xs n d) here in omega (arith, e))
-  ]
+  | inl before ↦ (let a = below_from_sorted xs i j d (sorted_from_strictly_increasing xs up) before within in omega (arith, a))
+  | inr same ↦ (let here : i ≡ j = omega arith in let e = ap (λ n. get_or xs n d) here in omega (arith, e))
+]
 
 -- the place of the number that a search finds
 pub found_number : (xs : List ℕ) (x i : ℕ) → IsBinarySearchResult (λ y. nat_cmp y x) xs (Ok i) → IsStrictlyIncreasing xs

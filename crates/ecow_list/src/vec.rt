@@ -13,6 +13,7 @@ mod collect;
 mod conversions;
 mod copies;
 mod edits;
+mod fills;
 mod insert_slice;
 mod make_mut;
 mod own;

@@ -126,7 +126,7 @@ impl<T: Clone> EcoVec<T> {
 
     /// Moves the elements of a block behind those of this vector, and frees the block. Where that
     /// is refused, the block comes back.
-    fn append_block(&mut self, block: Block<T>) -> Result<(), Rejected<Block<T>>>
+    pub(super) fn append_block(&mut self, block: Block<T>) -> Result<(), Rejected<Block<T>>>
         ensures change { Changes T.is_clone self.old (λ xs. xs ++ block.items) result self.new }
         ensures len { OnOk result (length self.new ≡ length self.old + length block.items) }
         ensures refused { RejectsPast (length self.old + length block.items)
