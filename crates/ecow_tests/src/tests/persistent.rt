@@ -91,49 +91,54 @@ fn a_refused_clone_leaves_the_list(rt: HostRuntime) -> Result<(), Fail> {
     Ok(())
 }
 
-/// Inserts at places all over leave what they leave of a `Vec`, and clone nothing.
-#[test]
-fn inserts_are_those_of_a_vector(rt: HostRuntime) -> Result<(), Fail> {
-    let (alloc, tally) = (rt.alloc(), Tally::new(rt.alloc())?);
-    let mut list = EcoTree::new(alloc);
-    let mut model = Vec::new(alloc);
-    for number in 0..1500 {
-        let index = number * 7919 % (number + 1);
-        if index <= list.len() && index <= model.len() {
-            let value = tally.numbered(number as i64)?;
-            list.insert(index, value)
-                .map_err(|rejected| rejected.error)?;
-            model.insert(index, number as i64)?;
-        }
-    }
-    assert!(rt; tally.has(0, 0) && list.len() == 1500 && model.len() == 1500);
-    for (index, expected) in model.iter().enumerate() {
-        assert_eq!(rt; number(&list, index), Some(*expected));
-    }
-    Ok(())
+/// Whether a list holds these numbers.
+fn holds(list: &EcoTree<Counting>, numbers: &[i64]) -> bool {
+    let mut both = list.iter().zip(numbers.iter());
+    list.len() == numbers.len() && both.all(|(element, number)| element.number == *number)
 }
 
-/// Removals at places all over leave what they leave of a `Vec`. None is refused, and none clones.
+/// Inserts an element with this number into a list, and the number into a `Vec`.
+fn insert(
+    list: &mut EcoTree<Counting>,
+    numbers: &mut Vec<i64>,
+    index: usize,
+    value: Counting,
+) -> Result<(), EcoError> {
+    if index > list.len() || index > numbers.len() {
+        return Err(EcoError::Capacity);
+    }
+    numbers.insert(index, value.number)?;
+    list.insert(index, value).map_err(|rejected| rejected.error)
+}
+
+/// Removes the element at an index, or the last one if there is none, from a list and from a `Vec`.
+/// Whether both gave the same.
+fn removes_alike(
+    list: &mut EcoTree<Counting>,
+    numbers: &mut Vec<i64>,
+    index: usize,
+) -> Result<bool, EcoError> {
+    if index < list.len() && index < numbers.len() {
+        return Ok(list.remove(index)?.number == numbers.remove(index));
+    }
+    Ok(list.pop()?.map(|last| last.number) == numbers.pop())
+}
+
+/// Inserts and removals at places all over leave what they leave of a `Vec`. None is refused, and
+/// none clones.
 #[test]
-fn removals_are_those_of_a_vector(rt: HostRuntime) -> Result<(), Fail> {
+fn changes_are_those_of_a_vector(rt: HostRuntime) -> Result<(), Fail> {
     let (alloc, tally) = (rt.alloc(), Tally::new(rt.alloc())?);
-    let mut list = counted(alloc, &tally, 3000)?;
-    let mut model = Vec::new(alloc);
+    let (mut list, mut numbers) = (EcoTree::new(alloc), Vec::new(alloc));
     for number in 0..3000 {
-        model.push(number)?;
+        let value = tally.numbered(number as i64)?;
+        insert(&mut list, &mut numbers, number * 7919 % (number + 1), value)?;
     }
+    assert!(rt; tally.has(0, 0) && numbers.len() == 3000 && holds(&list, numbers.as_slice()));
     for number in 0..2900 {
-        let index = number * 7919 % 3001;
-        if index < list.len() && index < model.len() {
-            assert_eq!(rt; list.remove(index)?.number, model.remove(index));
-        } else if let Some(last) = list.pop()? {
-            assert_eq!(rt; Some(last.number), model.pop());
-        }
+        assert!(rt; removes_alike(&mut list, &mut numbers, number * 7919 % 3001)?);
     }
-    assert!(rt; tally.has(0, 2900) && list.len() == 100 && model.len() == 100);
-    for (index, expected) in model.iter().enumerate() {
-        assert_eq!(rt; number(&list, index), Some(*expected));
-    }
+    assert!(rt; tally.has(0, 2900) && numbers.len() == 100 && holds(&list, numbers.as_slice()));
     Ok(())
 }
 
