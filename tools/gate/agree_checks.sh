@@ -154,7 +154,7 @@ sees "two flag alone message status cut" cases.sh "$work/program"
 # Scripts of which each request is refused: three for each with a command or two, and two that are drawn, in either store.
 printf '%s\n' 'draw 2 3' 'state vec vec new x' 'vec pop x' > "$work/copy/tools/gate/states.txt"
 counts refuse_scripts.sh "10 scripts" "56 requests refused" "46 commands refused" "66 processes that gave all back"
-sees "output later keeps memory status" refuse_scripts.sh "$work/fake"
+sees "output later extra keeps memory status" refuse_scripts.sh "$work/fake"
 
 # Large scripts, which aren't so large here: answered by what is wanted, in time that grows as their bytes.
 sed 's/many = 70000/many = 700/; s/count = 100000/count = 1000/' tools/gate/large.awk \

@@ -5,8 +5,8 @@
    With arguments it runs the script that the last one names. It asks for memory once, without which
    it ends with status 3, and once for each command, which answers `ok` or is refused. All answers
    are said at the end. With WRONG=o it says something where it ends with 3. Where a command is
-   refused, the later ones answer something else (WRONG=l), or it keeps a block or ends with status
-   1, as above. With WRONG=m its first line lacks memory, whatever is refused. */
+   refused, the later ones answer something else (WRONG=l), it says one answer more (WRONG=e), or it
+   keeps a block or ends with status 1, as above. With WRONG=m its first line lacks memory, whatever is refused. */
 typedef unsigned long size;
 
 extern char *getenv(const char *name);
@@ -39,6 +39,7 @@ static int run_script(const char *path, char wrong) {
     if (!block) fault = wrong;
     free(block);
   }
+  if (fault == 'e') say("ok\n");
   if (fault != 'k') free(held);
   (void)!write(1, answers, said);
   return fault == 's';
