@@ -8,11 +8,12 @@ mod allocator;
 use allocator::{FIRST, HELD, REFUSED, REQUESTS};
 use ecow::string::ToEcoString;
 use ecow::value::Step;
-use ecow::{EcoBytes, EcoString, EcoVec, Error, Rejected, Value, eco_vec};
+use ecow::{EcoBytes, EcoString, EcoTree, EcoVec, Error, Rejected, Value, eco_vec};
 use std::cell::{Cell, RefCell};
 use std::collections::{BTreeMap, BTreeSet};
 use std::fmt::{Debug, Write};
 use std::mem::take;
+use std::ops::Deref;
 use std::os::unix::process::ExitStatusExt;
 use std::panic::{AssertUnwindSafe, catch_unwind};
 
@@ -71,10 +72,15 @@ fn printed<R: Debug>(call: impl FnOnce() -> R) -> (String, [usize; 4]) {
 /// Begins a row. Of the row that this process is asked for, the first request is refused.
 fn begin(call: &str) -> String {
     let row = format!("{call} {}", ROWS.with_borrow(BTreeMap::len));
-    let refused = std::env::var("REFUSED_ROW").is_ok_and(|refused| refused == row);
+    let refused = std::env::var_os("REFUSED_ROW").is_some() && !is_left_out(&row);
     REFUSED_NEXT.set(refused.into());
     ROWS.with_borrow_mut(|rows| rows.insert(row.clone(), 0));
     row
+}
+
+/// Whether this process is asked for another row.
+fn is_left_out(row: &str) -> bool {
+    std::env::var("REFUSED_ROW").is_ok_and(|asked| asked != row)
 }
 
 /// Notes how many bytes the row's call asked for first.
@@ -83,8 +89,8 @@ fn note(row: &str, counts: [usize; 4]) {
 }
 
 /// A type beside std's: the values of its rows have so many elements, that capacity, and perhaps a clone.
-trait Subject: Clone + Debug + PartialEq<Self::Std> {
-    type Std: Debug;
+trait Subject: Clone + Debug + PartialEq<<Self::Std as Deref>::Target> {
+    type Std: Debug + Deref;
     const NAME: &'static str;
     const STATES: &'static [(u64, usize, bool)];
     fn made(len: u64, capacity: usize) -> Self;
@@ -133,6 +139,29 @@ subjects! {
     EcoString, "SmallText", String, TEXT, |n| char::from(b'0' + n as u8 % 10);
 }
 
+/// What a tree has for a capacity is its height, and it counts as shared where its first block is. No element; one block
+/// that is short, shared, or full; two levels, the second shared; three.
+impl Subject for EcoTree<Item> {
+    type Std = Vec<Item>;
+    const NAME: &'static str = "EcoTree";
+    #[rustfmt::skip]
+    const STATES: &'static [(u64, usize, bool)] = &[
+        (0, 0, false), (4, 0, false), (4, 0, true), (128, 0, false), (300, 1, false), (300, 1, true), (2100, 2, true),
+    ];
+
+    fn made(len: u64, _height: usize) -> Self {
+        (0..len).map(item).collect()
+    }
+
+    fn std(len: u64) -> Vec<Item> {
+        (0..len).map(item).collect()
+    }
+
+    fn seen(&self) -> (usize, *const u8) {
+        (self.height(), self.first().map_or(std::ptr::null(), |item| std::ptr::from_ref(item).cast()))
+    }
+}
+
 /// A row: a call, std's, and what the call costs in each state. `-` is nothing, and `.` leaves the state out. Otherwise
 /// the numbers are the clones and the drops, which bytes don't have, the requests, and the capacity. `=` says that the
 /// value stays shared.
@@ -154,6 +183,9 @@ fn row<X: Subject>(
             _ => panic!("{what}: {cost}"),
         };
         let row = begin(&name);
+        if is_left_out(&row) {
+            continue;
+        }
         let (held, live) = (HELD.get(), LIVE.get());
         {
             let (mut ours, mut theirs) = (X::made(len, capacity), X::std(len));
@@ -162,12 +194,12 @@ fn row<X: Subject>(
             let (answer, counts) = call(&mut ours);
             note(&row, counts);
             assert_eq!(answer, std(&mut theirs), "{what}: the answer");
-            assert!(ours == theirs && format!("{ours:?}") == format!("{theirs:?}"), "{what}: {ours:?}, not {theirs:?}");
+            assert!(ours == *theirs && format!("{ours:?}") == format!("{theirs:?}"), "{what}: {ours:?} {theirs:?}");
             let after = [counts[0], counts[1], counts[2], ours.seen().0];
             assert_eq!(after, did, "{what}: clones, drops, requests, capacity");
             if let Some(other) = other {
                 assert_eq!(ours.seen().1 == other.seen().1, stays, "{what}: shared");
-                assert!(other == X::std(len), "{what}: the other owner has {other:?}");
+                assert!(other == *X::std(len), "{what}: the other owner has {other:?}");
             }
         }
         assert_eq!((HELD.get(), LIVE.get()), (held, live), "{what}: blocks and elements that are left");
@@ -406,6 +438,52 @@ fn texts() {
     }
 }
 
+/// A leaf of four is full, and one that comes of a full leaf has room for 128. Where an element goes in at the front of a
+/// full leaf, half of the elements move by way of a drain.
+fn trees() {
+    rows! { EcoTree<Item>:
+        push try_push (item(9))       "0/0/1/0 0/0/1/0 4/0/1/0 0/0/2/1 - 44/0/2/1= 52/0/3/2="
+        pop try_pop ()                "- - 4/0/1/0 - - 44/0/2/1= 52/0/3/2="
+        insert try_insert (0, item(9)) "0/0/1/0 0/0/1/0 4/0/1/0 0/0/3/1 0/0/2/1 128/0/4/1 128/0/5/2"
+        remove try_remove (0)         ". - 4/0/1/0 - - 128/0/2/1 128/0/3/2"
+    }
+    let mix = |all: u64, number: u64| (all * 31 + number) % 1_000_003;
+    let sum = |all: u64, item: &Item| mix(all, item.0);
+    let whole = |all: u64, chunk: &[Item]| chunk.iter().fold(mix(all, chunk.len() as u64), sum);
+    other_rows! { EcoTree<Item>:
+        len (v => v.len()) (w => w.len()) NOTHING
+        is_empty (v => v.is_empty()) (w => w.is_empty()) NOTHING
+        height (v => v.height()) (w => usize::from(w.len() > 128) + usize::from(w.len() > 2048)) NOTHING
+        get (v => (v.get(3), v.get(200), v.get(v.len()))) (w => (w.get(3), w.get(200), None::<Item>)) NOTHING
+        first (v => v.first()) (w => w.first()) NOTHING
+        last (v => v.last()) (w => w.last()) NOTHING
+        index (v => (&v[0], &v[v.len() - 1])) (w => (&w[0], w.last().unwrap())) ". - - - - - -"
+        chunks (v => v.chunks().fold(7, whole)) (w => w.chunks(128).fold(7, whole)) NOTHING
+        iter (v => { let mut left = v.iter(); (left.next(), left.size_hint(), left.len(), left.fold(7, sum)) })
+            (w => { let mut left = w.iter(); (left.next(), left.size_hint(), left.len(), left.fold(7, sum)) }) NOTHING
+        into_iter (v => (&*v).into_iter().fold(7, sum)) (w => w.iter().fold(7, sum)) NOTHING
+        clone (v => v.clone().first().map(|item| item.0) == v.first().map(|item| item.0)) (_ => true) NOTHING
+        set (v => v.set(0, item(9))) (w => w[0] = item(9))
+            ". 0/1/0/0 4/1/1/0 0/1/0/0 0/1/0/1 128/1/2/1 128/1/3/2"
+        try_set (v => v.try_set(0, item(9)).unwrap()) (w => w[0] = item(9))
+            ". 0/1/0/0 4/1/1/0 0/1/0/0 0/1/0/1 128/1/2/1 128/1/3/2"
+        extend (v => v.extend([8, 9].map(item))) (w => w.extend([8, 9].map(item)))
+            "0/0/1/0 0/0/1/0 4/0/1/0 0/0/2/1 - 44/0/2/1= 52/0/3/2="
+        clear (v => v.clear()) (w => w.clear()) "- 0/4/0/0 0/0/0/0 0/128/0/0 0/300/0/0 0/0/0/0 0/0/0/0"
+        drop (v => drop(take(v))) (w => w.clear()) "- 0/4/0/0 0/0/0/0 0/128/0/0 0/300/0/0 0/0/0/0 0/0/0/0"
+    }
+    made_rows! { EcoTree<Item>:
+        new (EcoTree::new()) ([]) "0/0/0/0"
+        default (EcoTree::default()) ([]) "0/0/0/0"
+        from (EcoTree::from([1, 2].map(item))) ([1, 2].map(item)) "0/0/1/0"
+        from_iter ((0..5).map(item).collect()) ([0, 1, 2, 3, 4].map(item)) "0/0/2/0"
+    }
+    // Of other lengths, in `trees.rs`.
+    for call in ["eq", "partial_cmp", "cmp", "hash", "fmt"] {
+        begin(&format!("EcoTree::{call}"));
+    }
+}
+
 /// A row of a call of a nested value: its answer, what it leaves, and its requests for a sole and for a shared value.
 fn value(
     name: &str,
@@ -418,6 +496,9 @@ fn value(
     let name = format!("Value::{name}");
     for (shared, requests) in [false, true].into_iter().zip(requests) {
         let row = begin(&name);
+        if is_left_out(&row) {
+            continue;
+        }
         let held = HELD.get();
         {
             let mut value = of();
@@ -512,14 +593,14 @@ fn defined(source: &str) -> Vec<String> {
         if let Some(head) = words.strip_prefix("impl") {
             let of = head.rsplit(" for ").next().unwrap();
             let small = of.contains("$type").then_some(&["SmallBytes", "SmallText"][..]);
-            // Trees have tests of their own.
-            let small = small.or(of.contains("$list").then_some(&["EcoVec"][..]));
-            let known = &["EcoVec", "IntoIter", "Drain", "SmallBytes", "SmallText", "Value"];
+            let small = small.or(of.contains("$list").then_some(&["EcoVec", "EcoTree"][..]));
+            let known = &["EcoVec", "IntoIter", "Drain", "SmallBytes", "SmallText", "Value", "EcoTree"];
             types = small.unwrap_or(known).iter().filter(|name| small.is_some() || of.contains(*name)).collect();
         } else if line.starts_with("pub fn") {
             types = vec![&"SmallText"];
         }
-        let call = words.strip_prefix("pub ").map(|rest| rest.strip_prefix("const ").unwrap_or(rest));
+        let call = words.strip_prefix("pub ").or((types == [&"EcoTree"]).then_some(words));
+        let call = call.map(|rest| rest.strip_prefix("const ").unwrap_or(rest));
         if let Some(name) = call.and_then(|rest| rest.strip_prefix("fn ")) {
             let name = name.split(['(', '<']).next().unwrap();
             assert!(!types.is_empty(), "{line}");
@@ -531,7 +612,7 @@ fn defined(source: &str) -> Vec<String> {
 
 #[test]
 fn each_public_call_has_a_row() {
-    for table in [vectors, bytes, texts, values, left_and_owned] {
+    for table in [vectors, bytes, texts, trees, values, left_and_owned] {
         table();
     }
     let rows = ROWS.take();
@@ -541,6 +622,7 @@ fn each_public_call_has_a_row() {
         include_str!("../src/bytes.rs"),
         include_str!("../src/string.rs"),
         include_str!("../src/value.rs"),
+        include_str!("../src/tree.rs"),
     ];
     let calls: Vec<String> = sources.into_iter().flat_map(defined).collect();
     assert!(calls.len() > 160, "{}", calls.len());
@@ -559,7 +641,7 @@ fn each_public_call_has_a_row() {
     {
         let child = std::process::Command::new(std::env::current_exe().unwrap())
             .args(["--exact", "each_public_call_has_a_row", "--nocapture"])
-            .env("REFUSED_ROW", row)
+            .envs([("REFUSED_ROW", row.as_str()), ("RUST_BACKTRACE", "0")])
             .output()
             .unwrap();
         let said = String::from_utf8_lossy(&child.stderr);
@@ -610,8 +692,9 @@ fn conversions_share() {
 
 #[test]
 fn a_nan_differs_from_itself() {
-    let vec = eco_vec![f64::NAN];
+    let (vec, tree) = (eco_vec![f64::NAN], EcoTree::from([f64::NAN]));
     let other = vec.clone();
+    assert!(tree != tree.clone() && tree.partial_cmp(&tree).is_none());
     assert!(vec.as_ptr() == other.as_ptr() && vec != other && vec.partial_cmp(&other).is_none());
 }
 
@@ -647,6 +730,7 @@ fn words() {
     assert_eq!(said(|| vec.clone().reserve(usize::MAX)), "capacity overflow");
     assert_eq!(said(|| vec.clone().set(2, "c")), "index is out bounds (index: 2, len: 2)");
     assert_eq!(said(|| EcoBytes::new().set(0, 1)), "index is out bounds (index: 0, len: 0)");
+    assert_eq!(said(|| _ = EcoTree::from([1])[1]), "index is out bounds (index: 1, len: 1)");
     let (short, long) = (EcoString::from("aé"), EcoString::from("é".to_string() + &"x".repeat(253) + "éé"));
     let inside = "byte index 2 is not a char boundary; it is inside 'é' (bytes 1..3) of `aé`";
     assert_eq!(said(|| short.clone().insert(2, 'c')), inside);

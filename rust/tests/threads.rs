@@ -1,6 +1,6 @@
 //! Clones that several threads share, write to and drop.
 
-use ecow::{EcoBytes, EcoString, EcoVec, Value};
+use ecow::{EcoBytes, EcoString, EcoTree, EcoVec, Value};
 use std::sync::Arc;
 use std::thread;
 
@@ -9,6 +9,7 @@ fn crosses<T: Send + Sync>() {}
 #[test]
 fn threads_share_clones() {
     crosses::<(EcoVec<String>, EcoString, EcoBytes, Value, ecow::vec::IntoIter<String>, ecow::vec::Drain<String>)>();
+    crosses::<EcoTree<String>>();
     for round in 0..std::env::var("ROUNDS").ok().and_then(|rounds| rounds.parse().ok()).unwrap_or(300) {
         // It tells how many elements there are.
         let probe = Arc::new(());

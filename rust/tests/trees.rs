@@ -4,11 +4,11 @@
 mod allocator;
 
 use allocator::{HELD, REFUSED, REQUESTS};
-use ecow::{EcoTree, Error};
+use ecow::{EcoTree, Error, Rejected};
 use std::cell::Cell;
 use std::collections::hash_map::DefaultHasher;
 use std::hash::{Hash, Hasher};
-use std::panic::catch_unwind;
+use std::panic::{AssertUnwindSafe, catch_unwind};
 
 thread_local!(static CLONES: Cell<usize> = const { Cell::new(0) });
 
@@ -65,13 +65,17 @@ fn edits_beside_a_vector() {
             assert_eq!(list.get(at), model.get(at));
             if edit % (most / 3 + 1) == 0 {
                 versions.push((list.clone(), model.clone()));
+                assert_eq!(list.pop(), model.pop());
+                versions.push((list.clone(), model.clone()));
             }
         }
         same(&list, &model);
         for (list, model) in &versions {
             same(list, model);
             for (other, another) in &versions {
-                assert_eq!((list == other, list.cmp(other)), (model == another, model.cmp(another)));
+                let (equal, order) = (model == another, model.cmp(another));
+                assert_eq!((list == other, *list == another[..], list.cmp(other)), (equal, equal, order));
+                assert_eq!(list.partial_cmp(other), Some(order));
             }
         }
         same(&model.iter().cloned().collect(), &model);
@@ -110,15 +114,20 @@ fn a_change_copies_its_way() {
 fn refused() {
     let all: EcoTree<u64> = (0..5000).collect();
     let mut list = all.clone();
-    assert_eq!(list.try_set(5000, 1).unwrap_err().value, 1);
-    assert_eq!(list.try_insert(5001, 1).unwrap_err().error, Error::Index);
+    assert_eq!(list.try_set(5000, 1).unwrap_err(), Rejected { error: Error::Index, value: 1 });
+    assert_eq!(list.try_insert(5001, 1).unwrap_err(), Rejected { error: Error::Index, value: 1 });
     assert_eq!(list.try_remove(5000), Err(Error::Index));
-    assert!(catch_unwind(|| all[5000]).is_err());
-    let calls: [fn(&mut EcoTree<u64>) -> bool; 4] = [
+    assert!(catch_unwind(AssertUnwindSafe(|| list.set(5000, 1))).is_err());
+    assert!(catch_unwind(AssertUnwindSafe(|| list.insert(5001, 1))).is_err());
+    assert!(catch_unwind(AssertUnwindSafe(|| list.remove(5000))).is_err());
+    assert!(list == all && EcoTree::from([1, 2]) == [1, 2] && EcoTree::from([1, 2]) != [1]);
+    let held = HELD.get();
+    let calls: [fn(&mut EcoTree<u64>) -> bool; 5] = [
         |list| list.try_set(2500, 7).is_err_and(|back| (back.value, back.error) == (7, Error::Memory)),
         |list| list.try_insert(2500, 7).is_err_and(|back| (back.value, back.error) == (7, Error::Memory)),
         |list| list.try_push(7).is_err_and(|back| (back.value, back.error) == (7, Error::Memory)),
         |list| list.try_remove(2500) == Err(Error::Memory),
+        |list| list.try_pop() == Err(Error::Memory),
     ];
     for call in calls {
         for request in 1.. {
@@ -131,6 +140,5 @@ fn refused() {
             assert!(!is_refused || list == all, "{request}");
         }
     }
-    fn sent<T: Send + Sync>(_: &T) {}
-    sent(&all);
+    assert_eq!(HELD.get(), held);
 }
