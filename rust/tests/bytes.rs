@@ -50,7 +50,7 @@ fn refused() {
 fn made_of_others_read_and_compared() {
     let all: Vec<u8> = (0..20).collect();
     assert_eq!(EcoBytes::from(all.clone()), EcoBytes::from(&all));
-    assert_eq!(EcoBytes::from(Cow::Borrowed(&all[..])), all);
+    assert_eq!([Cow::Borrowed(&all[..]), Cow::Owned(all.clone())].map(EcoBytes::from), [&all[..]; 2]);
     assert_eq!(all.iter().copied().collect::<EcoBytes>(), all);
     assert_eq!(EcoBytes::default(), []);
     assert_eq!(Vec::from(EcoBytes::from(&all)), all);

@@ -3,7 +3,7 @@
 mod allocator;
 
 use allocator::{HELD, REFUSED, REQUESTS};
-use ecow::{EcoBytes, EcoString, EcoVec, Error, Value};
+use ecow::{EcoBytes, EcoString, EcoVec, Error, Rejected, Value};
 use std::fmt::Debug;
 
 /// Makes a call on a value, sole and shared, with each of its requests refused in turn. A refusal is for memory, and leaves
@@ -70,16 +70,21 @@ fn vectors() {
         assert!(refused(bytes, |vec| vec.try_replace_range(.., &more)) >= 1);
     }
     // What is handed in comes back.
-    REFUSED.set(1);
-    let back = EcoVec::try_from_elem(String::new(), 3).unwrap_err();
-    assert_eq!((back.error, back.value), (Error::Memory, String::new()));
-    let words = vec![String::from("a"); 3];
-    REFUSED.set(1);
-    assert_eq!(EcoVec::try_from_vec(words).unwrap_err().value, ["a"; 3]);
-    let vec = EcoVec::from([String::from("b")]);
+    fn back<R: Debug, V: Debug>(call: impl FnOnce() -> Result<R, Rejected<V>>) -> V {
+        REFUSED.set(1);
+        let back = call().unwrap_err();
+        assert_eq!(back.error, Error::Memory);
+        back.value
+    }
+    let (words, bytes, vec) = (vec![String::from("a"); 3], vec![7; 99], EcoVec::from([String::from("b")]));
     let other = vec.clone();
-    REFUSED.set(1);
-    assert_eq!(vec.try_into_vec().unwrap_err().value, other);
+    assert_eq!(back(|| EcoVec::try_from_elem(String::new(), 3)), "");
+    assert_eq!(back(|| EcoVec::try_from_vec(words)), ["a"; 3]);
+    assert_eq!(back(|| EcoVec::try_from_array([String::new()])), [""]);
+    assert_eq!(back(|| vec.try_into_vec()), other);
+    assert_eq!(back(|| EcoBytes::try_from_vec(bytes)), [7; 99]);
+    assert_eq!(back(|| EcoBytes::from([7]).try_into_eco_vec()), [7]);
+    assert_eq!(back(|| EcoString::from("a").try_into_eco_vec()), "a");
     REFUSED.set(1);
     assert_eq!(EcoVec::try_from_iter(0..9).unwrap_err(), Error::Memory);
 }

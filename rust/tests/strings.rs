@@ -42,13 +42,12 @@ fn indices_are_tested() {
             assert_eq!(string == text, expected.is_some());
             assert_eq!(shared, text);
 
-            let mut string = shared.clone();
-            assert_eq!(string.try_insert(at, 'x').err(), expected);
-            let mut string = shared.clone();
+            assert_eq!(shared.clone().try_insert_str(at, "").err(), expected);
+            assert_eq!(shared.clone().try_insert(at, 'x').err(), expected);
             let boundary = expected.filter(|error| *error == Error::Boundary);
-            assert_eq!(string.try_truncate(at).err(), boundary);
-            let mut string = shared.clone();
-            assert_eq!(string.try_replace_range(at..at, "x").err(), expected);
+            assert_eq!(shared.clone().try_truncate(at).err(), boundary);
+            assert_eq!(shared.clone().try_replace_range(at.., "x").err(), expected);
+            assert_eq!(shared.clone().try_replace_range(..at, "x").err(), expected);
             let mut string = shared.clone();
             let removed = string.try_remove(at);
             match text.get(at..).and_then(|rest| rest.chars().next()) {
@@ -98,7 +97,7 @@ fn made_of_others() {
     assert_eq!(EcoString::from('\u{1f331}'), "\u{1f331}");
     assert_eq!(EcoString::from(String::from(long)), long);
     assert_eq!(EcoString::from(&String::from(long)), long);
-    assert_eq!(EcoString::from(Cow::Borrowed(long)), long);
+    assert_eq!([Cow::Borrowed(long), Cow::Owned(long.into())].map(EcoString::from), [long; 2]);
     assert_eq!(long.parse::<EcoString>().as_deref(), Ok(long));
     assert_eq!((const { EcoString::new() }, EcoString::INLINE_LIMIT), (EcoString::default(), 15));
     assert_eq!(["a", "", long].into_iter().collect::<EcoString>(), "a".to_string() + long);
@@ -156,6 +155,24 @@ fn read_as_a_str() {
     assert_eq!(written, "1 and 'c'!");
 }
 
+/// A value that prints a letter, and then answers an error.
+struct Broken;
+
+impl std::fmt::Display for Broken {
+    fn fmt(&self, f: &mut std::fmt::Formatter<'_>) -> std::fmt::Result {
+        f.write_str("a")?;
+        Err(std::fmt::Error)
+    }
+}
+
+#[test]
+fn an_error_of_what_is_printed() {
+    assert_eq!(EcoString::try_format(Broken), None);
+    let panic = catch_unwind(|| eco_format!("{Broken}")).unwrap_err();
+    let said = panic.downcast_ref::<String>().unwrap();
+    assert_eq!(said, "a formatting trait implementation returned an error: Error");
+}
+
 #[test]
 fn compared_and_hashed_as_strs() {
     let texts = ["", "a", "aa", "ab", "b", "fifteen bytes..", "fifteen bytes...", "\u{ffff}", "\u{10000}"];
@@ -176,7 +193,7 @@ fn compared_and_hashed_as_strs() {
                 assert_eq!(left == other, left == right);
                 assert_eq!(*left == other, left == right);
                 assert_eq!(owned[0] == other, left == right);
-                assert_eq!(hash(&one), hash(left));
+                assert_eq!((hash(&one), one.is_empty(), one.len()), (hash(left), left.is_empty(), left.len()));
             }
         }
     }
