@@ -1,4 +1,4 @@
-//! Vectors, bytes, strings and nested values whose clones share memory until one of them is written to.
+//! Vectors, bytes, strings, nested values and lists in trees, whose clones share memory until one of them is written to.
 //!
 //! [`EcoVec`], [`EcoBytes`] and [`EcoString`] have the names and signatures of the original crate `ecow`. What they do is
 //! proved: the modules below `proved` are written from proved source, and this crate gives their calls the original's

@@ -12,10 +12,10 @@ use core::ops::Index;
 
 /// A list whose clones share its elements in blocks of up to 128, in a tree.
 ///
-/// A clone asks for no memory and clones no element. A change of a list that shares its blocks copies those on the way
-/// to the element alone: a block of elements, and one of at most 16 places for each level above it. So each version of
-/// a long list can be kept. A change of a list that shares nothing is made in place. Reads and changes take time
-/// logarithmic in the length. A vector is faster where the list is short, or its versions aren't kept.
+/// A clone asks for no memory and clones no element. A change of a list that shares its blocks copies only those on the
+/// way to the element: one block of elements, and a block of up to 16 nodes for each level above. So each version of a
+/// long list can be kept. A change of a list that shares nothing is made in place. Reads and changes take time logarithmic
+/// in the length. A vector is faster if the list is short, or if its versions aren't kept. Not in the original.
 ///
 /// ```
 /// let mut list: ecow::EcoTree<u32> = (0..1000).collect();
@@ -50,8 +50,8 @@ impl<T> EcoTree<T> {
         self.0.is_empty()
     }
 
-    /// The number of levels above the leaves, which hold the elements. It is logarithmic in the length, whatever changes
-    /// were made.
+    /// The number of levels above the blocks of elements. It is at most logarithmic in the length, whatever changes were
+    /// made.
     ///
     ///     assert_eq!(ecow::EcoTree::from([1; 129]).height(), 1);
     #[must_use]
@@ -83,7 +83,7 @@ impl<T> EcoTree<T> {
         self.0.last()
     }
 
-    /// Drops the elements that no other list shares.
+    /// Removes all elements, and drops those that no other list shares.
     ///
     ///     let mut list = ecow::EcoTree::from([1, 2]); list.clear();
     ///     assert!(list.is_empty());
@@ -91,7 +91,7 @@ impl<T> EcoTree<T> {
         self.0.clear();
     }
 
-    /// The elements in order, as slices of up to 128. This is the fastest walk over all of them.
+    /// The elements in order, as slices of 1 to 128. It is the fastest way to read all of them.
     ///
     ///     assert_eq!(ecow::EcoTree::from([1; 200]).chunks().map(<[i32]>::len).sum::<usize>(), 200);
     #[must_use]
@@ -131,7 +131,7 @@ impl<T: Clone> EcoTree<T> {
         Ok(self.0.push(value)?)
     }
 
-    /// Removes the last element. A shared block of elements is cloned.
+    /// Takes the last element, if there is one. A shared block of elements is cloned.
     ///
     ///     assert_eq!(ecow::EcoTree::from([1, 2]).pop(), Some(2));
     pub fn pop(&mut self) -> Option<T> {

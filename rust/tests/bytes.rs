@@ -79,9 +79,11 @@ fn made_of_others_read_and_compared() {
         }
     }
     let (mut written, mut bytes_written) = (EcoBytes::from(b"wr"), EcoVec::<u8>::new());
-    written.write_all(b"itten, and more than fits").unwrap();
-    bytes_written.write_all(&written).unwrap();
-    assert_eq!((&written[..7], bytes_written == written), (&b"written"[..], true));
+    assert_eq!(written.write(b"itten, and more than fits").unwrap(), 25);
+    assert_eq!(bytes_written.write(b"more than fits").unwrap(), 14);
+    (written.flush().unwrap(), bytes_written.flush().unwrap());
+    assert_eq!((&written[..9], &written[9..]), (&b"written, "[..], &b"and more than fits"[..]));
+    assert_eq!(bytes_written, b"more than fits");
     let two = EcoBytes::from([1, 2]);
     assert_eq!([1, 2], two);
     assert_eq!(two, [1, 2]);

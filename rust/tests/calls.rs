@@ -293,6 +293,13 @@ fn vectors() {
         try_replace_range (v => v.try_replace_range(..2, &[7, 8, 9]).unwrap()) (w => drop(w.splice(..2, [7, 8, 9])))
             ". 1/8 - 1/8 1/8"
     }
+    rows! { EcoVec<u8>: extend_from_slice try_extend_from_slice (&[7; 40]) "1/40 1/44 1/44 1/44 1/44" }
+    // By a size hint of 40, by one of none, and without one.
+    other_rows! { EcoVec<u8>:
+        extend (v => v.extend([7; 40])) (w => w.extend([7; 40])) "1/40 1/44 1/44 1/44 1/44"
+        extend (v => v.extend((0..40).filter(|_| true))) (w => w.extend(0..40)) "5/64 4/64 3/64 4/64 4/64"
+        try_extend (v => v.try_extend([7; 40]).unwrap()) (w => w.extend([7; 40])) "5/64 4/64 3/64 4/64 4/64"
+    }
     rows! { EcoVec<u16>: push try_push (7) "1/4000" }
     let five = || (0..5).map(item);
     made_rows! { EcoVec<Item>:
@@ -391,6 +398,7 @@ fn bytes() {
         replace_range (v => v.replace_range(..0, b"")) (_ => ()) UNSHARES
         try_replace_range (v => v.try_replace_range(..0, b"").unwrap()) (_ => ()) UNSHARES
         extend (v => v.extend([8; 40])) (w => w.extend([8; 40])) ADDS_MANY
+        extend (v => v.extend(&[8; 40])) (w => w.extend(&[8; 40])) ADDS_MANY
     }
     let sixteen = *b"0123456789abcdef";
     made_rows! { EcoBytes:
@@ -761,4 +769,5 @@ fn words() {
     let shown = "byte index 256 is not a char boundary; it is inside 'é' (bytes 255..257) of `é".to_string();
     assert_eq!(said(|| long.clone().truncate(256)), shown + &"x".repeat(253) + "`[...]");
     assert_eq!(said(|| drop(EcoString::inline("0123456789abcdef"))), "exceeded inline capacity");
+    assert_eq!(said(|| drop(EcoBytes::inline(&[0; 16]))), "exceeded inline capacity");
 }

@@ -370,7 +370,8 @@ fn laid_out<const N: usize>() {
         constant.truncate(len);
         assert_eq!(constant, text);
     }
-    assert!(SmallBytes::<N>::try_inline(&vec![1; N + 1]).is_none());
+    let long = "x".repeat(N + 1);
+    assert!(SmallBytes::<N>::try_inline(long.as_bytes()).is_none() && SmallText::<N>::try_inline(&long).is_none());
 }
 
 #[test]

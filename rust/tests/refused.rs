@@ -5,6 +5,7 @@ mod allocator;
 use allocator::{HELD, REFUSED, REQUESTS};
 use ecow::{EcoBytes, EcoString, EcoVec, Error, Rejected, Value};
 use std::fmt::Debug;
+use std::io::Write;
 
 /// Makes a call on a value, sole and shared, with each of its requests refused in turn. A refusal is for memory, and leaves
 /// the value, the block and the other owner. Answers how many requests were refused.
@@ -38,6 +39,11 @@ fn refused<T: Clone + PartialEq + Debug, E: Into<Error>>(
     count
 }
 
+fn for_memory(error: std::io::Error) -> Error {
+    assert_eq!(error.kind(), std::io::ErrorKind::OutOfMemory);
+    Error::Memory
+}
+
 fn text(len: usize) -> EcoString {
     EcoString::from("t".repeat(len))
 }
@@ -65,6 +71,7 @@ fn vectors() {
             assert!(refused(words, |vec| vec.try_update(0, |word| word.push('x'))) >= 1);
         }
         let (bytes, more) = (|| EcoVec::from(vec![7u8; len]), vec![2; 2 * len + 1]);
+        assert!(refused(bytes, |vec| vec.write(&more).map(drop).map_err(for_memory)) >= 1);
         assert!(refused(bytes, |vec| vec.try_extend_from_within(..)) >= few);
         assert!(refused(bytes, |vec| vec.try_insert_slice(0, &[1; 9])) >= 1);
         assert!(refused(bytes, |vec| vec.try_replace_range(.., &more)) >= 1);
@@ -104,6 +111,7 @@ fn texts_bytes_and_values() {
         assert!(refused(shared, |text| text.clone().try_into_eco_vec().map(drop)) >= few(len) - spilled);
         let bytes = || EcoBytes::from(vec![7; len]);
         assert!(refused(bytes, |bytes| bytes.try_extend_from_slice(&[1; 20])) >= 1);
+        assert!(refused(bytes, |bytes| bytes.write(&[1; 20]).map(drop).map_err(for_memory)) >= 1);
         assert!(refused(bytes, |bytes| bytes.try_insert_slice(0, &[1; 20])) >= 1);
         assert!(refused(bytes, |bytes| bytes.try_truncate(len.saturating_sub(1))) >= spilled);
         let list = || (0..len as i64).map(Value::from).collect::<Value>();

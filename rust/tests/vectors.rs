@@ -97,9 +97,9 @@ fn too_much_is_refused() {
     assert!(panics(|| EcoVec::<u64>::with_capacity(1 << 62)));
     assert_eq!(EcoVec::<u64>::try_with_capacity(1 << 62).err(), Some(Error::Capacity));
     assert_eq!(EcoVec::<u64>::try_with_capacity(1 << 59).err(), Some(Error::Memory));
-    assert_eq!(EcoVec::try_from_elem(4, usize::MAX), Err(Rejected { error: Error::Capacity, value: 4 }));
+    assert_eq!(EcoVec::try_from_elem(4, 1 << 62), Err(Rejected { error: Error::Capacity, value: 4 }));
     let mut vec = eco_vec![1, 2];
-    assert_eq!(vec.try_reserve(usize::MAX), Err(Error::Capacity));
+    assert_eq!([usize::MAX, 1 << 61].map(|more| vec.try_reserve(more)), [Err(Error::Capacity); 2]);
     assert!(panics(|| vec.reserve(usize::MAX)));
     assert_eq!(vec, [1, 2]);
     let mut all = EcoVec::<()>::with_capacity(isize::MAX as usize);
@@ -112,6 +112,7 @@ fn too_much_is_refused() {
 fn arrays_and_iterators() {
     assert_eq!(<[i32; 2]>::try_from(eco_vec![1, 2]), Ok([1, 2]));
     assert_eq!(<[i32; 3]>::try_from(eco_vec![1, 2]), Err(eco_vec![1, 2]));
+    assert_eq!(<[i32; 1]>::try_from(eco_vec![1, 2]), Err(eco_vec![1, 2]));
     let mut left = eco_vec![String::from("a"), String::new()].into_iter();
     assert_eq!((format!("{left:?}").as_str(), left.next().as_deref()), (r#"IntoIter(["a", ""])"#, Some("a")));
     let mut vec: EcoVec<i32> = (0..5).collect();
