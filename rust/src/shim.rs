@@ -416,6 +416,8 @@ mod tests {
         let most = isize::MAX as usize;
         assert!(super::room::may_hold::<()>(most) && !super::room::may_hold::<()>(most + 1));
         assert!(super::room::may_hold::<u64>(most / 8) && !super::room::may_hold::<u64>(most / 8 + 1));
+        super::alloc::refuse(24, 8);
+        assert_eq!(super::alloc::refused_last(), core::alloc::Layout::new::<[u64; 3]>());
     }
 
     /// A weaker order would show on no x86, so the text is compared: each step on a count has the order that its caller

@@ -12,6 +12,7 @@ use ecow::{EcoBytes, EcoString, EcoTree, EcoVec, Error, Rejected, Value, eco_vec
 use std::cell::{Cell, RefCell};
 use std::collections::{BTreeMap, BTreeSet};
 use std::fmt::{Debug, Write};
+use std::io::Write as _;
 use std::mem::take;
 use std::ops::Deref;
 use std::os::unix::process::ExitStatusExt;
@@ -249,6 +250,7 @@ fn vectors() {
         truncate try_truncate (3)                       "- 0/1/0/4 0/1/0/8 3/0/1/4 3/0/1/4"
         extend_from_slice try_extend_from_slice (&PAIR) "2/0/1/4 2/0/1/8 2/0/0/8 6/0/1/8 6/0/1/8"
         extend try_extend ([item(8), item(9)])          "0/0/1/4 0/0/1/8 - 4/0/1/8 4/0/1/8"
+        extend try_extend ([])                          "- - - - -"
     }
     fn three<T>(mut left: impl Iterator<Item = T>) -> [Option<T>; 3] {
         [left.next(), left.next(), left.next()]
@@ -281,6 +283,8 @@ fn vectors() {
         into_iter (v => { let mut left = take(v).into_iter(); (left.next(), left.next_back(), left.len()) })
             (w => { let mut left = take(w).into_iter(); (left.next(), left.next_back(), left.len()) })
             "- 0/2/0/0 0/2/0/0 2/0/0/0 2/0/0/0"
+        iter (v => (&*v).into_iter().map(|item| item.0).sum::<u64>()) (w => w.iter().map(|item| item.0).sum::<u64>())
+            "- - - - -"
         fold (v => take(v).into_iter().fold(7, |sum, item| 2 * sum + item.0))
             (w => take(w).into_iter().fold(7, |sum, item| 2 * sum + item.0)) "- 0/4/0/0 0/4/0/0 4/4/0/0 4/4/0/0"
         drop (v => drop(take(v))) (w => w.clear()) "- 0/4/0/0 0/4/0/0 0/0/0/0 0/0/0/0"
@@ -299,6 +303,7 @@ fn vectors() {
         extend (v => v.extend([7; 40])) (w => w.extend([7; 40])) "1/40 1/44 1/44 1/44 1/44"
         extend (v => v.extend((0..40).filter(|_| true))) (w => w.extend(0..40)) "5/64 4/64 3/64 4/64 4/64"
         try_extend (v => v.try_extend([7; 40]).unwrap()) (w => w.extend([7; 40])) "5/64 4/64 3/64 4/64 4/64"
+        try_write (v => v.write(&[7; 40]).unwrap()) (w => w.write(&[7; 40]).unwrap()) "1/40 1/44 1/44 1/44 1/44"
     }
     rows! { EcoVec<u16>: push try_push (7) "1/4000" }
     let five = || (0..5).map(item);
@@ -311,6 +316,7 @@ fn vectors() {
         try_from_elem (EcoVec::try_from_elem(item(3), 0).unwrap()) ([]) "0/1/0/0"
         try_from_iter (EcoVec::try_from_iter(five()).unwrap()) (five().collect::<Vec<_>>()) "0/0/2/8"
         from_iter (five().collect()) (five().collect::<Vec<_>>()) "0/0/1/5"
+        from_iter (five().filter(|_| true).collect()) (five().collect::<Vec<_>>()) "0/0/2/8"
         try_from_array (EcoVec::try_from_array([1, 2].map(item)).unwrap()) ([1, 2].map(item)) "0/0/1/4"
         try_from_array (EcoVec::try_from_array([]).unwrap()) ([]) "0/0/0/0"
         from (EcoVec::from([1, 2].map(item))) ([1, 2].map(item)) "0/0/1/4"
@@ -399,6 +405,7 @@ fn bytes() {
         try_replace_range (v => v.try_replace_range(..0, b"").unwrap()) (_ => ()) UNSHARES
         extend (v => v.extend([8; 40])) (w => w.extend([8; 40])) ADDS_MANY
         extend (v => v.extend(&[8; 40])) (w => w.extend(&[8; 40])) ADDS_MANY
+        try_write (v => v.write(&[7; 40]).unwrap()) (w => w.write(&[7; 40]).unwrap()) "1/64 1/64 1/64 1/60 1/64 1/60 1/64"
     }
     let sixteen = *b"0123456789abcdef";
     made_rows! { EcoBytes:
@@ -579,6 +586,8 @@ fn values() {
     value("items", &list, &last, "Some(4)", "[1, 2, 3, 4]", [0, 0]);
     let last = |value: &mut Value| printed(|| value.fields().last());
     value("fields", &fields, &last, r#"Some(("b", 3))"#, r#"{"a": [1, 2], "b": 3}"#, [0, 0]);
+    let many = |_: &mut Value| printed(|| (0..40).map(Value::from).collect::<Value>().len());
+    value("from_iter", &Value::new, &many, "40", "null", [1, 1]);
     value("new", &Value::new, &|_| printed(Value::new), "null", "null", [0, 0]);
     value("new_list", &Value::new_list, &|_| printed(Value::new_list), "[]", "[]", [0, 0]);
     value("new_fields", &Value::new_fields, &|_| printed(Value::new_fields), "{}", "{}", [0, 0]);
@@ -601,6 +610,7 @@ fn left_and_owned() {
     let mut vec = EcoVec::<Item>::made(4, 8);
     let mut left = vec.drain(1..);
     left.next_back();
+    assert_eq!(left.as_ref(), left.as_slice());
     assert_eq!(counted(|| left.as_slice().iter().map(|item| item.0).sum()), (3, [0; 4]));
     assert!(EcoVec::<u8>::new().is_unique());
 }

@@ -81,6 +81,10 @@ fn edits_beside_a_vector() {
         same(&model.iter().cloned().collect(), &model);
     }
     assert_eq!(HELD.get(), held);
+    // Equal lists in other blocks.
+    let (mut list, other) = ((0..200).collect::<EcoTree<_>>(), (0..50).chain(150..200).collect());
+    (0..100).for_each(|_| _ = list.remove(50));
+    assert!(list == other && list.cmp(&other).is_eq() && list.height() > other.height());
 }
 
 /// A change of a list that shares its blocks asks for those on its way, and clones one block of elements. One that
@@ -120,7 +124,8 @@ fn refused() {
     assert!(catch_unwind(AssertUnwindSafe(|| list.set(5000, 1))).is_err());
     assert!(catch_unwind(AssertUnwindSafe(|| list.insert(5001, 1))).is_err());
     assert!(catch_unwind(AssertUnwindSafe(|| list.remove(5000))).is_err());
-    assert!(list == all && EcoTree::from([1, 2]) == [1, 2] && EcoTree::from([1, 2]) != [1]);
+    assert!(list == all && EcoTree::from([1, 2]) == [1, 2]);
+    assert!(EcoTree::from([1, 2]) != [1] && EcoTree::from([1, 2]) != [1, 3]);
     let held = HELD.get();
     let calls: [fn(&mut EcoTree<u64>) -> bool; 5] = [
         |list| list.try_set(2500, 7).is_err_and(|back| (back.value, back.error) == (7, Error::Memory)),

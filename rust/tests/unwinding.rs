@@ -119,7 +119,7 @@ const EACH: &[Call] = &[
 /// Makes each call with each point of unwinding, then reads and drops all that is left.
 fn each(point: &'static LocalKey<Cell<usize>>) {
     set_hook(Box::new(|_| {}));
-    drop(items(100).collect::<Vec<_>>());
+    drop(items(1000).collect::<Vec<_>>());
     let mut unwound = 0;
     for &(name, call) in EACH {
         for (shared, which) in [false, true].into_iter().flat_map(|shared| (1..70).map(move |which| (shared, which))) {

@@ -41,9 +41,10 @@ fn each_kind_reads_as_itself_alone() {
     assert_eq!(all[3].0.real(), Ok(-0.5));
     assert_eq!(all[4].0.text().as_deref(), Ok("text"));
     assert_eq!(Value::default(), Value::new());
+    assert_eq!((Value::from([1]).is_empty(), format!("{:#?}", Value::from([1])).as_str()), (false, "[\n    1,\n]"));
     assert_ne!(Value::from(1), Value::from(1.0));
     assert_eq!(Value::from(f64::NAN), Value::from(-f64::NAN));
-    assert_eq!(Value::from(String::from("a")), Value::from(&EcoString::from("a")));
+    assert_eq!(Value::from(String::from("ab")), Value::from(&EcoString::from("ab")));
 }
 
 #[test]
@@ -96,6 +97,7 @@ fn fields_are_edited() {
     fields.set_field(long, Value::new_list()).unwrap();
     assert_eq!((fields.len(), fields.get(1)), (3, Ok(Value::new_list())));
     assert_eq!(fields.field_name(1).as_deref(), Ok(long));
+    assert_eq!(fields.field_name(1).unwrap().as_ptr(), fields.field_name(1).unwrap().as_ptr());
     assert_eq!(fields.field_name(3).err(), Some(Error::Index));
     assert_eq!(fields.get_field("c"), Err(Error::Index));
     assert_eq!(fields.get_field("").unwrap().text().as_deref(), Ok("no name"));
@@ -183,9 +185,9 @@ fn no_value_nests_too_deep() {
         assert_eq!(fields.set_field("a", &deepest), Err(Error::Depth));
         assert_eq!(fields.push_field("a", &deepest), Err(Error::Depth));
         assert_eq!(fields.set_path(&["b".into()], &deepest), Err(Error::Depth));
-        assert_eq!(nested(511).set_path(&[0.into(); 2], nested(511)), Err(Error::Depth));
+        assert_eq!((lower.set_path(&[0.into(); 2], nested(511)), &lower), (Err(Error::Depth), &nested(511)));
         assert!(catch_unwind(AssertUnwindSafe(|| Value::from([deepest.clone()]))).is_err());
-        assert_eq!((list.depth(), fields.depth(), &list), (1, 1, &Value::from([1, 2])));
+        assert_eq!((list.depth(), fields.depth(), &list), (1, 1, &Value::from(vec![1, 2])));
     }
     // A value is one deeper than its deepest part, also where one was taken out.
     assert_eq!((list.push(&lower), list.depth()), (Ok(()), 512));

@@ -6,7 +6,7 @@ use std::cell::Cell;
 struct Refusing;
 
 thread_local! {
-    /// How many requests were made, and how many blocks are held.
+    /// How many requests were made, and how many bytes are held, by the sizes that are told.
     pub static REQUESTS: Cell<usize> = const { Cell::new(0) };
     pub static HELD: Cell<isize> = const { Cell::new(0) };
     /// Which of the next requests is refused: the first is 1, and 0 is none.
@@ -28,17 +28,21 @@ unsafe impl GlobalAlloc for Refusing {
         if !grants(layout.size()) {
             return std::ptr::null_mut();
         }
-        HELD.set(HELD.get() + 1);
+        HELD.set(HELD.get() + layout.size() as isize);
         unsafe { System.alloc(layout) }
     }
 
     unsafe fn dealloc(&self, place: *mut u8, layout: Layout) {
-        HELD.set(HELD.get() - 1);
+        HELD.set(HELD.get() - layout.size() as isize);
         unsafe { System.dealloc(place, layout) }
     }
 
     unsafe fn realloc(&self, place: *mut u8, layout: Layout, size: usize) -> *mut u8 {
-        if grants(size) { unsafe { System.realloc(place, layout, size) } } else { std::ptr::null_mut() }
+        if !grants(size) {
+            return std::ptr::null_mut();
+        }
+        HELD.set(HELD.get() + size as isize - layout.size() as isize);
+        unsafe { System.realloc(place, layout, size) }
     }
 }
 
