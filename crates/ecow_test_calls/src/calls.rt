@@ -20,6 +20,9 @@ pub enum Call {
     Truncate,
     Clear,
     Retain,
+    Fill,
+    /// Makes the length `count`.
+    Resize,
     /// Swaps the first and the last item of the range.
     Swap,
     /// Reverses the items, and sorts them.

@@ -81,6 +81,8 @@ impl Row {
             Call::Pop => (len.saturating_sub(1), len, 0),
             Call::SplitOff => (start, len, 0),
             Call::Truncate | Call::Rewrite => (self.count.min(len), len, 0),
+            Call::Resize => (self.count.min(len), len, self.count.saturating_sub(len)),
+            Call::Fill => (0, len, len),
             Call::Clear => (0, len, 0),
             _ if self.gives_away() => (0, len, 0),
             _ => (len, len, 0),
@@ -119,6 +121,7 @@ impl Row {
         match self.call {
             Call::Pop | Call::Truncate | Call::Clear | Call::Read | Call::Compare => true,
             Call::IntoBytes | Call::IntoOtherArray | Call::SplitOff => true,
+            Call::Fill | Call::Resize => true,
             _ => self.appends(),
         }
     }
@@ -205,6 +208,7 @@ impl Row {
                 Origin::Given((place - len).checked_rem(self.count).unwrap_or(0))
             }
             _ if place < start => Origin::Before(place),
+            Call::Fill | Call::Resize => Origin::Given(0),
             _ if place - start < count => Origin::Given(place - start),
             _ => Origin::Before((place - count).saturating_add(end.saturating_sub(start))),
         }
@@ -302,8 +306,9 @@ impl Case {
     fn copied(&self) -> usize {
         match self.row.call {
             _ if !self.leaves() => 0,
-            Call::Clear | Call::Drop | Call::ShrinkToFit => 0,
+            Call::Clear | Call::Fill | Call::Drop | Call::ShrinkToFit => 0,
             Call::Truncate => self.len_after(),
+            Call::Resize => self.len_after().min(self.state.len),
             Call::Pop if self.is_text => self.len_after(),
             _ => self.state.len,
         }
@@ -316,6 +321,7 @@ impl Case {
             (_, Call::FromSlice | Call::FromElem) => self.row.count,
             (Role::Make, _) => 0,
             (_, Call::ExtendFromSlice) => self.copied().saturating_add(self.row.count),
+            (_, Call::Fill | Call::Resize) => self.copied().saturating_add(self.edit().count),
             _ => self.copied(),
         }
     }
@@ -360,12 +366,14 @@ impl Case {
         match (self.row.call, self.state.capacity) {
             _ if self.is_inline_after() => limit,
             (_, Some(_)) if self.row.gives_away() || self.is_split_whole() => 0,
+            (Call::Fill, Some(_)) if len > 0 => len,
             (Call::IntoEcoVec, None) => fresh(len),
             (_, None) => spilled(needed, len),
             (_, Some(capacity)) if !self.state.shared => grown_capacity(needed, capacity),
             (_, Some(capacity)) if !self.leaves() => capacity,
             (Call::Splice, _) => grown_capacity(needed, fresh(len)),
             (_, Some(capacity)) if self.row.keeps_capacity() => grown_capacity(needed, capacity),
+            (Call::Resize, Some(capacity)) if needed > len => grown_capacity(needed, capacity),
             (Call::SplitOff, _) => fresh(self.len_after()),
             _ => fresh(self.copied()),
         }
@@ -382,6 +390,7 @@ impl Case {
             Call::IntoEcoVec => self.state.capacity.is_none() && self.state.len > 0,
             // The vector whose elements are appended is made by the call here.
             Call::Append => count > 0,
+            Call::Fill | Call::Resize => count > 0,
             Call::ExtendFromSlice => !self.is_plain && count > 0,
             _ => false,
         }

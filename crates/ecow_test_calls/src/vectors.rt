@@ -51,7 +51,7 @@ fn gift_len(row: &Row) -> usize {
             { row.count.saturating_mul(row.times) }
         Call::Truncate | Call::Reserve | Call::OwnWithRoom => 0,
         Call::WithCapacity | Call::Rewrite => 0,
-        Call::FromElem => 1,
+        Call::FromElem | Call::Fill | Call::Resize => 1,
         _ => row.count,
     }
 }
@@ -111,6 +111,8 @@ fn put<T: Element>(list: &mut EcoVec<T>, row: &Row, value: T) -> Outcome<T> {
             Ok(Out::One(old))
         }
         Call::Push => returned(list.push(value)),
+        Call::Fill => returned(list.fill(value)),
+        Call::Resize => returned(list.resize(row.count, value)),
         _ => Err(EcoError::Capacity),
     }
 }
@@ -288,9 +290,13 @@ impl<T: Element> Sequence for EcoVec<T> {
 
     fn change(&mut self, row: &Row, gift: &mut Gift<T>) -> Outcome<T> {
         match row.call {
-            Call::Push | Call::PushReserved | Call::Insert | Call::Set | Call::Update => {
-                put(self, row, gift.elements.pop().ok_or(EcoError::Capacity)?)
-            }
+            Call::Push
+            | Call::PushReserved
+            | Call::Insert
+            | Call::Set
+            | Call::Update
+            | Call::Fill
+            | Call::Resize => { put(self, row, gift.elements.pop().ok_or(EcoError::Capacity)?) }
             Call::Extend => {
                 let items = gift.items.by_ref().take(row.count);
                 nothing(self.extend(gift.asks.of(items)))
