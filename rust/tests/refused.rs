@@ -138,4 +138,6 @@ fn clones_and_edits_in_place_ask_for_nothing() {
     vec.insert(3, vec.len() as i64 - 1);
     drop((vec.clone(), long.clone(), value.clone(), EcoString::from("inline"), EcoVec::<u8>::new()));
     assert_eq!(REQUESTS.get() - before, 1, "the insertion alone grows");
+    drop((0..40).map(Value::from).collect::<Value>());
+    assert_eq!(REQUESTS.get() - before, 2, "a list of so many items asks once");
 }
