@@ -70,18 +70,13 @@ fn printed<R: Debug>(call: impl FnOnce() -> R) -> (String, [usize; 4]) {
     (format!("{answer:?}"), counts)
 }
 
-/// Begins a row. Of the row that this process is asked for, the first request is refused.
-fn begin(call: &str) -> String {
+/// Begins a row. A process that is asked for a row leaves out the others, and refuses the first request of that one.
+fn begin(call: &str) -> Option<String> {
     let row = format!("{call} {}", ROWS.with_borrow(BTreeMap::len));
-    let refused = std::env::var_os("REFUSED_ROW").is_some() && !is_left_out(&row);
-    REFUSED_NEXT.set(refused.into());
+    let refused = std::env::var("REFUSED_ROW").ok().map(|refused| refused == row);
+    REFUSED_NEXT.set((refused == Some(true)).into());
     ROWS.with_borrow_mut(|rows| rows.insert(row.clone(), 0));
-    row
-}
-
-/// Whether this process is asked for another row.
-fn is_left_out(row: &str) -> bool {
-    std::env::var("REFUSED_ROW").is_ok_and(|asked| asked != row)
+    (refused != Some(false)).then_some(row)
 }
 
 /// Notes how many bytes the row's call asked for first.
@@ -183,10 +178,7 @@ fn row<X: Subject>(
             [clones, drops, requests, capacity] => ([clones, drops, requests, capacity], cost.ends_with('=')),
             _ => panic!("{what}: {cost}"),
         };
-        let row = begin(&name);
-        if is_left_out(&row) {
-            continue;
-        }
+        let Some(row) = begin(&name) else { continue };
         let (held, live) = (HELD.get(), LIVE.get());
         {
             let (mut ours, mut theirs) = (X::made(len, capacity), X::std(len));
@@ -225,10 +217,10 @@ macro_rules! other_rows {
 
 /// Rows of calls that make a value.
 macro_rules! made_rows {
-    ($type:ty: $($call:ident ($ours:expr) ($std:expr) $cost:literal)*) => { $({
+    ($type:ty: $($call:ident ($ours:expr) ($std:expr) $cost:literal)*) => { $('row: {
         let name = format!("{}::{}", <$type>::NAME, stringify!($call));
         let numbers: Vec<usize> = $cost.split('/').map(|number| number.parse().unwrap()).collect();
-        let row = begin(&name);
+        let Some(row) = begin(&name) else { break 'row };
         let (held, live) = (HELD.get(), LIVE.get());
         let (made, counts): ($type, _) = counted(|| $ours);
         note(&row, counts);
@@ -522,10 +514,7 @@ fn value(
 ) {
     let name = format!("Value::{name}");
     for (shared, requests) in [false, true].into_iter().zip(requests) {
-        let row = begin(&name);
-        if is_left_out(&row) {
-            continue;
-        }
+        let Some(row) = begin(&name) else { continue };
         let held = HELD.get();
         {
             let mut value = of();

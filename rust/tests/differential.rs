@@ -2,9 +2,8 @@
 
 use ecow::{EcoString, EcoVec, SmallBytes, SmallText, Value};
 use std::cell::{Cell, RefCell};
-use std::collections::hash_map::DefaultHasher;
 use std::fmt::Debug;
-use std::hash::{Hash, Hasher};
+use std::hash::{BuildHasher, BuildHasherDefault, DefaultHasher, Hash};
 use std::ops::Range;
 
 thread_local!(static LIVE: Cell<i64> = const { Cell::new(0) });
@@ -76,10 +75,8 @@ fn edits() -> usize {
     std::env::var("EDITS").ok().and_then(|count| count.parse().ok()).unwrap_or(20_000)
 }
 
-fn hash<T: Hash + ?Sized>(value: &T) -> u64 {
-    let mut hasher = DefaultHasher::new();
-    value.hash(&mut hasher);
-    hasher.finish()
+fn hash(value: impl Hash) -> u64 {
+    BuildHasherDefault::<DefaultHasher>::default().hash_one(value)
 }
 
 fn compared<A: Ord + Hash + Debug, B: Ord + Hash + Debug>(ours: [&A; 2], std: [&B; 2]) {

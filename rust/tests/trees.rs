@@ -6,8 +6,7 @@ mod allocator;
 use allocator::{HELD, REFUSED, REQUESTS};
 use ecow::{EcoTree, Error, Rejected};
 use std::cell::Cell;
-use std::collections::hash_map::DefaultHasher;
-use std::hash::{Hash, Hasher};
+use std::hash::{BuildHasher, BuildHasherDefault, DefaultHasher, Hash};
 use std::panic::{AssertUnwindSafe, catch_unwind};
 
 thread_local!(static CLONES: Cell<usize> = const { Cell::new(0) });
@@ -26,10 +25,8 @@ fn item(number: usize) -> Item {
     Item(Box::new(number))
 }
 
-fn hash<T: Hash + ?Sized>(value: &T) -> u64 {
-    let mut hasher = DefaultHasher::new();
-    value.hash(&mut hasher);
-    hasher.finish()
+fn hash(value: impl Hash) -> u64 {
+    BuildHasherDefault::<DefaultHasher>::default().hash_one(value)
 }
 
 fn same(list: &EcoTree<Item>, model: &Vec<Item>) {

@@ -126,5 +126,5 @@ fn arrays_and_iterators() {
     let clone = vec.clone();
     assert!(!vec.is_unique() && clone.as_ptr() == vec.as_ptr());
     const EMPTY: EcoVec<String> = EcoVec::new();
-    assert!(EMPTY.is_empty());
+    assert!(EMPTY.is_empty() && EcoVec::<String>::with_capacity(9).is_empty());
 }
