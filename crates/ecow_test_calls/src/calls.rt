@@ -31,6 +31,8 @@ pub enum Call {
     SortBy,
     /// Cuts off the items from the start of the range on.
     SplitOff,
+    /// Splits a text, and drops the part behind.
+    SplitText,
     Append,
     Reserve,
     /// Borrows the items and reverses them.

@@ -79,7 +79,7 @@ impl Row {
             Call::Splice | Call::ReplaceRange => (start, end, self.count),
             Call::Remove | Call::Retain | Call::Drain => (start, end, 0),
             Call::Pop => (len.saturating_sub(1), len, 0),
-            Call::SplitOff => (start, len, 0),
+            Call::SplitOff | Call::SplitText => (start, len, 0),
             Call::Truncate | Call::Rewrite => (self.count.min(len), len, 0),
             Call::Resize => (self.count.min(len), len, self.count.saturating_sub(len)),
             Call::Fill => (0, len, len),
@@ -120,7 +120,7 @@ impl Row {
     fn is_lazy(&self) -> bool {
         match self.call {
             Call::Pop | Call::Truncate | Call::Clear | Call::Read | Call::Compare => true,
-            Call::IntoBytes | Call::IntoOtherArray | Call::SplitOff => true,
+            Call::IntoBytes | Call::IntoOtherArray | Call::SplitOff | Call::SplitText => true,
             Call::Fill | Call::Resize => true,
             _ => self.appends(),
         }
@@ -307,7 +307,7 @@ impl Case {
         match self.row.call {
             _ if !self.leaves() => 0,
             Call::Clear | Call::Fill | Call::Drop | Call::ShrinkToFit => 0,
-            Call::Truncate => self.len_after(),
+            Call::Truncate | Call::SplitText => self.len_after(),
             Call::Resize => self.len_after().min(self.state.len),
             Call::Pop if self.is_text => self.len_after(),
             _ => self.state.len,
@@ -385,6 +385,7 @@ impl Case {
         match self.row.call {
             Call::Drain => start < end,
             Call::SplitOff => 0 < start && start < end,
+            Call::SplitText => !self.fits_inline(end.saturating_sub(start)),
             Call::Splice => start < end || count > 0,
             Call::IntoVec | Call::IntoArray => self.state.len > 0,
             Call::IntoEcoVec => self.state.capacity.is_none() && self.state.len > 0,

@@ -109,6 +109,13 @@ fn settle<const N: usize>(text: &mut SmallText<N>, row: &Row) -> Result<(), EcoE
         Call::Truncate if row.count > text.len() || text.is_char_boundary(row.count) => {
             text.truncate(row.count)?
         }
+        Call::SplitText => {
+            let start = row.start_in(text.len());
+            if !text.is_char_boundary(start) {
+                return Err(EcoError::Capacity);
+            }
+            drop(text.split_off(start)?);
+        }
         Call::Reserve => text.reserve(row.count)?,
         Call::MakeAsciiLowercase => text.make_ascii_lowercase()?,
         Call::MakeAsciiUppercase => text.make_ascii_uppercase()?,
