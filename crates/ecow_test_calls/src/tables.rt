@@ -459,7 +459,7 @@ pub static TEXT_CHANGES: &[Row] = &[
     row!(Call::MakeAsciiLowercase, "make_ascii_lowercase()", 0),
     row!(Call::MakeAsciiUppercase, "make_ascii_uppercase()", 0),
     row!(Call::SplitText, "split_off(3)", (3, LAST), 0, at 3),
-    row!(Call::SplitText, "split_off(900)", (900, LAST), 0, at 1000),
+    row!(Call::SplitText, "split_off(700)", (700, LAST), 0, at 1000),
     row!(Call::SplitText, "split_off(0)", (0, LAST), 0, at 0),
     row!(Call::SplitText, "split_off(len)", (LAST, LAST), 0, at 0),
 ];
