@@ -243,6 +243,7 @@ fn vectors() {
         extend_from_slice try_extend_from_slice (&PAIR) "2/0/1/4 2/0/1/8 2/0/0/8 6/0/1/8 6/0/1/8"
         extend try_extend ([item(8), item(9)])          "0/0/1/4 0/0/1/8 - 4/0/1/8 4/0/1/8"
         extend try_extend ([])                          "- - - - -"
+        extend_from_slice try_extend_from_slice (&[])   "- - - - -"
     }
     fn three<T>(mut left: impl Iterator<Item = T>) -> [Option<T>; 3] {
         [left.next(), left.next(), left.next()]
@@ -268,6 +269,10 @@ fn vectors() {
             ". 0/0/1/4 0/0/1/8 4/0/2/4 4/0/2/4"
         try_splice (v => three(v.try_splice(1..3, [item(8), item(9)]).unwrap()))
             (w => three(w.splice(1..3, [item(8), item(9)]))) ". 0/0/1/4 0/0/1/8 4/0/2/4 4/0/2/4"
+        drain (v => v.drain(1..1).len()) (_ => 0) ". - - 4/0/1/4 4/0/1/4"
+        try_drain (v => v.try_drain(1..1).unwrap().len()) (_ => 0) ". - - 4/0/1/4 4/0/1/4"
+        splice (v => v.splice(1..1, []).len()) (_ => 0) ". - - 4/0/1/4 4/0/1/4"
+        try_splice (v => v.try_splice(1..1, []).unwrap().len()) (_ => 0) ". - - 4/0/1/4 4/0/1/4"
         reserve (v => v.reserve(1)) (_ => ()) "0/0/1/4 0/0/1/8 - 4/0/1/8 4/0/1/8"
         try_reserve (v => v.try_reserve(1).unwrap()) (_ => ()) "0/0/1/4 0/0/1/8 - 4/0/1/8 4/0/1/8"
         try_into_vec (v => take(v).try_into_vec().unwrap()) (w => take(w)) "- 0/0/1/0 0/0/1/0 4/0/1/0 4/0/1/0"
@@ -331,10 +336,12 @@ fn vectors() {
 }
 
 const NOTHING: &str = "- - - - - - -";
-/// What adds some bytes, at the end or elsewhere; what adds 40, one by one; what puts more in place of some; what changes
-/// nothing, but unshares; what writes; what makes longer ones.
+/// What adds some bytes, at the end or elsewhere; what adds 40, one by one or at once; what puts more in place of some;
+/// what changes nothing, but unshares; what writes; what makes longer ones.
 const ADDS: &str = "- - 1/32 1/40 - 1/40 1/32";
 const ADDS_MANY: &str = "2/64 2/64 2/64 2/80 1/64 2/80 2/64";
+const ADDS_AT_ONCE: &str = "1/64 1/64 1/64 1/60 1/64 1/60 1/64";
+const FORTY: &str = "0123456789abcdefghijklmnopqrstuvwxyz+-*/";
 const PUTS: &str = ". - 1/32 1/40 - 1/40 1/32";
 const UNSHARES: &str = "- - - - - 1/20 1/32";
 const WRITES: &str = "- - - - - 1/20 1/20";
@@ -379,7 +386,8 @@ fn bytes() {
     rows! { EcoBytes:
         push try_push (7) ADDS
         pop try_pop () WRITES
-        extend_from_slice try_extend_from_slice (&[7; 40]) "1/64 1/64 1/64 1/60 1/64 1/60 1/64"
+        extend_from_slice try_extend_from_slice (b"") NOTHING
+        extend_from_slice try_extend_from_slice (FORTY.as_bytes()) ADDS_AT_ONCE
         insert try_insert (0, 7) ADDS
         remove try_remove (0) TAKES
     }
@@ -397,7 +405,7 @@ fn bytes() {
         try_replace_range (v => v.try_replace_range(..0, b"").unwrap()) (_ => ()) UNSHARES
         extend (v => v.extend([8; 40])) (w => w.extend([8; 40])) ADDS_MANY
         extend (v => v.extend(&[8; 40])) (w => w.extend(&[8; 40])) ADDS_MANY
-        try_write (v => v.write(&[7; 40]).unwrap()) (w => w.write(&[7; 40]).unwrap()) "1/64 1/64 1/64 1/60 1/64 1/60 1/64"
+        try_write (v => v.write(&[7; 40]).unwrap()) (w => w.write(&[7; 40]).unwrap()) ADDS_AT_ONCE
     }
     let sixteen = *b"0123456789abcdef";
     made_rows! { EcoBytes:
@@ -416,7 +424,8 @@ fn texts() {
     rows! { EcoString:
         push try_push ('x') ADDS
         pop try_pop () "- - - - - 1/19 1/19"
-        push_str try_push_str ("xy") ADDS
+        push_str try_push_str (FORTY) ADDS_AT_ONCE
+        push_str try_push_str ("") NOTHING
         insert try_insert (0, 'x') ADDS
         insert_str try_insert_str (0, "xy") ADDS
         remove try_remove (0) TAKES
@@ -435,9 +444,9 @@ fn texts() {
         to_uppercase (v => v.to_uppercase()) (w => w.to_uppercase()) SAME_LENGTH
         to_ascii_lowercase (v => v.to_ascii_lowercase()) (w => w.to_ascii_lowercase()) SAME_LENGTH
         to_ascii_uppercase (v => v.to_ascii_uppercase()) (w => w.to_ascii_uppercase()) SAME_LENGTH
-        add (v => *v = take(v) + "xy") (w => *w = take(w) + "xy") ADDS
-        add_assign (v => *v += "xy") (w => *w += "xy") ADDS
-        write_str (v => Write::write_str(v, "xy")) (w => Write::write_str(w, "xy")) ADDS
+        add (v => *v = take(v) + FORTY) (w => *w = take(w) + FORTY) ADDS_AT_ONCE
+        add_assign (v => *v += FORTY) (w => *w += FORTY) ADDS_AT_ONCE
+        write_str (v => Write::write_str(v, FORTY)) (w => Write::write_str(w, FORTY)) ADDS_AT_ONCE
         extend (v => v.extend(["x"; 40])) (w => w.extend(["x"; 40])) ADDS_MANY
         extend (v => v.extend(['x'; 40])) (w => w.extend(['x'; 40])) ADDS_MANY
     }
@@ -702,10 +711,10 @@ fn conversions_share() {
     assert_eq!((place(&same), counts[2]), (place(&value), 0));
     // At most 15 bytes that have a block come back inline when they are told to.
     for shared in [false, true] {
-        let mut few = EcoString::made(3, 32);
+        let mut few = EcoString::made(15, 32);
         let other = shared.then(|| few.clone());
         let ((), counts) = counted(|| few.shrink_to_fit());
-        assert_eq!((few.is_inline(), few.capacity(), counts[2], few.as_str()), (true, 15, 0, "012"));
+        assert_eq!((few.is_inline(), few.capacity(), counts[2], few.as_str()), (true, 15, 0, "012345678901234"));
         assert!(other.is_none_or(|other| !other.is_inline() && other.capacity() == 32));
     }
 }

@@ -126,7 +126,8 @@ fn cases_and_repetition() {
     assert_eq!(string, "Stra\u{df}e \u{3a3}A\u{3a3}");
     assert!(EcoString::from("ABC").to_ascii_lowercase().is_inline());
     assert!(!spilled("ABC").to_ascii_lowercase().is_inline());
-    assert!(spilled("ABC").to_lowercase().is_inline() && spilled("a-b").replace("-", "").is_inline());
+    assert!(spilled("ABC").to_lowercase().is_inline() && spilled("abc").to_uppercase().is_inline());
+    assert!(spilled("a-b").replace("-", "").is_inline());
     for (text, count) in [("ab", 0), ("ab", 1), ("ab", 7), ("ab", 8), ("", 9), ("abc", 700)] {
         assert_eq!(EcoString::from(text).repeat(count), text.repeat(count));
         assert_eq!(EcoString::from(text).repeat(count).is_inline(), text.len() * count <= 15);
