@@ -121,8 +121,8 @@ fn refused() {
     assert!(catch_unwind(AssertUnwindSafe(|| list.set(5000, 1))).is_err());
     assert!(catch_unwind(AssertUnwindSafe(|| list.insert(5001, 1))).is_err());
     assert!(catch_unwind(AssertUnwindSafe(|| list.remove(5000))).is_err());
-    assert!(list == all && EcoTree::from([1, 2]) == [1, 2]);
-    assert!(EcoTree::from([1, 2]) != [1] && EcoTree::from([1, 2]) != [1, 3]);
+    let two = EcoTree::from([1, 2]);
+    assert!(list == all && two == [1, 2] && two != [1] && two != [1, 3]);
     let held = HELD.get();
     let calls: [fn(&mut EcoTree<u64>) -> bool; 5] = [
         |list| list.try_set(2500, 7).is_err_and(|back| (back.value, back.error) == (7, Error::Memory)),
