@@ -59,6 +59,15 @@ fn a_text_is_shared() {
     let both = |part: Value| Value::from([part.clone(), Value::from_iter([("a", part)])]);
     let part = (0..60).fold(list, |part, _| both(part));
     assert_eq!(both(part.clone()), both(part));
+    // Texts of values are compared many bytes at a time: each byte counts.
+    for len in (0..140).chain([260]) {
+        let text = "x".repeat(len);
+        assert_eq!(Value::from(&text[..]), Value::from(&text[..]));
+        for at in 0..len {
+            let other = [&text[..at], "y", &text[at + 1..]].concat();
+            assert_ne!(Value::from(&text[..]), Value::from(other), "{at} of {len}");
+        }
+    }
 }
 
 #[test]
