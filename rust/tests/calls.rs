@@ -96,8 +96,8 @@ trait Subject: Clone + Debug + PartialEq<<Self::Std as Deref>::Target> {
 
 /// No block; full; with spare capacity; these two shared.
 const VECTOR: &[(u64, usize, bool)] = &[(0, 0, false), (4, 4, false), (4, 8, false), (4, 4, true), (4, 8, true)];
-/// Full, with the places in an allocation of their own, which grows in place.
-const LARGE: &[(u64, usize, bool)] = &[(2000, 2000, false)];
+/// Full, and with spare capacity, with the places in an allocation of their own, which grows in place.
+const LARGE: &[(u64, usize, bool)] = &[(2000, 2000, false), (1500, 2000, false)];
 /// Empty; inline; inline and full; spilled and full; with spare capacity; these two shared.
 #[rustfmt::skip]
 const TEXT: &[(u64, usize, bool)] = &[
@@ -302,7 +302,7 @@ fn vectors() {
         try_extend (v => v.try_extend([7; 40]).unwrap()) (w => w.extend([7; 40])) "5/64 4/64 3/64 4/64 4/64"
         try_write (v => v.write(&[7; 40]).unwrap()) (w => w.write(&[7; 40]).unwrap()) "1/40 1/44 1/44 1/44 1/44"
     }
-    rows! { EcoVec<u16>: push try_push (7) "1/4000" }
+    rows! { EcoVec<u16>: push try_push (7) "1/4000 -" reserve try_reserve (1000) "1/4000 1/4000" }
     let five = || (0..5).map(item);
     made_rows! { EcoVec<Item>:
         new (EcoVec::new()) ([]) "0/0/0/0"
