@@ -10,7 +10,7 @@ fn each_kind_reads_as_itself_alone() {
         (Value::new(), Kind::Nothing, "null"),
         (true.into(), Kind::Truth, "true"),
         (i64::MIN.into(), Kind::Number, "-9223372036854775808"),
-        ((-0.5).into(), Kind::Real, "-0.5"),
+        ((-2.0).into(), Kind::Real, "-2.0"),
         ("text".into(), Kind::Text, "\"text\""),
         (Value::new_list(), Kind::List, "[]"),
         (Value::new_fields(), Kind::Fields, "{}"),
@@ -38,7 +38,7 @@ fn each_kind_reads_as_itself_alone() {
         }
     }
     assert_eq!((all[1].0.truth(), all[2].0.number()), (Ok(true), Ok(i64::MIN)));
-    assert_eq!(all[3].0.real(), Ok(-0.5));
+    assert_eq!(all[3].0.real(), Ok(-2.0));
     assert_eq!(all[4].0.text().as_deref(), Ok("text"));
     assert_eq!(Value::default(), Value::new());
     assert_eq!((Value::from([1]).is_empty(), format!("{:#?}", Value::from([1])).as_str()), (false, "[\n    1,\n]"));
