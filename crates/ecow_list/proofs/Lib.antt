@@ -1,3 +1,4 @@
+mod Deduped
 mod Ends
 pub mod Equals
 pub mod Fronts

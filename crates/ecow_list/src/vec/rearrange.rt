@@ -1,7 +1,7 @@
 // rust: no file: in Rust, slices have these calls, and `make_mut` lends one
 //! The calls that rearrange a vector's elements, as those of slices do.
-ghost use Rattle.std.specs.Prelude.{◌≡◌, ◌<◌, length, OnOk, OnErr};
-ghost use Rattle.std.specs.List.{swap};
+ghost use Rattle.std.specs.Prelude.{◌≡◌, ◌<◌, ◌≤◌, length, take, OnOk, OnErr};
+ghost use Rattle.std.specs.List.{dedup, swap};
 ghost use Rattle.ecow_block.specs.Contents.{contents};
 ghost use Rattle.ecow_list.specs.Refusals.{RefusesForMemory};
 ghost use Rattle.ecow_list.specs.Sorts.{Sorts, SortsBy};
@@ -94,6 +94,28 @@ impl<T: Clone> EcoVec<T> {
             sort_in_by(block, alloc, compare)
         })?)
     }
+
+    /// Removes each element that equals the last one kept before it, so that of equal neighbours the
+    /// first stays. If the vector is sorted, no two elements are equal afterwards. A shared vector
+    /// copies its elements into a block of its own first, or gives its block up if it has none.
+    ///
+    /// Takes time linear in the length.
+    ///
+    /// This project's own, named as that of std's `Vec`.
+    ///
+    /// # Errors
+    ///
+    /// `Memory` if there is no memory for the copy of a shared vector, or the clone of an element
+    /// is refused. The vector is unchanged.
+    pub fn dedup(&mut self) -> Result<(), EcoError>
+    where
+        T: PartialEq,
+        ensures change { Changes T.is_clone self.old (λ xs. dedup T.eq xs) result self.new }
+        ensures len { OnOk result (length self.new ≤ length self.old) }
+        ensures refused { RefusesForMemory self.old result self.new }
+    {
+        Ok(self.edit(Clones, Least::Fresh, 0, (), |block, ()| Ok(dedup_in(block)))?)
+    }
 }
 
 /// Swaps two elements of a block.
@@ -126,4 +148,32 @@ fn sort_in_by<T, F: FnMut(&T, &T) -> Ordering>(
     ensures unchanged { OnErr result (block.new ≡ block.old) }
 {
     block.as_mut_slice().sort_by(alloc, compare).map_err(|_| ())
+}
+
+/// Removes each element of a block that equals the last one kept before it.
+fn dedup_in<T: PartialEq + Drop>(block: &mut Block<T>)
+    ensures items { block.new ≡ contents (dedup T.eq block.old.items) block.old.capacity }
+    ensures len { length block.new.items ≤ length block.old.items }
+{
+    let count = dedup_in_front(block.as_mut_slice());
+    block.truncate(count);
+}
+
+/// Moves each item that differs from the last one kept to the front, and returns how many these
+/// are.
+fn dedup_in_front<T: PartialEq>(items: &mut [T]) -> usize
+    ensures kept { take result items.new ≡ dedup T.eq items.old }
+    ensures len { (result ≤ length items.old) × (length items.new ≡ length items.old) }
+{
+    if items.is_empty() {
+        return 0;
+    }
+    let mut count = 1;
+    for index in 1..items.len() {
+        if items[index] != items[count - 1] {
+            items.swap(count, index);
+            count += 1;
+        }
+    }
+    count
 }
