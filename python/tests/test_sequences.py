@@ -4,7 +4,7 @@ import operator
 import time
 import unittest
 
-from ecow import Bytes, LentText, List, Text, Texts
+from ecow import Bytes, LentText, List, Text, Texts, Value
 from harness import EDITS, LENGTHS, Pool, done, draws, list_edits, outcome, plain
 
 WORDS = ("", "a", "fifteen letters", "sixteen letters!", "\u00e9", "\u20ac" * 5, "\U0001f331" * 400)
@@ -197,6 +197,13 @@ class Lists(unittest.TestCase):
         self.assertIs(outcome(lambda: value < (1,)), TypeError)
         self.assertIs(outcome(lambda: value < Bytes()), TypeError)
         self.assertNotEqual(List([97]), Bytes(b"a"))
+
+        class Refusing:
+            def __eq__(self, other):
+                raise ZeroDivisionError
+
+        for each in (value, Texts(["a"]), Value([1])):
+            self.assertIs(outcome(lambda: each.index(Refusing())), ZeroDivisionError)
 
     def test_iteration_while_changing(self):
         value = List([1, 2])

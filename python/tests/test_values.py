@@ -116,7 +116,8 @@ class Differential(unittest.TestCase):
 class Conversions(unittest.TestCase):
     def test_kinds(self):
         for thing, kind in ((None, "nothing"), (True, "truth"), (5, "number"), (1.5, "real"),
-                            ("a", "text"), ([1], "list"), ({"a": 1}, "fields")):
+                            ("a", "text"), ([1], "list"), ({"a": 1}, "fields"), (0, "number"),
+                            ("", "text"), ([], "list"), ({}, "fields")):
             value = Value(thing)
             self.assertEqual(value.kind, kind)
             self.assertIs(type(value.to_python()), type(thing))
