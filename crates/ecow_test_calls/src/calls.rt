@@ -25,6 +25,8 @@ pub enum Call {
     Resize,
     /// Swaps the first and the last item of the range.
     Swap,
+    /// Removes each item that equals the one before it; there is none in these tests.
+    Dedup,
     /// Reverses the items, and sorts them.
     Sort,
     /// Sorts the items in falling order.

@@ -99,6 +99,7 @@ fn copied<T: Copy + Ord>(list: &mut EcoVec<T>, row: &Row, given: &[T]) -> Result
             list.make_mut()?.reverse();
             list.sort()
         }
+        Call::Dedup => list.dedup(),
         Call::ExtendFromCopied => list.extend_from_copied(given),
         Call::InsertSlice if start <= list.len() => list.insert_slice(start, given),
         Call::ExtendFromWithin if range_in(&(start..end), list.len()) => {

@@ -234,6 +234,7 @@ pub static COPIES: &[Row] = &[
 /// More calls that copy elements as plain memory, or that compare them.
 pub static FURTHER_COPIES: &[Row] = &[
     row!(Call::Sort, "sort()", 0, at 0),
+    row!(Call::Dedup, "dedup()", 0, at 0),
     row!(Call::ExtendFromCopied, "extend_from_copied(6)", 6),
     row!(Call::ExtendFromWithin, "extend_from_within(1..4)", (1, 4), 0, at 4),
     row!(Call::ExtendFromWithin, "extend_from_within(..5)", (0, 5), 0),
