@@ -10,5 +10,6 @@ mod Printed
 mod Removal
 mod Repeats
 pub mod Replaced
+pub mod Seams
 mod Steps
 pub mod Texts
