@@ -80,6 +80,7 @@ template <typename Value, typename Model> static void copies(const Model &long_e
     CHECK(holds(value, long_enough) && copy == value && copy.data() == value.data());
     CHECK(holds(other, none) && other != value && other < value && other <= value);
     CHECK(value > other && value >= other && value >= copy && value <= copy && !(value < copy));
+    CHECK(!(value <= other) && !(other >= value) && !(other > value));
     CHECK(value.shares(copy) && !value.shares(other) && !other.shares(Value()));
     CHECK(!value.shares(Value(long_enough)) && value.capacity() >= value.size());
     CHECK(value.hash() == copy.hash() && std::hash<Value>()(value) == std::hash<Value>()(copy));
