@@ -190,7 +190,7 @@ class Given(unittest.TestCase):
             lambda: memoryview(Bytes(bytes(99)))[1:], lambda: memoryview(List(range(99)))[1:],
             lambda: memoryview(Bytes(b"x"))[1:], lambda: Bytes(bytes(99)).reverse(),
             lambda: Text("x" * 99).extend(Text("y" * 99)), lambda: Text("x" * 99) + Text("y" * 99),
-            lambda: str(Text("x" * 9)),
+            lambda: [str(text) for text in [Text("x" * 9) for _ in range(99)]],
             lambda: Text("x" * 99).insert(5, Text("y" * 99)), lambda: Text(Text("x" * 99)),
             lambda: Text(Value("x" * 99)), lambda: Text(Value(1)), lambda: Text("x" * 99) * 3,
             lambda: Text("x" * 99).strip(), lambda: Text("x" * 99).split("x"),
