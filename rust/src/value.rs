@@ -4,6 +4,7 @@ use crate::error::Error;
 use crate::proved::ecow_nested as proved;
 use crate::shim::alloc::Global;
 use crate::shim::granted;
+use crate::shim::vec::with_capacity;
 use crate::string::{EcoString, SmallText};
 use alloc::string::String;
 use alloc::vec::Vec;
@@ -441,10 +442,102 @@ impl Eq for Value {}
 
 impl PartialEq for Value {
     /// Whether both are of one kind and hold the same, items and fields in order. A NaN equals each NaN, so that a value
-    /// equals its clones.
+    /// equals its clones. Two parts that were found equal aren't compared again: the time grows with the number of
+    /// different pairs of parts, however often each pair occurs.
     fn eq(&self, other: &Self) -> bool {
-        self.0.equals(&other.0)
+        EqualPairs::default().compare(&self.0, &other.0)
     }
+}
+
+/// Pairs of lists and of fields, by their addresses, that one comparison has found equal. A pair has one place, and may
+/// take it from another pair. The more pairs are found, the more places are made.
+#[derive(Default)]
+struct EqualPairs {
+    places: Vec<(usize, usize)>,
+    /// How many pairs were found after the places were made.
+    found: usize,
+}
+
+impl EqualPairs {
+    /// Whether both are equal, as the proved `equals` says. It compares what is small itself.
+    #[allow(clippy::inline_always, reason = "a call would take as long as the comparison of a number")]
+    #[inline(always)]
+    fn compare(&mut self, left: &proved::Value, right: &proved::Value) -> bool {
+        if left.depth() > 1 || left.len().unwrap_or(0) >= 16 {
+            self.compare_once(left, right)
+        } else {
+            left.equals(right)
+        }
+    }
+
+    /// The same for a value with many parts, or with parts that have parts.
+    fn compare_once(&mut self, left: &proved::Value, right: &proved::Value) -> bool {
+        let pair = (address(left), address(right));
+        if pair.0 == pair.1 || self.is_noted(pair) {
+            return true;
+        }
+        match (left, right) {
+            (proved::Value::List(list), proved::Value::List(other)) if list.depth > 1 => {
+                if list.items.len() != other.items.len() {
+                    return false;
+                }
+                for (item, other) in list.items.as_slice().iter().zip(other.items.as_slice()) {
+                    if !self.compare(item, other) {
+                        return false;
+                    }
+                }
+            }
+            (proved::Value::Fields(fields), proved::Value::Fields(other)) if fields.depth > 1 => {
+                if fields.items.len() != other.items.len() {
+                    return false;
+                }
+                for (entry, other) in fields.items.entries.as_slice().iter().zip(other.items.entries.as_slice()) {
+                    let (field, other) = (&entry.field, &other.field);
+                    if field.name != other.name || !self.compare(&field.value, &other.value) {
+                        return false;
+                    }
+                }
+            }
+            _ if !left.equals(right) => return false,
+            _ => {}
+        }
+        self.note(pair);
+        true
+    }
+
+    /// Whether it was noted that a pair is equal. Another pair may have taken its place since.
+    #[inline]
+    fn is_noted(&self, pair: (usize, usize)) -> bool {
+        self.places.get(self.place_of(pair)) == Some(&pair)
+    }
+
+    /// Notes that a pair is equal. If memory for more places is refused, their number stays.
+    fn note(&mut self, pair: (usize, usize)) {
+        self.found += 1;
+        let len = self.places.len().max(32);
+        if self.found > 16 * len {
+            self.found = 0;
+            if let Ok(mut places) = with_capacity(Global, 2 * len) {
+                places.resize(2 * len, (0, 0));
+                self.places = places;
+            }
+        }
+        let index = self.place_of(pair);
+        if let Some(place) = self.places.get_mut(index) {
+            *place = pair;
+        }
+    }
+
+    /// The index of the place of a pair. While there are no places, it is past their end.
+    fn place_of(&self, (left, right): (usize, usize)) -> usize {
+        let mixed = (left ^ right.wrapping_mul(3)).wrapping_mul(0x9E37_79B9_7F4A_7C15);
+        (mixed ^ mixed >> 32) & self.places.len().wrapping_sub(1)
+    }
+}
+
+/// The address of a list's items, or of fields; 0 for another kind.
+fn address(value: &proved::Value) -> usize {
+    value.part(0).map_or(0, |part| core::ptr::from_ref(part).addr())
 }
 
 // A text has the string's memory, and a value that of the other.

@@ -141,3 +141,21 @@ fn clones_and_edits_in_place_ask_for_nothing() {
     drop((0..40).map(Value::from).collect::<Value>());
     assert_eq!(REQUESTS.get() - before, 2, "a list of so many items asks once");
 }
+
+#[test]
+fn a_comparison_of_values_needs_no_memory() {
+    let parts = |count| (0..count).map(|number: i64| Value::from([[number]])).collect::<Value>();
+    let (few, many) = ([parts(400), parts(400)], [parts(9000), parts(9000)]);
+    let (before, held) = (REQUESTS.get(), HELD.get());
+    assert!(few[0] == few[1] && few[0] != many[0]);
+    assert_eq!(REQUESTS.get() - before, 0);
+    for which in 1.. {
+        REFUSED.set(which);
+        assert!(many[0] == many[1]);
+        assert_eq!(HELD.get(), held);
+        if REFUSED.replace(0) > 0 {
+            assert!((3..9).contains(&which));
+            break;
+        }
+    }
+}

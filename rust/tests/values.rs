@@ -174,6 +174,79 @@ fn a_path_that_leads_nowhere_changes_nothing() {
     assert_eq!(value, tree());
 }
 
+#[test]
+fn equal_values_print_the_same() {
+    let mut state = 1u64;
+    let mut draw = |below: usize| {
+        state = state.wrapping_mul(6_364_136_223_846_793_005).wrapping_add(1);
+        (state >> 33) as usize % below
+    };
+    let mut equal = 0;
+    for _ in 0..40 {
+        let simple = || [Value::new(), true.into(), 1.into(), 1.0.into(), f64::NAN.into(), "1".into(), [[1]].into()];
+        let (mut left, mut right) = (Vec::from(simple()), Vec::from(simple()));
+        for _ in 0..30 {
+            let parts: Vec<_> = (0..draw(18)).map(|_| draw(left.len())).filter(|&at| left[at].depth() < 5).collect();
+            // Sometimes one part differs, or the names do.
+            let (named, other, names) = (draw(2) == 0, draw(50), if draw(9) == 0 { 'b' } else { 'a' });
+            let made = |all: &[Value], other: usize, names: char| -> Value {
+                let parts = parts.iter().map(|&part| all[if part == other { 0 } else { part }].clone());
+                if named { (names..).map(String::from).zip(parts).collect() } else { parts.collect() }
+            };
+            let both = (made(&left, usize::MAX, 'a'), made(&right, other, names));
+            left.push(both.0);
+            right.push(both.1);
+        }
+        let printed = |all: &[Value]| all.iter().map(|value| format!("{value:?}")).collect::<Vec<_>>();
+        for (one, text) in left.iter().zip(printed(&left)) {
+            for (other, another) in right.iter().zip(printed(&right)) {
+                assert_eq!(one == other, text == another, "{text} and {another}");
+                equal += usize::from(one == other);
+            }
+        }
+    }
+    assert!(equal > 1000);
+    assert_eq!(Value::from([[[0.0]]]), Value::from([[[-0.0]]]));
+}
+
+/// A value in which each level has the one below it twice, so that 7 occurs 2^levels times.
+fn doubled(levels: usize, around: fn(Value) -> Value) -> Value {
+    (0..levels).fold(Value::from(7), |below, _| around(below))
+}
+
+#[test]
+fn a_pair_of_parts_that_occurs_often_is_compared_once() {
+    let lists = |below: Value| Value::from([&below, &below]);
+    let fields = |below: Value| [("a", below.clone()), ("b", below)].into_iter().collect();
+    // Between the two stand parts that occur on this level alone.
+    let apart = |below: Value| {
+        let others = (0..300).map(|number| Value::from([[number]])).collect();
+        Value::from([&below, &others, &below])
+    };
+    let kinds: [fn(Value) -> Value; 3] = [lists, fields, apart];
+    for (kind, around) in kinds.into_iter().enumerate() {
+        for levels in [1, 2, 28, 60] {
+            let (value, mut other) = (doubled(levels, around), doubled(levels, around));
+            assert_eq!((value == other, other == value), (true, true), "{kind}, {levels} levels");
+            // The first 7 of all, or the last one, becomes an 8.
+            for index in [0, value.len() - 1] {
+                let path = vec![index.into(); levels];
+                assert_eq!(other.set_path(&path, 8), Ok(()));
+                assert_eq!((value == other, other == value), (false, false), "{kind}, {levels} levels, {index}");
+                assert_eq!(other.set_path(&path, 7), Ok(()));
+                assert!(value == other, "{kind}, {levels} levels, {index}");
+            }
+        }
+    }
+    // A list that holds one list 100,000 times, which has 100,000 numbers.
+    let many = |item: &dyn Fn(i64) -> Value| (0..100_000).map(item).collect::<Value>();
+    let rows = || {
+        let row = many(&Value::from);
+        many(&|_| row.clone())
+    };
+    assert!(rows() == rows());
+}
+
 /// A value that nests so deep.
 fn nested(levels: usize) -> Value {
     (0..levels).fold(Value::from(7), |inner, _| [inner].into())
