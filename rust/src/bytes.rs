@@ -380,22 +380,11 @@ from! {
     [const N: usize] &SmallBytes<N> => Vec<u8>: |bytes| bytes.to_vec();
 }
 
-impl<const N: usize> FromIterator<u8> for SmallBytes<N> {
-    fn from_iter<I: IntoIterator<Item = u8>>(iter: I) -> Self {
-        SmallBytes(granted(proved::SmallBytes::from_iter(Global, iter)))
-    }
-}
+collected! { [const N: usize] u8 => SmallBytes<N>: |iter| SmallBytes(granted(proved::SmallBytes::from_iter(Global, iter))); }
 
-impl<const N: usize> Extend<u8> for SmallBytes<N> {
-    fn extend<I: IntoIterator<Item = u8>>(&mut self, iter: I) {
-        granted(self.0.extend(iter));
-    }
-}
-
-impl<'a, const N: usize> Extend<&'a u8> for SmallBytes<N> {
-    fn extend<I: IntoIterator<Item = &'a u8>>(&mut self, iter: I) {
-        self.extend(iter.into_iter().copied());
-    }
+extended! {
+    [const N: usize] u8 => SmallBytes<N>: |bytes, iter| granted(bytes.0.extend(iter));
+    ['a, const N: usize] &'a u8 => SmallBytes<N>: |bytes, iter| bytes.extend(iter.into_iter().copied());
 }
 
 impl<'a, const N: usize> IntoIterator for &'a SmallBytes<N> {

@@ -55,11 +55,7 @@ from_proved! {
     Refusal: Kind Index Depth Capacity Memory;
 }
 
-impl From<AllocError> for Error {
-    fn from(_: AllocError) -> Self {
-        Error::Memory
-    }
-}
+from! { [] AllocError => Error: |_error| Error::Memory; }
 
 /// A call that was refused, with the value that was handed in.
 #[derive(Clone, Copy, Debug, PartialEq, Eq, Hash)]
@@ -84,22 +80,10 @@ impl<V> fmt::Display for Rejected<V> {
 
 impl<V: fmt::Debug> core::error::Error for Rejected<V> {}
 
-impl<V> From<Rejected<V>> for Error {
-    fn from(rejected: Rejected<V>) -> Self {
-        rejected.error
-    }
-}
-
-impl<V> From<ProvedRejected<V>> for Rejected<V> {
-    fn from(rejected: ProvedRejected<V>) -> Self {
-        Rejected::of(rejected, |value| value)
-    }
-}
-
-impl<V> From<ProvedRejected<V>> for Error {
-    fn from(rejected: ProvedRejected<V>) -> Self {
-        rejected.error.into()
-    }
+from! {
+    [V] Rejected<V> => Error: |rejected| rejected.error;
+    [V] ProvedRejected<V> => Error: |rejected| rejected.error.into();
+    [V] ProvedRejected<V> => Rejected<V>: |rejected| Rejected::of(rejected, |value| value);
 }
 
 /// The indices of a range of `len` items, which is asked for its bounds once.

@@ -28,6 +28,9 @@
 
 extern crate alloc;
 
+#[macro_use]
+mod traits;
+
 mod error;
 mod guards;
 #[allow(
@@ -44,8 +47,6 @@ mod proved;
 #[cfg(feature = "serde")]
 mod serde;
 mod shim;
-#[macro_use]
-mod traits;
 
 pub mod bytes;
 pub mod string;

@@ -517,34 +517,17 @@ impl<const N: usize> FromStr for SmallText<N> {
     }
 }
 
-impl<const N: usize> FromIterator<char> for SmallText<N> {
-    fn from_iter<I: IntoIterator<Item = char>>(iter: I) -> Self {
-        SmallText(granted(proved::SmallText::from_chars(Global, iter)))
-    }
-}
-
-impl<'a, const N: usize> FromIterator<&'a str> for SmallText<N> {
-    fn from_iter<I: IntoIterator<Item = &'a str>>(iter: I) -> Self {
-        SmallText(granted(proved::SmallText::from_strs(Global, iter)))
-    }
-}
-
-impl<const N: usize> FromIterator<SmallText<N>> for SmallText<N> {
-    fn from_iter<I: IntoIterator<Item = SmallText<N>>>(iter: I) -> Self {
+collected! {
+    [const N: usize] char => SmallText<N>: |iter| SmallText(granted(proved::SmallText::from_chars(Global, iter)));
+    ['a, const N: usize] &'a str => SmallText<N>: |iter| SmallText(granted(proved::SmallText::from_strs(Global, iter)));
+    [const N: usize] SmallText<N> => SmallText<N>: |iter| {
         SmallText(granted(proved::SmallText::from_eco_strings(Global, iter.into_iter().map(|text| text.0))))
-    }
+    };
 }
 
-impl<const N: usize> Extend<char> for SmallText<N> {
-    fn extend<I: IntoIterator<Item = char>>(&mut self, iter: I) {
-        granted(self.0.extend_chars(iter));
-    }
-}
-
-impl<'a, const N: usize> Extend<&'a str> for SmallText<N> {
-    fn extend<I: IntoIterator<Item = &'a str>>(&mut self, iter: I) {
-        granted(self.0.extend_strs(iter));
-    }
+extended! {
+    [const N: usize] char => SmallText<N>: |text, iter| granted(text.0.extend_chars(iter));
+    ['a, const N: usize] &'a str => SmallText<N>: |text, iter| granted(text.0.extend_strs(iter));
 }
 
 /// Texts of what values print.

@@ -14,11 +14,35 @@ macro_rules! equal_to {
 
 /// Conversions.
 macro_rules! from {
-    ($([$($params:tt)*] $from:ty => $to:ty: |$value:ident| $made:expr;)*) => { $(
+    ($($(#[$doc:meta])* [$($params:tt)*] $from:ty => $to:ty: |$value:ident| $made:expr;)*) => { $(
         impl<$($params)*> From<$from> for $to {
+            $(#[$doc])*
             #[inline]
             fn from($value: $from) -> Self {
                 $made
+            }
+        }
+    )* };
+}
+
+/// What is collected of an iterator's items.
+macro_rules! collected {
+    ($([$($params:tt)*] $item:ty => $to:ty: |$iter:ident| $made:expr;)*) => { $(
+        impl<$($params)*> FromIterator<$item> for $to {
+            fn from_iter<I: IntoIterator<Item = $item>>($iter: I) -> Self {
+                $made
+            }
+        }
+    )* };
+}
+
+/// What is extended by an iterator's items.
+macro_rules! extended {
+    ($([$($params:tt)*] $item:ty => $type:ty: |$value:ident, $iter:ident| $call:expr;)*) => { $(
+        impl<$($params)*> Extend<$item> for $type {
+            fn extend<I: IntoIterator<Item = $item>>(&mut self, $iter: I) {
+                let $value = self;
+                $call
             }
         }
     )* };

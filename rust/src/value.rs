@@ -24,16 +24,9 @@ pub enum Step<'a> {
     Field(&'a str),
 }
 
-impl From<usize> for Step<'_> {
-    fn from(index: usize) -> Self {
-        Step::Index(index)
-    }
-}
-
-impl<'a> From<&'a str> for Step<'a> {
-    fn from(name: &'a str) -> Self {
-        Step::Field(name)
-    }
+from! {
+    [] usize => Step<'_>: |index| Step::Index(index);
+    ['a] &'a str => Step<'a>: |name| Step::Field(name);
 }
 
 /// Nothing, a truth value, a number, a text, a list of values, or fields by name in order.

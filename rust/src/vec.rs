@@ -528,25 +528,11 @@ impl<T: PartialOrd> PartialOrd for EcoVec<T> {
     }
 }
 
-impl<T: Clone> From<&[T]> for EcoVec<T> {
-    #[inline]
-    fn from(slice: &[T]) -> Self {
-        granted(Self::try_from_slice(slice))
-    }
-}
-
-impl<T: Clone, const N: usize> From<[T; N]> for EcoVec<T> {
-    #[inline]
-    fn from(array: [T; N]) -> Self {
-        granted(Self::try_from_array(array))
-    }
-}
-
-impl<T: Clone> From<Vec<T>> for EcoVec<T> {
+from! {
+    [T: Clone] &[T] => EcoVec<T>: |slice| granted(Self::try_from_slice(slice));
+    [T: Clone, const N: usize] [T; N] => EcoVec<T>: |array| granted(Self::try_from_array(array));
     /// The elements, moved into a block of their own.
-    fn from(vec: Vec<T>) -> Self {
-        granted(Self::try_from_vec(vec))
-    }
+    [T: Clone] Vec<T> => EcoVec<T>: |vec| granted(Self::try_from_vec(vec));
 }
 
 impl<T: Clone, const N: usize> TryFrom<EcoVec<T>> for [T; N] {
