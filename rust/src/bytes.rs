@@ -65,33 +65,8 @@ pub(crate) fn repeated<const N: usize>(
 }
 
 impl<const N: usize> SmallBytes<N> {
-    /// No bytes, inline. Asks for no memory.
-    ///
-    ///     assert!(ecow::EcoBytes::new().is_inline());
-    #[inline]
-    #[must_use]
-    pub const fn new() -> Self {
-        SmallBytes(laid_out(&[]))
-    }
-
-    /// A copy of at most `N` bytes, inline. Asks for no memory.
-    /// # Panics
-    /// If there are more than `N` bytes.
-    ///
-    ///     const BYTES: ecow::EcoBytes = ecow::EcoBytes::inline(b"ab");
-    #[track_caller]
-    #[must_use]
-    pub const fn inline(bytes: &[u8]) -> Self {
-        assert!(bytes.len() <= N, "exceeded inline capacity");
+    const fn laid_out(bytes: &[u8]) -> Self {
         SmallBytes(laid_out(bytes))
-    }
-
-    /// As [`inline`](Self::inline), or `None` if there are more than `N` bytes.
-    ///
-    ///     assert!(ecow::EcoBytes::try_inline(&[0; 16]).is_none());
-    #[must_use]
-    pub const fn try_inline(bytes: &[u8]) -> Option<Self> {
-        if bytes.len() > N { None } else { Some(SmallBytes(laid_out(bytes))) }
     }
 
     /// A copy of the bytes.
@@ -122,15 +97,6 @@ impl<const N: usize> SmallBytes<N> {
         self.0.as_slice()
     }
 
-    /// The bytes, to write to. Shared bytes that are spilled are copied first.
-    ///
-    ///     let mut bytes = ecow::EcoBytes::from(b"ab"); bytes.make_mut()[0] = b'x';
-    ///     assert_eq!(bytes, b"xb");
-    #[inline]
-    pub fn make_mut(&mut self) -> &mut [u8] {
-        granted(self.try_make_mut())
-    }
-
     /// As [`make_mut`](Self::make_mut).
     /// # Errors
     /// `Error::Memory` if shared bytes can't be copied.
@@ -139,43 +105,6 @@ impl<const N: usize> SmallBytes<N> {
     #[inline]
     pub fn try_make_mut(&mut self) -> Result<&mut [u8], Error> {
         Ok(self.0.make_mut()?)
-    }
-
-    /// Appends a byte. Constant time on average; shared bytes are copied first.
-    ///
-    ///     let mut bytes = ecow::EcoBytes::from(b"ab"); bytes.push(b'c');
-    ///     assert_eq!(bytes, b"abc");
-    #[inline]
-    pub fn push(&mut self, byte: u8) {
-        granted(self.0.push(byte));
-    }
-
-    /// As [`push`](Self::push).
-    /// # Errors
-    /// `Error::Capacity`, `Error::Memory`.
-    ///
-    ///     assert_eq!(ecow::EcoBytes::from(b"ab").try_push(b'c'), Ok(()));
-    #[inline]
-    pub fn try_push(&mut self, byte: u8) -> Result<(), Error> {
-        Ok(self.0.push(byte)?)
-    }
-
-    /// Takes the last byte, if there is one. Shared bytes are copied first.
-    ///
-    ///     assert_eq!(ecow::EcoBytes::from(b"ab").pop(), Some(b'b'));
-    #[inline]
-    pub fn pop(&mut self) -> Option<u8> {
-        granted(self.try_pop())
-    }
-
-    /// As [`pop`](Self::pop).
-    /// # Errors
-    /// `Error::Memory` if shared bytes can't be copied.
-    ///
-    ///     assert_eq!(ecow::EcoBytes::from(b"ab").try_pop(), Ok(Some(b'b')));
-    #[inline]
-    pub fn try_pop(&mut self) -> Result<Option<u8>, Error> {
-        Ok(self.0.pop()?)
     }
 
     /// Appends the bytes of a slice. Shared bytes are copied first.
@@ -322,16 +251,6 @@ impl<const N: usize> SmallBytes<N> {
         Ok(self.0.truncate(target)?)
     }
 
-    /// The bytes `n` times over.
-    /// # Panics
-    /// If these are more than memory can hold.
-    ///
-    ///     assert_eq!(ecow::EcoBytes::from(b"ab").repeat(2), b"abab");
-    #[must_use]
-    pub fn repeat(&self, n: usize) -> Self {
-        granted(self.try_repeat(n))
-    }
-
     /// As [`repeat`](Self::repeat).
     /// # Errors
     /// `Error::Capacity` past 2^63 - 1 bytes; `Error::Memory`.
@@ -340,18 +259,9 @@ impl<const N: usize> SmallBytes<N> {
     pub fn try_repeat(&self, n: usize) -> Result<Self, Error> {
         Ok(SmallBytes(repeated(&self.0, n)?))
     }
-
-    /// The bytes in a vector. Spilled bytes hand on their block, and inline ones are copied.
-    /// # Errors
-    /// `Error::Memory`; the bytes come back.
-    ///
-    ///     assert_eq!(ecow::EcoBytes::from(b"ab").try_into_eco_vec(), Ok(ecow::eco_vec![b'a', b'b']));
-    pub fn try_into_eco_vec(self) -> Result<EcoVec<u8>, Rejected<Self>> {
-        self.0.into_eco_vec().map(EcoVec).map_err(|rejected| Rejected::of(rejected, SmallBytes))
-    }
 }
 
-small!(SmallBytes, [u8], as_slice, try_from_slice);
+small! { SmallBytes, EcoBytes, [u8], as_slice, try_from_slice, u8, "byte", [b"", b"ab", b"AB", b'c', b"abc", b"abab"] }
 
 equal_to! {
     [const N: usize] SmallBytes<N>, [u8];
@@ -387,15 +297,7 @@ extended! {
     ['a, const N: usize] &'a u8 => SmallBytes<N>: |bytes, iter| bytes.extend(iter.into_iter().copied());
 }
 
-impl<'a, const N: usize> IntoIterator for &'a SmallBytes<N> {
-    type Item = &'a u8;
-    type IntoIter = core::slice::Iter<'a, u8>;
-
-    #[inline]
-    fn into_iter(self) -> Self::IntoIter {
-        self.iter()
-    }
-}
+iterated! { [const N: usize] SmallBytes<N>, u8 }
 
 #[cfg(feature = "std")]
 impl<const N: usize> std::io::Write for SmallBytes<N> {

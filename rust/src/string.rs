@@ -39,34 +39,8 @@ pub struct SmallText<const N: usize>(pub(crate) proved::SmallText<N>);
 pub type EcoString = SmallText<15>;
 
 impl<const N: usize> SmallText<N> {
-    /// An empty text, inline. Asks for no memory.
-    ///
-    ///     assert!(ecow::EcoString::new().is_inline());
-    #[inline]
-    #[must_use]
-    pub const fn new() -> Self {
-        Self::inline("")
-    }
-
-    /// A copy of a text of at most `N` bytes, inline. Asks for no memory.
-    /// # Panics
-    /// If there are more than `N` bytes.
-    ///
-    ///     const TEXT: ecow::EcoString = ecow::EcoString::inline("ab");
-    #[inline]
-    #[track_caller]
-    #[must_use]
-    pub const fn inline(text: &str) -> Self {
-        assert!(text.len() <= N, "exceeded inline capacity");
+    const fn laid_out(text: &str) -> Self {
         SmallText(proved::SmallText { bytes: crate::bytes::laid_out(text.as_bytes()) })
-    }
-
-    /// As [`inline`](Self::inline), or `None` if there are more than `N` bytes.
-    ///
-    ///     assert!(ecow::EcoString::try_inline("more than fifteen").is_none());
-    #[must_use]
-    pub const fn try_inline(text: &str) -> Option<Self> {
-        if text.len() > N { None } else { Some(Self::inline(text)) }
     }
 
     /// A copy of the text.
@@ -95,14 +69,6 @@ impl<const N: usize> SmallText<N> {
         self.0.as_str()
     }
 
-    /// The text, to write to. A shared text that is spilled is copied first.
-    ///
-    ///     let mut text = ecow::EcoString::from("ab"); text.make_mut().make_ascii_uppercase();
-    ///     assert_eq!(text, "AB");
-    pub fn make_mut(&mut self) -> &mut str {
-        granted(self.try_make_mut())
-    }
-
     /// As [`make_mut`](Self::make_mut).
     /// # Errors
     /// `Error::Memory` if a shared text can't be copied.
@@ -111,41 +77,6 @@ impl<const N: usize> SmallText<N> {
     pub fn try_make_mut(&mut self) -> Result<&mut str, Error> {
         let bytes = self.0.bytes.make_mut()?;
         Ok(text_mut(bytes))
-    }
-
-    /// Appends a character. Constant time on average; a shared text is copied first.
-    ///
-    ///     let mut text = ecow::EcoString::from("ab"); text.push('c');
-    ///     assert_eq!(text, "abc");
-    #[inline]
-    pub fn push(&mut self, c: char) {
-        granted(self.0.push(c));
-    }
-
-    /// As [`push`](Self::push).
-    /// # Errors
-    /// `Error::Capacity`, `Error::Memory`.
-    ///
-    ///     assert_eq!(ecow::EcoString::from("ab").try_push('c'), Ok(()));
-    #[inline]
-    pub fn try_push(&mut self, c: char) -> Result<(), Error> {
-        Ok(self.0.push(c)?)
-    }
-
-    /// Takes the last character, if there is one. Of a shared text what stays is copied.
-    ///
-    ///     assert_eq!(ecow::EcoString::from("ab").pop(), Some('b'));
-    pub fn pop(&mut self) -> Option<char> {
-        granted(self.try_pop())
-    }
-
-    /// As [`pop`](Self::pop).
-    /// # Errors
-    /// `Error::Memory` if a shared text can't be copied.
-    ///
-    ///     assert_eq!(ecow::EcoString::from("ab").try_pop(), Ok(Some('b')));
-    pub fn try_pop(&mut self) -> Result<Option<char>, Error> {
-        Ok(self.0.pop()?)
     }
 
     /// Appends a text. A shared text is copied first.
@@ -350,16 +281,6 @@ impl<const N: usize> SmallText<N> {
         SmallText(granted(self.0.to_ascii_uppercase()))
     }
 
-    /// The text `n` times over.
-    /// # Panics
-    /// If this is more than memory can hold.
-    ///
-    ///     assert_eq!(ecow::EcoString::from("ab").repeat(2), "abab");
-    #[must_use]
-    pub fn repeat(&self, n: usize) -> Self {
-        granted(self.try_repeat(n))
-    }
-
     /// As [`repeat`](Self::repeat).
     /// # Errors
     /// `Error::Capacity` past 2^63 - 1 bytes; `Error::Memory`.
@@ -367,15 +288,6 @@ impl<const N: usize> SmallText<N> {
     ///     assert_eq!(ecow::EcoString::from("ab").try_repeat(usize::MAX), Err(ecow::Error::Capacity));
     pub fn try_repeat(&self, n: usize) -> Result<Self, Error> {
         Ok(SmallText(proved::SmallText { bytes: crate::bytes::repeated(&self.0.bytes, n)? }))
-    }
-
-    /// The bytes in a vector. A spilled text hands on its block, and an inline one is copied.
-    /// # Errors
-    /// `Error::Memory`; the text comes back.
-    ///
-    ///     assert_eq!(ecow::EcoString::from("a").try_into_eco_vec(), Ok(ecow::eco_vec![b'a']));
-    pub fn try_into_eco_vec(self) -> Result<EcoVec<u8>, Rejected<Self>> {
-        self.0.into_eco_vec().map(EcoVec).map_err(|rejected| Rejected::of(rejected, SmallText))
     }
 
     /// `Error::Index` past the length, `Error::Boundary` inside a character.
@@ -412,7 +324,7 @@ fn no_boundary(text: &str, index: usize) -> ! {
     );
 }
 
-small!(SmallText, str, as_str, try_from_str);
+small! { SmallText, EcoString, str, as_str, try_from_str, char, "character", ["", "ab", "AB", 'c', "abc", "abab"] }
 
 impl<const N: usize> Display for SmallText<N> {
     fn fmt(&self, f: &mut fmt::Formatter<'_>) -> fmt::Result {
@@ -437,33 +349,24 @@ impl<const N: usize> Write for SmallText<N> {
     }
 }
 
-impl<const N: usize> Add for SmallText<N> {
-    type Output = Self;
+macro_rules! added {
+    ($($text:ty)*) => { $(
+        impl<const N: usize> Add<$text> for SmallText<N> {
+            type Output = Self;
 
-    fn add(self, other: Self) -> Self {
-        self + other.as_str()
-    }
+            fn add(self, text: $text) -> Self {
+                SmallText(granted(self.0.add(&text)))
+            }
+        }
+
+        impl<const N: usize> AddAssign<$text> for SmallText<N> {
+            fn add_assign(&mut self, text: $text) {
+                self.push_str(&text);
+            }
+        }
+    )* };
 }
-
-impl<const N: usize> Add<&str> for SmallText<N> {
-    type Output = Self;
-
-    fn add(self, text: &str) -> Self {
-        SmallText(granted(self.0.add(text)))
-    }
-}
-
-impl<const N: usize> AddAssign for SmallText<N> {
-    fn add_assign(&mut self, other: Self) {
-        self.push_str(other.as_str());
-    }
-}
-
-impl<const N: usize> AddAssign<&str> for SmallText<N> {
-    fn add_assign(&mut self, text: &str) {
-        self.push_str(text);
-    }
-}
+added! { Self &str }
 
 macro_rules! as_ref {
     ($($type:ty)*) => { $(

@@ -48,6 +48,21 @@ macro_rules! extended {
     )* };
 }
 
+/// Iteration by reference, over the slice.
+macro_rules! iterated {
+    ([$($params:tt)*] $type:ty, $item:ty) => {
+        impl<'a, $($params)*> IntoIterator for &'a $type {
+            type Item = &'a $item;
+            type IntoIter = core::slice::Iter<'a, $item>;
+
+            #[inline]
+            fn into_iter(self) -> Self::IntoIter {
+                self.iter()
+            }
+        }
+    };
+}
+
 /// What lends its slice, and is empty at first.
 macro_rules! slice_of {
     ($([$($params:tt)*] $type:ty, $slice:ty, $as_slice:ident;)*) => { $(
@@ -83,12 +98,140 @@ macro_rules! slice_of {
     )* };
 }
 
-/// What `SmallBytes` and `SmallText` have by the proved type in them, and by the slice that they are.
+/// Printing and hash of the proved type, and equality of the slices. The parameters are for each trait in turn.
+macro_rules! compared {
+    ($type:ty: [$($debug:tt)*] [$($hash:tt)*] [$($eq:tt)*] [$($partial_eq:tt)*]) => {
+        impl<$($debug)*> core::fmt::Debug for $type {
+            fn fmt(&self, f: &mut core::fmt::Formatter<'_>) -> core::fmt::Result {
+                core::fmt::Debug::fmt(&self.0, f)
+            }
+        }
+
+        impl<$($hash)*> core::hash::Hash for $type {
+            #[inline]
+            fn hash<H: core::hash::Hasher>(&self, state: &mut H) {
+                self.0.hash(state);
+            }
+        }
+
+        impl<$($eq)*> Eq for $type {}
+
+        impl<$($partial_eq)*> PartialEq for $type {
+            #[inline]
+            fn eq(&self, other: &Self) -> bool {
+                self[..] == other[..]
+            }
+        }
+    };
+}
+
+/// What `SmallBytes` and `SmallText` have by the proved type in them, and by the slice that they are. The literals are for
+/// their examples.
 macro_rules! small {
-    ($type:ident, $slice:ty, $as_slice:ident, $copy:ident) => {
+    (
+        $type:ident, $short:ident, $slice:ty, $as_slice:ident, $copy:ident, $item:ty, $unit:literal,
+        [$none:literal, $ab:literal, $upper:literal, $c:literal, $abc:literal, $abab:literal $(,)?] $(,)?
+    ) => {
         impl<const N: usize> $type<N> {
             /// The greatest number of bytes that stand in the value itself.
             pub const INLINE_LIMIT: usize = N;
+
+            /// No bytes, inline. Asks for no memory.
+            ///
+            #[doc = concat!("    assert!(ecow::", stringify!($short), "::new().is_inline());")]
+            #[inline]
+            #[must_use]
+            pub const fn new() -> Self {
+                Self::laid_out($none)
+            }
+
+            /// A copy of at most `N` bytes, inline. Asks for no memory.
+            /// # Panics
+            /// If there are more than `N` bytes.
+            ///
+            #[doc = concat!("    const AB: ecow::", stringify!($short), " = ecow::", stringify!($short), "::inline(", stringify!($ab), ");")]
+            #[inline]
+            #[track_caller]
+            #[must_use]
+            pub const fn inline(slice: &$slice) -> Self {
+                assert!(slice.len() <= N, "exceeded inline capacity");
+                Self::laid_out(slice)
+            }
+
+            /// As [`inline`](Self::inline), or `None` if there are more than `N` bytes.
+            ///
+            #[doc = concat!("    assert!(ecow::", stringify!($type), "::<1>::try_inline(", stringify!($ab), ").is_none());")]
+            #[must_use]
+            pub const fn try_inline(slice: &$slice) -> Option<Self> {
+                if slice.len() > N { None } else { Some(Self::laid_out(slice)) }
+            }
+
+            /// What it holds, to write to. What is spilled and shared is copied first.
+            ///
+            #[doc = concat!("    let mut value = ecow::", stringify!($short), "::from(", stringify!($ab), ");")]
+            #[doc = concat!("    value.make_mut().make_ascii_uppercase(); assert_eq!(value, ", stringify!($upper), ");")]
+            #[inline]
+            pub fn make_mut(&mut self) -> &mut $slice {
+                granted(self.try_make_mut())
+            }
+
+            #[doc = concat!("Appends a ", $unit, ". Constant time on average; what is shared is copied first.")]
+            ///
+            #[doc = concat!("    let mut value = ecow::", stringify!($short), "::from(", stringify!($ab), ");")]
+            #[doc = concat!("    value.push(", stringify!($c), "); assert_eq!(value, ", stringify!($abc), ");")]
+            #[inline]
+            pub fn push(&mut self, item: $item) {
+                granted(self.0.push(item));
+            }
+
+            /// As [`push`](Self::push).
+            /// # Errors
+            /// `Error::Capacity`, `Error::Memory`.
+            ///
+            #[doc = concat!("    assert_eq!(ecow::", stringify!($short), "::new().try_push(", stringify!($c), "), Ok(()));")]
+            #[inline]
+            pub fn try_push(&mut self, item: $item) -> Result<(), Error> {
+                Ok(self.0.push(item)?)
+            }
+
+            #[doc = concat!("Takes the last ", $unit, ", if there is one. What is shared is copied first.")]
+            ///
+            #[doc = concat!("    let mut value = ecow::", stringify!($short), "::from(", stringify!($abc), ");")]
+            #[doc = concat!("    assert_eq!(value.pop(), Some(", stringify!($c), "));")]
+            #[inline]
+            pub fn pop(&mut self) -> Option<$item> {
+                granted(self.try_pop())
+            }
+
+            /// As [`pop`](Self::pop).
+            /// # Errors
+            /// `Error::Memory` if what is shared can't be copied.
+            ///
+            #[doc = concat!("    assert_eq!(ecow::", stringify!($short), "::new().try_pop(), Ok(None));")]
+            #[inline]
+            pub fn try_pop(&mut self) -> Result<Option<$item>, Error> {
+                Ok(self.0.pop()?)
+            }
+
+            /// What it holds, `n` times over.
+            /// # Panics
+            /// If this is more than memory can hold.
+            ///
+            #[doc = concat!("    assert_eq!(ecow::", stringify!($short), "::from(", stringify!($ab), ").repeat(2), ", stringify!($abab), ");")]
+            #[must_use]
+            pub fn repeat(&self, n: usize) -> Self {
+                granted(self.try_repeat(n))
+            }
+
+            /// The bytes in a vector. Spilled bytes hand on their block, and inline ones are copied.
+            /// # Errors
+            /// `Error::Memory`; the value comes back.
+            ///
+            #[doc = concat!("    let value = ecow::", stringify!($short), "::from(", stringify!($ab), ");")]
+            ///     assert_eq!(value.try_into_eco_vec().unwrap(), b"ab");
+            pub fn try_into_eco_vec(self) -> Result<EcoVec<u8>, Rejected<Self>> {
+                self.0.into_eco_vec().map(EcoVec).map_err(|rejected| Rejected::of(rejected, $type))
+            }
 
             /// No bytes, with a capacity of `capacity` bytes. It is inline if that is at most `N`.
             /// # Panics
@@ -196,27 +339,7 @@ macro_rules! small {
 
         slice_of! { [const N: usize] $type<N>, $slice, $as_slice; }
 
-        impl<const N: usize> core::fmt::Debug for $type<N> {
-            fn fmt(&self, f: &mut core::fmt::Formatter<'_>) -> core::fmt::Result {
-                core::fmt::Debug::fmt(&self.0, f)
-            }
-        }
-
-        impl<const N: usize> core::hash::Hash for $type<N> {
-            #[inline]
-            fn hash<H: core::hash::Hasher>(&self, state: &mut H) {
-                self.0.hash(state)
-            }
-        }
-
-        impl<const N: usize> Eq for $type<N> {}
-
-        impl<const N: usize> PartialEq for $type<N> {
-            #[inline]
-            fn eq(&self, other: &Self) -> bool {
-                self[..] == other[..]
-            }
-        }
+        compared! { $type<N>: [const N: usize] [const N: usize] [const N: usize] [const N: usize] }
 
         impl<const N: usize> Ord for $type<N> {
             #[inline]
@@ -239,10 +362,68 @@ macro_rules! small {
     };
 }
 
-/// The edits of one element of a list, at an index. The texts say what the first two cost, and what the last does.
-macro_rules! edits_at_index {
-    ($list:ident, $moves:literal, $sets:literal $(,)?) => {
+/// The length of a list, and the edits of one element. The texts say what `push`, `pop`, `insert` and `remove`, and `set`
+/// cost.
+macro_rules! list {
+    ($list:ident, $pushes:literal, $pops:literal, $moves:literal, $sets:literal $(,)?) => {
+        impl<T> $list<T> {
+            /// Whether there is no element.
+            ///
+            #[doc = concat!("    assert!(!ecow::", stringify!($list), "::from([1]).is_empty());")]
+            #[inline]
+            #[must_use]
+            pub fn is_empty(&self) -> bool {
+                self.0.is_empty()
+            }
+
+            /// The number of elements.
+            ///
+            #[doc = concat!("    assert_eq!(ecow::", stringify!($list), "::from([1, 2]).len(), 2);")]
+            #[inline]
+            #[must_use]
+            pub fn len(&self) -> usize {
+                self.0.len()
+            }
+        }
+
         impl<T: Clone> $list<T> {
+            #[doc = concat!("Appends `value`. ", $pushes)]
+            ///
+            #[doc = concat!("    let mut list = ecow::", stringify!($list), "::from([1]); list.push(2);")]
+            ///     assert_eq!(list, [1, 2]);
+            #[inline]
+            pub fn push(&mut self, value: T) {
+                granted(self.0.push(value));
+            }
+
+            /// As [`push`](Self::push).
+            /// # Errors
+            /// `Error::Capacity`, `Error::Memory`; `value` comes back.
+            ///
+            #[doc = concat!("    assert_eq!(ecow::", stringify!($list), "::from([1]).try_push(2), Ok(()));")]
+            #[inline]
+            pub fn try_push(&mut self, value: T) -> Result<(), Rejected<T>> {
+                Ok(self.0.push(value)?)
+            }
+
+            #[doc = concat!("Takes the last element, if there is one. ", $pops)]
+            ///
+            #[doc = concat!("    assert_eq!(ecow::", stringify!($list), "::from([1, 2]).pop(), Some(2));")]
+            #[inline]
+            pub fn pop(&mut self) -> Option<T> {
+                granted(self.try_pop())
+            }
+
+            /// As [`pop`](Self::pop).
+            /// # Errors
+            /// `Error::Memory` if something shared can't be copied.
+            ///
+            #[doc = concat!("    assert_eq!(ecow::", stringify!($list), "::from([1, 2]).try_pop(), Ok(Some(2)));")]
+            #[inline]
+            pub fn try_pop(&mut self) -> Result<Option<T>, Error> {
+                Ok(self.0.pop()?)
+            }
+
             /// Inserts `value` before the element at `index`.
             #[doc = $moves]
             /// # Panics

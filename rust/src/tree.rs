@@ -34,22 +34,6 @@ impl<T> EcoTree<T> {
         EcoTree(proved::EcoTree::new(Global))
     }
 
-    /// The number of elements.
-    ///
-    ///     assert_eq!(ecow::EcoTree::from([1, 2]).len(), 2);
-    #[must_use]
-    pub fn len(&self) -> usize {
-        self.0.len()
-    }
-
-    /// Whether there is no element.
-    ///
-    ///     assert!(!ecow::EcoTree::from([1]).is_empty());
-    #[must_use]
-    pub fn is_empty(&self) -> bool {
-        self.0.is_empty()
-    }
-
     /// The number of levels above the blocks of elements. It is at most logarithmic in the length, whatever changes were
     /// made.
     ///
@@ -108,44 +92,11 @@ impl<T> EcoTree<T> {
     }
 }
 
-edits_at_index! { EcoTree,
+list! { EcoTree,
+    "A shared block of elements is cloned, unless it is full.",
     "A shared block of elements is cloned.",
     "A shared block of elements is cloned.",
-}
-
-impl<T: Clone> EcoTree<T> {
-    /// Appends `value`. A shared block of elements is cloned, unless it is full.
-    ///
-    ///     let mut list = ecow::EcoTree::from([1]); list.push(2);
-    ///     assert_eq!(list, [1, 2]);
-    pub fn push(&mut self, value: T) {
-        granted(self.try_push(value));
-    }
-
-    /// As [`push`](Self::push).
-    /// # Errors
-    /// `Error::Capacity`, `Error::Memory`; `value` comes back.
-    ///
-    ///     assert_eq!(ecow::EcoTree::from([1]).try_push(2), Ok(()));
-    pub fn try_push(&mut self, value: T) -> Result<(), Rejected<T>> {
-        Ok(self.0.push(value)?)
-    }
-
-    /// Takes the last element, if there is one. A shared block of elements is cloned.
-    ///
-    ///     assert_eq!(ecow::EcoTree::from([1, 2]).pop(), Some(2));
-    pub fn pop(&mut self) -> Option<T> {
-        granted(self.try_pop())
-    }
-
-    /// As [`pop`](Self::pop).
-    /// # Errors
-    /// `Error::Memory` if a shared block can't be copied.
-    ///
-    ///     assert_eq!(ecow::EcoTree::from([1, 2]).try_pop(), Ok(Some(2)));
-    pub fn try_pop(&mut self) -> Result<Option<T>, Error> {
-        Ok(self.0.pop()?)
-    }
+    "A shared block of elements is cloned.",
 }
 
 impl<T> Default for EcoTree<T> {

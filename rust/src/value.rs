@@ -359,13 +359,9 @@ impl Value {
     }
 
     /// Puts a value one step into this one.
-    fn put(&mut self, step: Step<'_>, item: Self) -> Result<(), Error> {
+    fn put(&mut self, step: Step<'_>, mut item: Self) -> Result<(), Error> {
         match step {
-            Step::Index(index) if self.kind() == Kind::Fields => {
-                let name = self.field_name(index)?;
-                self.set_field(&name, item)
-            }
-            Step::Index(index) => self.set(index, item),
+            Step::Index(_) => self.swap(step, &mut item),
             Step::Field(name) => self.set_field(name, item),
         }
     }

@@ -8,7 +8,6 @@ use crate::shim::granted;
 use alloc::vec::Vec;
 use core::cmp::Ordering;
 use core::fmt::{self, Debug};
-use core::hash::{Hash, Hasher};
 use core::iter::FusedIterator;
 use core::marker::PhantomData;
 use core::mem::needs_drop;
@@ -90,24 +89,6 @@ impl<T> EcoVec<T> {
         Ok(EcoVec(proved::EcoVec::from_vec(Global, vec)?))
     }
 
-    /// Whether there is no element.
-    ///
-    ///     assert!(!ecow::eco_vec![1].is_empty());
-    #[inline]
-    #[must_use]
-    pub fn is_empty(&self) -> bool {
-        self.0.is_empty()
-    }
-
-    /// The number of elements.
-    ///
-    ///     assert_eq!(ecow::eco_vec![1, 2].len(), 2);
-    #[inline]
-    #[must_use]
-    pub fn len(&self) -> usize {
-        self.0.len()
-    }
-
     /// For how many elements the block has places, never fewer than there are elements.
     ///
     ///     assert_eq!(ecow::eco_vec![1].capacity(), 4);
@@ -143,7 +124,9 @@ impl<T> EcoVec<T> {
     }
 }
 
-edits_at_index! { EcoVec,
+list! { EcoVec,
+    "Constant time on average; a shared vector clones its elements first.",
+    "Constant time; a shared vector clones its elements first.",
     "Moves the elements behind it. A shared vector clones its elements first.",
     "Takes constant time. A shared vector clones its elements first. Not in the original.",
 }
@@ -236,43 +219,6 @@ impl<T: Clone> EcoVec<T> {
     #[inline]
     pub fn try_make_mut(&mut self) -> Result<&mut [T], Error> {
         Ok(self.0.make_mut()?)
-    }
-
-    /// Appends `value`. Constant time on average; a shared vector clones its elements first.
-    ///
-    ///     let mut vec = ecow::eco_vec![1, 2]; vec.push(3);
-    ///     assert_eq!(vec, [1, 2, 3]);
-    #[inline]
-    pub fn push(&mut self, value: T) {
-        granted(self.0.push(value));
-    }
-
-    /// As [`push`](Self::push).
-    /// # Errors
-    /// `Error::Capacity`, `Error::Memory`; `value` comes back.
-    ///
-    ///     assert_eq!(ecow::eco_vec![1].try_push(2), Ok(()));
-    #[inline]
-    pub fn try_push(&mut self, value: T) -> Result<(), Rejected<T>> {
-        Ok(self.0.push(value)?)
-    }
-
-    /// Takes the last element, if there is one. Constant time; a shared vector clones its elements first.
-    ///
-    ///     assert_eq!(ecow::eco_vec![1, 2].pop(), Some(2));
-    #[inline]
-    pub fn pop(&mut self) -> Option<T> {
-        granted(self.try_pop())
-    }
-
-    /// As [`pop`](Self::pop).
-    /// # Errors
-    /// `Error::Memory` if a shared vector can't be copied.
-    ///
-    ///     assert_eq!(ecow::eco_vec![1, 2].try_pop(), Ok(Some(2)));
-    #[inline]
-    pub fn try_pop(&mut self) -> Result<Option<T>, Error> {
-        Ok(self.0.pop()?)
     }
 
     /// Lends `change` the element at `index`, and returns its answer. A shared vector clones its elements first. This
@@ -481,27 +427,7 @@ impl<T: Clone> Clone for EcoVec<T> {
 
 slice_of! { [T] EcoVec<T>, [T], as_slice; }
 
-impl<T: Debug> Debug for EcoVec<T> {
-    fn fmt(&self, f: &mut fmt::Formatter<'_>) -> fmt::Result {
-        self.0.fmt(f)
-    }
-}
-
-impl<T: Hash> Hash for EcoVec<T> {
-    #[inline]
-    fn hash<H: Hasher>(&self, state: &mut H) {
-        self.0.hash(state);
-    }
-}
-
-impl<T: Eq> Eq for EcoVec<T> {}
-
-impl<T: PartialEq> PartialEq for EcoVec<T> {
-    #[inline]
-    fn eq(&self, other: &Self) -> bool {
-        self[..] == other[..]
-    }
-}
+compared! { EcoVec<T>: [T: Debug] [T: core::hash::Hash] [T: Eq] [T: PartialEq] }
 
 equal_to! {
     [T: PartialEq] EcoVec<T>, [T];
@@ -569,15 +495,7 @@ impl<T: Clone> Extend<T> for EcoVec<T> {
     }
 }
 
-impl<'a, T> IntoIterator for &'a EcoVec<T> {
-    type Item = &'a T;
-    type IntoIter = core::slice::Iter<'a, T>;
-
-    #[inline]
-    fn into_iter(self) -> Self::IntoIter {
-        self.iter()
-    }
-}
+iterated! { [T] EcoVec<T>, T }
 
 impl<T: Clone> IntoIterator for EcoVec<T> {
     type Item = T;

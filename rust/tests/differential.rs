@@ -107,10 +107,7 @@ fn vectors<T: Clone + Debug + Ord + Hash>(seed: u64, most: usize, make: impl Fn(
             10 if n == 0 => same!(v, w, clear()),
             11 => same!(v, w, extend_from_slice(&items)),
             12 => same!(v, w, extend(items.iter().cloned())),
-            13 if !w.is_empty() => {
-                v.make_mut()[at] = item.clone();
-                w[at] = item;
-            }
+            13 if !w.is_empty() => (v.make_mut()[at], w[at]) = (item.clone(), item),
             14 => {
                 let kept = random.next() | 1;
                 v.retain(|item| hash(item) & kept & 7 != 0);
@@ -146,10 +143,7 @@ fn vectors<T: Clone + Debug + Ord + Hash>(seed: u64, most: usize, make: impl Fn(
             }
             19 => v.reserve(n * 8),
             20 => compared([&ours[i], &ours[j]], [&std[i], &std[j]]),
-            _ => {
-                ours[j] = ours[i].clone();
-                std[j] = std[i].clone();
-            }
+            _ => (ours[j], std[j]) = (ours[i].clone(), std[i].clone()),
         }
         if std[i].len() > most {
             same!(ours[i], std[i], truncate(most / 2));
@@ -320,26 +314,17 @@ fn bytes<const N: usize>() {
             5 if !w.is_empty() => same!(v, w, remove(at)),
             6 => same!(v, w, truncate(at + 2)),
             7 => same!(v, w, extend_from_slice(&some)),
-            8 if !w.is_empty() => {
-                v.make_mut()[at] ^= 5;
-                w[at] ^= 5;
-            }
+            8 if !w.is_empty() => (v.make_mut()[at], w[at]) = (byte, byte),
             9 => *v = SmallBytes::from(w.as_slice()),
             10 => compared([&ours[i], &ours[j]], [&std[i], &std[j]]),
-            11 if w.len() < N + 300 => {
-                *v = v.repeat(some.len() % 4);
-                *w = w.repeat(some.len() % 4);
-            }
+            11 if w.len() < N + 300 => (*v, *w) = (v.repeat(some.len() % 4), w.repeat(some.len() % 4)),
             12 => {
                 v.replace_range(range.clone(), &some);
                 w.splice(range, some);
             }
             13 if at % 8 == 0 => same!(v, w, clear()),
             14 => v.shrink_to_fit(),
-            _ => {
-                ours[j] = ours[i].clone();
-                std[j] = std[i].clone();
-            }
+            _ => (ours[j], std[j]) = (ours[i].clone(), std[i].clone()),
         }
         assert_eq!(ours[i], std[i], "edit {edit}");
         assert!(!ours[i].is_inline() || std[i].len() <= N);
@@ -415,14 +400,8 @@ fn texts() {
             12 => (*v, *w) = (w.chars().rev().collect(), w.chars().rev().collect()),
             13 => same!(v, w, replace_range(at.., part)),
             14 => same!(v, w, insert(at, 'ß')),
-            15 => {
-                v.make_mut().make_ascii_uppercase();
-                w.make_ascii_uppercase();
-            }
-            _ => {
-                ours[j] = ours[i].clone();
-                std[j] = std[i].clone();
-            }
+            15 => same!(v.make_mut(), w, make_ascii_uppercase()),
+            _ => (ours[j], std[j]) = (ours[i].clone(), std[i].clone()),
         }
         if std[i].len() > 400 {
             same!(ours[i], std[i], clear());
@@ -463,8 +442,7 @@ fn fields() {
             0 => assert_eq!(ours.remove_field(&name).ok(), at.map(|at| std.remove(at).1.into())),
             1 => kept = (ours.clone(), std.clone()),
             call if call % 8 == 2 => {
-                ours.push_field(&name, number).unwrap();
-                std.push((name.clone(), number));
+                assert_eq!((ours.push_field(&name, number), std.push((name.clone(), number))), (Ok(()), ()));
             }
             call if call % 2 == 1 => {
                 ours.set_field(&name, number).unwrap();
