@@ -149,13 +149,10 @@ fn a_comparison_of_values_needs_no_memory() {
     let (before, held) = (REQUESTS.get(), HELD.get());
     assert!(few[0] == few[1] && few[0] != many[0]);
     assert_eq!(REQUESTS.get() - before, 0);
-    for which in 1.. {
-        REFUSED.set(which);
-        assert!(many[0] == many[1]);
-        assert_eq!(HELD.get(), held);
-        if REFUSED.replace(0) > 0 {
-            assert!((3..9).contains(&which));
-            break;
-        }
-    }
+    let refused = (1..).take_while(|which| {
+        REFUSED.set(*which);
+        assert!(many[0] == many[1] && HELD.get() == held);
+        REFUSED.replace(0) == 0
+    });
+    assert!((2..9).contains(&refused.count()));
 }

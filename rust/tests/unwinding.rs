@@ -130,7 +130,8 @@ fn each(point: &'static LocalKey<Cell<usize>>) {
             let unwinds = catch_unwind(AssertUnwindSafe(|| call(&mut vec))).is_err();
             unwound += unwinds as usize;
             point.set(0);
-            assert!(name != "retain" || !unwinds || std::ptr::eq(point, &DROPS) || vec.len() == 20, "{name} at {which}");
+            let keeps_all = name == "retain" && unwinds && !std::ptr::eq(point, &DROPS);
+            assert!(!keeps_all || vec.len() == 20, "{name} at {which}");
             for item in vec.iter().chain(other.iter().flat_map(|other| other.iter())) {
                 assert!(item.0 == *item.1 && LIVE.with_borrow(|live| live.contains(&item.0)), "{name} at {which}");
             }

@@ -193,9 +193,8 @@ fn equal_values_print_the_same() {
                 let parts = parts.iter().map(|&part| all[if part == other { 0 } else { part }].clone());
                 if named { (names..).map(String::from).zip(parts).collect() } else { parts.collect() }
             };
-            let both = (made(&left, usize::MAX, 'a'), made(&right, other, names));
-            left.push(both.0);
-            right.push(both.1);
+            left.push(made(&left, usize::MAX, 'a'));
+            right.push(made(&right, other, names));
         }
         let printed = |all: &[Value]| all.iter().map(|value| format!("{value:?}")).collect::<Vec<_>>();
         for (one, text) in left.iter().zip(printed(&left)) {
@@ -207,11 +206,6 @@ fn equal_values_print_the_same() {
     }
     assert!(equal > 1000);
     assert_eq!(Value::from([[[0.0]]]), Value::from([[[-0.0]]]));
-}
-
-/// A value in which each level has the one below it twice, so that 7 occurs 2^levels times.
-fn doubled(levels: usize, around: fn(Value) -> Value) -> Value {
-    (0..levels).fold(Value::from(7), |below, _| around(below))
 }
 
 #[test]
@@ -226,7 +220,9 @@ fn a_pair_of_parts_that_occurs_often_is_compared_once() {
     let kinds: [fn(Value) -> Value; 3] = [lists, fields, apart];
     for (kind, around) in kinds.into_iter().enumerate() {
         for levels in [1, 2, 28, 60] {
-            let (value, mut other) = (doubled(levels, around), doubled(levels, around));
+            // Each level has the one below it twice, so 7 occurs 2^levels times.
+            let made = || (0..levels).fold(Value::from(7), |below, _| around(below));
+            let (value, mut other) = (made(), made());
             assert_eq!((value == other, other == value), (true, true), "{kind}, {levels} levels");
             // The first 7 of all, or the last one, becomes an 8.
             for index in [0, value.len() - 1] {
@@ -239,12 +235,9 @@ fn a_pair_of_parts_that_occurs_often_is_compared_once() {
         }
     }
     // A list that holds one list 100,000 times, which has 100,000 numbers.
-    let many = |item: &dyn Fn(i64) -> Value| (0..100_000).map(item).collect::<Value>();
-    let rows = || {
-        let row = many(&Value::from);
-        many(&|_| row.clone())
-    };
-    assert!(rows() == rows());
+    let row = || (0..100_000).map(Value::from).collect();
+    let rows = |row: Value| (0..100_000).map(|_| row.clone()).collect::<Value>();
+    assert!(rows(row()) == rows(row()));
 }
 
 /// A value that nests so deep.
