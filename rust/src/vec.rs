@@ -362,8 +362,7 @@ impl<T: Clone> EcoVec<T> {
     /// # Errors
     /// `Error::Capacity`, `Error::Memory`. The items before the refused one stay.
     ///
-    ///     let mut vec = ecow::eco_vec![1];
-    ///     assert_eq!(vec.try_extend(2..4), Ok(()));
+    ///     let mut vec = ecow::eco_vec![1]; vec.try_extend(2..4).unwrap();
     ///     assert_eq!(vec, [1, 2, 3]);
     pub fn try_extend(&mut self, iter: impl IntoIterator<Item = T>) -> Result<(), Error> {
         Ok(self.0.extend(iter)?)
@@ -385,8 +384,7 @@ impl<T: Copy> EcoVec<T> {
     /// # Errors
     /// `Error::Index` for a range that isn't in the vector; `Error::Capacity`, `Error::Memory`.
     ///
-    ///     let mut vec = ecow::eco_vec![1, 2];
-    ///     assert_eq!(vec.try_extend_from_within(1..), Ok(()));
+    ///     let mut vec = ecow::eco_vec![1, 2]; vec.try_extend_from_within(1..).unwrap();
     ///     assert_eq!(vec, [1, 2, 2]);
     pub fn try_extend_from_within(&mut self, range: impl RangeBounds<usize>) -> Result<(), Error> {
         let range = indices(range, self.len())?;
@@ -397,8 +395,7 @@ impl<T: Copy> EcoVec<T> {
     /// # Errors
     /// `Error::Index`, `Error::Capacity`, `Error::Memory`.
     ///
-    ///     let mut vec = ecow::eco_vec![1, 2];
-    ///     assert_eq!(vec.try_insert_slice(1, &[7, 8]), Ok(()));
+    ///     let mut vec = ecow::eco_vec![1, 2]; vec.try_insert_slice(1, &[7, 8]).unwrap();
     ///     assert_eq!(vec, [1, 7, 8, 2]);
     pub fn try_insert_slice(&mut self, index: usize, slice: &[T]) -> Result<(), Error> {
         inside(index <= self.len())?;
@@ -409,8 +406,7 @@ impl<T: Copy> EcoVec<T> {
     /// # Errors
     /// `Error::Index` for a range that isn't in the vector; `Error::Capacity`, `Error::Memory`.
     ///
-    ///     let mut vec = ecow::eco_vec![1, 2, 3];
-    ///     assert_eq!(vec.try_replace_range(..2, &[7]), Ok(()));
+    ///     let mut vec = ecow::eco_vec![1, 2, 3]; vec.try_replace_range(..2, &[7]).unwrap();
     ///     assert_eq!(vec, [7, 3]);
     pub fn try_replace_range(&mut self, range: impl RangeBounds<usize>, slice: &[T]) -> Result<(), Error> {
         let range = indices(range, self.len())?;
