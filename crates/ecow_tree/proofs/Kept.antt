@@ -154,13 +154,13 @@ module _ {T : Type 0} (is_clone : T → T → Type 0) where
 
   -- a change of the elements of one node is one of all elements
   module _ (nodes : List (Grown T)) (at : ℕ) (node : Grown T) (found : slice_get nodes at ≡ Some node) where
-    abbrev before : List T
+    abbrev pub before : List T
     before = items_of (take at nodes)
 
-    abbrev behind : List T
+    abbrev pub behind : List T
     behind = items_of (drop (suc at) nodes)
 
-    all_kept : (k : List T) → AreKept is_clone node.items k → AreKept is_clone (items_of nodes) (before ++ (k ++ behind))
+    pub all_kept : (k : List T) → AreKept is_clone node.items k → AreKept is_clone (items_of nodes) (before ++ (k ++ behind))
     all_kept k each =
         subst (λ ys. AreKept is_clone ys (before ++ (k ++ behind))) (sym (parted nodes at node found))
         (joined before (node.items ++ behind) before (k ++ behind) (same before) (joined node.items behind k behind each (same behind)))

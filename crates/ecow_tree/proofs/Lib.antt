@@ -1,3 +1,6 @@
+pub mod Concat
+pub mod Cuts
+pub mod Extended
 pub mod Fits
 pub mod Inside
 pub mod Kept

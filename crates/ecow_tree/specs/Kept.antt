@@ -1,7 +1,9 @@
 -- What a change of a tree leaves of its elements: those in blocks that were copied are clones.
-use Rattle.std.specs.Prelude.{◌≡◌, ◌⊎◌, ℕ, List, Some, Result, IfOk, OnOk, slice_get}
+use Rattle.std.specs.Prelude.{◌≡◌, ◌⊎◌, ℕ, List, Some, ◌++◌, Result, IfErr, IfOk, OnErr, OnOk, slice_get}
 use Rattle.std.specs.List.{AllZip, remove}
 use Rattle.ecow_base.specs.Clones.{ClonesAreEqual}
+use Rattle.ecow_list.specs.declared.error.EcoError.{EcoError}
+use Rattle.ecow_list.specs.declared.error.EcoError.TheVariants.{Memory}
 
 module _ {T : Type 0} (is_clone : T → T → Type 0) where
   -- each element is the old one, or a clone of it
@@ -16,10 +18,22 @@ module _ {T : Type 0} (is_clone : T → T → Type 0) where
   abbrev pub AreKeptIn : List T → (List T → List T) → List T → Type 0
   AreKeptIn old change new = SomeKept old (λ kept. new ≡ change kept)
 
+  -- new is the old elements, each of them or a clone of it, and then a clone of each of xs
+  abbrev pub ExtendsKept : List T → List T → List T → Type 0
+  ExtendsKept old xs new =
+      SomeKept old (λ kept. (added : List T) × AllZip is_clone xs added × (new ≡ kept ++ added))
+
   -- value stood at `index` of the old elements, each of them or a clone of it, and new is the others
   abbrev pub Removes : List T → ℕ → T → List T → Type 0
   Removes old index value new =
       SomeKept old (λ kept. (slice_get kept index ≡ Some value) × (new ≡ remove kept index))
+
+  -- a refused call lacked memory, and left each element, or a clone of it
+  pub record RefusesKept {R : Type 0} (old : List T) (result : Result R EcoError) (new : List T)
+      : Type 0 where
+    pub memory : IfErr result (λ error. error ≡ Memory)
+    pub kept : OnErr result (AreKept old new)
+    pub unchanged : ClonesAreEqual is_clone → OnErr result (new ≡ old)
 
 -- what a call that makes `change` of a tree's old elements leaves
 pub record Changes {T R E : Type 0} (is_clone : T → T → Type 0) (old : List T)

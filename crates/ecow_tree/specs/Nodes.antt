@@ -21,6 +21,10 @@ module _ {T : Type 0} where
   abbrev pub AllFit : ℕ → List (Grown T) → Type 0
   AllFit above nodes = AllByRecursion (Fits above) nodes
 
+  -- a node whose nodes below, or which itself, may stand below one of that height
+  abbrev pub CanStand : ℕ → Grown T → Type 0
+  CanStand above node = ((0 < above) × (node.height ≡ above)) ⊎ Fits above node
+
   -- the index `index` of all elements is `rest` in the node at `at`
   pub record LeadsTo (nodes : List (Grown T)) (index at rest : ℕ) : Type 0 where
     pub node : Grown T

@@ -6,6 +6,7 @@ mod copies;
 mod iter;
 mod node;
 mod tree;
+mod whole;
 
 pub use iter::{Chunks, Iter};
 pub use node::Node;

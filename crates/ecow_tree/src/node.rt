@@ -8,6 +8,9 @@ use ecow_list::{EcoError, EcoVec, Rejected};
 use std::alloc::{AllocError, Global};
 use std::marker::Model;
 
+mod concat;
+mod extend;
+mod halves;
 mod insert;
 mod join;
 mod leaf;

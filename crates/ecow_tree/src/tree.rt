@@ -29,7 +29,7 @@ use std::marker::Model;
 #[derive(Drop)]
 pub struct EcoTree<T> {
     /// The node above all others.
-    root: Node<T>,
+    pub(crate) root: Node<T>,
 }
 
 impl<T> Model for EcoTree<T> {

@@ -1,5 +1,6 @@
 //! A node that is too full is parted in two.
-ghost use Rattle.std.specs.Prelude.{◌≡◌, ◌+◌, ◌<◌, ◌≤◌, ◌^◌, ◌++◌, ℕ, length, IsTrue, IfOk, IfSome};
+ghost use Rattle.std.specs.Prelude.{◌≡◌, ◌+◌, ◌<◌, ◌≤◌, ◌^◌, ◌++◌, ℕ, length, IsTrue, IfErr, IfOk, IfSome};
+ghost use Rattle.ecow_list.specs.declared.error.EcoError.TheVariants.{Memory};
 ghost use Rattle.ecow_tree.specs.Nodes.{items_of, tallest, AllFit};
 
 use crate::node::{FAN, Node};
@@ -19,15 +20,22 @@ fn total<T>(nodes: &[Node<T>]) -> usize
 }
 
 /// A node over some nodes, whose blocks it shares.
-fn over_some<T: Drop>(alloc: Global, height: usize, nodes: &[Node<T>]) -> Result<Node<T>, EcoError>
+pub(crate) fn over_some<T: Drop>(
+    alloc: Global,
+    height: usize,
+    nodes: &[Node<T>],
+) -> Result<Node<T>, EcoError>
     requires some { 0 < length nodes.now }
     requires fit { AllFit height nodes.now }
     requires bounded { length (items_of nodes.now) < 2 ^ 64 }
     ensures items { IfOk result (λ node. node.items ≡ items_of nodes.now) }
     ensures height { IfOk result (λ node. node.height ≡ height) }
+    ensures memory { IfErr result (λ error. error ≡ Memory) }
 {
     let len = total(nodes);
-    let nodes = EcoVec::from_slice(alloc, nodes)?;
+    let Ok(nodes) = EcoVec::from_slice(alloc, nodes) else {
+        return Err(EcoError::Memory);
+    };
     Ok(Node::over(height, len, nodes))
 }
 
@@ -43,7 +51,7 @@ fn cut(len: usize, at_end: bool) -> usize
 impl<T: Drop> Node<T> {
     /// Two nodes with the nodes below, where these are too many. The second has a quarter of them
     /// `at_end`, and else a half. `None` also where memory is refused.
-    fn parted(&self, at_end: bool) -> Option<(Node<T>, Node<T>)>
+    pub(crate) fn parted(&self, at_end: bool) -> Option<(Node<T>, Node<T>)>
         ensures items { IfSome result (λ parts. parts.0.items ++ parts.1.items ≡ self.now.items) }
         ensures height { IfSome result
             (λ parts. (parts.0.height ≡ self.now.height) × (parts.1.height ≡ self.now.height)) }
@@ -90,7 +98,7 @@ pub(crate) fn part<T: Drop>(nodes: &mut EcoVec<Node<T>>, at: usize, at_end: bool
 
 /// How high a root may stand. None comes near it, since a node of that height has more elements
 /// than there can be.
-const TALLEST: usize = 32;
+pub(crate) const TALLEST: usize = 32;
 
 impl<T: Drop> Node<T> {
     /// Whether the node has as many elements, or is over as many nodes, as it may.
