@@ -261,6 +261,9 @@ printf '#!/bin/sh\ncat rust/erased.txt\n[ "$WRONG" != audit ] || echo 1\n' > "$w
 counts rust_gate.sh "$((6 * $(git ls-files ':(glob)rust/tests/*.rs' | wc -l))) tests" \
     "$(wc -l < rust/erased.txt) lines of rust/erased.txt"
 sees "left-out empty status warning example audit" rust_gate.sh
+
+# A check is skipped only where a program is missing.
+refuses counts.sh dist.sh skipped sh
 [ "$checked" -gt 0 ] || { echo "no check was tried"; exit 1; }
 echo "$checked checks refuse what they must not pass"
 tools/gate/counts.sh agree_checks.sh "$checked refused"

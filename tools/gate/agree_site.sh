@@ -47,8 +47,8 @@ tools/gate/counts.sh agree_site.sh "$calls calls" "$lost losses seen"
 
 command -v python3 > "$work/said" || {
     echo "words and pictures were not compared: this machine has no python3"
-    tools/gate/counts.sh site_pages.py skipped
-    tools/gate/counts.sh pictures.py skipped
+    tools/gate/counts.sh site_pages.py skipped python3
+    tools/gate/counts.sh pictures.py skipped python3
     exit 0
 }
 tools/ship/site_pages.py --check > "$work/words" || { cat "$work/words"; exit 1; }

@@ -1,7 +1,8 @@
 #!/bin/sh
 # Compares how much a check has compared with tools/gate/counts.txt: tools/gate/counts.sh CHECK "NUMBER WHAT" .., or
-# CHECK skipped where this machine lacks what it needs. With no words, the gate's last step, it compares what all checks
-# said since `make agree` began, so that one that said nothing is seen.
+# CHECK skipped PROGRAM .. where this machine lacks what it needs; if programs are named, one of them must be missing.
+# With no words, the gate's last step, it compares what all checks said since `make agree` began, so that one that said
+# nothing is seen.
 set -eu
 cd "$(dirname "$0")/../.."
 mkdir -p bin
@@ -11,6 +12,13 @@ if [ $# -gt 0 ]; then
     said=bin/counts.$$
     trap 'rm "$said"' EXIT
     shift
+    if [ "$1" = skipped ] && [ $# -gt 1 ]; then
+        shift
+        lacks=
+        for program; do command -v "$program" > /dev/null || lacks=$program; done
+        [ -n "$lacks" ] || { echo "$check was skipped, and this machine has $*"; exit 1; }
+        set -- skipped
+    fi
     for count; do echo "$check $count"; done > "$said"
     cat "$said" >> bin/counts
 fi
