@@ -39,13 +39,14 @@ pub(crate) fn over_some<T: Drop>(
     Ok(Node::over(height, len, nodes))
 }
 
-/// Where so many nodes are parted: a quarter of a full node before the end, or in the middle.
+/// Where so many nodes are parted: a quarter of a full node before the end, or in the middle. The
+/// nodes of two that were joined may be too many to leave all others in the first part.
 fn cut(len: usize, at_end: bool) -> usize
     requires { 16 ≤ len }
     ensures front { 4 ≤ result }
     ensures back { result + 4 ≤ len }
 {
-    if at_end { len - FAN / 4 } else { len / 2 }
+    if at_end && len < FAN + FAN / 4 { len - FAN / 4 } else { len / 2 }
 }
 
 impl<T: Drop> Node<T> {
