@@ -46,7 +46,11 @@ fn cut(len: usize, at_end: bool) -> usize
     ensures front { 4 ≤ result }
     ensures back { result + 4 ≤ len }
 {
-    if at_end && len < FAN + FAN / 4 { len - FAN / 4 } else { len / 2 }
+    if at_end && len < FAN + FAN / 4 {
+        len - FAN / 4
+    } else {
+        len / 2
+    }
 }
 
 impl<T: Drop> Node<T> {
