@@ -63,6 +63,9 @@ MACROS = {"unreachable", "open", "write", "macro_rules", "base", "guarded", "are
 FOREIGN = re.compile(r"\b(ghost|requires|ensures|invariant|decreases|Model|Brand|Drop(?! for)|AsSlice|AsStr|tactic|cycle"
                      r"|DerefSlice|DerefStr|push_reserved)\b|[^\x00-\x7f]")
 
+# A file that is marked as left out, and isn't: trees cut their leaves by a call of it.
+NEEDED = {"ecow_list/vec/split.rt"}
+
 # What a mark does to the line below it: the words of the mark, what that line must be, and what stands there then.
 # `// rust: no file: WHY`, the first line of a file, leaves the file out, and any other mark is itself the line that Rust
 # gets in the place of the line below it.
@@ -346,6 +349,8 @@ def main():
                 path = "%s/%s" % (crate, os.path.relpath(os.path.join(at, file), top))
                 with open(os.path.join(at, file), encoding="utf-8") as source:
                     text = source.read()
+                if path in NEEDED:
+                    text = text.partition("\n")[2]
                 if text.startswith("// rust: no file: "):
                     LEFT_OUT.add(path)
                 else:
