@@ -71,6 +71,16 @@ const char ecow_library_counts_owners_atomically = 1;
 #define CALL(name) JOINED(ecow_, KIND, _##name)
 #define PROVED(name) JOINED(ecow_proved_, KIND, _##name)
 
+#define SIZED
+#define SLICE(array, len) ecow_array_slice(array, 1, len)
+#define KIND array
+#define ITEM void
+#include "sized.h"
+#include "values.h"
+#undef SIZED
+#undef SLICE
+
+#define SLICE CALL(slice)
 #define CAN_CUT(value, index) true
 #define KIND list
 #define ITEM int64_t

@@ -1,5 +1,6 @@
 /* What the static library of the crate `ecow_c` exports. Its contracts stand in the crate's source.
- * A value is given by the address of a pointer to it, and an array by its start and its count.
+ * A value is given by the address of a pointer to it, and an array by its start and its count, which
+ * is of bytes for an `ecow_array`.
  * `ecow.h` declares `_clone` and `_drop`, and reads what `_len`, `_slice` and `_at` answer. */
 #ifndef ECOW_PROVED_H
 #define ECOW_PROVED_H
@@ -36,6 +37,23 @@
 PROVED_CALLS(list)
 PROVED_ARRAYS(list, int64_t)
 PROVED_ITEMS(list, int64_t)
+
+ecow_status ecow_proved_array_assign(ecow_array **value, size_t size, const void *items,
+                                     size_t count);
+ecow_status ecow_proved_array_set(ecow_array **value, size_t index, const void *item, size_t size);
+ecow_status ecow_proved_array_push(ecow_array **value, const void *item, size_t size);
+ecow_status ecow_proved_array_remove(ecow_array **value, size_t index, void *out, size_t size);
+ecow_status ecow_proved_array_truncate(ecow_array **value, size_t size, size_t len);
+ecow_status ecow_proved_array_clear(ecow_array **value);
+ecow_status ecow_proved_array_reserve(ecow_array **value, size_t size, size_t additional);
+size_t ecow_proved_array_capacity(ecow_array **value, size_t size);
+ecow_status ecow_proved_array_shrink_to_fit(ecow_array **value);
+ecow_status ecow_proved_array_extend(ecow_array **value, size_t size, const void *items,
+                                     size_t count);
+ecow_status ecow_proved_array_splice(ecow_array **value, size_t size, size_t start, size_t end,
+                                     const void *items, size_t count);
+bool ecow_proved_array_equal(ecow_array **left, ecow_array **right);
+uint64_t ecow_proved_array_hash(ecow_array **value);
 
 PROVED_CALLS(bytes)
 PROVED_ARRAYS(bytes, uint8_t)

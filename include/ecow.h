@@ -1,5 +1,5 @@
-/* Lists of numbers, bytes, texts, lists of texts and nested values, whose clones share memory until
- * one of them is changed.
+/* Lists of numbers, arrays of items of any type, bytes, texts, lists of texts and nested values, whose
+ * clones share memory until one of them is changed.
  *
  * Values. A value is a struct of this header, in memory of yours: on the stack, in another struct,
  * in an array. Zeroed memory is an empty value (`ecow_list list = {0};`). A value that isn't empty
@@ -22,12 +22,12 @@
  *
  * Arrays. An array may lie in the value that a call changes, or overlap its struct. One of 2^60
  * items or more isn't read, since no memory holds it: `ECOW_CAPACITY` where the length would pass
- * 2^63 - 1, and else `ECOW_MEMORY`. `ecow_text_replace` and calls by a field's name answer it with
+ * 2^63 - 1, and else `ECOW_MEMORY`. Of an `ecow_array` these numbers count bytes. `ecow_text_replace` and calls by a field's name answer it with
  * `ECOW_MEMORY` alone.
  *
  * Lifetimes. What a `_slice` returns stays valid until the next call that changes or drops that
- * value, or until the value is moved. It is never null. Numbers are aligned as `int64_t` is, bytes
- * aren't.
+ * value, or until the value is moved. It is never null. Numbers are aligned as `int64_t` is, items of
+ * an `ecow_array` to 16 bytes, and bytes aren't.
  *
  * Threads. A value is in one call at a time, whichever thread makes it, and calls that read count
  * too: between two calls from different threads stands a lock, a queue, or a thread's start or
@@ -103,7 +103,7 @@ typedef enum ecow_status {
     ECOW_BOUNDARY = 4,  /* An index is inside a character. */
     ECOW_UTF8 = 5,      /* The bytes are no UTF-8, or the number is no character. */
     ECOW_NULL = 6,      /* A pointer that is needed is null. */
-    ECOW_KIND = 7,      /* The nested value is of another kind. */
+    ECOW_KIND = 7,      /* The nested value is of another kind, or the items of another size. */
     ECOW_INNER_NUL = 8, /* The text has a 0 inside, so no string of C holds it. */
     ECOW_DEPTH = 9      /* The nested value would nest deeper than ECOW_MAX_DEPTH. */
 } ecow_status;
@@ -122,6 +122,10 @@ static __inline__ void ecow_ignore(ecow_status status) {
 typedef struct ecow_list {
     uint64_t word[1];
 } ecow_list;
+
+typedef struct ecow_array {
+    uint64_t word[1];
+} ecow_array;
 
 typedef struct ecow_bytes {
     uint64_t word[2];
@@ -218,6 +222,94 @@ int ecow_list_compare(const ecow_list *left, const ecow_list *right);
 
 /* A hash. Equal values have the same. */
 uint64_t ecow_list_hash(const ecow_list *list);
+
+/* ---- Arrays: lists of items of any type ---- */
+
+/* An item is `size` bytes, such as a struct or a `double`: `size` is its `sizeof`, and its alignment
+ * at most 16. Items are copied as bytes. So they own nothing that has to be given up, and two arrays
+ * are equal where all their bytes are, those of padding too.
+ *
+ * An array is empty, or of one size. ECOW_KIND where `size` is 0, and where it doesn't divide the
+ * array's bytes. An item may lie in the array that a call changes. ECOW_ARRAY below makes calls for
+ * one type. */
+
+/* An empty value. */
+ecow_array ecow_array_new(void);
+
+/* Gives the value's memory up, and leaves it empty. */
+ECOW_INLINE void ecow_array_drop(ecow_array *array);
+
+/* Makes `to` a clone of `from`. What it held is given up. */
+ECOW_CHECKED ECOW_INLINE ecow_status ecow_array_clone(ecow_array *to, const ecow_array *from);
+
+/* Makes it a copy of `count` items. */
+ECOW_CHECKED ecow_status ecow_array_assign(ecow_array *array, size_t size, const void *items,
+                                           size_t count);
+
+/* How many items there are; 0 of a size of 0. */
+ECOW_INLINE size_t ecow_array_len(const ecow_array *array, size_t size);
+
+/* The items, to read, and how many there are. */
+ECOW_INLINE const void *ecow_array_slice(const ecow_array *array, size_t size, size_t *len);
+
+/* Where the item at `index` lies, to read, as in what `ecow_array_slice` returns; NULL from the
+ * length on. */
+ECOW_INLINE const void *ecow_array_at(const ecow_array *array, size_t size, size_t index);
+
+/* The items, to write in place, and how many there are, as `ecow_list_edit` lends numbers. */
+ECOW_CHECKED ecow_status ecow_array_edit(ecow_array *array, size_t size, void **items, size_t *len);
+
+/* Writes the item at `index`: ECOW_INDEX from the length on. */
+ECOW_CHECKED ecow_status ecow_array_set(ecow_array *array, size_t size, size_t index,
+                                        const void *item);
+
+/* Appends an item. */
+ECOW_CHECKED ecow_status ecow_array_push(ecow_array *array, size_t size, const void *item);
+
+/* Takes the last item: ECOW_INDEX where there is none. */
+ECOW_CHECKED ecow_status ecow_array_pop(ecow_array *array, size_t size, void *item);
+
+/* Puts an item in at `index`, before the one that stands there: ECOW_INDEX past the length. */
+ECOW_CHECKED ecow_status ecow_array_insert(ecow_array *array, size_t size, size_t index,
+                                           const void *item);
+
+/* Takes the item at `index`: ECOW_INDEX from the length on. */
+ECOW_CHECKED ecow_status ecow_array_remove(ecow_array *array, size_t size, size_t index,
+                                           void *item);
+
+/* Keeps the first `len` items, or all where there are fewer. */
+ECOW_CHECKED ecow_status ecow_array_truncate(ecow_array *array, size_t size, size_t len);
+
+/* Keeps none. Memory that no clone shares is kept for what comes. */
+ecow_status ecow_array_clear(ecow_array *array);
+
+/* Makes room for `additional` more. */
+ECOW_CHECKED ecow_status ecow_array_reserve(ecow_array *array, size_t size, size_t additional);
+
+/* How many items there is room for, never fewer than there are; 0 of a size of 0. */
+size_t ecow_array_capacity(const ecow_array *array, size_t size);
+
+/* Gives up room that isn't used, unless another value shares the memory. */
+ECOW_CHECKED ecow_status ecow_array_shrink_to_fit(ecow_array *array);
+
+/* Appends `count` items: all or none. */
+ECOW_CHECKED ecow_status ecow_array_extend(ecow_array *array, size_t size, const void *items,
+                                           size_t count);
+
+/* Puts `count` items in place of those from `start` up to `end`, which isn't included: ECOW_INDEX
+ * where `start` passes `end`, or `end` the length. */
+ECOW_CHECKED ecow_status ecow_array_splice(ecow_array *array, size_t size, size_t start, size_t end,
+                                           const void *items, size_t count);
+
+/* Whether both stand in the same memory, and so are equal: not so where they hold nothing, or where
+ * they take no memory, or a pointer is null. */
+bool ecow_array_shares(const ecow_array *left, const ecow_array *right);
+
+/* Whether both have the same bytes. A null pointer equals a null pointer alone. */
+bool ecow_array_equal(const ecow_array *left, const ecow_array *right);
+
+/* A hash of the bytes. Equal values have the same. */
+uint64_t ecow_array_hash(const ecow_array *array);
 
 /* ---- Bytes: at most 15 take no memory beside the value ---- */
 
@@ -672,8 +764,8 @@ uint64_t ecow_value_hash(const ecow_value *value);
 
 /* ---- The library's own ---- */
 
-/* How values lie in memory, for the calls that read them where they stand. The word of a list is the
- * address of a head, or 0 where there is none. The first byte of bytes and texts says what the others
+/* How values lie in memory, for the calls that read them where they stand. The word of a list
+ * or an array is the address of a head, or 0 where there is none. The first byte of bytes and texts says what the others
  * are: 0, up to 14 items, and in the last byte how many; 1, 15 items; 2, in the second word such an
  * address or 0. */
 typedef struct ecow_head {
@@ -722,6 +814,28 @@ ECOW_READ_SMALL(text, char)
 ECOW_READ(texts, ecow_text, word[0], byte, 0)
 #undef ECOW_READ_SMALL
 #undef ECOW_READ
+
+/* The head of an array counts bytes. */
+ECOW_INLINE const void *ecow_array_slice(const ecow_array *array, size_t size, size_t *len) {
+    static const uint64_t nothing[2] __attribute__((__aligned__(16))) = {0};
+    const ecow_head *head = ECOW_AT(ecow_head, array ? array->word[0] : 0);
+    if (len) {
+        *len = head && size ? head->len / size : 0;
+    }
+    return head ? head->items : nothing;
+}
+
+ECOW_INLINE size_t ecow_array_len(const ecow_array *array, size_t size) {
+    size_t len;
+    (void)ecow_array_slice(array, size, &len);
+    return len;
+}
+
+ECOW_INLINE const void *ecow_array_at(const ecow_array *array, size_t size, size_t index) {
+    size_t len;
+    const char *start = ECOW_IN(char, ecow_array_slice(array, size, &len));
+    return index < len ? start + index * size : NULL;
+}
 #undef ECOW_AT
 #undef ECOW_IN
 
@@ -749,12 +863,75 @@ ECOW_INLINE const char *ecow_texts_at(const ecow_texts *texts, size_t index, siz
     }
 
 ECOW_EXPANDED(list)
+ECOW_EXPANDED(array)
 ECOW_EXPANDED(bytes)
 ECOW_EXPANDED(text)
 ECOW_EXPANDED(texts)
 ECOW_EXPANDED(value)
 #undef ECOW_EXPANDED
 #undef ECOW_INLINE
+
+/* Makes the calls on arrays for one type: after `ECOW_ARRAY(points, struct point)`,
+ * `points_push(&array, one)` is `ecow_array_push(&array, sizeof(struct point), &one)`. An item goes in
+ * by value. A type that is aligned to more than 16 isn't compiled. */
+#define ECOW_ARRAY(name, type)                                                                    \
+    typedef char name##_is_aligned_to_16_at_most[__alignof__(type) <= 16 ? 1 : -1];               \
+                                                                                                  \
+    ECOW_TYPED size_t name##_len(const ecow_array *array) {                                       \
+        return ecow_array_len(array, sizeof(type));                                               \
+    }                                                                                             \
+                                                                                                  \
+    ECOW_TYPED const type *name##_slice(const ecow_array *array, size_t *len) {                   \
+        return (const type *)ecow_array_slice(array, sizeof(type), len);                          \
+    }                                                                                             \
+                                                                                                  \
+    ECOW_TYPED const type *name##_at(const ecow_array *array, size_t index) {                     \
+        return (const type *)ecow_array_at(array, sizeof(type), index);                           \
+    }                                                                                             \
+                                                                                                  \
+    ECOW_CHECKED ECOW_TYPED ecow_status name##_edit(ecow_array *array, type **items,              \
+                                                    size_t *len) {                                \
+        void *all = NULL;                                                                         \
+        ecow_status status = ecow_array_edit(array, sizeof(type), &all, len);                     \
+        if (status == ECOW_OK && items) {                                                         \
+            *items = (type *)all;                                                                 \
+        }                                                                                         \
+        return status;                                                                            \
+    }                                                                                             \
+                                                                                                  \
+    ECOW_CHECKED ECOW_TYPED ecow_status name##_set(ecow_array *array, size_t index, type item) {  \
+        return ecow_array_set(array, sizeof(type), index, &item);                                 \
+    }                                                                                             \
+                                                                                                  \
+    ECOW_CHECKED ECOW_TYPED ecow_status name##_push(ecow_array *array, type item) {               \
+        return ecow_array_push(array, sizeof(type), &item);                                       \
+    }                                                                                             \
+                                                                                                  \
+    ECOW_CHECKED ECOW_TYPED ecow_status name##_pop(ecow_array *array, type *item) {               \
+        return ecow_array_pop(array, sizeof(type), item);                                         \
+    }                                                                                             \
+                                                                                                  \
+    ECOW_CHECKED ECOW_TYPED ecow_status name##_insert(ecow_array *array, size_t index,            \
+                                                      type item) {                                \
+        return ecow_array_insert(array, sizeof(type), index, &item);                              \
+    }                                                                                             \
+                                                                                                  \
+    ECOW_CHECKED ECOW_TYPED ecow_status name##_remove(ecow_array *array, size_t index,            \
+                                                      type *item) {                               \
+        return ecow_array_remove(array, sizeof(type), index, item);                               \
+    }                                                                                             \
+                                                                                                  \
+    ECOW_CHECKED ECOW_TYPED ecow_status name##_extend(ecow_array *array, const type *items,       \
+                                                      size_t count) {                             \
+        return ecow_array_extend(array, sizeof(type), items, count);                              \
+    }                                                                                             \
+                                                                                                  \
+    ECOW_CHECKED ECOW_TYPED ecow_status name##_splice(ecow_array *array, size_t start,            \
+                                                      size_t end, const type *items,              \
+                                                      size_t count) {                             \
+        return ecow_array_splice(array, sizeof(type), start, end, items, count);                  \
+    }
+#define ECOW_TYPED static __inline__ __attribute__((__unused__))
 
 #ifdef __cplusplus
 }

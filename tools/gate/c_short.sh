@@ -93,7 +93,7 @@ if has nm nm --version; then
     {
         sed -n '/^static /d; s/^[a-zE].*[ *]\(ecow_[a-z0-9_]*\)(.*/\1/p' include/ecow.h
         sed -n "s/^    &\(ecow_library_counts_.*\);/\1/p" include/ecow.h | sed "$needed!d"
-        for kind in list bytes text texts value; do
+        for kind in list array bytes text texts value; do
             printf '%s\n' "ecow_proved_${kind}_clone" "ecow_proved_${kind}_drop"
         done
     } | sort -u > "$out/declared"

@@ -1,3 +1,4 @@
+pub mod Items
 pub mod Lent
 pub mod Spliced
 pub mod Tails

@@ -1,4 +1,5 @@
 pub mod Answers
+pub mod Arrays
 pub mod Indices
 pub mod Lends
 pub mod Paths

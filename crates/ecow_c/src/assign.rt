@@ -4,10 +4,12 @@ ghost use Rattle.std.specs.Prelude.{◌≡◌, ◌↔◌, ◌<◌, ◌∷◌, []
 ghost use Rattle.std.specs.Str.{chars, is_utf8};
 ghost use Rattle.ecow_nested.specs.Values.{kind_of};
 ghost use Rattle.ecow_nested.specs.declared.value.Kind.TheVariants as kind;
+ghost use Rattle.ecow_c.specs.Arrays.{AltersArray, are_items};
 ghost use Rattle.ecow_c.specs.Answers.{Alters, AltersBytes, AltersList, AltersText, AltersTexts, IsAmong, ReadsTo, RefusesPast};
 
-use crate::pointer::{BytesPointer, ListPointer, TextPointer, TextsPointer, ValuePointer};
-use crate::status::{CAPACITY, MEMORY, NULL, OK, UTF8, put, some_or};
+use crate::pointer::{ArrayPointer, BytesPointer, ListPointer, TextPointer, TextsPointer, ValuePointer};
+use crate::elements::arrays::are_items;
+use crate::status::{CAPACITY, KIND, MEMORY, NULL, OK, UTF8, put, some_or};
 use crate::text::to_str;
 use crate::value::assign;
 use ecow_base::MAX_LEN;
@@ -30,6 +32,28 @@ pub extern "C" fn ecow_proved_list_assign(
 {
     let list = some_or!(pointer.list(), NULL);
     put(EcoVec::from_copied(alloc, numbers), list)
+}
+
+/// Replaces the items by copies of the items `added`, of `size` bytes each.
+#[unsafe(no_mangle)]
+pub extern "C" fn ecow_proved_array_assign(
+    alloc: Global,
+    pointer: &mut ArrayPointer,
+    size: usize,
+    added: &[u8],
+) -> u32
+    ensures bytes { AltersArray (λ _. added.now) pointer.old.value result pointer.new.value }
+    ensures statuses { IsAmong (OK ∷ MEMORY ∷ CAPACITY ∷ KIND ∷ NULL ∷ []) result }
+    ensures kind { result ≡ KIND
+        ↔ IsSomeAnd pointer.old.value (λ _. are_items size added.now ≡ false) }
+    ensures capacity { result ≡ CAPACITY ↔ IsSomeAnd pointer.old.value
+        (λ _. (are_items size added.now ≡ true) × (MAX_LEN < length added.now)) }
+{
+    let array = some_or!(pointer.array(), NULL);
+    if !are_items(added, size) {
+        return KIND;
+    }
+    put(EcoVec::from_copied(alloc, added), array)
 }
 
 /// Replaces the bytes by a copy of `added`.
@@ -73,6 +97,16 @@ pub extern "C" fn ecow_proved_list_clone(from: &mut ListPointer, to: &mut ListPo
 {
     let to = some_or!(to.list(), NULL);
     put(some_or!(from.list(), NULL).clone(), to)
+}
+
+/// Replaces the array at `to` by a clone of the array at `from`, which shares its block.
+#[unsafe(no_mangle)]
+pub extern "C" fn ecow_proved_array_clone(from: &mut ArrayPointer, to: &mut ArrayPointer) -> u32
+    ensures array { ReadsTo Some from.old.value result from.new.value to.old.value to.new.value }
+    ensures statuses { IsAmong (OK ∷ MEMORY ∷ NULL ∷ []) result }
+{
+    let to = some_or!(to.array(), NULL);
+    put(some_or!(from.array(), NULL).clone(), to)
 }
 
 /// Replaces the bytes at `to` by a clone of the bytes at `from`, which shares their block.
@@ -126,6 +160,17 @@ pub extern "C" fn ecow_proved_list_drop(alloc: Global, pointer: &mut ListPointer
     OK
 }
 
+/// Drops the array and leaves an empty one.
+#[unsafe(no_mangle)]
+pub extern "C" fn ecow_proved_array_drop(alloc: Global, pointer: &mut ArrayPointer) -> u32
+    ensures array { AltersArray (λ _. []) pointer.old.value result pointer.new.value }
+    ensures statuses { IsAmong (OK ∷ NULL ∷ []) result }
+{
+    let array = some_or!(pointer.array(), NULL);
+    *array = EcoVec::new(alloc);
+    OK
+}
+
 /// Drops the bytes and leaves empty ones.
 #[unsafe(no_mangle)]
 pub extern "C" fn ecow_proved_bytes_drop(alloc: Global, pointer: &mut BytesPointer) -> u32
@@ -175,6 +220,16 @@ pub extern "C" fn ecow_proved_list_clear(pointer: &mut ListPointer) -> u32
     ensures statuses { IsAmong (OK ∷ NULL ∷ []) result }
 {
     some_or!(pointer.list(), NULL).clear();
+    OK
+}
+
+/// Removes all items. A block that no other array shares is kept, with its capacity.
+#[unsafe(no_mangle)]
+pub extern "C" fn ecow_proved_array_clear(pointer: &mut ArrayPointer) -> u32
+    ensures array { AltersArray (λ _. []) pointer.old.value result pointer.new.value }
+    ensures statuses { IsAmong (OK ∷ NULL ∷ []) result }
+{
+    some_or!(pointer.array(), NULL).clear();
     OK
 }
 

@@ -6,10 +6,11 @@ ghost use Rattle.std.specs.Ordering.{int_eq, int_cmp, nat_cmp};
 ghost use Rattle.std.specs.Str.{encode_utf8_all};
 ghost use Rattle.ecow_bytes.specs.Hashes.{hash_writes};
 ghost use Rattle.ecow_nested.specs.Values.{value_eq};
+ghost use Rattle.ecow_c.specs.Arrays.{array_at};
 ghost use Rattle.ecow_c.specs.Answers.{are_equal, bytes_at, chars_at, hash_of, numbers_at, order_of, texts_at};
 ghost use Rattle.ecow_c.specs.Texts.{text_cmp, text_eq, text_fed};
 
-use crate::pointer::{BytesPointer, ListPointer, TextPointer, TextsPointer, ValuePointer};
+use crate::pointer::{ArrayPointer, BytesPointer, ListPointer, TextPointer, TextsPointer, ValuePointer};
 use crate::status::{order, some_or};
 use ecow_bytes::EcoBytes;
 use ecow_list::EcoVec;
@@ -60,6 +61,16 @@ pub extern "C" fn ecow_proved_list_equal(left: &mut ListPointer, right: &mut Lis
     ensures unchanged { (left.new.value ≡ left.old.value) × (right.new.value ≡ right.old.value) }
 {
     equal!(left.list(), right.list(); one, other => *one == *other)
+}
+
+/// Whether two arrays have the same bytes. A null pointer equals only a null pointer.
+#[unsafe(no_mangle)]
+pub extern "C" fn ecow_proved_array_equal(left: &mut ArrayPointer, right: &mut ArrayPointer) -> bool
+    ensures equal { result
+        ≡ are_equal (pointwise nat_eq) left.old.value right.old.value }
+    ensures unchanged { (left.new.value ≡ left.old.value) × (right.new.value ≡ right.old.value) }
+{
+    equal!(left.array(), right.array(); one, other => one.as_slice() == other.as_slice())
 }
 
 /// Whether two values hold the same bytes. A null pointer equals only a null pointer.
@@ -155,6 +166,15 @@ pub extern "C" fn ecow_proved_list_hash(alloc: Global, pointer: &mut ListPointer
     ensures unchanged { pointer.new.value ≡ pointer.old.value }
 {
     hash!(pointer.list(), EcoVec::<i64>::new(alloc))
+}
+
+/// The hash of the bytes of the items, by std's hasher. Equal arrays have equal hashes.
+#[unsafe(no_mangle)]
+pub extern "C" fn ecow_proved_array_hash(alloc: Global, pointer: &mut ArrayPointer) -> u64
+    ensures hash { result ≡ hash_of (hash_writes (array_at pointer.old.value)) }
+    ensures unchanged { pointer.new.value ≡ pointer.old.value }
+{
+    hash!(pointer.array(), EcoVec::<u8>::new(alloc))
 }
 
 /// The hash of the bytes, by std's hasher. Equal bytes have equal hashes.

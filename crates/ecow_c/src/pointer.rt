@@ -3,12 +3,12 @@
 ghost use Rattle.std.specs.Borrow.{sem};
 ghost use Rattle.std.specs.Coded.{coded_option};
 ghost use Rattle.std.specs.Option.{option_map};
-ghost use Rattle.std.specs.Prelude.{◌≡◌, ℤ, List, Option};
+ghost use Rattle.std.specs.Prelude.{◌≡◌, ℕ, ℤ, List, Option};
 ghost use Rattle.ecow_base.specs.declared.plain.PlainBytes.{PlainBytes};
 ghost use Rattle.ecow_base.specs.declared.plain.PlainText.{PlainText};
 ghost use Rattle.ecow_nested.specs.declared.value.Value.{Value};
 ghost use Rattle.ecow_c.specs.Pointers.{pointer_owns};
-ghost use Rattle.ecow_c.specs.Rows.{list_row, bytes_row, text_row, texts_row, value_row};
+ghost use Rattle.ecow_c.specs.Rows.{list_row, array_row, bytes_row, text_row, texts_row, value_row};
 
 use ecow_bytes::EcoBytes;
 use ecow_list::EcoVec;
@@ -42,6 +42,34 @@ impl ListPointer {
             return None;
         }
         Some(unsafe { &mut *(self.at as *mut EcoVec<i64>) })
+    }
+}
+
+const _: () = prove!(size_of::<EcoVec<u8>>() == 8);
+
+/// A pointer to an `EcoVec<u8>`, the struct `ecow_array` of the header.
+#[repr(C)]
+pub struct ArrayPointer {
+    at: *mut u8,
+    pub ghost value: { Option (List ℕ) } by { coded_option array_row.coded },
+}
+
+impl Model for ArrayPointer {
+    ghost also_owns = { λ pointer. pointer_owns array_row pointer.at pointer.value };
+}
+
+impl ArrayPointer {
+    ghost use Rattle.ecow_c.specs.Lends.{lends_array};
+
+    /// The bytes of the items, unless the pointer is null.
+    pub fn array(&mut self) -> Option<&mut EcoVec<u8>>
+        ensures* writes_back { sem 𝓛 (lends_array self.entry result) }
+        ensures value { option_map (λ array. array.now) result ≡ self.old.value }
+    {
+        if self.at.is_null() {
+            return None;
+        }
+        Some(unsafe { &mut *(self.at as *mut EcoVec<u8>) })
     }
 }
 

@@ -1,11 +1,14 @@
 //! The calls that tell the capacity, reserve more, and shrink it. The capacity of a text counts
 //! bytes.
-ghost use Rattle.std.specs.Prelude.{◌≡◌, ◌≤◌, ◌+◌, ◌∷◌, [], length};
+ghost use Rattle.std.specs.Prelude.{◌≡◌, ◌↔◌, ◌≤◌, ◌<◌, ◌+◌, ◌*◌, ◌∷◌, [], length};
 ghost use Rattle.ecow_base.specs.Utf8.{utf8_len};
+ghost use Rattle.ecow_c.specs.Arrays.{AltersArray, HasItemsAnd, RefusesSize, are_items, array_at, count_in};
 ghost use Rattle.ecow_c.specs.Answers.{AltersBytes, AltersList, AltersText, AltersTexts, IsAmong, RefusesPast, bytes_at, chars_at, numbers_at, texts_at};
 
-use crate::pointer::{BytesPointer, ListPointer, TextPointer, TextsPointer};
-use crate::status::{CAPACITY, IntoStatus, MEMORY, NULL, OK, ok_or_status, some_or, status};
+use crate::pointer::{ArrayPointer, BytesPointer, ListPointer, TextPointer, TextsPointer};
+use crate::elements::arrays::{are_items, reserve_first};
+use crate::status::{CAPACITY, IntoStatus, KIND, MEMORY, NULL, OK, ok_or_status, some_or, status};
+use ecow_base::MAX_LEN;
 use ecow_list::EcoVec;
 use std::alloc::Global;
 
@@ -16,6 +19,16 @@ pub extern "C" fn ecow_proved_list_capacity(pointer: &mut ListPointer) -> usize
     ensures unchanged { pointer.new.value ≡ pointer.old.value }
 {
     some_or!(pointer.list(), 0).capacity()
+}
+
+/// The capacity in items of `size` bytes, which is at least the length; 0 for a null pointer, and
+/// for a size of 0.
+#[unsafe(no_mangle)]
+pub extern "C" fn ecow_proved_array_capacity(pointer: &mut ArrayPointer, size: usize) -> usize
+    ensures room { 0 < size → count_in size (array_at pointer.old.value) ≤ result }
+    ensures unchanged { pointer.new.value ≡ pointer.old.value }
+{
+    some_or!(pointer.array(), 0).capacity().checked_div(size).unwrap_or(0)
 }
 
 /// The capacity in bytes, which is at least the length; 0 for a null pointer.
@@ -53,6 +66,28 @@ pub extern "C" fn ecow_proved_list_reserve(pointer: &mut ListPointer, additional
     ensures capacity { RefusesPast (λ xs. length xs + additional) pointer.old.value result }
 {
     status(some_or!(pointer.list(), NULL).reserve(additional))
+}
+
+/// Reserves capacity for `additional` more items of `size` bytes.
+#[unsafe(no_mangle)]
+pub extern "C" fn ecow_proved_array_reserve(
+    pointer: &mut ArrayPointer,
+    size: usize,
+    additional: usize,
+) -> u32
+    ensures array { AltersArray (λ bytes. bytes) pointer.old.value result pointer.new.value }
+    ensures statuses { IsAmong (OK ∷ MEMORY ∷ CAPACITY ∷ KIND ∷ NULL ∷ []) result }
+    ensures kind { RefusesSize size pointer.old.value result }
+    ensures capacity { result ≡ CAPACITY ↔ HasItemsAnd size pointer.old.value
+        (λ bytes. MAX_LEN < length bytes + additional * size) }
+{
+    let array = some_or!(pointer.array(), NULL);
+    if !are_items(array.as_slice(), size) {
+        return KIND;
+    }
+    let added = some_or!(additional.checked_mul(size), CAPACITY);
+    ok_or_status!(reserve_first(array, size, added));
+    status(array.reserve(added))
 }
 
 /// Reserves capacity for `additional` more bytes.
@@ -100,6 +135,22 @@ pub extern "C" fn ecow_proved_list_shrink_to_fit(alloc: Global, pointer: &mut Li
     let mut copy = ok_or_status!(EcoVec::with_capacity(alloc, list.len()));
     ok_or_status!(copy.extend_from_copied(list.as_slice()));
     *list = copy;
+    OK
+}
+
+/// Shrinks the capacity to what the array needs, unless another array shares the block.
+#[unsafe(no_mangle)]
+pub extern "C" fn ecow_proved_array_shrink_to_fit(alloc: Global, pointer: &mut ArrayPointer) -> u32
+    ensures array { AltersArray (λ bytes. bytes) pointer.old.value result pointer.new.value }
+    ensures statuses { IsAmong (OK ∷ MEMORY ∷ NULL ∷ []) result }
+{
+    let array = some_or!(pointer.array(), NULL);
+    if array.capacity() == array.len() || !array.is_unique() {
+        return OK;
+    }
+    let mut copy = ok_or_status!(EcoVec::with_capacity(alloc, array.len()));
+    ok_or_status!(copy.extend_from_copied(array.as_slice()));
+    *array = copy;
     OK
 }
 
