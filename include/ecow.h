@@ -889,6 +889,10 @@ ECOW_EXPANDED(value)
         return (const type *)ecow_array_at(array, sizeof(type), index);                           \
     }                                                                                             \
                                                                                                   \
+    ECOW_TYPED size_t name##_capacity(const ecow_array *array) {                                  \
+        return ecow_array_capacity(array, sizeof(type));                                          \
+    }                                                                                             \
+                                                                                                  \
     ECOW_CHECKED ECOW_TYPED ecow_status name##_edit(ecow_array *array, type **items,              \
                                                     size_t *len) {                                \
         void *all = NULL;                                                                         \
@@ -919,6 +923,19 @@ ECOW_EXPANDED(value)
     ECOW_CHECKED ECOW_TYPED ecow_status name##_remove(ecow_array *array, size_t index,            \
                                                       type *item) {                               \
         return ecow_array_remove(array, sizeof(type), index, item);                               \
+    }                                                                                             \
+                                                                                                  \
+    ECOW_CHECKED ECOW_TYPED ecow_status name##_truncate(ecow_array *array, size_t len) {          \
+        return ecow_array_truncate(array, sizeof(type), len);                                     \
+    }                                                                                             \
+                                                                                                  \
+    ECOW_CHECKED ECOW_TYPED ecow_status name##_reserve(ecow_array *array, size_t additional) {    \
+        return ecow_array_reserve(array, sizeof(type), additional);                               \
+    }                                                                                             \
+                                                                                                  \
+    ECOW_CHECKED ECOW_TYPED ecow_status name##_assign(ecow_array *array, const type *items,       \
+                                                      size_t count) {                             \
+        return ecow_array_assign(array, sizeof(type), items, count);                              \
     }                                                                                             \
                                                                                                   \
     ECOW_CHECKED ECOW_TYPED ecow_status name##_extend(ecow_array *array, const type *items,       \

@@ -44,6 +44,7 @@ static void in_the_value(void) {
 /* A value with letters on both sides of it. */
 typedef union any {
     ecow_list list;
+    ecow_array array;
     ecow_bytes bytes;
     ecow_text text;
 } any;
@@ -75,6 +76,28 @@ static ecow_status call_list(int number, any *value, const void *items, size_t c
     }
 }
 
+/* Items of 4 bytes. */
+static ecow_status call_array(int number, any *value, const void *items, size_t count) {
+    switch (number) {
+    case 0:
+        return ecow_array_assign(&value->array, 4, items, count);
+    case 1:
+        return ecow_array_extend(&value->array, 4, items, count);
+    case 2:
+        return ecow_array_splice(&value->array, 4, 1, 2, items, count);
+    case 3:
+        return count ? ecow_array_push(&value->array, 4, items) : ECOW_OK;
+    case 4:
+        return count ? ecow_array_set(&value->array, 4, 1, items) : ECOW_OK;
+    default:
+        return count ? ecow_array_insert(&value->array, 4, 1, items) : ECOW_OK;
+    }
+}
+
+static const void *slice_array(const any *value) {
+    return ecow_array_slice(&value->array, 4, NULL);
+}
+
 static ecow_status call_bytes(int number, any *value, const void *items, size_t count) {
     switch (number) {
     case 0:
@@ -104,13 +127,15 @@ static ecow_status call_text(int number, any *value, const void *items, size_t c
 }
 
 /* The other calls of a kind, as functions of a value of any kind, by:
- * ecow_list_slice, ecow_bytes_slice, ecow_text_slice, ecow_list_equal, ecow_bytes_equal,
- * ecow_text_equal, ecow_list_drop, ecow_bytes_drop, ecow_text_drop */
+ * ecow_list_slice, ecow_bytes_slice, ecow_text_slice, ecow_list_equal, ecow_array_equal,
+ * ecow_bytes_equal, ecow_text_equal, ecow_list_drop, ecow_array_drop, ecow_bytes_drop,
+ * ecow_text_drop */
+#define SLICE(kind)                                     \
+    static const void *slice_##kind(const any *value) { \
+        return ecow_##kind##_slice(&value->kind, NULL); \
+    }
+
 #define OTHER_CALLS(kind)                                         \
-    static const void *slice_##kind(const any *value) {           \
-        return ecow_##kind##_slice(&value->kind, NULL);           \
-    }                                                             \
-                                                                  \
     static bool equal_##kind(const any *left, const any *right) { \
         return ecow_##kind##_equal(&left->kind, &right->kind);    \
     }                                                             \
@@ -119,7 +144,11 @@ static ecow_status call_text(int number, any *value, const void *items, size_t c
         ecow_##kind##_drop(&value->kind);                         \
     }
 
+SLICE(list)
+SLICE(bytes)
+SLICE(text)
 OTHER_CALLS(list)
+OTHER_CALLS(array)
 OTHER_CALLS(bytes)
 OTHER_CALLS(text)
 
@@ -234,16 +263,52 @@ static void past_memory(void) {
     ecow_text_drop(&text);
 }
 
+/* The same of an array of three items, of each size: what counts is how many bytes they are. */
+static void items_past_memory(void) {
+    const size_t sizes[] = {1, 3, 8, 24, 4096};
+    for (size_t at = 0; at < sizeof sizes / sizeof *sizes; at++) {
+        const size_t size = sizes[at], most = PTRDIFF_MAX / size;
+        const size_t large = ((size_t)1 << 60) / size + (size > 1);
+        const void *items = some_items(size, "abc");
+        ecow_array array = {{0}};
+        CHECK(ecow_array_assign(&array, size, items, 3) == ECOW_OK);
+        CHECK(ecow_array_assign(&array, size, items, large) == ECOW_MEMORY);
+        CHECK(ecow_array_assign(&array, size, items, most) == ECOW_MEMORY);
+        CHECK(ecow_array_assign(&array, size, items, most + 1) == ECOW_CAPACITY);
+        CHECK(ecow_array_assign(&array, size, items, SIZE_MAX) == ECOW_CAPACITY);
+        CHECK(ecow_array_extend(&array, size, items, large) == ECOW_MEMORY);
+        CHECK(ecow_array_extend(&array, size, items, most - 3) == ECOW_MEMORY);
+        CHECK(ecow_array_extend(&array, size, items, most - 2) == ECOW_CAPACITY);
+        CHECK(ecow_array_extend(&array, size, items, SIZE_MAX) == ECOW_CAPACITY);
+        CHECK(ecow_array_splice(&array, size, 0, 2, items, large) == ECOW_MEMORY);
+        CHECK(ecow_array_splice(&array, size, 0, 2, items, most - 1) == ECOW_MEMORY);
+        CHECK(ecow_array_splice(&array, size, 0, 2, items, most) == ECOW_CAPACITY);
+        CHECK(ecow_array_splice(&array, size, 1, 1, items, most - 3) == ECOW_MEMORY);
+        CHECK(ecow_array_splice(&array, size, 1, 1, items, SIZE_MAX) == ECOW_CAPACITY);
+        CHECK(ecow_array_splice(&array, size, 2, 1, items, large) == ECOW_INDEX);
+        CHECK(ecow_array_splice(&array, size, 0, 4, items, SIZE_MAX) == ECOW_INDEX);
+        CHECK(ecow_array_reserve(&array, size, large) == ECOW_MEMORY);
+        CHECK(ecow_array_reserve(&array, size, most - 3) == ECOW_MEMORY);
+        CHECK(ecow_array_reserve(&array, size, most - 2) == ECOW_CAPACITY);
+        CHECK(ecow_array_reserve(&array, size, SIZE_MAX) == ECOW_CAPACITY);
+        CHECK(array_holds(&array, size, "abc"));
+        ecow_array_drop(&array);
+    }
+}
+
 int main(void) {
     const kind lists = {sizeof(int64_t), 3, call_list, slice_list, equal_list, drop_list};
+    const kind arrays = {4, 6, call_array, slice_array, equal_array, drop_array};
     const kind bytes = {1, 3, call_bytes, slice_bytes, equal_bytes, drop_bytes};
     const kind texts = {1, 6, call_text, slice_text, equal_text, drop_text};
     take_no_buffer();
     in_the_value();
     overlaps_of(&lists);
+    overlaps_of(&arrays);
     overlaps_of(&bytes);
     overlaps_of(&texts);
     past_memory();
+    items_past_memory();
     printf("arrays: %ld checks\n", checks);
     return 0;
 }

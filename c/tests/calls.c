@@ -108,6 +108,229 @@ static void orders_of_lists(void) {
     ecow_list_drop(&right);
 }
 
+/* Every call on an array whose items have this size. */
+static void arrays_of(size_t size) {
+    ecow_array array = ecow_array_new(), clone = {{0}};
+    uint8_t out[4096], taken[4096];
+    memset(out, 99, size);
+    memset(taken, 99, size);
+    CHECK(array_holds(&array, size, ""));
+    CHECK(ecow_array_pop(&array, size, out) == ECOW_INDEX && memcmp(out, taken, size) == 0);
+    CHECK(ecow_array_assign(&array, size, some_items(size, "abcd"), 4) == ECOW_OK);
+    CHECK(array_holds(&array, size, "abcd") && !ecow_array_at(&array, size, SIZE_MAX));
+    CHECK(ecow_array_clone(&clone, &array) == ECOW_OK && array_holds(&clone, size, "abcd"));
+    CHECK(ecow_array_slice(&clone, size, NULL) == ecow_array_slice(&array, size, NULL));
+    CHECK(ecow_array_set(&array, size, 1, some_items(size, "x")) == ECOW_OK);
+    CHECK(array_holds(&array, size, "axcd") && array_holds(&clone, size, "abcd"));
+    CHECK(ecow_array_set(&array, size, 4, some_items(size, "x")) == ECOW_INDEX);
+    CHECK(ecow_array_set(&array, size, SIZE_MAX, some_items(size, "x")) == ECOW_INDEX);
+    CHECK(ecow_array_set(&array, size, SIZE_MAX / size + (size > 1), some_items(size, "x")) == ECOW_INDEX);
+    CHECK(ecow_array_push(&array, size, some_items(size, "e")) == ECOW_OK);
+    CHECK(ecow_array_pop(&array, size, out) == ECOW_OK);
+    CHECK(memcmp(out, some_items(size, "e"), size) == 0 && array_holds(&array, size, "axcd"));
+    CHECK(ecow_array_pop(&array, size, NULL) == ECOW_OK && array_holds(&array, size, "axc"));
+    CHECK(ecow_array_insert(&array, size, 3, some_items(size, "y")) == ECOW_OK);
+    CHECK(ecow_array_insert(&array, size, 0, some_items(size, "z")) == ECOW_OK);
+    CHECK(ecow_array_insert(&array, size, 6, some_items(size, "z")) == ECOW_INDEX);
+    CHECK(ecow_array_insert(&array, size, SIZE_MAX, some_items(size, "z")) == ECOW_INDEX);
+    CHECK(array_holds(&array, size, "zaxcy"));
+    CHECK(ecow_array_remove(&array, size, 3, out) == ECOW_OK);
+    CHECK(memcmp(out, some_items(size, "c"), size) == 0);
+    CHECK(ecow_array_remove(&array, size, 0, NULL) == ECOW_OK);
+    CHECK(ecow_array_remove(&array, size, 3, out) == ECOW_INDEX);
+    CHECK(ecow_array_remove(&array, size, SIZE_MAX, NULL) == ECOW_INDEX);
+    CHECK(memcmp(out, some_items(size, "c"), size) == 0 && array_holds(&array, size, "axy"));
+    CHECK(ecow_array_extend(&array, size, some_items(size, "bc"), 2) == ECOW_OK);
+    CHECK(ecow_array_extend(&array, size, NULL, 0) == ECOW_OK && array_holds(&array, size, "axybc"));
+    CHECK(ecow_array_splice(&array, size, 1, 4, some_items(size, "q"), 1) == ECOW_OK);
+    CHECK(array_holds(&array, size, "aqc"));
+    CHECK(ecow_array_splice(&array, size, 3, 3, some_items(size, "rs"), 2) == ECOW_OK);
+    CHECK(ecow_array_splice(&array, size, 0, 1, NULL, 0) == ECOW_OK);
+    CHECK(ecow_array_splice(&array, size, 2, 1, some_items(size, "t"), 1) == ECOW_INDEX);
+    CHECK(ecow_array_splice(&array, size, 0, 5, some_items(size, "t"), 1) == ECOW_INDEX);
+    CHECK(ecow_array_splice(&array, size, 0, SIZE_MAX, NULL, 0) == ECOW_INDEX);
+    CHECK(array_holds(&array, size, "qcrs") && array_holds(&clone, size, "abcd"));
+    CHECK(ecow_array_truncate(&array, size, 4) == ECOW_OK && array_holds(&array, size, "qcrs"));
+    CHECK(ecow_array_truncate(&array, size, SIZE_MAX) == ECOW_OK);
+    CHECK(ecow_array_truncate(&array, size, SIZE_MAX / size + (size > 1)) == ECOW_OK);
+    CHECK(ecow_array_truncate(&array, size, 2) == ECOW_OK && array_holds(&array, size, "qc"));
+    CHECK(ecow_array_reserve(&array, size, 100) == ECOW_OK && array_holds(&array, size, "qc"));
+    CHECK(ecow_array_capacity(&array, size) >= 102);
+    CHECK(ecow_array_reserve(&array, size, SIZE_MAX) == ECOW_CAPACITY);
+    CHECK(ecow_array_extend(&array, size, out, SIZE_MAX) == ECOW_CAPACITY);
+    const void *before = ecow_array_slice(&array, size, NULL);
+    CHECK(ecow_array_clear(&array) == ECOW_OK && array_holds(&array, size, ""));
+    CHECK(ecow_array_push(&array, size, some_items(size, "a")) == ECOW_OK);
+    CHECK(ecow_array_slice(&array, size, NULL) == before && array_holds(&array, size, "a"));
+    CHECK(ecow_array_shrink_to_fit(&array) == ECOW_OK && array_holds(&array, size, "a"));
+    CHECK(ecow_array_capacity(&array, size) == 1 && ecow_array_capacity(&array, 1) == size);
+    ecow_array_drop(&array);
+    CHECK(array_holds(&array, size, "") && array_holds(&clone, size, "abcd"));
+    /* The first item makes room for four. */
+    CHECK(ecow_array_push(&array, size, some_items(size, "a")) == ECOW_OK);
+    CHECK(ecow_array_capacity(&array, size) == 4);
+    ecow_array_drop(&array);
+    CHECK(ecow_array_insert(&array, size, 0, some_items(size, "a")) == ECOW_OK);
+    CHECK(ecow_array_capacity(&array, size) == 4);
+    ecow_array_drop(&array);
+    CHECK(ecow_array_extend(&array, size, some_items(size, "abcdef"), 6) == ECOW_OK);
+    CHECK(ecow_array_capacity(&array, size) == 6 && array_holds(&array, size, "abcdef"));
+    ecow_array_drop(&array);
+    ecow_array_drop(&clone);
+}
+
+/* What is written in place is the array's own, and equality, hashes and sharing are of bytes. */
+static void arrays_in_place(size_t size) {
+    ecow_array array = {{0}}, copy = {{0}};
+    void *items = NULL;
+    size_t len = 99;
+    CHECK(ecow_array_edit(&array, size, &items, &len) == ECOW_OK && items && len == 0);
+    CHECK(ecow_array_equal(&array, &copy) && ecow_array_hash(&array) == ecow_array_hash(NULL));
+    CHECK(ecow_array_assign(&array, size, some_items(size, "cab"), 3) == ECOW_OK);
+    CHECK(!ecow_array_equal(&array, &copy) && !ecow_array_equal(&copy, &array));
+    const void *before = ecow_array_slice(&array, size, NULL);
+    CHECK(ecow_array_edit(&array, size, &items, &len) == ECOW_OK && items == before && len == 3);
+    CHECK(ecow_array_clone(&copy, &array) == ECOW_OK && ecow_array_equal(&array, &copy));
+    CHECK(ecow_array_shares(&array, &copy));
+    CHECK(ecow_array_edit(&array, size, &items, &len) == ECOW_OK && items != before && len == 3);
+    CHECK(items == ecow_array_slice(&array, size, NULL));
+    CHECK(before == ecow_array_slice(&copy, size, NULL) && !ecow_array_shares(&array, &copy));
+    CHECK(ecow_array_equal(&array, &copy) && ecow_array_hash(&array) == ecow_array_hash(&copy));
+    uint8_t *last = (uint8_t *)items + 3 * size - 1;
+    *last ^= 1;
+    CHECK(!ecow_array_equal(&array, &copy) && ecow_array_hash(&array) != ecow_array_hash(&copy));
+    CHECK(array_holds(&copy, size, "cab"));
+    *last ^= 1;
+    CHECK(array_holds(&array, size, "cab") && ecow_array_edit(&copy, size, NULL, NULL) == ECOW_OK);
+    CHECK(ecow_array_edit(NULL, size, &items, &len) == ECOW_NULL && len == 3);
+    CHECK(ecow_array_equal(NULL, NULL) && !ecow_array_equal(&array, NULL));
+    CHECK(!ecow_array_equal(NULL, &array) && ecow_array_equal(&array, &array));
+    CHECK(!ecow_array_shares(&array, NULL) && !ecow_array_shares(NULL, NULL));
+    ecow_array_drop(&array);
+    CHECK(!ecow_array_shares(&array, &array));
+    ecow_array_drop(&copy);
+}
+
+/* Items of another size, and of none, are refused, and the array stays. */
+static void sizes_of_items(size_t size) {
+    const size_t wrongs[] = {0, 2 * size};
+    ecow_array array = {{0}};
+    uint8_t item[2 * 4096] = {0}, out[2 * 4096] = {0};
+    void *items = NULL;
+    size_t len = 99;
+    CHECK(ecow_array_assign(&array, size, some_items(size, "abc"), 3) == ECOW_OK);
+    for (size_t at = 0; at < 2; at++) {
+        const size_t wrong = wrongs[at];
+        CHECK(ecow_array_len(&array, wrong) == at);
+        CHECK(ecow_array_set(&array, wrong, 9, item) == ECOW_KIND);
+        CHECK(ecow_array_push(&array, wrong, item) == ECOW_KIND);
+        CHECK(ecow_array_pop(&array, wrong, out) == ECOW_KIND && !memcmp(item, out, sizeof item));
+        CHECK(ecow_array_pop(&array, wrong, NULL) == ECOW_KIND);
+        CHECK(ecow_array_insert(&array, wrong, 9, item) == ECOW_KIND);
+        CHECK(ecow_array_remove(&array, wrong, 0, out) == ECOW_KIND && !memcmp(item, out, sizeof item));
+        CHECK(ecow_array_remove(&array, wrong, 9, NULL) == ECOW_KIND);
+        CHECK(ecow_array_truncate(&array, wrong, 0) == ECOW_KIND);
+        CHECK(ecow_array_reserve(&array, wrong, SIZE_MAX) == ECOW_KIND);
+        CHECK(ecow_array_extend(&array, wrong, item, 1) == ECOW_KIND);
+        CHECK(ecow_array_extend(&array, wrong, NULL, 0) == ECOW_KIND);
+        CHECK(ecow_array_splice(&array, wrong, 2, 1, item, 1) == ECOW_KIND);
+        CHECK(ecow_array_edit(&array, wrong, &items, &len) == ECOW_KIND && !items && len == 99);
+        CHECK(array_holds(&array, size, "abc"));
+    }
+    CHECK(ecow_array_assign(&array, 0, item, 1) == ECOW_KIND && ecow_array_capacity(&array, 0) == 0);
+    CHECK(ecow_array_extend(&array, 2 * size, item, SIZE_MAX) == ECOW_KIND);
+    CHECK(ecow_array_splice(&array, 2 * size, 2, 1, item, SIZE_MAX) == ECOW_KIND);
+    CHECK(ecow_array_set(&array, SIZE_MAX, 0, item) == ECOW_KIND);
+    CHECK(ecow_array_push(&array, SIZE_MAX, item) == ECOW_KIND);
+    CHECK(ecow_array_remove(&array, SIZE_MAX, 0, item) == ECOW_KIND);
+    CHECK(!ecow_array_at(&array, 0, 0) && ecow_array_slice(&array, 0, &len) && len == 0);
+    CHECK(array_holds(&array, size, "abc"));
+    CHECK(ecow_array_assign(&array, 2 * size, some_items(2 * size, "a"), 1) == ECOW_OK);
+    CHECK(array_holds(&array, 2 * size, "a") && ecow_array_len(&array, size) == 2);
+    ecow_array_drop(&array);
+    /* An empty one takes items of each size. */
+    CHECK(ecow_array_set(&array, SIZE_MAX, 0, item) == ECOW_INDEX);
+    CHECK(ecow_array_push(&array, (size_t)1 << 62, item) == ECOW_MEMORY);
+    CHECK(ecow_array_push(&array, SIZE_MAX, item) == ECOW_CAPACITY);
+    CHECK(ecow_array_insert(&array, SIZE_MAX, 0, item) == ECOW_CAPACITY);
+    CHECK(ecow_array_reserve(&array, SIZE_MAX, 1) == ECOW_CAPACITY);
+    CHECK(ecow_array_remove(&array, SIZE_MAX, 0, item) == ECOW_INDEX);
+    CHECK(ecow_array_pop(&array, SIZE_MAX, NULL) == ECOW_INDEX && array_holds(&array, size, ""));
+}
+
+/* A type of the program's, by its own calls. */
+struct point {
+    double x, y;
+};
+
+ECOW_ARRAY(points, struct point)
+
+static void typed_calls(void) {
+    const struct point some[] = {{1, 2}, {3, 4}, {5, 6}};
+    ecow_array array = {{0}};
+    struct point *all = NULL, out = {0, 0};
+    size_t len = 99;
+    CHECK(points_push(&array, some[0]) == ECOW_OK && points_len(&array) == 1);
+    CHECK(points_extend(&array, some, 3) == ECOW_OK && points_slice(&array, &len)[3].y == 6);
+    CHECK(len == 4 && points_at(&array, 2)->x == 3 && !points_at(&array, 4));
+    CHECK(points_set(&array, 0, some[2]) == ECOW_OK && points_at(&array, 0)->x == 5);
+    CHECK(points_insert(&array, 1, some[1]) == ECOW_OK && points_at(&array, 1)->x == 3);
+    CHECK(points_remove(&array, 0, &out) == ECOW_OK && out.x == 5 && points_len(&array) == 4);
+    CHECK(points_pop(&array, &out) == ECOW_OK && out.y == 6);
+    CHECK(points_edit(&array, &all, &len) == ECOW_OK && all == points_slice(&array, NULL));
+    all[0].x = 9;
+    CHECK(points_edit(&array, NULL, NULL) == ECOW_OK && points_at(&array, 0)->x == 9);
+    CHECK(points_splice(&array, 1, 3, some, 1) == ECOW_OK && points_at(&array, 1)->x == 1);
+    CHECK(points_truncate(&array, 1) == ECOW_OK && points_len(&array) == 1);
+    CHECK(points_reserve(&array, 9) == ECOW_OK && points_capacity(&array) >= 10);
+    CHECK(points_assign(&array, some, 3) == ECOW_OK && points_at(&array, 2)->y == 6);
+    CHECK(points_edit(NULL, &all, &len) == ECOW_NULL && points_at(NULL, 0) == NULL);
+    ecow_array_drop(&array);
+}
+
+static void arrays(void) {
+    const size_t sizes[] = {1, 2, 3, 4, 8, 12, 16, 24, 65, 4096};
+    for (size_t at = 0; at < sizeof sizes / sizeof *sizes; at++) {
+        arrays_of(sizes[at]);
+        arrays_in_place(sizes[at]);
+        sizes_of_items(sizes[at]);
+    }
+    typed_calls();
+}
+
+static void null_arrays(void) {
+    const size_t most = SIZE_MAX;
+    ecow_array array = {{0}};
+    uint8_t item[8] = {0};
+    size_t len = 99;
+    CHECK(ecow_array_len(NULL, 8) == 0 && ecow_array_slice(NULL, 8, &len) && len == 0);
+    CHECK(ecow_array_capacity(NULL, 8) == 0 && !ecow_array_at(NULL, 8, 0));
+    CHECK(ecow_array_clone(NULL, &array) == ECOW_NULL && ecow_array_clone(&array, NULL) == ECOW_NULL);
+    CHECK(ecow_array_clone(NULL, NULL) == ECOW_NULL && ecow_array_clone(&array, &array) == ECOW_OK);
+    ecow_array_drop(NULL);
+    CHECK(ecow_array_clear(NULL) == ECOW_NULL && ecow_array_shrink_to_fit(NULL) == ECOW_NULL);
+    CHECK(ecow_array_assign(NULL, 0, NULL, 0) == ECOW_NULL);
+    CHECK(ecow_array_assign(NULL, 8, item, most) == ECOW_NULL);
+    CHECK(ecow_array_assign(&array, 8, NULL, 1) == ECOW_NULL);
+    CHECK(ecow_array_assign(&array, 0, NULL, 1) == ECOW_NULL);
+    CHECK(ecow_array_set(NULL, 0, 0, item) == ECOW_NULL && ecow_array_push(NULL, 0, item) == ECOW_NULL);
+    CHECK(ecow_array_set(&array, 8, 0, NULL) == ECOW_NULL);
+    CHECK(ecow_array_push(&array, most, NULL) == ECOW_NULL);
+    CHECK(ecow_array_pop(NULL, 0, item) == ECOW_NULL && ecow_array_pop(NULL, 8, NULL) == ECOW_NULL);
+    CHECK(ecow_array_insert(NULL, 0, 0, item) == ECOW_NULL);
+    CHECK(ecow_array_insert(&array, 8, most, NULL) == ECOW_NULL);
+    CHECK(ecow_array_remove(NULL, 0, 0, item) == ECOW_NULL);
+    CHECK(ecow_array_remove(NULL, most, most, NULL) == ECOW_NULL);
+    CHECK(ecow_array_truncate(NULL, 0, 0) == ECOW_NULL && ecow_array_reserve(NULL, 0, most) == ECOW_NULL);
+    CHECK(ecow_array_extend(NULL, 0, NULL, 0) == ECOW_NULL);
+    CHECK(ecow_array_extend(NULL, 8, item, most) == ECOW_NULL);
+    CHECK(ecow_array_extend(&array, 0, NULL, 1) == ECOW_NULL);
+    CHECK(ecow_array_splice(NULL, 0, 2, 1, NULL, 0) == ECOW_NULL);
+    CHECK(ecow_array_splice(NULL, 8, 2, 1, item, most) == ECOW_NULL);
+    CHECK(ecow_array_splice(&array, 0, 2, 1, NULL, most) == ECOW_NULL);
+    CHECK(ecow_array_edit(NULL, 0, NULL, NULL) == ECOW_NULL && array_holds(&array, 8, ""));
+}
+
 static void all_bytes(void) {
     const uint8_t letters[] = "abcdefghijklmnopqrst";
     ecow_bytes bytes = ecow_bytes_new(), clone = {{0}};
@@ -1280,10 +1503,11 @@ static void moves_and_shares(void) {
 
 /* Two values share after a clone, until one of them changes, and not where they are equal alone. It
  * makes these calls:
- * ecow_list_shares, ecow_bytes_shares, ecow_text_shares, ecow_texts_shares, ecow_value_shares,
- * ecow_list_equal, ecow_bytes_equal, ecow_text_equal, ecow_texts_equal, ecow_value_equal,
- * ecow_list_clone, ecow_bytes_clone, ecow_text_clone, ecow_texts_clone, ecow_value_clone,
- * ecow_list_drop, ecow_bytes_drop, ecow_text_drop, ecow_texts_drop, ecow_value_drop */
+ * ecow_list_shares, ecow_array_shares, ecow_bytes_shares, ecow_text_shares, ecow_texts_shares,
+ * ecow_value_shares, ecow_list_equal, ecow_array_equal, ecow_bytes_equal, ecow_text_equal,
+ * ecow_texts_equal, ecow_value_equal, ecow_list_clone, ecow_array_clone, ecow_bytes_clone,
+ * ecow_text_clone, ecow_texts_clone, ecow_value_clone, ecow_list_drop, ecow_array_drop,
+ * ecow_bytes_drop, ecow_text_drop, ecow_texts_drop, ecow_value_drop */
 #define CHECK_SHARES(kind, first, second, change)                                           \
     do {                                                                                    \
         CHECK(!ecow_##kind##_shares(first, second) && ecow_##kind##_equal(first, second));  \
@@ -1304,12 +1528,14 @@ static void moves_and_shares(void) {
 static void shared_memory(void) {
     const uint8_t letters[] = "sixteen letters.";
     ecow_list lists[2] = {{{0}}, {{0}}};
+    ecow_array arrays[2] = {{{0}}, {{0}}};
     ecow_bytes bytes[2] = {{{0}}, {{0}}};
     ecow_text texts[2] = {{{0}}, {{0}}};
     ecow_texts lines[2] = {{{0}}, {{0}}};
     ecow_value values[2] = {{{0}}, {{0}}}, lone = {{0}};
     for (int index = 0; index < 2; index++) {
         CHECK(ecow_list_push(&lists[index], 7) == ECOW_OK);
+        CHECK(ecow_array_push(&arrays[index], 3, letters) == ECOW_OK);
         CHECK(ecow_bytes_assign(&bytes[index], letters, 16) == ECOW_OK);
         CHECK(ecow_text_assign(&texts[index], (const char *)letters, 16) == ECOW_OK);
         CHECK(ecow_texts_push(&lines[index], &texts[0]) == ECOW_OK);
@@ -1317,6 +1543,7 @@ static void shared_memory(void) {
         CHECK(ecow_value_push(&values[index], &lone) == ECOW_OK);
     }
     CHECK_SHARES(list, &lists[0], &lists[1], ecow_list_push(&lists[0], 8));
+    CHECK_SHARES(array, &arrays[0], &arrays[1], ecow_array_push(&arrays[0], 3, letters));
     CHECK_SHARES(bytes, &bytes[0], &bytes[1], ecow_bytes_push(&bytes[0], 8));
     CHECK_SHARES(texts, &lines[0], &lines[1], ecow_texts_push(&lines[0], &texts[0]));
     CHECK_SHARES(value, &values[0], &values[1], ecow_value_push(&values[0], &values[1]));
@@ -1400,23 +1627,27 @@ static void sizes(void) {
         uint64_t end;
         ecow_value value;
         uint64_t last;
-    } all = {1, {{0}}, 2, {{0}}, 3, {{0}}, 4, {{0}}, 5, {{0}}, 6};
+        ecow_array array;
+        uint64_t done;
+    } all = {1, {{0}}, 2, {{0}}, 3, {{0}}, 4, {{0}}, 5, {{0}}, 6, {{0}}, 7};
     for (int time = 0; time < 40; time++) {
         CHECK(ecow_list_push(&all.list, -1) == ECOW_OK);
         CHECK(ecow_bytes_push(&all.bytes, 255) == ECOW_OK);
         CHECK(ecow_text_push(&all.text, 0x10ffff) == ECOW_OK);
         CHECK(ecow_texts_push(&all.texts, &all.text) == ECOW_OK);
         CHECK(ecow_value_set_text(&all.value, &all.text) == ECOW_OK);
+        CHECK(ecow_array_push(&all.array, 8, &all.before) == ECOW_OK);
         CHECK(all.before == 1 && all.between == 2 && all.behind == 3 && all.after == 4);
-        CHECK(all.end == 5 && all.last == 6);
+        CHECK(all.end == 5 && all.last == 6 && all.done == 7);
     }
     ecow_list_drop(&all.list);
     ecow_bytes_drop(&all.bytes);
     ecow_text_drop(&all.text);
     ecow_texts_drop(&all.texts);
     ecow_value_drop(&all.value);
+    ecow_array_drop(&all.array);
     CHECK(all.before == 1 && all.between == 2 && all.behind == 3 && all.after == 4);
-    CHECK(all.end == 5 && all.last == 6);
+    CHECK(all.end == 5 && all.last == 6 && all.done == 7);
 }
 
 int main(void) {
@@ -1424,6 +1655,8 @@ int main(void) {
     lists();
     edits_in_place();
     orders_of_lists();
+    arrays();
+    null_arrays();
     all_bytes();
     texts();
     lists_of_texts();

@@ -68,6 +68,31 @@ static inline bool list_holds(const ecow_list *list, const int64_t *numbers, siz
            && (!count || memcmp(held, numbers, count * sizeof *numbers) == 0);
 }
 
+/* So many items of an array, of the size: `letters` says which ones. They are in one of two places,
+ * by turns. */
+static inline const void *some_items(size_t size, const char *letters) {
+    static uint64_t places[2][8 * 4096 / sizeof(uint64_t)];
+    static int turn;
+    uint8_t *bytes = (uint8_t *)places[turn = !turn];
+    for (size_t at = 0; at < strlen(letters) * size; at++) {
+        bytes[at] = (uint8_t)((size_t)letters[at / size] + 7 * (at % size));
+    }
+    return bytes;
+}
+
+static inline bool array_holds(const ecow_array *array, size_t size, const char *letters) {
+    const size_t count = strlen(letters);
+    size_t len;
+    const void *held = ecow_array_slice(array, size, &len);
+    bool same = len == count && ecow_array_len(array, size) == count
+                && memcmp(held, some_items(size, letters), count * size) == 0
+                && (uintptr_t)held % 16 == 0 && !ecow_array_at(array, size, count);
+    for (size_t index = 0; same && index < count; index++) {
+        same = ecow_array_at(array, size, index) == (const char *)held + index * size;
+    }
+    return same;
+}
+
 static inline bool bytes_hold(const ecow_bytes *bytes, const void *items, size_t count) {
     size_t len;
     const uint8_t *held = ecow_bytes_slice(bytes, &len);

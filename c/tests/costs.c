@@ -2,6 +2,7 @@
  * tools/gate/refuse.c writes how many requests there were. `costs.out` has both, by hand, by the
  * rules of docs/COSTS.md. */
 #include "check.h"
+#include "typed.h"
 
 #include <ctype.h>
 
@@ -56,6 +57,76 @@ static void changes_of_lists(void) {
     CHECK(ecow_list_shares(&list, &clone) && ecow_list_len(&list) == MANY + 4);
     ecow_list_drop(&list);
     ecow_list_drop(&clone);
+}
+
+#undef VALUE
+#undef ITEM
+#undef OUT
+#undef CALL
+#undef NAME
+
+TYPED(doubles, double)
+
+static int doubles_compare(const doubles *left, const doubles *right) {
+    const size_t len = doubles_len(left), other = doubles_len(right);
+    return (len > other) - (len < other);
+}
+
+#define VALUE doubles
+#define ITEM double
+#define OUT double
+#define CALL(name) doubles_##name
+#define NAME "array of doubles"
+#include "costs.h"
+
+#undef NAME
+#define NAME "array"
+
+/* Appends items of that size until there are `len`. */
+static void push_sized_up_to(ecow_array *array, size_t size, size_t len) {
+    const void *item = some_items(size, "a");
+    while (ecow_array_len(array, size) < len) {
+        CHECK(ecow_array_push(array, size, item) == ECOW_OK);
+    }
+}
+
+/* Changes of items of 24 bytes, and growth to 1000 items of each size. */
+static void changes_of_arrays(void) {
+    const size_t sizes[] = {1, 2, 3, 4, 8, 12, 16, 24, 65, 4096};
+    static uint8_t items[24 * MANY];
+    ecow_array array = {{0}}, clone = {{0}};
+    for (size_t at = 0; at < sizeof sizes / sizeof *sizes; at++) {
+        begin();
+        push_sized_up_to(&array, sizes[at], 1000);
+        end(at ? NAME ": 1000 pushes" : NAME ": 1000 pushes of bytes");
+        ecow_array_drop(&array);
+    }
+    CHECK(ecow_array_assign(&array, 24, items, MANY) == ECOW_OK);
+    COUNTED("set", CHECK(ecow_array_set(&array, 24, MANY - 1, items) == ECOW_OK));
+    COUNTED("edit", CHECK(ecow_array_edit(&array, 24, NULL, NULL) == ECOW_OK));
+    COUNTED("insert", CHECK(ecow_array_insert(&array, 24, MANY, items) == ECOW_OK));
+    COUNTED("insert again", CHECK(ecow_array_insert(&array, 24, 0, items) == ECOW_OK));
+    CHECK(ecow_array_clone(&clone, &array) == ECOW_OK);
+    COUNTED("set of a shared one", CHECK(ecow_array_set(&array, 24, 0, items) == ECOW_OK));
+    CHECK(ecow_array_clone(&clone, &array) == ECOW_OK);
+    COUNTED("edit of a shared one", CHECK(ecow_array_edit(&array, 24, NULL, NULL) == ECOW_OK));
+    COUNTED("push to a full one", CHECK(ecow_array_push(&array, 24, items) == ECOW_OK));
+    COUNTED("shrink_to_fit", CHECK(ecow_array_shrink_to_fit(&array) == ECOW_OK));
+    COUNTED("shrink_to_fit again", CHECK(ecow_array_shrink_to_fit(&array) == ECOW_OK));
+    COUNTED("push to a full one", CHECK(ecow_array_push(&array, 24, items) == ECOW_OK));
+    CHECK(ecow_array_clone(&clone, &array) == ECOW_OK);
+    COUNTED("shrink_to_fit of a shared one", CHECK(ecow_array_shrink_to_fit(&array) == ECOW_OK));
+    COUNTED("extend by nothing of a shared one",
+            CHECK(ecow_array_extend(&array, 24, NULL, 0) == ECOW_OK));
+    CHECK(ecow_array_shares(&array, &clone) && ecow_array_len(&array, 24) == MANY + 4);
+    const uint8_t *own = ecow_array_slice(&array, 24, NULL);
+    COUNTED("remove of a shared one", CHECK(ecow_array_remove(&array, 24, 0, NULL) == ECOW_OK));
+    COUNTED("push of a clone's item", CHECK(ecow_array_push(&array, 24, own) == ECOW_OK));
+    own = ecow_array_slice(&array, 24, NULL);
+    COUNTED("set by an item of its own", CHECK(ecow_array_set(&array, 24, 7, own) == ECOW_OK));
+    COUNTED("push of an item of its own", CHECK(ecow_array_push(&array, 24, own) == ECOW_OK));
+    ecow_array_drop(&array);
+    ecow_array_drop(&clone);
 }
 
 #undef VALUE
@@ -412,6 +483,8 @@ int main(void) {
     take_no_buffer();
     ecow_list_costs();
     changes_of_lists();
+    doubles_costs();
+    changes_of_arrays();
     ecow_bytes_costs();
     changes_of_bytes();
     ecow_text_costs();

@@ -126,6 +126,120 @@ static void edit_list(ecow_list lists[VALUES], array models[VALUES], uint64_t *s
     CHECK(list_holds(list, (const int64_t *)(const void *)model->bytes, model->size / size));
 }
 
+/* The size of the items of an array. Two of them have each. */
+static size_t size_at(size_t which) {
+    static const size_t sizes[VALUES / 2] = {3, 8, 40};
+    return sizes[which / 2];
+}
+
+static void edit_array(ecow_array arrays[VALUES], array models[VALUES], uint64_t *seed) {
+    size_t which = below(seed, VALUES), other = which / 2 * 2 + below(seed, 2);
+    ecow_array *value = &arrays[which];
+    array *model = &models[which];
+    size_t size = size_at(which), len = model->size / size;
+    size_t index = below(seed, len + 1), end = index + below(seed, len - index + 1);
+    uint64_t item[5] = {next_number(seed), 2, 3, 4, 5}, out[5];
+    const void *items = ecow_array_slice(&arrays[other], size, NULL);
+    size_t count = least(models[other].size, MOST - model->size) / size;
+    void *all = NULL;
+    memcpy(out, item, sizeof out);
+    switch (below(seed, 14)) {
+    case 0:
+    case 1:
+        if (model->size + size <= MOST && is_done(ecow_array_push(value, size, item))) {
+            array_splice(model, model->size, model->size, item, size);
+        }
+        break;
+    case 2:
+        if (!len) {
+            CHECK(ecow_array_pop(value, size, out) == ECOW_INDEX && !memcmp(out, item, size));
+        } else if (is_done(ecow_array_pop(value, size, out))) {
+            CHECK(memcmp(out, model->bytes + model->size - size, size) == 0);
+            model->size -= size;
+        }
+        break;
+    case 3:
+        if (model->size + size <= MOST && is_done(ecow_array_insert(value, size, index, item))) {
+            array_splice(model, index * size, index * size, item, size);
+        }
+        CHECK(ecow_array_insert(value, size, model->size / size + 1, item) == ECOW_INDEX);
+        break;
+    case 4:
+        if (index == len) {
+            CHECK(ecow_array_remove(value, size, index, out) == ECOW_INDEX);
+            CHECK(memcmp(out, item, size) == 0);
+        } else if (is_done(ecow_array_remove(value, size, index, out))) {
+            CHECK(memcmp(out, model->bytes + index * size, size) == 0);
+            array_splice(model, index * size, (index + 1) * size, NULL, 0);
+        }
+        break;
+    case 5:
+        if (index == len) {
+            CHECK(ecow_array_set(value, size, index, item) == ECOW_INDEX);
+        } else if (is_done(ecow_array_set(value, size, index, item))) {
+            memcpy(model->bytes + index * size, item, size);
+        }
+        break;
+    case 6:
+        if (is_done(ecow_array_truncate(value, size, index))) {
+            model->size = index * size;
+        }
+        break;
+    case 7:
+        if (below(seed, 8) == 0 && is_done(ecow_array_clear(value))) {
+            model->size = 0;
+        }
+        break;
+    case 8:
+        is_done(below(seed, 2) ? ecow_array_reserve(value, size, index)
+                               : ecow_array_shrink_to_fit(value));
+        CHECK(ecow_array_capacity(value, size) >= len);
+        break;
+    case 9:
+        if (is_done(ecow_array_extend(value, size, items, count))) {
+            array_splice(model, model->size, model->size, models[other].bytes, count * size);
+        }
+        break;
+    case 10:
+        if (is_done(ecow_array_splice(value, size, index, end, items, least(count, 5)))) {
+            array_splice(model, index * size, end * size, models[other].bytes,
+                         least(count, 5) * size);
+        }
+        break;
+    case 11:
+        if (is_done(ecow_array_assign(value, size, items, models[other].size / size))) {
+            *model = models[other];
+        }
+        break;
+    case 12:
+        if (is_done(ecow_array_clone(value, &arrays[other]))) {
+            *model = models[other];
+            CHECK(ecow_array_shares(value, &arrays[other]) || !(model->size > 0));
+        }
+        break;
+    default:
+        if (below(seed, 8) == 0) {
+            ecow_array_drop(value);
+            model->size = 0;
+        }
+        if (is_done(ecow_array_edit(value, size, &all, &len))) {
+            CHECK(len == model->size / size);
+            CHECK(len == 0 || all == ecow_array_slice(value, size, NULL));
+            memcpy(len ? all : item, item, size);
+            memcpy(model->bytes, item, len ? size : 0);
+        }
+        CHECK(ecow_array_equal(value, &arrays[other])
+              == (model->size == models[other].size
+                  && !memcmp(model->bytes, models[other].bytes, model->size)));
+    }
+}
+
+static bool holds_items(const ecow_array *value, const array *model) {
+    size_t len;
+    const void *held = ecow_array_slice(value, 1, &len);
+    return len == model->size && memcmp(held, model->bytes, len) == 0;
+}
+
 static void edit_bytes(ecow_bytes values[VALUES], array models[VALUES], uint64_t *seed) {
     size_t which = below(seed, VALUES), other = below(seed, VALUES);
     ecow_bytes *bytes = &values[which];
@@ -902,19 +1016,21 @@ int main(int argc, char **argv) {
     long edits = argc > 1 ? atol(argv[1]) : 1000000;
     uint64_t seed = 20260915;
     static ecow_list lists[VALUES];
+    static ecow_array arrays[VALUES];
     static ecow_bytes bytes[VALUES];
     static ecow_text texts[VALUES];
     static ecow_texts lists_of_texts[VALUES];
     static strings of_lists_of_texts[VALUES];
     static ecow_value nested[VALUES];
     static tree of_nested[VALUES];
-    static array of_lists[VALUES], of_bytes[VALUES], of_texts[VALUES];
+    static array of_lists[VALUES], of_arrays[VALUES], of_bytes[VALUES], of_texts[VALUES];
     take_no_buffer();
     for (size_t at = 0; at < VALUES; at++) {
         of_nested[at].parts[0] = part_of(ECOW_KIND_NOTHING, 0);
     }
     for (long edit = 0; edit < edits; edit++) {
         edit_list(lists, of_lists, &seed);
+        edit_array(arrays, of_arrays, &seed);
         edit_bytes(bytes, of_bytes, &seed);
         edit_text(texts, of_texts, &seed);
         edit_texts(lists_of_texts, of_lists_of_texts, &seed);
@@ -922,6 +1038,7 @@ int main(int argc, char **argv) {
         for (size_t at = 0; at < VALUES; at++) {
             const int64_t *numbers = (const int64_t *)(const void *)of_lists[at].bytes;
             CHECK(list_holds(&lists[at], numbers, of_lists[at].size / sizeof *numbers));
+            CHECK(holds_items(&arrays[at], &of_arrays[at]));
             CHECK(bytes_hold(&bytes[at], of_bytes[at].bytes, of_bytes[at].size));
             CHECK(text_holds(&texts[at], of_texts[at].bytes, of_texts[at].size));
             CHECK(holds(&lists_of_texts[at], &of_lists_of_texts[at]));
@@ -930,6 +1047,7 @@ int main(int argc, char **argv) {
     }
     for (size_t at = 0; at < VALUES; at++) {
         ecow_list_drop(&lists[at]);
+        ecow_array_drop(&arrays[at]);
         ecow_bytes_drop(&bytes[at]);
         ecow_text_drop(&texts[at]);
         ecow_texts_drop(&lists_of_texts[at]);

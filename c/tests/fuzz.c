@@ -4,9 +4,10 @@
 #include "edits.c"
 
 /* The numbers of the kinds. */
-enum { LISTS, BYTES, TEXTS, LISTS_OF_TEXTS, NESTED };
+enum { LISTS, ARRAYS, BYTES, TEXTS, LISTS_OF_TEXTS, NESTED };
 
 static ecow_list lists[VALUES];
+static ecow_array arrays[VALUES];
 static ecow_bytes bytes[VALUES];
 static ecow_text texts[VALUES];
 static ecow_texts lists_of_texts[VALUES];
@@ -19,6 +20,9 @@ static void edit(void) {
     switch (KIND) {
     case LISTS:
         edit_list(lists, models, NULL);
+        break;
+    case ARRAYS:
+        edit_array(arrays, models, NULL);
         break;
     case BYTES:
         edit_bytes(bytes, models, NULL);
@@ -41,6 +45,10 @@ static void end(size_t at) {
     case LISTS:
         CHECK(list_holds(&lists[at], numbers, models[at].size / sizeof *numbers));
         ecow_list_drop(&lists[at]);
+        break;
+    case ARRAYS:
+        CHECK(holds_items(&arrays[at], &models[at]));
+        ecow_array_drop(&arrays[at]);
         break;
     case BYTES:
         CHECK(bytes_hold(&bytes[at], models[at].bytes, models[at].size));

@@ -6,7 +6,7 @@ cd "$(dirname "$0")/../.."
 out=$(mktemp -d)
 trap 'rm -rf "$out"' EXIT
 number=0
-for kind in list bytes text texts value; do
+for kind in list array bytes text texts value; do
     clang -std=c11 -O1 -g -DKIND=$number -fsanitize=fuzzer,address,undefined -fno-sanitize-recover=all -Iinclude \
         -Wno-unused-function c/tests/fuzz.c bin/libecow.a -o "$out/$kind"
     mkdir "$out/inputs-$kind"
