@@ -3,6 +3,7 @@
  * parts that a nested value lends, beside the clones that the proved calls make. And the order, the
  * equality and the hash of nested values that share parts, beside the proved equality. */
 #include "check.h"
+#include "typed.h"
 #include "../proved.h"
 
 #include <math.h>
@@ -37,6 +38,32 @@ static size_t compared;
 COMPARES(list, int64_t, int64_t)
 COMPARES(bytes, uint8_t, uint8_t)
 COMPARES(text, char, uint32_t)
+
+/* Items of 12 bytes. */
+typedef struct triple {
+    int32_t first, second, third;
+} triple;
+
+TYPED(ecow_triples, triple)
+
+/* The proved call takes the items of a clone, from the last one on. */
+static void compare_triples(const ecow_array *value) {
+    ecow_array clone = {{0}}, *place = &clone;
+    size_t len = 99;
+    triple found = {0, 0, 0};
+    const triple *start = ecow_triples_slice(value, &len);
+    CHECK(start && start == ecow_array_slice(value, 12, NULL) && len == ecow_array_len(value, 12));
+    CHECK((uintptr_t)start % 16 == 0 && ecow_array_len(value, 4) == 3 * len);
+    CHECK(value ? ecow_array_clone(&clone, value) == ECOW_OK : len == 0);
+    for (size_t at = len; at-- > 0;) {
+        CHECK(ecow_proved_array_remove(&place, at, &found, 12) == ECOW_OK);
+        CHECK(memcmp(&found, start + at, 12) == 0 && ecow_triples_at(value, at) == start + at);
+    }
+    CHECK(ecow_proved_array_remove(&place, 0, &found, 12) == ECOW_INDEX);
+    CHECK(!ecow_triples_at(value, len) && ecow_triples_len(value) == len);
+    ecow_array_drop(&clone);
+    compared++;
+}
 
 static void compare_texts(const ecow_texts *value) {
     ecow_texts *place = (ecow_texts *)value;
@@ -106,6 +133,12 @@ static void fill_list(ecow_list *list, size_t len) {
     }
 }
 
+static void fill_triples(ecow_array *array, size_t len) {
+    for (int32_t at = 0; at < (int32_t)len; at++) {
+        CHECK(ecow_triples_push(array, (triple){at, -at, 7}) == ECOW_OK);
+    }
+}
+
 static void fill_bytes(ecow_bytes *bytes, size_t len) {
     for (size_t at = 0; at < len; at++) {
         CHECK(ecow_bytes_push(bytes, (uint8_t)(at * 5)) == ECOW_OK);
@@ -126,6 +159,7 @@ static void fill_texts(ecow_texts *texts, size_t len) {
 }
 
 STATES(list, fill_list)
+STATES(triples, fill_triples)
 STATES(bytes, fill_bytes)
 STATES(text, fill_text)
 STATES(texts, fill_texts)
@@ -295,6 +329,7 @@ static void doubled(void) {
 int main(void) {
     take_no_buffer();
     states_of_list();
+    states_of_triples();
     states_of_bytes();
     states_of_text();
     states_of_texts();
@@ -302,7 +337,7 @@ int main(void) {
     states_of_value(true);
     orders();
     doubled();
-    CHECK(compared == 4 * (1 + 12 * LENGTHS) + 2 * (1 + 6 * LENGTHS));
+    CHECK(compared == 5 * (1 + 12 * LENGTHS) + 2 * (1 + 6 * LENGTHS));
     printf("layout: %ld checks\n", checks);
     return 0;
 }
