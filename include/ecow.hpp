@@ -48,10 +48,13 @@
 
 #include "ecow.h"
 
+#include <algorithm>
 #include <cstddef>
 #include <cstdint>
+#include <cstring>
 #include <initializer_list>
 #include <iosfwd>
+#include <limits>
 #include <new>
 #include <optional>
 #include <stdexcept>
@@ -77,8 +80,13 @@
 
 namespace ecow {
 
-class texts;
+class text;
 class value;
+template <typename Item> class vector;
+template <> class vector<text>;
+
+/* Texts, as a list. */
+using texts = vector<text>;
 
 /* What a nested value is. */
 enum class kind {
@@ -161,6 +169,9 @@ private:
 
 namespace detail {
 
+template <typename Type, typename... Types>
+constexpr bool is_one_of = std::disjunction_v<std::is_same<Type, Types>...>;
+
 class no_memory : public std::bad_alloc {
 public:
     const char *what() const noexcept override {
@@ -227,8 +238,79 @@ inline void check(ecow_status status) {
     static constexpr auto insert = ecow_##kind##_insert; \
     static constexpr auto remove = ecow_##kind##_remove
 
-/* Those on lists of such items. A kind that ecow.h doesn't have isn't defined here. */
-template <typename Item> struct list_calls;
+/* Whether items are compared as whole numbers are. Others have operators of their own. */
+template <typename Item>
+constexpr bool is_whole = std::is_integral_v<Item> || std::is_same_v<Item, std::byte>
+                          || std::is_same_v<Item, std::string_view>;
+
+/* Those on lists of items of any type, as an array. */
+template <typename Item> struct list_calls {
+    static_assert(!std::is_same_v<Item, std::string_view>,
+                  "ecow::vector doesn't take std::string_view: ecow::texts copies what it sees");
+    static_assert(std::is_trivially_copyable_v<Item> && !std::is_const_v<Item>,
+                  "ecow::vector takes ecow::text, and types that are trivially copyable");
+    static_assert(alignof(Item) <= 16, "ecow::vector takes types that are aligned to 16 at most");
+
+    /* A call of ecow.h that is given the size of an item. */
+    template <auto call>
+    static constexpr auto sized = [](auto *array, auto... rest) noexcept {
+        return call(array, sizeof(Item), rest...);
+    };
+
+    using type = ecow_array;
+    using item = Item;
+    using given = const Item &;
+    static constexpr auto drop = ecow_array_drop;
+    static constexpr auto clone = ecow_array_clone;
+    static constexpr auto len = sized<ecow_array_len>;
+    static constexpr auto shares = ecow_array_shares;
+    static constexpr auto truncate = sized<ecow_array_truncate>;
+    static constexpr auto clear = ecow_array_clear;
+    static constexpr auto reserve = sized<ecow_array_reserve>;
+    static constexpr auto capacity = sized<ecow_array_capacity>;
+    static constexpr auto shrink_to_fit = ecow_array_shrink_to_fit;
+    static constexpr auto extend = sized<ecow_array_extend>;
+    static constexpr auto splice = sized<ecow_array_splice>;
+    static constexpr auto assign = sized<ecow_array_assign>;
+    static constexpr auto pop = sized<ecow_array_pop>;
+    static constexpr auto remove = sized<ecow_array_remove>;
+    static constexpr auto equal = ecow_array_equal;
+
+    static const Item *slice(const ecow_array *array, std::size_t *count) noexcept {
+        return static_cast<const Item *>(ecow_array_slice(array, sizeof(Item), count));
+    }
+
+    static ecow_status edit(ecow_array *array, Item **start, std::size_t *count) noexcept {
+        void *all = nullptr;
+        const ecow_status status = ecow_array_edit(array, sizeof(Item), &all, count);
+        *start = static_cast<Item *>(all);
+        return status;
+    }
+
+    static ecow_status set(ecow_array *array, std::size_t index, const Item &one) noexcept {
+        return ecow_array_set(array, sizeof(Item), index, std::addressof(one));
+    }
+
+    static ecow_status push(ecow_array *array, const Item &one) noexcept {
+        return ecow_array_push(array, sizeof(Item), std::addressof(one));
+    }
+
+    static ecow_status insert(ecow_array *array, std::size_t index, const Item &one) noexcept {
+        return ecow_array_insert(array, sizeof(Item), index, std::addressof(one));
+    }
+
+    /* By the hashes of the items, since equal items may differ in their bytes. */
+    static std::uint64_t hash(const ecow_array *array) {
+        std::size_t count = 0;
+        const Item *start = slice(array, &count);
+        std::uint64_t sum = count;
+        for (const Item *place = start; place != start + count; ++place) {
+            sum = (sum ^ std::hash<Item>()(*place)) * 0x9E3779B97F4A7C15;
+            sum ^= sum >> 32;
+        }
+        return sum;
+    }
+};
 
 template <> struct list_calls<std::int64_t> { ECOW_LIST_CALLS(list, std::int64_t); };
 
@@ -462,12 +544,16 @@ template <typename Item, typename Other> constexpr bool are_alike() {
 template <typename Item, typename Other> constexpr bool copies() {
     if constexpr (are_texts<Item>) {
         return is_view<Other>();
-    } else if constexpr (std::is_integral_v<Other> && !std::is_same_v<Item, char>) {
-        return are_alike<Item, Other>() || sizeof(Other) < sizeof(Item)
+    } else if constexpr (are_alike<Item, Other>() || is_one_of<Item, char, bool>) {
+        return are_alike<Item, Other>();
+    } else if constexpr (std::is_floating_point_v<Item> && std::is_arithmetic_v<Other>) {
+        return std::numeric_limits<Other>::digits <= std::numeric_limits<Item>::digits;
+    } else if constexpr (std::is_integral_v<Item> && std::is_integral_v<Other>) {
+        return sizeof(Other) < sizeof(Item)
                || (sizeof(Other) == sizeof(Item)
                    && std::is_signed_v<Other> == std::is_signed_v<Item>);
     } else {
-        return are_alike<Item, Other>();
+        return false;
     }
 }
 
@@ -590,34 +676,60 @@ private:
         for (; first != last; ++first) {
             copied.push_back(static_cast<Item>(*first));
         }
-        lent = {copied.data(), copied.size()};
+        lent = {reinterpret_cast<const Item *>(copied.data()), copied.size()};
     }
 
-    std::vector<Item> copied;
+    /* Those of std::vector<bool> aren't in one array. */
+    std::vector<std::conditional_t<std::is_same_v<Item, bool>, unsigned char, Item>> copied;
     slice<Item> lent{nullptr, 0};
 };
 
 /* ---- Comparisons ---- */
+
+template <typename Type> struct type_of { using type = Type; };
 
 /* What all containers of this header are derived from. */
 class container {};
 
 template <typename Type> constexpr bool is_container = std::is_base_of_v<container, Type>;
 
-/* Whether one is a container of this header, and the other lends such items. */
-template <typename Left, typename Right> constexpr bool are_comparable() {
+/* The type of the items that are compared, where one is a container of this header, and the other lends
+ * such items; else there is none. */
+template <typename Left, typename Right> constexpr auto compared() {
     if constexpr (is_container<Left>) {
-        return lends<typename Left::value_type, Right>();
+        if constexpr (lends<typename Left::value_type, Right>()) {
+            return type_of<typename Left::value_type>();
+        }
     } else if constexpr (is_container<Right>) {
-        return lends<typename Right::value_type, Left>();
-    } else {
-        return false;
+        if constexpr (lends<typename Right::value_type, Left>()) {
+            return type_of<typename Right::value_type>();
+        }
     }
 }
 
-/* What a comparison answers, where both can be compared. */
-template <typename Left, typename Right, typename Answer = bool>
-using comparison = std::enable_if_t<are_comparable<Left, Right>(), Answer>;
+template <typename Left, typename Right>
+using compared_item = typename decltype(compared<Left, Right>())::type;
+
+/* What an operator on two items answers. */
+template <typename Item>
+using item_equal = decltype(std::declval<const Item &>() == std::declval<const Item &>());
+template <typename Item>
+using item_less = decltype(std::declval<const Item &>() < std::declval<const Item &>());
+
+#ifdef __cpp_impl_three_way_comparison
+template <typename Item>
+using item_order = decltype(std::declval<const Item &>() <=> std::declval<const Item &>());
+#endif
+
+/* What a comparison answers, where the items have the operator. */
+template <typename Left, typename Right, template <typename> typename Operator>
+using comparison =
+    std::enable_if_t<std::is_convertible_v<Operator<compared_item<Left, Right>>, bool>, bool>;
+
+/* Whether no operator on the items throws. */
+template <typename Left, typename Right>
+constexpr bool compares_safely = is_whole<compared_item<Left, Right>>
+                                 || std::is_scalar_v<compared_item<Left, Right>>;
 
 /* Bytes are unsigned, those of texts too. */
 template <typename Item> int compare_slices(slice<Item> left, slice<Item> right) noexcept {
@@ -649,33 +761,51 @@ int compare_texts(const Left &left, const Right &right) noexcept {
 }
 
 template <typename Left, typename Right>
-bool are_equal(const Left &left, const Right &right) noexcept {
-    if constexpr (!is_container<Left>) {
-        return are_equal(right, left);
-    } else if constexpr (std::is_same_v<Left, Right>) {
+bool are_equal(const Left &left, const Right &right) noexcept(compares_safely<Left, Right>) {
+    using item = compared_item<Left, Right>;
+    if constexpr (is_whole<item> && std::is_same_v<Left, Right>) {
         return Left::calls::equal(left.c(), right.c());
-    } else if constexpr (are_texts<typename Left::value_type>) {
+    } else if constexpr (are_texts<item>) {
         return compare_texts(left, right) == 0;
     } else {
-        auto all = lend<typename Left::value_type>(left);
-        auto other = lend<typename Left::value_type>(right);
-        return all.count == other.count && compare_slices(all, other) == 0;
+        const auto all = lend<item>(left), other = lend<item>(right);
+        if constexpr (is_whole<item>) {
+            return all.count == other.count && compare_slices(all, other) == 0;
+        } else {
+            return std::equal(all.start, all.start + all.count, other.start,
+                              other.start + other.count);
+        }
     }
 }
 
-/* Below 0 where `left` comes first, 0 where they are equal. */
+/* Whether ecow.h compares them: it has no order of arrays. */
+template <typename Left, typename Right> constexpr bool have_order = false;
+template <typename Value>
+constexpr bool have_order<Value, Value> = !std::is_same_v<typename Value::c_type, ecow_array>;
+
+/* Below 0 where `left` comes first, 0 where they are equal. The items are whole. */
 template <typename Left, typename Right>
 int compare(const Left &left, const Right &right) noexcept {
-    if constexpr (!is_container<Left>) {
-        int order = compare(right, left);
-        return (order < 0) - (order > 0);
-    } else if constexpr (std::is_same_v<Left, Right>) {
+    using item = compared_item<Left, Right>;
+    if constexpr (have_order<Left, Right>) {
         return Left::calls::compare(left.c(), right.c());
-    } else if constexpr (are_texts<typename Left::value_type>) {
+    } else if constexpr (are_texts<item>) {
         return compare_texts(left, right);
     } else {
-        return compare_slices(lend<typename Left::value_type>(left),
-                              lend<typename Left::value_type>(right));
+        return compare_slices(lend<item>(left), lend<item>(right));
+    }
+}
+
+/* Whether `left` comes first, by the items' own `<`. */
+template <typename Left, typename Right>
+bool is_less(const Left &left, const Right &right) noexcept(compares_safely<Left, Right>) {
+    using item = compared_item<Left, Right>;
+    if constexpr (is_whole<item>) {
+        return compare(left, right) < 0;
+    } else {
+        const auto all = lend<item>(left), other = lend<item>(right);
+        return std::lexicographical_compare(all.start, all.start + all.count, other.start,
+                                            other.start + other.count);
     }
 }
 
@@ -953,7 +1083,8 @@ public:
         check(items.give_to(Calls::splice, &raw, start, end));
     }
 
-    /* SipHash-1-3, with keys of 0. Equal values have the same. */
+    /* SipHash-1-3, with keys of 0; of a vector of other items by their own hashes. Equal values have
+     * the same. */
     std::uint64_t hash() const noexcept {
         return Calls::hash(&raw);
     }
@@ -1022,13 +1153,14 @@ public:
     /* Room for all comes first, so that no later part is refused. */
     Self &append(size_type count, value_type item) {
         check(Calls::reserve(&raw, count));
-        value_type part[64];
-        for (value_type &each : part) {
-            each = item;
+        constexpr size_type most = sizeof(item) < 512 ? 512 / sizeof(item) : 1;
+        alignas(value_type) unsigned char part[most * sizeof(item)];
+        for (size_type at = 0; at < count && at < most; ++at) {
+            std::memcpy(part + at * sizeof(item), std::addressof(item), sizeof(item));
         }
         while (count > 0) {
-            size_type added = count < std::size(part) ? count : std::size(part);
-            check(Calls::extend(&raw, part, added));
+            size_type added = count < most ? count : most;
+            check(Calls::extend(&raw, reinterpret_cast<const value_type *>(part), added));
             count -= added;
         }
         return static_cast<Self &>(*this);
@@ -1040,11 +1172,11 @@ protected:
 
 } // namespace detail
 
-/* Numbers: `ecow::list` and `ecow::bytes`. */
+/* A list of items of any type that is trivially copyable and aligned to 16 bytes at most. */
 template <typename Item>
-class basic_list : public detail::contiguous<basic_list<Item>, detail::list_calls<Item>> {
+class vector : public detail::contiguous<vector<Item>, detail::list_calls<Item>> {
     using own = detail::list_calls<Item>;
-    using base = detail::contiguous<basic_list<Item>, own>;
+    using base = detail::contiguous<vector<Item>, own>;
 
 public:
     using base::base;
@@ -1056,10 +1188,10 @@ public:
     using typename base::iterator;
     using typename base::size_type;
 
-    basic_list() = default;
+    vector() = default;
 
     /* `count` zeros. */
-    explicit basic_list(size_type count) : base(count, Item()) {}
+    explicit vector(size_type count) : base(count, Item()) {}
 
     explicit operator std::vector<Item>() const {
         return std::vector<Item>(this->begin(), this->end());
@@ -1106,23 +1238,25 @@ public:
 
     /* Takes the last item and returns it. Throws std::out_of_range where there is none. */
     Item pop_back() {
-        Item item = 0;
-        detail::check(own::pop(&this->raw, &item));
+        const Item item = this->at(this->size() - 1);
+        detail::check(own::pop(&this->raw, nullptr));
         return item;
     }
 
     /* Takes the item at `index` and returns it. Throws std::out_of_range from the size on. */
     Item take(size_type index) {
-        Item item = 0;
-        detail::check(own::remove(&this->raw, index, &item));
+        const Item item = this->at(index);
+        detail::check(own::remove(&this->raw, index, nullptr));
         return item;
     }
 };
 
-using list = basic_list<std::int64_t>;
+template <typename Item> vector(std::initializer_list<Item>) -> vector<Item>;
+
+using list = vector<std::int64_t>;
 
 /* At most 15 bytes take no memory beside the value. */
-using bytes = basic_list<std::uint8_t>;
+using bytes = vector<std::uint8_t>;
 
 /* UTF-8, always: at most 15 bytes take no memory beside the value. Items are bytes. An index is a
  * boundary where a character begins or the text ends. A character is a Unicode scalar value.
@@ -1449,7 +1583,7 @@ private:
 /* Texts, which are read as std::string_view. A text goes in and out as a clone, which shares its
  * memory; what is given as std::string, std::string_view or a literal is copied, and refused with
  * `invalid_text` where it isn't UTF-8. */
-class texts : public detail::sequence<texts, detail::texts_calls> {
+template <> class vector<text> : public detail::sequence<texts, detail::texts_calls> {
     using base = detail::sequence<texts, detail::texts_calls>;
     using item = detail::text_item;
 
@@ -1460,13 +1594,13 @@ public:
     using base::insert;
     using base::operator=;
 
-    texts() = default;
+    vector() = default;
 
     /* `count` empty texts. */
-    explicit texts(size_type count) : texts(count, "") {}
+    explicit vector(size_type count) : vector(count, "") {}
 
     /* The same text `count` times, in the same memory. */
-    texts(size_type count, item repeated) {
+    vector(size_type count, item repeated) {
         text shared = repeated.get();
         detail::check(ecow_texts_reserve(&raw, count));
         while (count-- > 0) {
@@ -1569,42 +1703,59 @@ std::basic_ostream<char, Traits> &operator<<(std::basic_ostream<char, Traits> &o
     return out << std::basic_string_view<char, Traits>(written.data(), written.size());
 }
 
-/* The order of the items, one by one; bytes are unsigned. */
+/* The order of the items, one by one, by their own operators; bytes are unsigned. */
 template <typename Left, typename Right>
-detail::comparison<Left, Right> operator==(const Left &left, const Right &right) noexcept {
+detail::comparison<Left, Right, detail::item_equal>
+operator==(const Left &left, const Right &right) noexcept(detail::compares_safely<Left, Right>) {
     return detail::are_equal(left, right);
 }
 
 #ifdef __cpp_impl_three_way_comparison
 template <typename Left, typename Right>
-detail::comparison<Left, Right, std::strong_ordering> operator<=>(const Left &left,
-                                                                  const Right &right) noexcept {
-    return detail::compare(left, right) <=> 0;
+detail::item_order<detail::compared_item<Left, Right>>
+operator<=>(const Left &left, const Right &right) noexcept(detail::compares_safely<Left, Right>) {
+    using item = detail::compared_item<Left, Right>;
+    if constexpr (detail::is_whole<item>) {
+        return detail::compare(left, right) <=> 0;
+    } else {
+        const auto all = detail::lend<item>(left), other = detail::lend<item>(right);
+        for (std::size_t at = 0; at < all.count && at < other.count; ++at) {
+            if (const auto order = all.start[at] <=> other.start[at]; order != 0) {
+                return order;
+            }
+        }
+        return all.count <=> other.count;
+    }
 }
 #else
 template <typename Left, typename Right>
-detail::comparison<Left, Right> operator!=(const Left &left, const Right &right) noexcept {
+detail::comparison<Left, Right, detail::item_equal>
+operator!=(const Left &left, const Right &right) noexcept(detail::compares_safely<Left, Right>) {
     return !detail::are_equal(left, right);
 }
 
 template <typename Left, typename Right>
-detail::comparison<Left, Right> operator<(const Left &left, const Right &right) noexcept {
-    return detail::compare(left, right) < 0;
+detail::comparison<Left, Right, detail::item_less>
+operator<(const Left &left, const Right &right) noexcept(detail::compares_safely<Left, Right>) {
+    return detail::is_less(left, right);
 }
 
 template <typename Left, typename Right>
-detail::comparison<Left, Right> operator<=(const Left &left, const Right &right) noexcept {
-    return detail::compare(left, right) <= 0;
+detail::comparison<Left, Right, detail::item_less>
+operator<=(const Left &left, const Right &right) noexcept(detail::compares_safely<Left, Right>) {
+    return !detail::is_less(right, left);
 }
 
 template <typename Left, typename Right>
-detail::comparison<Left, Right> operator>(const Left &left, const Right &right) noexcept {
-    return detail::compare(left, right) > 0;
+detail::comparison<Left, Right, detail::item_less>
+operator>(const Left &left, const Right &right) noexcept(detail::compares_safely<Left, Right>) {
+    return detail::is_less(right, left);
 }
 
 template <typename Left, typename Right>
-detail::comparison<Left, Right> operator>=(const Left &left, const Right &right) noexcept {
-    return detail::compare(left, right) >= 0;
+detail::comparison<Left, Right, detail::item_less>
+operator>=(const Left &left, const Right &right) noexcept(detail::compares_safely<Left, Right>) {
+    return !detail::is_less(left, right);
 }
 #endif
 
@@ -1636,9 +1787,6 @@ typename Value::size_type erase(Value &value, const Item &item) {
 /* ---- Nested values ---- */
 
 namespace detail {
-
-template <typename Type, typename... Types>
-constexpr bool is_one_of = std::disjunction_v<std::is_same<Type, Types>...>;
 
 /* Whole numbers of which each is an std::int64_t. Characters are none. */
 template <typename Type>
@@ -2304,6 +2452,16 @@ template <typename Visitor> decltype(auto) value::visit(Visitor &&visitor) const
     return visitor(nullptr);
 }
 
+namespace detail {
+
+struct hashes {
+    template <typename Value> std::size_t operator()(const Value &hashed) const noexcept {
+        return static_cast<std::size_t>(hashed.hash());
+    }
+};
+
+} // namespace detail
+
 /* The hash of std::string_view, so that a table of texts is searched by views and literals too:
  * std::unordered_map<ecow::text, T, ecow::text_hash, std::equal_to<>>, in C++20. */
 struct text_hash {
@@ -2329,19 +2487,13 @@ template <> struct std::formatter<ecow::text> : std::formatter<std::string_view>
 };
 #endif
 
-template <typename Item> struct std::hash<ecow::basic_list<Item>> {
-    std::size_t operator()(const ecow::basic_list<Item> &hashed) const noexcept {
-        return static_cast<std::size_t>(hashed.hash());
-    }
-};
+/* Items have to have a hash of their own. */
+template <typename Item>
+struct std::hash<ecow::vector<Item>>
+    : std::conditional_t<std::is_default_constructible_v<std::hash<Item>>, ecow::detail::hashes,
+                         std::hash<Item>> {};
 
 template <> struct std::hash<ecow::text> : ecow::text_hash {};
-
-template <> struct std::hash<ecow::texts> {
-    std::size_t operator()(const ecow::texts &hashed) const noexcept {
-        return static_cast<std::size_t>(hashed.hash());
-    }
-};
 
 template <> struct std::hash<ecow::value> {
     std::size_t operator()(const ecow::value &hashed) const {

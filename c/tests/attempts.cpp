@@ -12,10 +12,6 @@
 #include <span>
 #endif
 
-template <typename Item, typename = void> constexpr bool has_kind = false;
-template <typename Item>
-constexpr bool has_kind<Item, std::void_t<decltype(sizeof(ecow::detail::list_calls<Item>))>> = true;
-
 /* What `*place = item` and std::sort need. */
 template <typename Value>
 constexpr bool writes_through_iterators =
@@ -173,7 +169,6 @@ static void values_of_c() {
 static_assert(!std::is_convertible_v<ecow::text, std::string>);
 static_assert(
     !writes_through_iterators<ecow::list> && writes_through_iterators<std::vector<std::int64_t>>);
-static_assert(!has_kind<double> && has_kind<std::int64_t>);
 static_assert(
     !writes_by_index<
         ecow::list> && !writes_by_index<ecow::text> && writes_by_index<std::vector<std::int64_t>>);
