@@ -778,9 +778,11 @@ typedef struct ecow_head {
 #ifdef __cplusplus
 #define ECOW_AT(type, address) reinterpret_cast<const type *>(address)
 #define ECOW_IN(type, place) static_cast<const type *>(static_cast<const void *>(place))
+#define ECOW_NUMBER(pointer) reinterpret_cast<uintptr_t>(pointer)
 #else
 #define ECOW_AT(type, address) ((const type *)(address))
 #define ECOW_IN(type, place) ((const type *)(const void *)(place))
+#define ECOW_NUMBER(pointer) ((uintptr_t)(pointer))
 #endif
 
 /* What has no head has its items in the struct, or none. */
@@ -815,14 +817,16 @@ ECOW_READ(texts, ecow_text, word[0], byte, 0)
 #undef ECOW_READ_SMALL
 #undef ECOW_READ
 
-/* The head of an array counts bytes. */
+/* The head of an array counts bytes. What has no head has no items, and an address at its struct that
+ * is aligned to 16. */
 ECOW_INLINE const void *ecow_array_slice(const ecow_array *array, size_t size, size_t *len) {
-    static const uint64_t nothing[2] __attribute__((__aligned__(16))) = {0};
-    const ecow_head *head = ECOW_AT(ecow_head, array ? array->word[0] : 0);
+    static const ecow_array nothing = {{0}};
+    const ecow_array *place = array ? array : &nothing;
+    const ecow_head *head = ECOW_AT(ecow_head, place->word[0]);
     if (len) {
         *len = head && size ? head->len / size : 0;
     }
-    return head ? head->items : nothing;
+    return head ? head->items : ECOW_AT(void, (ECOW_NUMBER(place) + 15) / 16 * 16);
 }
 
 ECOW_INLINE size_t ecow_array_len(const ecow_array *array, size_t size) {
@@ -838,6 +842,7 @@ ECOW_INLINE const void *ecow_array_at(const ecow_array *array, size_t size, size
 }
 #undef ECOW_AT
 #undef ECOW_IN
+#undef ECOW_NUMBER
 
 ECOW_INLINE const char *ecow_texts_at(const ecow_texts *texts, size_t index, size_t *len) {
     size_t count;

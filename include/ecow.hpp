@@ -245,12 +245,6 @@ constexpr bool is_whole = std::is_integral_v<Item> || std::is_same_v<Item, std::
 
 /* Those on lists of items of any type, as an array. */
 template <typename Item> struct list_calls {
-    static_assert(!std::is_same_v<Item, std::string_view>,
-                  "ecow::vector doesn't take std::string_view: ecow::texts copies what it sees");
-    static_assert(std::is_trivially_copyable_v<Item> && !std::is_const_v<Item>,
-                  "ecow::vector takes ecow::text, and types that are trivially copyable");
-    static_assert(alignof(Item) <= 16, "ecow::vector takes types that are aligned to 16 at most");
-
     /* A call of ecow.h that is given the size of an item. */
     template <auto call>
     static constexpr auto sized = [](auto *array, auto... rest) noexcept {
@@ -259,7 +253,7 @@ template <typename Item> struct list_calls {
 
     using type = ecow_array;
     using item = Item;
-    using given = const Item &;
+    using given = Item;
     static constexpr auto drop = ecow_array_drop;
     static constexpr auto clone = ecow_array_clone;
     static constexpr auto len = sized<ecow_array_len>;
@@ -1175,6 +1169,12 @@ protected:
 /* A list of items of any type that is trivially copyable and aligned to 16 bytes at most. */
 template <typename Item>
 class vector : public detail::contiguous<vector<Item>, detail::list_calls<Item>> {
+    static_assert(!std::is_same_v<Item, std::string_view>,
+                  "ecow::vector doesn't take std::string_view: ecow::texts copies what it sees");
+    static_assert(std::is_trivially_copyable_v<Item> && !std::is_const_v<Item>,
+                  "ecow::vector takes ecow::text, and types that are trivially copyable");
+    static_assert(alignof(Item) <= 16, "ecow::vector takes types that are aligned to 16 at most");
+
     using own = detail::list_calls<Item>;
     using base = detail::contiguous<vector<Item>, own>;
 
@@ -1250,8 +1250,6 @@ public:
         return item;
     }
 };
-
-template <typename Item> vector(std::initializer_list<Item>) -> vector<Item>;
 
 using list = vector<std::int64_t>;
 

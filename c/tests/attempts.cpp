@@ -114,6 +114,37 @@ static void bytes() {
 #endif
 }
 
+struct point {
+    double x, y;
+};
+
+static void vectors() {
+    ecow::vector<double> reals{1.5, 0.5}, more = reals;
+    ecow::vector<point> points{{1, 2}, {3, 4}};
+    std::ptrdiff_t right = 0;
+    more.push_back(2);
+    points.push_back({5, 6});
+    points.emplace_back(point{7, 8});
+    for (const auto &[x, y] : points) {
+        right += x < y;
+    }
+    for (double &each : more.edit()) {
+        each *= 2;
+    }
+    std::vector<double> copied(more);
+    std::sort(copied.begin(), copied.end());
+    CHECK(right == 4 && points.size() == 4 && points.front().x == 1 && more[2] == 4);
+    CHECK(reals == ecow::vector<double>{1.5, 0.5} && more == std::vector<double>{3, 1, 4});
+    CHECK(reals < more && copied.front() == 1 && std::is_sorted(copied.begin(), copied.end()));
+    auto items = reals.edit();
+    std::sort(items.begin(), items.end());
+    CHECK(reals == ecow::vector<double>{0.5, 1.5});
+    std::set<ecow::vector<int>> sets{{1, 2}, {1}, {1, 2}};
+    std::unordered_map<ecow::vector<int>, int> counts;
+    counts[{1, 2}]++;
+    CHECK(sets.size() == 2 && counts[ecow::vector<int>{1, 2}] == 1);
+}
+
 static void lists_of_texts() {
     const std::vector<std::string> names{"one", "two"};
     ecow::texts words(names), made{"one", std::string("two")};
@@ -187,6 +218,7 @@ int main() {
         tables_of_texts();
         lists();
         bytes();
+        vectors();
         lists_of_texts();
         nested_values();
         values_of_c();

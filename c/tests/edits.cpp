@@ -650,12 +650,16 @@ int main(int argc, char **argv) {
     long edits = argc > 1 ? std::atol(argv[1]) : 100000;
     try {
         editor<ecow::list, std::vector<std::int64_t>> lists;
+        editor<ecow::vector<std::int32_t>, std::vector<std::int32_t>> small;
+        editor<ecow::vector<double>, std::vector<double>> reals;
         editor<ecow::bytes, std::vector<std::uint8_t>> bytes;
         editor<ecow::text, std::string> texts;
         editor<ecow::texts, std::vector<std::string_view>> lists_of_texts;
         value_editor nested;
         for (long edit = 0; edit < edits; edit++) {
             lists.edit();
+            small.edit();
+            reals.edit();
             bytes.edit();
             texts.edit();
             lists_of_texts.edit();

@@ -275,9 +275,11 @@ template <typename Value> static void items() {
     CHECK(Value(2) == Value{0, 0} && Value(0).empty());
     given<Value>(std::vector<signed char>{1, 2, 3});
     given<Value>(std::set<char>{1, 2, 3});
-    if constexpr (sizeof(typename Value::value_type) > 1) {
+    if constexpr (sizeof(item) > 1) {
         given<Value>(std::vector<int>{1, 2, 3});
         given<Value>(std::array<unsigned short, 3>{1, 2, 3});
+    }
+    if constexpr (sizeof(item) > 4) {
         given<Value>(std::set<long long>{1, 2, 3});
         given<Value>(std::deque<unsigned>{1, 2, 3});
     }
@@ -375,6 +377,148 @@ static void only_bytes() {
     static_assert(!std::is_constructible_v<ecow::list, const char *>);
     static_assert(!std::is_constructible_v<ecow::list, std::string_view>);
 }
+
+/* ---- Vectors of any items ---- */
+
+/* A struct of the program's, with operators and a hash of its own: the name doesn't count. */
+struct point {
+    double x, y;
+    char name;
+
+    friend bool operator==(const point &left, const point &right) {
+        return left.x == right.x && left.y == right.y;
+    }
+
+    friend bool operator<(const point &left, const point &right) {
+        return left.x < right.x || (left.x == right.x && left.y < right.y);
+    }
+
+#ifdef __cpp_impl_three_way_comparison
+    friend std::partial_ordering operator<=>(const point &left, const point &right) {
+        return left.x == right.x ? left.y <=> right.y : left.x <=> right.x;
+    }
+#endif
+};
+
+template <> struct std::hash<point> {
+    std::size_t operator()(const point &hashed) const noexcept {
+        return std::hash<double>()(hashed.x + hashed.y);
+    }
+};
+
+/* One without an operator, without a hash, and that isn't made of nothing. */
+struct alignas(16) plain {
+    explicit plain(int given) : number(given) {}
+
+    int number;
+};
+
+template <typename Value, typename = void> constexpr bool has_equal = false;
+template <typename Value>
+constexpr bool has_equal<
+    Value, std::void_t<decltype(std::declval<const Value &>() == std::declval<const Value &>())>> =
+    true;
+
+template <typename Value, typename = void> constexpr bool has_less = false;
+template <typename Value>
+constexpr bool has_less<
+    Value, std::void_t<decltype(std::declval<const Value &>() < std::declval<const Value &>())>> =
+    true;
+
+static void vectors_of_structs() {
+    using points = ecow::vector<point>;
+    points some{{3, 4, 'a'}, {1, 2, 'b'}, {1, 0, 'c'}};
+    const points copy = some;
+    CHECK(some.shares(copy) && some.size() == 3 && some[1].name == 'b' && some.at(2).y == 0);
+    auto items = some.edit();
+    std::sort(items.begin(), items.end());
+    CHECK(some[0].name == 'c' && some[2].name == 'a' && copy[0].name == 'a' && !some.shares(copy));
+    CHECK(some != copy && some < copy && copy > some && some <= copy && !(some >= copy));
+    some.set(0, {1, 0, 'd'});
+    some.push_back({5, 5, 'e'});
+    CHECK(some.emplace_back().x == 0 && some.pop_back().y == 0 && some.back().name == 'e');
+    some.push_back(some.front());
+    some.insert(some.begin(), some[3]);
+    CHECK(some.size() == 6 && some.front().name == 'e' && some.back().name == 'd');
+    CHECK(some.take(0).name == 'e' && erase(some, point{5, 5, 'x'}) == 1 && some.size() == 4);
+    CHECK(erase_if(some, [](const point &each) { return each.x > 1; }) == 1);
+    /* Equal ones differ in their names, and so in their bytes. */
+    points alike{{1, 0, 'x'}, {1, 2, 'y'}, {1, 0, 'z'}};
+    CHECK(some == alike && some.hash() == alike.hash() && !some.shares(alike));
+    CHECK(some == std::vector<point>(alike) && std::vector<point>(alike) == some);
+    std::unordered_map<points, int> hashed{{some, 1}};
+    std::map<points, int> sorted{{some, 1}, {copy, 2}};
+    CHECK(hashed[alike] == 1 && hashed.size() == 1 && sorted[alike] == 1 && sorted.size() == 2);
+    some.assign(200, {7, 7, 'w'});
+    CHECK(some.size() == 200 && some[199].name == 'w' && some.max_size() == PTRDIFF_MAX / sizeof(point));
+    some.resize(2);
+    some.resize(3);
+    CHECK(some[1].x == 7 && some[2].x == 0 && some[2].name == 0);
+    const points between(copy.begin() + 1, copy.end());
+    CHECK(between.size() == 2 && between[0].name == 'b' && points(3)[2].y == 0);
+#ifdef __cpp_lib_ranges
+    std::ranges::sort(some.edit(), std::greater<>(), &point::x);
+    CHECK(some[0].x == 7 && some[2].x == 0 && (some <=> copy) > 0 && (some <=> some) == 0);
+    static_assert(std::is_same_v<decltype(some <=> some), std::partial_ordering>);
+#endif
+}
+
+static void vectors_of_others() {
+    const double nan = std::numeric_limits<double>::quiet_NaN();
+    ecow::vector<double> reals{0.5, -0.0, nan}, copy = reals;
+    CHECK(reals.shares(copy) && reals != copy && !(reals < copy) && !(copy < reals));
+    reals.pop_back();
+    copy = {0.5, 0.0};
+    CHECK(reals == copy && reals.hash() == copy.hash() && reals <= copy);
+    CHECK(ecow::vector<double>(std::vector<float>{1.5f})[0] == 1.5
+          && ecow::vector<double>(std::vector<int>{7})[0] == 7);
+    const ecow::vector<float> floats{2, 1.5f};
+    CHECK(floats == std::array<float, 2>{2, 1.5f} && floats[1] == 1.5f);
+    ecow::vector<std::array<char, 3>> words{{'o', 'n', 'e'}, {'t', 'w', 'o'}};
+    words.push_back({'t', 'e', 'n'});
+    auto three = words.edit();
+    std::sort(three.begin(), three.end());
+    CHECK(words[1] == std::array{'t', 'e', 'n'} && words.size() == 3 && words.data()[2][0] == 't');
+    ecow::vector<plain> plains;
+    plains.push_back(plain(1));
+    plains.append(70, plain(2)).insert(plains.begin(), plain(3));
+    CHECK(plains.pop_back().number == 2 && plains.take(0).number == 3 && plains.size() == 70);
+    CHECK(plains[0].number == 1 && reinterpret_cast<std::uintptr_t>(plains.data()) % 16 == 0);
+    const ecow::vector<plain> empty;
+    CHECK(reinterpret_cast<std::uintptr_t>(empty.data()) % 16 == 0 && empty.empty());
+    ecow::vector<bool> flags(std::vector<bool>{true, false});
+    flags.push_back(true);
+    CHECK(flags == ecow::vector<bool>{true, false, true} && erase(flags, true) == 2);
+    CHECK(!flags[0] && flags.size() == 1 && std::vector<bool>(flags).size() == 1);
+    ecow::vector<int *> pointers(2, nullptr);
+    int number = 5;
+    pointers.set(1, &number);
+    CHECK(*pointers[1] == 5 && pointers[0] == nullptr);
+    ecow::vector<char> letters("abc");
+    CHECK(letters == "abc" && letters > "ab" && letters < std::string("abd"));
+    static_assert(std::is_same_v<ecow::vector<std::int64_t>, ecow::list>);
+    static_assert(std::is_same_v<ecow::vector<std::uint8_t>, ecow::bytes>);
+    static_assert(std::is_same_v<ecow::vector<ecow::text>, ecow::texts>);
+    static_assert(std::is_same_v<ecow::vector<double>::c_type, ecow_array>);
+    static_assert(has_equal<ecow::vector<double>> && !has_equal<ecow::vector<plain>>);
+    static_assert(has_less<ecow::vector<int *>> && !has_less<ecow::vector<plain>>);
+    static_assert(std::is_default_constructible_v<std::hash<ecow::vector<float>>>);
+    static_assert(!std::is_default_constructible_v<std::hash<ecow::vector<plain>>>);
+    static_assert(noexcept(floats == floats) && !noexcept(words == words));
+    /* Another array of items of another size. */
+    ecow_array made = ecow_array_new();
+    CHECK(ecow_array_assign(&made, 3, "abc", 1) == ECOW_OK);
+    ecow::vector<std::int32_t> wrong(&made);
+    CHECK(throws<ecow::wrong_kind>(ECOW_KIND, [&] { wrong.push_back(1); }));
+}
+
+static_assert(takes<ecow::vector<double>, float> && takes<ecow::vector<double>, int>);
+static_assert(refuses<ecow::vector<double>, long> && refuses<ecow::vector<double>, long double>);
+static_assert(takes<ecow::vector<float>, short> && refuses<ecow::vector<float>, int>);
+static_assert(refuses<ecow::vector<float>, double> && refuses<ecow::vector<int>, float>);
+static_assert(takes<ecow::vector<int>, char16_t> && refuses<ecow::vector<int>, unsigned>);
+static_assert(refuses<ecow::vector<bool>, char> && refuses<ecow::vector<point>, char>);
+static_assert(refuses<ecow::vector<int *>, char> && refuses<ecow::vector<int *>, long>);
 
 /* ---- Texts ---- */
 
@@ -578,10 +722,28 @@ int main() {
     traits<ecow::list>();
     traits<ecow::bytes>();
     traits<ecow::text>();
+    traits<ecow::vector<std::int32_t>>();
     try {
         const std::vector<std::int64_t> numbers{5, -1, 3, 4, 2, 6, 7};
         const std::vector<std::uint8_t> bytes(20, 200);
         const std::string letters = "sixteen letters.";
+        const std::vector<std::int32_t> small{5, -1, 3, 4, 2, 6, 7};
+        const std::vector<float> reals{5, -1.5, 3, 4, 2, 6, 7};
+        using smalls = ecow::vector<std::int32_t>;
+        copies<smalls>(small);
+        values<smalls>(small);
+        of_c<smalls>(small);
+        ways<smalls>();
+        iterators<smalls>();
+        items<smalls>();
+        edits_in_place<smalls>({5, 1, 3, 4, 2});
+        copies<ecow::vector<float>>(reals);
+        values<ecow::vector<float>>(reals);
+        of_c<ecow::vector<float>>(reals);
+        ways<ecow::vector<float>>();
+        edits_in_place<ecow::vector<float>>({5, 1.5, 3, 4, 2});
+        vectors_of_structs();
+        vectors_of_others();
         copies<ecow::list>(numbers);
         copies<ecow::bytes>(bytes);
         copies<ecow::text>(letters);

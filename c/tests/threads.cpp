@@ -15,15 +15,20 @@
 #include <utility>
 #include <vector>
 
+struct point {
+    double x, y;
+};
+
 struct values {
     ecow::list list{1, 2, 3, 4, 5, 6, 7};
+    ecow::vector<point> points{{1, 2}, {3, 4}};
     ecow::bytes bytes{200, 100};
     ecow::text text{std::string_view("longer than fifteen bytes")};
 };
 
 static bool are_untouched(const values &all) {
     return std::accumulate(all.list.begin(), all.list.end(), std::int64_t{0}) == 28
-           && all.bytes.size() == 2 && all.text == std::string_view("longer than fifteen bytes");
+           && all.points.size() == 2 && all.points[1].y == 4 && all.bytes.size() == 2 && all.text == std::string_view("longer than fifteen bytes");
 }
 
 /* Counts the rounds that went wrong, and gives the copies on in `given`. */
@@ -32,9 +37,13 @@ static void churn(values given, long rounds, std::int64_t number, values &left, 
         values copy(given);
         copy.list.push_back(number);
         copy.list.set(0, round);
+        copy.points.push_back({0.5, 7});
+        copy.points.set(1, {0.5, static_cast<double>(round)});
         copy.bytes.append({1, 2, 3, 4, 5, 6, 7, 8, 9, 10, 11, 12, 13, 14});
         copy.text += "!";
         bool right = copy.list.size() == 8 && copy.list[7] == number && copy.list[0] == round
+                     && copy.points.size() == 3 && copy.points[2].y == 7
+                     && copy.points[1].y == static_cast<double>(round)
                      && copy.bytes.size() == 16 && copy.text.size() == 26 && are_untouched(given);
         std::swap(copy.list, left.list);
         wrong += !right;

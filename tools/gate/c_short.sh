@@ -211,6 +211,12 @@ if has C++17 $cxx -std=c++17 -fsyntax-only -include string_view -x c++ /dev/null
     refused -std=c++17 deleted 'const char *f(const ecow::value &v) { return v.text().data(); }'
     refused -std=c++17 deleted 'ecow::value f(ecow::value &v) { return v.take({"a", 0}); }'
     refused -std=c++17 deleted 'const ecow::value *f(ecow::value &v) { return v.get("a").peek(0); }'
+    refused -std=c++17 'takes ecow::text, and types that are trivially copyable' \
+        'ecow::vector<std::string> f() { return {}; }'
+    refused -std=c++17 'aligned to 16 at most' \
+        'struct alignas(32) wide { int first; }; ecow::vector<wide> f() { return {}; }'
+    refused -std=c++17 'ecow::texts copies what it sees' 'ecow::vector<std::string_view> f() { return {}; }'
+    refused -std=c++17 deleted 'const double *f() { return ecow::vector<double>(3).data(); }'
     refused -std=c++17 'no matching ' 'ecow::bytes f(const std::vector<int> &v) { return ecow::bytes(v); }'
     echo "c++: $told lines refused with words that say why"
     test_cpp 17
