@@ -1,5 +1,6 @@
-/* ecow.h for C++17 and later: the containers `ecow::list`, `ecow::bytes`, `ecow::text` and
- * `ecow::texts`, and the nested `ecow::value`. Copies share memory until one of them is changed.
+/* ecow.h for C++17 and later: the containers `ecow::vector<T>` and `ecow::text`, and the nested
+ * `ecow::value`. `ecow::list`, `ecow::bytes` and `ecow::texts` are vectors of std::int64_t, of
+ * std::uint8_t and of `ecow::text`. Copies share memory until one of them is changed.
  *
  * Names. A member that std's containers have is called as there, any other as in ecow.h. The
  * exceptions are `take`, which is `remove` there, and `c` and `release`, which lend and give up the
@@ -15,7 +16,7 @@
  * Arrays. An argument of type `array` is one of these, and may lie in the value that changes:
  *     a std::vector, std::array, std::span or C array of the items, which is read where it lies
  *     for bytes and texts an array of other bytes, a literal, std::string or std::string_view: too
- *     for lists and bytes a container of whole numbers that all fit, which is copied first
+ *     for numbers and bytes a container of numbers that all fit, which is copied first
  *     any other container of the items, which is copied first
  *     for lists of texts a container of texts, std::string, std::string_view or literals: texts and
  *     those of another list go in as clones, which share memory, and all others are copied
@@ -1166,7 +1167,8 @@ protected:
 
 } // namespace detail
 
-/* A list of items of any type that is trivially copyable and aligned to 16 bytes at most. */
+/* A list of items of any type that is trivially copyable, and aligned to 16 bytes at most. Items are
+ * compared and hashed by operators and std::hash of their own, where they have them. */
 template <typename Item>
 class vector : public detail::contiguous<vector<Item>, detail::list_calls<Item>> {
     static_assert(!std::is_same_v<Item, std::string_view>,

@@ -86,11 +86,12 @@ def cpp_page(faults):
         paragraph = re.sub(r"((?:\n    [^\n]*)+)", lambda match: "\n\n```text" + match.group(1).replace("\n    ", "\n")
                            + "\n```\n\n", paragraph)
         out.append(paragraph + "\n")
-    wanted = [("basic_list", "`ecow::list` and `ecow::bytes`"), ("text", "`ecow::text`"), ("texts", "`ecow::texts`"),
-              ("value", "`ecow::value`"), ("span", "`ecow::span`"), ("contiguous", "What list, bytes and text have in common"),
+    wanted = [("vector", "`ecow::vector<T>`, `ecow::list` and `ecow::bytes`"), ("text", "`ecow::text`"),
+              ("vector<text>", "`ecow::texts`"),
+              ("value", "`ecow::value`"), ("span", "`ecow::span`"), ("contiguous", "What vectors and text have in common"),
               ("sequence", "What all containers have in common"), ("owned", "What all values have in common")]
     for name, title in wanted:
-        match = re.search(rf"(?:^|\n)((?:/\*(?:(?!\*/).)*\*/\n)?)((?:template <[^\n]*>\s)?)class {name}\b([^;{{]*)\{{", text, re.S)
+        match = re.search(rf"(?:^|\n)((?:/\*(?:(?!\*/).)*\*/\n)?)((?:template <[^\n]*>\s)?)class {name}(?![<\w])([^;{{]*)\{{", text, re.S)
         if not match:
             faults.append(f"include/ecow.hpp: no class {name}")
             continue
