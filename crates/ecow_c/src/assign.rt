@@ -7,8 +7,10 @@ ghost use Rattle.ecow_nested.specs.declared.value.Kind.TheVariants as kind;
 ghost use Rattle.ecow_c.specs.Arrays.{AltersArray, are_items};
 ghost use Rattle.ecow_c.specs.Answers.{Alters, AltersBytes, AltersList, AltersText, AltersTexts, IsAmong, ReadsTo, RefusesPast};
 
-use crate::pointer::{ArrayPointer, BytesPointer, ListPointer, TextPointer, TextsPointer, ValuePointer};
 use crate::elements::arrays::are_items;
+use crate::pointer::{
+    ArrayPointer, BytesPointer, ListPointer, TextPointer, TextsPointer, ValuePointer,
+};
 use crate::status::{CAPACITY, KIND, MEMORY, NULL, OK, UTF8, put, some_or};
 use crate::text::to_str;
 use crate::value::assign;

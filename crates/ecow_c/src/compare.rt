@@ -10,7 +10,9 @@ ghost use Rattle.ecow_c.specs.Arrays.{array_at};
 ghost use Rattle.ecow_c.specs.Answers.{are_equal, bytes_at, chars_at, hash_of, numbers_at, order_of, texts_at};
 ghost use Rattle.ecow_c.specs.Texts.{text_cmp, text_eq, text_fed};
 
-use crate::pointer::{ArrayPointer, BytesPointer, ListPointer, TextPointer, TextsPointer, ValuePointer};
+use crate::pointer::{
+    ArrayPointer, BytesPointer, ListPointer, TextPointer, TextsPointer, ValuePointer,
+};
 use crate::status::{order, some_or};
 use ecow_bytes::EcoBytes;
 use ecow_list::EcoVec;

@@ -5,8 +5,8 @@ ghost use Rattle.ecow_base.specs.Utf8.{utf8_len};
 ghost use Rattle.ecow_c.specs.Arrays.{AltersArray, HasItemsAnd, RefusesSize, are_items, array_at, count_in};
 ghost use Rattle.ecow_c.specs.Answers.{AltersBytes, AltersList, AltersText, AltersTexts, IsAmong, RefusesPast, bytes_at, chars_at, numbers_at, texts_at};
 
-use crate::pointer::{ArrayPointer, BytesPointer, ListPointer, TextPointer, TextsPointer};
 use crate::elements::arrays::{are_items, reserve_first};
+use crate::pointer::{ArrayPointer, BytesPointer, ListPointer, TextPointer, TextsPointer};
 use crate::status::{CAPACITY, IntoStatus, KIND, MEMORY, NULL, OK, ok_or_status, some_or, status};
 use ecow_base::MAX_LEN;
 use ecow_list::EcoVec;
@@ -28,7 +28,10 @@ pub extern "C" fn ecow_proved_array_capacity(pointer: &mut ArrayPointer, size: u
     ensures room { 0 < size → count_in size (array_at pointer.old.value) ≤ result }
     ensures unchanged { pointer.new.value ≡ pointer.old.value }
 {
-    some_or!(pointer.array(), 0).capacity().checked_div(size).unwrap_or(0)
+    some_or!(pointer.array(), 0)
+        .capacity()
+        .checked_div(size)
+        .unwrap_or(0)
 }
 
 /// The capacity in bytes, which is at least the length; 0 for a null pointer.
