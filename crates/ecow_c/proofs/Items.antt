@@ -1,13 +1,27 @@
 -- The items in bytes, and the bytes of items.
-use Rattle.std.proofs.Common.{◌≡◌, ℕ, zero, suc, ◌+◌, ◌-◌, ◌*◌, ◌/◌, ◌%◌, ◌<◌, ◌≤◌, Bool, true, List, [], ◌∷◌, ◌++◌, length, take, drop, refl, sym, ap, ap₂, ◌∙◌, subst, arith, rules}
+use Rattle.std.proofs.Common.{◌≡◌, ℕ, zero, suc, ◌+◌, ◌-◌, ◌*◌, ◌/◌, ◌%◌, ◌<◌, ◌≤◌, Bool, true, List, [], ◌∷◌, ◌++◌, length, take, drop, refl, sym, ap, ap₂, ◌∙◌, subst, arith, rules, inl, inr}
 use Rattle.std.proofs.Math.Nat.{mul-sub, lt_of_mul-lt-mul_right}
 use Rattle.std.proofs.Math.Seq.{take-add}
 use Rattle.std.proofs.lemmas.List.{drop-drop, take_all, take_rest, length-drop, append-nil}
+use Rattle.std.proofs.lemmas.Bool.{cases_lt}
 use Rattle.std.proofs.lemmas.List.Folds.{concat-append}
-use Rattle.std.specs.Prelude.{slice_set, slice_get, Some}
-use Rattle.std.specs.List.{concat, replace_range, remove}
+use Rattle.std.specs.Prelude.{slice_set, slice_get, ◌↔◌, Option, Some, IfSome, Result, OnOk}
+use Rattle.std.specs.declared.result.Result.TheVariants.{Ok, Err}
+use Rattle.std.specs.declared.ops.Bound.TheVariants.{Included, Excluded}
+use Rattle.ecow_base.specs.declared.capacity.TheConstants.{MAX_LEN}
+use Rattle.ecow_list.specs.Ranges.{AtRange}
+use Rattle.ecow_list.proofs.Ranges.{within}
+use Rattle.std.specs.Option.{option_map}
+use Rattle.std.proofs.lemmas.List.Edits.{paste_all, length-paste, take-paste}
+use Rattle.std.proofs.lemmas.Slice.{put_mid-paste}
+use borrow.Rule.Slice.PartMut.{put_mid}
+use Rattle.ecow_list.proofs.Views.{refilled}
+use Rattle.std.specs.List.{concat, copy_within, replace_range, remove, refill}
+use Rattle.std.proofs.Math.Seq.{paste}
 use Rattle.std.specs.Simd.{first_chunks}
-use Rattle.ecow_c.specs.Arrays.{are_items, count_in, items_in}
+use Rattle.std.proofs.lemmas.Option.{none-some}
+use Rattle.ecow_c.specs.declared.status.TheConstants.{OK, NULL}
+use Rattle.ecow_c.specs.Arrays.{AltersArray, AltersItems, ItemsPass, are_items, count_in, items_in}
 
 -- the bytes of the first k items
 pub concat_first : (n k : ℕ) (xs : List ℕ) → concat (first_chunks n k xs) ≡ take (k * n) xs
@@ -61,6 +75,27 @@ concat_push n xs item are = concat-append (items_in n xs) (item ∷ []) ∙ ap�
 
 pub concat_extend : (n : ℕ) (xs ys : List ℕ) → are_items n xs ≡ true → are_items n ys ≡ true → concat (items_in n xs ++ items_in n ys) ≡ xs ++ ys
 concat_extend n xs ys are added = concat-append (items_in n xs) (items_in n ys) ∙ ap₂ (λ l m. l ++ m) (concat_all n xs are) (concat_all n ys added)
+
+mul_le : (n j k : ℕ) → j ≤ k → j * n ≤ k * n
+mul_le n j k le = grind (arith, le)
+
+-- at most k items, as many as there are
+pub concat_take_any : (n k : ℕ) (xs : List ℕ) → are_items n xs ≡ true → concat (take k (items_in n xs)) ≡ take (k * n) xs
+concat_take_any n k xs are = elim (cases_lt k (count_in n xs)) [
+  | inl lt ↦ concat_take n k xs are (omega (arith, lt))
+  | inr ge ↦
+      let all : length (items_in n xs) ≤ k = omega (arith, length_first n (count_in n xs) xs, ge) in
+      let more : length xs ≤ k * n = omega (arith, whole n xs are, mul_le n (count_in n xs) k ge) in
+      ap concat (take_all k (items_in n xs) all) ∙ concat_all n xs are ∙ sym (take_all (k * n) xs more)
+]
+
+-- the same where the product is bounded by what is past the end
+pub concat_take_most : (n k m : ℕ) (xs : List ℕ) → are_items n xs ≡ true → (k * n ≤ length xs → m ≡ k * n) → (length xs ≤ k * n → length xs ≤ m)
+    → concat (take k (items_in n xs)) ≡ take m xs
+concat_take_most n k m xs are within past = concat_take_any n k xs are ∙ elim (cases_lt (k * n) (length xs)) [
+  | inl lt ↦ sym (ap (λ j. take j xs) (within (omega (arith, lt))))
+  | inr ge ↦ take_all (k * n) xs ge ∙ sym (take_all m xs (past ge))
+]
 
 -- others in place of some
 pub concat_splice : (n start end : ℕ) (xs ys : List ℕ) → are_items n xs ≡ true → are_items n ys ≡ true → start ≤ end → end ≤ count_in n xs
@@ -116,3 +151,76 @@ past_end n i xs are past = search rules
 
 pub item_fits : (n i : ℕ) (xs : List ℕ) → are_items n xs ≡ true → i < count_in n xs → i * n + n ≤ length xs
 item_fits n i xs are below = search rules
+
+-- what a call does to the bytes, said of the items
+pub alters_items : (n : ℕ) (change : List (List ℕ) → List (List ℕ)) (f : List ℕ → List ℕ) (old : Option (List ℕ)) (status : ℕ)
+    (new : Option (List ℕ)) (bytes : List ℕ) → old ≡ Some bytes → concat (change (items_in n bytes)) ≡ f bytes
+    → AltersArray f old status new → AltersItems n change old status new
+alters_items n change f old status new bytes is same a = record {
+  ok = λ done. a.ok done ∙ ap (option_map f) is ∙ ap Some (sym same) ∙ sym (ap (option_map (λ bs. concat (change (items_in n bs)))) is);
+  refused = a.refused;
+  null = a.null;
+}
+
+-- what a block holds in which some bytes were written
+pub written : (block all bytes item copied : List ℕ) (start k : ℕ) → all ≡ block → block ≡ bytes → copied ≡ item → start + length item ≤ length bytes
+    → k ≡ length item → refill (length block) block (put_mid start k all copied) ≡ take start bytes ++ (item ++ drop (start + length item) bytes)
+written block all bytes item copied start k same was is fits size =
+    let put : put_mid start k all copied ≡ take start bytes ++ (item ++ drop (start + length item) bytes) =
+        put_mid-paste start k all copied item (length item) is (sym size) refl ∙ paste_all all start item (length item) refl
+        ∙ ap (λ xs. take start xs ++ (item ++ drop (start + length item) xs)) (same ∙ was) in
+    let len : length block ≡ length (put_mid start k all copied) =
+        ap length was ∙ sym (length-paste bytes start item (length item) fits (omega arith))
+        ∙ ap (λ xs. length xs) (paste_all bytes start item (length item) refl) ∙ sym (ap length put) in
+    refilled (length block) block (put_mid start k all copied) len ∙ put
+
+-- what is left of a block in which the bytes behind an item went to its place
+pub closed : (block all bytes moved : List ℕ) (start size len : ℕ) → all ≡ block → block ≡ bytes → len ≡ length bytes → start + size ≤ length bytes
+    → moved ≡ copy_within all (start + size) len start
+    → take (len - size) (refill (length block) block moved) ≡ take start bytes ++ drop (start + size) bytes
+closed block all bytes moved start size len same was all_len fits is =
+    let n = len - (start + size) in
+    let rest : length (drop (start + size) bytes) ≡ n = omega (arith, length-drop (start + size) bytes, all_len) in
+    let here : moved ≡ paste bytes start (drop (start + size) bytes) n = is ∙ ap (λ xs. paste xs start (drop (start + size) xs) n) (same ∙ was) in
+    let long : length moved ≡ length bytes =
+        ap length here ∙ length-paste bytes start (drop (start + size) bytes) n (omega (arith, all_len, fits)) (omega (arith, rest)) in
+    let cut : len - size ≡ start + n = omega (arith, all_len, fits) in
+    ap (take (len - size)) (refilled (length block) block moved (omega (arith, ap length was, long)) ∙ here)
+    ∙ ap (λ m. take m (paste bytes start (drop (start + size) bytes) n)) cut
+    ∙ take-paste bytes start (drop (start + size) bytes) n (omega (arith, fits)) (omega (arith, rest))
+    ∙ ap (λ xs. take start bytes ++ xs) (take_all n (drop (start + size) bytes) (omega (arith, rest)))
+
+-- the same of a call that writes to a block that was lent, and is done
+pub lent_alters : {X : Type 0} (n : ℕ) (change : List (List ℕ) → List (List ℕ)) (f : List ℕ → List ℕ) (old : Option (List ℕ)) (bytes : List ℕ)
+    (lender : X → List ℕ) (x : X) → old ≡ Some bytes → concat (change (items_in n bytes)) ≡ f bytes → lender x ≡ f bytes → 0 ≡ OK → (0 ≡ NULL → ⊥)
+    → AltersItems n change old 0 (Some (lender x))
+lent_alters n change f old bytes lender x is same left done no_null = record {
+  ok = λ _. ap Some (left ∙ sym same) ∙ sym (ap (option_map (λ bs. concat (change (items_in n bs)))) is);
+  refused = λ other. absurd (other done);
+  null = ((λ e. absurd (no_null e)), λ none. absurd (none-some bytes (sym none ∙ is)));
+}
+
+pub taken : (start size : ℕ) (all : List ℕ) → take (start + size - start) (drop start all) ≡ take size (drop start all)
+taken start size all = let e : start + size - start ≡ size = omega arith in ap (λ n. take n (drop start all)) e
+
+-- a range of items is a range of their bytes
+pub bytes_in_order : (n start end : ℕ) → start ≤ end → start * n ≤ end * n
+bytes_in_order n start end le = mul_le n start end le
+
+pub bytes_in_bounds : (n end : ℕ) (xs : List ℕ) → are_items n xs ≡ true → end ≤ count_in n xs → end * n ≤ length xs
+bytes_in_bounds n end xs are le = omega (arith, whole n xs are, mul_le n end (count_in n xs) le)
+
+pub replaced : {R E : Type 0} (result : Result R E) (xs new added : List ℕ) (s e : ℕ) → s ≤ e → e ≤ length xs
+    → OnOk result (AtRange (Included s, Excluded e) (length xs) (λ i j. new ≡ replace_range xs i j added))
+    → OnOk result (new ≡ replace_range xs s e added)
+replaced (Ok r) xs new added s e in_order in_bounds h =
+    subst (λ (range : Option (ℕ × ℕ)). IfSome range (λ part. new ≡ replace_range xs part.0 part.1 added)) (within s e (length xs) in_order in_bounds) h
+replaced (Err r) xs new added s e in_order in_bounds h = tt
+
+-- where there are no bytes, those that are added alone pass the limit
+pub passes_empty : (n start end : ℕ) (added xs : List ℕ) → xs ≡ [] → are_items n xs ≡ true → start ≤ end → end ≤ count_in n xs
+    → (MAX_LEN < length xs + length added) ↔ ItemsPass n start end added xs
+passes_empty n start end added xs none are in_order in_bounds =
+    let part : (end - start) * n ≤ end * n = mul_le n (end - start) end (omega arith) in
+    let product : (end - start) * n ≡ 0 = omega (arith, part, bytes_in_bounds n end xs are in_bounds, ap length none) in
+    ((λ past. (in_order, in_bounds, omega (arith, past, product))), λ pass. omega (arith, pass.2, product))

@@ -170,13 +170,26 @@ pub extern "C" fn ecow_proved_list_hash(alloc: Global, pointer: &mut ListPointer
     hash!(pointer.list(), EcoVec::<i64>::new(alloc))
 }
 
+/// The hash of some bytes, as an `EcoBytes` has it: their number, and then all in one write.
+fn hash_bytes(bytes: &[u8]) -> u64
+    ensures { result ≡ hash_of (hash_writes bytes.now) }
+{
+    let mut hasher = DefaultHasher::new();
+    hasher.write_usize(bytes.len());
+    hasher.write(bytes);
+    hasher.finish()
+}
+
 /// The hash of the bytes of the items, by std's hasher. Equal arrays have equal hashes.
 #[unsafe(no_mangle)]
-pub extern "C" fn ecow_proved_array_hash(alloc: Global, pointer: &mut ArrayPointer) -> u64
+pub extern "C" fn ecow_proved_array_hash(pointer: &mut ArrayPointer) -> u64
     ensures hash { result ≡ hash_of (hash_writes (array_at pointer.old.value)) }
     ensures unchanged { pointer.new.value ≡ pointer.old.value }
 {
-    hash!(pointer.array(), EcoVec::<u8>::new(alloc))
+    match pointer.array() {
+        Some(array) => hash_bytes(array.as_slice()),
+        None => hash_bytes(&[]),
+    }
 }
 
 /// The hash of the bytes, by std's hasher. Equal bytes have equal hashes.

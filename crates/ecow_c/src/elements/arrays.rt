@@ -1,6 +1,6 @@
 //! The calls on the items of an array. All items have one size in bytes, which each call is given;
 //! one item is given as its bytes, so their number is the size.
-ghost use Rattle.std.specs.Prelude.{◌≡◌, ◌↔◌, ◌≤◌, ◌<◌, ◌+◌, ◌*◌, ◌∷◌, ◌++◌, [], length, take, remove, slice_get, slice_set, true, Some, IfErr, MatchOption};
+ghost use Rattle.std.specs.Prelude.{◌≡◌, ◌↔◌, ◌≤◌, ◌<◌, ◌+◌, ◌*◌, ◌∷◌, ◌++◌, [], length, take, remove, slice_get, slice_set, true, Some, IfErr, MatchOption, OnErr};
 ghost use Rattle.std.specs.List.{replace_range};
 ghost use Rattle.ecow_c.specs.Answers.{IsAmong, Writes};
 ghost use Rattle.ecow_c.specs.Arrays.{AltersItems, BothHaveItemsAnd, HasItemsAnd, ItemsPass, RefusesSize, RefusesSizes, are_items, count_in, items_in};
@@ -55,6 +55,7 @@ pub(crate) fn reserve_first(
     ensures bytes { array.new ≡ array.old }
     ensures refused { IfErr result
         (λ error. error ≡ EcoError.Capacity ↔ (MAX_LEN < length array.old + added)) }
+    ensures empty { OnErr result (array.old ≡ []) }
 {
     if added == 0 || array.capacity() > 0 {
         return Ok(());
