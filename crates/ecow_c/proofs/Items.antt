@@ -167,11 +167,11 @@ pub written : (block all bytes item copied : List ℕ) (start k : ℕ) → all �
     → k ≡ length item → refill (length block) block (put_mid start k all copied) ≡ take start bytes ++ (item ++ drop (start + length item) bytes)
 written block all bytes item copied start k same was is fits size =
     let put : put_mid start k all copied ≡ take start bytes ++ (item ++ drop (start + length item) bytes) =
-        put_mid-paste start k all copied item (length item) is (sym size) refl ∙ paste_all all start item (length item) refl
-        ∙ ap (λ xs. take start xs ++ (item ++ drop (start + length item) xs)) (same ∙ was) in
+    put_mid-paste start k all copied item (length item) is (sym size) refl ∙ paste_all all start item (length item) refl
+    ∙ ap (λ xs. take start xs ++ (item ++ drop (start + length item) xs)) (same ∙ was) in
     let len : length block ≡ length (put_mid start k all copied) =
-        ap length was ∙ sym (length-paste bytes start item (length item) fits (omega arith))
-        ∙ ap (λ xs. length xs) (paste_all bytes start item (length item) refl) ∙ sym (ap length put) in
+    ap length was ∙ sym (length-paste bytes start item (length item) fits (omega arith))
+    ∙ ap (λ xs. length xs) (paste_all bytes start item (length item) refl) ∙ sym (ap length put) in
     refilled (length block) block (put_mid start k all copied) len ∙ put
 
 -- what is left of a block in which the bytes behind an item went to its place
@@ -183,7 +183,7 @@ closed block all bytes moved start size len same was all_len fits is =
     let rest : length (drop (start + size) bytes) ≡ n = omega (arith, length-drop (start + size) bytes, all_len) in
     let here : moved ≡ paste bytes start (drop (start + size) bytes) n = is ∙ ap (λ xs. paste xs start (drop (start + size) xs) n) (same ∙ was) in
     let long : length moved ≡ length bytes =
-        ap length here ∙ length-paste bytes start (drop (start + size) bytes) n (omega (arith, all_len, fits)) (omega (arith, rest)) in
+    ap length here ∙ length-paste bytes start (drop (start + size) bytes) n (omega (arith, all_len, fits)) (omega (arith, rest)) in
     let cut : len - size ≡ start + n = omega (arith, all_len, fits) in
     ap (take (len - size)) (refilled (length block) block moved (omega (arith, ap length was, long)) ∙ here)
     ∙ ap (λ m. take m (paste bytes start (drop (start + size) bytes) n)) cut

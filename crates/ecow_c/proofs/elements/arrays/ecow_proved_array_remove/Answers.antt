@@ -33,7 +33,7 @@ returns-clause-out c =
     let below : c.args.index < count_in size bytes = search rules in
     let all : c.as_mut_slice-all.result.now ≡ bytes = c.as_mut_slice-all.ensures.value ∙ c.in-Ok.ensures.value (λ x y same. same) in
     let copied : c.copy_from_slice.new.self ≡ take size (drop (c.args.index * size) bytes) =
-        c.copy_from_slice.ensures.after ∙ taken start size c.as_mut_slice-all.result.now ∙ ap (λ xs. take size (drop start xs)) all
-        ∙ ap (λ at. take size (drop at bytes)) begins in
+    c.copy_from_slice.ensures.after ∙ taken start size c.as_mut_slice-all.result.now ∙ ap (λ xs. take size (drop start xs)) all
+    ∙ ap (λ at. take size (drop at bytes)) begins in
     let item = get_item size c.args.index bytes below ∙ ap Some (sym copied) in
     search (rules, is, item)

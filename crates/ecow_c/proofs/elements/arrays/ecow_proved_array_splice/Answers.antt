@@ -30,9 +30,9 @@ returns-clause-items c =
     let in_bounds : c.args.end ≤ count_in size bytes = search rules in
     let same : c.reserve_first.new.array ≡ bytes = search rules in
     let left = replaced c.replace_range.result c.reserve_first.new.array c.replace_range.new.self added (c.args.start * size) (c.args.end * size)
-        (bytes_in_order size c.args.start c.args.end in_order)
-        (omega (arith, ap length same, bytes_in_bounds size c.args.end bytes are in_bounds)) c.replace_range.ensures.ok in
+    (bytes_in_order size c.args.start c.args.end in_order)
+    (omega (arith, ap length same, bytes_in_bounds size c.args.end bytes are in_bounds)) c.replace_range.ensures.ok in
     let done : AltersArray (λ bs. replace_range bs (c.args.start * size) (c.args.end * size) added) c.args.pointer.now.value c.status.result (Some c.replace_range.new.self) =
-        search (rules, is, same, left) in
+    search (rules, is, same, left) in
     alters_items size (λ xs. replace_range xs c.args.start c.args.end (items_in size added)) (λ bs. replace_range bs (c.args.start * size) (c.args.end * size) added) _ _ _ bytes is
     (concat_splice size c.args.start c.args.end bytes added are are_added in_order in_bounds) done
