@@ -507,7 +507,9 @@ static void vectors_of_others() {
     static_assert(noexcept(floats == floats) && !noexcept(words == words));
     /* Another array of items of another size. */
     ecow_array made = ecow_array_new();
-    CHECK(ecow_array_assign(&made, 3, "abc", 1) == ECOW_OK);
+    if (ecow_array_assign(&made, 3, "abc", 1) != ECOW_OK) {
+        throw std::bad_alloc();
+    }
     ecow::vector<std::int32_t> wrong(&made);
     CHECK(throws<ecow::wrong_kind>(ECOW_KIND, [&] { wrong.push_back(1); }));
 }
