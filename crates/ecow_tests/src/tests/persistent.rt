@@ -433,7 +433,7 @@ fn refuses(alloc: Global, call: usize, refused: u64) -> Result<bool, EcoError> {
 /// The leaf that is cut has 128 elements, and the last one 44. Three are added.
 #[test]
 fn each_refused_clone_leaves_the_lists(rt: HostRuntime) -> Result<(), Fail> {
-    for (call, clones) in [(0, 128), (1, 128), (2, 47), (3, 3)] {
+    for (call, clones) in [(0, 128_u64), (1, 128), (2, 47), (3, 3)] {
         for refused in 0..clones {
             assert!(rt; refuses(rt.alloc(), call, refused.wrapping_add(1))?);
         }
