@@ -4,6 +4,7 @@ use crate::error::{Error, Rejected, assert_index, inside, inside_with};
 use crate::proved::ecow_tree as proved;
 use crate::shim::alloc::Global;
 use crate::shim::granted;
+use crate::vec::EcoVec;
 use core::cmp::Ordering;
 use core::fmt::{self, Debug};
 use core::hash::{Hash, Hasher};
@@ -89,6 +90,107 @@ impl<T> EcoTree<T> {
     #[must_use]
     pub fn iter(&self) -> Iter<'_, T> {
         Iter(self.0.iter(), self.len())
+    }
+
+    /// Moves the elements of `other` behind those of this list. `other` is empty then. This list shares all blocks of
+    /// `other`, and clones no element. Takes time logarithmic in the lengths.
+    /// # Panics
+    /// If the length would pass 2^63 - 1.
+    ///
+    ///     let (mut list, mut other) = (ecow::EcoTree::from([1, 2]), ecow::EcoTree::from([3]));
+    ///     list.append(&mut other);
+    ///     assert!(list == [1, 2, 3] && other.is_empty());
+    pub fn append(&mut self, other: &mut Self) {
+        granted(self.0.append(&mut other.0));
+    }
+
+    /// As [`append`](Self::append).
+    /// # Errors
+    /// `Error::Capacity`, `Error::Memory`. Both lists are unchanged then.
+    ///
+    ///     let (mut list, mut other) = (ecow::EcoTree::from([1, 2]), ecow::EcoTree::from([3]));
+    ///     assert_eq!(list.try_append(&mut other), Ok(()));
+    pub fn try_append(&mut self, other: &mut Self) -> Result<(), Error> {
+        Ok(self.0.append(&mut other.0)?)
+    }
+}
+
+impl<T: Clone> EcoTree<T> {
+    /// Clones of the elements of a slice, in blocks of 128.
+    /// # Errors
+    /// `Error::Memory`.
+    ///
+    ///     assert_eq!(ecow::EcoTree::try_from_slice(&[1, 2]), Ok(ecow::EcoTree::from([1, 2])));
+    pub fn try_from_slice(slice: &[T]) -> Result<Self, Error> {
+        Ok(EcoTree(proved::EcoTree::from_slice(Global, slice)?))
+    }
+
+    /// Clones of the elements of a vector, in blocks of 128.
+    /// # Errors
+    /// `Error::Memory`; `vec` comes back.
+    ///
+    ///     assert_eq!(ecow::EcoTree::try_from_eco_vec(ecow::eco_vec![1, 2]), Ok(ecow::EcoTree::from([1, 2])));
+    pub fn try_from_eco_vec(vec: EcoVec<T>) -> Result<Self, Rejected<EcoVec<T>>> {
+        proved::EcoTree::from_vec(vec.0).map(EcoTree).map_err(|rejected| Rejected::of(rejected, EcoVec))
+    }
+
+    /// Appends clones of the elements of a slice: to the last block if they fit into it, and else in blocks of their own.
+    /// The last block is cloned if it is shared and they fit into it.
+    ///
+    ///     let mut list = ecow::EcoTree::from([1]); list.extend_from_slice(&[2, 3]);
+    ///     assert_eq!(list, [1, 2, 3]);
+    pub fn extend_from_slice(&mut self, slice: &[T]) {
+        granted(self.0.extend_from_slice(slice));
+    }
+
+    /// As [`extend_from_slice`](Self::extend_from_slice).
+    /// # Errors
+    /// `Error::Capacity`, `Error::Memory`. Nothing is appended then.
+    ///
+    ///     assert_eq!(ecow::EcoTree::from([1]).try_extend_from_slice(&[2, 3]), Ok(()));
+    pub fn try_extend_from_slice(&mut self, slice: &[T]) -> Result<(), Error> {
+        Ok(self.0.extend_from_slice(slice)?)
+    }
+
+    /// Takes the elements from `at` on, as another list. Both lists keep their blocks, and no element is cloned, except
+    /// for those of a shared block that is cut. Takes time logarithmic in the length.
+    /// # Panics
+    /// If `at` is greater than the length.
+    ///
+    ///     let mut list = ecow::EcoTree::from([1, 2, 3]);
+    ///     assert!(list.split_off(1) == [2, 3] && list == [1]);
+    #[track_caller]
+    pub fn split_off(&mut self, at: usize) -> Self {
+        assert_index(at <= self.len(), at, self.len());
+        EcoTree(granted(self.0.split_off(at)))
+    }
+
+    /// As [`split_off`](Self::split_off).
+    /// # Errors
+    /// `Error::Index`; `Error::Memory` if there is no memory for a block. The list is unchanged then.
+    ///
+    ///     assert_eq!(ecow::EcoTree::from([1]).try_split_off(2), Err(ecow::Error::Index));
+    pub fn try_split_off(&mut self, at: usize) -> Result<Self, Error> {
+        inside(at <= self.len())?;
+        Ok(EcoTree(self.0.split_off(at)?))
+    }
+
+    /// Keeps the first `len` elements, or all if there are fewer, and drops the others. A shared block of elements that is
+    /// cut is cloned.
+    ///
+    ///     let mut list = ecow::EcoTree::from([1, 2, 3]); list.truncate(1);
+    ///     assert_eq!(list, [1]);
+    pub fn truncate(&mut self, len: usize) {
+        granted(self.0.truncate(len));
+    }
+
+    /// As [`truncate`](Self::truncate).
+    /// # Errors
+    /// `Error::Memory` if there is no memory for a block. The list is unchanged then.
+    ///
+    ///     assert_eq!(ecow::EcoTree::from([1, 2]).try_truncate(1), Ok(()));
+    pub fn try_truncate(&mut self, len: usize) -> Result<(), Error> {
+        Ok(self.0.truncate(len)?)
     }
 }
 
@@ -185,6 +287,11 @@ impl<T: Clone, const N: usize> From<[T; N]> for EcoTree<T> {
     fn from(array: [T; N]) -> Self {
         array.into_iter().collect()
     }
+}
+
+from! {
+    [T: Clone] &[T] => EcoTree<T>: |slice| granted(Self::try_from_slice(slice));
+    [T: Clone] EcoVec<T> => EcoTree<T>: |vec| granted(Self::try_from_eco_vec(vec));
 }
 
 impl<'a, T> IntoIterator for &'a EcoTree<T> {

@@ -474,7 +474,29 @@ fn trees() {
         pop try_pop ()                "- - 4/0/1/0 - - 44/0/2/1= 52/0/3/2="
         insert try_insert (0, item(9)) "0/0/1/0 0/0/1/0 4/0/1/0 0/0/3/1 0/0/2/1 128/0/4/1 128/0/5/2"
         remove try_remove (0)         ". - 4/0/1/0 - - 128/0/2/1 128/0/3/2"
+        split_off try_split_off (3)   ". 0/0/1/0 4/0/2/0 0/0/1/0 0/0/2/0 128/0/4/0 128/0/10/0"
+        truncate try_truncate (3)     "- 0/1/1/0 4/1/2/0 0/125/1/0 0/297/2/0 128/125/4/0 128/125/10/0"
+        truncate try_truncate (2100)  NOTHING
+        extend_from_slice try_extend_from_slice (&PAIR)
+            "2/0/1/0 2/0/1/0 6/0/1/0 2/0/3/1 2/0/0/1 46/0/2/1= 54/0/3/2="
+        extend_from_slice try_extend_from_slice (&[]) NOTHING
     }
+    // A list that is appended keeps its block, and nothing is appended of an empty one.
+    let (pair, none) = (EcoTree::from([8, 9].map(item)), EcoTree::new());
+    let append = |list: &mut EcoTree<Item>, other: &EcoTree<Item>| {
+        let mut other = other.clone();
+        list.append(&mut other);
+        other.len()
+    };
+    let try_append = |list: &mut EcoTree<Item>, other: &EcoTree<Item>| {
+        let mut other = other.clone();
+        list.try_append(&mut other).unwrap();
+        other.len()
+    };
+    let more = |list: &mut Vec<Item>| {
+        list.extend([8, 9].map(item));
+        0
+    };
     let mix = |all: u64, number: u64| (all * 31 + number) % 1_000_003;
     let sum = |all: u64, item: &Item| mix(all, item.0);
     let whole = |all: u64, chunk: &[Item]| chunk.iter().fold(mix(all, chunk.len() as u64), sum);
@@ -497,6 +519,10 @@ fn trees() {
             ". 0/1/0/0 4/1/1/0 0/1/0/0 0/1/0/1 128/1/2/1 128/1/3/2"
         extend (v => v.extend([8, 9].map(item))) (w => w.extend([8, 9].map(item)))
             "0/0/1/0 0/0/1/0 4/0/1/0 0/0/2/1 - 44/0/2/1= 52/0/3/2="
+        append (v => append(v, &pair)) (w => more(w)) "- 0/0/2/1 0/0/2/1= 0/0/2/1 0/0/2/1 0/0/2/1= 0/0/3/2="
+        try_append (v => try_append(v, &pair)) (w => more(w)) "- 0/0/2/1 0/0/2/1= 0/0/2/1 0/0/2/1 0/0/2/1= 0/0/3/2="
+        append (v => append(v, &none)) (_ => 0) NOTHING
+        try_append (v => try_append(v, &none)) (_ => 0) NOTHING
         clear (v => v.clear()) (w => w.clear()) "- 0/4/0/0 0/0/0/0 0/128/0/0 0/300/0/0 0/0/0/0 0/0/0/0"
         drop (v => drop(take(v))) (w => w.clear()) "- 0/4/0/0 0/0/0/0 0/128/0/0 0/300/0/0 0/0/0/0 0/0/0/0"
     }
@@ -505,6 +531,13 @@ fn trees() {
         default (EcoTree::default()) ([]) "0/0/0/0"
         from (EcoTree::from([1, 2].map(item))) ([1, 2].map(item)) "0/0/1/0"
         from_iter ((0..5).map(item).collect()) ([0, 1, 2, 3, 4].map(item)) "0/0/2/0"
+        from (EcoTree::from(&PAIR[..])) (PAIR) "2/0/1/0"
+        try_from_slice (EcoTree::try_from_slice(&PAIR).unwrap()) (PAIR) "2/0/1/0"
+    }
+    let vec = EcoVec::from(&PAIR[..]);
+    made_rows! { EcoTree<Item>:
+        from (EcoTree::from(vec.clone())) (PAIR) "2/0/1/0"
+        try_from_eco_vec (EcoTree::try_from_eco_vec(vec.clone()).unwrap()) (PAIR) "2/0/1/0"
     }
     // Of other lengths, in `trees.rs`.
     for call in ["eq", "partial_cmp", "cmp", "hash", "fmt"] {

@@ -4,7 +4,7 @@
 mod allocator;
 
 use allocator::{HELD, REFUSED, REQUESTS};
-use ecow::{EcoTree, Error, Rejected};
+use ecow::{EcoTree, EcoVec, Error, Rejected};
 use std::cell::Cell;
 use std::hash::{BuildHasher, BuildHasherDefault, DefaultHasher, Hash};
 use std::panic::{AssertUnwindSafe, catch_unwind};
@@ -52,10 +52,26 @@ fn edits_beside_a_vector() {
         for edit in 0..3 * most + 50 {
             let grows = below(most) >= model.len() / 2;
             let at = below(model.len() + 1);
-            match below(4) {
+            match below(8) {
                 0 if grows => (list.push(item(edit)), model.push(item(edit))),
                 1 | 2 if grows => (list.insert(at, item(edit)), model.insert(at, item(edit))),
                 3 if at < model.len() => (list.set(at, item(edit)), model[at] = item(edit)),
+                4 => {
+                    // The parts of both change places.
+                    let (mut back, mut tail) = (list.split_off(at), model.split_off(at));
+                    (back.append(&mut list), tail.append(&mut model));
+                    assert!(list.is_empty());
+                    ((list, model) = (back, tail), ())
+                }
+                5 if grows => {
+                    let more: Vec<Item> = (0..below(300)).map(item).collect();
+                    (list.extend_from_slice(&more), model.extend_from_slice(&more))
+                }
+                6 if at > model.len() / 2 => (list.truncate(at), model.truncate(at)),
+                7 if grows => {
+                    let other = &model[..at.min(300)];
+                    (list.append(&mut EcoTree::from(other)), model.append(&mut other.to_vec()))
+                }
                 _ if at < model.len() => (assert_eq!(list.remove(at), model.remove(at)), ()),
                 _ => (assert_eq!(list.pop(), model.pop()), ()),
             };
@@ -76,6 +92,8 @@ fn edits_beside_a_vector() {
             }
         }
         same(&model.iter().cloned().collect(), &model);
+        same(&EcoTree::from(&model[..]), &model);
+        same(&EcoTree::from(EcoVec::from(&model[..])), &model);
     }
     assert_eq!(HELD.get(), held);
     // Equal lists in other blocks.
@@ -109,6 +127,16 @@ fn a_change_copies_its_way() {
     assert_eq!(count(&mut || list.set(50_001, number.clone())), (1, 1));
     drop(before);
     assert_eq!(count(&mut || list.set(9, other.clone())), (1, 1));
+    // Parts of a list keep its blocks, and so does a list that they are put into. 50,000 is inside a leaf.
+    let (mut back, place) = (EcoTree::new(), std::ptr::from_ref(&list[99_999]));
+    let (clones, requests) = count(&mut || back = list.split_off(50_000));
+    assert!(clones == 0 && requests < 50 && std::ptr::eq(&back[49_999], place), "{requests}");
+    let all = back.clone();
+    let (clones, requests) = count(&mut || back.append(&mut list));
+    assert!(clones == 0 && requests < 50 && std::ptr::eq(&back[49_999], place), "{requests}");
+    assert!(list.is_empty() && back.len() == 100_000 && all.len() == 50_000 && back[50_000] == item(0));
+    let (clones, requests) = count(&mut || back.truncate(1000));
+    assert!((65..=128).contains(&clones) && requests - clones < 50, "{clones} {requests}");
 }
 
 #[test]
@@ -118,18 +146,33 @@ fn refused() {
     assert_eq!(list.try_set(5000, 1).unwrap_err(), Rejected { error: Error::Index, value: 1 });
     assert_eq!(list.try_insert(5001, 1).unwrap_err(), Rejected { error: Error::Index, value: 1 });
     assert_eq!(list.try_remove(5000), Err(Error::Index));
+    assert_eq!(list.try_split_off(5001), Err(Error::Index));
+    assert!(catch_unwind(AssertUnwindSafe(|| list.split_off(5001))).is_err());
     assert!(catch_unwind(AssertUnwindSafe(|| list.set(5000, 1))).is_err());
     assert!(catch_unwind(AssertUnwindSafe(|| list.insert(5001, 1))).is_err());
     assert!(catch_unwind(AssertUnwindSafe(|| list.remove(5000))).is_err());
     let two = EcoTree::from([1, 2]);
     assert!(list == all && two == [1, 2] && two != [1] && two != [1, 3]);
     let held = HELD.get();
-    let calls: [fn(&mut EcoTree<u64>) -> bool; 5] = [
+    let calls: [fn(&mut EcoTree<u64>) -> bool; 10] = [
         |list| list.try_set(2500, 7).is_err_and(|back| (back.value, back.error) == (7, Error::Memory)),
         |list| list.try_insert(2500, 7).is_err_and(|back| (back.value, back.error) == (7, Error::Memory)),
         |list| list.try_push(7).is_err_and(|back| (back.value, back.error) == (7, Error::Memory)),
         |list| list.try_remove(2500) == Err(Error::Memory),
         |list| list.try_pop() == Err(Error::Memory),
+        |list| list.try_split_off(2500) == Err(Error::Memory),
+        |list| list.try_truncate(2500) == Err(Error::Memory),
+        |list| list.try_extend_from_slice(&[7; 300]) == Err(Error::Memory),
+        |list| {
+            let mut other = list.clone();
+            let is_refused = list.try_append(&mut other) == Err(Error::Memory);
+            assert_eq!(other.len(), if is_refused { 5000 } else { 0 });
+            is_refused
+        },
+        |list| {
+            let Some(chunk) = list.chunks().next() else { return false };
+            EcoTree::try_from_slice(chunk) == Err(Error::Memory)
+        },
     ];
     for call in calls {
         for request in 1.. {
