@@ -251,16 +251,17 @@ fn a_truncation_drops_the_rest(rt: HostRuntime) -> Result<(), Fail> {
 /// Splits a list of so many elements before `at`, and truncates it there, while another list shares
 /// its blocks. Whether the split clones so many elements, and the truncation as many at most, and
 /// all lists hold what they should.
-fn cuts(alloc: Global, len: i64, at: i64, clones: u64) -> Result<bool, EcoError> {
+fn cuts(alloc: Global, len: u32, at: u32, clones: u64) -> Result<bool, EcoError> {
     let tally = Tally::new(alloc)?;
-    let all = counted(alloc, &tally, len)?;
+    let (end, middle) = (len as i64, at as i64);
+    let all = counted(alloc, &tally, end)?;
     let (mut front, mut short) = (all.clone()?, all.clone()?);
     let back = split_off(&mut front, at as usize)?;
     let split = tally.clones();
     short.truncate(at as usize)?;
     let truncated = tally.clones().wrapping_sub(split);
-    let are_right = runs(&all, 0, len) && runs(&front, 0, at) && runs(&back, at, len);
-    let is_short = runs(&short, 0, at);
+    let are_right = runs(&all, 0, end) && runs(&front, 0, middle) && runs(&back, middle, end);
+    let is_short = runs(&short, 0, middle);
     drop(all);
     drop(short);
     let are_dropped = tally.has_live(len as u64);
@@ -456,10 +457,10 @@ fn leaves(list: &EcoTree<i64>, least: usize) -> Option<usize> {
 }
 
 /// A list of so many elements made of a slice.
-fn of_slice(alloc: Global, len: usize) -> Result<EcoTree<i64>, EcoError> {
+fn of_slice(alloc: Global, len: i64) -> Result<EcoTree<i64>, EcoError> {
     let mut numbers = Vec::new(alloc);
     for number in 0..len {
-        numbers.push(number as i64)?;
+        numbers.push(number)?;
     }
     EcoTree::from_slice(alloc, numbers.as_slice())
 }
