@@ -159,6 +159,7 @@ impl<T: Clone> EcoTree<T> {
     ///
     ///     let mut list = ecow::EcoTree::from([1, 2, 3]);
     ///     assert!(list.split_off(1) == [2, 3] && list == [1]);
+    #[must_use = "`truncate` drops the elements"]
     #[track_caller]
     pub fn split_off(&mut self, at: usize) -> Self {
         assert_index(at <= self.len(), at, self.len());

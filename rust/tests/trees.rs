@@ -59,7 +59,8 @@ fn edits_beside_a_vector() {
                 4 => {
                     // The parts of both change places.
                     let (mut back, mut tail) = (list.split_off(at), model.split_off(at));
-                    (back.append(&mut list), tail.append(&mut model));
+                    back.append(&mut list);
+                    tail.append(&mut model);
                     assert!(list.is_empty());
                     ((list, model) = (back, tail), ())
                 }
