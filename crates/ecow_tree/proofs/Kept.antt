@@ -2,13 +2,16 @@
 use Rattle.std.proofs.Common.{◌≡◌, ◌<◌, ◌+◌, ◌-◌, ℕ, suc, List, [], ◌∷◌, ◌++◌, Some, length, take, drop, slice_get, refl, ap, subst, sym, ◌∙◌, arith, inl, inr, append-nil, append_assoc, length-append, length-drop}
 use Rattle.std.proofs.lemmas.List.{take-append-drop}
 use Rattle.std.specs.Prelude.{◌⊎◌, Result, OnOk, IfOk}
-use Rattle.std.specs.List.{AllZip, insert, remove, slice_set}
+use Rattle.std.specs.List.{AllZip, insert, remove, replace_range, slice_set}
 use Rattle.std.specs.declared.result.Result.TheVariants.{Ok, Err}
+use Rattle.std.specs.Borrow.{MutBor}
+use Rattle.std.specs.Fn.{Once}
 use Rattle.ecow_base.specs.Clones.{ClonesAreEqual}
+use Rattle.ecow_block.specs.Updates.{UpdatesAt}
 use Rattle.ecow_list.specs.Vectors.{IsKept, IsKeptIn, SomeKept as SomeKeptInList}
 use Rattle.ecow_tree.specs.Grown.{Grown}
 use Rattle.ecow_tree.specs.Nodes.{items_of, LeadsTo}
-use Rattle.ecow_tree.specs.Kept.{AreKept, AreKeptIn, Removes, SomeKept, Changes, ChangesBy}
+use Rattle.ecow_tree.specs.Kept.{AreKept, AreKeptIn, IsKeptTwice, Removes, ReplacesKept, SomeKept, Changes, ChangesBy}
 use Rattle.ecow_tree.proofs.More.{all_taken, none_behind, length_taken}
 use Rattle.ecow_tree.proofs.Parts.{parted, parted_set, parted_pair, set_middle, insert_middle, remove_middle, get_behind, get_front}
 
@@ -62,6 +65,26 @@ module _ {T : Type 0} (is_clone : T → T → Type 0) where
       → IfOk result (λ r. SomeKept is_clone old (λ xs. step xs r new)) → ChangesBy is_clone old step result new
   changes_by old new step (Ok r) (k, is, made) = record { ok = λ equal. subst (λ xs. step xs r new) (unchanged equal old k is) made; kept = (k, is, made) }
   changes_by old new step (Err e) k = record { ok = λ equal. tt; kept = tt }
+
+  -- the same of elements that may have been cloned twice
+  pub same_twice : (xs : List T) → IsKeptTwice is_clone xs xs
+  same_twice xs = (xs, same xs, same xs)
+
+  pub unchanged_twice : ClonesAreEqual is_clone → (xs ks : List T) → IsKeptTwice is_clone xs ks → ks ≡ xs
+  unchanged_twice equal xs ks (once, is, again) = unchanged equal once ks again ∙ unchanged equal xs once is
+
+  pub replaced_exact : ClonesAreEqual is_clone → (old new xs : List T) (start end : ℕ) → ReplacesKept is_clone old start end xs new
+      → new ≡ replace_range old start end xs
+  replaced_exact equal old new xs start end (kept, is, added, clones, made) =
+      made
+      ∙ ap (λ ys. replace_range kept start end ys) (unchanged equal xs added (each_clone xs added clones))
+      ∙ ap (λ ys. replace_range ys start end xs) (unchanged_twice equal old kept is)
+
+  pub replaced_none : (old xs : List T) (start end : ℕ) → old ≡ [] → xs ≡ replace_range old start end xs
+  replaced_none old xs start end none =
+      sym (ap (λ ys. replace_range ys start end xs) none
+      ∙ ap (λ ys. (ys ++ xs) ++ drop end []) (all_taken [] start (omega arith))
+      ∙ ap (λ ys. xs ++ ys) (none_behind [] end (omega arith)) ∙ append-nil xs)
 
   -- one element goes
   pub kept_removed : (old new : List T) (index : ℕ) (x : T) → index < length old → Removes is_clone old index x new → length new + 1 ≡ length old
@@ -133,6 +156,17 @@ module _ {T : Type 0} (is_clone : T → T → Type 0) where
     k,
     subst (λ xs. AreKept is_clone xs k) (leaf_is own all nodes none whole) (from_vec own k is),
     ap (λ ns. new ++ items_of ns) none ∙ append-nil new ∙ made,
+  )
+
+  -- the same of an element that a closure changes
+  pub update_leaf : {F R : Type 0} (g : Once F (MutBor T × Unit {0}) (R × (MutBor T × Unit {0}))) (f : F) (answer : R)
+      (own new all : List T) (nodes : List (Grown T)) (index : ℕ) → nodes ≡ [] → own ++ items_of nodes ≡ all
+      → SomeKeptInList is_clone own (λ xs. UpdatesAt g f index xs new answer)
+      → SomeKept is_clone all (λ xs. UpdatesAt g f index xs (new ++ items_of nodes) answer)
+  update_leaf g f answer own new all nodes index none whole (k, is, there) = (
+    k,
+    subst (λ xs. AreKept is_clone xs k) (leaf_is own all nodes none whole) (from_vec own k is),
+    (there.0, there.1, there.2, there.3, ap (λ ns. new ++ items_of ns) none ∙ append-nil new ∙ there.4),
   )
 
   -- the same of an element that comes out
@@ -211,6 +245,26 @@ module _ {T : Type 0} (is_clone : T → T → Type 0) where
         ap (λ ys. before ++ ys) (append_assoc first.items second.items behind) ∙ sym (parted_pair nodes at l.node first second l.found) in
         subst (AreKeptIn is_clone (items_of nodes) (λ xs. insert xs index x)) is
         (around nodes at l.node l.found (λ xs. insert xs rest x) (λ xs. insert xs index x) (first.items ++ second.items) (inserts x) k)
+
+    -- what a closure leaves of an element of the node, it leaves of one of all elements
+    pub update_below : {F R : Type 0} (g : Once F (MutBor T × Unit {0}) (R × (MutBor T × Unit {0}))) (f : F) (answer : R) (new : Grown T)
+        → rest < length l.node.items → SomeKept is_clone l.node.items (λ xs. UpdatesAt g f rest xs new.items answer)
+        → SomeKept is_clone (items_of nodes) (λ xs. UpdatesAt g f index xs (items_of (slice_set nodes at new)) answer)
+    update_below g f answer new within (k, is, there) =
+        let before = items_of (take at nodes) in
+        let behind = items_of (drop (suc at) nodes) in (
+          before ++ (k ++ behind),
+          all_kept nodes at l.node l.found k is,
+          (
+            there.0,
+            there.1,
+            get_behind before (k ++ behind) index rest there.0 l.before (get_front k behind rest there.0 there.2),
+            there.3,
+            parted_set nodes at l.node new l.found
+                ∙ ap (λ ys. before ++ (ys ++ behind)) there.4
+                ∙ sym (set_middle before k behind index rest l.before there.1 (omega (arith, within, long l.node.items k is))),
+          ),
+        )
 
     pub remove_below : (x : T) (part : List T) → rest < length l.node.items
         → SomeKept is_clone l.node.items (λ xs. (slice_get xs rest ≡ Some x) × (part ≡ remove xs rest))

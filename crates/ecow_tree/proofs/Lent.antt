@@ -4,12 +4,16 @@ use lib.ListN.{length-set}
 use Rattle.std.specs.Prelude.{IfSome}
 use Rattle.std.specs.List.{insert, refill}
 use Rattle.std.proofs.lemmas.Option.{get_or_from_slice_get, slice_get-get_or, same_Some}
+use Rattle.std.specs.Borrow.{MutBor}
+use Rattle.std.specs.Fn.{Once}
+use Rattle.ecow_block.specs.Updates.{UpdatesAt}
 use Rattle.ecow_tree.specs.Grown.{Grown}
-use Rattle.ecow_tree.specs.Kept.{AreKeptIn, Removes}
+use Rattle.ecow_tree.specs.Kept.{AreKeptIn, Removes, SomeKept}
 use Rattle.ecow_tree.specs.Nodes.{items_of, tallest, CanSpare, LeadsTo, AllFit}
 use Rattle.ecow_tree.proofs.Fits.{fit_at, fit_set}
-use Rattle.ecow_tree.proofs.Kept.{set_below, insert_below, remove_below}
-use Rattle.ecow_tree.proofs.Parts.{parted, parted_set, written, kept_below, tallest_at, tallest_set}
+use Rattle.ecow_tree.proofs.Kept.{set_below, insert_below, remove_below, update_below}
+use Rattle.ecow_tree.proofs.Places.{within_by}
+use Rattle.ecow_tree.proofs.Parts.{read, parted, parted_set, written, kept_below, tallest_at, tallest_set}
 
 module _ {T : Type 0} (nodes seen block lent left : List (Grown T)) (index at rest : ℕ) (d new : Grown T) (old : seen ≡ nodes)
     (leads : LeadsTo seen index at rest) (is : left ≡ refill (length block) block (slice_set lent at new)) (same : lent ≡ block)
@@ -82,6 +86,37 @@ module _ {T : Type 0} (is_clone : T → T → Type 0) (nodes seen block lent lef
       subst (λ ns. AreKeptIn is_clone (items_of nodes) (λ xs. insert xs index x) (items_of ns)) (sym became_so)
       (insert_below is_clone nodes index at rest leading x new
       (subst (λ (n : Grown T). AreKeptIn is_clone n.items (λ xs. insert xs rest x) new.items) was_node k))
+
+  pub lent_update : {F R : Type 0} (g : Once F (MutBor T × Unit {0}) (R × (MutBor T × Unit {0}))) (f : F) (answer : R)
+      → IfSome (slice_get seen at) (λ node. rest < length node.items)
+      → SomeKept is_clone (get_or lent at d).items (λ xs. UpdatesAt g f rest xs new.items answer)
+      → SomeKept is_clone (items_of nodes) (λ xs. UpdatesAt g f index xs (items_of left) answer)
+  lent_update g f answer within k =
+      subst (λ ns. SomeKept is_clone (items_of nodes) (λ xs. UpdatesAt g f index xs (items_of ns) answer)) (sym became_so)
+      (update_below is_clone nodes index at rest leading g f answer new (inside within)
+      (subst (λ (n : Grown T). SomeKept is_clone n.items (λ xs. UpdatesAt g f rest xs new.items answer)) was_node k))
+
+-- the node that is lent, to which an index leads
+module _ {T : Type 0} (nodes seen block lent : List (Grown T)) (index at rest : ℕ) (d : Grown T) (old : seen ≡ nodes) (leads : LeadsTo seen index at rest)
+    (same : lent ≡ block) (was : block ≡ nodes) where
+  to : LeadsTo nodes index at rest
+  to = subst (λ ns. LeadsTo ns index at rest) old leads
+
+  is_to : get_or lent at d ≡ to.node
+  is_to = ap (λ ns. get_or ns at d) (same ∙ was) ∙ get_or_from_slice_get nodes at to.node d to.found
+
+  pub lent_bound : at < length nodes
+  lent_bound = within_by nodes at to.node to.found
+
+  pub lent_within : IfSome (slice_get seen at) (λ node. rest < length node.items) → rest < length (get_or lent at d).items
+  lent_within within =
+      subst (λ (n : Grown T). rest < length n.items) (sym is_to)
+      (subst (λ o. IfSome o (λ node. rest < length node.items)) to.found
+      (subst (λ ns. IfSome (slice_get ns at) (λ node. rest < length node.items)) old within))
+
+  -- its element is one of all elements
+  pub lent_read : (x : T) → slice_get (get_or lent at d).items rest ≡ Some x → slice_get (items_of nodes) index ≡ Some x
+  lent_read x got = read nodes index at rest x to (ap (λ n. slice_get n.items rest) (sym is_to) ∙ got)
 
 spared_weight : {T : Type 0} (d new : Grown T) → new.height ≡ d.height → CanSpare d → 2 ≤ length d.items → length new.items + 1 ≡ length d.items
     → 4 ^ new.height ≤ length new.items

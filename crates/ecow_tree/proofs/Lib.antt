@@ -1,4 +1,5 @@
 pub mod Concat
+pub mod Recopied
 pub mod Cuts
 pub mod Extended
 pub mod Fits

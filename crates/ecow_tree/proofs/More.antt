@@ -1,7 +1,7 @@
 -- An element below some nodes, and those behind it.
 use Rattle.std.proofs.Common.{◌≡◌, ◌<◌, ◌≤◌, ◌+◌, ◌-◌, ℕ, zero, suc, List, [], ◌∷◌, ◌++◌, Some, length, get_or, take, drop, slice_get, refl, ap, subst, sym, ◌∙◌, arith, append_assoc, append-nil, length-drop, length-append}
 use Rattle.std.specs.Prelude.{IfSome}
-use Rattle.std.proofs.lemmas.List.{take-append-drop}
+use Rattle.std.proofs.lemmas.List.{take-append-drop, take-append-le}
 use Rattle.std.proofs.Math.Seq.{take-append-add, take-append_seam}
 use Rattle.std.proofs.lemmas.Option.{get_or_from_slice_get, slice_get-get_or}
 use denote.Param.Weighed.{most, at_most}
@@ -78,6 +78,20 @@ module _ {T : Type 0} (nodes seen again : List (Grown T)) (index at rest : ℕ) 
       ∙ drop_front l.node.items behind rest l.inside
       ∙ ap (λ ys. ys ++ behind) (ap (λ n. drop rest n.items) (sym node_is) ∙ parts)
       ∙ append_assoc part more behind
+
+  -- the elements up to one behind the index
+  pub first_below : (all less part : List T) (end : ℕ) → items_of nodes ≡ all → end ≡ index + 1 → rest < length d.items
+      → take (rest + 1) d.items ≡ less ++ part → take end all ≡ (items_of (take at seen) ++ less) ++ part
+  first_below all less part end whole is_end within parts =
+      let before = items_of (take at seen) in
+      let behind = items_of (drop (suc at) seen) in
+      let sum : end ≡ length before + (rest + 1) = omega (arith, is_end, l.before) in
+      let bound : rest + 1 ≤ length l.node.items = omega (arith, within, ap (λ n. length n.items) node_is) in
+      ap (take end) (sym whole ∙ ap (λ ns. items_of ns) (sym old) ∙ parted seen at l.node l.found)
+      ∙ ap (λ n. take n (before ++ (l.node.items ++ behind))) sum
+      ∙ take-append-add before (l.node.items ++ behind) (rest + 1)
+      ∙ ap (λ ys. before ++ ys) (take-append-le (rest + 1) l.node.items behind bound ∙ ap (λ n. take (rest + 1) n.items) (sym node_is) ∙ parts)
+      ∙ sym (append_assoc before less part)
 
   pub is_there : slice_get nodes at ≡ Some d
   is_there = ap (λ ns. slice_get ns at) (sym old) ∙ l.found ∙ ap Some (sym node_is)

@@ -1,32 +1,26 @@
 -- Nodes that are put in place of others.
 use Rattle.std.proofs.Common.{◌≡◌, ◌<◌, ◌≤◌, ◌+◌, ◌^◌, ℕ, zero, suc, List, [], ◌∷◌, ◌++◌, Some, length, get_or, slice_get, slice_set, refl, ap, subst, sym, ◌∙◌, arith, length-append}
-use Rattle.std.specs.Prelude.{IfSome}
-use Rattle.std.specs.List.{insert, remove}
+use Rattle.std.specs.List.{insert, refill, remove}
 use Rattle.std.proofs.lemmas.Option.{slice_get-get_or, none-some, same_Some}
 use Rattle.ecow_tree.specs.Grown.{Grown}
 use Rattle.ecow_tree.specs.Nodes.{items_of, tallest, AllFit, LeadsTo}
 use Rattle.ecow_tree.specs.Kept.{AreKeptIn}
 use Rattle.ecow_tree.proofs.Kept.{insert_pair}
 use Rattle.ecow_tree.proofs.Fits.{fit_at, fit_set, fit_insert, fit_remove}
-use Rattle.ecow_tree.proofs.Parts.{halved, tallest_at, tallest_set, tallest_insert, pair_joined, tallest_remove}
+use Rattle.ecow_tree.proofs.Parts.{halved, tallest_at, tallest_set, tallest_insert, pair_joined, tallest_remove, written}
 
 module _ {X : Type 0} where
-  -- one is taken out, and two are put in its place
-  pub two_for_one : (xs : List X) (at : ℕ) (first second : X) → at < length xs
-      → insert (insert (remove xs at) at second) at first ≡ insert (slice_set xs at first) (suc at) second
-  two_for_one [] at first second within = absurd (omega (arith, within))
-  two_for_one (x ∷ xs) zero first second within = refl
-  two_for_one (x ∷ xs) (suc at) first second within = ap (λ ys. x ∷ ys) (two_for_one xs at first second (omega (arith, within)))
+  pub set_again : (xs : List X) (at : ℕ) (y : X) → remove (slice_set xs at y) at ≡ remove xs at
+  set_again [] at y = refl
+  set_again (x ∷ xs) zero y = refl
+  set_again (x ∷ xs) (suc at) y = ap (λ ys. x ∷ ys) (set_again xs at y)
 
-  pub one_for_one : (xs : List X) (at : ℕ) (y : X) → at < length xs → insert (remove xs at) at y ≡ slice_set xs at y
-  one_for_one [] at y within = absurd (omega (arith, within))
-  one_for_one (x ∷ xs) zero y within = refl
-  one_for_one (x ∷ xs) (suc at) y within = ap (λ ys. x ∷ ys) (one_for_one xs at y (omega (arith, within)))
-
-  pub put_back : (xs : List X) (at : ℕ) (y : X) → slice_get xs at ≡ Some y → slice_set xs at y ≡ xs
-  put_back [] at y found = refl
-  put_back (x ∷ xs) zero y found = ap (λ z. z ∷ xs) (sym (same_Some x y found))
-  put_back (x ∷ xs) (suc at) y found = ap (λ ys. x ∷ ys) (put_back xs at y found)
+  -- what is put in before one that was set
+  swapped : (xs : List X) (at : ℕ) (first second : X) → at < length xs
+      → insert (slice_set xs at second) at first ≡ insert (slice_set xs at first) (suc at) second
+  swapped [] at first second within = absurd (omega (arith, within))
+  swapped (x ∷ xs) zero first second within = refl
+  swapped (x ∷ xs) (suc at) first second within = ap (λ ys. x ∷ ys) (swapped xs at first second (omega (arith, within)))
 
   pub within_by : (xs : List X) (at : ℕ) (y : X) → slice_get xs at ≡ Some y → at < length xs
   within_by [] at y found = absurd (none-some y found)
@@ -103,21 +97,21 @@ read_place nodes seen at d old is within = slice_get-get_or nodes at d within �
 pub at_most : (a b : ℕ) → a ≡ b → a ≤ b
 at_most a b same = omega arith
 
--- what a block holds in which one node was taken out and two were put in
-pub placed_two : {T : Type 0} (nodes block left : List (Grown T)) (at : ℕ) (first second : Grown T)
-    → left ≡ insert (insert (remove block at) at second) at first → block ≡ nodes → at < length nodes
-    → left ≡ insert (slice_set nodes at first) (at + 1) second
-placed_two nodes block left at first second is was bound =
-    let next : suc at ≡ at + 1 = omega arith in
-    is ∙ ap (λ ns. insert (insert (remove ns at) at second) at first) was ∙ two_for_one nodes at first second bound
-    ∙ ap (λ i. insert (slice_set nodes at first) i second) next
+-- what a block holds that was lent, once one of its nodes was changed and another was put in beside it, or it was taken out
+module _ {T : Type 0} (nodes block lent left : List (Grown T)) (at : ℕ) (same : lent ≡ block) (was : block ≡ nodes) where
+  pub placed_behind : (first second : Grown T) → left ≡ insert (refill (length block) block (slice_set lent at first)) (at + 1) second
+      → left ≡ insert (slice_set nodes at first) (at + 1) second
+  placed_behind first second is = is ∙ ap (λ ns. insert ns (at + 1) second) (written nodes block lent _ at first refl same was)
 
--- or the same node again
-pub placed_again : {T : Type 0} (nodes block left : List (Grown T)) (at : ℕ) (d again : Grown T)
-    → left ≡ insert (remove block at) at again → block ≡ nodes → at < length nodes → slice_get nodes at ≡ Some d → again ≡ d → left ≡ nodes
-placed_again nodes block left at d again is was bound found same =
-    is ∙ ap (λ ns. insert (remove ns at) at again) was ∙ one_for_one nodes at again bound
-    ∙ ap (λ n. slice_set nodes at n) same ∙ put_back nodes at d found
+  pub placed_before : (first second : Grown T) → at < length nodes → left ≡ insert (refill (length block) block (slice_set lent at second)) at first
+      → left ≡ insert (slice_set nodes at first) (at + 1) second
+  placed_before first second bound is =
+      let next : suc at ≡ at + 1 = omega arith in
+      is ∙ ap (λ ns. insert ns at first) (written nodes block lent _ at second refl same was) ∙ swapped nodes at first second bound
+      ∙ ap (λ i. insert (slice_set nodes at first) i second) next
+
+  pub placed_gone : (new : Grown T) → left ≡ remove (refill (length block) block (slice_set lent at new)) at → left ≡ remove nodes at
+  placed_gone new is = is ∙ ap (λ ns. remove ns at) (written nodes block lent _ at new refl same was) ∙ set_again nodes at new
 
 pub parting_kept : {T : Type 0} (is_clone : T → T → Type 0) (nodes left : List (Grown T)) (at index all : ℕ) (x : T) (d first second : Grown T)
     → LeadsTo nodes all at index → slice_get nodes at ≡ Some d → left ≡ insert (slice_set nodes at first) (at + 1) second
@@ -130,13 +124,3 @@ parting_kept {T} is_clone nodes left at index all x d first second l found put k
     (sym (put ∙ ap (λ i. insert (slice_set nodes at first) i second) next))
     (insert_pair is_clone nodes all at index l x first second
     (subst (λ (n : Grown T). AreKeptIn is_clone n.items (λ xs. insert xs index x) (first.items ++ second.items)) same k))
-
-pub leaf_height : {T : Type 0} (nodes : List (Grown T)) (at : ℕ) (d : Grown T) (least most index : ℕ) → slice_get nodes at ≡ Some d
-    → IfSome (slice_get nodes at)
-    (λ node. (node.height ≡ 0) × (least ≤ length node.items) × (length node.items < most) × (index ≤ length node.items))
-    → d.height ≡ 0
-leaf_height {T} nodes at d least most index found leaf =
-    let there = subst
-    (λ o. IfSome o (λ (node : Grown T). (node.height ≡ 0) × (least ≤ length node.items) × (length node.items < most) × (index ≤ length node.items)))
-    found leaf in
-    there.0

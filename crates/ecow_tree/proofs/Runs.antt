@@ -1,9 +1,10 @@
 -- Runs of elements that come one after another, and two lists that are compared by these.
-use Rattle.std.proofs.Common.{◌≡◌, ◌≤◌, ◌+◌, ℕ, Bool, true, false, zero, suc, List, [], ◌∷◌, ◌++◌, length, take, drop, refl, ap, sym, ◌∙◌}
+use Rattle.std.proofs.Common.{◌≡◌, ◌≤◌, ◌+◌, ◌-◌, arith, length-append, ℕ, Bool, true, false, zero, suc, List, [], ◌∷◌, ◌++◌, length, take, drop, refl, ap, sym, ◌∙◌}
 use mathlib.Core.Bool.{not, true≢false, ◌&&◌}
 use Rattle.std.specs.Cmp.Lexicographic.{pointwise}
-use Rattle.std.proofs.Math.Seq.{drop-append_seam}
-use Rattle.std.proofs.lemmas.List.{drop-drop, take-append-le}
+use Rattle.std.proofs.Math.Seq.{drop-append_seam, drop-append-add}
+use Rattle.std.proofs.lemmas.List.{drop-drop, drop-take, take-append-le}
+use Rattle.ecow_tree.proofs.More.{length_taken}
 
 module _ {X : Type 0} where
   -- what comes behind a run
@@ -11,6 +12,40 @@ module _ {X : Type 0} where
   run_rest xs run more at part =
       part
       ∙ ap (λ ys. run ++ ys) (sym (drop-append_seam run more) ∙ ap (drop (length run)) (sym part) ∙ drop-drop (length run) at xs)
+
+  take_none : (n : ℕ) → take {A = X} n [] ≡ []
+  take_none zero = refl
+  take_none (suc n) = refl
+
+  take_split : (xs : List X) (n m : ℕ) → take (n + m) xs ≡ take n xs ++ take m (drop n xs)
+  take_split xs zero m = let same : 0 + m ≡ m = omega arith in ap (λ k. take k xs) same
+  take_split [] (suc n) m = take_none (suc n + m) ∙ sym (take_none m)
+  take_split (x ∷ xs) (suc n) m = let next : suc n + m ≡ suc (n + m) = omega arith in ap (λ k. take k (x ∷ xs)) next ∙ ap (λ ys. x ∷ ys) (take_split xs n m)
+
+  -- the first n of the elements from an index up to another, which a run begins with
+  pub run_first : (xs run more : List X) (at end n : ℕ) → drop at xs ≡ run ++ more → at + n ≤ end → n ≤ length run
+      → take (end - at) (drop at xs) ≡ take n run ++ take (end - (at + n)) (drop (at + n) xs)
+  run_first xs run more at end n part short within =
+      let left : end - at ≡ n + (end - (at + n)) = omega (arith, short) in
+      ap (λ k. take k (drop at xs)) left ∙ take_split (drop at xs) n (end - (at + n))
+      ∙ ap (λ ys. ys ++ take (end - (at + n)) (drop n (drop at xs))) (ap (take n) part ∙ take-append-le n run more within)
+      ∙ ap (λ ys. take n run ++ take (end - (at + n)) ys) (drop-drop n at xs)
+
+  -- the last n of them, which a run ends with
+  pub run_last : (xs less run : List X) (at end n : ℕ) → end ≤ length xs → take end xs ≡ less ++ run → at + n ≤ end → n ≤ length run
+      → take (end - at) (drop at xs) ≡ take (end - n - at) (drop at xs) ++ drop (length run - n) run
+  run_last xs less run at end n within part short low =
+      let k = end - n - at in
+      let left : end - at ≡ k + n = omega (arith, short) in
+      let there : at + k ≡ end - n = omega (arith, short) in
+      let all : end - n + n ≡ end = omega (arith, short) in
+      let behind : end - n ≡ length less + (length run - n) =
+      omega (arith, low, short, length_taken end xs within, ap length part, length-append less run) in
+      ap (λ m. take m (drop at xs)) left ∙ take_split (drop at xs) k n
+      ∙ ap (λ ys. take k (drop at xs) ++ take n ys) (drop-drop k at xs ∙ ap (λ m. drop m xs) there)
+      ∙ ap (λ ys. take k (drop at xs) ++ ys)
+      (sym (drop-take (end - n) n xs) ∙ ap (λ m. drop (end - n) (take m xs)) all ∙ ap (drop (end - n)) part
+      ∙ ap (λ m. drop m (less ++ run)) behind ∙ drop-append-add less run (length run - n))
 
 pub not_false : (b : Bool) → false ≡ not b → b ≡ true
 not_false true same = refl

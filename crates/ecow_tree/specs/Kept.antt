@@ -1,6 +1,6 @@
 -- What a change of a tree leaves of its elements: those in blocks that were copied are clones.
 use Rattle.std.specs.Prelude.{◌≡◌, ◌⊎◌, ℕ, List, Some, ◌++◌, Result, IfErr, IfOk, OnErr, OnOk, slice_get}
-use Rattle.std.specs.List.{AllZip, remove}
+use Rattle.std.specs.List.{AllZip, remove, replace_range}
 use Rattle.ecow_base.specs.Clones.{ClonesAreEqual}
 use Rattle.ecow_list.specs.declared.error.EcoError.{EcoError}
 use Rattle.ecow_list.specs.declared.error.EcoError.TheVariants.{Memory}
@@ -14,6 +14,10 @@ module _ {T : Type 0} (is_clone : T → T → Type 0) where
   abbrev pub SomeKept : List T → (List T → Type 0) → Type 0
   SomeKept old P = (kept : List T) × AreKept old kept × P kept
 
+  -- each element is the old one, or a clone of it, or a clone of such a clone
+  abbrev pub IsKeptTwice : List T → List T → Type 0
+  IsKeptTwice old new = SomeKept old (λ once. AreKept once new)
+
   -- new is what `change` makes of the old elements, each of them or a clone of it
   abbrev pub AreKeptIn : List T → (List T → List T) → List T → Type 0
   AreKeptIn old change new = SomeKept old (λ kept. new ≡ change kept)
@@ -22,6 +26,12 @@ module _ {T : Type 0} (is_clone : T → T → Type 0) where
   abbrev pub ExtendsKept : List T → List T → List T → Type 0
   ExtendsKept old xs new =
       SomeKept old (λ kept. (added : List T) × AllZip is_clone xs added × (new ≡ kept ++ added))
+
+  -- new is the old elements, with a clone of each of xs in place of those from `start` up to `end`
+  abbrev pub ReplacesKept : List T → ℕ → ℕ → List T → List T → Type 0
+  ReplacesKept old start end xs new =
+      (kept : List T) × IsKeptTwice old kept × (added : List T) × AllZip is_clone xs added
+      × (new ≡ replace_range kept start end added)
 
   -- value stood at `index` of the old elements, each of them or a clone of it, and new is the others
   abbrev pub Removes : List T → ℕ → T → List T → Type 0

@@ -1,3 +1,4 @@
+pub mod Recopied
 pub mod Grown
 pub mod Kept
 pub mod Nodes

@@ -7,3 +7,8 @@ use denote.Ref.{Bor}
 abbrev pub YieldsRun : {T : Type 0} → List T → Option (Bor (List T)) → List T → Type 0
 YieldsRun old run new = MatchOption run ((old ≡ []) × (new ≡ []))
     (λ run. (0 < length run.now) × (old ≡ run.now ++ new))
+
+-- the same from the back
+abbrev pub YieldsLastRun : {T : Type 0} → List T → Option (Bor (List T)) → List T → Type 0
+YieldsLastRun old run new = MatchOption run ((old ≡ []) × (new ≡ []))
+    (λ run. (0 < length run.now) × (old ≡ new ++ run.now))

@@ -1,27 +1,42 @@
-//! The iterators over the elements of a tree, and equality by these.
-ghost use Rattle.std.specs.Prelude.{◌≡◌};
-ghost use Rattle.std.specs.Cmp.Lexicographic.{pointwise, lists_per, lists_equiv};
-ghost use Rattle.std.specs.Iterator.{YieldsFirstRef, item_count};
-ghost use Rattle.ecow_tree.specs.Runs.{YieldsRun};
+//! The iterators over the elements of a tree.
+ghost use Rattle.std.specs.Prelude.{◌≡◌, length, IfSome, Some};
+ghost use Rattle.std.specs.Iterator.{UpTo, YieldsFirstRef, YieldsLastRef, at_most, item_count};
+ghost use Rattle.std.specs.Iterator.SizeHint.{IsWithinCount};
+ghost use Rattle.ecow_tree.specs.Runs.{YieldsRun, YieldsLastRun};
 
 use crate::tree::EcoTree;
 use std::iter::FusedIterator;
 use std::marker::Model;
+use std::mem::replace;
 
-/// An iterator over the elements of a tree as slices, in order: those of one block at a time.
+/// An iterator over the elements of a tree as slices, in order, from both ends: those of one block
+/// at a time.
 #[derive(Drop)]
 pub struct Chunks<'a, T> {
     tree: &'a EcoTree<T>,
     /// The index of the first element that is still to come.
     at: usize,
+    /// The index behind the last one.
+    end: usize,
 }
 
 impl<'a, T> Model for Chunks<'a, T> {
-    ghost use Rattle.std.specs.Prelude.{List, drop};
+    ghost use Rattle.std.specs.Prelude.{◌-◌, ◌≤◌, List, drop, length, take};
 
     ghost Value = { List T };
 
-    ghost view = { λ it. drop it.at it.tree.now };
+    ghost view = { λ it. take (it.end - it.at) (drop it.at it.tree.now) };
+
+    ghost invariant = { λ it. (it.at ≤ it.end) × (it.end ≤ length it.tree.now) };
+}
+
+impl<'a, T> Chunks<'a, T> {
+    /// The number of elements that are still to come.
+    fn left(&self) -> usize
+        ensures { result ≡ length self.now }
+    {
+        self.end - self.at
+    }
 }
 
 impl<'a, T> Iterator for Chunks<'a, T> {
@@ -32,32 +47,53 @@ impl<'a, T> Iterator for Chunks<'a, T> {
     ghost remaining = { item_count (λ rest. rest) };
 
     fn next(&mut self) -> Option<&'a [T]> {
-        if self.at >= self.tree.len() {
+        let left = self.end - self.at;
+        if left == 0 {
             return None;
         }
         let chunk = self.tree.chunk_at(self.at);
-        self.at += chunk.len();
-        Some(chunk)
+        let run = &chunk[..left.min(chunk.len())];
+        self.at += run.len();
+        Some(run)
+    }
+}
+
+impl<'a, T> DoubleEndedIterator for Chunks<'a, T> {
+    ghost next_back_gives = { YieldsLastRun };
+
+    fn next_back(&mut self) -> Option<&'a [T]> {
+        let left = self.end - self.at;
+        if left == 0 {
+            return None;
+        }
+        let chunk = self.tree.chunk_before(self.end);
+        let run = &chunk[chunk.len() - left.min(chunk.len())..];
+        self.end -= run.len();
+        Some(run)
     }
 }
 
 impl<'a, T> FusedIterator for Chunks<'a, T> {}
 
-/// An iterator over the elements of a tree by reference, in order.
+/// An iterator over the elements of a tree by reference, in order, from both ends.
 #[derive(Drop)]
 pub struct Iter<'a, T> {
-    /// The elements of a block that are still to come.
-    chunk: &'a [T],
+    /// The elements of a block that come next.
+    front: &'a [T],
     /// The blocks behind it.
     chunks: Chunks<'a, T>,
+    /// The elements of a block that come last.
+    back: &'a [T],
 }
 
 impl<'a, T> Model for Iter<'a, T> {
-    ghost use Rattle.std.specs.Prelude.{List, ◌++◌};
+    ghost use Rattle.std.specs.Prelude.{◌+◌, ◌<◌, ◌^◌, List, ◌++◌, length};
 
     ghost Value = { List T };
 
-    ghost view = { λ it. it.chunk.now ++ it.chunks };
+    ghost view = { λ it. it.front.now ++ (it.chunks ++ it.back.now) };
+
+    ghost invariant = { λ it. length it.front.now + (length it.chunks + length it.back.now) < 2 ^ 64 };
 }
 
 impl<'a, T> Iterator for Iter<'a, T> {
@@ -68,12 +104,46 @@ impl<'a, T> Iterator for Iter<'a, T> {
     ghost remaining = { item_count (λ rest. rest) };
 
     fn next(&mut self) -> Option<&'a T> {
-        if self.chunk.is_empty() {
-            self.chunk = self.chunks.next()?;
+        if self.front.is_empty() {
+            self.front = match self.chunks.next() {
+                Some(chunk) => chunk,
+                None => replace(&mut self.back, &[]),
+            };
         }
-        let (first, rest) = self.chunk.split_first()?;
-        self.chunk = rest;
+        let (first, rest) = self.front.split_first()?;
+        self.front = rest;
         Some(first)
+    }
+
+    fn size_hint(&self) -> (usize, Option<usize>)
+        ensures lower { IsWithinCount result.0 (at_most (length self.now)) }
+        ensures upper { IfSome result.1 (UpTo (at_most (length self.now))) }
+        ensures exact { result ≡ (length self.now, Some (length self.now)) }
+    {
+        let count = self.front.len() + (self.chunks.left() + self.back.len());
+        (count, Some(count))
+    }
+}
+
+impl<'a, T> DoubleEndedIterator for Iter<'a, T> {
+    ghost next_back_gives = { YieldsLastRef (λ rest. rest) };
+
+    fn next_back(&mut self) -> Option<&'a T> {
+        if self.back.is_empty() {
+            self.back = match self.chunks.next_back() {
+                Some(chunk) => chunk,
+                None => replace(&mut self.front, &[]),
+            };
+        }
+        let (last, rest) = self.back.split_last()?;
+        self.back = rest;
+        Some(last)
+    }
+}
+
+impl<'a, T> ExactSizeIterator for Iter<'a, T> {
+    fn len(&self) -> usize {
+        self.size_hint().0
     }
 }
 
@@ -86,7 +156,11 @@ impl<T> EcoTree<T> {
     pub fn chunks(&self) -> Chunks<'_, T>
         ensures { result ≡ self.now }
     {
-        Chunks { tree: self, at: 0 }
+        Chunks {
+            tree: self,
+            at: 0,
+            end: self.len(),
+        }
     }
 
     /// Goes over the elements by reference, in order.
@@ -96,36 +170,9 @@ impl<T> EcoTree<T> {
         ensures { result ≡ self.now }
     {
         Iter {
-            chunk: &[],
+            front: &[],
             chunks: self.chunks(),
+            back: &[],
         }
     }
-}
-
-/// Trees are equal if their elements are, in order, shared or not.
-impl<T: PartialEq> PartialEq for EcoTree<T> {
-    ghost eq = { pointwise T.eq };
-
-    ghost laws = { lists_per T.laws };
-
-    fn eq(&self, other: &Self) -> bool {
-        let len = self.len();
-        if other.len() != len {
-            return false;
-        }
-        let mut at = 0;
-        while at < len {
-            let (ours, theirs) = (self.chunk_at(at), other.chunk_at(at));
-            let both = ours.len().min(theirs.len());
-            if ours[..both] != theirs[..both] {
-                return false;
-            }
-            at += both;
-        }
-        true
-    }
-}
-
-impl<T: Eq> Eq for EcoTree<T> {
-    ghost laws = { lists_equiv T.Eq.laws };
 }

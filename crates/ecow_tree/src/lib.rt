@@ -2,7 +2,9 @@
 //! the blocks on its way from the root alone.
 #![tactic(auto)]
 
+mod comparisons;
 mod copies;
+mod items;
 mod iter;
 mod node;
 mod tree;

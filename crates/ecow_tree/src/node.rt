@@ -1,5 +1,5 @@
 //! A node of the tree: a leaf with elements, or a node over further nodes.
-ghost use Rattle.std.specs.Prelude.{◌≡◌, ◌+◌, ◌*◌, ◌<◌, ◌≤◌, ◌^◌, ◌==◌, ◌++◌, [], List, length, drop, Some, slice_get, IsTrue};
+ghost use Rattle.std.specs.Prelude.{◌≡◌, ◌+◌, ◌*◌, ◌<◌, ◌≤◌, ◌^◌, ◌==◌, ◌++◌, [], List, length, drop, take, Some, slice_get, IsTrue};
 ghost use Rattle.ecow_list.specs.declared.error.EcoError.TheVariants.{Memory};
 ghost use Rattle.ecow_tree.specs.Nodes.{items_of, tallest, AllFit};
 
@@ -18,6 +18,7 @@ mod part;
 mod remove;
 mod seek;
 mod set;
+mod update;
 
 /// A leaf of so many elements is parted where another comes in.
 pub(crate) const LEAF: usize = 128;
@@ -165,5 +166,20 @@ impl<T> Node<T> {
         }
         let (at, rest) = seek(self.nodes.as_slice(), index);
         self.nodes.as_slice()[at].rest_at(rest)
+    }
+
+    /// The elements before an index that stand in the leaf of the one before it.
+    pub(crate) fn up_to(&self, end: usize) -> &[T]
+        requires some { 0 < end }
+        requires within { end ≤ length self.now.items }
+        ensures some { 0 < length result.now }
+        ensures part { (less : List T) × (take end self.now.items ≡ less ++ result.now) }
+    {
+        if self.height == 0 {
+            let part = &self.items.as_slice()[..end];
+            return part;
+        }
+        let (at, rest) = seek(self.nodes.as_slice(), end - 1);
+        self.nodes.as_slice()[at].up_to(rest + 1)
     }
 }

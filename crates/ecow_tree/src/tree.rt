@@ -1,6 +1,7 @@
 //! `EcoTree`: a list in a tree of shared blocks.
 ghost use Rattle.std.specs.Prelude.{◌≡◌, ◌+◌, ◌-◌, ◌<◌, ◌≤◌, ◌==◌, ◌*◌, ◌^◌, ◌∷◌, ◌++◌, [], List, length, drop, Some, take, slice_get, slice_set, insert, remove, IfOk, IsOk, IsSome, OnOk, MatchOption, ◌↔◌};
 ghost use Rattle.ecow_base.specs.Clones.{ClonesAreEqual};
+ghost use Rattle.ecow_block.specs.Updates.{TakesKeptAt, UpdatesAt};
 ghost use Rattle.ecow_list.specs.Refusals.{RefusesForMemory, RejectsForMemory, RejectsPast};
 ghost use Rattle.ecow_tree.specs.Kept.{Changes, ChangesBy};
 
@@ -124,6 +125,19 @@ impl<T> EcoTree<T> {
         self.root.rest_at(index)
     }
 
+    /// The elements before `end` that stand in one block, at least one. So a walk from the back begins
+    /// at the length, and goes on before those that came. `end` is above 0 and at most the length.
+    ///
+    /// Takes time logarithmic in the length, for up to 128 elements.
+    pub fn chunk_before(&self, end: usize) -> &[T]
+        requires some { 0 < end }
+        requires within { end ≤ length self.now }
+        ensures some { 0 < length result.now }
+        ensures part { (less : List T) × (take end self.now ≡ less ++ result.now) }
+    {
+        self.root.up_to(end)
+    }
+
     /// The first element, or `None` if there is none. Takes time logarithmic in the length.
     pub fn first(&self) -> Option<&T>
         ensures { MatchOption result (self.now ≡ [])
@@ -165,6 +179,30 @@ impl<T: Clone> EcoTree<T> {
         ensures refused { RejectsForMemory value self.old result self.new }
     {
         self.root.set(index, value)
+    }
+
+    /// Calls `f` once with a mutable borrow of the element at `index`, which is below the length,
+    /// and returns what `f` returns. Shared blocks on the way to it are copied first.
+    ///
+    /// Takes the time of `f`, and time logarithmic in the length. A shared block of elements is
+    /// cloned.
+    ///
+    /// # Errors
+    ///
+    /// `Memory` if there is no memory for the copy of a shared block, or the clone of an element is
+    /// refused. The list is unchanged, and `f` isn't called.
+    #[tactic(auto, using(crate::proofs::Kept::changes_by))]
+    pub fn update<R, F: FnOnce(&mut T) -> R>(&mut self, index: usize, f: F) -> Result<R, EcoError>
+        requires in_bounds { index < length self.old }
+        requires callable { TakesKeptAt F.FnOnce f T.is_clone self.old index }
+        ensures change { ChangesBy T.is_clone self.old
+            (λ xs answer ys. UpdatesAt F.FnOnce f index xs ys answer)
+            result self.new }
+        ensures len { OnOk result (length self.new ≡ length self.old) }
+        ensures refused { RefusesForMemory self.old result self.new }
+    {
+        let answer = self.root.update(index, f)?;
+        Ok(answer)
     }
 
     /// Inserts `value` at `index`, before the element that stands there. `index` is at most the

@@ -1,14 +1,18 @@
 //! The calls that put trees together and cut them.
-ghost use Rattle.std.specs.Prelude.{◌≡◌, ◌+◌, ◌-◌, ◌<◌, ◌≤◌, ◌++◌, [], drop, length, min, take, IfOk, IsOk, OnOk, OnErr};
+ghost use Rattle.std.specs.Prelude.{◌≡◌, ◌+◌, ◌-◌, ◌<◌, ◌≤◌, ◌++◌, [], drop, length, min, take, IfOk, IsErrOf, IsOk, IsSome, OnOk, OnErr, ◌↔◌};
+ghost use Rattle.std.specs.List.{replace_range};
+ghost use Rattle.ecow_base.specs.Range.{range_of};
 ghost use Rattle.ecow_base.specs.Clones.{ClonesAreEqual};
 ghost use Rattle.ecow_list.specs.Refusals.{RefusesPast};
-ghost use Rattle.ecow_tree.specs.Kept.{AreKept, RefusesKept, SomeKept};
+ghost use Rattle.ecow_list.specs.Ranges.{AtRange};
+ghost use Rattle.ecow_tree.specs.Kept.{AreKept, IsKeptTwice, RefusesKept, ReplacesKept, SomeKept};
 
 use crate::node::Node;
 use crate::tree::EcoTree;
-use ecow_base::MAX_LEN;
+use ecow_base::{MAX_LEN, resolve};
 use ecow_list::{EcoError, EcoVec};
 use std::mem::replace;
+use std::ops::RangeBounds;
 
 impl<T: Drop> EcoTree<T> {
     /// Moves the elements of `other` behind those of this tree. `other` is empty then.
@@ -75,17 +79,8 @@ impl<T: Clone> EcoTree<T> {
             return Ok(replace(self, EcoTree::new(alloc)));
         }
         if self.root.height() == 0 {
-            let leaf = replace(&mut self.root, Node::leaf(EcoVec::new(alloc)));
-            return match leaf.split(at) {
-                Ok((front, root)) => {
-                    self.root = front;
-                    Ok(EcoTree { root })
-                }
-                Err(leaf) => {
-                    self.root = leaf;
-                    Err(EcoError::Memory)
-                }
-            };
+            let root = self.root.split(at)?;
+            return Ok(EcoTree { root });
         }
         self.root.cut(at)?;
         let (front, root) = self.root.halves(at)?;
@@ -117,6 +112,71 @@ impl<T: Clone> EcoTree<T> {
             return Ok(());
         }
         let _rest = self.split_off(len)?;
+        Ok(())
+    }
+
+    /// Replaces the elements in `range`, which lies within the length, with clones of `elements`.
+    ///
+    /// The new elements stand in leaves of their own. All others stay in their blocks; a shared block
+    /// of elements in which the range begins or ends is cloned.
+    ///
+    /// Takes time linear in the number of new elements and of those dropped, and logarithmic in the
+    /// length.
+    ///
+    /// This project's own, named as that of std's `String`.
+    ///
+    /// # Errors
+    ///
+    /// `Capacity` if the new length would pass 2^63 - 1; `Memory` if there is no memory for a block,
+    /// or the clone of an element is refused. The tree is unchanged, but the elements of a shared
+    /// block may be clones then.
+    pub fn replace_range<R: RangeBounds<usize>>(
+        &mut self,
+        range: R,
+        elements: &[T],
+    ) -> Result<(), EcoError>
+        requires known { R.has_bounds range }
+        requires in_range { IsSome
+            (range_of (R.start_bound range, R.end_bound range) (length self.old)) }
+        ensures ok { ClonesAreEqual T.is_clone
+            → OnOk result (AtRange (R.start_bound range, R.end_bound range) (length self.old)
+            (λ start end. self.new ≡ replace_range self.old start end elements.now)) }
+        ensures kept { OnOk result
+            (AtRange (R.start_bound range, R.end_bound range) (length self.old)
+            (λ start end. ReplacesKept T.is_clone self.old start end elements.now self.new)) }
+
+        // A refusal leaves the tree, and is for capacity exactly past the limit.
+        ensures kept_on_refusal { OnErr result (IsKeptTwice T.is_clone self.old self.new) }
+        ensures unchanged { ClonesAreEqual T.is_clone → OnErr result (self.new ≡ self.old) }
+        ensures capacity { AtRange (R.start_bound range, R.end_bound range) (length self.old)
+            (λ start end. IsErrOf result EcoError.Capacity
+            ↔ (MAX_LEN < length self.old - (end - start) + length elements.now)) }
+    {
+        let (start, end) = resolve(&range, self.len()).unwrap();
+        self.replace_between(start, end, elements)?;
+        Ok(())
+    }
+
+    /// Replaces the elements from `start` up to `end`.
+    fn replace_between(&mut self, start: usize, end: usize, elements: &[T]) -> Result<(), EcoError>
+        requires ordered { start ≤ end }
+        requires within { end ≤ length self.old }
+        ensures kept { OnOk result
+            (ReplacesKept T.is_clone self.old start end elements.now self.new) }
+        ensures refused { OnErr result (IsKeptTwice T.is_clone self.old self.new) }
+        ensures capacity { IsErrOf result EcoError.Capacity
+            ↔ (MAX_LEN < length self.old - (end - start) + length elements.now) }
+    {
+        let left = self.len() - (end - start);
+        if left > MAX_LEN || elements.len() > MAX_LEN - left {
+            return Err(EcoError::Capacity);
+        }
+        let middle = Self::from_slice(self.allocator(), elements)?;
+        if self.is_empty() {
+            *self = middle;
+            return Ok(());
+        }
+        self.root = self.root.with_middle(start, end, &middle.root)?;
         Ok(())
     }
 }

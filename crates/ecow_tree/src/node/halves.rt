@@ -1,8 +1,9 @@
 //! A node is cut in two.
-ghost use Rattle.std.specs.Prelude.{◌≡◌, ◌+◌, ◌<◌, ◌≤◌, ◌^◌, ◌++◌, ℕ, drop, length, slice_get, take, IfOk, IfErr, IfSome};
+ghost use Rattle.std.specs.Prelude.{◌≡◌, ◌+◌, ◌-◌, ◌<◌, ◌≤◌, ◌^◌, ◌++◌, ℕ, drop, length, slice_get, take, IfOk, IfErr, IfSome};
 ghost use Rattle.ecow_list.specs.Refusals.{RefusesForMemory};
 ghost use Rattle.ecow_list.specs.declared.error.EcoError.TheVariants.{Memory};
-ghost use Rattle.ecow_tree.specs.Kept.{AreKept, SomeKept};
+ghost use Rattle.std.specs.List.{replace_range};
+ghost use Rattle.ecow_tree.specs.Kept.{AreKept, IsKeptTwice, SomeKept};
 ghost use Rattle.ecow_tree.specs.Nodes.{items_of, tallest, AllFit, LeadsTo};
 
 use crate::node::Node;
@@ -56,27 +57,23 @@ impl<T: Drop> Node<T> {
 }
 
 impl<T: Clone> Node<T> {
-    /// This leaf with its first `at` elements, and one with the others.
-    pub(crate) fn split(self, at: usize) -> Result<(Node<T>, Node<T>), Node<T>>
-        requires leaf { self.height ≡ 0 }
-        requires within { at ≤ length self.items }
+    /// Keeps the first `at` elements of this leaf, and returns a leaf with the others.
+    pub(crate) fn split(&mut self, at: usize) -> Result<Node<T>, EcoError>
+        requires leaf { self.old.height ≡ 0 }
+        requires within { at ≤ length self.old.items }
         ensures kept { IfOk result
-            (λ halves. SomeKept T.is_clone self.items
-            (λ kept. (halves.0.items ≡ take at kept) × (halves.1.items ≡ drop at kept))) }
-        ensures first { IfOk result
-            (λ halves. (halves.0.height ≡ 0) × (length halves.0.items ≡ at)) }
-        ensures second { IfOk result
-            (λ halves. (halves.1.height ≡ 0) × (length halves.1.items + at ≡ length self.items)) }
-        ensures unchanged { IfErr result (λ leaf. leaf ≡ self) }
+            (λ next. SomeKept T.is_clone self.old.items
+            (λ kept. (self.new.items ≡ take at kept) × (next.items ≡ drop at kept))) }
+        ensures height { self.new.height ≡ self.old.height }
+        ensures next { IfOk result (λ next. next.height ≡ 0) }
+        ensures len { IfOk result
+            (λ next. (length self.new.items ≡ at)
+            × (length next.items + at ≡ length self.old.items)) }
+        ensures refused { RefusesForMemory self.old.items result self.new.items }
     {
-        let mut leaf = self;
-        match leaf.items.split_off(at) {
-            Ok(rest) => {
-                leaf.len = at;
-                Ok((leaf, Node::leaf(rest)))
-            }
-            Err(_) => Err(leaf),
-        }
+        let rest = self.items.split_off(at)?;
+        self.len = at;
+        Ok(Node::leaf(rest))
     }
 
     /// Cuts the leaf in which the element at `at` stands in two before it, unless it is the first
@@ -90,6 +87,37 @@ impl<T: Clone> Node<T> {
         ensures refused { RefusesForMemory self.old.items result self.new.items }
     {
         cut_below(&mut self.nodes, self.len, at)
+    }
+}
+
+impl<T: Clone> Node<T> {
+    /// A node with the first `start` elements, those of `middle`, and those from `end` on. A leaf in
+    /// which one of both stands is cut there.
+    pub(crate) fn with_middle(
+        &mut self,
+        start: usize,
+        end: usize,
+        middle: &Node<T>,
+    ) -> Result<Node<T>, EcoError>
+        requires ordered { start ≤ end }
+        requires within { end ≤ length self.old.items }
+        requires some { 0 < length self.old.items }
+        requires bounded { length self.old.items - (end - start) + length middle.now.items < 2 ^ 64 }
+        ensures kept { IsKeptTwice T.is_clone self.old.items self.new.items }
+        ensures items { IfOk result
+            (λ node. node.items ≡ replace_range self.new.items start end middle.now.items) }
+        ensures memory { IfErr result (λ error. error ≡ Memory) }
+    {
+        if self.height == 0 {
+            self.raise()?;
+        }
+        self.cut(start)?;
+        self.cut(end)?;
+        let (front, _behind) = self.halves(start)?;
+        let (_before, back) = self.halves(end)?;
+        let front = Node::concat(&front, middle)?;
+        let node = Node::concat(&front, &back)?;
+        Ok(node)
     }
 }
 
@@ -134,17 +162,9 @@ fn cut_leaf<T: Clone>(nodes: &mut EcoVec<Node<T>>, there: usize, at: usize) -> R
     let Ok(block) = nodes.own_with_room(1) else {
         return Err(EcoError::Memory);
     };
-    match block.remove(there).split(at) {
-        Ok((first, second)) => {
-            block.insert_within_capacity(there, second);
-            block.insert_within_capacity(there, first);
-            Ok(())
-        }
-        Err(leaf) => {
-            block.insert_within_capacity(there, leaf);
-            Err(EcoError::Memory)
-        }
-    }
+    let next = block.as_mut_slice()[there].split(at)?;
+    block.insert_within_capacity(there + 1, next);
+    Ok(())
 }
 
 /// Cuts a leaf below the node at `there`.

@@ -89,41 +89,10 @@ impl<T: Clone> Node<T> {
         self.len -= end - start;
         Ok(Node::leaf(moved))
     }
-
-    /// This leaf and the next, with `value` before the element at `index`. A value behind all goes
-    /// into a leaf of its own, so that elements that are appended one by one fill their leaves.
-    fn part_leaf(self, index: usize, value: T) -> Result<(Node<T>, Node<T>), (Node<T>, T)>
-        requires leaf { self.height ≡ 0 }
-        requires within { index ≤ length self.items }
-        requires bounded { length self.items < MAX_LEN }
-        requires full { 2 ≤ length self.items }
-        ensures kept { IfOk result
-            (λ leaves. AreKeptIn T.is_clone self.items
-            (λ xs. insert xs index value) (leaves.0.items ++ leaves.1.items)) }
-        ensures first { IfOk result
-            (λ leaves. (leaves.0.height ≡ 0) × (0 < length leaves.0.items)) }
-        ensures second { IfOk result
-            (λ leaves. (leaves.1.height ≡ 0) × (0 < length leaves.1.items)) }
-        ensures unchanged { IfErr result (λ back. back.0 ≡ self) }
-        ensures value_returned { IfErr result (λ back. back.1 ≡ value) }
-    {
-        let mut leaf = self;
-        let (len, half) = (leaf.len, leaf.len / 2);
-        if index < half {
-            return match leaf.part_off(0, half, index, value) {
-                Ok(front) => Ok((front, leaf)),
-                Err(rejected) => Err((leaf, rejected.value)),
-            };
-        }
-        let cut = if index == len { len } else { half };
-        match leaf.part_off(cut, len, index, value) {
-            Ok(back) => Ok((leaf, back)),
-            Err(rejected) => Err((leaf, rejected.value)),
-        }
-    }
 }
 
-/// Inserts `value` before the element at `index` of the full leaf at `at`.
+/// Inserts `value` before the element at `index` of the full leaf at `at`. A value behind all goes
+/// into a leaf of its own, so that elements that are appended one by one fill their leaves.
 pub(crate) fn insert_parting<T: Clone>(
     nodes: &mut EcoVec<Node<T>>,
     at: usize,
@@ -150,15 +119,15 @@ pub(crate) fn insert_parting<T: Clone>(
     let Ok(block) = nodes.own_with_room(1) else {
         return Err(for_memory(value));
     };
-    match block.remove(at).part_leaf(index, value) {
-        Ok((first, second)) => {
-            block.insert_within_capacity(at, second);
-            block.insert_within_capacity(at, first);
-            Ok(())
-        }
-        Err((leaf, value)) => {
-            block.insert_within_capacity(at, leaf);
-            Err(for_memory(value))
-        }
+    let leaf = &mut block.as_mut_slice()[at];
+    let (len, half) = (leaf.len(), leaf.len() / 2);
+    if index < half {
+        let front = leaf.part_off(0, half, index, value)?;
+        block.insert_within_capacity(at, front);
+        return Ok(());
     }
+    let start = if index == len { len } else { half };
+    let back = leaf.part_off(start, len, index, value)?;
+    block.insert_within_capacity(at + 1, back);
+    Ok(())
 }

@@ -1,5 +1,5 @@
 //! A node that is too full is parted in two.
-ghost use Rattle.std.specs.Prelude.{◌≡◌, ◌+◌, ◌<◌, ◌≤◌, ◌^◌, ◌++◌, ℕ, length, IsTrue, IfErr, IfOk, IfSome};
+ghost use Rattle.std.specs.Prelude.{◌≡◌, ◌+◌, ◌<◌, ◌≤◌, ◌^◌, ◌++◌, ℕ, length, IsTrue, IfErr, IfOk, IfSome, OnOk};
 ghost use Rattle.ecow_list.specs.declared.error.EcoError.TheVariants.{Memory};
 ghost use Rattle.ecow_tree.specs.Nodes.{items_of, tallest, AllFit};
 
@@ -126,6 +126,17 @@ impl<T: Drop> Node<T> {
         if !self.is_full() || self.height >= TALLEST {
             return Ok(());
         }
+        self.raise()
+    }
+
+    /// Puts a node above this one.
+    pub(crate) fn raise(&mut self) -> Result<(), EcoError>
+        requires weight { 4 ^ self.old.height ≤ length self.old.items }
+        requires low { self.old.height < TALLEST }
+        ensures items { self.new.items ≡ self.old.items }
+        ensures height { OnOk result (self.new.height ≡ self.old.height + 1) }
+        ensures memory { IfErr result (λ error. error ≡ Memory) }
+    {
         let (len, height) = (self.len, self.height + 1);
         let mut nodes = EcoVec::new(self.allocator());
         nodes.push(self.clone()?)?;

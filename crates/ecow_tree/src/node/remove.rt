@@ -106,12 +106,7 @@ fn remove_node<T: Clone>(nodes: &mut EcoVec<Node<T>>, at: usize) -> Result<T, Ec
     let Ok(block) = nodes.own_with_room(0) else {
         return Err(EcoError::Memory);
     };
-    let mut leaf = block.remove(at);
-    match leaf.remove_own(0) {
-        Ok(value) => Ok(value),
-        Err(_) => {
-            block.insert_within_capacity(at, leaf);
-            Err(EcoError::Memory)
-        }
-    }
+    let value = block.as_mut_slice()[at].remove_own(0)?;
+    let _empty = block.remove(at);
+    Ok(value)
 }

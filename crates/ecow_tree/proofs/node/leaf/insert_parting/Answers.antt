@@ -1,74 +1,123 @@
-use Rattle.std.proofs.Common.{rules, arith, ◌≡◌, ◌^◌, slice_get, sym, ap, subst, ◌∙◌}
-use Rattle.std.specs.List.{insert}
+use Rattle.std.proofs.Common.{rules, arith, ◌≡◌, ◌<◌, ◌≤◌, ◌^◌, ◌+◌, length, sym, ap, subst, ◌∙◌}
+use Rattle.std.specs.Prelude.{IfSome}
 use Rattle.ecow_base.specs.declared.capacity.TheConstants.{MAX_LEN}
-use Rattle.ecow_tree.specs.Nodes.{items_of, tallest, AllFit}
-use Rattle.ecow_tree.proofs.Places.{placed_two, placed_again, parting_kept, leaf_height, two_tallest, two_fit, at_most}
+use Rattle.ecow_tree.specs.Grown.{Grown}
+use Rattle.ecow_tree.proofs.Moved.{back_kept, back_some, front_kept, front_some, some_inserted}
+use Rattle.ecow_tree.proofs.More.{lent_there}
+use Rattle.ecow_tree.proofs.Places.{placed_before, placed_behind, parting_kept, two_tallest, two_fit}
+use Rattle.ecow_tree.proofs.node.leaf.insert_parting.Goals.{then-index-len, else-index-len}
 use Rattle.ecow_tree.proofs.node.leaf.insert_parting.Goals as goal
 
-pub returns-in-Ok-part_leaf-clause-kept : goal.returns-in-Ok-part_leaf-clause-kept
-returns-in-Ok-part_leaf-clause-kept g c all l =
+pub returns-then-index-half-clause-kept : goal.returns-then-index-half-clause-kept
+returns-then-index-half-clause-kept g c all l =
     let was = c.in-Ok.ensures.value (λ x y same. same) in
-    parting_kept g.T.Clone.is_clone c.args.nodes.now _ c.args.at c.args.index all c.args.value c.remove.result c.in-Ok-part_leaf.first c.in-Ok-part_leaf.second l
-    (ap (λ ns. slice_get ns c.args.at) (sym was) ∙ c.remove.ensures.value)
-    (placed_two c.args.nodes.now c.in-Ok.block.now.items _ c.args.at c.in-Ok-part_leaf.first c.in-Ok-part_leaf.second
-    (c.own_with_room.follows.holds _ (search rules) ∙ ap (λ b. b.items) c.insert_within_capacity-in-Ok-part_leaf.ensures
-    ∙ ap (λ b. insert b.items c.args.at c.in-Ok-part_leaf.first) c.insert_within_capacity.ensures
-    ∙ ap (λ b. insert (insert b.items c.args.at c.in-Ok-part_leaf.second) c.args.at c.in-Ok-part_leaf.first) c.remove.ensures.block)
-    was c.requires.in_bounds)
-    c.in-Ok-part_leaf.ensures.kept
+    let found = lent_there c.args.nodes.now c.in-Ok.block.now.items c.as_mut_slice.result.now c.args.at c.args.index c.index-as_mut_slice-at.result c.as_mut_slice.ensures.value was c.requires.in_bounds in
+    let leaf = subst (λ o. IfSome o (λ (node : Grown g.row.T.Denot). (node.height ≡ 0) × (2 ≤ length node.items) × (length node.items < MAX_LEN) × (c.args.index ≤ length node.items))) found c.requires.found in
+    parting_kept g.T.Clone.is_clone c.args.nodes.now _ c.args.at c.args.index all c.args.value _ c.in_ok-front.front c.part_off.new.self l found
+    (placed_before c.args.nodes.now c.in-Ok.block.now.items c.as_mut_slice.result.now _ c.args.at c.as_mut_slice.ensures.value was c.in_ok-front.front c.part_off.new.self c.requires.in_bounds
+    (c.own_with_room.follows.holds _ (search rules) ∙ ap (λ b. b.items) c.insert_within_capacity.ensures))
+    (front_kept g.T.Clone.is_clone _ _ _ _ _ _ (omega (arith, c.if-index-half.true)) (omega (arith, c.len-len.ensures)) c.in_ok-front.ensures.moved)
 
-pub returns-in-Ok-part_leaf-clause-tallest : goal.returns-in-Ok-part_leaf-clause-tallest
-returns-in-Ok-part_leaf-clause-tallest g c =
+pub returns-then-index-half-clause-tallest : goal.returns-then-index-half-clause-tallest
+returns-then-index-half-clause-tallest g c =
     let was = c.in-Ok.ensures.value (λ x y same. same) in
-    let found = ap (λ ns. slice_get ns c.args.at) (sym was) ∙ c.remove.ensures.value in
-    let low : c.remove.result.height ≡ 0 = leaf_height c.args.nodes.now c.args.at c.remove.result 2 MAX_LEN c.args.index found c.requires.found in
-    two_tallest c.args.nodes.now _ c.args.at c.remove.result c.in-Ok-part_leaf.first c.in-Ok-part_leaf.second found
-    (placed_two c.args.nodes.now c.in-Ok.block.now.items _ c.args.at c.in-Ok-part_leaf.first c.in-Ok-part_leaf.second
-    (c.own_with_room.follows.holds _ (search rules) ∙ ap (λ b. b.items) c.insert_within_capacity-in-Ok-part_leaf.ensures
-    ∙ ap (λ b. insert b.items c.args.at c.in-Ok-part_leaf.first) c.insert_within_capacity.ensures
-    ∙ ap (λ b. insert (insert b.items c.args.at c.in-Ok-part_leaf.second) c.args.at c.in-Ok-part_leaf.first) c.remove.ensures.block)
-    was c.requires.in_bounds)
-    (c.in-Ok-part_leaf.ensures.first.0 ∙ sym low) (c.in-Ok-part_leaf.ensures.second.0 ∙ sym low)
+    let found = lent_there c.args.nodes.now c.in-Ok.block.now.items c.as_mut_slice.result.now c.args.at c.args.index c.index-as_mut_slice-at.result c.as_mut_slice.ensures.value was c.requires.in_bounds in
+    let leaf = subst (λ o. IfSome o (λ (node : Grown g.row.T.Denot). (node.height ≡ 0) × (2 ≤ length node.items) × (length node.items < MAX_LEN) × (c.args.index ≤ length node.items))) found c.requires.found in
+    two_tallest c.args.nodes.now _ c.args.at _ c.in_ok-front.front c.part_off.new.self found
+    (placed_before c.args.nodes.now c.in-Ok.block.now.items c.as_mut_slice.result.now _ c.args.at c.as_mut_slice.ensures.value was c.in_ok-front.front c.part_off.new.self c.requires.in_bounds
+    (c.own_with_room.follows.holds _ (search rules) ∙ ap (λ b. b.items) c.insert_within_capacity.ensures))
+    (c.in_ok-front.ensures.leaf ∙ sym leaf.0) c.part_off.ensures.height
 
-pub returns-in-Ok-part_leaf-clause-fit : goal.returns-in-Ok-part_leaf-clause-fit
-returns-in-Ok-part_leaf-clause-fit g c h all =
+pub returns-then-index-half-clause-fit : goal.returns-then-index-half-clause-fit
+returns-then-index-half-clause-fit g c h all =
     let was = c.in-Ok.ensures.value (λ x y same. same) in
-    let found = ap (λ ns. slice_get ns c.args.at) (sym was) ∙ c.remove.ensures.value in
-    let low : c.remove.result.height ≡ 0 = leaf_height c.args.nodes.now c.args.at c.remove.result 2 MAX_LEN c.args.index found c.requires.found in
-    let one : 4 ^ c.remove.result.height ≡ 1 = ap (λ n. 4 ^ n) low in
-    two_fit c.args.nodes.now _ c.args.at c.remove.result c.in-Ok-part_leaf.first c.in-Ok-part_leaf.second found
-    (placed_two c.args.nodes.now c.in-Ok.block.now.items _ c.args.at c.in-Ok-part_leaf.first c.in-Ok-part_leaf.second
-    (c.own_with_room.follows.holds _ (search rules) ∙ ap (λ b. b.items) c.insert_within_capacity-in-Ok-part_leaf.ensures
-    ∙ ap (λ b. insert b.items c.args.at c.in-Ok-part_leaf.first) c.insert_within_capacity.ensures
-    ∙ ap (λ b. insert (insert b.items c.args.at c.in-Ok-part_leaf.second) c.args.at c.in-Ok-part_leaf.first) c.remove.ensures.block)
-    was c.requires.in_bounds)
-    h all (c.in-Ok-part_leaf.ensures.first.0 ∙ sym low) (c.in-Ok-part_leaf.ensures.second.0 ∙ sym low)
-    (omega (arith, one, c.in-Ok-part_leaf.ensures.first.1)) (omega (arith, one, c.in-Ok-part_leaf.ensures.second.1))
+    let found = lent_there c.args.nodes.now c.in-Ok.block.now.items c.as_mut_slice.result.now c.args.at c.args.index c.index-as_mut_slice-at.result c.as_mut_slice.ensures.value was c.requires.in_bounds in
+    let leaf = subst (λ o. IfSome o (λ (node : Grown g.row.T.Denot). (node.height ≡ 0) × (2 ≤ length node.items) × (length node.items < MAX_LEN) × (c.args.index ≤ length node.items))) found c.requires.found in
+    let one = ap (λ n. 4 ^ n) leaf.0 in
+    let parts = front_some g.T.Clone.is_clone _ _ _ _ _ _ (omega (arith, c.len-len.ensures, leaf.1)) c.in_ok-front.ensures.moved in
+    two_fit c.args.nodes.now _ c.args.at _ c.in_ok-front.front c.part_off.new.self found
+    (placed_before c.args.nodes.now c.in-Ok.block.now.items c.as_mut_slice.result.now _ c.args.at c.as_mut_slice.ensures.value was c.in_ok-front.front c.part_off.new.self c.requires.in_bounds
+    (c.own_with_room.follows.holds _ (search rules) ∙ ap (λ b. b.items) c.insert_within_capacity.ensures))
+    h all (c.in_ok-front.ensures.leaf ∙ sym leaf.0) c.part_off.ensures.height (omega (arith, one, parts.0)) (omega (arith, one, parts.1))
 
-pub returns-in-Err-clause-unchanged : goal.returns-in-Err-clause-unchanged
-returns-in-Err-clause-unchanged g c =
-    let was = c.in-Ok.ensures.value (λ x y same. same) in
-    ap (λ ns. items_of ns)
-    (placed_again c.args.nodes.now c.in-Ok.block.now.items _ c.args.at c.remove.result c.in-Err.leaf
-    (c.own_with_room.follows.holds _ (search rules) ∙ ap (λ b. b.items) c.insert_within_capacity-in-Err.ensures
-    ∙ ap (λ b. insert b.items c.args.at c.in-Err.leaf) c.remove.ensures.block)
-    was c.requires.in_bounds (ap (λ ns. slice_get ns c.args.at) (sym was) ∙ c.remove.ensures.value) c.in-Err.ensures.unchanged)
+pub returns-then-index-half-clause-some : goal.returns-then-index-half-clause-some
+returns-then-index-half-clause-some g c =
+    some_inserted _ _ c.args.at c.in_ok-front.front (c.own_with_room.follows.holds _ (search rules) ∙ ap (λ b. b.items) c.insert_within_capacity.ensures)
 
-pub returns-in-Err-clause-tallest : goal.returns-in-Err-clause-tallest
-returns-in-Err-clause-tallest g c =
+pub part_off-requires-2 : goal.part_off-requires-2
+part_off-requires-2 g c =
     let was = c.in-Ok.ensures.value (λ x y same. same) in
-    at_most _ _ (ap (λ ns. tallest ns)
-    (placed_again c.args.nodes.now c.in-Ok.block.now.items _ c.args.at c.remove.result c.in-Err.leaf
-    (c.own_with_room.follows.holds _ (search rules) ∙ ap (λ b. b.items) c.insert_within_capacity-in-Err.ensures
-    ∙ ap (λ b. insert b.items c.args.at c.in-Err.leaf) c.remove.ensures.block)
-    was c.requires.in_bounds (ap (λ ns. slice_get ns c.args.at) (sym was) ∙ c.remove.ensures.value) c.in-Err.ensures.unchanged))
+    let found = lent_there c.args.nodes.now c.in-Ok.block.now.items c.as_mut_slice.result.now c.args.at c.args.index c.index-as_mut_slice-at.result c.as_mut_slice.ensures.value was c.requires.in_bounds in
+    let leaf = subst (λ o. IfSome o (λ (node : Grown g.row.T.Denot). (node.height ≡ 0) × (2 ≤ length node.items) × (length node.items < MAX_LEN) × (c.args.index ≤ length node.items))) found c.requires.found in
+    let low : c.if-index-len.start ≤ c.args.index =
+    elim c.if-index-len.branch [
+      | then-index-len w ↦ omega (arith, w.start-is, w.if-index-len.true)
+      | else-index-len w ↦ omega (arith, w.start-is, c.if-index-half.false)
+    ] in
+    record { leaf = leaf.0; start = low; end = omega (arith, c.len-len.ensures, leaf.3); in_bounds = omega (arith, c.len-len.ensures); bounded = leaf.2 }
 
-pub returns-in-Err-clause-fit : goal.returns-in-Err-clause-fit
-returns-in-Err-clause-fit g c h all =
+pub returns-clause-kept : goal.returns-clause-kept
+returns-clause-kept g c all l =
     let was = c.in-Ok.ensures.value (λ x y same. same) in
-    subst (AllFit h)
-    (sym (placed_again c.args.nodes.now c.in-Ok.block.now.items _ c.args.at c.remove.result c.in-Err.leaf
-    (c.own_with_room.follows.holds _ (search rules) ∙ ap (λ b. b.items) c.insert_within_capacity-in-Err.ensures
-    ∙ ap (λ b. insert b.items c.args.at c.in-Err.leaf) c.remove.ensures.block)
-    was c.requires.in_bounds (ap (λ ns. slice_get ns c.args.at) (sym was) ∙ c.remove.ensures.value) c.in-Err.ensures.unchanged))
-    all
+    let found = lent_there c.args.nodes.now c.in-Ok.block.now.items c.as_mut_slice.result.now c.args.at c.args.index c.index-as_mut_slice-at.result c.as_mut_slice.ensures.value was c.requires.in_bounds in
+    let leaf = subst (λ o. IfSome o (λ (node : Grown g.row.T.Denot). (node.height ≡ 0) × (2 ≤ length node.items) × (length node.items < MAX_LEN) × (c.args.index ≤ length node.items))) found c.requires.found in
+    let low : c.if-index-len.start ≤ c.len-len.result =
+    elim c.if-index-len.branch [
+      | then-index-len w ↦ omega (arith, w.start-is)
+      | else-index-len w ↦ omega (arith, w.start-is)
+    ] in
+    let behind : c.if-index-len.start ≤ c.args.index =
+    elim c.if-index-len.branch [
+      | then-index-len w ↦ omega (arith, w.start-is, w.if-index-len.true)
+      | else-index-len w ↦ omega (arith, w.start-is, c.if-index-half.false)
+    ] in
+    let some : 0 < c.if-index-len.start =
+    elim c.if-index-len.branch [
+      | then-index-len w ↦ omega (arith, w.start-is, c.len-len.ensures, leaf.1)
+      | else-index-len w ↦ omega (arith, w.start-is, c.len-len.ensures, leaf.1)
+    ] in
+    parting_kept g.T.Clone.is_clone c.args.nodes.now _ c.args.at c.args.index all c.args.value _ c.part_off-2.new.self c.in_ok-back.back l found
+    (placed_behind c.args.nodes.now c.in-Ok.block.now.items c.as_mut_slice.result.now _ c.args.at c.as_mut_slice.ensures.value was c.part_off-2.new.self c.in_ok-back.back
+    (c.own_with_room.follows.holds _ (search rules) ∙ ap (λ b. b.items) c.insert_within_capacity-2.ensures))
+    (back_kept g.T.Clone.is_clone _ _ _ _ _ _ _ c.len-len.ensures behind (omega (arith, c.len-len.ensures, leaf.3)) c.in_ok-back.ensures.moved)
+
+pub returns-clause-tallest : goal.returns-clause-tallest
+returns-clause-tallest g c =
+    let was = c.in-Ok.ensures.value (λ x y same. same) in
+    let found = lent_there c.args.nodes.now c.in-Ok.block.now.items c.as_mut_slice.result.now c.args.at c.args.index c.index-as_mut_slice-at.result c.as_mut_slice.ensures.value was c.requires.in_bounds in
+    let leaf = subst (λ o. IfSome o (λ (node : Grown g.row.T.Denot). (node.height ≡ 0) × (2 ≤ length node.items) × (length node.items < MAX_LEN) × (c.args.index ≤ length node.items))) found c.requires.found in
+    two_tallest c.args.nodes.now _ c.args.at _ c.part_off-2.new.self c.in_ok-back.back found
+    (placed_behind c.args.nodes.now c.in-Ok.block.now.items c.as_mut_slice.result.now _ c.args.at c.as_mut_slice.ensures.value was c.part_off-2.new.self c.in_ok-back.back
+    (c.own_with_room.follows.holds _ (search rules) ∙ ap (λ b. b.items) c.insert_within_capacity-2.ensures))
+    c.part_off-2.ensures.height (c.in_ok-back.ensures.leaf ∙ sym leaf.0)
+
+pub returns-clause-fit : goal.returns-clause-fit
+returns-clause-fit g c h all =
+    let was = c.in-Ok.ensures.value (λ x y same. same) in
+    let found = lent_there c.args.nodes.now c.in-Ok.block.now.items c.as_mut_slice.result.now c.args.at c.args.index c.index-as_mut_slice-at.result c.as_mut_slice.ensures.value was c.requires.in_bounds in
+    let leaf = subst (λ o. IfSome o (λ (node : Grown g.row.T.Denot). (node.height ≡ 0) × (2 ≤ length node.items) × (length node.items < MAX_LEN) × (c.args.index ≤ length node.items))) found c.requires.found in
+    let low : c.if-index-len.start ≤ c.len-len.result =
+    elim c.if-index-len.branch [
+      | then-index-len w ↦ omega (arith, w.start-is)
+      | else-index-len w ↦ omega (arith, w.start-is)
+    ] in
+    let behind : c.if-index-len.start ≤ c.args.index =
+    elim c.if-index-len.branch [
+      | then-index-len w ↦ omega (arith, w.start-is, w.if-index-len.true)
+      | else-index-len w ↦ omega (arith, w.start-is, c.if-index-half.false)
+    ] in
+    let some : 0 < c.if-index-len.start =
+    elim c.if-index-len.branch [
+      | then-index-len w ↦ omega (arith, w.start-is, c.len-len.ensures, leaf.1)
+      | else-index-len w ↦ omega (arith, w.start-is, c.len-len.ensures, leaf.1)
+    ] in
+    let one = ap (λ n. 4 ^ n) leaf.0 in
+    let parts = back_some g.T.Clone.is_clone _ _ _ _ _ _ _ c.len-len.ensures low some c.in_ok-back.ensures.moved in
+    two_fit c.args.nodes.now _ c.args.at _ c.part_off-2.new.self c.in_ok-back.back found
+    (placed_behind c.args.nodes.now c.in-Ok.block.now.items c.as_mut_slice.result.now _ c.args.at c.as_mut_slice.ensures.value was c.part_off-2.new.self c.in_ok-back.back
+    (c.own_with_room.follows.holds _ (search rules) ∙ ap (λ b. b.items) c.insert_within_capacity-2.ensures))
+    h all c.part_off-2.ensures.height (c.in_ok-back.ensures.leaf ∙ sym leaf.0) (omega (arith, one, parts.0)) (omega (arith, one, parts.1))
+
+pub returns-clause-some : goal.returns-clause-some
+returns-clause-some g c =
+    some_inserted _ _ (c.args.at + 1) c.in_ok-back.back (c.own_with_room.follows.holds _ (search rules) ∙ ap (λ b. b.items) c.insert_within_capacity-2.ensures)

@@ -13,19 +13,17 @@ pub returns-then-at-eq0-clause-kept : goal.returns-then-at-eq0-clause-kept
 returns-then-at-eq0-clause-kept g c =
     halves_none g.T.Clone.is_clone c.args.self.now _ _ c.args.at c.if-at-eq0.true (search rules) (search rules)
 
-pub returns-in-Ok-clause-ok : goal.returns-in-Ok-clause-ok
-returns-in-Ok-clause-ok g c equal =
-    let whole : c.replace-leaf.result.items ≡ c.args.self.now = search rules in
-    halves_exact g.T.Clone.is_clone c.args.self.now c.in-Ok.front.items c.in-Ok.root.items c.args.at equal
-    (subst (λ old. SomeKept g.T.Clone.is_clone old (λ xs. (c.in-Ok.front.items ≡ take c.args.at xs) × (c.in-Ok.root.items ≡ drop c.args.at xs))) whole c.in-Ok.ensures.kept)
+pub returns-in_err-root-clause-refused : goal.returns-in_err-root-clause-refused
+returns-in_err-root-clause-refused g c =
+    let whole : c.split.new.self.items ≡ c.args.self.now = c.in_err-root.ensures.refused.unchanged ∙ c.self.view_is in
+    let kept : AreKept g.T.Clone.is_clone c.args.self.now c.split.new.self.items = subst (AreKept g.T.Clone.is_clone c.args.self.now) (sym whole) (same g.T.Clone.is_clone c.args.self.now) in
+    let exact : ClonesAreEqual g.T.Clone.is_clone → c.split.new.self.items ≡ c.args.self.now = λ equal. whole in
+    search (rules, kept, exact)
 
-pub returns-in-Err-clause-refused : goal.returns-in-Err-clause-refused
-returns-in-Err-clause-refused g c =
-    let whole : c.in-Err.leaf.items ≡ c.args.self.now = search rules in record {
-      memory = refl;
-      kept = subst (AreKept g.T.Clone.is_clone c.args.self.now) (sym whole) (same g.T.Clone.is_clone c.args.self.now);
-      unchanged = λ equal. whole;
-    }
+pub returns-then-height-eq0-clause-ok : goal.returns-then-height-eq0-clause-ok
+returns-then-height-eq0-clause-ok g c equal =
+    halves_exact g.T.Clone.is_clone c.args.self.now c.split.new.self.items c.in_ok-root.root.items c.args.at equal
+    (subst (λ old. SomeKept g.T.Clone.is_clone old (λ xs. (c.split.new.self.items ≡ take c.args.at xs) × (c.in_ok-root.root.items ≡ drop c.args.at xs))) c.self.view_is c.in_ok-root.ensures.kept)
 
 pub halves-requires : goal.halves-requires
 halves-requires g c =

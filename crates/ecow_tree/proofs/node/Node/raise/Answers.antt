@@ -1,6 +1,6 @@
 use Rattle.std.proofs.Common.{rules}
 use Rattle.ecow_tree.proofs.Fits.{lifted}
-use Rattle.ecow_tree.proofs.node.Node.lift.Goals as goal
+use Rattle.ecow_tree.proofs.node.Node.raise.Goals as goal
 
 pub over-requires-clause-fit : goal.over-requires-clause-fit
 over-requires-clause-fit g c =

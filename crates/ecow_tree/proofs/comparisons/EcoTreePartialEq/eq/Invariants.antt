@@ -1,6 +1,6 @@
 use Rattle.std.proofs.Common.{◌≡◌, ◌-◌, ◌≤◌, length, drop}
 use Rattle.std.specs.Cmp.Lexicographic.{pointwise}
-use Rattle.ecow_tree.proofs.iter.EcoTreePartialEq.eq.Given as goal
+use Rattle.ecow_tree.proofs.comparisons.EcoTreePartialEq.eq.Given as goal
 
 abbrev pub invariant-loop-at : goal.invariant-loop-at
 invariant-loop-at g l = record {

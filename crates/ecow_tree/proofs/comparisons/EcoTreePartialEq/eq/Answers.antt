@@ -2,7 +2,7 @@ use Rattle.std.proofs.Common.{arith, refl, ap, sym, ◌∙◌, drop, []}
 use Rattle.std.specs.Cmp.Lexicographic.{pointwise}
 use Rattle.ecow_tree.proofs.More.{run_within, none_behind}
 use Rattle.ecow_tree.proofs.Runs.{not_false, not_true, runs_same, runs_other}
-use Rattle.ecow_tree.proofs.iter.EcoTreePartialEq.eq.Goals as goal
+use Rattle.ecow_tree.proofs.comparisons.EcoTreePartialEq.eq.Goals as goal
 
 pub loop-at-init : goal.loop-at-init
 loop-at-init g c = record {
