@@ -4,6 +4,7 @@ use ecow_list::{EcoError, Rejected};
 use ecow_test_calls::counting::{Counting, Source, Tally};
 use ecow_tree::EcoTree;
 use std::alloc::Global;
+use std::mem::replace;
 use std::test::Fail;
 
 /// A list of so many counted elements, with the numbers from 0 on.
@@ -292,6 +293,62 @@ fn a_cut_clones_a_leaf_that_is_shared(rt: HostRuntime) -> Result<(), Fail> {
     Ok(())
 }
 
+/// Replaces a range. One that isn't in the list is refused.
+fn replace_range<T: Clone>(
+    list: &mut EcoTree<T>,
+    start: usize,
+    end: usize,
+    new: &[T],
+) -> Result<(), EcoError> {
+    if start > end || end > list.len() {
+        return Err(EcoError::Capacity);
+    }
+    list.replace_range(start..end, new)
+}
+
+/// Replaces a range of 1,000 elements by three, while another list shares the blocks, and then one
+/// element while none does. Whether the first call clones so many elements beside the three, and the
+/// second the three alone, and both lists hold what they should.
+fn replaces(alloc: Global, start: u32, end: u32, clones: u64) -> Result<bool, EcoError> {
+    let tally = Tally::new(alloc)?;
+    let mut list = counted(alloc, &tally, 1000)?;
+    let before = list.clone()?;
+    let new = elements(alloc, &tally, 7000, 7003)?;
+    replace_range(&mut list, start as usize, end as usize, new.as_slice())?;
+    let once = tally.clones() == clones.wrapping_add(3);
+    let mut back = split_off(&mut list, start as usize)?;
+    let behind = split_off(&mut back, 3)?;
+    let are_right = runs(&before, 0, 1000) && runs(&list, 0, start as i64);
+    let are_new = runs(&back, 7000, 7003) && runs(&behind, end as i64, 1000);
+    drop(before);
+    let own = tally.clones();
+    list.append(&mut back)?;
+    replace_range(&mut list, start as usize, start as usize, new.as_slice())?;
+    let twice = tally.clones() == own.wrapping_add(3);
+    Ok(once && twice && are_right && are_new && list.len() as u64 == (start as u64).wrapping_add(6))
+}
+
+/// A replaced range of a list that shares its blocks clones the elements of the leaves in which it
+/// begins and ends. The others stay shared.
+#[test]
+fn a_replaced_range_clones_the_leaves_that_it_cuts(rt: HostRuntime) -> Result<(), Fail> {
+    let alloc = rt.alloc();
+    for (start, end, clones) in [
+        (0, 0, 0),
+        (0, 1000, 0),
+        (128, 256, 0),
+        (1000, 1000, 0),
+        (5, 5, 128),
+        (130, 140, 128),
+        (100, 300, 256),
+        (128, 300, 128),
+        (999, 1000, 104),
+    ] {
+        assert!(rt; replaces(alloc, start, end, clones)?);
+    }
+    Ok(())
+}
+
 /// A change of either part of a list that was split copies one leaf at most.
 #[test]
 fn a_change_of_a_part_copies_its_way(rt: HostRuntime) -> Result<(), Fail> {
@@ -414,7 +471,18 @@ fn an_extension_clones_each_element_once(rt: HostRuntime) -> Result<(), Fail> {
     Ok(())
 }
 
-/// Cuts or extends a list of 300 elements that is shared, or makes one. The clone with that number
+/// The number of an element, which is 7 then. Past the end this is refused.
+fn update(list: &mut EcoTree<Counting>, index: usize) -> Result<i64, EcoError> {
+    if index >= list.len() {
+        return Err(EcoError::Capacity);
+    }
+    list.update(
+        index,
+        |element: &mut Counting| replace(&mut element.number, 7),
+    )
+}
+
+/// Cuts, extends or changes a list of 300 elements that is shared, or makes one. The clone with that number
 /// is refused. Whether the call is refused then, and leaves all elements.
 fn refuses(alloc: Global, call: usize, refused: u64) -> Result<bool, EcoError> {
     let tally = Tally::refusing(alloc, refused)?;
@@ -425,16 +493,17 @@ fn refuses(alloc: Global, call: usize, refused: u64) -> Result<bool, EcoError> {
         0 => split_off(&mut list, 200).map(drop),
         1 => list.truncate(200),
         2 => list.extend_from_slice(more.as_slice()),
+        4 => update(&mut list, 200).map(drop),
         _ => EcoTree::from_slice(alloc, more.as_slice()).map(drop),
     };
     let is_refused = answer.err() == Some(EcoError::Memory);
     Ok(is_refused && runs(&list, 0, 300) && runs(&all, 0, 300) && tally.has_live(303))
 }
 
-/// The leaf that is cut has 128 elements, and the last one 44. Three are added.
+/// The leaf that is cut or changed has 128 elements, and the last one 44. Three are added.
 #[test]
 fn each_refused_clone_leaves_the_lists(rt: HostRuntime) -> Result<(), Fail> {
-    for (call, clones) in [(0, 128_u64), (1, 128), (2, 47), (3, 3)] {
+    for (call, clones) in [(0, 128_u64), (1, 128), (2, 47), (3, 3), (4, 128)] {
         for refused in 0..clones {
             assert!(rt; refuses(rt.alloc(), call, refused.wrapping_add(1))?);
         }
